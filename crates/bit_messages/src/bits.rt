@@ -5,10 +5,9 @@ ghost use Rattle.bit_messages.specs.Body.{body, has_mark, text_of, strip_fault, 
 ghost use Rattle.bit_messages.specs.Faults.{Decided};
 ghost use Rattle.bit_messages.specs.Octets.{bits_of, octet_bits, octets_of, octets_fault, bit_value};
 
+use crate::BitFault;
 use std::alloc::{AllocError, Global};
 use std::marker::Model;
-
-use crate::BitFault;
 
 /// The most bits that a text has (BBN Report 1822: a message is at most 8095 bits with its leader).
 pub const MAX_TEXT_BITS: usize = 8063;
@@ -33,7 +32,9 @@ impl Bits {
     pub fn new(alloc: Global) -> Self
         ensures { result ≡ [] }
     {
-        Bits { bits: Vec::new(alloc) }
+        Bits {
+            bits: Vec::new(alloc),
+        }
     }
 
     /// How many bits there are.

@@ -23,8 +23,7 @@ pub fn padding()
     ensures stripped { (text bits : List Bool) → IsBodyOf text bits → (strip_fault bits ≡ None) × (text_of bits ≡ text) }
     ensures only_bodies { (bits : List Bool) → strip_fault bits ≡ None → IsBodyOf (text_of bits) bits }
     ensures unmarked { (bits : List Bool) → has_mark bits ≡ false → strip_fault bits ≡ Some fault.NoMark }
-{
-}
+{}
 
 /// Octets and bits are two spellings of one thing.
 pub fn octets()
@@ -37,5 +36,4 @@ pub fn octets()
     // whole octets are written one list after another
     ensures joined { (front back : List Bool) → length front % 8 ≡ 0 → octets_of (front ++ back) ≡ octets_of front ++ octets_of back }
     ensures octet_range { (bits : List Bool) → All (λ n. n < 256) (octets_of bits) }
-{
-}
+{}

@@ -10,7 +10,7 @@ pub octets-preserved : goal.octets-preserved
 octets-preserved c =
     ap (λ (ns : List ℕ). ns ++ octets_of c.split_at.result.1.now) c.in_ok-push.ensures.items
     ∙ octets_more c.octets.octets.items c.octets.rest.now c.split_at.result.0.now c.split_at.result.1.now c.min.result c.octet_at.result
-        (c.min.ensures ∙ min_comm (length c.octets.rest.now) 8) c.split_at.ensures.front c.split_at.ensures.back c.octet_at.ensures
+    (c.min.ensures ∙ min_comm (length c.octets.rest.now) 8) c.split_at.ensures.front c.split_at.ensures.back c.octet_at.ensures
     ∙ c.octets.invariant
 
 pub returns : goal.returns

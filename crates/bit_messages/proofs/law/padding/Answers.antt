@@ -1,0 +1,12 @@
+use Rattle.bit_messages.specs.Body.{body}
+use Rattle.bit_messages.proofs.BodyLemmas.{stripped_body, body_from, body_is}
+use Rattle.bit_messages.proofs.law.padding.Goals as goal
+
+pub returns-clause-given_back : goal.returns-clause-given_back
+returns-clause-given_back c = λ text short. stripped_body text (body text) (body_is text short)
+
+pub returns-clause-stripped : goal.returns-clause-stripped
+returns-clause-stripped c = stripped_body
+
+pub returns-clause-only_bodies : goal.returns-clause-only_bodies
+returns-clause-only_bodies c = body_from

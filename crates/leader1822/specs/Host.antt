@@ -1,0 +1,33 @@
+-- Hosts and how the leader spells them (BBN Report 1822).
+use Rattle.std.specs.Prelude.{ℕ, ◌+◌, ◌*◌, ◌/◌, ◌%◌, ◌≤◌, Bool, ◌==◌, ◌&&◌, nat_le, Option, Some, None, if◌then◌else◌, List}
+use Rattle.std.specs.List.{list_any}
+
+-- a host: its number at its IMP, and the IMP's
+pub record Host : Type 0 where
+  pub imp : ℕ
+  pub host : ℕ
+
+abbrev pub is_imp : ℕ → Bool
+is_imp imp = nat_le 1 imp && nat_le imp 63
+
+-- IMPs are numbered from 1 to 63
+abbrev pub imp_at : ℕ → Option ℕ
+imp_at imp = if is_imp imp then Some imp else None
+
+-- an IMP has hosts 0 to 3
+abbrev pub host_at : ℕ → ℕ → Option Host
+host_at host imp = if nat_le host 3 && is_imp imp then Some (record { imp = imp; host = host }) else None
+
+-- the upper two bits name the host, the lower six the IMP
+abbrev pub address_octet : Host → ℕ
+address_octet h = 64 * h.host + h.imp
+
+abbrev pub host_of_octet : ℕ → Option Host
+host_of_octet octet = host_at (octet / 64) (octet % 64)
+
+abbrev pub same_host : Host → Host → Bool
+same_host g h = g.imp == h.imp && g.host == h.host
+
+-- whether a host is one of these
+abbrev pub is_host : List Host → Host → Bool
+is_host hosts h = list_any (same_host h) hosts

@@ -1,0 +1,132 @@
+//! Who speaks to whom: IMP numbers, host addresses, links and flows.
+
+ghost use Rattle.std.specs.Prelude.{◌≡◌, ℕ, ◌+◌, ◌*◌, ◌/◌, ◌%◌, ◌≤◌, ◌==◌, ◌&&◌, nat_le, Option, Some, None, if◌then◌else◌};
+ghost use Rattle.leader1822.specs.Host.{Host, host_at, imp_at, host_of_octet, address_octet};
+
+use std::fmt;
+use std::marker::Model;
+
+/// The number of an IMP: 1 to 63 (BBN Report 1822, the leader's six bits; 0 is no IMP).
+#[derive(Clone, Copy, Debug, PartialEq, Eq, PartialOrd, Ord)]
+pub struct ImpNumber {
+    number: u8,
+}
+
+impl Model for ImpNumber {
+    ghost Value = { ℕ };
+
+    ghost view = { λ i. i.number };
+
+    ghost invariant = { λ i. (1 ≤ i.number) × (i.number ≤ 63) };
+
+    ghost inverse = { λ n. record { number = n } };
+}
+
+impl ImpNumber {
+    /// The IMP with this number; `None` outside 1 to 63.
+    pub fn new(number: u8) -> Option<ImpNumber>
+        ensures { result ≡ imp_at number }
+    {
+        if (1..=63).contains(&number) {
+            Some(ImpNumber { number })
+        } else {
+            None
+        }
+    }
+
+    /// The number itself, 1 to 63.
+    pub fn number(&self) -> u8
+        ensures same { result ≡ self.now }
+        ensures range { (1 ≤ result) × (result ≤ 63) }
+    {
+        self.number
+    }
+}
+
+/// A host: its number at its IMP, 0 to 3, and the IMP's, 1 to 63. Ordered by IMP, then by host.
+#[derive(Clone, Copy, Debug, PartialEq, Eq, PartialOrd, Ord)]
+pub struct HostAddr {
+    imp: u8,
+    host: u8,
+}
+
+impl Model for HostAddr {
+    ghost use Rattle.std.specs.Prelude.{◌≤◌};
+    ghost use Rattle.leader1822.specs.Host.{Host};
+
+    ghost Value = { Host };
+
+    ghost view = { λ a. record { imp = a.imp; host = a.host } };
+
+    ghost invariant = { λ a. (1 ≤ a.imp) × (a.imp ≤ 63) × (a.host ≤ 3) };
+
+    ghost inverse = { λ h. record { imp = h.imp; host = h.host } };
+}
+
+impl HostAddr {
+    /// Host `host` at IMP `imp`; `None` for a host outside 0 to 3 or an IMP outside 1 to 63.
+    pub fn new(host: u8, imp: u8) -> Option<HostAddr>
+        ensures { result ≡ host_at host imp }
+    {
+        if host <= 3 && (1..=63).contains(&imp) {
+            Some(HostAddr { imp, host })
+        } else {
+            None
+        }
+    }
+
+    /// Its number at its IMP, 0 to 3.
+    pub fn host(&self) -> u8
+        ensures same { result ≡ self.now.host }
+        ensures range { result ≤ 3 }
+    {
+        self.host
+    }
+
+    /// The number of its IMP, 1 to 63.
+    pub fn imp(&self) -> u8
+        ensures same { result ≡ self.now.imp }
+        ensures range { (1 ≤ result) × (result ≤ 63) }
+    {
+        self.imp
+    }
+
+    /// The address octet: the host in the upper two bits, the IMP in the lower six (BBN Report 1822, the
+    /// leader).
+    pub fn octet(&self) -> u8
+        ensures { result ≡ address_octet self.now }
+    {
+        64 * self.host + self.imp
+    }
+
+    /// The host that an address octet names; `None` where its IMP is 0.
+    pub fn from_octet(octet: u8) -> Option<HostAddr>
+        ensures { result ≡ host_of_octet octet }
+    {
+        HostAddr::new(octet / 64, octet % 64)
+    }
+}
+
+/// Prints `host/imp`.
+impl fmt::Display for HostAddr {
+    fn fmt<W: fmt::Write>(&self, f: &mut fmt::Formatter<W>) -> fmt::Result {
+        let host = self.host;
+        let imp = self.imp;
+        write!(f, "{host}/{imp}")
+    }
+}
+
+/// A link number: it tells the conversations between two hosts apart (BBN Report 1822).
+#[derive(Clone, Copy, Debug, PartialEq, Eq, PartialOrd, Ord)]
+pub struct Link(pub u8);
+
+/// The messages from one host to another on one link. At most one of them is outstanding.
+#[derive(Clone, Copy, Debug, PartialEq, Eq, PartialOrd, Ord)]
+pub struct Flow {
+    /// The host that sends.
+    pub source: HostAddr,
+    /// The host that the messages are for.
+    pub destination: HostAddr,
+    /// The link.
+    pub link: Link,
+}
