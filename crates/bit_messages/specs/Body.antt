@@ -5,6 +5,10 @@ use Rattle.bit_messages.specs.declared.bits.TheConstants.{MAX_TEXT_BITS, BODY_UN
 use Rattle.bit_messages.specs.declared.fault.BitFault.{BitFault}
 use Rattle.bit_messages.specs.declared.fault.BitFault.TheVariants as fault
 
+-- the most bits that a text has
+abbrev pub most_text_bits : ℕ
+most_text_bits = MAX_TEXT_BITS
+
 -- how many zeros follow the mark of a text of this many bits: the least that fill the last unit
 abbrev pub filling : ℕ → ℕ
 filling bits = (BODY_UNIT - (bits + 1) % BODY_UNIT) % BODY_UNIT

@@ -1,1 +1,3 @@
 pub mod Host
+pub mod Leader
+pub mod Mailboxes

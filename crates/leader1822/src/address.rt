@@ -94,7 +94,8 @@ impl HostAddr {
     /// The address octet: the host in the upper two bits, the IMP in the lower six (BBN Report 1822, the
     /// leader).
     pub fn octet(&self) -> u8
-        ensures { result ≡ address_octet self.now }
+        ensures value { result ≡ address_octet self.now }
+        ensures again { host_of_octet result ≡ Some self.now }
     {
         64 * self.host + self.imp
     }

@@ -10,13 +10,13 @@
 #![tactic(auto)]
 
 mod address;
-//mod crossing;
-//mod event;
-//mod leader;
-//mod message;
+mod crossing;
+mod event;
+mod leader;
+mod message;
 
 pub use address::{Flow, HostAddr, ImpNumber, Link};
-//pub use crossing::{Answer, Crossing, Inbound};
-//pub use event::{Direction, NetEvent};
-//pub use leader::{Leader, LeaderFault};
-//pub use message::{HostMessage, Text};
+pub use crossing::{Answer, Crossing, Inbound};
+pub use event::{Direction, NetEvent};
+pub use leader::{Leader, LeaderFault};
+pub use message::{HostMessage, Text};
