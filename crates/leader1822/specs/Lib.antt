@@ -1,3 +1,4 @@
 pub mod Host
 pub mod Leader
 pub mod Mailboxes
+pub mod Calls

@@ -10,12 +10,14 @@
 #![tactic(auto)]
 
 mod address;
+mod carrier;
 mod crossing;
 mod event;
 mod leader;
 mod message;
 
 pub use address::{Flow, HostAddr, ImpNumber, Link};
+pub use carrier::{Carrier, CarrierFault};
 pub use crossing::{Answer, Crossing, Inbound};
 pub use event::{Direction, NetEvent};
 pub use leader::{Leader, LeaderFault};
