@@ -9,9 +9,8 @@ ghost use Rattle.leader1822.specs.declared.crossing.Inbound.{Inbound};
 ghost use Rattle.leader1822.specs.declared.event.NetEvent.{NetEvent};
 ghost use Rattle.leader1822.specs.declared.message.HostMessage.{HostMessage};
 
-use thiserror::Error;
-
 use crate::{Crossing, HostAddr, HostMessage, Inbound, NetEvent};
+use thiserror::Error;
 
 /// Why a carrier refuses a call. Where several apply, the first one here is given, save that `Stopped`
 /// comes before all others.

@@ -15,6 +15,7 @@ mod crossing;
 mod event;
 mod leader;
 mod message;
+mod plain_boxes;
 
 pub use address::{Flow, HostAddr, ImpNumber, Link};
 pub use carrier::{Carrier, CarrierFault};
@@ -22,3 +23,4 @@ pub use crossing::{Answer, Crossing, Inbound};
 pub use event::{Direction, NetEvent};
 pub use leader::{Leader, LeaderFault};
 pub use message::{HostMessage, Text};
+pub use plain_boxes::PlainBoxes;
