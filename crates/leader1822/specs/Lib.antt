@@ -4,3 +4,4 @@ pub mod Mailboxes
 pub mod Calls
 pub mod Boxes
 pub mod Soundness
+pub mod Messages

@@ -13,6 +13,7 @@ mod address;
 mod carrier;
 mod crossing;
 mod event;
+pub mod law;
 mod leader;
 mod message;
 mod plain_boxes;
