@@ -89,9 +89,10 @@ needs hosts (crossing.Up h) log e =
 
 pub each_is_run : (hosts : List Host) (log : List Crossing) → EachIsRun hosts log → IsRun hosts log
 each_is_run hosts [] e = tt
-each_is_run hosts (c ∷ log) e =
-    (needs hosts c log e,
-    each_is_run hosts log (record {
-      flows = λ f. flow_below (opening_mail hosts f) (passings (length log) f c) (passed f log) (e.flows f);
-      ups = ups_below hosts c log e.ups;
-    }))
+each_is_run hosts (c ∷ log) e = (
+  needs hosts c log e,
+  each_is_run hosts log (record {
+    flows = λ f. flow_below (opening_mail hosts f) (passings (length log) f c) (passed f log) (e.flows f);
+    ups = ups_below hosts c log e.ups;
+  }),
+)

@@ -24,7 +24,7 @@ pub record Quiet (box : Box) (texts : List (List Bool)) : Type 0 where
 
 -- the box and what was taken, after one crossing more
 quiet_in : (f : Flow) (m : HostMessage) (log : List Crossing) → Holds (box_of m.flow log) m.text → Quiet (box_of f log) (taken_in f log)
-  → (b : Bool) → same_flow f m.flow ≡ b → Quiet (box_of f (crossing.In m ∷ log)) (taken_in f (crossing.In m ∷ log))
+    → (b : Bool) → same_flow f m.flow ≡ b → Quiet (box_of f (crossing.In m ∷ log)) (taken_in f (crossing.In m ∷ log))
 quiet_in f m log needs q true e =
     let P : Flow → Type 0 = λ g. Holds (box_of g log) m.text in
     let here : Holds (box_of f log) m.text = subst P (sym (same_flow-true f m.flow e)) needs in
@@ -78,18 +78,18 @@ tells_if true box text taken h = at_most_once box text taken h
 tells_if false box text taken h = h
 
 tells_more_in : (f : Flow) (m : HostMessage) (log since : List Crossing) (text : List Bool) → Holds (box_of m.flow log) m.text → Tells (box_of f log) text (taken_in f since)
-  → (b : Bool) → same_flow f m.flow ≡ b → Tells (box_of f (crossing.In m ∷ log)) text (taken_in f (crossing.In m ∷ since))
+    → (b : Bool) → same_flow f m.flow ≡ b → Tells (box_of f (crossing.In m ∷ log)) text (taken_in f (crossing.In m ∷ since))
 tells_more_in f m log since text needs h true e =
     let P : Flow → Type 0 = λ g. Holds (box_of g log) m.text in
     rw e (tells_in (box_of f log) text m.text (taken_in f since) (subst P (sym (same_flow-true f m.flow e)) needs) h)
 tells_more_in f m log since text needs h false e = rw e h
 
 tells_more_out : (f : Flow) (m : HostMessage) (log since : List Crossing) (text : List Bool) → same_flow f m.flow ≡ false → Tells (box_of f log) text (taken_in f since)
-  → Tells (box_of f (crossing.Out m ∷ log)) text (taken_in f since)
+    → Tells (box_of f (crossing.Out m ∷ log)) text (taken_in f since)
 tells_more_out f m log since text e h = rw e h
 
 pub tells_run : (hosts : List Host) (f : Flow) (since : List Crossing) (m : HostMessage) (before : List Crossing) → m.flow ≡ f
-  → IsRun hosts (since ++ crossing.Out m ∷ before) → went_out f since ≡ false → Tells (box_of f (since ++ crossing.Out m ∷ before)) m.text (taken_in f since)
+    → IsRun hosts (since ++ crossing.Out m ∷ before) → went_out f since ≡ false → Tells (box_of f (since ++ crossing.Out m ∷ before)) m.text (taken_in f since)
 tells_run hosts f [] m before e r n =
     let same : same_flow f m.flow ≡ true = ap (λ (g : Flow). same_flow f g) e ∙ same_flow-refl f in rw same (refl, refl)
 tells_run hosts f (crossing.Out x ∷ since) m before e r n =
@@ -117,14 +117,15 @@ since_more f c log keeps s = record {
 }
 
 found_out : (f : Flow) (m : HostMessage) (log : List Crossing) → (went_out f log ≡ false) ⊎ SinceLastOut f log → (b : Bool) → same_flow f m.flow ≡ b
-  → (went_out f (crossing.Out m ∷ log) ≡ false) ⊎ SinceLastOut f (crossing.Out m ∷ log)
+    → (went_out f (crossing.Out m ∷ log) ≡ false) ⊎ SinceLastOut f (crossing.Out m ∷ log)
 found_out f m log rest true e = inr (record { since = []; message = m; before = log; parts = refl; flow = sym (same_flow-true f m.flow e); last = refl })
 found_out f m log rest false e = elim rest [
-  inl none ↦ inl (rw e none) |
-  inr s ↦ inr (since_more f (crossing.Out m) log (λ since n. rw e n) s) ]
+  | inl none ↦ inl (rw e none)
+  | inr s ↦ inr (since_more f (crossing.Out m) log (λ since n. rw e n) s)
+]
 
 passes_by : (f : Flow) (c : Crossing) (log : List Crossing) → ((since : List Crossing) → went_out f since ≡ false → went_out f (c ∷ since) ≡ false)
-  → (went_out f log ≡ false) ⊎ SinceLastOut f log → (went_out f (c ∷ log) ≡ false) ⊎ SinceLastOut f (c ∷ log)
+    → (went_out f log ≡ false) ⊎ SinceLastOut f log → (went_out f (c ∷ log) ≡ false) ⊎ SinceLastOut f (c ∷ log)
 passes_by f c log keeps rest = elim rest [ inl none ↦ inl (keeps log none) | inr s ↦ inr (since_more f c log keeps s) ]
 
 pub last_out : (f : Flow) (log : List Crossing) → (went_out f log ≡ false) ⊎ SinceLastOut f log
@@ -143,25 +144,26 @@ rfnm_tells (Taken place kept) text taken fit h = h
 
 rfnm_below : (hosts : List Host) (f : Flow) (log : List Crossing) → IsRun hosts log → Fits answer.Rfnm (box_of f log) → TakenOnce f log
 rfnm_below hosts f log r fit = elim (last_out f log) [
-  inl none ↦ absurd (let P : Box → Type 0 = λ x. Fits answer.Rfnm x in subst P (quiet_run hosts f log r none).empty fit) |
-  inr s ↦
-    (let P : List Crossing → Type 0 = λ x. IsRun hosts x in
-    let Q : List Crossing → Type 0 = λ x. Fits answer.Rfnm (box_of f x) in
-    record {
-      out = s;
-      once = rfnm_tells (box_of f (s.since ++ crossing.Out s.message ∷ s.before)) s.message.text (taken_in f s.since) (subst Q s.parts fit)
-          (tells_run hosts f s.since s.message s.before s.flow (subst P s.parts r) s.last);
-    }) ]
+  | inl none ↦ absurd (let P : Box → Type 0 = λ x. Fits answer.Rfnm x in subst P (quiet_run hosts f log r none).empty fit)
+  | inr s ↦
+      (let P : List Crossing → Type 0 = λ x. IsRun hosts x in
+      let Q : List Crossing → Type 0 = λ x. Fits answer.Rfnm (box_of f x) in
+      record {
+        out = s;
+        once = rfnm_tells (box_of f (s.since ++ crossing.Out s.message ∷ s.before)) s.message.text (taken_in f s.since) (subst Q s.parts fit)
+            (tells_run hosts f s.since s.message s.before s.flow (subst P s.parts r) s.last);
+      })
+]
 
 pub safe_messages : (hosts : List Host) (log : List Crossing) → IsRun hosts log → SafeMessages log
 safe_messages hosts log r =
     let P : List Crossing → Type 0 = λ x. IsRun hosts x in
     record {
       answered = λ newer older f e.
-        (let below : IsRun hosts (crossing.Answer answer.Rfnm f ∷ older) = run_below hosts newer (crossing.Answer answer.Rfnm f ∷ older) (subst P e r) in
-        rfnm_below hosts f older below.1 below.0.1);
+          (let below : IsRun hosts (crossing.Answer answer.Rfnm f ∷ older) = run_below hosts newer (crossing.Answer answer.Rfnm f ∷ older) (subst P e r) in
+          rfnm_below hosts f older below.1 below.0.1);
       once = λ newer since before m e n.
-        (let below : IsRun hosts (since ++ crossing.Out m ∷ before) = run_below hosts newer (since ++ crossing.Out m ∷ before) (subst P e r) in
-        at_most_once (box_of m.flow (since ++ crossing.Out m ∷ before)) m.text (taken_in m.flow since) (tells_run hosts m.flow since m before refl below n));
+          (let below : IsRun hosts (since ++ crossing.Out m ∷ before) = run_below hosts newer (since ++ crossing.Out m ∷ before) (subst P e r) in
+          at_most_once (box_of m.flow (since ++ crossing.Out m ∷ before)) m.text (taken_in m.flow since) (tells_run hosts m.flow since m before refl below n));
       none_before = λ newer older f e n. (quiet_run hosts f older (run_below hosts newer older (subst P e r)) n).none;
     }

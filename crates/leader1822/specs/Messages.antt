@@ -46,6 +46,6 @@ pub record SafeMessages (log : List Crossing) : Type 0 where
   pub answered : (newer older : List Crossing) (f : Flow) → log ≡ newer ++ crossing.Answer answer.Rfnm f ∷ older → TakenOnce f older
   -- between one message out and the flow's next, at most one message is taken, with that text
   pub once : (newer since before : List Crossing) (m : HostMessage) → log ≡ newer ++ (since ++ crossing.Out m ∷ before) → went_out m.flow since ≡ false
-    → (taken_in m.flow since ≡ []) ⊎ (taken_in m.flow since ≡ m.text ∷ [])
+      → (taken_in m.flow since ≡ []) ⊎ (taken_in m.flow since ≡ m.text ∷ [])
   -- before a flow's first message out none is taken
   pub none_before : (newer older : List Crossing) (f : Flow) → log ≡ newer ++ older → went_out f older ≡ false → taken_in f older ≡ []

@@ -24,8 +24,7 @@ pub fn leaders()
 
     // nothing but the type of a NOP is looked at
     ensures nop { (address link last : ℕ) (rest : List ℕ) → read_from_imp (4 ∷ address ∷ link ∷ last ∷ rest) ≡ Ok leader.Nop }
-{
-}
+{}
 
 /// A network may be looked at one flow at a time (BBN Report 1822: one message outstanding on a link).
 pub fn mailboxes()
@@ -34,11 +33,9 @@ pub fn mailboxes()
 
     // a flow's own part of a log tells its hosts and its box
     ensures own_story { (hosts : List Host) (f : Flow) (log : List Crossing) → mail_of (opening_mail hosts f) (passed f log) ≡ record { source = is_up hosts f.source log; destination = is_up hosts f.destination log; box = box_of f log } }
-{
-}
+{}
 
 /// What every host may rely on, from the mailboxes alone.
 pub fn messages()
     ensures { (hosts : List Host) (log : List Crossing) → IsRun hosts log → SafeMessages log }
-{
-}
+{}

@@ -1,14 +1,13 @@
 //! Messages: a text on a flow.
 
-ghost use Rattle.std.specs.Prelude.{◌≡◌, ◌≤◌, Bool, List, length, nat_le, Option, Some, None, if◌then◌else◌, IfSome, IsSome, ◌↔◌, IfOk};
+ghost use Rattle.std.specs.Prelude.{◌≡◌, ◌≤◌, Bool, List, length, nat_le, Option, Some, None, if◌then◌else◌, IfSome, IsSome, ◌↔◌};
 
 use crate::Flow;
 use bit_messages::{Bits, MAX_TEXT_BITS};
-use std::alloc::{AllocError, Global};
 use std::marker::Model;
 
 /// The text of a message: 0 to 8063 bits (BBN Report 1822, the length of a message).
-#[derive(Debug, Drop)]
+#[derive(Clone, Debug, Drop)]
 pub struct Text {
     bits: Bits,
 }
@@ -44,34 +43,13 @@ impl Text {
     {
         &self.bits
     }
-
-    /// The same text once more.
-    pub fn copied(&self, _alloc: Global) -> Result<Text, AllocError>
-        ensures { IfOk result (λ text. text ≡ self.now) }
-    {
-        Ok(Text {
-            bits: self.bits.clone()?,
-        })
-    }
 }
 
 /// A message: a text from one host to another, on a link.
-#[derive(Debug, Drop)]
+#[derive(Clone, Debug, Drop)]
 pub struct HostMessage {
     /// Who sends it to whom, and on which link.
     pub flow: Flow,
     /// What it says.
     pub text: Text,
-}
-
-impl HostMessage {
-    /// The same message once more.
-    pub fn copied(&self, alloc: Global) -> Result<HostMessage, AllocError>
-        ensures { IfOk result (λ message. message ≡ self.now) }
-    {
-        Ok(HostMessage {
-            flow: self.flow,
-            text: self.text.copied(alloc)?,
-        })
-    }
 }

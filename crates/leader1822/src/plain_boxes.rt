@@ -26,7 +26,6 @@ pub struct PlainBoxes {
     answers: Vec<(Answer, Flow)>,
     log: Vec<Crossing>,
     stopped: bool,
-    alloc: Global,
 }
 
 impl Model for PlainBoxes {
@@ -54,7 +53,6 @@ impl PlainBoxes {
             answers: Vec::new(alloc),
             log: Vec::new(alloc),
             stopped: false,
-            alloc,
         }
     }
 
@@ -147,7 +145,6 @@ impl Carrier for PlainBoxes {
         }
         let reachable = is_running(&self.hosts, &self.down, &flow.destination);
         let Ok(()) = store_offer(
-            self.alloc,
             &mut self.queue,
             &mut self.answers,
             &mut self.log,
@@ -175,13 +172,7 @@ impl Carrier for PlainBoxes {
             return Ok(None);
         };
         let source_up = is_running(&self.hosts, &self.down, &message.flow.source);
-        let Ok(()) = store_taking(
-            self.alloc,
-            &mut self.answers,
-            &mut self.log,
-            &message,
-            source_up,
-        ) else {
+        let Ok(()) = store_taking(&mut self.answers, &mut self.log, &message, source_up) else {
             self.stopped = true;
             return Err(CarrierFault::OutOfMemory);
         };
@@ -351,7 +342,6 @@ fn host_up_refusal(
 
 /// Puts an offered message in the queue, or Dead behind the answers, and the crossing on the log.
 fn store_offer(
-    alloc: Global,
     queue: &mut Vec<HostMessage>,
     answers: &mut Vec<(Answer, Flow)>,
     log: &mut Vec<Crossing>,
@@ -363,7 +353,7 @@ fn store_offer(
     ensures log { OnOk result (log.new.items ≡ log.old.items ++ crossing.Out message ∷ []) }
     ensures err { OnErr result (log.new.items ≡ log.old.items) }
 {
-    let copy = message.copied(alloc)?;
+    let copy = message.clone()?;
     if reachable {
         queue.push(message)?;
     } else {
@@ -422,7 +412,6 @@ fn store_answer(log: &mut Vec<Crossing>, kind: Answer, flow: &Flow) -> Result<In
 /// Puts the RFNM of a taken message behind the answers, where its source is up, and the crossing on the
 /// log.
 fn store_taking(
-    alloc: Global,
     answers: &mut Vec<(Answer, Flow)>,
     log: &mut Vec<Crossing>,
     message: &HostMessage,
@@ -435,7 +424,7 @@ fn store_taking(
     if source_up {
         answers.push((Answer::Rfnm, message.flow))?;
     }
-    log.push(Crossing::In(message.copied(alloc)?))?;
+    log.push(Crossing::In(message.clone()?))?;
     Ok(())
 }
 
