@@ -10,10 +10,14 @@
 //! or queues, or of what is on its way in the network.
 #![tactic(auto)]
 
+mod destination;
 mod fault;
-pub mod flow_map;
+mod flow_map;
 pub mod law;
 pub mod numbers;
+mod source;
 
+pub use destination::{Age, DestFlows};
 pub use fault::FlowFault;
 pub use numbers::Number;
+pub use source::{Release, SourceFlows, Standing};
