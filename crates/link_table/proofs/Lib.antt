@@ -1,3 +1,4 @@
+pub mod FlowLemmas
 pub mod KeyLemmas
 pub mod WindowLemmas
 pub mod NumberLemmas

@@ -12,6 +12,9 @@ pub two : 1 < modulus
 unfolding modulus
 two = omega arith
 
+pub some_number : 0 < modulus
+some_number = omega (arith, two)
+
 -- the two ways to say that a number is near
 near_of : (l n : ℕ) → Near l n → NearOf modulus window l n
 unfolding ahead
