@@ -1,12 +1,12 @@
 -- What a map has at a flow after a change at another, and at the same.
-use Rattle.std.proofs.Common.{◌≡◌, ◌≢◌, ℕ, ◌<◌, Bool, true, false, not, List, [], ◌∷◌, ◌||◌, ◌&&◌, Option, Some, None, refl, ap, sym, subst, ◌∙◌, cond, ◌==◌, if◌then◌else◌, arith, IsSome, is_some}
+use Rattle.std.proofs.Common.{◌≡◌, ℕ, ◌<◌, Bool, true, false, not, List, [], ◌∷◌, ◌||◌, ◌&&◌, Option, Some, None, refl, ap, sym, ◌∙◌, cond, ◌==◌, if◌then◌else◌, arith, IsSome, is_some}
 use Rattle.std.specs.Option.{option_map}
 use Rattle.std.specs.List.{list_any}
 use Rattle.std.specs.declared.cmp.Ordering.{Ordering}
 use Rattle.std.specs.declared.cmp.Ordering.TheVariants.{Less, Equal, Greater}
 use Rattle.std.specs.Ordering.{nat_cmp, ordering_then, eq_by_cmp, is_eq}
 use Rattle.std.specs.Cmp.{eq_by_cmp_equiv}
-use Rattle.std.specs.FinMap.{FinMap, get, insert, keys, get-insert, get-retain_keys, contains_key, contains_key-keys}
+use Rattle.std.specs.FinMap.{FinMap, get, insert, keys, get-insert, get-retain_keys, contains_key-keys}
 use Rattle.leader1822.specs.Host.{Host, same_host}
 use Rattle.leader1822.specs.Mailboxes.{same_flow}
 use Rattle.leader1822.specs.declared.address.Flow.{Flow}

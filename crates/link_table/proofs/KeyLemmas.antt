@@ -1,14 +1,13 @@
 -- The map that a list of entries makes.
-use Rattle.std.proofs.Common.{◌≡◌, ℕ, Bool, true, false, not, List, [], ◌∷◌, ◌||◌, Option, Some, None, refl, ap, sym, subst, ◌∙◌, cond, ◌==◌, map, length, arith}
+use Rattle.std.proofs.Common.{◌≡◌, ℕ, Bool, true, false, not, List, [], ◌∷◌, ◌||◌, Option, Some, None, refl, ap, sym, ◌∙◌, cond, map, length, arith}
 use Rattle.std.specs.List.{list_any, filter}
 use Rattle.std.specs.Map.{lookup}
 use Rattle.std.specs.BTreeMap.{is_at}
 use Rattle.std.specs.declared.cmp.Ordering.{Ordering}
 use Rattle.std.specs.declared.cmp.Ordering.TheVariants.{Less, Equal, Greater}
-use Rattle.std.specs.Ordering.{nat_cmp, ordering_then, eq_by_cmp}
+use Rattle.std.specs.Ordering.{nat_cmp, ordering_then}
 use Rattle.std.specs.Cmp.{IsTotalOrder, nat_cmp_total, eq_by_cmp_equiv}
-use Rattle.std.specs.FinMap.{FinMap, find, from_entries, get, insert, same_map, get-from_entries, get-insert}
-use Rattle.std.specs.FinMap as fin
+use Rattle.std.specs.FinMap.{find, from_entries, get, insert, same_map, get-from_entries, get-insert}
 use Rattle.std.proofs.lemmas.Cmp.{on_total, then_total}
 use Rattle.std.proofs.lemmas.Map.Lookups.{CmpEqualImpliesEq, exact_pairs, exact_unsigned}
 use Rattle.leader1822.specs.Host.{Host}

@@ -1,5 +1,5 @@
 -- Flows as the keys of a map.
-use Rattle.std.specs.Prelude.{◌≡◌, ℕ, Bool, ◌==◌, not, refl}
+use Rattle.std.specs.Prelude.{ℕ, Bool, ◌==◌, not, refl}
 use Rattle.std.specs.List.{list_any}
 use Rattle.std.specs.declared.cmp.Ordering.{Ordering}
 use Rattle.std.specs.Ordering.{nat_cmp, ordering_then}

@@ -1,5 +1,5 @@
 -- The numbers of a flow's messages, and what its destination takes for new.
-use Rattle.std.specs.Prelude.{ℕ, ◌+◌, ◌-◌, ◌%◌, ◌≤◌, ◌<◌, Bool, Option}
+use Rattle.std.specs.Prelude.{ℕ, ◌≤◌, ◌<◌, Bool, Option}
 use Rattle.link_table.specs.Window.{next_of, ahead_of, oldest_of, is_new_of}
 use Rattle.link_table.specs.declared.numbers.TheConstants.{MODULUS, WINDOW}
 

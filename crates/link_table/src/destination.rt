@@ -51,10 +51,10 @@ impl DestFlows {
 
     /// What a number of a flow is: new where none is kept, and where it lies within the window ahead of
     /// the one that is.
-    pub fn judge(&self, flow: Flow, number: Number) -> Age
-        ensures { result ≡ age_of (map.get self.now flow) number }
+    pub fn judge(&self, flow: &Flow, number: Number) -> Age
+        ensures { result ≡ age_of (map.get self.now flow.now) number }
     {
-        if is_new(self.flows.get(&flow), number) {
+        if is_new(self.flows.get(flow), number) {
             Age::New
         } else {
             Age::Old
@@ -63,12 +63,12 @@ impl DestFlows {
 
     /// Keeps this number as the flow's last. Without memory nothing changes; memory is wanted only where
     /// the flow had none.
-    pub fn note(&mut self, flow: Flow, number: Number) -> Result<(), AllocError>
-        ensures ok { OnOk result (self.new ≡ map.insert self.old flow number) }
+    pub fn note(&mut self, flow: &Flow, number: Number) -> Result<(), AllocError>
+        ensures ok { OnOk result (self.new ≡ map.insert self.old flow.now number) }
         ensures err { OnErr result (self.new ≡ self.old) }
-        ensures fresh { OnErr result (map.get self.old flow ≡ None) }
+        ensures fresh { OnErr result (map.get self.old flow.now ≡ None) }
     {
-        self.flows.set(flow, number)
+        self.flows.set(*flow, number)
     }
 
     /// Drops the last numbers of flows whose source is at this IMP, and no others.
@@ -86,9 +86,9 @@ impl DestFlows {
     }
 
     /// The last number that it keeps of a flow.
-    pub fn kept(&self, flow: Flow) -> Option<Number>
-        ensures { result ≡ map.get self.now flow }
+    pub fn kept(&self, flow: &Flow) -> Option<Number>
+        ensures { result ≡ map.get self.now flow.now }
     {
-        self.flows.get(&flow)
+        self.flows.get(flow)
     }
 }

@@ -110,30 +110,30 @@ impl SourceFlows {
     ///
     /// Errors: `Blocked` where the flow isn't idle.
     #[tactic(auto, unfolding(crate::specs::Flows::begun))]
-    pub fn begin(&mut self, flow: Flow) -> Result<Number, FlowFault>
-        ensures decided { Decided (begin_fault self.old flow) (λ number. (number ≡ number_in (map.get self.old flow)) × (self.new ≡ begun self.old flow)) result }
+    pub fn begin(&mut self, flow: &Flow) -> Result<Number, FlowFault>
+        ensures decided { Decided (begin_fault self.old flow.now) (λ number. (number ≡ number_in (map.get self.old flow.now)) × (self.new ≡ begun self.old flow.now)) result }
         ensures err { OnErr result (self.new ≡ self.old) }
     {
-        let number = match self.flows.get(&flow) {
+        let number = match self.flows.get(flow) {
             None => 0,
             Some(Standing::Idle(last)) => next(last),
             Some(_) => return Err(FlowFault::Blocked),
         };
-        self.flows.set(flow, Standing::Outstanding(number))?;
+        self.flows.set(*flow, Standing::Outstanding(number))?;
         Ok(number)
     }
 
     /// Takes the answer to a message of this number: the flow is answered where that message is the
     /// outstanding one, and else nothing changes.
     #[tactic(auto, unfolding(crate::specs::Flows::answered))]
-    pub fn answer(&mut self, flow: Flow, number: Number) -> Release
-        ensures state { self.new ≡ answered self.old flow number }
-        ensures release { result ≡ release_in number (map.get self.old flow) }
+    pub fn answer(&mut self, flow: &Flow, number: Number) -> Release
+        ensures state { self.new ≡ answered self.old flow.now number }
+        ensures release { result ≡ release_in number (map.get self.old flow.now) }
     {
-        let Some(standing) = self.flows.get(&flow) else {
+        let Some(standing) = self.flows.get(flow) else {
             return Release::Stale;
         };
-        self.flows.replace(flow, standing.answered(number));
+        self.flows.replace(*flow, standing.answered(number));
         match standing {
             Standing::Outstanding(last) if last == number => Release::Freed,
             _ => Release::Stale,
@@ -143,47 +143,47 @@ impl SourceFlows {
     /// Gives up the outstanding message of a flow: the flow is answered. Where none is outstanding nothing
     /// changes.
     #[tactic(auto, unfolding(crate::specs::Flows::given_up))]
-    pub fn give_up(&mut self, flow: Flow)
-        ensures { self.new ≡ given_up self.old flow }
+    pub fn give_up(&mut self, flow: &Flow)
+        ensures { self.new ≡ given_up self.old flow.now }
     {
-        if let Some(standing) = self.flows.get(&flow) {
-            self.flows.replace(flow, standing.given_up());
+        if let Some(standing) = self.flows.get(flow) {
+            self.flows.replace(*flow, standing.given_up());
         }
     }
 
     /// The host took the answer of a flow, or is down and takes none: the flow is idle. Where no answer
     /// waits nothing changes.
     #[tactic(auto, unfolding(crate::specs::Flows::handed))]
-    pub fn handed(&mut self, flow: Flow)
-        ensures { self.new ≡ handed self.old flow }
+    pub fn handed(&mut self, flow: &Flow)
+        ensures { self.new ≡ handed self.old flow.now }
     {
-        if let Some(standing) = self.flows.get(&flow) {
-            self.flows.replace(flow, standing.handed());
+        if let Some(standing) = self.flows.get(flow) {
+            self.flows.replace(*flow, standing.handed());
         }
     }
 
     /// Whether `begin` isn't blocked: nothing of the flow is outstanding and no answer waits.
-    pub fn is_idle(&self, flow: Flow) -> bool
-        ensures { result ≡ is_idle_in (map.get self.now flow) }
+    pub fn is_idle(&self, flow: &Flow) -> bool
+        ensures { result ≡ is_idle_in (map.get self.now flow.now) }
     {
-        matches!(self.flows.get(&flow), None | Some(Standing::Idle(_)))
+        matches!(self.flows.get(flow), None | Some(Standing::Idle(_)))
     }
 
     /// The number of the outstanding message of a flow.
-    pub fn outstanding(&self, flow: Flow) -> Option<Number>
-        ensures { result ≡ outstanding_in (map.get self.now flow) }
+    pub fn outstanding(&self, flow: &Flow) -> Option<Number>
+        ensures { result ≡ outstanding_in (map.get self.now flow.now) }
     {
-        match self.flows.get(&flow) {
+        match self.flows.get(flow) {
             Some(Standing::Outstanding(number)) => Some(number),
             _ => None,
         }
     }
 
     /// The number of the last message begun of a flow.
-    pub fn last(&self, flow: Flow) -> Option<Number>
-        ensures { result ≡ last_in (map.get self.now flow) }
+    pub fn last(&self, flow: &Flow) -> Option<Number>
+        ensures { result ≡ last_in (map.get self.now flow.now) }
     {
-        match self.flows.get(&flow) {
+        match self.flows.get(flow) {
             Some(standing) => Some(standing.last()),
             None => None,
         }

@@ -1,4 +1,4 @@
-use Rattle.std.proofs.Common.{rules, not, ap, ◌∙◌, ◌≡◌, tests}
+use Rattle.std.proofs.Common.{rules, not, ap, ◌∙◌}
 use Rattle.std.proofs.lemmas.Map.Made.{filter_same_pairs}
 use Rattle.link_table.specs.Keys.{drop_from, is_from}
 use Rattle.link_table.proofs.KeyLemmas.{dropped}

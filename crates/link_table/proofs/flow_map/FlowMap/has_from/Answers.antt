@@ -1,4 +1,4 @@
-use Rattle.std.proofs.Common.{rules, tests, ap, ◌∙◌, ◌≡◌, Bool}
+use Rattle.std.proofs.Common.{rules, tests, ap, ◌∙◌, ◌≡◌}
 use Rattle.std.specs.List.{list_any}
 use Rattle.std.specs.Map.{keys_of}
 use Rattle.std.proofs.lemmas.Iterator.Search.{any_from_yields_List}
