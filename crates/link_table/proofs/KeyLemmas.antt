@@ -1,0 +1,109 @@
+-- The map that a list of entries makes.
+use Rattle.std.proofs.Common.{◌≡◌, ℕ, Bool, true, false, not, List, [], ◌∷◌, ◌||◌, Option, Some, None, refl, ap, sym, ◌∙◌, cond, map, length, arith}
+use Rattle.std.specs.List.{list_any, filter}
+use Rattle.std.specs.Map.{lookup}
+use Rattle.std.specs.BTreeMap.{is_at}
+use Rattle.std.specs.declared.cmp.Ordering.{Ordering}
+use Rattle.std.specs.declared.cmp.Ordering.TheVariants.{Less, Equal, Greater}
+use Rattle.std.specs.Ordering.{nat_cmp, ordering_then}
+use Rattle.std.specs.Cmp.{IsTotalOrder, nat_cmp_total, eq_by_cmp_equiv}
+use Rattle.std.specs.FinMap.{find, from_entries, get, insert, same_map, get-from_entries, get-insert}
+use Rattle.std.proofs.lemmas.Cmp.{on_total, then_total}
+use Rattle.std.proofs.lemmas.Map.Lookups.{CmpEqualImpliesEq, exact_pairs, exact_unsigned}
+use Rattle.leader1822.specs.Host.{Host}
+use Rattle.leader1822.specs.declared.address.Flow.{Flow}
+use Rattle.std.specs.FinMap.Entries.{find-where_key, put, by_order}
+use Rattle.std.specs.FinMap.{entries, entries-insert, get-retain_keys, empty, len-entries, len-empty}
+use Rattle.std.specs.Map.{keys_of}
+use Rattle.link_table.specs.Keys.{host_cmp, flow_cmp, is_from, drop_from, has_from}
+
+pub hosts_total : IsTotalOrder host_cmp
+hosts_total = then_total (on_total (λ h. h.imp) nat_cmp_total) (on_total (λ h. h.host) nat_cmp_total)
+
+pub flows_total : IsTotalOrder flow_cmp
+flows_total = then_total (on_total (λ f. f.source) hosts_total) (then_total (on_total (λ f. f.destination) hosts_total) (on_total (λ f. f.link.0) nat_cmp_total))
+
+-- hosts that compare alike are one, and so are flows
+pub exact_hosts : CmpEqualImpliesEq host_cmp
+exact_hosts g h e = ap (λ (p : ℕ × ℕ). record { imp = p.0; host = p.1 }) (exact_pairs nat_cmp nat_cmp exact_unsigned exact_unsigned (g.imp, g.host) (h.imp, h.host) e)
+
+ends_cmp : Host × ℕ → Host × ℕ → Ordering
+ends_cmp a b = ordering_then (host_cmp a.0 b.0) (nat_cmp a.1 b.1)
+
+pub exact_flows : CmpEqualImpliesEq flow_cmp
+exact_flows f g e = ap (λ (p : Host × (Host × ℕ)). record { source = p.0; destination = p.1.0; link = record { 0 = p.1.1 } })
+    (exact_pairs host_cmp (λ (a b : Host × ℕ). ordering_then (host_cmp a.0 b.0) (nat_cmp a.1 b.1)) exact_hosts (exact_pairs host_cmp nat_cmp exact_hosts exact_unsigned)
+    (f.source, (f.destination, f.link.0)) (g.source, (g.destination, g.link.0)) e)
+
+-- what a list of entries has at a flow
+abbrev pub value_at : {V : Type 0} → List (Flow × V) → Flow → Option V
+value_at es f = lookup (is_at (flow_cmp f)) es
+
+find_flow : {V : Type 0} (es : List (Flow × V)) (f : Flow) → find flow_cmp f es ≡ value_at es f
+find_flow [] f = refl
+find_flow (e ∷ es) f = ap (cond (is_at (flow_cmp f) e.0) (Some e.1)) (find_flow es f)
+
+-- what the map that the entries make has at a flow
+pub get_flow : {V : Type 0} (es : List (Flow × V)) (f : Flow) → get (from_entries {R = flow_cmp} es) f ≡ value_at es f
+get_flow es f = get-from_entries flows_total es f ∙ find_flow es f
+
+-- entries that differ at one flow make maps that differ there
+pub one_set : {V : Type 0} (es ds : List (Flow × V)) (f : Flow) (v : V)
+    → ((g : Flow) → value_at ds g ≡ cond (is_at (flow_cmp f) g) (Some v) (value_at es g)) → from_entries {R = flow_cmp} ds ≡ insert (from_entries es) f v
+one_set es ds f v h = same_map flows_total exact_flows _ _ (λ g.
+    get_flow ds g ∙ h g ∙ ap (λ b. cond b (Some v) (value_at es g)) ((eq_by_cmp_equiv flows_total).symm f g)
+    ∙ sym (get-insert flows_total (from_entries es) f v g ∙ ap (cond (is_at (flow_cmp g) f) (Some v)) (get_flow es g)))
+
+-- flows that compare alike are from the same IMP
+from_alike : (imp : ℕ) (f g : Flow) → flow_cmp f g ≡ Equal → is_from imp g ≡ is_from imp f
+from_alike imp f g e = ap (is_from imp) (sym (exact_flows f g e))
+
+-- the map of the entries that are kept
+pub dropped : {V : Type 0} (imp : ℕ) (es ds : List (Flow × V)) → ds ≡ filter (λ e. not (is_from imp e.0)) es → from_entries {R = flow_cmp} ds ≡ drop_from imp (from_entries es)
+dropped imp es ds h = same_map flows_total exact_flows _ _ (λ g.
+    get-from_entries flows_total ds g ∙ ap (find flow_cmp g) h
+    ∙ find-where_key flow_cmp (λ f. not (is_from imp f)) g (λ f e. ap not (from_alike imp g f e)) es
+    ∙ ap (λ o. cond (not (is_from imp g)) o None) (sym (get-from_entries flows_total es g))
+    ∙ sym (get-retain_keys (from_entries es) (λ f. not (is_from imp f)) g (λ f e. ap not (from_alike imp g f e))))
+
+-- the tests of two keys, one before the other
+or_twice : (a b rest : Bool) → b ≡ a → (b || rest) ≡ (a || (b || rest))
+or_twice true true rest e = refl
+or_twice false false rest e = refl
+or_twice true false rest e = absurd (cc)
+or_twice false true rest e = absurd (cc)
+
+or_turned : (a b rest : Bool) → (b || (a || rest)) ≡ (a || (b || rest))
+or_turned true true rest = refl
+or_turned false false rest = refl
+or_turned true false rest = refl
+or_turned false true rest = refl
+
+-- whether an entry's flow is from an IMP
+any_from : {V : Type 0} → ℕ → List (Flow × V) → Bool
+any_from imp es = list_any (is_from imp) (map (λ e. e.0) es)
+
+-- one more entry, put in its place, is one more to ask
+any_put : {V : Type 0} (imp : ℕ) (f : Flow) (v : V) (es : List (Flow × V)) → any_from imp (put flow_cmp f v es) ≡ (is_from imp f || any_from imp es)
+unfolding any_from
+any_put imp f v [] = refl
+any_put {V} imp f v (e ∷ es) = by (flow_cmp f e.0) refl (any_put imp f v es) where
+  by : (o : Ordering) → flow_cmp f e.0 ≡ o → any_from imp (put flow_cmp f v es) ≡ (is_from imp f || any_from imp es)
+      → any_from imp (by_order o ((f, v) ∷ e ∷ es) ((e.0, v) ∷ es) (e ∷ put flow_cmp f v es)) ≡ (is_from imp f || any_from imp (e ∷ es))
+  by Less t rest = refl
+  by Equal t rest = or_twice (is_from imp f) (is_from imp e.0) (any_from imp es) (from_alike imp f e.0 t)
+  by Greater t rest = ap (λ b. is_from imp e.0 || b) rest ∙ or_turned (is_from imp f) (is_from imp e.0) (any_from imp es)
+
+any_none : {V : Type 0} (imp : ℕ) (es : List (Flow × V)) → length es ≡ 0 → any_from imp es ≡ false
+unfolding any_from
+any_none imp [] none = refl
+any_none imp (e ∷ es) none = absurd (omega arith)
+
+-- whether a flow is from an IMP, asked of the entries and of the map that they make
+pub asked : {V : Type 0} (imp : ℕ) (es : List (Flow × V)) → list_any (is_from imp) (keys_of es) ≡ has_from imp (from_entries {R = flow_cmp} es)
+unfolding any_from
+asked {V} imp [] = sym (any_none imp (entries (empty {X = V} {R = flow_cmp})) (sym (len-entries (empty {X = V} {R = flow_cmp})) ∙ len-empty flow_cmp V))
+asked imp (e ∷ es) =
+    ap (λ b. is_from imp e.0 || b) (asked imp es)
+    ∙ sym (any_put imp e.0 e.1 (entries (from_entries {R = flow_cmp} es)))
+    ∙ ap (λ ds. any_from imp ds) (sym (entries-insert flows_total (from_entries {R = flow_cmp} es) e.0 e.1))

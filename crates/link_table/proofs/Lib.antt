@@ -1,0 +1,4 @@
+pub mod FlowLemmas
+pub mod KeyLemmas
+pub mod WindowLemmas
+pub mod NumberLemmas

@@ -1,0 +1,44 @@
+-- The window of this network. Here alone its two numbers are looked at.
+use Rattle.std.proofs.Common.{◌≡◌, ◌≢◌, ℕ, ◌+◌, ◌*◌, ◌<◌, ◌≤◌, false, Some, arith}
+use Rattle.link_table.specs.Window.{NearOf}
+use Rattle.link_table.specs.Numbers.{modulus, window, next, ahead, oldest, is_new, Near}
+use Rattle.link_table.proofs.WindowLemmas as any
+
+pub wide : 2 * window + 1 ≤ modulus
+unfolding modulus window
+wide = omega arith
+
+pub two : 1 < modulus
+unfolding modulus
+two = omega arith
+
+pub some_number : 0 < modulus
+some_number = omega (arith, two)
+
+-- the two ways to say that a number is near
+near_of : (l n : ℕ) → Near l n → NearOf modulus window l n
+unfolding ahead
+near_of l n h = record { last = h.last; number = h.number; close = h.close }
+
+near_from : (l n : ℕ) → NearOf modulus window l n → Near l n
+unfolding ahead
+near_from l n h = record { last = h.last; number = h.number; close = h.close }
+
+pub next_in : (n : ℕ) → next n < modulus
+unfolding next
+next_in n = any.next_in modulus window n wide
+
+pub near_same : (l : ℕ) → l < modulus → Near l l
+near_same l lm = near_from l l (any.near_same modulus window l wide lm)
+
+pub near_old : (l n : ℕ) → Near l n → is_new (Some l) n ≡ false
+unfolding is_new
+near_old l n h = any.near_old modulus window l n wide (near_of l n h)
+
+pub near_next : (l n : ℕ) → Near l n → n ≢ oldest l → Near (next l) n
+unfolding next oldest
+near_next l n h other = near_from (next l) n (any.near_next modulus window l n wide (near_of l n h) other)
+
+pub not_next : (l : ℕ) → Near l (next l) → ⊥
+unfolding next
+not_next l h = any.not_next modulus window l wide two (near_of l (next l) h)

@@ -1,0 +1,17 @@
+use Rattle.link_table.proofs.FlowLemmas.{get_begun, get_answered, get_given_up, get_handed, number_begun}
+use Rattle.link_table.proofs.law.source_flows.Goals as goal
+
+pub returns-clause-begun : goal.returns-clause-begun
+returns-clause-begun c = get_begun
+
+pub returns-clause-answered : goal.returns-clause-answered
+returns-clause-answered c = get_answered
+
+pub returns-clause-given_up : goal.returns-clause-given_up
+returns-clause-given_up c = get_given_up
+
+pub returns-clause-handed : goal.returns-clause-handed
+returns-clause-handed c = get_handed
+
+pub returns-clause-number : goal.returns-clause-number
+returns-clause-number c = number_begun

@@ -1,0 +1,5 @@
+pub mod Codes
+pub mod Flows
+pub mod Keys
+pub mod Numbers
+pub mod Window

@@ -1,0 +1,95 @@
+//! What the window and the two tables promise, as laws over their definitions. The functions here do
+//! nothing: each clause is the law.
+
+ghost use Rattle.std.specs.Prelude.{◌≡◌, ◌≢◌, ℕ, ◌+◌, ◌*◌, ◌<◌, ◌≤◌, false, true, Option, Some, None, ◌↔◌, IsSome, if◌then◌else◌};
+ghost use Rattle.std.specs.Option.{option_map};
+ghost use Rattle.std.specs.FinMap as map;
+ghost use Rattle.leader1822.specs.Mailboxes.{same_flow};
+ghost use Rattle.leader1822.specs.declared.address.Flow.{Flow};
+ghost use Rattle.link_table.specs.Flows.{Sources, Destinations, begun, answered, given_up, handed, number_in, last_in, outstanding_in, answered_in, given_up_in, handed_in, release_in};
+ghost use Rattle.link_table.specs.Keys.{is_from, drop_from, has_from};
+ghost use Rattle.link_table.specs.declared.source.Standing.{Standing};
+ghost use Rattle.link_table.specs.declared.source.Standing.TheVariants as standing;
+ghost use Rattle.link_table.specs.declared.source.Release.TheVariants as release;
+ghost use Rattle.link_table.specs.Window.{next_of, oldest_of, is_new_of, NearOf};
+ghost use Rattle.link_table.specs.Numbers.{modulus, window, next, oldest, is_new, Near};
+
+/// Any window over numbers that go round, where there are more than twice as many numbers as the window
+/// is wide: what lies behind the last number and what lies ahead of it never meet.
+pub fn any_window()
+    // the next number is a number
+    ensures next_in { (m w n : ℕ) → 2 * w + 1 ≤ m → next_of m n < m }
+
+    // a number lies within the window behind itself
+    ensures near_same { (m w l : ℕ) → 2 * w + 1 ≤ m → l < m → NearOf m w l l }
+
+    // nothing within the window behind the last number is new against it
+    ensures near_old { (m w l n : ℕ) → 2 * w + 1 ≤ m → NearOf m w l n → is_new_of m w (Some l) n ≡ false }
+
+    // with the number at the window's far end gone, what lay within the window still does after one more
+    ensures near_next { (m w l n : ℕ) → 2 * w + 1 ≤ m → NearOf m w l n → n ≢ oldest_of m w l → NearOf m w (next_of m l) n }
+
+    // of two numbers or more, the next one does not lie within the window behind the last
+    ensures not_next { (m w l : ℕ) → 2 * w + 1 ≤ m → 1 < m → NearOf m w l (next_of m l) → ⊥ }
+{}
+
+/// The window of this network.
+pub fn window_holds()
+    // all that the laws below ask of the two numbers: there are more than twice as many numbers as the
+    // window is wide, and two at least
+    ensures wide { (2 * window + 1 ≤ modulus) × (1 < modulus) }
+
+    // the next number is a number
+    ensures next_in { (n : ℕ) → next n < modulus }
+
+    // a number lies within the window behind itself
+    ensures near_same { (l : ℕ) → l < modulus → Near l l }
+
+    // nothing within the window behind the last number is new against it
+    ensures near_old { (l n : ℕ) → Near l n → is_new (Some l) n ≡ false }
+
+    // with the number at the window's far end gone, what lay within the window still does after one more
+    ensures near_next { (l n : ℕ) → Near l n → n ≢ oldest l → Near (next l) n }
+
+    // the next number does not lie within the window behind the last one
+    ensures not_next { (l : ℕ) → Near l (next l) → ⊥ }
+{}
+
+/// What the calls of a source do to each flow: the named one changes, and no other.
+pub fn source_flows()
+    // begin
+    ensures begun { (m : Sources) (f g : Flow) → map.get (begun m f) g ≡ (if same_flow g f then Some (standing.Outstanding (number_in (map.get m f))) else map.get m g) }
+
+    // answer
+    ensures answered { (m : Sources) (f g : Flow) (n : ℕ) → map.get (answered m f n) g ≡ (if same_flow g f then option_map (answered_in n) (map.get m f) else map.get m g) }
+
+    // give_up
+    ensures given_up { (m : Sources) (f g : Flow) → map.get (given_up m f) g ≡ (if same_flow g f then option_map given_up_in (map.get m f) else map.get m g) }
+
+    // handed
+    ensures handed { (m : Sources) (f g : Flow) → map.get (handed m f) g ≡ (if same_flow g f then option_map handed_in (map.get m f) else map.get m g) }
+
+    // what is outstanding was begun last
+    ensures outstanding_last { (s : Option Standing) (n : ℕ) → outstanding_in s ≡ Some n → last_in s ≡ Some n }
+
+    // what is begun is a number
+    ensures number { (s : Option Standing) → number_in s < modulus }
+
+    // an answer frees a flow only with the outstanding number, and always with it
+    ensures freed { (s : Option Standing) (n : ℕ) → (release_in n s ≡ release.Freed) ↔ (outstanding_in s ≡ Some n) }
+{}
+
+/// What the calls of a destination do to each flow.
+pub fn destination_flows()
+    // note
+    ensures noted { (m : Destinations) (f g : Flow) (n : ℕ) → map.get (map.insert m f n) g ≡ (if same_flow g f then Some n else map.get m g) }
+
+    // forget
+    ensures forgotten { (m : Destinations) (imp : ℕ) (g : Flow) → map.get (drop_from imp m) g ≡ (if is_from imp g then None else map.get m g) }
+
+    // keeps: where it says no, nothing is kept of any flow from there
+    ensures keeps_none { (m : Destinations) (imp : ℕ) → has_from imp m ≡ false → (g : Flow) → is_from imp g ≡ true → map.get m g ≡ None }
+
+    // keeps: where it says yes, there is such a flow
+    ensures keeps_one { (m : Destinations) (imp : ℕ) → has_from imp m ≡ true → (g : Flow) × (is_from imp g ≡ true) × IsSome (map.get m g) }
+{}

@@ -1,0 +1,44 @@
+//! How message numbers go round.
+
+ghost use Rattle.std.specs.Prelude.{◌≡◌};
+ghost use Rattle.link_table.specs.Numbers.{next, oldest, is_new};
+
+/// The number of a message among those of its flow. They start at 0 and go round at [`MODULUS`].
+pub type Number = u8;
+
+/// How many numbers there are: after `MODULUS - 1` comes 0.
+pub const MODULUS: u32 = 256;
+
+/// How far ahead of the last number a number counts as new.
+pub const WINDOW: u32 = 127;
+
+/// The number after this one.
+#[tactic(auto, unfolding(crate::specs::Numbers::next, crate::specs::Numbers::modulus))]
+pub fn next(number: Number) -> Number
+    ensures { result ≡ next number }
+{
+    ((number as u32 + 1) % MODULUS) as Number
+}
+
+/// The number `WINDOW` before this one: the last that the window reaches back to.
+#[tactic(auto, unfolding(crate::specs::Numbers::oldest, crate::specs::Numbers::modulus, crate::specs::Numbers::window))]
+pub fn oldest(number: Number) -> Number
+    ensures { result ≡ oldest number }
+{
+    ((number as u32 + MODULUS - WINDOW) % MODULUS) as Number
+}
+
+/// Whether a destination that kept this last number, or none, takes `number` for new: where it kept none,
+/// and where `number` lies 1 to `WINDOW` ahead of the last one.
+#[tactic(auto, unfolding(crate::specs::Numbers::is_new, crate::specs::Numbers::modulus, crate::specs::Numbers::window))]
+pub fn is_new(kept: Option<Number>, number: Number) -> bool
+    ensures { result ≡ is_new kept number }
+{
+    match kept {
+        None => true,
+        Some(last) => {
+            let ahead = (number as u32 + MODULUS - last as u32) % MODULUS;
+            1 <= ahead && ahead <= WINDOW
+        }
+    }
+}
