@@ -1,0 +1,1 @@
+-- Headers written and read.

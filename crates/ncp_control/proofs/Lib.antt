@@ -1,0 +1,4 @@
+pub mod Counters
+pub mod Fronts
+pub mod Readings
+pub mod Headers
