@@ -2,3 +2,4 @@ pub mod Counters
 pub mod Fronts
 pub mod Readings
 pub mod Headers
+pub mod Details

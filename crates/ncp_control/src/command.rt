@@ -1,6 +1,6 @@
 //! The fourteen commands, and their octets.
 
-ghost use Rattle.std.specs.Prelude.{◌≡◌, ◌++◌, OnOk, MatchResult, length};
+ghost use Rattle.std.specs.Prelude.{◌≡◌, ◌++◌, OnOk, MatchResult, length, slice_index};
 ghost use Rattle.ncp_control.specs.declared.fault.ControlFault.TheVariants.{OutOfMemory};
 
 use crate::writing::{append_counts, append_error, append_request, append_sockets};
@@ -90,23 +90,23 @@ impl Command {
     }
 
     /// The ERR that tells of an error in these octets: the first ten, filled with zeros.
+    #[tactic(auto, using(crate::proofs::Details::detail_cells))]
     pub fn error(code: u8, octets: &[u8]) -> Command
         ensures { result ≡ command.Err code (detail_of octets.now) }
     {
-        let at = |place: usize| octets.get(place).copied().unwrap_or(0);
         Command::Err {
             code,
             detail: [
-                at(0),
-                at(1),
-                at(2),
-                at(3),
-                at(4),
-                at(5),
-                at(6),
-                at(7),
-                at(8),
-                at(9),
+                octet_or_zero(octets, 0),
+                octet_or_zero(octets, 1),
+                octet_or_zero(octets, 2),
+                octet_or_zero(octets, 3),
+                octet_or_zero(octets, 4),
+                octet_or_zero(octets, 5),
+                octet_or_zero(octets, 6),
+                octet_or_zero(octets, 7),
+                octet_or_zero(octets, 8),
+                octet_or_zero(octets, 9),
             ],
         }
     }
@@ -132,7 +132,10 @@ impl Command {
             Command::All { .. } | Command::Ret { .. } => 8,
             Command::Cls { .. } => 9,
             Command::Rts { .. } | Command::Str { .. } => 10,
-            Command::Err { detail, .. } => 2 + detail.len(),
+            Command::Err { detail, .. } => {
+                let detail: &[u8] = detail;
+                2 + detail.len()
+            }
         }
     }
 
@@ -177,4 +180,11 @@ impl Command {
             Command::Rrp => octets.extend_from_slice(&[13]),
         }
     }
+}
+
+/// The octet at a place, or 0 past the end.
+fn octet_or_zero(octets: &[u8], place: usize) -> u8
+    ensures { result ≡ slice_index octets.now place }
+{
+    octets.get(place).copied().unwrap_or(0)
 }

@@ -71,13 +71,15 @@ fn octet_at(text: &Bits, place: usize) -> u8
         + value_at(text, place + 7, 1)
 }
 
+#[tactic(auto, using(crate::proofs::Headers::bit_read))]
 /// What the bit at a place adds to its octet: its weight where it is a one.
 fn value_at(text: &Bits, place: usize, weight: u8) -> u8
     ensures value { result ≡ weight * bit_value (slice_index_or text.now place false) }
     ensures most { result ≤ weight }
 {
-    match text.get(place) {
-        Some(true) => weight,
-        _ => 0,
+    if text.get(place).unwrap_or(false) {
+        weight
+    } else {
+        0
     }
 }
