@@ -65,6 +65,25 @@ read_of-tells code fields c used e = elim (cases_lt 13 code) [
   ]
 ]
 
+-- only an RTS and an STR can have fields outside their ranges, and both have ten octets
+pub only_requests : (code : ℕ) (octets : List ℕ) → code ≤ 13 → command_of code octets ≡ None → length_of code ≡ 10
+unfolding command_of
+only_requests zero octets legal none = absurd cc
+only_requests (suc zero) octets legal none = refl
+only_requests (suc (suc zero)) octets legal none = refl
+only_requests (suc (suc (suc zero))) octets legal none = absurd cc
+only_requests (suc (suc (suc (suc zero)))) octets legal none = absurd cc
+only_requests (suc (suc (suc (suc (suc zero))))) octets legal none = absurd cc
+only_requests (suc (suc (suc (suc (suc (suc zero)))))) octets legal none = absurd cc
+only_requests (suc (suc (suc (suc (suc (suc (suc zero))))))) octets legal none = absurd cc
+only_requests (suc (suc (suc (suc (suc (suc (suc (suc zero)))))))) octets legal none = absurd cc
+only_requests (suc (suc (suc (suc (suc (suc (suc (suc (suc zero))))))))) octets legal none = absurd cc
+only_requests (suc (suc (suc (suc (suc (suc (suc (suc (suc (suc zero)))))))))) octets legal none = absurd cc
+only_requests (suc (suc (suc (suc (suc (suc (suc (suc (suc (suc (suc zero))))))))))) octets legal none = absurd cc
+only_requests (suc (suc (suc (suc (suc (suc (suc (suc (suc (suc (suc (suc zero)))))))))))) octets legal none = absurd cc
+only_requests (suc (suc (suc (suc (suc (suc (suc (suc (suc (suc (suc (suc (suc zero))))))))))))) octets legal none = absurd cc
+only_requests (suc (suc (suc (suc (suc (suc (suc (suc (suc (suc (suc (suc (suc (suc code)))))))))))))) octets legal none = absurd (omega (arith, legal))
+
 -- ---- what was written is read again
 
 rts_from-found : (r s l receive send link : ℕ) → r ≡ receive → s ≡ send → l ≡ link
@@ -148,6 +167,43 @@ again (command.Err code detail) rest h =
     }
 again command.Rst rest h = read_of-found 12 rest command.Rst 1 record { legal = omega arith; whole = omega arith; found = refl; counted = refl }
 again command.Rrp rest h = read_of-found 13 rest command.Rrp 1 record { legal = omega arith; whole = omega arith; found = refl; counted = refl }
+
+-- each spelling begins with a legal code, and has as many octets as the code says
+record IsCoded (code : ℕ) (octets : List ℕ) : Type 0 where
+  legal : code ≤ 13
+  counted : length octets ≡ length_of code
+
+spelling_coded : (c : Command) → IsCommand c → IsCoded (get_or (spelling c) 0 0) (spelling c)
+spelling_coded command.Nop h = record { legal = omega arith; counted = refl }
+spelling_coded (command.Rts receive send link) h = record { legal = omega arith; counted = refl }
+spelling_coded (command.Str send receive size) h = record { legal = omega arith; counted = refl }
+spelling_coded (command.Cls own foreign) h = record { legal = omega arith; counted = refl }
+spelling_coded (command.All link messages bits) h = record { legal = omega arith; counted = refl }
+spelling_coded (command.Gvb link messages bits) h = record { legal = omega arith; counted = refl }
+spelling_coded (command.Ret link messages bits) h = record { legal = omega arith; counted = refl }
+spelling_coded (command.Inr link) h = record { legal = omega arith; counted = refl }
+spelling_coded (command.Ins link) h = record { legal = omega arith; counted = refl }
+spelling_coded (command.Eco octet) h = record { legal = omega arith; counted = refl }
+spelling_coded (command.Erp octet) h = record { legal = omega arith; counted = refl }
+spelling_coded (command.Err code detail) h = record { legal = omega arith; counted = omega (arith, h.1) }
+spelling_coded command.Rst h = record { legal = omega arith; counted = refl }
+spelling_coded command.Rrp h = record { legal = omega arith; counted = refl }
+
+coded : (c : Command) → IsCommand c → (code : ℕ) (fields : List ℕ) → spelling c ≡ code ∷ fields → IsCoded code (code ∷ fields)
+coded c h code fields e = let
+    P : List ℕ → Type 0 = λ octets. IsCoded (get_or octets 0 0) octets
+    in subst P e (spelling_coded c h)
+
+-- no front of a spelling but the whole is a command
+pub short : (c : Command) (front rest : List ℕ) → IsCommand c → spelling c ≡ front ++ rest → 0 < length rest → read_of front ≡ Err (fault.Short (quoted_of front))
+unfolding read_of
+short c [] rest h e some = refl
+short c (code ∷ fields) rest h e some =
+    let s : IsCoded code (code ∷ fields ++ rest) = coded c h code (fields ++ rest) e in
+    let legal : nat_lt 13 code ≡ false = grind (arith, nat_tests, s.legal) in
+    let few : length (code ∷ fields) < length_of code = omega (arith, s.counted, some, length-append fields rest) in
+    let is_short : nat_lt (length (code ∷ fields)) (length_of code) ≡ true = grind (arith, nat_tests, few) in
+    rw (legal, is_short) refl
 
 -- ---- what was read is spelled so
 

@@ -1,5 +1,5 @@
 -- Octets read as a command (NIC 8246, the control commands).
-use Rattle.std.specs.Prelude.{◌≡◌, ℕ, ◌+◌, ◌<◌, Bool, ◌==◌, ◌&&◌, nat_lt, min, if◌then◌else◌, List, [], ◌∷◌, length, take, drop, slice_index, Option, Some, None, Result, Ok, Err}
+use Rattle.std.specs.Prelude.{◌≡◌, ℕ, ◌+◌, ◌<◌, ◌≤◌, Bool, ◌==◌, ◌&&◌, nat_lt, min, if◌then◌else◌, List, [], ◌∷◌, length, take, drop, slice_index, Option, Some, None, Result, Ok, Err}
 use Rattle.std.specs.Int.{Width, w16, w32, byte_len, from_be_bytes}
 use Rattle.ncp_control.specs.declared.command.Command.{Command}
 use Rattle.ncp_control.specs.declared.command.Command.TheVariants as command
@@ -73,3 +73,11 @@ read_of (code ∷ fields) =
     else (if nat_lt (length (code ∷ fields)) (length_of code)
     then Err (fault.Short (quoted_of (code ∷ fields)))
     else read_as (command_of code (code ∷ fields)) (length_of code))
+
+-- what is used or quoted lies within the octets, an ERR has room for what is quoted, and reading always goes on; memory is never wanted
+abbrev pub ReachesWithin : List ℕ → Result (Command × ℕ) ControlFault → Type 0
+ReachesWithin octets (Ok read) = (0 < read.1) × (read.1 ≤ length octets)
+ReachesWithin octets (Err (fault.IllegalCode quoted)) = (quoted ≤ length octets) × (quoted ≤ MAX_QUOTED)
+ReachesWithin octets (Err (fault.Short quoted)) = (quoted ≤ length octets) × (quoted ≤ MAX_QUOTED)
+ReachesWithin octets (Err (fault.Erroneous quoted)) = (0 < quoted) × (quoted ≤ length octets) × (quoted ≤ MAX_QUOTED)
+ReachesWithin octets (Err fault.OutOfMemory) = ⊥

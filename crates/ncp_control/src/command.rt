@@ -1,6 +1,6 @@
 //! The fourteen commands, and their octets.
 
-ghost use Rattle.std.specs.Prelude.{◌≡◌, ◌++◌, OnOk, MatchResult, length, slice_index};
+ghost use Rattle.std.specs.Prelude.{◌≡◌, ◌++◌, OnOk, MatchResult, length, slice_index, List, ℕ, IfOk, Ok};
 ghost use Rattle.ncp_control.specs.declared.fault.ControlFault.TheVariants.{OutOfMemory};
 
 use crate::writing::{append_counts, append_error, append_request, append_sockets};
@@ -80,6 +80,7 @@ pub enum Command {
 
 impl Command {
     ghost use Rattle.ncp_control.specs.Command.{spelling, IsCommand, is_alone, detail_of};
+    ghost use Rattle.ncp_control.specs.Reading.{read_of};
     ghost use Rattle.ncp_control.specs.declared.command.Command.TheVariants as command;
 
     /// Whether the command goes alone in its message: RST and RRP.
@@ -112,8 +113,12 @@ impl Command {
     }
 
     /// Its octets.
+    #[tactic(auto, using(crate::proofs::Readings::again))]
     pub fn write(&self, alloc: Global) -> Result<Vec<u8>, ControlFault>
-        ensures { MatchResult result (λ octets. octets.items ≡ spelling self.now) (λ fault. fault ≡ OutOfMemory) }
+        ensures spelled { MatchResult result (λ octets. octets.items ≡ spelling self.now) (λ fault. fault ≡ OutOfMemory) }
+
+        // what was written is read again, whatever follows it
+        ensures again { IfOk result (λ octets. (rest : List ℕ) → read_of (octets.items ++ rest) ≡ Ok (self.now, length octets.items)) }
     {
         let mut octets = Vec::new(alloc);
         self.append_to(&mut octets)?;
@@ -141,7 +146,8 @@ impl Command {
 
     /// Puts its octets at the end.
     pub(crate) fn append_to(&self, octets: &mut Vec<u8>) -> Result<(), AllocError>
-        ensures { OnOk result (octets.new.items ≡ octets.old.items ++ spelling self.now) }
+        ensures spelled { OnOk result (octets.new.items ≡ octets.old.items ++ spelling self.now) }
+        ensures command { IsCommand self.now }
     {
         match self {
             Command::Nop => octets.extend_from_slice(&[0]),

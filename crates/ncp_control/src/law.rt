@@ -1,19 +1,24 @@
 //! What commands and counters promise, as laws over their definitions. The functions here do nothing:
 //! each clause is the law.
 
-ghost use Rattle.std.specs.Prelude.{◌≡◌, ℕ, ◌+◌, ◌*◌, ◌<◌, ◌≤◌, ◌^◌, Bool, List, ◌++◌, length, take, All, Ok, Some};
+ghost use Rattle.std.specs.Prelude.{◌≡◌, ℕ, ◌+◌, ◌*◌, ◌<◌, ◌≤◌, ◌^◌, Bool, List, ◌++◌, length, take, All, Ok, Err, Some, min};
 ghost use Rattle.ncp_control.specs.declared.command.Command.{Command};
 ghost use Rattle.ncp_control.specs.declared.data_header.DataHeader.{DataHeader};
 ghost use Rattle.ncp_control.specs.Allocation.{Act, IsRun, IsWithinGranted};
 ghost use Rattle.ncp_control.specs.Command.{spelling, IsCommand};
 ghost use Rattle.ncp_control.specs.DataHeader.{header_of, header_bits, data_bits, IsHeader};
 ghost use Rattle.ncp_control.specs.Packing.{packed_count, IsLongestFront};
+ghost use Rattle.ncp_control.specs.declared.command.TheConstants.{MAX_QUOTED};
+ghost use Rattle.ncp_control.specs.declared.fault.ControlFault.TheVariants as fault;
 ghost use Rattle.ncp_control.specs.Reading.{read_of};
 
 /// Each command has one spelling and one reading.
 pub fn commands()
     // what was written is read again, whatever follows it
     ensures again { (c : Command) (rest : List ℕ) → IsCommand c → read_of (spelling c ++ rest) ≡ Ok (c, length (spelling c)) }
+
+    // and each shorter front of it is short
+    ensures short { (c : Command) (front rest : List ℕ) → IsCommand c → spelling c ≡ front ++ rest → 0 < length rest → read_of front ≡ Err (fault.Short (min (length front) MAX_QUOTED)) }
 
     // what was read is a command, and the octets used are its own
     ensures spelled { (octets : List ℕ) (c : Command) (used : ℕ) → All (λ n. n < 2 ^ 8) octets → read_of octets ≡ Ok (c, used) → take used octets ≡ spelling c }

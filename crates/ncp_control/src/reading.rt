@@ -3,7 +3,7 @@
 ghost use Rattle.std.specs.Prelude.{◌≡◌, ℕ, ◌+◌, ◌≤◌, length, take, IfOk, Ok};
 ghost use Rattle.std.specs.Int.{w16, w32};
 ghost use Rattle.ncp_control.specs.Command.{spelling, IsCommand};
-ghost use Rattle.ncp_control.specs.Reading.{read_of, length_of, command_of, rts_of, str_of, err_of, number_at};
+ghost use Rattle.ncp_control.specs.Reading.{read_of, length_of, command_of, rts_of, str_of, err_of, number_at, ReachesWithin};
 
 use crate::{
     ByteSize, Command, ConnectionLink, ControlFault, MAX_QUOTED, ReceiveSocket, SendSocket,
@@ -19,6 +19,7 @@ const LENGTHS: [usize; 14] = [1, 10, 10, 9, 8, 4, 8, 2, 2, 2, 2, 12, 1, 1];
 #[tactic(auto, unfolding(crate::specs::Reading::read_of))]
 pub fn read_one(octets: &[u8]) -> Result<(Command, usize), ControlFault>
     ensures exact { result ≡ read_of octets.now }
+    ensures within { ReachesWithin octets.now result }
     ensures spelled { IfOk result (λ read. take read.1 octets.now ≡ spelling read.0) }
     ensures command { IfOk result (λ read. IsCommand read.0) }
 {

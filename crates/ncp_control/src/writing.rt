@@ -1,8 +1,11 @@
 //! The fields of commands as octets, the most significant octet first.
 
 ghost use Rattle.std.specs.Prelude.{◌≡◌, [], ◌∷◌, ◌++◌, OnOk};
+ghost use Rattle.ncp_control.specs.Command.{IsCommand};
+ghost use Rattle.ncp_control.specs.declared.command.Command.TheVariants as command;
 ghost use Rattle.std.specs.Int.{w16, w32, to_be_bytes};
 
+use crate::MAX_QUOTED;
 use std::alloc::AllocError;
 
 /// Puts a code and two sockets at the end.
@@ -52,8 +55,13 @@ pub(crate) fn append_counts(
 }
 
 /// Puts the octets of an ERR at the end.
-pub(crate) fn append_error(octets: &mut Vec<u8>, code: u8, detail: &[u8]) -> Result<(), AllocError>
-    ensures { OnOk result (octets.new.items ≡ octets.old.items ++ (11 ∷ code ∷ detail.now)) }
+pub(crate) fn append_error(
+    octets: &mut Vec<u8>,
+    code: u8,
+    detail: &[u8; MAX_QUOTED],
+) -> Result<(), AllocError>
+    ensures spelled { OnOk result (octets.new.items ≡ octets.old.items ++ (11 ∷ code ∷ detail.now)) }
+    ensures command { IsCommand (command.Err code detail.now) }
 {
     octets.extend_from_slice(&[11, code])?;
     octets.extend_from_slice(detail)?;

@@ -1,4 +1,4 @@
-use Rattle.ncp_control.proofs.Readings.{again, spelled_by}
+use Rattle.ncp_control.proofs.Readings.{again, short, spelled_by}
 use Rattle.ncp_control.proofs.law.commands.Goals as goal
 
 pub returns-clause-again : goal.returns-clause-again
@@ -9,3 +9,6 @@ returns-clause-spelled c = λ octets command used small read. (spelled_by octets
 
 pub returns-clause-command : goal.returns-clause-command
 returns-clause-command c = λ octets command used small read. (spelled_by octets command used small read).command
+
+pub returns-clause-short : goal.returns-clause-short
+returns-clause-short c = short
