@@ -11,7 +11,7 @@ pub const WHOLE: u8 = 128;
 
 /// What a receiver has granted and a sender may still use: messages, and bits of data (NIC 8246, ALL,
 /// GVB and RET). Both ends count in the same way.
-#[derive(Clone, Copy, Debug, PartialEq, Eq)]
+#[derive(Clone, Copy, Debug, Default, PartialEq, Eq)]
 pub struct Allocation {
     /// Messages that may still be sent.
     pub messages: u16,
@@ -68,11 +68,13 @@ impl Allocation {
         ensures bits { result.1 ≡ share self.old.bits bit_fraction }
         ensures left { self.new ≡ given_back self.old message_fraction bit_fraction }
     {
-        let messages = share_of(self.messages as u32, message_fraction) as u16;
-        let bits = share_of(self.bits, bit_fraction);
-        self.messages -= messages;
-        self.bits -= bits;
-        (messages, bits)
+        let returned = (
+            share_of(self.messages as u32, message_fraction) as u16,
+            share_of(self.bits, bit_fraction),
+        );
+        self.messages -= returned.0;
+        self.bits -= returned.1;
+        returned
     }
 }
 

@@ -11,21 +11,27 @@
 #![tactic(auto)]
 
 mod allocation;
+mod byte_size;
 mod command;
+mod connection_link;
 mod data_header;
 mod fault;
 pub mod law;
-mod numbers;
 mod packing;
 mod reading;
+mod receive_socket;
+mod send_socket;
 #[cfg(test)]
 mod tests;
 mod writing;
 
 pub use allocation::{Allocation, MAX_DATA_BITS, WHOLE};
+pub use byte_size::ByteSize;
 pub use command::{Command, MAX_QUOTED};
+pub use connection_link::ConnectionLink;
 pub use data_header::{DataHeader, HEADER_BITS};
 pub use fault::ControlFault;
-pub use numbers::{ByteSize, ConnectionLink, ReceiveSocket, SendSocket};
 pub use packing::{MAX_CONTROL_OCTETS, pack, packed_count};
 pub use reading::read_one;
+pub use receive_socket::ReceiveSocket;
+pub use send_socket::SendSocket;
