@@ -1,7 +1,7 @@
 //! What commands and counters promise, as laws over their definitions. The functions here do nothing:
 //! each clause is the law.
 
-ghost use Rattle.std.specs.Prelude.{◌≡◌, ℕ, ◌+◌, ◌*◌, ◌<◌, ◌≤◌, ◌^◌, Bool, List, ◌++◌, length, take, All, Ok, Err, Some, min};
+ghost use Rattle.std.specs.Prelude.{◌≡◌, ℕ, ◌+◌, ◌*◌, ◌<◌, ◌≤◌, ◌^◌, Bool, List, ◌++◌, length, take, drop, All, Ok, Err, Some, min};
 ghost use Rattle.ncp_control.specs.declared.command.Command.{Command};
 ghost use Rattle.ncp_control.specs.declared.data_header.DataHeader.{DataHeader};
 ghost use Rattle.ncp_control.specs.Allocation.{Act, IsRun, IsWithinGranted};
@@ -36,6 +36,9 @@ pub fn packing()
 /// A header is read as it was written, in front of the data that it announces.
 pub fn headers()
     ensures again { (h : DataHeader) (behind : List Bool) → IsHeader h → data_bits h ≤ length behind → header_of (header_bits h ++ behind) ≡ Some h }
+
+    // and the bits that it was read from, without the zeros around them, are those that it is written with
+    ensures spelled { (text : List Bool) (h : DataHeader) → header_of text ≡ Some h → take 24 (drop 8 (header_bits h)) ≡ take 24 (drop 8 text) }
 {}
 
 /// Over any run of grants, spends and give-backs from an opening with nothing granted, what was spent,
