@@ -1,6 +1,6 @@
 -- What is spent and given back was granted.
-use Rattle.std.proofs.Common.{◌≡◌, ℕ, ◌+◌, ◌-◌, ◌*◌, ◌/◌, ◌^◌, ◌<◌, ◌≤◌, min, List, [], ◌∷◌, arith}
-use Rattle.std.proofs.Math.Nat.{div-le_of_le-mul, mul-le-mul_left, min-le_right, min-le_left, mul_comm}
+use Rattle.std.proofs.Common.{ℕ, ◌+◌, ◌-◌, ◌*◌, ◌^◌, ◌<◌, ◌≤◌, min, List, [], ◌∷◌, arith}
+use Rattle.std.proofs.Math.Nat.{div-le_of_le-mul, mul-le-mul_left, min-le_right, min-le_left}
 use Rattle.ncp_control.specs.Allocation.{Act, Grant, Spend, GiveBack, share, counters, IsRun, IsWithinGranted}
 
 -- a share is at most the whole

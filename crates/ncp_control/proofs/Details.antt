@@ -1,5 +1,5 @@
 -- The octets that an ERR quotes.
-use Rattle.std.proofs.Common.{◌≡◌, ℕ, List, [], ◌∷◌, ◌++◌, take, replicate, get_or, refl}
+use Rattle.std.proofs.Common.{◌≡◌, ℕ, List, [], ◌∷◌, get_or, refl}
 use Rattle.ncp_control.specs.Command.{detail_of}
 
 -- ten cells, zero past the end

@@ -3,7 +3,7 @@
 use crate::{ByteSize, Command, ConnectionLink, ControlFault, ReceiveSocket, SendSocket, read_one};
 use std::test::Fail;
 
-fn rts(receive: u32, send: u32, link: u8) -> Option<Command> {
+fn request_to_receive(receive: u32, send: u32, link: u8) -> Option<Command> {
     Some(Command::Rts {
         receive: ReceiveSocket::new(receive)?,
         send: SendSocket::new(send)?,
@@ -11,7 +11,7 @@ fn rts(receive: u32, send: u32, link: u8) -> Option<Command> {
     })
 }
 
-fn str(send: u32, receive: u32, size: u8) -> Option<Command> {
+fn request_to_send(send: u32, receive: u32, size: u8) -> Option<Command> {
     Some(Command::Str {
         send: SendSocket::new(send)?,
         receive: ReceiveSocket::new(receive)?,
@@ -42,8 +42,8 @@ const SPELLINGS: [&[u8]; 14] = [
 fn each_command_has_its_octets(rt: HostRuntime) -> Result<(), Fail> {
     let commands = [
         Command::Nop,
-        rts(16, 33, 5).ok_or("no RTS")?,
-        str(33, 16, 8).ok_or("no STR")?,
+        request_to_receive(16, 33, 5).ok_or("no RTS")?,
+        request_to_send(33, 16, 8).ok_or("no STR")?,
         Command::Cls {
             own: 16,
             foreign: 33,
