@@ -1,0 +1,5 @@
+pub mod Counters
+pub mod Fronts
+pub mod Readings
+pub mod Headers
+pub mod Details

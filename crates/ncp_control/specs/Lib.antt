@@ -1,0 +1,6 @@
+pub mod Allocation
+pub mod Command
+pub mod DataHeader
+pub mod Numbers
+pub mod Packing
+pub mod Reading

@@ -1,0 +1,48 @@
+//! What commands and counters promise, as laws over their definitions. The functions here do nothing:
+//! each clause is the law.
+
+ghost use Rattle.std.specs.Prelude.{◌≡◌, ℕ, ◌+◌, ◌*◌, ◌<◌, ◌≤◌, ◌^◌, Bool, List, ◌++◌, length, take, drop, All, Ok, Err, Some, min};
+ghost use Rattle.ncp_control.specs.declared.command.Command.{Command};
+ghost use Rattle.ncp_control.specs.declared.data_header.DataHeader.{DataHeader};
+ghost use Rattle.ncp_control.specs.Allocation.{Act, IsRun, IsWithinGranted};
+ghost use Rattle.ncp_control.specs.Command.{spelling, IsCommand};
+ghost use Rattle.ncp_control.specs.DataHeader.{header_of, header_bits, data_bits, IsHeader};
+ghost use Rattle.ncp_control.specs.Packing.{packed_count, IsLongestFront};
+ghost use Rattle.ncp_control.specs.declared.command.TheConstants.{MAX_QUOTED};
+ghost use Rattle.ncp_control.specs.declared.fault.ControlFault.TheVariants as fault;
+ghost use Rattle.ncp_control.specs.Reading.{read_of};
+
+/// Each command has one spelling and one reading.
+pub fn commands()
+    // what was written is read again, whatever follows it
+    ensures again { (c : Command) (rest : List ℕ) → IsCommand c → read_of (spelling c ++ rest) ≡ Ok (c, length (spelling c)) }
+
+    // and each shorter front of it is short
+    ensures short { (c : Command) (front rest : List ℕ) → IsCommand c → spelling c ≡ front ++ rest → 0 < length rest → read_of front ≡ Err (fault.Short (min (length front) MAX_QUOTED)) }
+
+    // what was read is a command, and the octets used are its own
+    ensures spelled { (octets : List ℕ) (c : Command) (used : ℕ) → All (λ n. n < 2 ^ 8) octets → read_of octets ≡ Ok (c, used) → take used octets ≡ spelling c }
+    ensures command { (octets : List ℕ) (c : Command) (used : ℕ) → All (λ n. n < 2 ^ 8) octets → read_of octets ≡ Ok (c, used) → IsCommand c }
+{}
+
+/// A control message takes the longest front of whole commands.
+pub fn packing()
+    ensures front { (commands : List Command) → IsLongestFront commands (packed_count commands) }
+
+    // and there is no other such front
+    ensures only { (commands : List Command) (count : ℕ) → IsLongestFront commands count → count ≡ packed_count commands }
+{}
+
+/// A header is read as it was written, in front of the data that it announces.
+pub fn headers()
+    ensures again { (h : DataHeader) (behind : List Bool) → IsHeader h → data_bits h ≤ length behind → header_of (header_bits h ++ behind) ≡ Some h }
+
+    // and the bits that it was read from, without the zeros around them, are those that it is written with
+    ensures spelled { (text : List Bool) (h : DataHeader) → header_of text ≡ Some h → take 24 (drop 8 (header_bits h)) ≡ take 24 (drop 8 text) }
+{}
+
+/// Over any run of grants, spends and give-backs from an opening with nothing granted, what was spent,
+/// what was given back and what is left were granted.
+pub fn allocation()
+    ensures { (acts : List Act) → IsRun acts → IsWithinGranted acts }
+{}

@@ -1,0 +1,6 @@
+//! Worked examples, with octets written by hand from the format.
+
+mod commands;
+mod counters;
+mod headers;
+mod packing;
