@@ -1,0 +1,9 @@
+pub mod Clauses
+pub mod Begins
+pub mod Arrivals
+pub mod Stops
+pub mod AllMoves
+pub mod RunLemmas
+pub mod FollowLemmas
+pub mod LocalLemmas
+pub mod ExampleLemmas

@@ -1,0 +1,80 @@
+//! What becomes of one flow, and of the log of a network whose flows all do so. The functions here do
+//! nothing: each clause is the law.
+
+ghost use Rattle.std.specs.Prelude.{◌≡◌, ℕ, Bool, true, List, [], ◌∷◌, ◌++◌, Some};
+ghost use Rattle.std.specs.List.{Contains};
+ghost use Rattle.leader1822.specs.Host.{Host, same_host};
+ghost use Rattle.leader1822.specs.Mailboxes.{Passing, mail_of, passings, IsFlowRun, EachIsRun};
+ghost use Rattle.leader1822.specs.declared.address.Flow.{Flow};
+ghost use Rattle.leader1822.specs.declared.crossing.Crossing.{Crossing};
+ghost use Rattle.leader1822.specs.declared.crossing.Crossing.TheVariants as crossing;
+ghost use Rattle.flow_law.specs.View.{View, Packet, Queued, mail_now};
+ghost use Rattle.flow_law.specs.Moves.{Move, CanTakeMessage, after, shown_by};
+ghost use Rattle.flow_law.specs.Invariant.{Ok};
+ghost use Rattle.flow_law.specs.Runs.{Turn, IsOpening, IsTurn, IsHistory, ByTest, left_by, view_after, seen_in};
+ghost use Rattle.flow_law.specs.Follows.{Follows, AllFollow, AllOpen, AllSound};
+ghost use Rattle.flow_law.specs.Local.{taken_here, view_taken_here, stopped_here, view_stopped_here, stopped_itself, stopped_itself_queued, view_stopped_itself, started_itself};
+ghost use Rattle.flow_law.specs.Example.{at_first, worked, worked_seen, InOnePacket};
+
+/// The law of one flow: for every way to cut texts into pieces, every start at which nothing was sent,
+/// every list of moves and every loss, copy and overtaking of packets, what the hosts saw is a run of the
+/// flow's mailbox.
+pub fn mailbox()
+    // what was seen is a run of the mailbox
+    ensures flow { (test : List Bool → Packet → Bool) (start : View) (turns : List Turn) → IsOpening start → IsHistory (ByTest test) start turns → IsFlowRun (mail_now start) (seen_in turns start) }
+
+    // and leads to the hosts and the box of the view
+    ensures mail { (test : List Bool → Packet → Bool) (start : View) (turns : List Turn) → IsOpening start → IsHistory (ByTest test) start turns → mail_of (mail_now start) (seen_in turns start) ≡ mail_now (view_after turns start) }
+
+    // the clauses of the invariant hold after each history
+    ensures clauses { (test : List Bool → Packet → Bool) (start : View) (turns : List Turn) → IsOpening start → IsHistory (ByTest test) start turns → Ok (ByTest test) (view_after turns start) (Contains (left_by turns)) }
+
+    // they hold at the start, and each turn keeps them
+    ensures opening { (test : List Bool → Packet → Bool) (start : View) → IsOpening start → Ok (ByTest test) start (Contains []) }
+    ensures kept { (test : List Bool → Packet → Bool) (v : View) (alive : List Packet) (turn : Turn) → Ok (ByTest test) v (Contains alive) → IsTurn (ByTest test) v alive turn → Ok (ByTest test) (after turn.move v) (Contains turn.left) }
+{}
+
+/// What a network shows and gets: where each flow makes a list of moves at each step, and these show what
+/// the flow sees of the step's crossings, each flow's part of the log stays a run of its mailbox.
+pub fn interface()
+    // a network in which nothing happened is sound
+    ensures opening { (test : List Bool → Packet → Bool) (hosts : List Host) (view : Flow → View) → AllOpen hosts view → AllSound (ByTest test) hosts [] view (λ f. Contains []) }
+
+    // a step in which each flow makes a list of moves keeps it sound
+    ensures kept { (test : List Bool → Packet → Bool) (hosts : List Host) (entries log : List Crossing) (moves : Flow → List Move) (old new : Flow → View) (before left : Flow → List Packet) → AllFollow (ByTest test) hosts entries log moves old new (λ f. Contains (before f)) (λ f. Contains (left f)) → AllSound (ByTest test) hosts log old (λ f. Contains (before f)) → AllSound (ByTest test) hosts (entries ++ log) new (λ f. Contains (left f)) }
+
+    // and in a sound network each flow's part of the log is a run
+    ensures sound { (test : List Bool → Packet → Bool) (hosts : List Host) (log : List Crossing) (view : Flow → View) (alive : Flow → List Packet) → AllSound (ByTest test) hosts log view (λ f. Contains (alive f)) → EachIsRun hosts log }
+{}
+
+/// A flow within one IMP, and a host that writes to itself: what their IMP does in one step is a list of
+/// moves.
+pub fn one_imp()
+    // a queued message is the outstanding one
+    ensures awaited { (test : List Bool → Packet → Bool) (v : View) (alive : List Packet) (oldest : Queued) (others : List Queued) → Ok (ByTest test) v (Contains alive) → v.from_up ≡ true → v.queue ≡ oldest ∷ others → v.outstanding ≡ Some oldest.number }
+
+    // the destination takes a message, and the source gets RFNM at once
+    ensures taken { (test : List Bool → Packet → Bool) (v : View) (alive : List Packet) (oldest : Queued) (others : List Queued) → CanTakeMessage v oldest others → v.outstanding ≡ Some oldest.number → Follows (ByTest test) (taken_here oldest others) v (view_taken_here others v) (Contains alive) (Contains alive) }
+    ensures taken_shows { (v : View) (oldest : Queued) (others : List Queued) → shown_by (taken_here oldest others) v ≡ Passing.Fetched oldest.text ∷ [] }
+
+    // the destination goes down, and the source of a queued message gets Dead at once
+    ensures stopped { (test : List Bool → Packet → Bool) (v : View) (alive : List Packet) (message : Queued) → v.destination ≡ true → Contains v.queue message → v.outstanding ≡ Some message.number → Follows (ByTest test) (stopped_here message) v (view_stopped_here v) (Contains alive) (Contains alive) }
+    ensures stopped_shows { (v : View) (message : Queued) → shown_by (stopped_here message) v ≡ Passing.DestinationDown ∷ [] }
+
+    // a host that writes to itself goes down while a message to itself is queued: it gets no answer
+    ensures itself_stopped { (test : List Bool → Packet → Bool) (v : View) (alive : List Packet) (message : Queued) → v.source ≡ true → v.destination ≡ true → Contains v.queue message → v.outstanding ≡ Some message.number → Follows (ByTest test) (stopped_itself_queued message) v (view_stopped_itself v) (Contains alive) (Contains alive) }
+
+    // its moves show what its going down and coming up are for the flow
+    ensures itself_down { (f : Flow) (h : Host) (place : ℕ) (v : View) (message : Queued) → same_host f.source h ≡ true → same_host f.destination h ≡ true → (passings place f (crossing.Down h) ≡ shown_by (stopped_itself_queued message) v) × (passings place f (crossing.Down h) ≡ shown_by stopped_itself v) }
+    ensures itself_up { (f : Flow) (h : Host) (place : ℕ) (v : View) → same_host f.source h ≡ true → same_host f.destination h ≡ true → passings place f (crossing.Up h) ≡ shown_by started_itself v }
+{}
+
+/// One message from its offer to its answer: the law is not about nothing.
+pub fn worked_run()
+    // nothing was sent, and each move finds what it needs, while a copy of the data stays alive
+    ensures opening { IsOpening at_first }
+    ensures history { IsHistory InOnePacket at_first worked }
+
+    // the hosts see the message put, fetched and answered
+    ensures seen { seen_in worked at_first ≡ worked_seen }
+{}

@@ -1,0 +1,4 @@
+//! One flow through the network.
+#![tactic(auto)]
+
+pub mod law;
