@@ -4,7 +4,7 @@ use Rattle.leader1822.specs.declared.crossing.Answer.{Answer}
 use Rattle.leader1822.specs.declared.crossing.Answer.TheVariants as answer
 use Rattle.leader1822.specs.Mailboxes.{Box, Mail, Passing, Holds, Fits, MailNeeds, mail_after, mail_of, IsFlowRun}
 use Rattle.flow_law.specs.View.{View, Packet, Queued, Kind, mail_now}
-use Rattle.flow_law.specs.Moves.{Move, Needs, Makes, Either, CanOffer, CanTakeMessage, CanTakeAnswer, NeedsAll, Grown, queued, after, after_all, shows, shown_by}
+use Rattle.flow_law.specs.Moves.{Move, Needs, Makes, Either, CanOffer, CanTakeMessage, NeedsAll, Grown, queued, after, after_all, shows, shown_by}
 use Rattle.flow_law.specs.Invariant.{Ok, Held, Idle, Answered}
 use Rattle.flow_law.specs.Follows.{Sound}
 use Rattle.flow_law.proofs.Clauses.{ok_less}
@@ -82,7 +82,7 @@ shows_run (Move.NoteGone x) v t needs h start seen at run = run
 shows_run (Move.Whole x text) v t needs h start seen at run = run
 shows_run (Move.Freed x kind) v t needs h start seen at run = run
 shows_run (Move.TakeMessage oldest others) v t needs h start seen at run = one_seen (Passing.Fetched oldest.text) start (mail_now v) seen at (needs.destination, taken_holds v t oldest others needs h) run
-shows_run (Move.TakeAnswer oldest others) v t needs h start seen at run = one_seen (Passing.Told oldest) start (mail_now v) seen at (needs.source, (told v t oldest others needs h).fits) run
+shows_run (Move.TakeAnswer oldest others) v t needs h start seen at run = one_seen (Passing.Told oldest) start (mail_now v) seen at ((told v t oldest others needs h).source, (told v t oldest others needs h).fits) run
 shows_run Move.StopSource v t needs h start seen at run = one_seen Passing.SourceDown start (mail_now v) seen at needs run
 shows_run Move.StartSource v t needs h start seen at run = one_seen Passing.SourceUp start (mail_now v) seen at needs.down run
 shows_run Move.StopDestination v t needs h start seen at run = one_seen Passing.DestinationDown start (mail_now v) seen at needs run

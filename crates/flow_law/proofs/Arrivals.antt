@@ -8,7 +8,7 @@ use Rattle.leader1822.specs.Mailboxes.{Box, Fits, fetched}
 use Rattle.link_table.specs.Numbers.{modulus, is_new, Near}
 use Rattle.link_table.proofs.NumberLemmas.{near_same, near_old}
 use Rattle.flow_law.specs.View.{View, Packet, Queued, Kind}
-use Rattle.flow_law.specs.Moves.{Move, New, CanOffer, CanBegin, CanNote, CanQueue, CanFree, CanTakeMessage, CanTakeAnswer, CanStartSource, CanStartFrom, CanGiveUp, NoData, Brings, IsPieceOf, IsTold, IsDeadOf, Either, with_answer, queued, next_number, after, Makes}
+use Rattle.flow_law.specs.Moves.{Move, New, CanOffer, CanBegin, CanNote, CanQueue, CanFree, CanTakeMessage, CanStartSource, CanStartFrom, CanGiveUp, NoData, Brings, IsPieceOf, IsTold, IsDeadOf, Either, with_answer, queued, next_number, after, Makes}
 use Rattle.flow_law.specs.Invariant.{Ok, Begun, Carried, Held, Gone, Busy, Idle, Answered}
 use Rattle.flow_law.proofs.Clauses.{ok_less, idle_new, idle_queue, taken_not_waiting, dead_fits, not_empty, shut_new, shut_queue, near_not_new, noted, next_number_in, fresh, still_near, begun_itself, new_too, only_one, one_there}
 
@@ -204,6 +204,7 @@ held_there v t oldest others can h = elim h.waiting [
 
 -- the answer that waits, and nothing outstanding
 pub record Told (v : View) (oldest : Answer) (others : List Answer) : Type 0 where
+  pub source : v.source ≡ true
   pub idle : v.outstanding ≡ None
   pub fits : Fits oldest v.box
   pub last : others ≡ []
@@ -213,24 +214,31 @@ told_idle : {Piece : List Bool → Packet → Type 0} (v : View) (t : Packet →
 told_idle v t oldest others None is waits h = is
 told_idle v t oldest others (Some number) is waits h = let b : Busy v.answers v.box = h.busy number is in let none : v.answers ≡ [] = b.none in absurd (cc)
 
-pub told : {Piece : List Bool → Packet → Type 0} (v : View) (t : Packet → Type 0) (oldest : Answer) (others : List Answer) → CanTakeAnswer v oldest others → Ok Piece v t → Told v oldest others
-told v t oldest others can h =
-    let waits : v.answers ≡ oldest ∷ others = can.waits in
+-- no answer waits for a host that is down
+told_source : {Piece : List Bool → Packet → Type 0} (v : View) (t : Packet → Type 0) (oldest : Answer) (others : List Answer) → v.answers ≡ oldest ∷ others → Ok Piece v t → v.source ≡ true
+told_source v t oldest others waits h = elim (cases_Bool v.source) [
+  | inl up ↦ up
+  | inr down ↦ (let none : v.answers ≡ [] = h.away down in absurd (cc))
+]
+
+pub told : {Piece : List Bool → Packet → Type 0} (v : View) (t : Packet → Type 0) (oldest : Answer) (others : List Answer) → v.answers ≡ oldest ∷ others → Ok Piece v t → Told v oldest others
+told v t oldest others waits h =
+    let source : v.source ≡ true = told_source v t oldest others waits h in
     let idle : v.outstanding ≡ None = told_idle v t oldest others v.outstanding refl waits h in
-    elim (h.settled can.source idle) [
+    elim (h.settled source idle) [
       | inl nothing ↦ (let none : v.answers ≡ [] = nothing.none in absurd (cc))
       | inr one ↦ (let only : v.answers ≡ one.kind ∷ [] = one.one in
           let same : one.kind ≡ oldest = cc in
           let rest : others ≡ [] = cc in
-          record { idle = idle; fits = subst (λ (k : Answer). Fits k v.box) same one.fits; last = rest })
+          record { source = source; idle = idle; fits = subst (λ (k : Answer). Fits k v.box) same one.fits; last = rest })
     ]
 
-pub take_answer : {Piece : List Bool → Packet → Type 0} (v : View) (t : Packet → Type 0) (oldest : Answer) (others : List Answer) → CanTakeAnswer v oldest others → Ok Piece v t
+pub take_answer : {Piece : List Bool → Packet → Type 0} (v : View) (t : Packet → Type 0) (oldest : Answer) (others : List Answer) → v.answers ≡ oldest ∷ others → Ok Piece v t
     → Ok Piece (after (Move.TakeAnswer oldest others) v) t
 take_answer v t oldest others can h =
     let w : Told v oldest others = told v t oldest others can h in
     let idle : v.outstanding ≡ None = w.idle in
-    let up : v.from_up ≡ true = h.home can.source in
+    let up : v.from_up ≡ true = h.home w.source in
     record {
       range = h.range;
       begun = h.begun;

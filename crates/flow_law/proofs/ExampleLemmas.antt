@@ -36,7 +36,7 @@ SentFirst = IsPieceOf InOnePacket 0 text
 
 pub worked_history : IsHistory InOnePacket at_first worked
 worked_history = (
-  record { needs = record { source = refl; waits = refl }; left = λ x there. inl there },
+  record { needs = refl; left = λ x there. inl there },
   (
     record { needs = record { there = (0, omega arith, refl); brings = tt; awaited = refl }; left = λ x there. inl (only HeardOf data_packet x (1, omega arith, refl) there) },
     (

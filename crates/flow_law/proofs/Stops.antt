@@ -8,7 +8,7 @@ use Rattle.leader1822.specs.Mailboxes.{Box, Fits, fetched}
 use Rattle.link_table.specs.Numbers.{modulus, is_new, Near}
 use Rattle.link_table.proofs.NumberLemmas.{near_same, near_old}
 use Rattle.flow_law.specs.View.{View, Packet, Queued, Kind}
-use Rattle.flow_law.specs.Moves.{Move, New, CanOffer, CanBegin, CanNote, CanQueue, CanFree, CanTakeMessage, CanTakeAnswer, CanStartSource, CanStartFrom, CanGiveUp, NoData, Brings, IsPieceOf, IsTold, IsDeadOf, Either, with_answer, queued, next_number, after, Makes}
+use Rattle.flow_law.specs.Moves.{Move, New, CanOffer, CanBegin, CanNote, CanQueue, CanFree, CanTakeMessage, CanStartSource, CanStartFrom, CanGiveUp, NoData, Brings, IsPieceOf, IsTold, IsDeadOf, Either, with_answer, queued, next_number, after, Makes}
 use Rattle.flow_law.specs.Invariant.{Ok, Begun, Carried, Held, Gone, Busy, Idle, Answered}
 use Rattle.flow_law.proofs.Clauses.{ok_less, idle_new, idle_queue, taken_not_waiting, dead_fits, not_empty, shut_new, shut_queue, near_not_new, noted, next_number_in, fresh, still_near, begun_itself, new_too, only_one, number_of, none_in}
 

@@ -109,10 +109,6 @@ pub record CanTakeMessage (v : View) (oldest : Queued) (others : List Queued) : 
   pub destination : v.destination ≡ true
   pub waits : v.queue ≡ oldest ∷ others
 
-pub record CanTakeAnswer (v : View) (oldest : Answer) (others : List Answer) : Type 0 where
-  pub source : v.source ≡ true
-  pub waits : v.answers ≡ oldest ∷ others
-
 -- a host comes up at an IMP that is up, while nothing of it is outstanding
 pub record CanStartSource (v : View) : Type 0 where
   pub from_up : v.from_up ≡ true
@@ -121,7 +117,6 @@ pub record CanStartSource (v : View) : Type 0 where
 
 -- the source's IMP comes up when nothing of the flow is left
 pub record CanStartFrom (v : View) (alive : Packet → Type 0) : Type 0 where
-  pub down : v.from_up ≡ false
   pub no_packet : (x : Packet) → alive x → ⊥
   pub unread : v.queue ≡ []
 
@@ -144,7 +139,7 @@ Needs Piece (NoteGone x) v alive = CanNote v alive x
 Needs Piece (Whole x text) v alive = CanQueue Piece v alive x text
 Needs Piece (Freed x kind) v alive = CanFree v alive x kind
 Needs Piece (TakeMessage oldest others) v alive = CanTakeMessage v oldest others
-Needs Piece (TakeAnswer oldest others) v alive = CanTakeAnswer v oldest others
+Needs Piece (TakeAnswer oldest others) v alive = v.answers ≡ oldest ∷ others
 Needs Piece StopSource v alive = v.source ≡ true
 Needs Piece StartSource v alive = CanStartSource v
 Needs Piece StopDestination v alive = v.destination ≡ true

@@ -34,13 +34,18 @@ seen_in [] v = []
 seen_in (turn ∷ turns) v = shows turn.move (view_after turns v) ++ seen_in turns v
 
 -- the move finds what it needs, and leaves nothing alive but what was and what it made
-pub record IsTurn (Piece : List Bool → Packet → Type 0) (v : View) (alive : List Packet) (turn : Turn) : Type 0 where
-  pub needs : Needs Piece turn.move v (Contains alive)
+pub record IsTurn (Asks : Move → View → (Packet → Type 0) → Type 0) (Piece : List Bool → Packet → Type 0) (v : View) (alive : List Packet) (turn : Turn) : Type 0 where
+  pub needs : Asks turn.move v (Contains alive)
   pub left : (x : Packet) → Contains turn.left x → Either (Contains alive) (Makes Piece turn.move v) x
 
+-- a history of a machine whose moves have these needs
+abbrev pub IsHistoryBy : (Move → View → (Packet → Type 0) → Type 0) → (List Bool → Packet → Type 0) → View → List Turn → Type 0
+IsHistoryBy needs Piece v [] = Unit {0}
+IsHistoryBy needs Piece v (turn ∷ turns) = IsTurn needs Piece (view_after turns v) (left_by turns) turn × IsHistoryBy needs Piece v turns
+
+-- a history
 abbrev pub IsHistory : (List Bool → Packet → Type 0) → View → List Turn → Type 0
-IsHistory Piece v [] = Unit {0}
-IsHistory Piece v (turn ∷ turns) = IsTurn Piece (view_after turns v) (left_by turns) turn × IsHistory Piece v turns
+IsHistory Piece = IsHistoryBy (Needs Piece) Piece
 
 -- pieces by a test: whether a packet carries a piece of a text
 abbrev pub ByTest : (List Bool → Packet → Bool) → List Bool → Packet → Type 0

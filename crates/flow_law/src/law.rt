@@ -9,7 +9,7 @@ ghost use Rattle.leader1822.specs.declared.address.Flow.{Flow};
 ghost use Rattle.leader1822.specs.declared.crossing.Crossing.{Crossing};
 ghost use Rattle.leader1822.specs.declared.crossing.Crossing.TheVariants as crossing;
 ghost use Rattle.flow_law.specs.View.{View, Packet, Queued, mail_now};
-ghost use Rattle.flow_law.specs.Moves.{Move, CanTakeMessage, after, shown_by};
+ghost use Rattle.flow_law.specs.Moves.{Move, Needs, CanTakeMessage, after, shown_by};
 ghost use Rattle.flow_law.specs.Invariant.{Ok};
 ghost use Rattle.flow_law.specs.Runs.{Turn, IsOpening, IsTurn, IsHistory, ByTest, left_by, view_after, seen_in};
 ghost use Rattle.flow_law.specs.Follows.{Follows, AllFollow, AllOpen, AllSound};
@@ -31,7 +31,7 @@ pub fn mailbox()
 
     // they hold at the start, and each turn keeps them
     ensures opening { (test : List Bool → Packet → Bool) (start : View) → IsOpening start → Ok (ByTest test) start (Contains []) }
-    ensures kept { (test : List Bool → Packet → Bool) (v : View) (alive : List Packet) (turn : Turn) → Ok (ByTest test) v (Contains alive) → IsTurn (ByTest test) v alive turn → Ok (ByTest test) (after turn.move v) (Contains turn.left) }
+    ensures kept { (test : List Bool → Packet → Bool) (v : View) (alive : List Packet) (turn : Turn) → Ok (ByTest test) v (Contains alive) → IsTurn (Needs (ByTest test)) (ByTest test) v alive turn → Ok (ByTest test) (after turn.move v) (Contains turn.left) }
 {}
 
 /// What a network shows and gets: where each flow makes a list of moves at each step, and these show what
