@@ -6,4 +6,7 @@ pub mod AllMoves
 pub mod RunLemmas
 pub mod FollowLemmas
 pub mod LocalLemmas
+pub mod Left
 pub mod ExampleLemmas
+pub mod MachineLemmas
+pub mod RoundLemmas

@@ -23,14 +23,14 @@ at_first = record {
 }
 
 -- a text of two bits, which one packet carries whole
-abbrev pub text : List Bool
-text = true ∷ false ∷ []
+abbrev pub first_text : List Bool
+first_text = true ∷ false ∷ []
 
 abbrev pub InOnePacket : List Bool → Packet → Type 0
 InOnePacket whole x = x.bits ≡ whole
 
 abbrev pub data_packet : Packet
-data_packet = record { kind = Kind.Data; number = 0; place = 0; last = true; bits = text }
+data_packet = record { kind = Kind.Data; number = 0; place = 0; last = true; bits = first_text }
 
 abbrev pub rfnm : Packet
 rfnm = answer_packet Kind.Rfnm 0
@@ -40,11 +40,11 @@ abbrev pub worked : List Turn
 worked =
     record { move = Move.TakeAnswer answer.Rfnm []; left = data_packet ∷ [] }
     ∷ record { move = Move.Freed rfnm answer.Rfnm; left = data_packet ∷ [] }
-    ∷ record { move = Move.TakeMessage (queued 0 text) []; left = rfnm ∷ data_packet ∷ [] }
-    ∷ record { move = Move.Whole data_packet text; left = data_packet ∷ [] }
-    ∷ record { move = Move.Begin 0 text; left = data_packet ∷ [] }
+    ∷ record { move = Move.TakeMessage (queued 0 first_text) []; left = rfnm ∷ data_packet ∷ [] }
+    ∷ record { move = Move.Whole data_packet first_text; left = data_packet ∷ [] }
+    ∷ record { move = Move.Begin 0 first_text; left = data_packet ∷ [] }
     ∷ []
 
 -- what the hosts see of it: the message put, fetched, and RFNM
 abbrev pub worked_seen : List Passing
-worked_seen = Passing.Told answer.Rfnm ∷ Passing.Fetched text ∷ Passing.Put 0 text ∷ []
+worked_seen = Passing.Told answer.Rfnm ∷ Passing.Fetched first_text ∷ Passing.Put 0 first_text ∷ []

@@ -84,20 +84,28 @@ pub record CanOffer (v : View) : Type 0 where
   pub idle : v.outstanding ≡ None
   pub answered : v.answers ≡ []
 
--- and its message may get a number: nothing is alive that would then lie too far behind
+-- nothing is alive that would lie too far behind once the next number is begun
+abbrev pub NumberFree : View → (Packet → Type 0) → Type 0
+NumberFree v alive = (last : ℕ) → v.last ≡ Some last → (x : Packet) → alive x → x.number ≢ oldest last
+
+-- and its message may get a number
 pub record CanBegin (v : View) (alive : Packet → Type 0) : Type 0 where
   pub offer : CanOffer v
-  pub free : (last : ℕ) → v.last ≡ Some last → (x : Packet) → alive x → x.number ≢ oldest last
+  pub free : NumberFree v alive
 
 -- new data is there
 pub record CanNote (v : View) (alive : Packet → Type 0) (x : Packet) : Type 0 where
   pub there : alive x
   pub new : New v.to_up v.kept x
 
--- new data is there, and the text is the only one of which all data of that number are pieces
+-- the text is the only one of which all data with the packet's number are pieces
+abbrev pub Joined : (List Bool → Packet → Type 0) → (Packet → Type 0) → Packet → List Bool → Type 0
+Joined Piece alive x text = (whole : List Bool) → ((y : Packet) → alive y → y.kind ≡ Kind.Data → y.number ≡ x.number → Piece whole y) → text ≡ whole
+
+-- new data is there, and its message is whole
 pub record CanQueue (Piece : List Bool → Packet → Type 0) (v : View) (alive : Packet → Type 0) (x : Packet) (text : List Bool) : Type 0 where
   pub note : CanNote v alive x
-  pub joined : (whole : List Bool) → ((y : Packet) → alive y → y.kind ≡ Kind.Data → y.number ≡ x.number → Piece whole y) → text ≡ whole
+  pub joined : Joined Piece alive x text
 
 -- a packet brings the answer to the outstanding message
 pub record CanFree (v : View) (alive : Packet → Type 0) (x : Packet) (kind : Answer) : Type 0 where
