@@ -1,12 +1,12 @@
 -- The interface: what the layer above cites.
-use Rattle.std.proofs.Common.{◌≡◌, ℕ, Bool, true, List, [], ◌∷◌, ◌++◌, length, refl, ap, sym, ◌∙◌, subst, append_assoc}
+use Rattle.std.proofs.Common.{◌≡◌, ℕ, Bool, true, List, [], ◌∷◌, ◌++◌, length, refl, ap, sym, ◌∙◌, subst, append_assoc, append-nil}
 use Rattle.leader1822.specs.declared.address.Flow.{Flow}
 use Rattle.leader1822.specs.declared.crossing.Crossing.{Crossing}
 use Rattle.leader1822.specs.declared.crossing.Crossing.TheVariants as crossing
 use Rattle.leader1822.specs.Host.{Host}
 use Rattle.leader1822.specs.Mailboxes.{Mail, Passing, passings, passed, opening_mail, mail_of, UpsAreHosts, EachIsRun}
 use Rattle.flow_law.specs.View.{View, Packet, mail_now}
-use Rattle.flow_law.specs.Moves.{Move, Grown, after_all, shown_by}
+use Rattle.flow_law.specs.Moves.{Move, Needs, Makes, Either, Grown, after, after_all, shown_by}
 use Rattle.flow_law.specs.Follows.{Follows, Sound, AllSound, AllFollow, AllOpen, passed_over}
 use Rattle.flow_law.proofs.AllMoves.{sound_less, sound_after_all}
 use Rattle.flow_law.proofs.RunLemmas.{opening_sound}
@@ -18,6 +18,19 @@ follow_sound {Piece} ms start seen old new before later f h =
     let V : View → Type 0 = λ v. Sound Piece start (shown_by ms old ++ seen) v later in
     subst V (sym f.view)
     (sound_less start (shown_by ms old ++ seen) (after_all ms old) (Grown Piece ms old before) later f.packets (sound_after_all ms start seen old before f.needs h))
+
+-- a flow that nothing happens to, packets aside
+pub stays : {Piece : List Bool → Packet → Type 0} (old new : View) (before later : Packet → Type 0) → new ≡ old → ((x : Packet) → later x → before x) → Follows Piece [] old new before later
+stays old new before later same less = record { needs = tt; view = same; packets = less }
+
+-- a flow that makes one move
+pub makes_one : {Piece : List Bool → Packet → Type 0} (m : Move) (old new : View) (before later : Packet → Type 0) → Needs Piece m old before → new ≡ after m old
+    → ((x : Packet) → later x → Either before (Makes Piece m old) x) → Follows Piece (m ∷ []) old new before later
+makes_one m old new before later needs same from = record { needs = (needs, tt); view = same; packets = from }
+
+-- what a flow sees of one crossing
+pub passed_over-one : (f : Flow) (c : Crossing) (log : List Crossing) → passed_over f (c ∷ []) log ≡ passings (length log) f c
+passed_over-one f c log = append-nil (passings (length log) f c)
 
 passed-append : (f : Flow) (entries log : List Crossing) → passed f (entries ++ log) ≡ passed_over f entries log ++ passed f log
 passed-append f [] log = refl
