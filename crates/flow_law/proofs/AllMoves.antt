@@ -1,15 +1,13 @@
 -- Each move keeps the clauses, and shows the hosts what their mailbox allows.
-use Rattle.std.proofs.Common.{◌≡◌, ℕ, Bool, true, false, List, [], ◌∷◌, ◌++◌, Option, Some, None, ◌⊎◌, inl, inr, refl, ap, sym, ◌∙◌, subst, append_assoc, if◌then◌else◌}
-use Rattle.leader1822.specs.declared.crossing.Answer.{Answer}
-use Rattle.leader1822.specs.declared.crossing.Answer.TheVariants as answer
-use Rattle.leader1822.specs.Mailboxes.{Box, Mail, Passing, Holds, Fits, MailNeeds, mail_after, mail_of, IsFlowRun}
-use Rattle.flow_law.specs.View.{View, Packet, Queued, Kind, mail_now}
+use Rattle.std.proofs.Common.{◌≡◌, Bool, true, false, List, [], ◌∷◌, ◌++◌, None, inl, inr, refl, ap, sym, ◌∙◌, subst, append_assoc, if◌then◌else◌}
+use Rattle.leader1822.specs.Mailboxes.{Box, Mail, Passing, Holds, MailNeeds, mail_after, mail_of, IsFlowRun}
+use Rattle.flow_law.specs.View.{View, Packet, Queued, mail_now}
 use Rattle.flow_law.specs.Moves.{Move, Needs, Makes, Either, CanOffer, CanTakeMessage, NeedsAll, Grown, queued, after, after_all, shows, shown_by}
-use Rattle.flow_law.specs.Invariant.{Ok, Held, Idle, Answered}
+use Rattle.flow_law.specs.Invariant.{Ok, Held}
 use Rattle.flow_law.specs.Follows.{Sound}
 use Rattle.flow_law.proofs.Clauses.{ok_less}
 use Rattle.flow_law.proofs.Begins.{dead_now, begin_sent, begin_local}
-use Rattle.flow_law.proofs.Arrivals.{note_gone, whole, freed, given_up, take_message, held_there, take_answer, told, Told}
+use Rattle.flow_law.proofs.Arrivals.{note_gone, whole, freed, given_up, take_message, held_there, take_answer, told}
 use Rattle.flow_law.proofs.Stops.{stop_source, start_source, stop_destination, start_destination, stop_from, start_from, stop_to, without_data}
 
 -- a move that makes no packet

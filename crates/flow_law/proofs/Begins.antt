@@ -1,16 +1,12 @@
 -- A message is offered: a Dead at once, a message to another IMP, a message within one IMP.
-use Rattle.std.proofs.Common.{◌≡◌, ◌≢◌, ℕ, ◌<◌, Bool, true, false, List, [], ◌∷◌, ◌++◌, length, Option, Some, None, ◌⊎◌, inl, inr, refl, ap, sym, ◌∙◌, subst, arith}
-use Rattle.std.specs.List.{Contains}
-use Rattle.std.proofs.lemmas.Bool.{cases_Bool}
-use Rattle.leader1822.specs.declared.crossing.Answer.{Answer}
+use Rattle.std.proofs.Common.{◌≡◌, ℕ, ◌<◌, Bool, true, List, [], ◌∷◌, ◌++◌, Some, None, inl, inr, refl, ap, sym, subst}
 use Rattle.leader1822.specs.declared.crossing.Answer.TheVariants as answer
-use Rattle.leader1822.specs.Mailboxes.{Box, Fits, fetched}
-use Rattle.link_table.specs.Numbers.{modulus, is_new, Near}
-use Rattle.link_table.proofs.NumberLemmas.{near_same, near_old}
+use Rattle.link_table.specs.Numbers.{modulus, Near}
+use Rattle.link_table.proofs.NumberLemmas.{near_same}
 use Rattle.flow_law.specs.View.{View, Packet, Queued, Kind}
-use Rattle.flow_law.specs.Moves.{Move, New, CanOffer, CanBegin, CanNote, CanQueue, CanFree, CanTakeMessage, CanStartSource, CanStartFrom, CanGiveUp, NoData, Brings, IsPieceOf, IsTold, IsDeadOf, Either, with_answer, queued, next_number, after, Makes}
-use Rattle.flow_law.specs.Invariant.{Ok, Begun, Carried, Held, Gone, Busy, Idle, Answered}
-use Rattle.flow_law.proofs.Clauses.{ok_less, idle_new, idle_queue, taken_not_waiting, dead_fits, not_empty, shut_new, shut_queue, near_not_new, noted, next_number_in, fresh, still_near, begun_itself, new_too, only_one, number_of}
+use Rattle.flow_law.specs.Moves.{Move, New, CanOffer, CanBegin, IsPieceOf, Either, queued, next_number, after}
+use Rattle.flow_law.specs.Invariant.{Ok}
+use Rattle.flow_law.proofs.Clauses.{idle_new, idle_queue, near_not_new, next_number_in, fresh, still_near}
 
 pub dead_now : {Piece : List Bool → Packet → Type 0} (v : View) (t : Packet → Type 0) (place : ℕ) (text : List Bool) → CanOffer v → Ok Piece v t → Ok Piece (after (Move.DeadNow place text) v) t
 dead_now v t place text can h =

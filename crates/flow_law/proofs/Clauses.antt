@@ -1,16 +1,16 @@
 -- What follows from the clauses, and that losing packets keeps them.
-use Rattle.std.proofs.Common.{◌≡◌, ◌≢◌, ℕ, ◌<◌, Bool, true, false, List, [], ◌∷◌, ◌++◌, length, Option, Some, None, ◌⊎◌, inl, inr, refl, ap, sym, ◌∙◌, subst, arith}
+use Rattle.std.proofs.Common.{◌≡◌, ◌≢◌, ℕ, ◌<◌, Bool, true, false, List, [], ◌∷◌, Option, Some, None, inl, inr, refl, ap, sym, ◌∙◌, subst, arith}
 use Rattle.std.specs.List.{Contains}
 use Rattle.std.proofs.lemmas.Bool.{cases_Bool}
 use Rattle.std.proofs.lemmas.List.Elements.{Contains-push_cases}
 use Rattle.leader1822.specs.declared.crossing.Answer.{Answer}
 use Rattle.leader1822.specs.declared.crossing.Answer.TheVariants as answer
 use Rattle.leader1822.specs.Mailboxes.{Box, Fits}
-use Rattle.link_table.specs.Numbers.{modulus, next, oldest, is_new, Near}
+use Rattle.link_table.specs.Numbers.{modulus, next, is_new, Near}
 use Rattle.link_table.proofs.NumberLemmas.{next_in, near_same, near_old, near_next, not_next, two}
 use Rattle.flow_law.specs.View.{View, Packet, Queued, Kind}
-use Rattle.flow_law.specs.Moves.{New, CanOffer, CanBegin, queued, next_number}
-use Rattle.flow_law.specs.Invariant.{Ok, Begun, Carried, Held, Gone, Busy, Idle, Answered}
+use Rattle.flow_law.specs.Moves.{New, CanBegin, queued, next_number}
+use Rattle.flow_law.specs.Invariant.{Ok, Begun, Carried, Gone}
 
 pub ok_less : {Piece : List Bool → Packet → Type 0} (v : View) (t s : Packet → Type 0) → ((x : Packet) → s x → t x) → Ok Piece v t → Ok Piece v s
 ok_less v t s less h = record {

@@ -1,10 +1,10 @@
 -- The worked history is one.
-use Rattle.std.proofs.Common.{◌≡◌, ℕ, Bool, true, false, List, [], ◌∷◌, Option, Some, None, ◌⊎◌, inl, inr, refl}
+use Rattle.std.proofs.Common.{◌≡◌, true, [], ◌∷◌, None, inl, refl}
 use Rattle.link_table.specs.Numbers.{is_new}
 use Rattle.flow_law.specs.View.{Packet, Kind}
 use Rattle.flow_law.specs.Moves.{New}
 use Rattle.flow_law.specs.Runs.{IsHistory}
-use Rattle.flow_law.specs.Example.{at_first, worked, data_packet, rfnm, first_text, InOnePacket}
+use Rattle.flow_law.specs.Example.{at_first, worked, data_packet, rfnm, InOnePacket}
 use Rattle.flow_law.proofs.Left.{first_there, second_there, left_old, left_made, left_both}
 
 -- where nothing was noted all data is new

@@ -1,11 +1,11 @@
 -- The interface: what the layer above cites.
-use Rattle.std.proofs.Common.{◌≡◌, ℕ, Bool, true, List, [], ◌∷◌, ◌++◌, length, refl, ap, sym, ◌∙◌, subst, append_assoc, append-nil}
+use Rattle.std.proofs.Common.{◌≡◌, Bool, List, [], ◌∷◌, ◌++◌, length, refl, ap, sym, ◌∙◌, subst, append_assoc, append-nil}
 use Rattle.leader1822.specs.declared.address.Flow.{Flow}
 use Rattle.leader1822.specs.declared.crossing.Crossing.{Crossing}
 use Rattle.leader1822.specs.declared.crossing.Crossing.TheVariants as crossing
 use Rattle.leader1822.specs.Host.{Host}
-use Rattle.leader1822.specs.Mailboxes.{Mail, Passing, passings, passed, opening_mail, mail_of, UpsAreHosts, EachIsRun}
-use Rattle.flow_law.specs.View.{View, Packet, mail_now}
+use Rattle.leader1822.specs.Mailboxes.{Mail, Passing, passings, passed, opening_mail, UpsAreHosts, EachIsRun}
+use Rattle.flow_law.specs.View.{View, Packet}
 use Rattle.flow_law.specs.Moves.{Move, Needs, Makes, Either, Grown, after, after_all, shown_by}
 use Rattle.flow_law.specs.Follows.{Follows, Sound, AllSound, AllFollow, AllOpen, passed_over}
 use Rattle.flow_law.proofs.AllMoves.{sound_less, sound_after_all}

@@ -1,16 +1,15 @@
 -- A flow within one IMP.
-use Rattle.std.proofs.Common.{◌≡◌, ℕ, Bool, true, false, List, [], ◌∷◌, Option, Some, None, ◌⊎◌, inl, inr, refl, ap, sym, subst}
+use Rattle.std.proofs.Common.{◌≡◌, ℕ, Bool, true, false, List, [], ◌∷◌, Some, inl, inr, refl, ap}
 use Rattle.std.specs.List.{Contains}
 use Rattle.leader1822.specs.declared.address.Flow.{Flow}
-use Rattle.leader1822.specs.declared.crossing.Crossing.{Crossing}
 use Rattle.leader1822.specs.declared.crossing.Crossing.TheVariants as crossing
 use Rattle.leader1822.specs.Host.{Host, same_host}
 use Rattle.leader1822.specs.Mailboxes.{Passing, passings, first_if}
-use Rattle.flow_law.specs.View.{View, Packet, Queued, Kind}
-use Rattle.flow_law.specs.Moves.{CanTakeMessage, queued, shown_by}
-use Rattle.flow_law.specs.Invariant.{Ok, Held}
+use Rattle.flow_law.specs.View.{View, Packet, Queued}
+use Rattle.flow_law.specs.Moves.{CanTakeMessage, queued}
+use Rattle.flow_law.specs.Invariant.{Ok}
 use Rattle.flow_law.specs.Follows.{Follows}
-use Rattle.flow_law.specs.Local.{answer_packet, taken_here, view_taken_here, stopped_here, view_stopped_here, stopped_itself, stopped_itself_queued, view_stopped_itself, started_itself}
+use Rattle.flow_law.specs.Local.{taken_here, view_taken_here, stopped_here, view_stopped_here, stopped_itself_queued, view_stopped_itself}
 
 -- a queued message is the outstanding one
 pub queued_awaited : {Piece : List Bool → Packet → Type 0} (v : View) (t : Packet → Type 0) (oldest : Queued) (others : List Queued) → Ok Piece v t → v.from_up ≡ true → v.queue ≡ oldest ∷ others

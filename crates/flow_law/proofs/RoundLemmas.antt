@@ -1,12 +1,12 @@
 -- A machine that begins any number: 130 messages, and a copy of the first one's packet that outlives them.
-use Rattle.std.proofs.Common.{◌≡◌, ℕ, zero, suc, ◌+◌, ◌<◌, Bool, true, false, List, [], ◌∷◌, Option, Some, None, ◌⊎◌, inl, inr, refl, ap, sym, ◌∙◌, subst, arith}
+use Rattle.std.proofs.Common.{◌≡◌, ℕ, zero, suc, ◌<◌, true, List, [], ◌∷◌, Some, inl, refl, ap, sym, ◌∙◌, subst, arith}
 use Rattle.std.specs.List.{Contains}
 use Rattle.std.proofs.lemmas.Bool.Decides.{nat_tests}
 use Rattle.leader1822.specs.declared.crossing.Answer.TheVariants as answer
-use Rattle.link_table.specs.Numbers.{modulus, window, next, ahead, is_new}
+use Rattle.link_table.specs.Numbers.{modulus, window, next, is_new}
 use Rattle.flow_law.specs.View.{View, Packet, Kind}
-use Rattle.flow_law.specs.Moves.{Move, New, Either, IsTold, queued, after}
-use Rattle.flow_law.specs.Runs.{Turn, IsTurn, IsHistoryBy, view_after, left_by}
+use Rattle.flow_law.specs.Moves.{Move, Either, IsTold, queued, after}
+use Rattle.flow_law.specs.Runs.{IsTurn, IsHistoryBy, view_after, left_by}
 use Rattle.flow_law.specs.Example.{at_first, first_text, InOnePacket}
 use Rattle.flow_law.specs.Machines.{Breaks, AnyNumber, any_number, rounds, turn, second_text, data_of, dead_of}
 use Rattle.flow_law.proofs.Left.{first_there, second_there, left_none, left_old, left_made, left_both}

@@ -1,9 +1,8 @@
 -- A history of one flow from its opening.
-use Rattle.std.proofs.Common.{◌≡◌, ◌<◌, Bool, true, false, List, [], ◌∷◌, ◌++◌, Option, Some, None, ◌⊎◌, inl, inr, refl, sym, subst}
+use Rattle.std.proofs.Common.{◌≡◌, Bool, List, [], ◌∷◌, None, inl, refl}
 use Rattle.std.specs.List.{Contains}
-use Rattle.leader1822.specs.Mailboxes.{Box, Fits, IsFlowRun}
 use Rattle.flow_law.specs.View.{View, Packet, mail_now}
-use Rattle.flow_law.specs.Moves.{Makes, Either, after}
+use Rattle.flow_law.specs.Moves.{Makes, Either}
 use Rattle.flow_law.specs.Invariant.{Ok}
 use Rattle.flow_law.specs.Follows.{Sound}
 use Rattle.flow_law.specs.Runs.{Turn, IsOpening, IsHistory, left_by, view_after, seen_in}

@@ -1,8 +1,8 @@
 -- One message, from its offer to its answer, and what the hosts see of it: there are histories.
-use Rattle.std.specs.Prelude.{◌≡◌, ℕ, Bool, true, false, List, [], ◌∷◌, Option, Some, None}
+use Rattle.std.specs.Prelude.{◌≡◌, Bool, true, false, List, [], ◌∷◌, None}
 use Rattle.leader1822.specs.declared.crossing.Answer.TheVariants as answer
 use Rattle.leader1822.specs.Mailboxes.{Box, Passing}
-use Rattle.flow_law.specs.View.{View, Packet, Queued, Kind}
+use Rattle.flow_law.specs.View.{View, Packet, Kind}
 use Rattle.flow_law.specs.Moves.{Move, queued}
 use Rattle.flow_law.specs.Runs.{Turn}
 use Rattle.flow_law.specs.Local.{answer_packet}

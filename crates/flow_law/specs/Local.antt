@@ -2,9 +2,7 @@
 --
 -- Such a flow has no packets on lines. Its message is queued as it is begun (`BeginLocal`), and its answer is given in the
 -- same step: seen as moves, the answer's packet is made, heard and gone.
-use Rattle.std.specs.Prelude.{◌≡◌, ℕ, Bool, true, false, List, [], ◌∷◌, Option, Some, None}
-use Rattle.std.specs.List.{Contains}
-use Rattle.leader1822.specs.declared.crossing.Answer.{Answer}
+use Rattle.std.specs.Prelude.{ℕ, false, List, [], ◌∷◌, None}
 use Rattle.leader1822.specs.declared.crossing.Answer.TheVariants as answer
 use Rattle.leader1822.specs.Mailboxes.{fetched}
 use Rattle.flow_law.specs.View.{View, Packet, Queued, Kind}
