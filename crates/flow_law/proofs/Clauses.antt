@@ -58,13 +58,6 @@ taken_not_waiting (Box.Taken p t) place text fits is = absurd (cc)
 pub dead_fits : (box : Box) (place : ℕ) (text : List Bool) → box ≡ Box.Waiting place text → Fits answer.Dead box
 dead_fits box place text is = subst (λ (b : Box). Fits answer.Dead b) (sym is) tt
 
-pub not_empty : (box : Box) (kind : Answer) → Fits kind box → Fits answer.Incomplete box
-not_empty Box.Empty answer.Rfnm fits = absurd fits
-not_empty Box.Empty answer.Dead fits = absurd fits
-not_empty Box.Empty answer.Incomplete fits = absurd fits
-not_empty (Box.Waiting place text) kind fits = tt
-not_empty (Box.Taken place text) kind fits = tt
-
 -- nothing is new while the message was taken
 pub shut_new : {Piece : List Bool → Packet → Type 0} (v : View) (t : Packet → Type 0) → Ok Piece v t → Fits answer.Rfnm v.box → (x : Packet) → t x → New v.to_up v.kept x → ⊥
 shut_new v t h fits x tx new = let c : Carried _ v.box v.queue x = h.carried x tx new in taken_not_waiting v.box c.place c.text fits c.waits

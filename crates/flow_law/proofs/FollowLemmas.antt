@@ -4,7 +4,8 @@ use Rattle.leader1822.specs.declared.address.Flow.{Flow}
 use Rattle.leader1822.specs.declared.crossing.Crossing.{Crossing}
 use Rattle.leader1822.specs.declared.crossing.Crossing.TheVariants as crossing
 use Rattle.leader1822.specs.Host.{Host}
-use Rattle.leader1822.specs.Mailboxes.{Mail, Passing, passings, passed, opening_mail, UpsAreHosts, EachIsRun}
+use Rattle.leader1822.specs.Mailboxes.{Mail, Passing, passings, passed, opening_mail, UpsAreHosts, IsRun, EachIsRun}
+use Rattle.leader1822.proofs.FlowByFlow.{each_is_run}
 use Rattle.flow_law.specs.View.{View, Packet}
 use Rattle.flow_law.specs.Moves.{Move, Needs, Makes, Either, Grown, after, after_all, shown_by}
 use Rattle.flow_law.specs.Follows.{Follows, Sound, AllSound, AllFollow, AllOpen, passed_over}
@@ -70,3 +71,8 @@ all_open {Piece} hosts view alive o nothing = record {
 pub sound_log : {Piece : List Bool → Packet → Type 0} (hosts : List Host) (log : List Crossing) (view : Flow → View) (alive : Flow → Packet → Type 0) → AllSound Piece hosts log view alive
     → EachIsRun hosts log
 sound_log hosts log view alive h = record { flows = λ f. (h.flows f).run; ups = h.ups }
+
+-- so it is a run of the mailboxes
+pub sound_run : {Piece : List Bool → Packet → Type 0} (hosts : List Host) (log : List Crossing) (view : Flow → View) (alive : Flow → Packet → Type 0) → AllSound Piece hosts log view alive
+    → IsRun hosts log
+sound_run hosts log view alive h = each_is_run hosts log (sound_log hosts log view alive h)

@@ -4,7 +4,7 @@
 ghost use Rattle.std.specs.Prelude.{◌≡◌, ℕ, Bool, true, List, [], ◌∷◌, ◌++◌, Some};
 ghost use Rattle.std.specs.List.{Contains};
 ghost use Rattle.leader1822.specs.Host.{Host, same_host};
-ghost use Rattle.leader1822.specs.Mailboxes.{Passing, mail_of, passings, IsFlowRun, EachIsRun};
+ghost use Rattle.leader1822.specs.Mailboxes.{Passing, mail_of, passings, IsFlowRun, IsRun, EachIsRun};
 ghost use Rattle.leader1822.specs.declared.address.Flow.{Flow};
 ghost use Rattle.leader1822.specs.declared.crossing.Crossing.{Crossing};
 ghost use Rattle.leader1822.specs.declared.crossing.Crossing.TheVariants as crossing;
@@ -65,6 +65,11 @@ pub fn interface()
     ensures sound { (test : List Bool → Packet → Bool) (hosts : List Host) (log : List Crossing) (view : Flow → View) (alive : Flow → List Packet)
         → AllSound (ByTest test) hosts log view (λ f. Contains (alive f))
         → EachIsRun hosts log }
+
+    // so the log is a run of the mailboxes
+    ensures run { (test : List Bool → Packet → Bool) (hosts : List Host) (log : List Crossing) (view : Flow → View) (alive : Flow → List Packet)
+        → AllSound (ByTest test) hosts log view (λ f. Contains (alive f))
+        → IsRun hosts log }
 {}
 
 /// A flow within one IMP, and a host that writes to itself: what their IMP does in one step is a list of

@@ -1,7 +1,7 @@
 use Rattle.std.proofs.Common.{[]}
 use Rattle.std.specs.List.{Contains}
 use Rattle.flow_law.proofs.Clauses.{none_there}
-use Rattle.flow_law.proofs.FollowLemmas.{all_follow, all_open, sound_log}
+use Rattle.flow_law.proofs.FollowLemmas.{all_follow, all_open, sound_log, sound_run}
 use Rattle.flow_law.proofs.law.interface.Goals as goal
 
 pub returns-clause-opening : goal.returns-clause-opening
@@ -13,3 +13,6 @@ returns-clause-kept c = λ test hosts entries log moves old new before left a h.
 
 pub returns-clause-sound : goal.returns-clause-sound
 returns-clause-sound c = λ test hosts log view alive h. sound_log hosts log view (λ f. Contains (alive f)) h
+
+pub returns-clause-run : goal.returns-clause-run
+returns-clause-run c = λ test hosts log view alive h. sound_run hosts log view (λ f. Contains (alive f)) h
