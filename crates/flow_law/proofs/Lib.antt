@@ -10,3 +10,4 @@ pub mod Left
 pub mod ExampleLemmas
 pub mod MachineLemmas
 pub mod RoundLemmas
+pub mod StepLemmas

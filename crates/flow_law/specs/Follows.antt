@@ -1,9 +1,9 @@
 -- What the layer above shows of its steps, and what it gets: each flow makes a list of moves, so the log stays a run.
-use Rattle.std.specs.Prelude.{◌≡◌, List, [], ◌∷◌, ◌++◌, length, Bool}
+use Rattle.std.specs.Prelude.{◌≡◌, Bool, false, List, [], ◌∷◌, ◌++◌, length}
 use Rattle.leader1822.specs.declared.address.Flow.{Flow}
 use Rattle.leader1822.specs.declared.crossing.Crossing.{Crossing}
 use Rattle.leader1822.specs.Host.{Host}
-use Rattle.leader1822.specs.Mailboxes.{Mail, Passing, passings, passed, opening_mail, mail_of, IsFlowRun, UpsAreHosts}
+use Rattle.leader1822.specs.Mailboxes.{Mail, Passing, passings, passed, opening_mail, mail_of, same_flow, IsFlowRun, UpsAreHosts}
 use Rattle.flow_law.specs.View.{View, Packet, mail_now}
 use Rattle.flow_law.specs.Moves.{Move, NeedsAll, Grown, after_all, shown_by}
 use Rattle.flow_law.specs.Invariant.{Ok}
@@ -43,3 +43,11 @@ pub record AllFollow (Piece : List Bool → Packet → Type 0) (hosts : List Hos
 pub record AllOpen (hosts : List Host) (view : Flow → View) : Type 0 where
   pub opening : (f : Flow) → IsOpening (view f)
   pub mail : (f : Flow) → mail_now (view f) ≡ opening_mail hosts f
+
+-- a step that concerns one flow: it makes these moves, and the others stay
+pub record OneFollows (Piece : List Bool → Packet → Type 0) (entries log : List Crossing) (g : Flow) (moves : List Move) (old new : Flow → View) (before later : Flow → Packet → Type 0) : Type 0 where
+  pub here : Follows Piece moves (old g) (new g) (before g) (later g)
+  pub shown : passed_over g entries log ≡ shown_by moves (old g)
+  pub view : (f : Flow) → same_flow f g ≡ false → new f ≡ old f
+  pub packets : (f : Flow) → same_flow f g ≡ false → (x : Packet) → later f x → before f x
+  pub unseen : (f : Flow) → same_flow f g ≡ false → passed_over f entries log ≡ []

@@ -2,7 +2,7 @@
 --
 -- Such a flow has no packets on lines. Its message is queued as it is begun (`BeginLocal`), and its answer is given in the
 -- same step: seen as moves, the answer's packet is made, heard and gone.
-use Rattle.std.specs.Prelude.{ℕ, false, List, [], ◌∷◌, None}
+use Rattle.std.specs.Prelude.{ℕ, Bool, false, List, [], ◌∷◌, ◌++◌, None, if◌then◌else◌}
 use Rattle.leader1822.specs.declared.crossing.Answer.TheVariants as answer
 use Rattle.leader1822.specs.Mailboxes.{fetched}
 use Rattle.flow_law.specs.View.{View, Packet, Queued, Kind}
@@ -52,3 +52,10 @@ imp_stopped_back = Move.StopFrom ∷ Move.StopTo ∷ []
 -- the one IMP comes up
 abbrev pub imp_started : List Move
 imp_started = Move.StartTo ∷ Move.StartFrom ∷ []
+
+-- a host goes down, or comes up, that is the source of a flow or not, and the destination or not
+abbrev pub stopped_host : Bool → Bool → List Move
+stopped_host source destination = (if destination then Move.StopDestination ∷ [] else []) ++ (if source then Move.StopSource ∷ [] else [])
+
+abbrev pub started_host : Bool → Bool → List Move
+started_host source destination = (if destination then Move.StartDestination ∷ [] else []) ++ (if source then Move.StartSource ∷ [] else [])

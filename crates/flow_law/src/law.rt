@@ -4,7 +4,7 @@
 ghost use Rattle.std.specs.Prelude.{◌≡◌, ℕ, Bool, true, List, [], ◌∷◌, ◌++◌, Some};
 ghost use Rattle.std.specs.List.{Contains};
 ghost use Rattle.leader1822.specs.Host.{Host, same_host};
-ghost use Rattle.leader1822.specs.Mailboxes.{Passing, mail_of, passings, IsFlowRun, IsRun, EachIsRun};
+ghost use Rattle.leader1822.specs.Mailboxes.{Passing, mail_of, passings, IsFlowRun, IsRun, EachIsRun, UpsAreHosts};
 ghost use Rattle.leader1822.specs.declared.address.Flow.{Flow};
 ghost use Rattle.leader1822.specs.declared.crossing.Crossing.{Crossing};
 ghost use Rattle.leader1822.specs.declared.crossing.Crossing.TheVariants as crossing;
@@ -12,8 +12,8 @@ ghost use Rattle.flow_law.specs.View.{View, Packet, Queued, mail_now};
 ghost use Rattle.flow_law.specs.Moves.{Move, Needs, CanTakeMessage, after, shown_by};
 ghost use Rattle.flow_law.specs.Invariant.{Ok};
 ghost use Rattle.flow_law.specs.Runs.{Turn, IsOpening, IsTurn, IsHistory, ByTest, left_by, view_after, seen_in};
-ghost use Rattle.flow_law.specs.Follows.{Follows, AllFollow, AllOpen, AllSound};
-ghost use Rattle.flow_law.specs.Local.{taken_here, view_taken_here, stopped_here, view_stopped_here, stopped_itself, stopped_itself_queued, view_stopped_itself, started_itself};
+ghost use Rattle.flow_law.specs.Follows.{Follows, AllFollow, OneFollows, AllOpen, AllSound, passed_over};
+ghost use Rattle.flow_law.specs.Local.{taken_here, view_taken_here, stopped_here, view_stopped_here, stopped_itself, stopped_itself_queued, view_stopped_itself, started_itself, stopped_host, started_host};
 ghost use Rattle.flow_law.specs.Machines.{Breaks, OffersDown, offers_down, NotIdle, not_idle, NotAnswered, not_answered, AnyNumber, any_number, NotesNothing, notes_nothing, NotesAway, notes_away, NotesAnswers, notes_answers, NotesOld, notes_old, QueuesOld, queues_old, JoinsAny, joins_any, FreedByNothing, freed_by_nothing, FreedByAny, freed_by_any, FreedByData, freed_by_data, TakesNothing, takes_nothing, ToldNothing, told_nothing, TakesDown, takes_down, SourceStopsTwice, source_stops_twice, DestinationStopsTwice, destination_stops_twice, SourceStartsTwice, source_starts_twice, DestinationStartsTwice, destination_starts_twice, StartsAway, starts_away, StartsUnsettled, starts_unsettled, StartsAlive, starts_alive, StartsQueued, starts_queued, ReturnsAlive, returns_alive, ForgetsAlive, forgets_alive, GivesUpNothing, gives_up_nothing, GivesUpAlive, gives_up_alive, GivesUpQueued, gives_up_queued};
 ghost use Rattle.flow_law.specs.Example.{at_first, worked, worked_seen, InOnePacket};
 
@@ -61,6 +61,13 @@ pub fn interface()
         → AllSound (ByTest test) hosts log old (λ f. Contains (before f))
         → AllSound (ByTest test) hosts (entries ++ log) new (λ f. Contains (left f)) }
 
+    // so does a step that concerns one flow, which makes a list of moves while the others stay
+    ensures one { (test : List Bool → Packet → Bool) (hosts : List Host) (entries log : List Crossing) (g : Flow) (moves : List Move) (old new : Flow → View) (before left : Flow → List Packet)
+        → UpsAreHosts hosts entries
+        → OneFollows (ByTest test) entries log g moves old new (λ f. Contains (before f)) (λ f. Contains (left f))
+        → AllSound (ByTest test) hosts log old (λ f. Contains (before f))
+        → AllSound (ByTest test) hosts (entries ++ log) new (λ f. Contains (left f)) }
+
     // and in a sound network each flow's part of the log is a run
     ensures sound { (test : List Bool → Packet → Bool) (hosts : List Host) (log : List Crossing) (view : Flow → View) (alive : Flow → List Packet)
         → AllSound (ByTest test) hosts log view (λ f. Contains (alive f))
@@ -97,6 +104,10 @@ pub fn one_imp()
         → v.outstanding ≡ Some message.number
         → Follows (ByTest test) (stopped_here message) v (view_stopped_here v) (Contains alive) (Contains alive) }
     ensures stopped_shows { (v : View) (message : Queued) → shown_by (stopped_here message) v ≡ Passing.DestinationDown ∷ [] }
+
+    // what a flow sees of a host that goes down or comes up, as source, as destination or as both
+    ensures host_down { (f : Flow) (h : Host) (log : List Crossing) (v : View) → passed_over f (crossing.Down h ∷ []) log ≡ shown_by (stopped_host (same_host f.source h) (same_host f.destination h)) v }
+    ensures host_up { (f : Flow) (h : Host) (log : List Crossing) (v : View) → passed_over f (crossing.Up h ∷ []) log ≡ shown_by (started_host (same_host f.source h) (same_host f.destination h)) v }
 
     // a host that writes to itself goes down while a message to itself is queued: it gets no answer
     ensures itself_stopped { (test : List Bool → Packet → Bool) (v : View) (alive : List Packet) (message : Queued)
