@@ -3,41 +3,41 @@ use Rattle.std.proofs.Common.{◌≡◌, Bool, true, false, List, [], ◌∷◌,
 use Rattle.leader1822.specs.Mailboxes.{Box, Mail, Passing, Holds, MailNeeds, mail_after, mail_of, IsFlowRun}
 use Rattle.flow_law.specs.View.{View, Packet, Queued, mail_now}
 use Rattle.flow_law.specs.Moves.{Move, Needs, Makes, Either, CanOffer, CanTakeMessage, NeedsAll, Grown, queued, after, after_all, shows, shown_by}
-use Rattle.flow_law.specs.Invariant.{Ok, Held}
+use Rattle.flow_law.specs.Invariant.{Invariant, Held}
 use Rattle.flow_law.specs.Follows.{Sound}
-use Rattle.flow_law.proofs.Clauses.{ok_less}
+use Rattle.flow_law.proofs.Clauses.{invariant_less}
 use Rattle.flow_law.proofs.Begins.{dead_now, begin_sent, begin_local}
 use Rattle.flow_law.proofs.Arrivals.{note_gone, whole, freed, given_up, take_message, held_there, take_answer, told}
 use Rattle.flow_law.proofs.Stops.{stop_source, start_source, stop_destination, start_destination, stop_from, start_from, stop_to, without_data}
 
 -- a move that makes no packet
-none_made : {Piece : List Bool → Packet → Type 0} (v : View) (t made : Packet → Type 0) → ((x : Packet) → made x → ⊥) → Ok Piece v t → Ok Piece v (Either t made)
-none_made v t made none h = ok_less v t (Either t made) (λ x there. elim there [
+none_made : {Piece : List Bool → Packet → Type 0} (v : View) (t made : Packet → Type 0) → ((x : Packet) → made x → ⊥) → Invariant Piece v t → Invariant Piece v (Either t made)
+none_made v t made none h = invariant_less v t (Either t made) (λ x there. elim there [
   | inl tx ↦ tx
   | inr m ↦ absurd (none x m)
 ]) h
 
 -- each move keeps the clauses
-pub ok_after : {Piece : List Bool → Packet → Type 0} (m : Move) (v : View) (t : Packet → Type 0) → Needs Piece m v t → Ok Piece v t → Ok Piece (after m v) (Either t (Makes Piece m v))
-ok_after Move.Quiet v t needs h = none_made v t _ (λ x none. none) h
-ok_after (Move.DeadNow place text) v t needs h = none_made _ t _ (λ x none. none) (dead_now v t place text needs h)
-ok_after (Move.Begin place text) v t needs h = begin_sent v t place text needs h
-ok_after (Move.BeginLocal place text) v t needs h = none_made _ t _ (λ x none. none) (begin_local v t place text needs h)
-ok_after (Move.NoteGone x) v t needs h = note_gone v t x needs h
-ok_after (Move.Whole x text) v t needs h = none_made _ t _ (λ x none. none) (whole v t x text needs h)
-ok_after (Move.Freed x kind) v t needs h = none_made _ t _ (λ x none. none) (freed v t x kind needs h)
-ok_after (Move.TakeMessage oldest others) v t needs h = take_message v t oldest others needs h (held_there v t oldest others needs h)
-ok_after (Move.TakeAnswer oldest others) v t needs h = none_made _ t _ (λ x none. none) (take_answer v t oldest others needs h)
-ok_after Move.StopSource v t needs h = none_made _ t _ (λ x none. none) (stop_source v t h)
-ok_after Move.StartSource v t needs h = none_made _ t _ (λ x none. none) (start_source v t needs h)
-ok_after Move.StopDestination v t needs h = stop_destination v t h
-ok_after Move.StartDestination v t needs h = none_made _ t _ (λ x none. none) (start_destination v t h)
-ok_after Move.StopFrom v t needs h = none_made _ t _ (λ x none. none) (stop_from v t h)
-ok_after Move.StartFrom v t needs h = none_made _ t _ (λ x none. none) (start_from v t needs h)
-ok_after Move.StopTo v t needs h = none_made _ t _ (λ x none. none) (stop_to v t h)
-ok_after Move.StartTo v t needs h = none_made _ t _ (λ x none. none) (without_data v t true v.kept needs h)
-ok_after (Move.GiveUp number) v t needs h = none_made _ t _ (λ x none. none) (given_up v t number needs h)
-ok_after Move.Forget v t needs h = none_made _ t _ (λ x none. none) (without_data v t v.to_up None needs h)
+pub invariant_after : {Piece : List Bool → Packet → Type 0} (m : Move) (v : View) (t : Packet → Type 0) → Needs Piece m v t → Invariant Piece v t → Invariant Piece (after m v) (Either t (Makes Piece m v))
+invariant_after Move.Quiet v t needs h = none_made v t _ (λ x none. none) h
+invariant_after (Move.DeadNow place text) v t needs h = none_made _ t _ (λ x none. none) (dead_now v t place text needs h)
+invariant_after (Move.Begin place text) v t needs h = begin_sent v t place text needs h
+invariant_after (Move.BeginLocal place text) v t needs h = none_made _ t _ (λ x none. none) (begin_local v t place text needs h)
+invariant_after (Move.NoteGone x) v t needs h = note_gone v t x needs h
+invariant_after (Move.Whole x text) v t needs h = none_made _ t _ (λ x none. none) (whole v t x text needs h)
+invariant_after (Move.Freed x kind) v t needs h = none_made _ t _ (λ x none. none) (freed v t x kind needs h)
+invariant_after (Move.TakeMessage oldest others) v t needs h = take_message v t oldest others needs h (held_there v t oldest others needs h)
+invariant_after (Move.TakeAnswer oldest others) v t needs h = none_made _ t _ (λ x none. none) (take_answer v t oldest others needs h)
+invariant_after Move.StopSource v t needs h = none_made _ t _ (λ x none. none) (stop_source v t h)
+invariant_after Move.StartSource v t needs h = none_made _ t _ (λ x none. none) (start_source v t needs h)
+invariant_after Move.StopDestination v t needs h = stop_destination v t h
+invariant_after Move.StartDestination v t needs h = none_made _ t _ (λ x none. none) (start_destination v t h)
+invariant_after Move.StopFrom v t needs h = none_made _ t _ (λ x none. none) (stop_from v t h)
+invariant_after Move.StartFrom v t needs h = none_made _ t _ (λ x none. none) (start_from v t needs h)
+invariant_after Move.StopTo v t needs h = none_made _ t _ (λ x none. none) (stop_to v t h)
+invariant_after Move.StartTo v t needs h = none_made _ t _ (λ x none. none) (without_data v t true v.kept needs h)
+invariant_after (Move.GiveUp number) v t needs h = none_made _ t _ (λ x none. none) (given_up v t number needs h)
+invariant_after Move.Forget v t needs h = none_made _ t _ (λ x none. none) (without_data v t v.to_up None needs h)
 
 -- ---- what the hosts see
 
@@ -54,14 +54,14 @@ stopped p true start now seen at needs run = one_seen p start now seen at (needs
 stopped p false start now seen at needs run = run
 
 -- the box is empty when the source may offer
-offered_empty : {Piece : List Bool → Packet → Type 0} (v : View) (t : Packet → Type 0) → CanOffer v → Ok Piece v t → v.box ≡ Box.Empty
+offered_empty : {Piece : List Bool → Packet → Type 0} (v : View) (t : Packet → Type 0) → CanOffer v → Invariant Piece v t → v.box ≡ Box.Empty
 offered_empty v t can h = elim (h.settled can.source can.idle) [
   | inl idle ↦ idle.empty
   | inr one ↦ (let answers : v.answers ≡ [] = can.answered in let only : v.answers ≡ one.kind ∷ [] = one.one in absurd (cc))
 ]
 
 -- the box holds what is taken
-taken_holds : {Piece : List Bool → Packet → Type 0} (v : View) (t : Packet → Type 0) (oldest : Queued) (others : List Queued) → CanTakeMessage v oldest others → Ok Piece v t → Holds v.box oldest.text
+taken_holds : {Piece : List Bool → Packet → Type 0} (v : View) (t : Packet → Type 0) (oldest : Queued) (others : List Queued) → CanTakeMessage v oldest others → Invariant Piece v t → Holds v.box oldest.text
 taken_holds v t oldest others can h =
     let held : Held v.from_up v.outstanding v.queue v.box = held_there v t oldest others can h in
     let waits : v.queue ≡ oldest ∷ others = can.waits in
@@ -70,7 +70,7 @@ taken_holds v t oldest others can h =
     subst (λ (b : Box). Holds b oldest.text) (sym held.waits) (ap (λ (q : Queued). q.text) same)
 
 -- what a move shows is what the mailbox allows
-pub shows_run : {Piece : List Bool → Packet → Type 0} (m : Move) (v : View) (t : Packet → Type 0) → Needs Piece m v t → Ok Piece v t → (start : Mail) (seen : List Passing)
+pub shows_run : {Piece : List Bool → Packet → Type 0} (m : Move) (v : View) (t : Packet → Type 0) → Needs Piece m v t → Invariant Piece v t → (start : Mail) (seen : List Passing)
     → mail_of start seen ≡ mail_now v → IsFlowRun start seen → IsFlowRun start (shows m v ++ seen)
 shows_run Move.Quiet v t needs h start seen at run = run
 shows_run (Move.DeadNow place text) v t needs h start seen at run = one_seen (Passing.Put place text) start (mail_now v) seen at (needs.source, offered_empty v t needs h) run
@@ -125,13 +125,13 @@ shows_mail Move.Forget v start seen at = at
 
 pub sound_less : {Piece : List Bool → Packet → Type 0} (start : Mail) (seen : List Passing) (v : View) (t s : Packet → Type 0) → ((x : Packet) → s x → t x)
     → Sound Piece start seen v t → Sound Piece start seen v s
-sound_less start seen v t s less h = record { ok = ok_less v t s less h.ok; run = h.run; mail = h.mail }
+sound_less start seen v t s less h = record { clauses = invariant_less v t s less h.clauses; run = h.run; mail = h.mail }
 
 pub sound_after : {Piece : List Bool → Packet → Type 0} (m : Move) (start : Mail) (seen : List Passing) (v : View) (t : Packet → Type 0) → Needs Piece m v t
     → Sound Piece start seen v t → Sound Piece start (shows m v ++ seen) (after m v) (Either t (Makes Piece m v))
 sound_after m start seen v t needs h = record {
-  ok = ok_after m v t needs h.ok;
-  run = shows_run m v t needs h.ok start seen h.mail h.run;
+  clauses = invariant_after m v t needs h.clauses;
+  run = shows_run m v t needs h.clauses start seen h.mail h.run;
   mail = shows_mail m v start seen h.mail;
 }
 

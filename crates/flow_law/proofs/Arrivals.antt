@@ -6,11 +6,11 @@ use Rattle.leader1822.specs.declared.crossing.Answer.TheVariants as answer
 use Rattle.leader1822.specs.Mailboxes.{Box, Fits, fetched}
 use Rattle.flow_law.specs.View.{View, Packet, Queued, Kind}
 use Rattle.flow_law.specs.Moves.{Move, New, CanNote, CanQueue, CanFree, CanTakeMessage, CanGiveUp, Brings, IsTold, Either, with_answer, queued, after}
-use Rattle.flow_law.specs.Invariant.{Ok, Begun, Carried, Held, Gone, Busy}
+use Rattle.flow_law.specs.Invariant.{Invariant, Begun, Carried, Held, Gone, Busy}
 use Rattle.flow_law.proofs.Clauses.{idle_new, idle_queue, dead_fits, shut_new, shut_queue, noted, begun_itself, new_too, one_there}
 
-pub note_gone : {Piece : List Bool → Packet → Type 0} (v : View) (t : Packet → Type 0) (x : Packet) → CanNote v t x → Ok Piece v t
-    → Ok Piece (after (Move.NoteGone x) v) (Either t (IsTold Kind.Dead x.number))
+pub note_gone : {Piece : List Bool → Packet → Type 0} (v : View) (t : Packet → Type 0) (x : Packet) → CanNote v t x → Invariant Piece v t
+    → Invariant Piece (after (Move.NoteGone x) v) (Either t (IsTold Kind.Dead x.number))
 note_gone {Piece} v t x can h =
     let c : Carried Piece v.box v.queue x = h.carried x can.there can.new in
     let old : (y : Packet) → Either t (IsTold Kind.Dead x.number) y → New v.to_up (Some x.number) y → ⊥ = λ y there new. elim there [
@@ -41,7 +41,7 @@ note_gone {Piece} v t x can h =
     }
 
 -- the text that was joined is the one in the box
-pub same_text : {Piece : List Bool → Packet → Type 0} (v : View) (t : Packet → Type 0) (x : Packet) (text : List Bool) → CanQueue Piece v t x text → Ok Piece v t
+pub same_text : {Piece : List Bool → Packet → Type 0} (v : View) (t : Packet → Type 0) (x : Packet) (text : List Bool) → CanQueue Piece v t x text → Invariant Piece v t
     → (c : Carried Piece v.box v.queue x) → text ≡ c.text
 same_text {Piece} v t x text can h c = can.joined c.text (λ y ty kind number.
     let d : Carried Piece v.box v.queue y = h.carried y ty (new_too v.to_up v.kept x y can.note.new kind number) in
@@ -49,8 +49,8 @@ same_text {Piece} v t x text can h c = can.joined c.text (λ y ty kind number.
     let same : d.text ≡ c.text = (let one : v.box ≡ Box.Waiting c.place c.text = c.waits in let two : v.box ≡ Box.Waiting d.place d.text = d.waits in cc) in
     subst P same d.piece)
 
-pub whole : {Piece : List Bool → Packet → Type 0} (v : View) (t : Packet → Type 0) (x : Packet) (text : List Bool) → CanQueue Piece v t x text → Ok Piece v t
-    → Ok Piece (after (Move.Whole x text) v) t
+pub whole : {Piece : List Bool → Packet → Type 0} (v : View) (t : Packet → Type 0) (x : Packet) (text : List Bool) → CanQueue Piece v t x text → Invariant Piece v t
+    → Invariant Piece (after (Move.Whole x text) v) t
 whole {Piece} v t x text can h =
     let c : Carried Piece v.box v.queue x = h.carried x can.note.there can.note.new in
     let old : (y : Packet) → t y → New v.to_up (Some x.number) y → ⊥ = noted v t h x can.note.there can.note.new in
@@ -94,8 +94,8 @@ told_down : (source : Bool) (kind : Answer) (answers : List Answer) → source �
 told_down true kind answers down none = absurd (cc)
 told_down false kind answers down none = none
 
-pub ended : {Piece : List Bool → Packet → Type 0} (v : View) (t : Packet → Type 0) (kind : Answer) (number : ℕ) → v.outstanding ≡ Some number → Ends v t kind → Ok Piece v t
-    → Ok Piece (record v { outstanding = None; answers = with_answer v.source kind v.answers }) t
+pub ended : {Piece : List Bool → Packet → Type 0} (v : View) (t : Packet → Type 0) (kind : Answer) (number : ℕ) → v.outstanding ≡ Some number → Ends v t kind → Invariant Piece v t
+    → Invariant Piece (record v { outstanding = None; answers = with_answer v.source kind v.answers }) t
 ended v t kind number awaited e h =
     let b : Busy v.answers v.box = h.busy number awaited in
     record {
@@ -116,7 +116,7 @@ ended v t kind number awaited e h =
     }
 
 brought : {Piece : List Bool → Packet → Type 0} (v : View) (t : Packet → Type 0) (x : Packet) (told : Kind) (kind : Answer) → x.kind ≡ told → Brings told kind → t x
-    → v.outstanding ≡ Some x.number → Ok Piece v t → Ends v t kind
+    → v.outstanding ≡ Some x.number → Invariant Piece v t → Ends v t kind
 brought v t x Kind.Rfnm answer.Rfnm is brings tx awaited h =
     let fits : Fits answer.Rfnm v.box = h.taken x tx is awaited in
     record { fits = fits; unread = shut_queue v t h fits; none = shut_new v t h fits }
@@ -131,12 +131,12 @@ brought v t x Kind.Rfnm answer.Incomplete is brings tx awaited h = absurd brings
 brought v t x Kind.Dead answer.Rfnm is brings tx awaited h = absurd brings
 brought v t x Kind.Dead answer.Incomplete is brings tx awaited h = absurd brings
 
-pub freed : {Piece : List Bool → Packet → Type 0} (v : View) (t : Packet → Type 0) (x : Packet) (kind : Answer) → CanFree v t x kind → Ok Piece v t
-    → Ok Piece (after (Move.Freed x kind) v) t
+pub freed : {Piece : List Bool → Packet → Type 0} (v : View) (t : Packet → Type 0) (x : Packet) (kind : Answer) → CanFree v t x kind → Invariant Piece v t
+    → Invariant Piece (after (Move.Freed x kind) v) t
 freed v t x kind can h = ended v t kind x.number can.awaited (brought v t x x.kind kind refl can.brings can.there can.awaited h) h
 
-pub given_up : {Piece : List Bool → Packet → Type 0} (v : View) (t : Packet → Type 0) (number : ℕ) → CanGiveUp v t number → Ok Piece v t
-    → Ok Piece (after (Move.GiveUp number) v) t
+pub given_up : {Piece : List Bool → Packet → Type 0} (v : View) (t : Packet → Type 0) (number : ℕ) → CanGiveUp v t number → Invariant Piece v t
+    → Invariant Piece (after (Move.GiveUp number) v) t
 given_up v t number can h =
     let awaited : v.outstanding ≡ Some number = can.awaited in
     let up : v.from_up ≡ true = h.sender number awaited in
@@ -154,8 +154,8 @@ given_up v t number can h =
 
 -- ---- hosts take what waits for them
 
-pub take_message : {Piece : List Bool → Packet → Type 0} (v : View) (t : Packet → Type 0) (oldest : Queued) (others : List Queued) → CanTakeMessage v oldest others → Ok Piece v t
-    → Held v.from_up v.outstanding v.queue v.box → Ok Piece (after (Move.TakeMessage oldest others) v) (Either t (IsTold Kind.Rfnm oldest.number))
+pub take_message : {Piece : List Bool → Packet → Type 0} (v : View) (t : Packet → Type 0) (oldest : Queued) (others : List Queued) → CanTakeMessage v oldest others → Invariant Piece v t
+    → Held v.from_up v.outstanding v.queue v.box → Invariant Piece (after (Move.TakeMessage oldest others) v) (Either t (IsTold Kind.Rfnm oldest.number))
 take_message {Piece} v t oldest others can h held =
     let waits : v.queue ≡ oldest ∷ others = can.waits in
     let one : v.queue ≡ queued held.number held.text ∷ [] = held.one in
@@ -192,7 +192,7 @@ take_message {Piece} v t oldest others can h held =
     }
 
 -- what is taken is what waits in the box
-pub held_there : {Piece : List Bool → Packet → Type 0} (v : View) (t : Packet → Type 0) (oldest : Queued) (others : List Queued) → CanTakeMessage v oldest others → Ok Piece v t
+pub held_there : {Piece : List Bool → Packet → Type 0} (v : View) (t : Packet → Type 0) (oldest : Queued) (others : List Queued) → CanTakeMessage v oldest others → Invariant Piece v t
     → Held v.from_up v.outstanding v.queue v.box
 held_there v t oldest others can h = elim h.waiting [
   | inl unread ↦ (let waits : v.queue ≡ oldest ∷ others = can.waits in absurd (cc))
@@ -207,18 +207,18 @@ pub record Told (v : View) (oldest : Answer) (others : List Answer) : Type 0 whe
   pub last : others ≡ []
 
 told_idle : {Piece : List Bool → Packet → Type 0} (v : View) (t : Packet → Type 0) (oldest : Answer) (others : List Answer) (awaited : Option ℕ) → v.outstanding ≡ awaited
-    → v.answers ≡ oldest ∷ others → Ok Piece v t → v.outstanding ≡ None
+    → v.answers ≡ oldest ∷ others → Invariant Piece v t → v.outstanding ≡ None
 told_idle v t oldest others None is waits h = is
 told_idle v t oldest others (Some number) is waits h = let b : Busy v.answers v.box = h.busy number is in let none : v.answers ≡ [] = b.none in absurd (cc)
 
 -- no answer waits for a host that is down
-told_source : {Piece : List Bool → Packet → Type 0} (v : View) (t : Packet → Type 0) (oldest : Answer) (others : List Answer) → v.answers ≡ oldest ∷ others → Ok Piece v t → v.source ≡ true
+told_source : {Piece : List Bool → Packet → Type 0} (v : View) (t : Packet → Type 0) (oldest : Answer) (others : List Answer) → v.answers ≡ oldest ∷ others → Invariant Piece v t → v.source ≡ true
 told_source v t oldest others waits h = elim (cases_Bool v.source) [
   | inl up ↦ up
   | inr down ↦ (let none : v.answers ≡ [] = h.away down in absurd (cc))
 ]
 
-pub told : {Piece : List Bool → Packet → Type 0} (v : View) (t : Packet → Type 0) (oldest : Answer) (others : List Answer) → v.answers ≡ oldest ∷ others → Ok Piece v t → Told v oldest others
+pub told : {Piece : List Bool → Packet → Type 0} (v : View) (t : Packet → Type 0) (oldest : Answer) (others : List Answer) → v.answers ≡ oldest ∷ others → Invariant Piece v t → Told v oldest others
 told v t oldest others waits h =
     let source : v.source ≡ true = told_source v t oldest others waits h in
     let idle : v.outstanding ≡ None = told_idle v t oldest others v.outstanding refl waits h in
@@ -230,8 +230,8 @@ told v t oldest others waits h =
           record { source = source; idle = idle; fits = subst (λ (k : Answer). Fits k v.box) same one.fits; last = rest })
     ]
 
-pub take_answer : {Piece : List Bool → Packet → Type 0} (v : View) (t : Packet → Type 0) (oldest : Answer) (others : List Answer) → v.answers ≡ oldest ∷ others → Ok Piece v t
-    → Ok Piece (after (Move.TakeAnswer oldest others) v) t
+pub take_answer : {Piece : List Bool → Packet → Type 0} (v : View) (t : Packet → Type 0) (oldest : Answer) (others : List Answer) → v.answers ≡ oldest ∷ others → Invariant Piece v t
+    → Invariant Piece (after (Move.TakeAnswer oldest others) v) t
 take_answer v t oldest others can h =
     let w : Told v oldest others = told v t oldest others can h in
     let idle : v.outstanding ≡ None = w.idle in

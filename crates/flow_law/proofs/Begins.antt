@@ -5,10 +5,10 @@ use Rattle.link_table.specs.Numbers.{modulus, Near}
 use Rattle.link_table.proofs.NumberLemmas.{near_same}
 use Rattle.flow_law.specs.View.{View, Packet, Queued, Kind}
 use Rattle.flow_law.specs.Moves.{Move, New, CanOffer, CanBegin, IsPieceOf, Either, queued, next_number, after}
-use Rattle.flow_law.specs.Invariant.{Ok}
+use Rattle.flow_law.specs.Invariant.{Invariant}
 use Rattle.flow_law.proofs.Clauses.{idle_new, idle_queue, near_not_new, next_number_in, fresh, still_near}
 
-pub dead_now : {Piece : List Bool → Packet → Type 0} (v : View) (t : Packet → Type 0) (place : ℕ) (text : List Bool) → CanOffer v → Ok Piece v t → Ok Piece (after (Move.DeadNow place text) v) t
+pub dead_now : {Piece : List Bool → Packet → Type 0} (v : View) (t : Packet → Type 0) (place : ℕ) (text : List Bool) → CanOffer v → Invariant Piece v t → Invariant Piece (after (Move.DeadNow place text) v) t
 dead_now v t place text can h =
     let up : v.from_up ≡ true = h.home can.source in
     record {
@@ -28,8 +28,8 @@ dead_now v t place text can h =
       settled = λ source idle. inr (record { kind = answer.Dead; one = refl; fits = tt });
     }
 
-pub begin_sent : {Piece : List Bool → Packet → Type 0} (v : View) (t : Packet → Type 0) (place : ℕ) (text : List Bool) → CanBegin v t → Ok Piece v t
-    → Ok Piece (after (Move.Begin place text) v) (Either t (IsPieceOf Piece (next_number v.last) text))
+pub begin_sent : {Piece : List Bool → Packet → Type 0} (v : View) (t : Packet → Type 0) (place : ℕ) (text : List Bool) → CanBegin v t → Invariant Piece v t
+    → Invariant Piece (after (Move.Begin place text) v) (Either t (IsPieceOf Piece (next_number v.last) text))
 begin_sent {Piece} v t place text can h =
     let up : v.from_up ≡ true = h.home can.offer.source in
     let n : ℕ = next_number v.last in
@@ -67,8 +67,8 @@ begin_sent {Piece} v t place text can h =
       settled = λ source idle. absurd (cc);
     }
 
-pub begin_local : {Piece : List Bool → Packet → Type 0} (v : View) (t : Packet → Type 0) (place : ℕ) (text : List Bool) → CanBegin v t → Ok Piece v t
-    → Ok Piece (after (Move.BeginLocal place text) v) t
+pub begin_local : {Piece : List Bool → Packet → Type 0} (v : View) (t : Packet → Type 0) (place : ℕ) (text : List Bool) → CanBegin v t → Invariant Piece v t
+    → Invariant Piece (after (Move.BeginLocal place text) v) t
 begin_local {Piece} v t place text can h =
     let up : v.from_up ≡ true = h.home can.offer.source in
     let n : ℕ = next_number v.last in

@@ -3,17 +3,16 @@ use Rattle.std.proofs.Common.{◌≡◌, ◌≢◌, ℕ, ◌<◌, Bool, true, fa
 use Rattle.std.specs.List.{Contains}
 use Rattle.std.proofs.lemmas.Bool.{cases_Bool}
 use Rattle.std.proofs.lemmas.List.Elements.{Contains-push_cases}
-use Rattle.leader1822.specs.declared.crossing.Answer.{Answer}
 use Rattle.leader1822.specs.declared.crossing.Answer.TheVariants as answer
 use Rattle.leader1822.specs.Mailboxes.{Box, Fits}
 use Rattle.link_table.specs.Numbers.{modulus, next, is_new, Near}
 use Rattle.link_table.proofs.NumberLemmas.{next_in, near_same, near_old, near_next, not_next, two}
 use Rattle.flow_law.specs.View.{View, Packet, Queued, Kind}
 use Rattle.flow_law.specs.Moves.{New, CanBegin, queued, next_number}
-use Rattle.flow_law.specs.Invariant.{Ok, Begun, Carried, Gone}
+use Rattle.flow_law.specs.Invariant.{Invariant, Begun, Carried, Gone}
 
-pub ok_less : {Piece : List Bool → Packet → Type 0} (v : View) (t s : Packet → Type 0) → ((x : Packet) → s x → t x) → Ok Piece v t → Ok Piece v s
-ok_less v t s less h = record {
+pub invariant_less : {Piece : List Bool → Packet → Type 0} (v : View) (t s : Packet → Type 0) → ((x : Packet) → s x → t x) → Invariant Piece v t → Invariant Piece v s
+invariant_less v t s less h = record {
   range = h.range;
   begun = h.begun;
   sender = h.sender;
@@ -35,14 +34,14 @@ ok_less v t s less h = record {
 -- ---- nothing outstanding
 
 -- nothing is new while nothing is outstanding
-pub idle_new : {Piece : List Bool → Packet → Type 0} (v : View) (t : Packet → Type 0) → Ok Piece v t → v.from_up ≡ true → v.outstanding ≡ None
+pub idle_new : {Piece : List Bool → Packet → Type 0} (v : View) (t : Packet → Type 0) → Invariant Piece v t → v.from_up ≡ true → v.outstanding ≡ None
     → (x : Packet) → t x → New v.to_up v.kept x → ⊥
 idle_new v t h up idle x tx new =
     let awaited : v.outstanding ≡ Some x.number = h.expected up x tx new in
     absurd (cc)
 
 -- and nothing is queued
-pub idle_queue : {Piece : List Bool → Packet → Type 0} (v : View) (t : Packet → Type 0) → Ok Piece v t → v.from_up ≡ true → v.outstanding ≡ None → v.queue ≡ []
+pub idle_queue : {Piece : List Bool → Packet → Type 0} (v : View) (t : Packet → Type 0) → Invariant Piece v t → v.from_up ≡ true → v.outstanding ≡ None → v.queue ≡ []
 idle_queue v t h up idle = elim h.waiting [
   | inl unread ↦ unread
   | inr held ↦ (let awaited : v.outstanding ≡ Some held.number = held.awaited up in absurd (cc))
@@ -59,11 +58,11 @@ pub dead_fits : (box : Box) (place : ℕ) (text : List Bool) → box ≡ Box.Wai
 dead_fits box place text is = subst (λ (b : Box). Fits answer.Dead b) (sym is) tt
 
 -- nothing is new while the message was taken
-pub shut_new : {Piece : List Bool → Packet → Type 0} (v : View) (t : Packet → Type 0) → Ok Piece v t → Fits answer.Rfnm v.box → (x : Packet) → t x → New v.to_up v.kept x → ⊥
+pub shut_new : {Piece : List Bool → Packet → Type 0} (v : View) (t : Packet → Type 0) → Invariant Piece v t → Fits answer.Rfnm v.box → (x : Packet) → t x → New v.to_up v.kept x → ⊥
 shut_new v t h fits x tx new = let c : Carried _ v.box v.queue x = h.carried x tx new in taken_not_waiting v.box c.place c.text fits c.waits
 
 -- and nothing is queued
-pub shut_queue : {Piece : List Bool → Packet → Type 0} (v : View) (t : Packet → Type 0) → Ok Piece v t → Fits answer.Rfnm v.box → v.queue ≡ []
+pub shut_queue : {Piece : List Bool → Packet → Type 0} (v : View) (t : Packet → Type 0) → Invariant Piece v t → Fits answer.Rfnm v.box → v.queue ≡ []
 shut_queue v t h fits = elim h.waiting [
   | inl unread ↦ unread
   | inr held ↦ absurd (taken_not_waiting v.box held.place held.text fits held.waits)
@@ -79,7 +78,7 @@ near_not_new up kept number y same near new =
     absurd (cc)
 
 -- where new data was noted, nothing is new any more
-pub noted : {Piece : List Bool → Packet → Type 0} (v : View) (t : Packet → Type 0) → Ok Piece v t → (x : Packet) → t x → New v.to_up v.kept x
+pub noted : {Piece : List Bool → Packet → Type 0} (v : View) (t : Packet → Type 0) → Invariant Piece v t → (x : Packet) → t x → New v.to_up v.kept x
     → (y : Packet) → t y → New v.to_up (Some x.number) y → ⊥
 noted v t h x tx new y ty again = elim (cases_Bool v.from_up) [
   | inl up ↦ (let w : Begun v.last y.number = h.window up y ty in
@@ -95,7 +94,7 @@ next_number_in None = omega (arith, two)
 next_number_in (Some last) = next_in last
 
 -- no packet carries the number that comes next
-pub fresh : {Piece : List Bool → Packet → Type 0} (v : View) (t : Packet → Type 0) → Ok Piece v t → v.from_up ≡ true → (x : Packet) → t x → x.number ≢ next_number v.last
+pub fresh : {Piece : List Bool → Packet → Type 0} (v : View) (t : Packet → Type 0) → Invariant Piece v t → v.from_up ≡ true → (x : Packet) → t x → x.number ≢ next_number v.last
 fresh v t h up x tx same =
     let w : Begun v.last x.number = h.window up x tx in
     let at : x.number ≡ next w.begun = same ∙ ap next_number w.is in
@@ -103,7 +102,7 @@ fresh v t h up x tx same =
     not_next w.begun (subst N at w.near)
 
 -- where a number may be begun, whatever is alive stays within the window
-pub still_near : {Piece : List Bool → Packet → Type 0} (v : View) (t : Packet → Type 0) → Ok Piece v t → v.from_up ≡ true → CanBegin v t
+pub still_near : {Piece : List Bool → Packet → Type 0} (v : View) (t : Packet → Type 0) → Invariant Piece v t → v.from_up ≡ true → CanBegin v t
     → (x : Packet) → t x → Near (next_number v.last) x.number
 still_near v t h up can x tx =
     let w : Begun v.last x.number = h.window up x tx in
@@ -112,7 +111,7 @@ still_near v t h up can x tx =
     subst N (sym at) (near_next w.begun x.number w.near (can.free w.begun w.is x tx))
 
 -- the outstanding number lies in its own window
-pub begun_itself : {Piece : List Bool → Packet → Type 0} (v : View) (t : Packet → Type 0) → Ok Piece v t → (number other : ℕ) → v.outstanding ≡ Some number → other ≡ number
+pub begun_itself : {Piece : List Bool → Packet → Type 0} (v : View) (t : Packet → Type 0) → Invariant Piece v t → (number other : ℕ) → v.outstanding ≡ Some number → other ≡ number
     → Begun v.last other
 begun_itself v t h number other awaited same =
     let last : v.last ≡ Some number = h.begun number awaited in

@@ -7,12 +7,12 @@ use Rattle.leader1822.specs.Host.{Host, same_host}
 use Rattle.leader1822.specs.Mailboxes.{Passing, passings, first_if}
 use Rattle.flow_law.specs.View.{View, Packet, Queued}
 use Rattle.flow_law.specs.Moves.{CanTakeMessage, queued}
-use Rattle.flow_law.specs.Invariant.{Ok}
+use Rattle.flow_law.specs.Invariant.{Invariant}
 use Rattle.flow_law.specs.Follows.{Follows}
 use Rattle.flow_law.specs.Local.{taken_here, view_taken_here, stopped_here, view_stopped_here, stopped_itself_queued, view_stopped_itself}
 
 -- a queued message is the outstanding one
-pub queued_awaited : {Piece : List Bool → Packet → Type 0} (v : View) (t : Packet → Type 0) (oldest : Queued) (others : List Queued) → Ok Piece v t → v.from_up ≡ true → v.queue ≡ oldest ∷ others
+pub queued_awaited : {Piece : List Bool → Packet → Type 0} (v : View) (t : Packet → Type 0) (oldest : Queued) (others : List Queued) → Invariant Piece v t → v.from_up ≡ true → v.queue ≡ oldest ∷ others
     → v.outstanding ≡ Some oldest.number
 queued_awaited v t oldest others h up waits = elim h.waiting [
   | inl none ↦ absurd (cc)

@@ -3,15 +3,15 @@ use Rattle.std.proofs.Common.{◌≡◌, Bool, List, [], ◌∷◌, None, inl, r
 use Rattle.std.specs.List.{Contains}
 use Rattle.flow_law.specs.View.{View, Packet, mail_now}
 use Rattle.flow_law.specs.Moves.{Makes, Either}
-use Rattle.flow_law.specs.Invariant.{Ok}
+use Rattle.flow_law.specs.Invariant.{Invariant}
 use Rattle.flow_law.specs.Follows.{Sound}
 use Rattle.flow_law.specs.Runs.{Turn, IsOpening, IsHistory, left_by, view_after, seen_in}
 use Rattle.flow_law.proofs.Clauses.{none_there}
 use Rattle.flow_law.proofs.AllMoves.{sound_less, sound_after}
 
 -- at the opening the clauses hold, where nothing is alive
-pub opening_ok : {Piece : List Bool → Packet → Type 0} (v : View) (t : Packet → Type 0) → IsOpening v → ((x : Packet) → t x → ⊥) → Ok Piece v t
-opening_ok v t o nothing =
+pub opening_invariant : {Piece : List Bool → Packet → Type 0} (v : View) (t : Packet → Type 0) → IsOpening v → ((x : Packet) → t x → ⊥) → Invariant Piece v t
+opening_invariant v t o nothing =
     let last : v.last ≡ None = o.last in
     let idle : v.outstanding ≡ None = o.outstanding in
     record {
@@ -32,7 +32,7 @@ opening_ok v t o nothing =
     }
 
 pub opening_sound : {Piece : List Bool → Packet → Type 0} (v : View) (t : Packet → Type 0) → IsOpening v → ((x : Packet) → t x → ⊥) → Sound Piece (mail_now v) [] v t
-opening_sound v t o nothing = record { ok = opening_ok v t o nothing; run = tt; mail = refl }
+opening_sound v t o nothing = record { clauses = opening_invariant v t o nothing; run = tt; mail = refl }
 
 pub history_sound : {Piece : List Bool → Packet → Type 0} (v : View) (turns : List Turn) → IsOpening v → IsHistory Piece v turns
     → Sound Piece (mail_now v) (seen_in turns v) (view_after turns v) (Contains (left_by turns))

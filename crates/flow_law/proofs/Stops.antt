@@ -4,10 +4,10 @@ use Rattle.std.proofs.lemmas.Bool.{cases_Bool}
 use Rattle.link_table.specs.Numbers.{Near}
 use Rattle.flow_law.specs.View.{View, Packet, Kind}
 use Rattle.flow_law.specs.Moves.{Move, New, CanStartSource, CanStartFrom, NoData, IsDeadOf, Either, queued, after}
-use Rattle.flow_law.specs.Invariant.{Ok, Begun, Carried, Held, Gone}
-use Rattle.flow_law.proofs.Clauses.{ok_less, idle_new, idle_queue, dead_fits, begun_itself, number_of, none_in}
+use Rattle.flow_law.specs.Invariant.{Invariant, Begun, Carried, Held, Gone}
+use Rattle.flow_law.proofs.Clauses.{invariant_less, idle_new, idle_queue, dead_fits, begun_itself, number_of, none_in}
 
-pub stop_source : {Piece : List Bool → Packet → Type 0} (v : View) (t : Packet → Type 0) → Ok Piece v t → Ok Piece (after Move.StopSource v) t
+pub stop_source : {Piece : List Bool → Packet → Type 0} (v : View) (t : Packet → Type 0) → Invariant Piece v t → Invariant Piece (after Move.StopSource v) t
 stop_source v t h = record {
   range = h.range;
   begun = h.begun;
@@ -25,7 +25,7 @@ stop_source v t h = record {
   settled = λ up idle. absurd (cc);
 }
 
-pub start_source : {Piece : List Bool → Packet → Type 0} (v : View) (t : Packet → Type 0) → CanStartSource v → Ok Piece v t → Ok Piece (after Move.StartSource v) t
+pub start_source : {Piece : List Bool → Packet → Type 0} (v : View) (t : Packet → Type 0) → CanStartSource v → Invariant Piece v t → Invariant Piece (after Move.StartSource v) t
 start_source v t can h =
     let idle : v.outstanding ≡ None = can.idle in
     record {
@@ -46,8 +46,8 @@ start_source v t can h =
     }
 
 -- the destination goes down while no message is queued
-stop_unread : {Piece : List Bool → Packet → Type 0} (v : View) (t : Packet → Type 0) → v.queue ≡ [] → Ok Piece v t
-    → Ok Piece (after Move.StopDestination v) t
+stop_unread : {Piece : List Bool → Packet → Type 0} (v : View) (t : Packet → Type 0) → v.queue ≡ [] → Invariant Piece v t
+    → Invariant Piece (after Move.StopDestination v) t
 stop_unread {Piece} v t none h = record {
   range = h.range;
   begun = h.begun;
@@ -68,8 +68,8 @@ stop_unread {Piece} v t none h = record {
 }
 
 -- the destination goes down while a message is queued
-stop_held : {Piece : List Bool → Packet → Type 0} (v : View) (t : Packet → Type 0) → Held v.from_up v.outstanding v.queue v.box → Ok Piece v t
-    → Ok Piece (after Move.StopDestination v) (Either t (IsDeadOf v.queue))
+stop_held : {Piece : List Bool → Packet → Type 0} (v : View) (t : Packet → Type 0) → Held v.from_up v.outstanding v.queue v.box → Invariant Piece v t
+    → Invariant Piece (after Move.StopDestination v) (Either t (IsDeadOf v.queue))
 stop_held {Piece} v t held h =
     let one : v.queue ≡ queued held.number held.text ∷ [] = held.one in
     let old : (y : Packet) → Either t (IsDeadOf v.queue) y → New v.to_up v.kept y → ⊥ = λ y there new. elim there [
@@ -99,17 +99,17 @@ stop_held {Piece} v t held h =
       settled = h.settled;
     }
 
-pub stop_destination : {Piece : List Bool → Packet → Type 0} (v : View) (t : Packet → Type 0) → Ok Piece v t
-    → Ok Piece (after Move.StopDestination v) (Either t (IsDeadOf v.queue))
+pub stop_destination : {Piece : List Bool → Packet → Type 0} (v : View) (t : Packet → Type 0) → Invariant Piece v t
+    → Invariant Piece (after Move.StopDestination v) (Either t (IsDeadOf v.queue))
 stop_destination {Piece} v t h = elim h.waiting [
-  | inl none ↦ ok_less (after Move.StopDestination v) t (Either t (IsDeadOf v.queue)) (λ y there. elim there [
+  | inl none ↦ invariant_less (after Move.StopDestination v) t (Either t (IsDeadOf v.queue)) (λ y there. elim there [
     | inl ty ↦ ty
     | inr made ↦ absurd (none_in v.queue made.message none made.waited)
   ]) (stop_unread v t none h)
   | inr held ↦ stop_held v t held h
 ]
 
-pub start_destination : {Piece : List Bool → Packet → Type 0} (v : View) (t : Packet → Type 0) → Ok Piece v t → Ok Piece (after Move.StartDestination v) t
+pub start_destination : {Piece : List Bool → Packet → Type 0} (v : View) (t : Packet → Type 0) → Invariant Piece v t → Invariant Piece (after Move.StartDestination v) t
 start_destination v t h = record {
   range = h.range;
   begun = h.begun;
@@ -130,7 +130,7 @@ start_destination v t h = record {
 -- ---- IMPs
 
 -- new data, where the numbers of the source's IMP are lost
-lost : {Piece : List Bool → Packet → Type 0} (v : View) (t : Packet → Type 0) → Ok Piece v t → (x y : Packet) → t x → New v.to_up v.kept x → t y → y.kind ≡ Kind.Data
+lost : {Piece : List Bool → Packet → Type 0} (v : View) (t : Packet → Type 0) → Invariant Piece v t → (x y : Packet) → t x → New v.to_up v.kept x → t y → y.kind ≡ Kind.Data
     → Near x.number y.number
 lost v t h x y tx new ty kind = elim (cases_Bool v.from_up) [
   | inl up ↦ (let w : Begun v.last y.number = h.window up y ty in
@@ -142,7 +142,7 @@ lost v t h x y tx new ty kind = elim (cases_Bool v.from_up) [
   | inr down ↦ h.orphaned down x y tx new ty kind
 ]
 
-pub stop_from : {Piece : List Bool → Packet → Type 0} (v : View) (t : Packet → Type 0) → Ok Piece v t → Ok Piece (after Move.StopFrom v) t
+pub stop_from : {Piece : List Bool → Packet → Type 0} (v : View) (t : Packet → Type 0) → Invariant Piece v t → Invariant Piece (after Move.StopFrom v) t
 stop_from v t h = record {
   range = λ last none. absurd (cc);
   begun = λ n none. absurd (cc);
@@ -163,7 +163,7 @@ stop_from v t h = record {
   settled = λ up idle. absurd (cc);
 }
 
-pub start_from : {Piece : List Bool → Packet → Type 0} (v : View) (t : Packet → Type 0) → CanStartFrom v t → Ok Piece v t → Ok Piece (after Move.StartFrom v) t
+pub start_from : {Piece : List Bool → Packet → Type 0} (v : View) (t : Packet → Type 0) → CanStartFrom v t → Invariant Piece v t → Invariant Piece (after Move.StartFrom v) t
 start_from v t can h = record {
   range = h.range;
   begun = h.begun;
@@ -181,7 +181,7 @@ start_from v t can h = record {
   settled = h.settled;
 }
 
-pub stop_to : {Piece : List Bool → Packet → Type 0} (v : View) (t : Packet → Type 0) → Ok Piece v t → Ok Piece (after Move.StopTo v) t
+pub stop_to : {Piece : List Bool → Packet → Type 0} (v : View) (t : Packet → Type 0) → Invariant Piece v t → Invariant Piece (after Move.StopTo v) t
 stop_to v t h =
     let old : (x : Packet) → New false None x → ⊥ = λ x new. (let up : false ≡ true = new.up in absurd (cc)) in
     record {
@@ -203,8 +203,8 @@ stop_to v t h =
     }
 
 -- with no data alive the destination's IMP may come up, and may keep any number or none
-pub without_data : {Piece : List Bool → Packet → Type 0} (v : View) (t : Packet → Type 0) (to_up : Bool) (kept : Option ℕ) → NoData t → Ok Piece v t
-    → Ok Piece (record v { to_up = to_up; kept = kept }) t
+pub without_data : {Piece : List Bool → Packet → Type 0} (v : View) (t : Packet → Type 0) (to_up : Bool) (kept : Option ℕ) → NoData t → Invariant Piece v t
+    → Invariant Piece (record v { to_up = to_up; kept = kept }) t
 without_data v t to_up kept none h =
     let old : (x : Packet) → t x → New to_up kept x → ⊥ = λ x tx new. none x tx new.data_packet in
     record {

@@ -6,7 +6,7 @@ use Rattle.leader1822.specs.Host.{Host}
 use Rattle.leader1822.specs.Mailboxes.{Mail, Passing, passings, passed, opening_mail, mail_of, same_flow, IsFlowRun, UpsAreHosts}
 use Rattle.flow_law.specs.View.{View, Packet, mail_now}
 use Rattle.flow_law.specs.Moves.{Move, NeedsAll, Grown, after_all, shown_by}
-use Rattle.flow_law.specs.Invariant.{Ok}
+use Rattle.flow_law.specs.Invariant.{Invariant}
 use Rattle.flow_law.specs.Runs.{IsOpening}
 
 -- a flow makes these moves: each finds what it needs, together they give the new view, and nothing is alive but what
@@ -18,7 +18,7 @@ pub record Follows (Piece : List Bool → Packet → Type 0) (moves : List Move)
 
 -- what was seen of a flow is a run of its mailbox and led to what stands now, and the invariant holds
 pub record Sound (Piece : List Bool → Packet → Type 0) (start : Mail) (seen : List Passing) (v : View) (alive : Packet → Type 0) : Type 0 where
-  pub ok : Ok Piece v alive
+  pub clauses : Invariant Piece v alive
   pub run : IsFlowRun start seen
   pub mail : mail_of start seen ≡ mail_now v
 

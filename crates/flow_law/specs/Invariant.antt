@@ -55,7 +55,7 @@ pub record Answered (answers : List Answer) (box : Box) : Type 0 where
   pub one : answers ≡ kind ∷ []
   pub fits : Fits kind box
 
-pub record Ok (Piece : List Bool → Packet → Type 0) (v : View) (alive : Packet → Type 0) : Type 0 where
+pub record Invariant (Piece : List Bool → Packet → Type 0) (v : View) (alive : Packet → Type 0) : Type 0 where
   -- Numbers are below the modulus: the window is about such numbers only.
   pub range : (last : ℕ) → v.last ≡ Some last → last < modulus
   -- The outstanding number is the one begun last: so a packet of it lies within the window, and the next number is another.
@@ -73,8 +73,8 @@ pub record Ok (Piece : List Bool → Packet → Type 0) (v : View) (alive : Pack
   pub expected : v.from_up ≡ true → (x : Packet) → alive x → New v.to_up v.kept x → v.outstanding ≡ Some x.number
   -- New data carries a piece of the text in the box: so what is joined of it is that text.
   pub carried : (x : Packet) → alive x → New v.to_up v.kept x → Carried Piece v.box v.queue x
-  -- The source's IMP is down and its numbers are gone. Then no data lies ahead of new data: so to note new data still makes
-  -- all data old.
+  -- The source's IMP is down and its numbers are gone. Then all data lies at most a window behind new data: so to note new
+  -- data still makes all data old.
   pub orphaned : v.from_up ≡ false → (x y : Packet) → alive x → New v.to_up v.kept x → alive y → y.kind ≡ Kind.Data → Near x.number y.number
   -- At most one message is queued, and it is the one in the box: so what the destination takes is what was put in.
   pub waiting : (v.queue ≡ []) ⊎ Held v.from_up v.outstanding v.queue v.box

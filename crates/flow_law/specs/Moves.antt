@@ -98,7 +98,7 @@ pub record CanNote (v : View) (alive : Packet → Type 0) (x : Packet) : Type 0 
   pub there : alive x
   pub new : New v.to_up v.kept x
 
--- the text is the only one of which all data with the packet's number are pieces
+-- every text of which all data with the packet's number are pieces is this text
 abbrev pub Joined : (List Bool → Packet → Type 0) → (Packet → Type 0) → Packet → List Bool → Type 0
 Joined Piece alive x text = (whole : List Bool) → ((y : Packet) → alive y → y.kind ≡ Kind.Data → y.number ≡ x.number → Piece whole y) → text ≡ whole
 

@@ -10,7 +10,7 @@ ghost use Rattle.leader1822.specs.declared.crossing.Crossing.{Crossing};
 ghost use Rattle.leader1822.specs.declared.crossing.Crossing.TheVariants as crossing;
 ghost use Rattle.flow_law.specs.View.{View, Packet, Queued, mail_now};
 ghost use Rattle.flow_law.specs.Moves.{Move, Needs, CanTakeMessage, after, shown_by};
-ghost use Rattle.flow_law.specs.Invariant.{Ok};
+ghost use Rattle.flow_law.specs.Invariant.{Invariant};
 ghost use Rattle.flow_law.specs.Runs.{Turn, IsOpening, IsTurn, IsHistory, ByTest, left_by, view_after, seen_in};
 ghost use Rattle.flow_law.specs.Follows.{Follows, AllFollow, OneFollows, AllOpen, AllSound, passed_over};
 ghost use Rattle.flow_law.specs.Local.{taken_here, view_taken_here, stopped_here, view_stopped_here, stopped_itself, stopped_itself_queued, view_stopped_itself, started_itself, stopped_host, started_host};
@@ -37,14 +37,14 @@ pub fn mailbox()
     ensures clauses { (test : List Bool → Packet → Bool) (start : View) (turns : List Turn)
         → IsOpening start
         → IsHistory (ByTest test) start turns
-        → Ok (ByTest test) (view_after turns start) (Contains (left_by turns)) }
+        → Invariant (ByTest test) (view_after turns start) (Contains (left_by turns)) }
 
     // they hold at the start, and each turn keeps them
-    ensures opening { (test : List Bool → Packet → Bool) (start : View) → IsOpening start → Ok (ByTest test) start (Contains []) }
+    ensures opening { (test : List Bool → Packet → Bool) (start : View) → IsOpening start → Invariant (ByTest test) start (Contains []) }
     ensures kept { (test : List Bool → Packet → Bool) (v : View) (alive : List Packet) (turn : Turn)
-        → Ok (ByTest test) v (Contains alive)
+        → Invariant (ByTest test) v (Contains alive)
         → IsTurn (Needs (ByTest test)) (ByTest test) v alive turn
-        → Ok (ByTest test) (after turn.move v) (Contains turn.left) }
+        → Invariant (ByTest test) (after turn.move v) (Contains turn.left) }
 {}
 
 /// What a network shows and gets: where each flow makes a list of moves at each step, and these show what
@@ -84,7 +84,7 @@ pub fn interface()
 pub fn one_imp()
     // a queued message is the outstanding one
     ensures awaited { (test : List Bool → Packet → Bool) (v : View) (alive : List Packet) (oldest : Queued) (others : List Queued)
-        → Ok (ByTest test) v (Contains alive)
+        → Invariant (ByTest test) v (Contains alive)
         → v.from_up ≡ true
         → v.queue ≡ oldest ∷ others
         → v.outstanding ≡ Some oldest.number }
