@@ -1,0 +1,31 @@
+-- The worked history is one.
+use Rattle.std.proofs.Common.{◌≡◌, true, [], ◌∷◌, None, inl, refl}
+use Rattle.link_table.specs.Numbers.{is_new}
+use Rattle.flow_law.specs.View.{Packet, Kind}
+use Rattle.flow_law.specs.Moves.{New}
+use Rattle.flow_law.specs.Runs.{IsHistory}
+use Rattle.flow_law.specs.Example.{at_first, worked, data_packet, rfnm, InOnePacket}
+use Rattle.flow_law.proofs.Left.{first_there, second_there, left_old, left_made, left_both}
+
+-- where nothing was noted all data is new
+pub new_at_first : (x : Packet) → x.kind ≡ Kind.Data → New true None x
+unfolding is_new
+new_at_first x kind = record { up = refl; data_packet = kind; new = refl }
+
+pub worked_history : IsHistory InOnePacket at_first worked
+worked_history = (
+  record { needs = refl; left = λ x there. inl there },
+  (
+    record { needs = record { there = first_there rfnm (data_packet ∷ []); brings = tt; awaited = refl }; left = left_old _ _ data_packet (second_there rfnm data_packet []) },
+    (
+      record { needs = record { destination = refl; waits = refl }; left = left_both _ _ rfnm data_packet (record { kind = refl; number = refl }) (first_there data_packet []) },
+      (
+        record { needs = record { note = record { there = first_there data_packet []; new = new_at_first data_packet refl }; joined = λ whole all. all data_packet (first_there data_packet []) refl refl }; left = λ x there. inl there },
+        (
+          record { needs = record { offer = record { source = refl; idle = refl; answered = refl }; free = λ last is. absurd (cc) }; left = left_made _ _ data_packet (record { data_packet = refl; number = refl; piece = refl }) },
+          tt,
+        ),
+      ),
+    ),
+  ),
+)

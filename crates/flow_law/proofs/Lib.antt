@@ -1,0 +1,13 @@
+pub mod Clauses
+pub mod Begins
+pub mod Arrivals
+pub mod Stops
+pub mod AllMoves
+pub mod RunLemmas
+pub mod FollowLemmas
+pub mod LocalLemmas
+pub mod Left
+pub mod ExampleLemmas
+pub mod MachineLemmas
+pub mod RoundLemmas
+pub mod StepLemmas

@@ -1,0 +1,43 @@
+-- A history of one flow from its opening.
+use Rattle.std.proofs.Common.{◌≡◌, Bool, List, [], ◌∷◌, None, inl, refl}
+use Rattle.std.specs.List.{Contains}
+use Rattle.flow_law.specs.View.{View, Packet, mail_now}
+use Rattle.flow_law.specs.Moves.{Makes, Either}
+use Rattle.flow_law.specs.Invariant.{Invariant}
+use Rattle.flow_law.specs.Follows.{Sound}
+use Rattle.flow_law.specs.Runs.{Turn, IsOpening, IsHistory, left_by, view_after, seen_in}
+use Rattle.flow_law.proofs.Clauses.{none_there}
+use Rattle.flow_law.proofs.AllMoves.{sound_less, sound_after}
+
+-- at the opening the clauses hold, where nothing is alive
+pub opening_invariant : {Piece : List Bool → Packet → Type 0} (v : View) (t : Packet → Type 0) → IsOpening v → ((x : Packet) → t x → ⊥) → Invariant Piece v t
+opening_invariant v t o nothing =
+    let last : v.last ≡ None = o.last in
+    let idle : v.outstanding ≡ None = o.outstanding in
+    record {
+      range = λ n is. absurd (cc);
+      begun = λ n is. absurd (cc);
+      sender = λ n is. absurd (cc);
+      home = o.home;
+      away = λ down. o.answers;
+      window = λ up x tx. absurd (nothing x tx);
+      expected = λ up x tx new. absurd (nothing x tx);
+      carried = λ x tx new. absurd (nothing x tx);
+      orphaned = λ down x y tx new ty kind. absurd (nothing x tx);
+      waiting = inl o.queue;
+      taken = λ x tx kind awaited. absurd (nothing x tx);
+      dead = λ x tx kind awaited. absurd (nothing x tx);
+      busy = λ n is. absurd (cc);
+      settled = λ up none. inl (record { none = o.answers; empty = o.box });
+    }
+
+pub opening_sound : {Piece : List Bool → Packet → Type 0} (v : View) (t : Packet → Type 0) → IsOpening v → ((x : Packet) → t x → ⊥) → Sound Piece (mail_now v) [] v t
+opening_sound v t o nothing = record { clauses = opening_invariant v t o nothing; run = tt; mail = refl }
+
+pub history_sound : {Piece : List Bool → Packet → Type 0} (v : View) (turns : List Turn) → IsOpening v → IsHistory Piece v turns
+    → Sound Piece (mail_now v) (seen_in turns v) (view_after turns v) (Contains (left_by turns))
+history_sound v [] o h = opening_sound v (Contains []) o (λ x there. none_there x there)
+history_sound {Piece} v (turn ∷ turns) o h =
+    sound_less (mail_now v) (seen_in (turn ∷ turns) v) (view_after (turn ∷ turns) v) (Either (Contains (left_by turns)) (Makes Piece turn.move (view_after turns v))) (Contains turn.left)
+    h.0.left
+    (sound_after turn.move (mail_now v) (seen_in turns v) (view_after turns v) (Contains (left_by turns)) h.0.needs (history_sound v turns o h.1))

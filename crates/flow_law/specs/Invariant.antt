@@ -1,0 +1,88 @@
+-- What holds of a flow after every list of moves, in clauses of which each says one thing.
+--
+-- Only data that the destination would take for new matters. Each clause speaks of what stands, and of one or two packets
+-- at a time; none counts packets, and none asks where they are. So each still holds when packets are lost.
+use Rattle.std.specs.Prelude.{◌≡◌, ℕ, ◌<◌, Bool, true, false, List, [], ◌∷◌, Option, Some, None, ◌⊎◌}
+use Rattle.leader1822.specs.declared.crossing.Answer.{Answer}
+use Rattle.leader1822.specs.declared.crossing.Answer.TheVariants as answer
+use Rattle.leader1822.specs.Mailboxes.{Box, Fits}
+use Rattle.link_table.specs.Numbers.{modulus, Near}
+use Rattle.flow_law.specs.View.{View, Packet, Queued, Kind}
+use Rattle.flow_law.specs.Moves.{New, queued}
+
+-- the number was begun, and lies at most a window behind the last one
+pub record Begun (last : Option ℕ) (number : ℕ) : Type 0 where
+  pub begun : ℕ
+  pub is : last ≡ Some begun
+  pub near : Near begun number
+
+-- the packet carries a piece of the text that waits in the box, and no message is queued
+pub record Carried (Piece : List Bool → Packet → Type 0) (box : Box) (queue : List Queued) (x : Packet) : Type 0 where
+  pub place : ℕ
+  pub text : List Bool
+  pub waits : box ≡ Box.Waiting place text
+  pub unread : queue ≡ []
+  pub piece : Piece text x
+
+-- one message is queued: the one that waits in the box, and that is outstanding if the source's IMP is up
+pub record Held (from_up : Bool) (outstanding : Option ℕ) (queue : List Queued) (box : Box) : Type 0 where
+  pub number : ℕ
+  pub place : ℕ
+  pub text : List Bool
+  pub one : queue ≡ queued number text ∷ []
+  pub waits : box ≡ Box.Waiting place text
+  pub awaited : from_up ≡ true → outstanding ≡ Some number
+
+-- the message that waits in the box can't be taken any more
+pub record Gone (to_up : Bool) (kept : Option ℕ) (queue : List Queued) (box : Box) (alive : Packet → Type 0) : Type 0 where
+  pub waiting : Fits answer.Dead box
+  pub unread : queue ≡ []
+  pub none : (y : Packet) → alive y → New to_up kept y → ⊥
+
+-- no answer waits, and the box isn't empty
+pub record Busy (answers : List Answer) (box : Box) : Type 0 where
+  pub none : answers ≡ []
+  pub full : Fits answer.Incomplete box
+
+-- nothing is going on
+pub record Idle (answers : List Answer) (box : Box) : Type 0 where
+  pub none : answers ≡ []
+  pub empty : box ≡ Box.Empty
+
+-- one answer waits, and fits the box
+pub record Answered (answers : List Answer) (box : Box) : Type 0 where
+  pub kind : Answer
+  pub one : answers ≡ kind ∷ []
+  pub fits : Fits kind box
+
+pub record Invariant (Piece : List Bool → Packet → Type 0) (v : View) (alive : Packet → Type 0) : Type 0 where
+  -- Numbers are below the modulus: the window is about such numbers only.
+  pub range : (last : ℕ) → v.last ≡ Some last → last < modulus
+  -- The outstanding number is the one begun last: so a packet of it lies within the window, and the next number is another.
+  pub begun : (number : ℕ) → v.outstanding ≡ Some number → v.last ≡ Some number
+  -- A number is outstanding only at an IMP that is up: so whoever has one knows what it means.
+  pub sender : (number : ℕ) → v.outstanding ≡ Some number → v.from_up ≡ true
+  -- A host is up only at an IMP that is up: so what holds while the source's IMP is up holds when the source does something.
+  pub home : v.source ≡ true → v.from_up ≡ true
+  -- No answer waits for a source that is down: so none waits when it comes up with an empty box.
+  pub away : v.source ≡ false → v.answers ≡ []
+  -- While the source's IMP is up, whatever is alive lies at most a window behind the last number: so what was noted makes
+  -- all that is alive old, and no packet carries a number that is about to be given again.
+  pub window : v.from_up ≡ true → (x : Packet) → alive x → Begun v.last x.number
+  -- New data belongs to the outstanding message: so there is none when nothing is outstanding.
+  pub expected : v.from_up ≡ true → (x : Packet) → alive x → New v.to_up v.kept x → v.outstanding ≡ Some x.number
+  -- New data carries a piece of the text in the box: so what is joined of it is that text.
+  pub carried : (x : Packet) → alive x → New v.to_up v.kept x → Carried Piece v.box v.queue x
+  -- The source's IMP is down and its numbers are gone. Then all data lies at most a window behind new data: so to note new
+  -- data still makes all data old.
+  pub orphaned : v.from_up ≡ false → (x y : Packet) → alive x → New v.to_up v.kept x → alive y → y.kind ≡ Kind.Data → Near x.number y.number
+  -- At most one message is queued, and it is the one in the box: so what the destination takes is what was put in.
+  pub waiting : (v.queue ≡ []) ⊎ Held v.from_up v.outstanding v.queue v.box
+  -- RFNM of the outstanding number is alive only when the message was taken: so the source is told the truth.
+  pub taken : (x : Packet) → alive x → x.kind ≡ Kind.Rfnm → v.outstanding ≡ Some x.number → Fits answer.Rfnm v.box
+  -- Dead of the outstanding number is alive only when the message wasn't taken and never will be.
+  pub dead : (x : Packet) → alive x → x.kind ≡ Kind.Dead → v.outstanding ≡ Some x.number → Gone v.to_up v.kept v.queue v.box alive
+  -- While a message is outstanding its box isn't empty and no answer waits: so there is one answer to a message.
+  pub busy : (number : ℕ) → v.outstanding ≡ Some number → Busy v.answers v.box
+  -- While none is and the source is up, the box is empty, or one answer waits that fits it.
+  pub settled : v.source ≡ true → v.outstanding ≡ None → Idle v.answers v.box ⊎ Answered v.answers v.box

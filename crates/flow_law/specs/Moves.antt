@@ -1,0 +1,256 @@
+-- What an IMP, a line or a host can do to one flow.
+--
+-- A move says what it needs, what it changes, which packets it may make, and what the hosts see of it. Packets may
+-- be lost, copied and overtaken at any time: after a move any of those before it and of those it made may be alive.
+-- A move asks for no room, no route and no order of packets, so that an IMP that looks at these makes some of the moves.
+use Rattle.std.specs.Prelude.{◌≡◌, ◌≢◌, ℕ, Bool, true, false, List, [], ◌∷◌, ◌++◌, Option, Some, None, ◌⊎◌, if◌then◌else◌}
+use Rattle.std.specs.List.{Contains}
+use Rattle.leader1822.specs.declared.crossing.Answer.{Answer}
+use Rattle.leader1822.specs.declared.crossing.Answer.TheVariants as answer
+use Rattle.leader1822.specs.Mailboxes.{Box, Passing, fetched}
+use Rattle.link_table.specs.Numbers.{next, oldest, is_new}
+use Rattle.flow_law.specs.View.{View, Packet, Queued, Kind}
+
+-- `Piece text x`: packet x carries a piece of the text. How a text is cut into pieces is left open here.
+
+pub data Move : Type 0 where
+  -- nothing but what may befall packets
+  Quiet : Move
+  -- the source offers a message that cannot be sent: Dead waits for it at once
+  DeadNow : (place : ℕ) → (text : List Bool) → Move
+  -- the source offers a message, which gets the next number and is cut into packets
+  Begin : (place : ℕ) → (text : List Bool) → Move
+  -- the same within one IMP: the number is noted and the message queued at once
+  BeginLocal : (place : ℕ) → (text : List Bool) → Move
+  -- new data x came, and its number is noted without the message being taken: the host is down, or the body has no mark
+  NoteGone : (x : Packet) → Move
+  -- new data x made this text whole: its number is noted and the message queued
+  Whole : (x : Packet) → (text : List Bool) → Move
+  -- packet x told the source's IMP what became of the outstanding message: the answer waits for the source, if it is up
+  Freed : (x : Packet) → (kind : Answer) → Move
+  -- the destination takes the oldest message, and the others stay
+  TakeMessage : (oldest : Queued) → (others : List Queued) → Move
+  -- the source takes the oldest answer, and the others stay
+  TakeAnswer : (oldest : Answer) → (others : List Answer) → Move
+  -- the source goes down, and comes up
+  StopSource : Move
+  StartSource : Move
+  -- the destination goes down, and comes up
+  StopDestination : Move
+  StartDestination : Move
+  -- the source's IMP goes down, with the source, and comes up
+  StopFrom : Move
+  StartFrom : Move
+  -- the destination's IMP goes down, with the destination, and comes up
+  StopTo : Move
+  StartTo : Move
+  -- the source's IMP gives up the outstanding message, which has this number
+  GiveUp : (number : ℕ) → Move
+  -- the destination's IMP forgets the number that it noted last
+  Forget : Move
+
+-- ---- what they speak of
+
+-- the number of the next message
+abbrev pub next_number : Option ℕ → ℕ
+next_number None = 0
+next_number (Some last) = next last
+
+-- the destination would take this packet's message for new
+pub record New (to_up : Bool) (kept : Option ℕ) (x : Packet) : Type 0 where
+  pub up : to_up ≡ true
+  pub data_packet : x.kind ≡ Kind.Data
+  pub new : is_new kept x.number ≡ true
+
+-- which answer a packet brings
+abbrev pub Brings : Kind → Answer → Type 0
+Brings Kind.Rfnm answer.Rfnm = Unit {0}
+Brings Kind.Dead answer.Dead = Unit {0}
+Brings kind told = ⊥
+
+-- an answer waits for a host that is up, behind the others
+abbrev pub with_answer : Bool → Answer → List Answer → List Answer
+with_answer source kind answers = if source then answers ++ kind ∷ [] else answers
+
+-- a message from its number and its text
+abbrev pub queued : ℕ → List Bool → Queued
+queued number text = record { number = number; text = text }
+
+-- ---- what a move needs
+
+-- the source may offer a message: it is up, none of its own is outstanding, and no answer waits for it
+pub record CanOffer (v : View) : Type 0 where
+  pub source : v.source ≡ true
+  pub idle : v.outstanding ≡ None
+  pub answered : v.answers ≡ []
+
+-- nothing is alive that would lie too far behind once the next number is begun
+abbrev pub NumberFree : View → (Packet → Type 0) → Type 0
+NumberFree v alive = (last : ℕ) → v.last ≡ Some last → (x : Packet) → alive x → x.number ≢ oldest last
+
+-- and its message may get a number
+pub record CanBegin (v : View) (alive : Packet → Type 0) : Type 0 where
+  pub offer : CanOffer v
+  pub free : NumberFree v alive
+
+-- new data is there
+pub record CanNote (v : View) (alive : Packet → Type 0) (x : Packet) : Type 0 where
+  pub there : alive x
+  pub new : New v.to_up v.kept x
+
+-- every text of which all data with the packet's number are pieces is this text
+abbrev pub Joined : (List Bool → Packet → Type 0) → (Packet → Type 0) → Packet → List Bool → Type 0
+Joined Piece alive x text = (whole : List Bool) → ((y : Packet) → alive y → y.kind ≡ Kind.Data → y.number ≡ x.number → Piece whole y) → text ≡ whole
+
+-- new data is there, and its message is whole
+pub record CanQueue (Piece : List Bool → Packet → Type 0) (v : View) (alive : Packet → Type 0) (x : Packet) (text : List Bool) : Type 0 where
+  pub note : CanNote v alive x
+  pub joined : Joined Piece alive x text
+
+-- a packet brings the answer to the outstanding message
+pub record CanFree (v : View) (alive : Packet → Type 0) (x : Packet) (kind : Answer) : Type 0 where
+  pub there : alive x
+  pub brings : Brings x.kind kind
+  pub awaited : v.outstanding ≡ Some x.number
+
+pub record CanTakeMessage (v : View) (oldest : Queued) (others : List Queued) : Type 0 where
+  pub destination : v.destination ≡ true
+  pub waits : v.queue ≡ oldest ∷ others
+
+-- a host comes up at an IMP that is up, while nothing of it is outstanding
+pub record CanStartSource (v : View) : Type 0 where
+  pub from_up : v.from_up ≡ true
+  pub down : v.source ≡ false
+  pub idle : v.outstanding ≡ None
+
+-- the source's IMP comes up when nothing of the flow is left
+pub record CanStartFrom (v : View) (alive : Packet → Type 0) : Type 0 where
+  pub no_packet : (x : Packet) → alive x → ⊥
+  pub unread : v.queue ≡ []
+
+-- no data of the flow is alive
+abbrev pub NoData : (Packet → Type 0) → Type 0
+NoData alive = (x : Packet) → alive x → x.kind ≢ Kind.Data
+
+-- the outstanding message is given up when no piece of it is alive and it isn't queued
+pub record CanGiveUp (v : View) (alive : Packet → Type 0) (number : ℕ) : Type 0 where
+  pub awaited : v.outstanding ≡ Some number
+  pub no_piece : (x : Packet) → alive x → x.kind ≡ Kind.Data → x.number ≢ number
+  pub unread : (q : Queued) → Contains v.queue q → q.number ≢ number
+
+abbrev pub Needs : (List Bool → Packet → Type 0) → Move → View → (Packet → Type 0) → Type 0
+Needs Piece Quiet v alive = Unit {0}
+Needs Piece (DeadNow place text) v alive = CanOffer v
+Needs Piece (Begin place text) v alive = CanBegin v alive
+Needs Piece (BeginLocal place text) v alive = CanBegin v alive
+Needs Piece (NoteGone x) v alive = CanNote v alive x
+Needs Piece (Whole x text) v alive = CanQueue Piece v alive x text
+Needs Piece (Freed x kind) v alive = CanFree v alive x kind
+Needs Piece (TakeMessage oldest others) v alive = CanTakeMessage v oldest others
+Needs Piece (TakeAnswer oldest others) v alive = v.answers ≡ oldest ∷ others
+Needs Piece StopSource v alive = v.source ≡ true
+Needs Piece StartSource v alive = CanStartSource v
+Needs Piece StopDestination v alive = v.destination ≡ true
+Needs Piece StartDestination v alive = v.destination ≡ false
+Needs Piece StopFrom v alive = Unit {0}
+Needs Piece StartFrom v alive = CanStartFrom v alive
+Needs Piece StopTo v alive = Unit {0}
+Needs Piece StartTo v alive = NoData alive
+Needs Piece (GiveUp number) v alive = CanGiveUp v alive number
+Needs Piece Forget v alive = NoData alive
+
+-- ---- what it changes
+
+abbrev pub after : Move → View → View
+after Quiet v = v
+after (DeadNow place text) v = record v { answers = answer.Dead ∷ []; box = Box.Waiting place text }
+after (Begin place text) v = record v { last = Some (next_number v.last); outstanding = Some (next_number v.last); box = Box.Waiting place text }
+after (BeginLocal place text) v = record v {
+  last = Some (next_number v.last);
+  outstanding = Some (next_number v.last);
+  kept = Some (next_number v.last);
+  queue = v.queue ++ queued (next_number v.last) text ∷ [];
+  box = Box.Waiting place text;
+}
+after (NoteGone x) v = record v { kept = Some x.number }
+after (Whole x text) v = record v { kept = Some x.number; queue = v.queue ++ queued x.number text ∷ [] }
+after (Freed x kind) v = record v { outstanding = None; answers = with_answer v.source kind v.answers }
+after (TakeMessage oldest others) v = record v { queue = others; box = fetched v.box }
+after (TakeAnswer oldest others) v = record v { answers = others; box = Box.Empty }
+after StopSource v = record v { source = false; answers = [] }
+after StartSource v = record v { source = true; box = Box.Empty }
+after StopDestination v = record v { destination = false; queue = [] }
+after StartDestination v = record v { destination = true }
+after StopFrom v = record v { from_up = false; source = false; last = None; outstanding = None; answers = [] }
+after StartFrom v = record v { from_up = true }
+after StopTo v = record v { to_up = false; destination = false; kept = None; queue = [] }
+after StartTo v = record v { to_up = true }
+after (GiveUp number) v = record v { outstanding = None; answers = with_answer v.source answer.Incomplete v.answers }
+after Forget v = record v { kept = None }
+
+-- ---- which packets it may make (it may make fewer)
+
+-- the pieces of the text, with the message's number
+pub record IsPieceOf (Piece : List Bool → Packet → Type 0) (begun : ℕ) (text : List Bool) (x : Packet) : Type 0 where
+  pub data_packet : x.kind ≡ Kind.Data
+  pub number : x.number ≡ begun
+  pub piece : Piece text x
+
+-- a packet of this kind and number
+pub record IsTold (told : Kind) (about : ℕ) (x : Packet) : Type 0 where
+  pub kind : x.kind ≡ told
+  pub number : x.number ≡ about
+
+-- Dead for a message of the queue
+pub record IsDeadOf (queue : List Queued) (x : Packet) : Type 0 where
+  pub kind : x.kind ≡ Kind.Dead
+  pub message : Queued
+  pub waited : Contains queue message
+  pub number : x.number ≡ message.number
+
+abbrev pub Makes : (List Bool → Packet → Type 0) → Move → View → Packet → Type 0
+Makes Piece (Begin place text) v x = IsPieceOf Piece (next_number v.last) text x
+Makes Piece (NoteGone y) v x = IsTold Kind.Dead y.number x
+Makes Piece (TakeMessage oldest others) v x = IsTold Kind.Rfnm oldest.number x
+Makes Piece StopDestination v x = IsDeadOf v.queue x
+Makes Piece m v x = ⊥
+
+-- ---- what the hosts see of it, newest first
+
+abbrev pub shows : Move → View → List Passing
+shows (DeadNow place text) v = Passing.Put place text ∷ []
+shows (Begin place text) v = Passing.Put place text ∷ []
+shows (BeginLocal place text) v = Passing.Put place text ∷ []
+shows (TakeMessage oldest others) v = Passing.Fetched oldest.text ∷ []
+shows (TakeAnswer oldest others) v = Passing.Told oldest ∷ []
+shows StopSource v = Passing.SourceDown ∷ []
+shows StartSource v = Passing.SourceUp ∷ []
+shows StopDestination v = Passing.DestinationDown ∷ []
+shows StartDestination v = Passing.DestinationUp ∷ []
+shows StopFrom v = if v.source then Passing.SourceDown ∷ [] else []
+shows StopTo v = if v.destination then Passing.DestinationDown ∷ [] else []
+shows m v = []
+
+-- ---- lists of moves, newest first
+
+abbrev pub after_all : List Move → View → View
+after_all [] v = v
+after_all (m ∷ ms) v = after m (after_all ms v)
+
+abbrev pub shown_by : List Move → View → List Passing
+shown_by [] v = []
+shown_by (m ∷ ms) v = shows m (after_all ms v) ++ shown_by ms v
+
+-- a packet is one of the old ones or of those that were made
+abbrev pub Either : (Packet → Type 0) → (Packet → Type 0) → Packet → Type 0
+Either alive made x = alive x ⊎ made x
+
+-- the packets that may be alive after the moves
+abbrev pub Grown : (List Bool → Packet → Type 0) → List Move → View → (Packet → Type 0) → Packet → Type 0
+Grown Piece [] v alive = alive
+Grown Piece (m ∷ ms) v alive = Either (Grown Piece ms v alive) (Makes Piece m (after_all ms v))
+
+-- each move finds what it needs
+abbrev pub NeedsAll : (List Bool → Packet → Type 0) → List Move → View → (Packet → Type 0) → Type 0
+NeedsAll Piece [] v alive = Unit {0}
+NeedsAll Piece (m ∷ ms) v alive = Needs Piece m (after_all ms v) (Grown Piece ms v alive) × NeedsAll Piece ms v alive
