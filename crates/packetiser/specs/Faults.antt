@@ -8,3 +8,9 @@ abbrev pub Gives : {T : Type 0} → Result T PacketFault → Result T PacketFaul
 Gives said (Ok x) = said ≡ Ok x
 Gives said (Err fault.OutOfMemory) = IsOk said
 Gives said (Err e) = said ≡ Err e
+
+-- a call that is refused only for want of memory, and else gives a value with this property
+abbrev pub Makes : {T : Type 0} → (T → Type 0) → Result T PacketFault → Type 0
+Makes HasGiven (Ok x) = HasGiven x
+Makes HasGiven (Err fault.OutOfMemory) = Unit {0}
+Makes HasGiven (Err e) = ⊥

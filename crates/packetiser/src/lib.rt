@@ -8,9 +8,11 @@
 //! body. Nothing here knows of lines, routes or which numbers are new.
 #![tactic(auto)]
 
+mod cutting;
 mod fault;
 pub mod format;
 mod packet;
 
+pub use cutting::cut;
 pub use fault::PacketFault;
 pub use packet::{Packet, PacketKind};

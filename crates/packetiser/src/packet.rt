@@ -1,9 +1,9 @@
 //! Packets and their octets.
 
-ghost use Rattle.std.specs.Prelude.{◌≡◌, ℕ, ◌≤◌, Bool, List, ◌∷◌, length, nat_lt, nat_le, Option, Some, None, Result, Ok, Err, IfOk, IfErr, true};
+ghost use Rattle.std.specs.Prelude.{◌≡◌, ℕ, ◌<◌, ◌≤◌, Bool, List, ◌∷◌, length, nat_lt, nat_le, Option, Some, None, Result, Ok, Err, IfOk, true};
 ghost use Rattle.std.specs.Bool.{OnFalse};
-ghost use Rattle.packetiser.specs.Form.{Form, flow_of, IsForm};
-ghost use Rattle.packetiser.specs.Faults.{Gives};
+ghost use Rattle.packetiser.specs.Form.{Form, flow_of, IsForm, IsPacketHost, Carries};
+ghost use Rattle.packetiser.specs.Faults.{Gives, Makes};
 ghost use Rattle.packetiser.specs.Format.{spelling, read_of, kind_octet, kind_of, host_of, is_address, is_short, is_not_canonical, is_bad_length, bit_count, octet_count, is_last, place_of, place_octet};
 
 use crate::PacketFault;
@@ -52,7 +52,9 @@ impl Model for Packet {
 }
 
 impl Packet {
-    /// The packet that says this.
+    /// The packet that says this. The flow's IMPs are numbered from 1 to 16, the place is 0 to 7; a piece
+    /// has 16 to 1008 bits in units of sixteen, 1008 if it isn't the last, and the one at place 7 is the
+    /// last; an answer has place 0, the last flag and no bits.
     pub fn new(
         kind: PacketKind,
         flow: Flow,
@@ -61,7 +63,10 @@ impl Packet {
         last: bool,
         bits: Bits,
     ) -> Packet
-        requires { IsForm (record { kind = kind; source = flow.source; destination = flow.destination; link = flow.link.0; number = number; place = place; last = last; bits = bits }) }
+        requires source { IsPacketHost flow.source }
+        requires destination { IsPacketHost flow.destination }
+        requires place { place < MAX_PACKETS }
+        requires body { Carries kind place last (length bits) }
         ensures { result ≡ record { kind = kind; source = flow.source; destination = flow.destination; link = flow.link.0; number = number; place = place; last = last; bits = bits } }
     {
         let Flow {
@@ -167,9 +172,8 @@ impl Packet {
 
     /// Its octets.
     pub fn write(&self, alloc: Global) -> Result<Vec<u8>, PacketFault>
-        ensures spelled { IfOk result (λ octets. octets.items ≡ spelling self.now) }
+        ensures spelled { Makes (λ octets. octets.items ≡ spelling self.now) result }
         ensures again { IfOk result (λ octets. read_of octets.items ≡ Ok self.now) }
-        ensures memory { IfErr result (λ fault. fault ≡ PacketFault.OutOfMemory) }
     {
         let Ok(bits) = self.bits.to_octets(alloc) else {
             return Err(PacketFault::OutOfMemory);
