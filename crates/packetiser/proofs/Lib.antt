@@ -1,2 +1,4 @@
 pub mod Packets
 pub mod Pieces
+pub mod Slots
+pub mod Calls

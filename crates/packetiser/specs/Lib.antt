@@ -2,3 +2,4 @@ pub mod Faults
 pub mod Form
 pub mod Format
 pub mod Pieces
+pub mod Slots

@@ -12,7 +12,9 @@ mod cutting;
 mod fault;
 pub mod format;
 mod packet;
+mod reassembly;
 
 pub use cutting::cut;
 pub use fault::PacketFault;
 pub use packet::{Packet, PacketKind};
+pub use reassembly::{Added, Held, Outcome, Reassembly};
