@@ -2,3 +2,5 @@ pub mod Packets
 pub mod Pieces
 pub mod Slots
 pub mod Calls
+pub mod Rejoining
+pub mod Holding

@@ -1,10 +1,10 @@
 -- Packets and their octets, both ways.
 use Rattle.std.proofs.Common.{◌≡◌, ℕ, ◌+◌, ◌*◌, ◌/◌, ◌%◌, ◌<◌, ◌≤◌, Bool, true, false, not, List, [], ◌∷◌, ◌++◌, length, get_or, take, drop, refl, ap, sym, ◌∙◌, subst, arith, All, suc, replicate, append-nil}
 use Rattle.std.proofs.Common.{nat_lt, nat_le, ◌==◌, ◌||◌, ◌&&◌, eq-eqb, ne_eqb, eqb-true, le-ltb, inl, inr, ◌⊎◌, zero, Result, Ok, Err, if◌then◌else◌}
-use Rattle.std.proofs.lemmas.Bool.{leb-true, cases_Bool}
+use Rattle.std.proofs.lemmas.Bool.{leb-true, cases_Bool, cases_lt}
 use Rattle.std.proofs.lemmas.List.Elements.{All-from_get_or}
 use Rattle.std.proofs.lemmas.Bool.Decides.{nat_tests}
-use Rattle.std.proofs.lemmas.List.{length-take-le, take_all}
+use Rattle.std.proofs.lemmas.List.{length-take-le, take_all, get_or_past}
 use Rattle.std.proofs.Common.{length-drop}
 use Rattle.bit_messages.specs.Octets.{octets_of, bits_of, spare_bits}
 use Rattle.bit_messages.proofs.OctetLemmas.{length-bits_of, octets_again, bits_again, octets_below}
@@ -365,3 +365,29 @@ pub form_made : (octets : List ℕ) (p : Form) (body : List ℕ) (count : ℕ) �
 form_made octets p body count kinds sources destinations links numbers places lasts bits at counts =
     same_form (form_of octets) p (sym kinds) (sym sources) (sym destinations) (sym links) (sym numbers) (sym places) (sym lasts)
     (ap (λ (n : ℕ). take n (bits_of (drop 8 octets))) (sym counts) ∙ ap (λ (ns : List ℕ). take count (bits_of ns)) (sym at) ∙ sym bits)
+
+-- ---- what is read was a packet's spelling
+
+pub same_read : (p q : Form) → (let a : Result Form PacketFault = Ok p in let b : Result Form PacketFault = Ok q in a ≡ b) → p ≡ q
+same_read p q e = cc
+
+-- no reason to refuse, by the three tests
+record ReadsBy (octets : List ℕ) (p : Form) : Type 0 where
+  pub packet : IsPacket octets
+  pub same : form_of octets ≡ p
+
+read_by : (octets : List ℕ) (p : Form) (short canonical bad : Bool) → is_short octets ≡ short → is_not_canonical octets ≡ canonical → is_bad_length octets ≡ bad
+    → read_of octets ≡ Ok p → ReadsBy octets p
+read_by octets p true canonical bad s n b read = absurd (let refused : Err fault.Short ≡ Ok p = rw s at read in cc)
+read_by octets p false true bad s n b read = absurd (let refused : Err fault.NotCanonical ≡ Ok p = rw (s, n) at read in cc)
+read_by octets p false false true s n b read = absurd (let refused : Err fault.BadLength ≡ Ok p = rw (s, n, b) at read in cc)
+read_by octets p false false false s n b read = record { packet = packet_from octets s n b; same = same_read (form_of octets) p (rw (s, n, b) at read) }
+
+pub read_is : (octets : List ℕ) (p : Form) → All (λ n. n < 256) octets → read_of octets ≡ Ok p → IsForm p × (octets ≡ spelling p)
+read_is octets p all read =
+    let small : (k : ℕ) → get_or octets k 0 < 256 = λ k. elim (cases_lt k (length octets)) [
+      | inl lt ↦ all k 0 lt
+      | inr ge ↦ (let past : get_or octets k 0 ≡ 0 = get_or_past octets k 0 ge in rw past (omega arith))
+    ] in
+    let r : ReadsBy octets p = read_by octets p (is_short octets) (is_not_canonical octets) (is_bad_length octets) refl refl refl read in
+    (subst IsForm r.same (form_fits octets small r.packet), spelled octets small r.packet ∙ ap spelling r.same)

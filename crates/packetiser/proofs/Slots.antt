@@ -48,7 +48,7 @@ record IsAt {X : Type 0} (p : X → Bool) (xs : List X) (at : ℕ) : Type 0 wher
   pub within : at < length xs
   pub any : list_any p xs ≡ true
 
-none_some : {X : Type 0} (x : X) → None ≡ Some x → ⊥
+pub none_some : {X : Type 0} (x : X) → None ≡ Some x → ⊥
 none_some x h = cc
 
 position_some : {X : Type 0} (p : X → Bool) (xs : List X) (at : ℕ) → position p xs ≡ Some at → IsAt p xs at
@@ -127,11 +127,11 @@ below_else (x ∷ xs) (y ∷ ys) l h ne =
 
 -- ---- flows
 
-and_first : (a b : Bool) → (a && b) ≡ true → a ≡ true
+pub and_first : (a b : Bool) → (a && b) ≡ true → a ≡ true
 and_first true b h = refl
 and_first false b h = absurd (cc)
 
-and_second : (a b : Bool) → (a && b) ≡ true → b ≡ true
+pub and_second : (a b : Bool) → (a && b) ≡ true → b ≡ true
 and_second true b h = h
 and_second false b h = absurd (cc)
 

@@ -3,3 +3,4 @@ pub mod Form
 pub mod Format
 pub mod Pieces
 pub mod Slots
+pub mod Rejoining

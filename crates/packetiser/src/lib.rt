@@ -11,6 +11,7 @@
 mod cutting;
 mod fault;
 pub mod format;
+pub mod law;
 mod packet;
 mod reassembly;
 
