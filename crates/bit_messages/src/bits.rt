@@ -164,6 +164,22 @@ impl Bits {
     }
 }
 
+/// Two lists are equal where they have the same bits.
+impl PartialEq for Bits {
+    ghost use Rattle.std.specs.Bool.{beq};
+    ghost use Rattle.std.specs.Cmp.Lexicographic.{pointwise};
+    ghost use Rattle.std.proofs.Common.{rules};
+    ghost use Rattle.std.specs.Cmp.Rules.{comparing};
+
+    ghost eq = { λ x y. pointwise beq x y };
+
+    ghost laws = { Prim.search (comparing, rules) };
+
+    fn eq(&self, other: &Bits) -> bool {
+        self.bits.as_slice() == other.bits.as_slice()
+    }
+}
+
 /// The place of the last one.
 fn last_one(bits: &[bool]) -> Option<usize>
     ensures none { result ≡ None → has_mark bits.now ≡ false }

@@ -31,3 +31,9 @@ same_host g h = g.imp == h.imp && g.host == h.host
 -- whether a host is one of these
 abbrev pub is_host : List Host → Host → Bool
 is_host hosts h = list_any (same_host h) hosts
+
+-- a host that an address octet can name
+pub record IsAddress (h : Host) : Type 0 where
+  pub imp_from : 1 ≤ h.imp
+  pub imp_to : h.imp ≤ 63
+  pub host_to : h.host ≤ 3

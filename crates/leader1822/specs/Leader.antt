@@ -1,6 +1,6 @@
 -- Leaders and their octets (BBN Report 1822, message leaders).
-use Rattle.std.specs.Prelude.{ℕ, ◌%◌, List, [], ◌∷◌, Option, Some, None, Result, Ok, Err, ◌==◌, if◌then◌else◌}
-use Rattle.leader1822.specs.Host.{Host, address_octet, host_of_octet}
+use Rattle.std.specs.Prelude.{ℕ, ◌%◌, ◌<◌, List, [], ◌∷◌, Option, Some, None, Result, Ok, Err, ◌==◌, if◌then◌else◌}
+use Rattle.leader1822.specs.Host.{Host, IsAddress, address_octet, host_of_octet}
 use Rattle.leader1822.specs.declared.crossing.Answer.{Answer}
 use Rattle.leader1822.specs.declared.crossing.Answer.TheVariants as answer
 use Rattle.leader1822.specs.declared.leader.Leader.{Leader}
@@ -58,3 +58,15 @@ abbrev pub spelling : Leader → List ℕ
 spelling leader.Nop = 4 ∷ 0 ∷ 0 ∷ 0 ∷ []
 spelling (leader.Regular address link) = 0 ∷ address_octet address ∷ link.0 ∷ 0 ∷ []
 spelling (leader.Answer kind address link) = answer_type kind ∷ address_octet address ∷ link.0 ∷ 0 ∷ []
+
+-- a leader that can be written: its host has an address, and its link is an octet
+abbrev pub IsWritten : Leader → Type 0
+IsWritten leader.Nop = Unit {0}
+IsWritten (leader.Regular address link) = IsAddress address × (link.0 < 256)
+IsWritten (leader.Answer kind address link) = IsAddress address × (link.0 < 256)
+
+-- a leader that hosts write
+abbrev pub IsFromHost : Leader → Type 0
+IsFromHost leader.Nop = Unit {0}
+IsFromHost (leader.Regular address link) = Unit {0}
+IsFromHost (leader.Answer kind address link) = ⊥

@@ -1,3 +1,8 @@
+pub mod Boxes
+pub mod Calls
 pub mod Host
 pub mod Leader
 pub mod Mailboxes
+pub mod Printed
+pub mod Soundness
+pub mod Messages

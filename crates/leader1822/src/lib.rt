@@ -10,13 +10,18 @@
 #![tactic(auto)]
 
 mod address;
+mod carrier;
 mod crossing;
 mod event;
+pub mod law;
 mod leader;
 mod message;
+mod plain_boxes;
 
 pub use address::{Flow, HostAddr, ImpNumber, Link};
+pub use carrier::{Carrier, CarrierFault};
 pub use crossing::{Answer, Crossing, Inbound};
 pub use event::{Direction, NetEvent};
 pub use leader::{Leader, LeaderFault};
 pub use message::{HostMessage, Text};
+pub use plain_boxes::PlainBoxes;

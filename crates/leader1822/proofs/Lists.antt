@@ -1,0 +1,129 @@
+-- Tests, lists and the ends of lists, as the mailboxes want them.
+use Rattle.std.proofs.Common.{◌≡◌, ◌≢◌, ℕ, ◌+◌, Bool, true, false, not, ◌&&◌, ◌||◌, List, [], ◌∷◌, ◌++◌, length, filter, reverse, Option, Some, None, refl, ap, sym, subst, ◌∙◌, arith, inl, inr, ◌⊎◌, ◌==◌, if◌then◌else◌, eq-eqb}
+use Rattle.std.specs.List.{list_any, find}
+use Rattle.std.proofs.lemmas.List.{reverse-append}
+use Rattle.std.proofs.lemmas.Bool.{eqb-true}
+use Rattle.leader1822.specs.Host.{Host, same_host, is_host}
+use Rattle.leader1822.specs.Mailboxes.{same_flow}
+use Rattle.leader1822.specs.Boxes.{without_first}
+use Rattle.leader1822.specs.declared.address.Flow.{Flow}
+
+-- ---- tests
+
+-- a chain of refusals that ends in none: its first test fails, and the rest ends in none
+pub guard : {F : Type 0} (b : Bool) (e : F) (rest : Option F) → (if b then Some e else rest) ≡ None → (b ≡ false) × (rest ≡ None)
+guard true e rest h = absurd (cc)
+guard false e rest h = (refl, h)
+
+pub not_false : (b : Bool) → not b ≡ false → b ≡ true
+not_false true h = refl
+not_false false h = absurd (cc)
+
+pub and_true : (a b : Bool) → (a && b) ≡ true → (a ≡ true) × (b ≡ true)
+and_true true b h = (refl, h)
+and_true false b h = absurd (cc)
+
+pub or_false : (a b : Bool) → (a || b) ≡ false → (a ≡ false) × (b ≡ false)
+or_false true b h = absurd (cc)
+or_false false b h = (refl, h)
+
+pub or_true : (a b : Bool) → (a || b) ≡ true → (a ≡ true) ⊎ (b ≡ true)
+or_true true b h = inl refl
+or_true false b h = inr h
+
+pub or_nothing : (a : Bool) → (a || false) ≡ a
+or_nothing true = refl
+or_nothing false = refl
+
+pub both_ways : (a b : Bool) → (a ≡ true → b ≡ true) → (b ≡ true → a ≡ true) → a ≡ b
+both_ways true b f g = sym (f refl)
+both_ways false true f g = g refl
+both_ways false false f g = refl
+
+-- ---- hosts and flows
+
+pub same_host-true : (g h : Host) → same_host g h ≡ true → g ≡ h
+same_host-true g h e =
+    let t : (g.imp == h.imp) ≡ true × (g.host == h.host) ≡ true = and_true (g.imp == h.imp) (g.host == h.host) e in
+    let at : ℕ → ℕ → Host = λ i j. record { imp = i; host = j } in
+    ap (λ (i : ℕ). at i g.host) (eqb-true g.imp h.imp t.0) ∙ ap (λ (j : ℕ). at h.imp j) (eqb-true g.host h.host t.1)
+
+pub same_host-refl : (h : Host) → same_host h h ≡ true
+same_host-refl h = rw (eq-eqb h.imp h.imp refl, eq-eqb h.host h.host refl) refl
+
+pub same_host-sym : (g h : Host) → same_host g h ≡ same_host h g
+same_host-sym g h = both_ways (same_host g h) (same_host h g)
+    (λ e. let P : Host → Type 0 = λ x. same_host x g ≡ true in subst P (same_host-true g h e) (same_host-refl g))
+    (λ e. let P : Host → Type 0 = λ x. same_host x h ≡ true in subst P (same_host-true h g e) (same_host-refl h))
+
+pub same_flow-true : (f g : Flow) → same_flow f g ≡ true → f ≡ g
+same_flow-true f g e =
+    let t : (same_host f.source g.source && same_host f.destination g.destination) ≡ true × (f.link.0 == g.link.0) ≡ true =
+    and_true (same_host f.source g.source && same_host f.destination g.destination) (f.link.0 == g.link.0) e in
+    let u : same_host f.source g.source ≡ true × same_host f.destination g.destination ≡ true = and_true (same_host f.source g.source) (same_host f.destination g.destination) t.0 in
+    let source : f.source ≡ g.source = same_host-true f.source g.source u.0 in
+    let destination : f.destination ≡ g.destination = same_host-true f.destination g.destination u.1 in
+    let link : f.link.0 ≡ g.link.0 = eqb-true f.link.0 g.link.0 t.1 in
+    let at : Host → Host → ℕ → Flow = λ s d l. record { source = s; destination = d; link = record { 0 = l } } in
+    ap (λ (s : Host). at s f.destination f.link.0) source ∙ ap (λ (d : Host). at g.source d f.link.0) destination ∙ ap (λ (l : ℕ). at g.source g.destination l) link
+
+pub same_flow-refl : (f : Flow) → same_flow f f ≡ true
+same_flow-refl f = rw (same_host-refl f.source, same_host-refl f.destination, eq-eqb f.link.0 f.link.0 refl) refl
+
+pub same_flow-sym : (f g : Flow) → same_flow f g ≡ same_flow g f
+same_flow-sym f g = both_ways (same_flow f g) (same_flow g f)
+    (λ e. let P : Flow → Type 0 = λ x. same_flow x f ≡ true in subst P (same_flow-true f g e) (same_flow-refl f))
+    (λ e. let P : Flow → Type 0 = λ x. same_flow x g ≡ true in subst P (same_flow-true g f e) (same_flow-refl g))
+
+-- ---- lists
+
+pub reverse_push : {A : Type 0} (xs : List A) (x : A) → reverse (xs ++ x ∷ []) ≡ x ∷ reverse xs
+reverse_push xs x = reverse-append xs (x ∷ [])
+
+-- a list apart at its first element that passes
+pub record Apart {A : Type 0} (test : A → Bool) (xs : List A) (x : A) : Type 0 where
+  pub front : List A
+  pub back : List A
+  pub whole : xs ≡ front ++ x ∷ back
+  pub left : without_first test xs ≡ front ++ back
+  pub passes : test x ≡ true
+
+apart_more : {A : Type 0} (test : A → Bool) (y : A) (ys : List A) (x : A) → (find test ys ≡ Some x → Apart test ys x)
+    → (b : Bool) → test y ≡ b → find test (y ∷ ys) ≡ Some x → Apart test (y ∷ ys) x
+apart_more {A} test y ys x rest true e f =
+    let found : Some y ≡ Some x = rw e at f in
+    let same : y ≡ x = cc in
+    record {
+      front = [];
+      back = ys;
+      whole = ap (λ (z : A). z ∷ ys) same;
+      left = rw e refl;
+      passes = (let P : A → Type 0 = λ z. test z ≡ true in subst P same e);
+    }
+apart_more {A} test y ys x rest false e f =
+    let r : Apart test ys x = rest (rw e at f) in
+    record {
+      front = y ∷ r.front;
+      back = r.back;
+      whole = ap (λ (zs : List A). y ∷ zs) r.whole;
+      left = rw e (ap (λ (zs : List A). y ∷ zs) r.left);
+      passes = r.passes;
+    }
+
+pub apart : {A : Type 0} (test : A → Bool) (xs : List A) (x : A) → find test xs ≡ Some x → Apart test xs x
+apart test [] x e = absurd (cc)
+apart test (y ∷ ys) x e = apart_more test y ys x (apart test ys x) (test y) refl e
+
+pub never_empty : {A : Type 0} (front : List A) (x : A) (back : List A) → front ++ x ∷ back ≡ [] → ⊥
+never_empty [] x back e = cc
+never_empty (z ∷ zs) x back e = cc
+
+-- one element alone
+pub record Alone {A : Type 0} (front : List A) (x : A) (back : List A) (y : A) : Type 0 where
+  pub nothing_before : front ≡ []
+  pub same : x ≡ y
+  pub nothing_behind : back ≡ []
+
+pub alone : {A : Type 0} (front : List A) (x : A) (back : List A) (y : A) → front ++ x ∷ back ≡ y ∷ [] → Alone front x back y
+alone [] x back y e = record { nothing_before = refl; same = cc; nothing_behind = cc }
+alone (z ∷ zs) x back y e = absurd (never_empty zs x back (cc))

@@ -1,0 +1,325 @@
+-- The events of the plain boxes leave what waits fitting the mailboxes.
+use Rattle.std.proofs.Common.{◌≡◌, ◌≢◌, ℕ, ◌+◌, Bool, true, false, not, ◌&&◌, ◌||◌, List, [], ◌∷◌, ◌++◌, length, filter, find, map, refl, ap, sym, subst, ◌∙◌, if◌then◌else◌, append_assoc, Option, Some, None, inl, inr, ◌⊎◌}
+use Rattle.std.specs.List.{list_any}
+use Rattle.std.proofs.lemmas.List.{append-nil}
+use Rattle.std.proofs.lemmas.List.Folds.{list_any-append}
+use Rattle.leader1822.specs.Host.{Host, same_host, is_host}
+use Rattle.leader1822.specs.Mailboxes.{Box, Empty, Waiting, Taken, Holds, Fits, fetched, same_flow, box_of, is_up, IsRun, Needs}
+use Rattle.leader1822.specs.Boxes.{Boxes, Told, is_of, is_about, is_rfnm, is_rfnm_about, is_running, is_from, is_to, is_told_to, is_busy, is_outstanding, one_if, dead_to, offer_refusal, offered, host_refusal, next_for, taken, inbound_of, without_first, give_up_refusal, given_up, host_stopped, host_up_refusal, host_started}
+use Rattle.leader1822.specs.Soundness.{texts_of, kinds_of, FitsBox, FlowFits, Matches, IsSound}
+use Rattle.leader1822.specs.declared.address.Flow.{Flow}
+use Rattle.leader1822.specs.declared.carrier.CarrierFault.TheVariants as fault
+use Rattle.leader1822.specs.declared.crossing.Answer.{Answer}
+use Rattle.leader1822.specs.declared.crossing.Answer.TheVariants as answer
+use Rattle.leader1822.specs.declared.crossing.Crossing.TheVariants as crossing
+use Rattle.leader1822.specs.declared.crossing.Inbound.{Inbound}
+use Rattle.leader1822.specs.declared.crossing.Inbound.TheVariants as inbound
+use Rattle.leader1822.specs.declared.message.HostMessage.{HostMessage}
+use Rattle.leader1822.proofs.Lists.{guard, not_false, and_true, or_false, or_true, or_nothing, same_host-true, same_host-refl, same_host-sym, same_flow-true, same_flow-refl, same_flow-sym, Apart, apart, Alone, alone, never_empty}
+use Rattle.leader1822.proofs.Waiting.{texts_of-append, kinds_of-append, texts_one_same, texts_one_other, kinds_one_same, kinds_one_other, texts_of-filter, kinds_of-filter, filter_all, kinds_of-dead_to, any_of, any_about, any_rfnm, none_waits, none_from, has_any, if_same}
+use Rattle.leader1822.proofs.Sound.{same_fits, Runs, runs_here}
+
+-- ---- giving up
+
+fits_incomplete : (box : Box) (t : List Bool) → Holds box t → Fits answer.Incomplete box
+fits_incomplete Empty t h = absurd h
+fits_incomplete (Waiting place kept) t h = tt
+fits_incomplete (Taken place kept) t h = absurd h
+
+incomplete_fits : (k : Answer) (box : Box) → Fits k box → Fits answer.Incomplete box
+incomplete_fits answer.Rfnm Empty h = absurd h
+incomplete_fits answer.Rfnm (Waiting place text) h = absurd h
+incomplete_fits answer.Rfnm (Taken place text) h = tt
+incomplete_fits answer.Dead Empty h = absurd h
+incomplete_fits answer.Dead (Waiting place text) h = tt
+incomplete_fits answer.Dead (Taken place text) h = absurd h
+incomplete_fits answer.Incomplete box h = h
+
+-- the answers but RFNM
+abbrev others : List Answer → List Answer
+others ks = filter (λ k. not (is_rfnm k)) ks
+
+fits_told : (s d : Bool) (box : Box) → Fits answer.Incomplete box → FitsBox s d [] (one_if s answer.Incomplete) box
+fits_told true d box h = record { queued = inl refl; told = λ u n. inr (answer.Incomplete, refl, h); shut = λ u. absurd (cc) }
+fits_told false d box h = record { queued = inl refl; told = λ u n. absurd (cc); shut = λ u. refl }
+
+-- what was outstanding is told Incomplete
+record GivesUp (s : Bool) (ks : List Answer) (box : Box) : Type 0 where
+  pub rest : others ks ≡ []
+  pub fit : s ≡ true → Fits answer.Incomplete box
+
+rfnm_only : (k : Answer) → list_any is_rfnm (k ∷ []) ≡ true → others (k ∷ []) ≡ []
+rfnm_only answer.Rfnm e = refl
+rfnm_only answer.Incomplete e = absurd (cc)
+rfnm_only answer.Dead e = absurd (cc)
+
+gives_up : (s d : Bool) (ts : List (List Bool)) (ks : List Answer) (box : Box) → FitsBox s d ts ks box → (has_any ts || list_any is_rfnm ks) ≡ true → GivesUp s ks box
+gives_up s d ts ks box h e = elim h.queued [
+  | inr (t, one, holds, none, there) ↦ record { rest = ap others none; fit = λ u. fits_incomplete box t holds }
+  | inl quiet ↦ quiet_gives s refl (let P : List (List Bool) → Type 0 = λ x. (has_any x || list_any is_rfnm ks) ≡ true in subst P quiet e) quiet
+] where
+  quiet_gives : (b : Bool) → s ≡ b → list_any is_rfnm ks ≡ true → ts ≡ [] → GivesUp s ks box
+  quiet_gives true u n quiet = elim (h.told u quiet) [
+    | inl (none, empty) ↦ absurd (let c : false ≡ true = (let P : List Answer → Type 0 = λ x. list_any is_rfnm x ≡ true in subst P none n) in cc)
+    | inr (k, one, fit) ↦ record {
+      rest = ap others one ∙ rfnm_only k (let P : List Answer → Type 0 = λ x. list_any is_rfnm x ≡ true in subst P one n);
+      fit = λ v. incomplete_fits k box fit;
+    }
+  ]
+  quiet_gives false u n quiet = absurd (let c : false ≡ true = (let P : List Answer → Type 0 = λ x. list_any is_rfnm x ≡ true in subst P (h.shut u) n) in cc)
+
+fits_given : (s d : Bool) (ks : List Answer) (box : Box) → GivesUp s ks box → FitsBox s d [] (others ks ++ one_if s answer.Incomplete) box
+fits_given true d ks box g =
+    same_fits refl refl refl (ap (λ (xs : List Answer). xs ++ answer.Incomplete ∷ []) g.rest) refl (fits_told true d box (g.fit refl))
+fits_given false d ks box g =
+    same_fits refl refl refl (ap (λ (xs : List Answer). xs ++ []) g.rest) refl (record { queued = inl refl; told = λ u n. absurd (cc); shut = λ u. refl })
+
+record Outstanding (b : Boxes) (f : Flow) : Type 0 where
+  pub running : b.stopped ≡ false
+  pub there : is_host b.hosts f.source ≡ true
+  pub busy : (has_any (texts_of f b.queue) || list_any is_rfnm (kinds_of f b.answers)) ≡ true
+
+outstanding : (b : Boxes) (f : Flow) → give_up_refusal b.stopped b.hosts b.queue b.answers f ≡ None → Outstanding b f
+outstanding b f e =
+    let g1 = guard b.stopped fault.Stopped _ e in
+    let g2 = guard (not (is_host b.hosts f.source)) fault.NoSuch _ g1.1 in
+    let g3 = guard (not (is_outstanding b.queue b.answers f)) fault.NotOutstanding _ g2.1 in
+    let busy : is_outstanding b.queue b.answers f ≡ true = not_false (is_outstanding b.queue b.answers f) g3.0 in
+    record {
+      running = g1.0;
+      there = not_false (is_host b.hosts f.source) g2.0;
+      busy = ap (λ (x : Bool). x || list_any is_rfnm (kinds_of f b.answers)) (sym (any_of f b.queue)) ∙ ap (λ (x : Bool). list_any (is_of f) b.queue || x) (sym (any_rfnm f b.answers)) ∙ busy;
+    }
+
+given_here : (b : Boxes) (f : Flow) → Matches b → Outstanding b f → FlowFits (given_up b f) f
+given_here b f k o =
+    let s = not (is_host b.down f.source) in
+    let d = is_running b.hosts b.down f.destination in
+    let same : is_running b.hosts b.down f.source ≡ s = rw o.there refl in
+    let h : FitsBox s d (texts_of f b.queue) (kinds_of f b.answers) (box_of f b.log) = same_fits (sym same) refl refl refl refl (k.flows f) in
+    let texts : texts_of f (filter (λ m. not (is_of f m)) b.queue) ≡ [] =
+    texts_of-filter f (λ m. not (is_of f m)) b.queue ∙ filter_all (not (same_flow f f)) (texts_of f b.queue)
+    ∙ ap (λ (x : Bool). if x then texts_of f b.queue else []) (ap not (same_flow-refl f)) in
+    let left : kinds_of f (filter (λ a. not (is_rfnm_about f a)) b.answers) ≡ others (kinds_of f b.answers) =
+    kinds_of-filter f (λ a. not (is_rfnm_about f a)) b.answers ∙ ap (λ (x : Bool). filter (λ k. not (x && is_rfnm k)) (kinds_of f b.answers)) (same_flow-refl f) in
+    let kinds : kinds_of f (filter (λ a. not (is_rfnm_about f a)) b.answers ++ one_if s (answer.Incomplete, f)) ≡ others (kinds_of f b.answers) ++ one_if s answer.Incomplete =
+    kinds_of-append f (filter (λ a. not (is_rfnm_about f a)) b.answers) (one_if s (answer.Incomplete, f))
+    ∙ ap (λ (ks : List Answer). ks ++ kinds_of f (one_if s (answer.Incomplete, f))) left ∙ ap (λ (ks : List Answer). others (kinds_of f b.answers) ++ ks) (kinds_one_same answer.Incomplete f s) in
+    same_fits same refl texts kinds refl (fits_given s d (kinds_of f b.answers) (box_of f b.log) (gives_up s d (texts_of f b.queue) (kinds_of f b.answers) (box_of f b.log) h o.busy))
+
+given_there : (b : Boxes) (f g : Flow) → same_flow g f ≡ false → FlowFits b g → FlowFits (given_up b f) g
+given_there b f g other h =
+    let s = not (is_host b.down f.source) in
+    let back : same_flow f g ≡ false = same_flow-sym f g ∙ other in
+    let texts : texts_of g (filter (λ m. not (is_of f m)) b.queue) ≡ texts_of g b.queue =
+    texts_of-filter g (λ m. not (is_of f m)) b.queue ∙ filter_all (not (same_flow f g)) (texts_of g b.queue)
+    ∙ ap (λ (x : Bool). if x then texts_of g b.queue else []) (ap not back) in
+    let left : kinds_of g (filter (λ a. not (is_rfnm_about f a)) b.answers) ≡ kinds_of g b.answers =
+    kinds_of-filter g (λ a. not (is_rfnm_about f a)) b.answers ∙ ap (λ (x : Bool). filter (λ k. not (x && is_rfnm k)) (kinds_of g b.answers)) back ∙ filter_all true (kinds_of g b.answers) in
+    let kinds : kinds_of g (filter (λ a. not (is_rfnm_about f a)) b.answers ++ one_if s (answer.Incomplete, f)) ≡ kinds_of g b.answers =
+    kinds_of-append g (filter (λ a. not (is_rfnm_about f a)) b.answers) (one_if s (answer.Incomplete, f))
+    ∙ ap (λ (ks : List Answer). ks ++ kinds_of g (one_if s (answer.Incomplete, f))) left ∙ ap (λ (ks : List Answer). kinds_of g b.answers ++ ks) (kinds_one_other g answer.Incomplete f s other)
+    ∙ append-nil (kinds_of g b.answers) in
+    same_fits refl refl texts kinds refl h
+
+given_flow : (b : Boxes) (f : Flow) → Matches b → Outstanding b f → (g : Flow) (same : Bool) → same_flow g f ≡ same → FlowFits (given_up b f) g
+given_flow b f k o g true e =
+    let P : Flow → Type 0 = λ x. FlowFits (given_up b f) x in
+    subst P (sym (same_flow-true g f e)) (given_here b f k o)
+given_flow b f k o g false e = given_there b f g e (k.flows g)
+
+pub given_sound : (b : Boxes) (f : Flow) → IsSound b → give_up_refusal b.stopped b.hosts b.queue b.answers f ≡ None → IsSound (given_up b f)
+given_sound b f s e =
+    let o : Outstanding b f = outstanding b f e in
+    let k : Matches b = s.matches o.running in
+    record { ordered = s.ordered; run = s.run; matches = λ running. record { up = k.up; flows = λ g. given_flow b f k o g (same_flow g f) refl } }
+
+-- ---- a host that goes down
+
+-- what waits of a flow when its source (a) or its destination (b) goes down
+abbrev down_kinds : Bool → Bool → Bool → List (List Bool) → List Answer → List Answer
+down_kinds a b s ts ks = (if a then [] else ks) ++ (if (if a then false else s) then map (λ t. answer.Dead) (if b then ts else []) else [])
+
+dead_fits : (box : Box) (t : List Bool) → Holds box t → Fits answer.Dead box
+dead_fits Empty t h = absurd h
+dead_fits (Waiting place kept) t h = tt
+dead_fits (Taken place kept) t h = absurd h
+
+fits_down : (a b s d : Bool) (ts : List (List Bool)) (ks : List Answer) (box : Box) → FitsBox s d ts ks box
+    → FitsBox (if a then false else s) (if b then false else d) (if b then [] else ts) (down_kinds a b s ts ks) box
+fits_down true true s d ts ks box h = record { queued = inl refl; told = λ u n. absurd (cc); shut = λ u. refl }
+fits_down true false s d ts ks box h = record {
+  queued = elim h.queued [ inl none ↦ inl none | inr (t, one, holds, none, there) ↦ inr (t, one, holds, refl, there) ];
+  told = λ u n. absurd (cc);
+  shut = λ u. refl;
+}
+fits_down false true false d ts ks box h = record { queued = inl refl; told = λ u n. absurd (cc); shut = λ u. append-nil ks ∙ h.shut refl }
+fits_down false true true d ts ks box h = record {
+  queued = inl refl;
+  told = λ u n. elim h.queued [
+    | inr (t, one, holds, none, there) ↦
+        inr (answer.Dead, ap (λ (xs : List Answer). xs ++ map (λ t. answer.Dead) ts) none ∙ ap (λ (xs : List (List Bool)). map (λ t. answer.Dead) xs) one, dead_fits box t holds)
+    | inl none ↦ elim (h.told refl none) [
+      | inl (quiet, empty) ↦ inl (ap (λ (xs : List Answer). xs ++ map (λ t. answer.Dead) ts) quiet ∙ ap (λ (xs : List (List Bool)). map (λ t. answer.Dead) xs) none, empty)
+      | inr (k, one, fit) ↦ inr (k, ap (λ (xs : List Answer). xs ++ map (λ t. answer.Dead) ts) one ∙ ap (λ (xs : List (List Bool)). k ∷ map (λ t. answer.Dead) xs) none, fit)
+    ]
+  ];
+  shut = λ u. absurd (cc);
+}
+fits_down false false false d ts ks box h = same_fits refl refl refl (append-nil ks) refl h
+fits_down false false true d ts ks box h = same_fits refl refl refl (append-nil ks) refl h
+
+-- who runs when a host more is down
+runs_less : (hosts down : List Host) (h x : Host) → is_running hosts (down ++ h ∷ []) x ≡ (if same_host x h then false else is_running hosts down x)
+runs_less hosts down h x =
+    let any : is_host (down ++ h ∷ []) x ≡ (is_host down x || same_host x h) = list_any-append (same_host x) down (h ∷ []) ∙ ap (λ (v : Bool). is_host down x || v) (or_nothing (same_host x h)) in
+    ap (λ (v : Bool). is_host hosts x && not v) any ∙ tests (is_host hosts x) (is_host down x) (same_host x h) where
+      tests : (a b c : Bool) → (a && not (b || c)) ≡ (if c then false else (a && not b))
+      tests true true true = refl
+      tests true true false = refl
+      tests true false true = refl
+      tests true false false = refl
+      tests false b true = refl
+      tests false b false = refl
+
+down_flow : (b : Boxes) (h : Host) (g : Flow) → FlowFits b g → FlowFits (host_stopped b h) g
+down_flow b h g k =
+    let x = same_host g.source h in
+    let y = same_host g.destination h in
+    let down = b.down ++ h ∷ [] in
+    let s = is_running b.hosts b.down g.source in
+    let source : is_running b.hosts down g.source ≡ (if x then false else s) = runs_less b.hosts b.down h g.source in
+    let destination : is_running b.hosts down g.destination ≡ (if y then false else is_running b.hosts b.down g.destination) = runs_less b.hosts b.down h g.destination in
+    let to : same_host h g.destination ≡ y = same_host-sym h g.destination in
+    let from : same_host h g.source ≡ x = same_host-sym h g.source in
+    let texts : texts_of g (filter (λ m. not (is_to h m)) b.queue) ≡ (if y then [] else texts_of g b.queue) =
+    texts_of-filter g (λ m. not (is_to h m)) b.queue ∙ filter_all (not (same_host h g.destination)) (texts_of g b.queue)
+    ∙ ap (λ (v : Bool). if not v then texts_of g b.queue else []) to ∙ if_not (texts_of g b.queue) y in
+    let gone : texts_of g (filter (is_to h) b.queue) ≡ (if y then texts_of g b.queue else []) =
+    texts_of-filter g (is_to h) b.queue ∙ filter_all (same_host h g.destination) (texts_of g b.queue) ∙ ap (λ (v : Bool). if v then texts_of g b.queue else []) to in
+    let left : kinds_of g (filter (λ a. not (is_told_to h a)) b.answers) ≡ (if x then [] else kinds_of g b.answers) =
+    kinds_of-filter g (λ a. not (is_told_to h a)) b.answers ∙ filter_all (not (same_host h g.source)) (kinds_of g b.answers)
+    ∙ ap (λ (v : Bool). if not v then kinds_of g b.answers else []) from ∙ if_not (kinds_of g b.answers) x in
+    let dead : kinds_of g (dead_to b.hosts down (filter (is_to h) b.queue)) ≡ (if (if x then false else s) then map (λ t. answer.Dead) (if y then texts_of g b.queue else []) else []) =
+    kinds_of-dead_to b.hosts down g (filter (is_to h) b.queue)
+    ∙ ap (λ (v : Bool). if v then map (λ t. answer.Dead) (texts_of g (filter (is_to h) b.queue)) else []) source
+    ∙ ap (λ (ts : List (List Bool)). if (if x then false else s) then map (λ t. answer.Dead) ts else []) gone in
+    let kinds : kinds_of g (filter (λ a. not (is_told_to h a)) b.answers ++ dead_to b.hosts down (filter (is_to h) b.queue)) ≡ down_kinds x y s (texts_of g b.queue) (kinds_of g b.answers) =
+    kinds_of-append g (filter (λ a. not (is_told_to h a)) b.answers) (dead_to b.hosts down (filter (is_to h) b.queue))
+    ∙ ap (λ (ks : List Answer). ks ++ kinds_of g (dead_to b.hosts down (filter (is_to h) b.queue))) left
+    ∙ ap (λ (ks : List Answer). (if x then [] else kinds_of g b.answers) ++ ks) dead in
+    same_fits source destination texts kinds refl (fits_down x y s (is_running b.hosts b.down g.destination) (texts_of g b.queue) (kinds_of g b.answers) (box_of g b.log) k) where
+      if_not : {A : Type 0} (xs : List A) (v : Bool) → (if not v then xs else []) ≡ (if v then [] else xs)
+      if_not xs true = refl
+      if_not xs false = refl
+
+pub stopped_sound : (b : Boxes) (h : Host) → IsSound b → host_refusal b.stopped b.hosts b.down h ≡ None → IsSound (host_stopped b h)
+stopped_sound b h s e =
+    let r : Runs b h = runs_here b h e in
+    let k : Matches b = s.matches r.running in
+    record {
+      ordered = s.ordered;
+      run = (k.up h ∙ r.host, s.run);
+      matches = λ running. record {
+        up = λ x. ap (λ (v : Bool). if same_host x h then false else v) (k.up x) ∙ sym (runs_less b.hosts b.down h x);
+        flows = λ g. down_flow b h g (k.flows g);
+      };
+    }
+
+-- ---- a host that comes up
+
+record Rises (b : Boxes) (h : Host) : Type 0 where
+  pub running : b.stopped ≡ false
+  pub there : is_host b.hosts h ≡ true
+  pub down : is_host b.down h ≡ true
+  pub settled : list_any (is_from h) b.queue ≡ false
+
+rises : (b : Boxes) (h : Host) → host_up_refusal b.stopped b.hosts b.down b.queue h ≡ None → Rises b h
+rises b h e =
+    let g1 = guard b.stopped fault.Stopped _ e in
+    let g2 = guard (not (is_host b.hosts h)) fault.NoSuch _ g1.1 in
+    let g3 = guard (not (is_host b.down h)) fault.IsUp _ g2.1 in
+    let g4 = guard (list_any (is_from h) b.queue) fault.Unsettled _ g3.1 in
+    record { running = g1.0; there = not_false (is_host b.hosts h) g2.0; down = not_false (is_host b.down h) g3.0; settled = g4.0 }
+
+dropped_more : (g : Host) (down : List Host) (h x : Host)
+    → is_host (filter (λ y. not (same_host h y)) down) x ≡ (if same_host x h then false else is_host down x)
+    → (a v : Bool) → same_host h g ≡ a → same_host x h ≡ v
+    → is_host (filter (λ y. not (same_host h y)) (g ∷ down)) x ≡ (if same_host x h then false else is_host (g ∷ down) x)
+dropped_more g down h x rest true true a v =
+    let r : is_host (filter (λ y. not (same_host h y)) down) x ≡ false = rw v at rest in rw (a, v) r
+dropped_more g down h x rest true false a v =
+    let r : is_host (filter (λ y. not (same_host h y)) down) x ≡ is_host down x = rw v at rest in
+    let same : same_host x g ≡ false = (let P : Host → Type 0 = λ y. same_host x y ≡ false in subst P (same_host-true h g a) v) in
+    rw (a, v, same) r
+dropped_more g down h x rest false true a v =
+    let r : is_host (filter (λ y. not (same_host h y)) down) x ≡ false = rw v at rest in
+    let other : same_host x g ≡ false = (let P : Host → Type 0 = λ y. same_host y g ≡ false in subst P (sym (same_host-true x h v)) a) in
+    rw (a, v, other) r
+dropped_more g down h x rest false false a v =
+    let r : is_host (filter (λ y. not (same_host h y)) down) x ≡ is_host down x = rw v at rest in
+    rw (a, v) (ap (λ (b : Bool). same_host x g || b) r)
+
+-- the list without a host has another exactly where it had it
+dropped_other : (down : List Host) (h x : Host) → is_host (filter (λ y. not (same_host h y)) down) x ≡ (if same_host x h then false else is_host down x)
+dropped_other [] h x = if_same (same_host x h)
+dropped_other (g ∷ down) h x = dropped_more g down h x (dropped_other down h x) (same_host h g) (same_host x h) refl refl
+
+-- who runs when a host is up again
+runs_more : (hosts down : List Host) (h x : Host) → is_host hosts h ≡ true
+    → is_running hosts (filter (λ y. not (same_host h y)) down) x ≡ (if same_host x h then true else is_running hosts down x)
+runs_more hosts down h x there =
+    ap (λ (v : Bool). is_host hosts x && not v) (dropped_other down h x) ∙ runs_again (same_host x h) refl where
+      runs_again : (v : Bool) → same_host x h ≡ v → (is_host hosts x && not (if same_host x h then false else is_host down x)) ≡ (if same_host x h then true else is_running hosts down x)
+      runs_again true e = let here : is_host hosts x ≡ true = (let P : Host → Type 0 = λ y. is_host hosts y ≡ true in subst P (sym (same_host-true x h e)) there) in rw (e, here) refl
+      runs_again false e = rw e refl
+
+-- a flow whose source (a) or destination (b) comes up
+fits_up : (a b s d : Bool) (ts : List (List Bool)) (ks : List Answer) (box : Box) → FitsBox s d ts ks box
+    → (a ≡ true → (ts ≡ []) × (s ≡ false)) → (b ≡ true → d ≡ false)
+    → FitsBox (if a then true else s) (if b then true else d) ts ks (if a then Empty else box)
+fits_up true true s d ts ks box h from to =
+    record { queued = inl (from refl).0; told = λ u n. inl (h.shut (from refl).1, refl); shut = λ u. h.shut (from refl).1 }
+fits_up true false s d ts ks box h from to =
+    record { queued = inl (from refl).0; told = λ u n. inl (h.shut (from refl).1, refl); shut = λ u. h.shut (from refl).1 }
+fits_up false true s d ts ks box h from to = record {
+  queued = elim h.queued [ inl none ↦ inl none | inr (t, one, holds, none, there) ↦ inr (t, one, holds, none, refl) ];
+  told = h.told;
+  shut = h.shut;
+}
+fits_up false false s d ts ks box h from to = h
+
+-- nobody runs who is down
+down_stands : (b : Boxes) (h x : Host) → is_host b.down h ≡ true → same_host x h ≡ true → is_running b.hosts b.down x ≡ false
+down_stands b h x down e =
+    let here : is_host b.down x ≡ true = (let P : Host → Type 0 = λ y. is_host b.down y ≡ true in subst P (sym (same_host-true x h e)) down) in
+    rw here (nothing (is_host b.hosts x)) where
+      nothing : (v : Bool) → (v && false) ≡ false
+      nothing true = refl
+      nothing false = refl
+
+up_flow : (b : Boxes) (h : Host) (g : Flow) → Rises b h → FlowFits b g → FlowFits (host_started b h) g
+up_flow b h g r k =
+    let x = same_host g.source h in
+    let y = same_host g.destination h in
+    let down = filter (λ z. not (same_host h z)) b.down in
+    let source : is_running b.hosts down g.source ≡ (if x then true else is_running b.hosts b.down g.source) = runs_more b.hosts b.down h g.source r.there in
+    let destination : is_running b.hosts down g.destination ≡ (if y then true else is_running b.hosts b.down g.destination) = runs_more b.hosts b.down h g.destination r.there in
+    let from : x ≡ true → (texts_of g b.queue ≡ []) × (is_running b.hosts b.down g.source ≡ false) =
+    λ e. (none_from g b.queue (let P : Host → Type 0 = λ z. list_any (is_from z) b.queue ≡ false in subst P (sym (same_host-true g.source h e)) r.settled), down_stands b h g.source r.down e) in
+    same_fits source destination refl refl refl
+    (fits_up x y (is_running b.hosts b.down g.source) (is_running b.hosts b.down g.destination) (texts_of g b.queue) (kinds_of g b.answers) (box_of g b.log) k from
+    (λ e. down_stands b h g.destination r.down e))
+
+pub started_sound : (b : Boxes) (h : Host) → IsSound b → host_up_refusal b.stopped b.hosts b.down b.queue h ≡ None → IsSound (host_started b h)
+started_sound b h s e =
+    let r : Rises b h = rises b h e in
+    let k : Matches b = s.matches r.running in
+    record {
+      ordered = s.ordered;
+      run = ((r.there, k.up h ∙ down_stands b h h r.down (same_host-refl h)), s.run);
+      matches = λ running. record {
+        up = λ x. ap (λ (v : Bool). if same_host x h then true else v) (k.up x) ∙ sym (runs_more b.hosts b.down h x r.there);
+        flows = λ g. up_flow b h g r (k.flows g);
+      };
+    }

@@ -1,0 +1,243 @@
+-- The plainest carrier: each host's messages wait in one queue, and answers wait for their sources. Nothing is ever lost.
+use Rattle.std.specs.Prelude.{◌≡◌, ℕ, Bool, true, false, not, List, [], ◌∷◌, ◌++◌, Option, Some, None, Result, Ok, Err, if◌then◌else◌, ◌==◌, ◌&&◌, ◌||◌, filter, map, find}
+use Rattle.std.specs.List.{list_any}
+use Rattle.leader1822.specs.Host.{Host, same_host, is_host}
+use Rattle.leader1822.specs.Mailboxes.{same_flow}
+use Rattle.leader1822.specs.Calls.{Seen, is_memory}
+use Rattle.leader1822.specs.declared.address.Flow.{Flow}
+use Rattle.leader1822.specs.declared.carrier.CarrierFault.{CarrierFault}
+use Rattle.leader1822.specs.declared.carrier.CarrierFault.TheVariants as fault
+use Rattle.leader1822.specs.declared.crossing.Answer.{Answer}
+use Rattle.leader1822.specs.declared.crossing.Answer.TheVariants as answer
+use Rattle.leader1822.specs.declared.crossing.Crossing.{Crossing}
+use Rattle.leader1822.specs.declared.crossing.Crossing.TheVariants as crossing
+use Rattle.leader1822.specs.declared.crossing.Inbound.{Inbound}
+use Rattle.leader1822.specs.declared.crossing.Inbound.TheVariants as inbound
+use Rattle.leader1822.specs.declared.event.NetEvent.{NetEvent}
+use Rattle.leader1822.specs.declared.event.NetEvent.TheVariants as event
+use Rattle.leader1822.specs.declared.message.HostMessage.{HostMessage}
+
+-- an answer that waits for the source of its flow
+abbrev pub Told : Type 0
+Told = Answer × Flow
+
+-- the hosts, those of them that are down, the messages and the answers that wait (oldest first), the log (newest first),
+-- and whether want of memory has stopped it all
+pub record Boxes : Type 0 where
+  pub hosts : List Host
+  pub down : List Host
+  pub queue : List HostMessage
+  pub answers : List Told
+  pub log : List Crossing
+  pub stopped : Bool
+
+abbrev pub seen_of : Boxes → Seen
+seen_of b = record { hosts = b.hosts; log = b.log; stopped = b.stopped }
+
+-- ---- small words
+
+-- a host of the network that isn't down
+abbrev pub is_running : List Host → List Host → Host → Bool
+is_running hosts down h = is_host hosts h && not (is_host down h)
+
+abbrev pub is_of : Flow → HostMessage → Bool
+is_of f m = same_flow f m.flow
+
+abbrev pub is_about : Flow → Told → Bool
+is_about f a = same_flow f a.1
+
+abbrev pub is_from : Host → HostMessage → Bool
+is_from h m = same_host h m.flow.source
+
+abbrev pub is_to : Host → HostMessage → Bool
+is_to h m = same_host h m.flow.destination
+
+abbrev pub is_told_to : Host → Told → Bool
+is_told_to h a = same_host h a.1.source
+
+abbrev pub is_rfnm : Answer → Bool
+is_rfnm answer.Rfnm = true
+is_rfnm answer.Incomplete = false
+is_rfnm answer.Dead = false
+
+abbrev pub is_rfnm_about : Flow → Told → Bool
+is_rfnm_about f a = is_about f a && is_rfnm a.0
+
+-- a flow is busy while its message or an answer about it waits
+abbrev pub is_busy : List HostMessage → List Told → Flow → Bool
+is_busy queue answers f = list_any (is_of f) queue || list_any (is_about f) answers
+
+-- a message of a flow is outstanding while it waits or its RFNM waits
+abbrev pub is_outstanding : List HostMessage → List Told → Flow → Bool
+is_outstanding queue answers f = list_any (is_of f) queue || list_any (is_rfnm_about f) answers
+
+abbrev pub one_if : {A : Type 0} → Bool → A → List A
+one_if test x = if test then x ∷ [] else []
+
+-- ---- offering
+
+abbrev pub offer_refusal : Bool → List Host → List Host → List HostMessage → List Told → Flow → Option CarrierFault
+offer_refusal stopped hosts down queue answers f =
+    if stopped then Some fault.Stopped
+    else (if not (is_host hosts f.source) then Some fault.NoSuch
+    else (if is_host down f.source then Some fault.IsDown
+    else (if is_busy queue answers f then Some fault.Blocked
+    else None)))
+
+-- the message waits for its destination; where that is down or not there, Dead waits for the source at once
+abbrev pub offered : Boxes → HostMessage → Boxes
+offered b m = record b {
+  queue = b.queue ++ one_if (is_running b.hosts b.down m.flow.destination) m;
+  answers = b.answers ++ one_if (not (is_running b.hosts b.down m.flow.destination)) (answer.Dead, m.flow);
+  log = crossing.Out m ∷ b.log;
+}
+
+-- ---- taking
+
+abbrev pub host_refusal : Bool → List Host → List Host → Host → Option CarrierFault
+host_refusal stopped hosts down h =
+    if stopped then Some fault.Stopped
+    else (if not (is_host hosts h) then Some fault.NoSuch
+    else (if is_host down h then Some fault.IsDown
+    else None))
+
+-- the list without its first element that passes
+abbrev pub without_first : {A : Type 0} → (A → Bool) → List A → List A
+without_first test [] = []
+without_first test (x ∷ xs) = if test x then xs else x ∷ without_first test xs
+
+abbrev pub inbound_of : Told → Inbound
+inbound_of a = inbound.Answer a.0 a.1
+
+-- what a host takes next: the oldest answer that waits for it, else the oldest message, else nothing
+abbrev pub answer_first : Option Told → Option HostMessage → Option Inbound
+answer_first (Some a) m = Some (inbound_of a)
+answer_first None (Some m) = Some (inbound.Message m)
+answer_first None None = None
+
+abbrev pub next_for : List Told → List HostMessage → Host → Option Inbound
+next_for answers queue h = answer_first (find (is_told_to h) answers) (find (is_to h) queue)
+
+-- what is left when a host took this; for a message an RFNM waits for its source, if that is up
+abbrev pub taken : Boxes → Host → Option Inbound → Boxes
+taken b h None = b
+taken b h (Some (inbound.Answer kind f)) = record b {
+  answers = without_first (is_told_to h) b.answers;
+  log = crossing.Answer kind f ∷ b.log;
+}
+taken b h (Some (inbound.Message m)) = record b {
+  queue = without_first (is_to h) b.queue;
+  answers = b.answers ++ one_if (is_running b.hosts b.down m.flow.source) (answer.Rfnm, m.flow);
+  log = crossing.In m ∷ b.log;
+}
+
+-- ---- events
+
+-- giving up looks for the source alone, and whether its flow has something outstanding: a message that waits, or, while
+-- the source is up, an RFNM that waits; a flow that is told Dead or Incomplete already has nothing
+abbrev pub give_up_refusal : Bool → List Host → List HostMessage → List Told → Flow → Option CarrierFault
+give_up_refusal stopped hosts queue answers f =
+    if stopped then Some fault.Stopped
+    else (if not (is_host hosts f.source) then Some fault.NoSuch
+    else (if not (is_outstanding queue answers f) then Some fault.NotOutstanding
+    else None))
+
+-- the message leaves the queue, its RFNM is withdrawn, and Incomplete waits for the source, if that is up
+abbrev pub given_up : Boxes → Flow → Boxes
+given_up b f = record b {
+  queue = filter (λ m. not (is_of f m)) b.queue;
+  answers = filter (λ a. not (is_rfnm_about f a)) b.answers ++ one_if (not (is_host b.down f.source)) (answer.Incomplete, f);
+}
+
+-- what waits for the host is cleared, and each of its messages gives its source Dead, if that is up; the host itself is
+-- down by then
+abbrev pub dead_to : List Host → List Host → List HostMessage → List Told
+dead_to hosts down messages = map (λ m. (answer.Dead, m.flow)) (filter (λ m. is_running hosts down m.flow.source) messages)
+
+abbrev pub host_stopped : Boxes → Host → Boxes
+host_stopped b h = record b {
+  down = b.down ++ h ∷ [];
+  queue = filter (λ m. not (is_to h m)) b.queue;
+  answers = filter (λ a. not (is_told_to h a)) b.answers ++ dead_to b.hosts (b.down ++ h ∷ []) (filter (is_to h) b.queue);
+  log = crossing.Down h ∷ b.log;
+}
+
+-- a host comes up once no message of its own waits for another
+abbrev pub host_up_refusal : Bool → List Host → List Host → List HostMessage → Host → Option CarrierFault
+host_up_refusal stopped hosts down queue h =
+    if stopped then Some fault.Stopped
+    else (if not (is_host hosts h) then Some fault.NoSuch
+    else (if not (is_host down h) then Some fault.IsUp
+    else (if list_any (is_from h) queue then Some fault.Unsettled
+    else None)))
+
+abbrev pub host_started : Boxes → Host → Boxes
+host_started b h = record b {
+  down = filter (λ g. not (same_host h g)) b.down;
+  log = crossing.Up h ∷ b.log;
+}
+
+abbrev pub no_event_refusal : Bool → Option CarrierFault
+no_event_refusal stopped = if stopped then Some fault.Stopped else Some fault.NoSuch
+
+-- the first refusal of an event
+abbrev pub step_refusal : Boxes → NetEvent → Option CarrierFault
+step_refusal b (event.GiveUp f) = give_up_refusal b.stopped b.hosts b.queue b.answers f
+step_refusal b (event.HostDown h) = host_refusal b.stopped b.hosts b.down h
+step_refusal b (event.HostUp h) = host_up_refusal b.stopped b.hosts b.down b.queue h
+step_refusal b (event.Deliver line direction frame) = no_event_refusal b.stopped
+step_refusal b (event.Drop line direction frame) = no_event_refusal b.stopped
+step_refusal b (event.Resend imp) = no_event_refusal b.stopped
+step_refusal b (event.Route imp) = no_event_refusal b.stopped
+step_refusal b (event.EndDown imp line) = no_event_refusal b.stopped
+step_refusal b (event.EndUp imp line) = no_event_refusal b.stopped
+step_refusal b (event.ImpDown imp) = no_event_refusal b.stopped
+step_refusal b (event.ImpUp imp) = no_event_refusal b.stopped
+step_refusal b (event.Forget at from) = no_event_refusal b.stopped
+step_refusal b (event.Abandon f) = no_event_refusal b.stopped
+
+-- what an event leaves, where it is not refused
+abbrev pub stepped : Boxes → NetEvent → Boxes
+stepped b (event.GiveUp f) = given_up b f
+stepped b (event.HostDown h) = host_stopped b h
+stepped b (event.HostUp h) = host_started b h
+stepped b (event.Deliver line direction frame) = b
+stepped b (event.Drop line direction frame) = b
+stepped b (event.Resend imp) = b
+stepped b (event.Route imp) = b
+stepped b (event.EndDown imp line) = b
+stepped b (event.EndUp imp line) = b
+stepped b (event.ImpDown imp) = b
+stepped b (event.ImpUp imp) = b
+stepped b (event.Forget at from) = b
+stepped b (event.Abandon f) = b
+
+-- ---- the calls
+
+-- after want of memory hosts and log stand; of what waits nothing is said, since nothing is ever taken again
+pub record HasHalted (old new : Boxes) : Type 0 where
+  pub hosts : new.hosts ≡ old.hosts
+  pub log : new.log ≡ old.log
+  pub stopped : new.stopped ≡ true
+
+-- a call that is refused for `refusal`, and else gives a value with this property; want of memory comes last
+abbrev pub BoxesDecided : {T : Type 0} → Option CarrierFault → (T → Type 0) → Boxes → Result T CarrierFault → Boxes → Type 0
+BoxesDecided refusal Gives old (Ok x) new = (refusal ≡ None) × Gives x
+BoxesDecided refusal Gives old (Err fault.OutOfMemory) new = (refusal ≡ None) × HasHalted old new
+BoxesDecided refusal Gives old (Err e) new = (refusal ≡ Some e) × (new ≡ old)
+
+abbrev pub BoxesOffer : Boxes → HostMessage → Result (Unit {0}) CarrierFault → Boxes → Type 0
+BoxesOffer old m r new =
+    BoxesDecided (offer_refusal old.stopped old.hosts old.down old.queue old.answers m.flow) (λ done. new ≡ offered old m) old r new
+
+abbrev pub BoxesTake : Boxes → Host → Result (Option Inbound) CarrierFault → Boxes → Type 0
+BoxesTake old h r new =
+    BoxesDecided (host_refusal old.stopped old.hosts old.down h) (λ o. (o ≡ next_for old.answers old.queue h) × (new ≡ taken old h o)) old r new
+
+abbrev pub BoxesStep : Boxes → NetEvent → Result (Unit {0}) CarrierFault → Boxes → Type 0
+BoxesStep old e r new = BoxesDecided (step_refusal old e) (λ done. new ≡ stepped old e) old r new
+
+-- nothing is on its way, so a quiet round changes nothing
+abbrev pub BoxesRound : Boxes → Result (Unit {0}) CarrierFault → Boxes → Type 0
+BoxesRound old (Ok done) new = (old.stopped ≡ false) × (new ≡ old)
+BoxesRound old (Err e) new = (old.stopped ≡ true) × (e ≡ fault.Stopped) × (new ≡ old)

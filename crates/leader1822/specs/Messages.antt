@@ -1,0 +1,51 @@
+-- What every host may rely on, whatever carries its messages: an RFNM speaks of one message that was taken once, and no
+-- message is taken twice.
+use Rattle.std.specs.Prelude.{◌≡◌, ℕ, Bool, true, false, List, [], ◌∷◌, ◌++◌, ◌||◌, if◌then◌else◌, ◌⊎◌}
+use Rattle.leader1822.specs.Mailboxes.{same_flow}
+use Rattle.leader1822.specs.declared.address.Flow.{Flow}
+use Rattle.leader1822.specs.declared.crossing.Answer.TheVariants as answer
+use Rattle.leader1822.specs.declared.crossing.Crossing.{Crossing}
+use Rattle.leader1822.specs.declared.crossing.Crossing.TheVariants as crossing
+use Rattle.leader1822.specs.declared.message.HostMessage.{HostMessage}
+
+-- the texts of a flow's messages that were taken in this part of a log, newest first
+abbrev pub taken_in : Flow → List Crossing → List (List Bool)
+taken_in f [] = []
+taken_in f (crossing.Out m ∷ log) = taken_in f log
+taken_in f (crossing.In m ∷ log) = if same_flow f m.flow then m.text ∷ taken_in f log else taken_in f log
+taken_in f (crossing.Answer kind g ∷ log) = taken_in f log
+taken_in f (crossing.Down h ∷ log) = taken_in f log
+taken_in f (crossing.Up h ∷ log) = taken_in f log
+
+-- whether a message of the flow went out in this part of a log
+abbrev pub went_out : Flow → List Crossing → Bool
+went_out f [] = false
+went_out f (crossing.Out m ∷ log) = same_flow f m.flow || went_out f log
+went_out f (crossing.In m ∷ log) = went_out f log
+went_out f (crossing.Answer kind g ∷ log) = went_out f log
+went_out f (crossing.Down h ∷ log) = went_out f log
+went_out f (crossing.Up h ∷ log) = went_out f log
+
+-- a log ends in the flow's last message out and what came since
+pub record SinceLastOut (f : Flow) (log : List Crossing) : Type 0 where
+  pub since : List Crossing
+  pub message : HostMessage
+  pub before : List Crossing
+  pub parts : log ≡ since ++ crossing.Out message ∷ before
+  pub flow : message.flow ≡ f
+  pub last : went_out f since ≡ false
+
+-- and that message was taken exactly once since, with its text
+pub record TakenOnce (f : Flow) (log : List Crossing) : Type 0 where
+  pub out : SinceLastOut f log
+  pub once : taken_in f out.since ≡ out.message.text ∷ []
+
+-- logs are read newest first: what is `newer` came after what is `older`
+pub record SafeMessages (log : List Crossing) : Type 0 where
+  -- below each RFNM, the flow's last message out was taken once, with its text
+  pub answered : (newer older : List Crossing) (f : Flow) → log ≡ newer ++ crossing.Answer answer.Rfnm f ∷ older → TakenOnce f older
+  -- between one message out and the flow's next, at most one message is taken, with that text
+  pub once : (newer since before : List Crossing) (m : HostMessage) → log ≡ newer ++ (since ++ crossing.Out m ∷ before) → went_out m.flow since ≡ false
+    → (taken_in m.flow since ≡ []) ⊎ (taken_in m.flow since ≡ m.text ∷ [])
+  -- before a flow's first message out none is taken
+  pub none_before : (newer older : List Crossing) (f : Flow) → log ≡ newer ++ older → went_out f older ≡ false → taken_in f older ≡ []

@@ -1,0 +1,112 @@
+//! What a network is to its hosts.
+
+ghost use Rattle.std.specs.Prelude.{◌≡◌, Result, Option, reverse};
+ghost use Rattle.leader1822.specs.Host.{Host};
+ghost use Rattle.leader1822.specs.Mailboxes.{IsRun};
+ghost use Rattle.leader1822.specs.Calls.{Seen, InOrder, ShowsOffer, ShowsTake, ShowsStep, ShowsRound};
+ghost use Rattle.leader1822.specs.declared.carrier.CarrierFault.{CarrierFault};
+ghost use Rattle.leader1822.specs.declared.crossing.Inbound.{Inbound};
+ghost use Rattle.leader1822.specs.declared.event.NetEvent.{NetEvent};
+ghost use Rattle.leader1822.specs.declared.message.HostMessage.{HostMessage};
+
+use crate::{Crossing, HostAddr, HostMessage, Inbound, NetEvent};
+use thiserror::Error;
+
+/// Why a carrier refuses a call. Where several apply, the first one here is given, save that `Stopped`
+/// comes before all others.
+#[derive(Clone, Copy, Debug, Drop, PartialEq, Eq, Error)]
+pub enum CarrierFault {
+    /// There is no such host, IMP, line or frame, or the carrier has no such event.
+    #[error("NoSuch")]
+    NoSuch,
+    /// Something that must be gone first is still on its way.
+    #[error("StillAlive")]
+    StillAlive,
+    /// The host, IMP or end of a line is down.
+    #[error("IsDown")]
+    IsDown,
+    /// The host, IMP or end of a line is up.
+    #[error("IsUp")]
+    IsUp,
+    /// A message of the host is still outstanding.
+    #[error("Unsettled")]
+    Unsettled,
+    /// No message of the flow is outstanding.
+    #[error("NotOutstanding")]
+    NotOutstanding,
+    /// The flow has an outstanding message, or an answer that its host hasn't taken.
+    #[error("Blocked")]
+    Blocked,
+    /// No place is left where it would have to go.
+    #[error("NoRoom")]
+    NoRoom,
+    /// Want of memory came before, and nothing is done any more.
+    #[error("Stopped")]
+    Stopped,
+    /// No memory was left. Every later call is `Stopped`.
+    #[error("OutOfMemory")]
+    OutOfMemory,
+}
+
+/// A network as its hosts see it: it takes their messages, gives them what came for them, and keeps the
+/// log of all crossings, which is a run of the mailboxes.
+///
+/// After `OutOfMemory` the log stands as before the call, and every later call that can refuse answers
+/// `Stopped`. Any other refusal changes nothing.
+pub trait Carrier: Drop {
+    /// What every carrier shows: its hosts, its log newest first, and whether it has stopped.
+    ghost seen: { Self → Seen };
+
+    /// How an offer may go: the carrier before, the message, the answer, the carrier after.
+    ghost offers: { Self → HostMessage → Result Unit CarrierFault → Self → Type 0 };
+
+    /// How a taking may go.
+    ghost takes: { Self → Host → Result (Option Inbound) CarrierFault → Self → Type 0 };
+
+    /// How an event may go.
+    ghost steps: { Self → NetEvent → Result Unit CarrierFault → Self → Type 0 };
+
+    /// How a quiet round may go.
+    ghost rounds: { Self → Result Unit CarrierFault → Self → Type 0 };
+
+    /// A message goes from its source to the network.
+    ///
+    /// Errors: `NoSuch` where the source isn't a host of the network, `IsDown` where it is down,
+    /// `Blocked` where the flow isn't idle, and what the carrier adds.
+    fn offer_out(&mut self, message: HostMessage) -> Result<(), CarrierFault>
+        ensures relation { offers self.old message result self.new }
+        ensures shown { ShowsOffer (seen self.old) message result (seen self.new) };
+
+    /// A host takes the oldest answer that waits for it, else the oldest message; `None` where nothing
+    /// waits.
+    ///
+    /// Errors: `NoSuch` where it isn't a host of the network, `IsDown` where it is down, and what the
+    /// carrier adds.
+    fn take_in(&mut self, host: HostAddr) -> Result<Option<Inbound>, CarrierFault>
+        ensures relation { takes self.old host result self.new }
+        ensures shown { ShowsTake (seen self.old) host result (seen self.new) };
+
+    /// Something happens inside the network.
+    ///
+    /// Errors: as the carrier says of each event; `NoSuch` for an event that it has no part for.
+    fn step(&mut self, event: NetEvent) -> Result<(), CarrierFault>
+        ensures relation { steps self.old event result self.new }
+        ensures shown { ShowsStep (seen self.old) event result (seen self.new) };
+
+    /// Each IMP tells its routes and sends again, and what is on the lines arrives.
+    ///
+    /// Errors: `Stopped` and `OutOfMemory` alone.
+    fn quiet_round(&mut self) -> Result<(), CarrierFault>
+        ensures relation { rounds self.old result self.new }
+        ensures shown { ShowsRound (seen self.old) result (seen self.new) };
+
+    /// All crossings so far, oldest first. They are a run of the mailboxes.
+    fn log(&self) -> &[Crossing]
+        ensures value { result.now ≡ reverse (seen self.now).log }
+        ensures run { IsRun (seen self.now).hosts (seen self.now).log };
+
+    /// All hosts of the network, in order of IMP and host.
+    fn hosts(&self) -> &[HostAddr]
+        ensures value { result.now ≡ (seen self.now).hosts }
+        ensures ordered { InOrder (seen self.now).hosts };
+}
