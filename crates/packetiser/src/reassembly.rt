@@ -191,7 +191,8 @@ impl Reassembly {
     /// order that isn't said. `None` past the last.
     #[tactic(auto, unfolding(crate::specs::Slots::in_some_order))]
     pub fn held(&self, k: usize) -> Option<Held>
-        ensures { result ≡ option_map (λ s. record { flow = s.flow; number = s.number }) (slice_get (in_some_order self.now) k) }
+        ensures message { result ≡ option_map (λ s. record { flow = s.flow; number = s.number }) (slice_get (in_some_order self.now) k) }
+        ensures table { IsTable self.now }
     {
         if k >= self.slots.len() {
             return None;
