@@ -1,0 +1,6 @@
+pub mod Packets
+pub mod Pieces
+pub mod Slots
+pub mod Calls
+pub mod Rejoining
+pub mod Holding

@@ -1,0 +1,393 @@
+-- Packets and their octets, both ways.
+use Rattle.std.proofs.Common.{◌≡◌, ℕ, ◌+◌, ◌*◌, ◌/◌, ◌%◌, ◌<◌, ◌≤◌, Bool, true, false, not, List, [], ◌∷◌, ◌++◌, length, get_or, take, drop, refl, ap, sym, ◌∙◌, subst, arith, All, suc, replicate, append-nil}
+use Rattle.std.proofs.Common.{nat_lt, nat_le, ◌==◌, ◌||◌, ◌&&◌, eq-eqb, ne_eqb, eqb-true, le-ltb, inl, inr, ◌⊎◌, zero, Result, Ok, Err, if◌then◌else◌}
+use Rattle.std.proofs.lemmas.Bool.{leb-true, cases_Bool, cases_lt}
+use Rattle.std.proofs.lemmas.List.Elements.{All-from_get_or}
+use Rattle.std.proofs.lemmas.Bool.Decides.{nat_tests}
+use Rattle.std.proofs.lemmas.List.{length-take-le, take_all, get_or_past}
+use Rattle.std.proofs.Common.{length-drop}
+use Rattle.bit_messages.specs.Octets.{octets_of, bits_of, spare_bits}
+use Rattle.bit_messages.proofs.OctetLemmas.{length-bits_of, octets_again, bits_again, octets_below}
+use Rattle.leader1822.specs.Host.{Host, address_octet}
+use Rattle.packetiser.specs.Form.{Form, IsForm, IsPacketHost, IsPiece, IsAnswer, Carries}
+use Rattle.packetiser.specs.Format.{spelling, read_of, kind_octet, kind_of, host_of, is_address, is_short, is_not_canonical, is_bad_length, bit_count, octet_count, is_data, is_last, place_of, place_octet, form_of}
+use Rattle.packetiser.specs.declared.packet.PacketKind.{PacketKind}
+use Rattle.packetiser.specs.declared.packet.PacketKind.TheVariants as kind
+use Rattle.packetiser.specs.declared.fault.PacketFault.{PacketFault}
+use Rattle.packetiser.specs.declared.fault.PacketFault.TheVariants as fault
+
+-- ---- what the tests tell
+
+pub record IsLong (octets : List ℕ) : Type 0 where
+  pub header : 8 ≤ length octets
+  pub body : octet_count (bit_count octets) ≤ length octets
+
+pub long_from : (octets : List ℕ) → is_short octets ≡ false → IsLong octets
+unfolding is_short
+long_from octets e = record { header = grind (arith, nat_tests, e); body = grind (arith, nat_tests, e) }
+
+pub record IsCanonical (octets : List ℕ) : Type 0 where
+  pub kind : get_or octets 0 0 ≤ 2
+  pub source : is_address (get_or octets 1 0) ≡ true
+  pub destination : is_address (get_or octets 2 0) ≡ true
+  pub gap : get_or octets 5 0 / 8 % 16 ≡ 0
+  pub end : place_of octets + 1 ≡ 8 → is_last octets ≡ true
+  pub answer : is_data octets ≡ false → get_or octets 5 0 ≡ 128
+  pub whole : length octets ≤ octet_count (bit_count octets)
+
+seven : (a b c d e f g : Bool) → (a || b || c || d || e || f || g) ≡ false
+    → (a ≡ false) × (b ≡ false) × (c ≡ false) × (d ≡ false) × (e ≡ false) × (f ≡ false) × (g ≡ false)
+seven false false false false false false g h = (refl, refl, refl, refl, refl, refl, h)
+seven true b c d e f g h = absurd (cc)
+seven false true c d e f g h = absurd (cc)
+seven false false true d e f g h = absurd (cc)
+seven false false false true e f g h = absurd (cc)
+seven false false false false true f g h = absurd (cc)
+seven false false false false false true g h = absurd (cc)
+
+not_false : (b : Bool) → not b ≡ false → b ≡ true
+not_false true e = refl
+not_false false e = absurd (cc)
+
+not_true : (b : Bool) → (b ≡ true → ⊥) → b ≡ false
+not_true true e = absurd (e refl)
+not_true false e = refl
+
+-- of two that aren't both so
+not_both : (a b : Bool) → (not a && b) ≡ false → b ≡ true → a ≡ true
+not_both true b e t = refl
+not_both false true e t = absurd (cc)
+not_both false false e t = absurd (cc)
+
+not_both_not : (a b : Bool) → (not a && not b) ≡ false → a ≡ false → b ≡ true
+not_both_not true b e f = absurd (cc)
+not_both_not false true e f = refl
+not_both_not false false e f = absurd (cc)
+
+pub canonical_from : (octets : List ℕ) → is_not_canonical octets ≡ false → IsCanonical octets
+unfolding is_not_canonical
+canonical_from octets e =
+    let f = seven
+    (nat_lt 2 (get_or octets 0 0)) (not (is_address (get_or octets 1 0))) (not (is_address (get_or octets 2 0)))
+    (not (get_or octets 5 0 / 8 % 16 == 0)) (not (is_last octets) && place_of octets + 1 == 8)
+    (not (is_data octets) && not (get_or octets 5 0 == 128)) (nat_lt (octet_count (bit_count octets)) (length octets)) e in
+    record {
+      kind = grind (arith, nat_tests, f.0);
+      source = not_false (is_address (get_or octets 1 0)) f.1;
+      destination = not_false (is_address (get_or octets 2 0)) f.2;
+      gap = eqb-true (get_or octets 5 0 / 8 % 16) 0 (not_false (get_or octets 5 0 / 8 % 16 == 0) f.3);
+      end = λ k. not_both (is_last octets) (place_of octets + 1 == 8) f.4 (eq-eqb (place_of octets + 1) 8 k);
+      answer = λ d. eqb-true (get_or octets 5 0) 128 (not_both_not (is_data octets) (get_or octets 5 0 == 128) f.5 d);
+      whole = grind (arith, nat_tests, f.6);
+    }
+
+-- a good number of bits, of a piece or of an answer
+pub record IsGoodCount (piece last : Bool) (count : ℕ) : Type 0 where
+  pub some : piece ≡ true → 0 < count
+  pub most : piece ≡ true → count ≤ 1008
+  pub units : piece ≡ true → count % 16 ≡ 0
+  pub full : piece ≡ true → last ≡ false → count ≡ 1008
+  pub empty : piece ≡ false → count ≡ 0
+
+piece_length : (last : Bool) (count : ℕ) → (count == 0 || nat_lt 1008 count || not (count % 16 == 0) || not last && not (count == 1008)) ≡ false
+    → IsGoodCount true last count
+piece_length last count e = record {
+  some = λ _. grind (arith, nat_tests, e);
+  most = λ _. grind (arith, nat_tests, e);
+  units = λ _. grind (arith, nat_tests, e);
+  full = λ _ f. grind (arith, nat_tests, e, f);
+  empty = λ f. absurd (cc);
+}
+
+good_by : (piece last : Bool) (count : ℕ)
+    → (if piece then count == 0 || nat_lt 1008 count || not (count % 16 == 0) || not last && not (count == 1008) else not (count == 0)) ≡ false
+    → IsGoodCount piece last count
+good_by true last count e = piece_length last count e
+good_by false last count e = record {
+  some = λ f. absurd (cc);
+  most = λ f. absurd (cc);
+  units = λ f. absurd (cc);
+  full = λ f _. absurd (cc);
+  empty = λ _. eqb-true count 0 (not_false (count == 0) e);
+}
+
+pub good_from : (octets : List ℕ) → is_bad_length octets ≡ false → IsGoodCount (is_data octets) (is_last octets) (bit_count octets)
+unfolding is_bad_length
+good_from octets e =
+    good_by (is_data octets) (is_last octets) (bit_count octets) e
+
+-- the three tests of octets, where none of them refuses
+pub record IsPacket (octets : List ℕ) : Type 0 where
+  pub long : IsLong octets
+  pub canonical : IsCanonical octets
+  pub good : IsGoodCount (is_data octets) (is_last octets) (bit_count octets)
+
+pub packet_from : (octets : List ℕ) → is_short octets ≡ false → is_not_canonical octets ≡ false → is_bad_length octets ≡ false → IsPacket octets
+packet_from octets long canonical good = record { long = long_from octets long; canonical = canonical_from octets canonical; good = good_from octets good }
+
+-- ---- what is read is a packet
+
+pub address_is : (octet : ℕ) → octet < 256 → is_address octet ≡ true → IsPacketHost (host_of octet)
+address_is octet small e = record { some = grind (arith, nat_tests, e); imp = grind (arith, nat_tests, e); host = omega arith }
+
+carries_by : (a b : Bool) (place : ℕ) (last : Bool) (size : ℕ) → (a ≡ true → IsPiece place last size) → (a ≡ false → IsAnswer place last size)
+    → Carries (if a then kind.Data else (if b then kind.Rfnm else kind.Dead)) place last size
+carries_by true b place last size piece answer = piece refl
+carries_by false true place last size piece answer = answer refl
+carries_by false false place last size piece answer = answer refl
+
+-- the bits that are read are as many as the octets say
+length-read : (octets : List ℕ) → IsLong octets → length (take (bit_count octets) (bits_of (drop 8 octets))) ≡ bit_count octets
+length-read octets h =
+    let enough : bit_count octets ≤ length (bits_of (drop 8 octets)) = omega (arith, length-bits_of (drop 8 octets), length-drop 8 octets, h.header, h.body) in
+    length-take-le (bit_count octets) (bits_of (drop 8 octets)) enough
+
+-- eight bits are an octet
+units_of_eight : (octets : List ℕ) → IsPacket octets → bit_count octets % 8 ≡ 0
+units_of_eight octets h = elim (cases_Bool (is_data octets)) [
+  | inl piece ↦ (let units : bit_count octets % 16 ≡ 0 = h.good.units piece in omega arith)
+  | inr answer ↦ (let none : bit_count octets ≡ 0 = h.good.empty answer in omega arith)
+]
+
+pub form_fits : (octets : List ℕ) → ((k : ℕ) → get_or octets k 0 < 256) → IsPacket octets → IsForm (form_of octets)
+form_fits octets small h =
+    let size : length (take (bit_count octets) (bits_of (drop 8 octets))) ≡ bit_count octets = length-read octets h.long in
+    record {
+      source = address_is (get_or octets 1 0) (small 1) h.canonical.source;
+      destination = address_is (get_or octets 2 0) (small 2) h.canonical.destination;
+      link = small 3;
+      number = small 4;
+      place = omega arith;
+      body =
+          rw size (carries_by (is_data octets) (get_or octets 0 0 == 1) (place_of octets) (is_last octets) (bit_count octets)
+          (λ d. record { some = h.good.some d; most = h.good.most d; units = h.good.units d; full = h.good.full d; end = h.canonical.end })
+          (λ d. let mark : get_or octets 5 0 ≡ 128 = h.canonical.answer d in record { first = omega (arith, mark); only = grind (arith, nat_tests, mark); empty = h.good.empty d }));
+    }
+
+kind_again : (octet : ℕ) → octet ≤ 2 → kind_octet (kind_of octet) ≡ octet
+kind_again zero le = refl
+kind_again (suc zero) le = refl
+kind_again (suc (suc zero)) le = refl
+kind_again (suc (suc (suc n))) le = absurd (omega arith)
+
+place_again : (octet : ℕ) → octet < 256 → octet / 8 % 16 ≡ 0 → place_octet (octet % 8) (nat_le 128 octet) ≡ octet
+place_again octet small gap = elim (cases_Bool (nat_le 128 octet)) [
+  | inl last ↦ (let above : 128 ≤ octet = leb-true 128 octet last in rw last (omega arith))
+  | inr more ↦ (let below : octet < 128 = grind (arith, nat_tests, more) in rw more (omega arith))
+]
+
+same_octets : {a b c d e f g h a' b' c' d' e' f' g' h' : ℕ} {rest rest' : List ℕ}
+    → a ≡ a' → b ≡ b' → c ≡ c' → d ≡ d' → e ≡ e' → f ≡ f' → g ≡ g' → h ≡ h' → rest ≡ rest'
+    → a ∷ b ∷ c ∷ d ∷ e ∷ f ∷ g ∷ h ∷ rest ≡ a' ∷ b' ∷ c' ∷ d' ∷ e' ∷ f' ∷ g' ∷ h' ∷ rest'
+same_octets pa pb pc pd pe pf pg ph pr = cc
+
+pub spelled : (octets : List ℕ) → ((k : ℕ) → get_or octets k 0 < 256) → IsPacket octets → octets ≡ spelling (form_of octets)
+spelled [] small h = absurd (omega (arith, h.long.header))
+spelled (a ∷ []) small h = absurd (omega (arith, h.long.header))
+spelled (a ∷ b ∷ []) small h = absurd (omega (arith, h.long.header))
+spelled (a ∷ b ∷ c ∷ []) small h = absurd (omega (arith, h.long.header))
+spelled (a ∷ b ∷ c ∷ d ∷ []) small h = absurd (omega (arith, h.long.header))
+spelled (a ∷ b ∷ c ∷ d ∷ e ∷ []) small h = absurd (omega (arith, h.long.header))
+spelled (a ∷ b ∷ c ∷ d ∷ e ∷ f ∷ []) small h = absurd (omega (arith, h.long.header))
+spelled (a ∷ b ∷ c ∷ d ∷ e ∷ f ∷ g ∷ []) small h = absurd (omega (arith, h.long.header))
+spelled (k ∷ s ∷ d ∷ l ∷ n ∷ p ∷ high ∷ low ∷ rest) small h =
+    let octets : List ℕ = k ∷ s ∷ d ∷ l ∷ n ∷ p ∷ high ∷ low ∷ rest in
+    let count : ℕ = 256 * high + low in
+    let size : length (take count (bits_of rest)) ≡ count = length-read octets h.long in
+    let eights : count % 8 ≡ 0 = units_of_eight octets h in
+    let all : count ≡ length (bits_of rest) = omega (arith, length-bits_of rest, h.long.body, h.canonical.whole) in
+    let bits : take count (bits_of rest) ≡ bits_of rest = ap (λ (m : ℕ). take m (bits_of rest)) all ∙ take_all (length (bits_of rest)) (bits_of rest) (omega arith) in
+    let low_small : low < 256 = small 7 in
+    let all_small : All (λ (m : ℕ). m < 256) rest = All-from_get_or (λ (m : ℕ). m < 256) rest 0 (λ i lt. small (suc (suc (suc (suc (suc (suc (suc (suc i))))))))) in
+    same_octets (sym (kind_again k h.canonical.kind)) (omega arith) (omega arith) refl refl (sym (place_again p (small 5) h.canonical.gap))
+    (omega (arith, size)) (omega (arith, size))
+    (sym (ap octets_of bits ∙ octets_again rest all_small))
+
+-- ---- what is written is read again
+
+-- what the place octet holds
+record HoldsPlace (place : ℕ) (last : Bool) : Type 0 where
+  pub low : place_octet place last % 8 ≡ place
+  pub high : nat_le 128 (place_octet place last) ≡ last
+  pub gap : place_octet place last / 8 % 16 ≡ 0
+
+place_held : (place : ℕ) (last : Bool) → place < 8 → HoldsPlace place last
+place_held place true lt = record { low = omega arith; high = grind (arith, nat_tests); gap = omega arith }
+place_held place false lt = record { low = omega arith; high = grind (arith, nat_tests); gap = omega arith }
+
+-- the octets of whole octets of bits
+record AreOctets (bits : List Bool) : Type 0 where
+  pub again : bits_of (octets_of bits) ≡ bits
+  pub count : 8 * length (octets_of bits) ≡ length bits
+
+octets_are : (bits : List Bool) → length bits % 8 ≡ 0 → AreOctets bits
+octets_are bits eights =
+    let spare : spare_bits (length bits) ≡ 0 = omega (arith, eights) in
+    let again : bits_of (octets_of bits) ≡ bits = bits_again bits ∙ ap (λ (n : ℕ). bits ++ replicate n false) spare ∙ append-nil bits in
+    record { again = again; count = sym (length-bits_of (octets_of bits)) ∙ ap length again }
+
+-- what a packet's kind says of the number of its bits
+record HasSize (p : Form) : Type 0 where
+  pub eights : length p.bits % 8 ≡ 0
+  pub most : length p.bits ≤ 1008
+
+size_by : (k : PacketKind) (place : ℕ) (last : Bool) (size : ℕ) → Carries k place last size → (size % 8 ≡ 0) × (size ≤ 1008)
+size_by kind.Data place last size h = (let units : size % 16 ≡ 0 = h.units in omega arith, h.most)
+size_by kind.Rfnm place last size h = (let empty : size ≡ 0 = h.empty in omega arith, let empty : size ≡ 0 = h.empty in omega arith)
+size_by kind.Dead place last size h = (let empty : size ≡ 0 = h.empty in omega arith, let empty : size ≡ 0 = h.empty in omega arith)
+
+none_of_two : (a b : Bool) → a ≡ false → b ≡ false → (a || b) ≡ false
+none_of_two a b ea eb = rw (ea, eb) refl
+
+none_of_seven : (a b c d e f g : Bool) → a ≡ false → b ≡ false → c ≡ false → d ≡ false → e ≡ false → f ≡ false → g ≡ false
+    → (a || b || c || d || e || f || g) ≡ false
+none_of_seven a b c d e f g ea eb ec ed ee ef eg = rw (ea, eb, ec, ed, ee, ef, eg) refl
+
+none_of_four : (a b c d : Bool) → a ≡ false → b ≡ false → c ≡ false → d ≡ false → (a || b || c || d) ≡ false
+none_of_four a b c d ea eb ec ed = rw (ea, eb, ec, ed) refl
+
+pub long_again : (p : Form) → IsForm p → is_short (spelling p) ≡ false
+unfolding is_short
+long_again p h =
+    let size : (length p.bits % 8 ≡ 0) × (length p.bits ≤ 1008) = size_by p.kind p.place p.last (length p.bits) h.body in
+    let o : AreOctets p.bits = octets_are p.bits size.0 in
+    none_of_two (nat_lt (length (spelling p)) 8) (nat_lt (length (spelling p)) (octet_count (bit_count (spelling p))))
+    (grind (arith, nat_tests)) (grind (arith, nat_tests, o.count, size.0))
+
+kind_small : (k : PacketKind) → kind_octet k ≤ 2
+kind_small kind.Data = omega arith
+kind_small kind.Rfnm = omega arith
+kind_small kind.Dead = omega arith
+
+address_again : (a : Host) → IsPacketHost a → is_address (address_octet a) ≡ true
+address_again a h =
+    let number : address_octet a % 64 ≡ a.imp = omega (arith, h.imp) in
+    rw number (grind (arith, nat_tests, h.some, h.imp))
+
+-- the greatest place is a last one's
+end_as : (k : PacketKind) (place : ℕ) (last : Bool) (size : ℕ) → Carries k place last size → (not last && place + 1 == 8) ≡ false
+end_as k place true size h = refl
+end_as kind.Data place false size h = ne_eqb (place + 1) 8 (λ e. let no : false ≡ true = h.end e in absurd (cc))
+end_as kind.Rfnm place false size h = let no : false ≡ true = h.only in absurd (cc)
+end_as kind.Dead place false size h = let no : false ≡ true = h.only in absurd (cc)
+
+answer_as : (k : PacketKind) (place : ℕ) (last : Bool) (size : ℕ) → Carries k place last size → (not (kind_octet k == 0) && not (place_octet place last == 128)) ≡ false
+answer_as kind.Data place last size h = refl
+answer_as kind.Rfnm place last size h = rw (h.first, h.only) refl
+answer_as kind.Dead place last size h = rw (h.first, h.only) refl
+
+pub canonical_again : (p : Form) → IsForm p → is_not_canonical (spelling p) ≡ false
+unfolding is_not_canonical
+canonical_again p h =
+    let size : (length p.bits % 8 ≡ 0) × (length p.bits ≤ 1008) = size_by p.kind p.place p.last (length p.bits) h.body in
+    let o : AreOctets p.bits = octets_are p.bits size.0 in
+    let held : HoldsPlace p.place p.last = place_held p.place p.last h.place in
+    let octets : List ℕ = spelling p in
+    none_of_seven
+    (nat_lt 2 (get_or octets 0 0)) (not (is_address (get_or octets 1 0))) (not (is_address (get_or octets 2 0)))
+    (not (get_or octets 5 0 / 8 % 16 == 0)) (not (is_last octets) && place_of octets + 1 == 8)
+    (not (is_data octets) && not (get_or octets 5 0 == 128)) (nat_lt (octet_count (bit_count octets)) (length octets))
+    (let small : kind_octet p.kind ≤ 2 = kind_small p.kind in grind (arith, nat_tests))
+    (ap not (address_again p.source h.source))
+    (ap not (address_again p.destination h.destination))
+    (ap not (eq-eqb (place_octet p.place p.last / 8 % 16) 0 held.gap))
+    (rw (held.high, held.low) (end_as p.kind p.place p.last (length p.bits) h.body))
+    (answer_as p.kind p.place p.last (length p.bits) h.body)
+    (grind (arith, nat_tests, o.count, size.0))
+
+good_as : (k : PacketKind) (place : ℕ) (last : Bool) (size : ℕ) → Carries k place last size → (if kind_octet k == 0 then size == 0 || nat_lt 1008 size || not (size % 16 == 0) || not last && not (size == 1008) else not (size == 0)) ≡ false
+good_as kind.Data place true size h = none_of_four (size == 0) (nat_lt 1008 size) (not (size % 16 == 0)) false (ne_eqb size 0 (λ e. let some : 0 < size = h.some in absurd (omega arith))) (le-ltb 1008 size h.most) (ap not (eq-eqb (size % 16) 0 h.units)) refl
+good_as kind.Data place false size h = let full : size ≡ 1008 = h.full refl in rw full refl
+good_as kind.Rfnm place last size h = let empty : size ≡ 0 = h.empty in rw empty refl
+good_as kind.Dead place last size h = let empty : size ≡ 0 = h.empty in rw empty refl
+
+pub good_again : (p : Form) → IsForm p → is_bad_length (spelling p) ≡ false
+unfolding is_bad_length
+good_again p h =
+    let held : HoldsPlace p.place p.last = place_held p.place p.last h.place in
+    let count : bit_count (spelling p) ≡ length p.bits = omega arith in
+    rw (count, held.high) (good_as p.kind p.place p.last (length p.bits) h.body)
+
+kind_read : (k : PacketKind) → kind_of (kind_octet k) ≡ k
+kind_read kind.Data = refl
+kind_read kind.Rfnm = refl
+kind_read kind.Dead = refl
+
+host_with : ℕ → ℕ → Host
+host_with imp host = record { imp = imp; host = host }
+
+same_host_with : (i i' h h' : ℕ) → i ≡ i' → h ≡ h' → host_with i h ≡ host_with i' h'
+same_host_with i i' h h' imp host = cc
+
+same_host_parts : (i i' h h' : ℕ) → i ≡ i' → h ≡ h' → (let a : Host = record { imp = i; host = h } in let b : Host = record { imp = i'; host = h' } in a ≡ b)
+unfolding host_with
+same_host_parts i i' h h' imp host = same_host_with i i' h h' imp host
+
+host_read : (a : Host) → IsPacketHost a → host_of (address_octet a) ≡ a
+host_read a h =
+    let imp : address_octet a % 64 ≡ a.imp = omega (arith, h.imp) in
+    let host : address_octet a / 64 ≡ a.host = omega (arith, h.imp) in
+    same_host_parts (address_octet a % 64) a.imp (address_octet a / 64) a.host imp host
+
+-- a packet by its parts
+packet_of : PacketKind → Host → Host → ℕ → ℕ → ℕ → Bool → List Bool → Form
+packet_of k s d l n place last bits = record { kind = k; source = s; destination = d; link = l; number = n; place = place; last = last; bits = bits }
+
+same_parts : {k k' : PacketKind} {s s' d d' : Host} {l l' n n' place place' : ℕ} {last last' : Bool} {bits bits' : List Bool}
+    → k ≡ k' → s ≡ s' → d ≡ d' → l ≡ l' → n ≡ n' → place ≡ place' → last ≡ last' → bits ≡ bits'
+    → packet_of k s d l n place last bits ≡ packet_of k' s' d' l' n' place' last' bits'
+same_parts kinds sources destinations links numbers places lasts all_bits = cc
+
+pub same_form : (p q : Form) → p.kind ≡ q.kind → p.source ≡ q.source → p.destination ≡ q.destination → p.link ≡ q.link → p.number ≡ q.number
+    → p.place ≡ q.place → p.last ≡ q.last → p.bits ≡ q.bits → p ≡ q
+unfolding packet_of
+same_form p q kinds sources destinations links numbers places lasts all_bits = same_parts kinds sources destinations links numbers places lasts all_bits
+
+pub form_again : (p : Form) → IsForm p → form_of (spelling p) ≡ p
+form_again p h =
+    let size : (length p.bits % 8 ≡ 0) × (length p.bits ≤ 1008) = size_by p.kind p.place p.last (length p.bits) h.body in
+    let o : AreOctets p.bits = octets_are p.bits size.0 in
+    let held : HoldsPlace p.place p.last = place_held p.place p.last h.place in
+    let count : bit_count (spelling p) ≡ length p.bits = omega arith in
+    same_form (form_of (spelling p)) p (kind_read p.kind) (host_read p.source h.source) (host_read p.destination h.destination) refl refl
+    held.low held.high
+    (ap (λ (n : ℕ). take n (bits_of (octets_of p.bits))) count ∙ ap (λ (b : List Bool). take (length p.bits) b) o.again ∙ take_all (length p.bits) p.bits (omega arith))
+
+pub read_again : (p : Form) → IsForm p → read_of (spelling p) ≡ Ok p
+read_again p h = rw (long_again p h, canonical_again p h, good_again p h) (ap Ok (form_again p h))
+
+-- ---- what the reader makes
+
+-- what is read, given by its parts
+pub form_made : (octets : List ℕ) (p : Form) (body : List ℕ) (count : ℕ) → p.kind ≡ kind_of (get_or octets 0 0) → p.source ≡ host_of (get_or octets 1 0)
+    → p.destination ≡ host_of (get_or octets 2 0) → p.link ≡ get_or octets 3 0 → p.number ≡ get_or octets 4 0 → p.place ≡ place_of octets
+    → p.last ≡ is_last octets → p.bits ≡ take count (bits_of body) → body ≡ drop 8 octets → count ≡ bit_count octets → form_of octets ≡ p
+form_made octets p body count kinds sources destinations links numbers places lasts bits at counts =
+    same_form (form_of octets) p (sym kinds) (sym sources) (sym destinations) (sym links) (sym numbers) (sym places) (sym lasts)
+    (ap (λ (n : ℕ). take n (bits_of (drop 8 octets))) (sym counts) ∙ ap (λ (ns : List ℕ). take count (bits_of ns)) (sym at) ∙ sym bits)
+
+-- ---- what is read was a packet's spelling
+
+pub same_read : (p q : Form) → (let a : Result Form PacketFault = Ok p in let b : Result Form PacketFault = Ok q in a ≡ b) → p ≡ q
+same_read p q e = cc
+
+-- no reason to refuse, by the three tests
+record ReadsBy (octets : List ℕ) (p : Form) : Type 0 where
+  pub packet : IsPacket octets
+  pub same : form_of octets ≡ p
+
+read_by : (octets : List ℕ) (p : Form) (short canonical bad : Bool) → is_short octets ≡ short → is_not_canonical octets ≡ canonical → is_bad_length octets ≡ bad
+    → read_of octets ≡ Ok p → ReadsBy octets p
+read_by octets p true canonical bad s n b read = absurd (let refused : Err fault.Short ≡ Ok p = rw s at read in cc)
+read_by octets p false true bad s n b read = absurd (let refused : Err fault.NotCanonical ≡ Ok p = rw (s, n) at read in cc)
+read_by octets p false false true s n b read = absurd (let refused : Err fault.BadLength ≡ Ok p = rw (s, n, b) at read in cc)
+read_by octets p false false false s n b read = record { packet = packet_from octets s n b; same = same_read (form_of octets) p (rw (s, n, b) at read) }
+
+pub read_is : (octets : List ℕ) (p : Form) → All (λ n. n < 256) octets → read_of octets ≡ Ok p → IsForm p × (octets ≡ spelling p)
+read_is octets p all read =
+    let small : (k : ℕ) → get_or octets k 0 < 256 = λ k. elim (cases_lt k (length octets)) [
+      | inl lt ↦ all k 0 lt
+      | inr ge ↦ (let past : get_or octets k 0 ≡ 0 = get_or_past octets k 0 ge in rw past (omega arith))
+    ] in
+    let r : ReadsBy octets p = read_by octets p (is_short octets) (is_not_canonical octets) (is_bad_length octets) refl refl refl read in
+    (subst IsForm r.same (form_fits octets small r.packet), spelled octets small r.packet ∙ ap spelling r.same)

@@ -1,0 +1,389 @@
+-- Slots and the pieces in them.
+use Rattle.std.proofs.Common.{◌≡◌, ◌≢◌, ℕ, ◌+◌, ◌<◌, ◌≤◌, Bool, true, false, not, List, [], ◌∷◌, ◌++◌, length, get_or, set, take, drop, refl, ap, sym, ◌∙◌, subst, arith, All, suc, zero, Option, Some, None, insert, filter, unwrap_or, rules}
+use Rattle.std.proofs.Common.{nat_lt, ◌==◌, ◌||◌, ◌&&◌, eq-eqb, ne_eqb, eqb-true, inl, inr, ◌⊎◌, if◌then◌else◌}
+use Rattle.std.specs.List.{position, position_or_len, list_any, find}
+use Rattle.std.proofs.lemmas.Bool.{cases_Bool}
+use Rattle.std.proofs.lemmas.Bool.Decides.{nat_tests}
+use Rattle.std.proofs.lemmas.List.{length-set}
+use Rattle.std.proofs.lemmas.List.Elements.{All-cons, All-nil, All-head, All-tail, All-weaker, All-filter}
+use Rattle.std.proofs.lemmas.List.{append_assoc}
+use Rattle.std.proofs.lemmas.Grind.{flat_map-append}
+use Rattle.std.proofs.lemmas.List.Folds.{find_at}
+use Rattle.std.proofs.lemmas.List.Sums.{passes_at_first}
+use Rattle.std.proofs.lemmas.Option.{slice_get_read, same_Some}
+use Rattle.std.specs.List.{slice_get}
+use Rattle.leader1822.specs.Mailboxes.{same_flow}
+use Rattle.leader1822.specs.Host.{Host, same_host}
+use Rattle.leader1822.specs.declared.address.Flow.{Flow}
+use Rattle.packetiser.specs.Form.{Form, flow_of}
+use Rattle.packetiser.specs.Slots.{SlotState, IsSlot, IsInOrder, IsTable, IsPieceFor, numbers_of, is_below, comes_before, slot_of, pieces_at, kept_for, gathered, with_piece, put, without, kept, outcome_of, has_room, is_old, is_whole_from, joined}
+use Rattle.packetiser.specs.declared.packet.PacketKind.TheVariants as kind
+use Rattle.packetiser.specs.declared.reassembly.Outcome.TheVariants as outcome
+
+-- ---- first places
+
+pub position_within : {X : Type 0} (p : X → Bool) (xs : List X) → position_or_len p xs ≤ length xs
+position_within p [] = omega arith
+position_within p (x ∷ xs) = elim (cases_Bool (p x)) [
+  | inl e ↦ rw e (omega arith)
+  | inr e ↦ rw e (omega (arith, position_within p xs))
+]
+
+pub position_given : {X : Type 0} (p : X → Bool) (xs : List X) → unwrap_or (position p xs) (length xs) ≡ position_or_len p xs
+position_given p xs = elim (cases_Bool (nat_lt (position_or_len p xs) (length xs))) [
+  | inl e ↦ rw e refl
+  | inr e ↦ (let within : position_or_len p xs ≤ length xs = position_within p xs in let end : length xs ≡ position_or_len p xs = grind (arith, nat_tests, e, within) in rw e end)
+]
+
+-- an element passes where the first place that passes is within
+any_within : {X : Type 0} (p : X → Bool) (xs : List X) → list_any p xs ≡ nat_lt (position_or_len p xs) (length xs)
+any_within p [] = refl
+any_within p (x ∷ xs) = elim (cases_Bool (p x)) [
+  | inl e ↦ (let here : nat_lt 0 (suc (length xs)) ≡ true = grind (arith, nat_tests) in rw e (sym here))
+  | inr e ↦ rw e (any_within p xs ∙ grind (arith, nat_tests))
+]
+
+record IsAt {X : Type 0} (p : X → Bool) (xs : List X) (at : ℕ) : Type 0 where
+  pub first : position_or_len p xs ≡ at
+  pub within : at < length xs
+  pub any : list_any p xs ≡ true
+
+pub none_some : {X : Type 0} (x : X) → None ≡ Some x → ⊥
+none_some x h = cc
+
+position_some : {X : Type 0} (p : X → Bool) (xs : List X) (at : ℕ) → position p xs ≡ Some at → IsAt p xs at
+position_some p xs at h = elim (cases_Bool (nat_lt (position_or_len p xs) (length xs))) [
+  | inl e ↦ (
+      let first : position_or_len p xs ≡ at = same_Some (position_or_len p xs) at (rw e at h) in
+      let lt : position_or_len p xs < length xs = grind (arith, nat_tests, e) in
+      record { first = first; within = omega arith; any = any_within p xs ∙ e })
+  | inr e ↦ absurd (none_some at (rw e at h))
+]
+
+position_none : {X : Type 0} (p : X → Bool) (xs : List X) → position p xs ≡ None → list_any p xs ≡ false
+position_none p xs h = elim (cases_Bool (nat_lt (position_or_len p xs) (length xs))) [
+  | inl e ↦ absurd (none_some (position_or_len p xs) (sym (rw e at h)))
+  | inr e ↦ any_within p xs ∙ e
+]
+
+find_none : {X : Type 0} (p : X → Bool) (xs : List X) → list_any p xs ≡ false → find p xs ≡ None
+find_none p [] h = refl
+find_none p (x ∷ xs) h = elim (cases_Bool (p x)) [
+  | inl e ↦ absurd (let t : true ≡ false = rw e at h in cc)
+  | inr e ↦ rw e (find_none p xs (rw e at h))
+]
+
+-- ---- order
+
+below_cases : (x y : ℕ) (b : Bool) → (nat_lt x y || x == y && b) ≡ true → (x < y) ⊎ ((x ≡ y) × (b ≡ true))
+below_cases x y true h = elim (cases_Bool (nat_lt x y)) [
+  | inl lt ↦ inl (grind (arith, nat_tests, lt))
+  | inr ge ↦ (let same : x ≡ y = grind (arith, nat_tests, h, ge) in inr (same, refl))
+]
+below_cases x y false h = inl (grind (arith, nat_tests, h))
+
+below_first : (x y : ℕ) (b : Bool) → x < y → (nat_lt x y || x == y && b) ≡ true
+below_first x y b lt = grind (arith, nat_tests)
+
+below_later : (x y : ℕ) (b : Bool) → x ≡ y → b ≡ true → (nat_lt x y || x == y && b) ≡ true
+below_later x y true e b = grind (arith, nat_tests)
+below_later x y false e b = absurd (cc)
+
+pub below_trans : (xs ys zs : List ℕ) → is_below xs ys ≡ true → is_below ys zs ≡ true → is_below xs zs ≡ true
+below_trans [] ys zs h k = absurd (cc)
+below_trans (x ∷ xs) [] zs h k = absurd (cc)
+below_trans (x ∷ xs) (y ∷ ys) [] h k = absurd (cc)
+below_trans (x ∷ xs) (y ∷ ys) (z ∷ zs) h k = elim (below_cases x y (is_below xs ys) h) [
+  | inl lt ↦ elim (below_cases y z (is_below ys zs) k) [
+    | inl more ↦ below_first x z (is_below xs zs) (omega arith)
+    | inr same ↦ (let e : y ≡ z = same.0 in below_first x z (is_below xs zs) (omega arith))
+  ]
+  | inr same ↦ (let d : x ≡ y = same.0 in elim (below_cases y z (is_below ys zs) k) [
+    | inl more ↦ below_first x z (is_below xs zs) (omega arith)
+    | inr again ↦ (let e : y ≡ z = again.0 in below_later x z (is_below xs zs) (d ∙ e) (below_trans xs ys zs same.1 again.1))
+  ])
+]
+
+pub below_never : (xs : List ℕ) → is_below xs xs ≡ false
+below_never [] = refl
+below_never (x ∷ xs) = (let rest : is_below xs xs ≡ false = below_never xs in rw rest (grind (arith, nat_tests)))
+
+both_false : (x y : ℕ) (b : Bool) → (nat_lt x y || x == y && b) ≡ false → x ≡ y → b ≡ false
+both_false x y true h same = grind (arith, nat_tests, h, same)
+both_false x y false h same = refl
+
+below_head : (x y : ℕ) (b c : Bool) → (nat_lt x y || x == y && b) ≡ false → (x ≡ y → b ≡ false → c ≡ true) → (nat_lt y x || y == x && c) ≡ true
+below_head x y b c h rest = elim (cases_Bool (nat_lt y x)) [
+  | inl lt ↦ rw lt refl
+  | inr ge ↦ (let same : x ≡ y = grind (arith, nat_tests, h, ge) in below_later y x c (sym same) (rest same (both_false x y b h same)))
+]
+
+pub below_else : (xs ys : List ℕ) → length xs ≡ length ys → is_below xs ys ≡ false → xs ≢ ys → is_below ys xs ≡ true
+below_else [] [] l h ne = absurd (ne refl)
+below_else [] (y ∷ ys) l h ne = absurd (omega arith)
+below_else (x ∷ xs) [] l h ne = absurd (omega arith)
+below_else (x ∷ xs) (y ∷ ys) l h ne =
+    below_head x y (is_below xs ys) (is_below ys xs) h (λ same rest. below_else xs ys (omega arith) rest (λ e. ne (cc)))
+
+-- ---- flows
+
+pub and_first : (a b : Bool) → (a && b) ≡ true → a ≡ true
+and_first true b h = refl
+and_first false b h = absurd (cc)
+
+pub and_second : (a b : Bool) → (a && b) ≡ true → b ≡ true
+and_second true b h = h
+and_second false b h = absurd (cc)
+
+-- a flow by its numbers
+flow_with : ℕ → ℕ → ℕ → ℕ → ℕ → Flow
+flow_with i h j k l = record { source = record { imp = i; host = h }; destination = record { imp = j; host = k }; link = record { 0 = l } }
+
+same_with : {i i' h h' j j' k k' l l' : ℕ} → i ≡ i' → h ≡ h' → j ≡ j' → k ≡ k' → l ≡ l' → flow_with i h j k l ≡ flow_with i' h' j' k' l'
+same_with ei eh ej ek el = cc
+
+same_numbers : (f g : Flow) → f.source.imp ≡ g.source.imp → f.source.host ≡ g.source.host → f.destination.imp ≡ g.destination.imp
+    → f.destination.host ≡ g.destination.host → f.link.0 ≡ g.link.0 → f ≡ g
+unfolding flow_with
+same_numbers f g ei eh ej ek el = same_with ei eh ej ek el
+
+pub same_flow_is : (f g : Flow) → same_flow f g ≡ true → f ≡ g
+same_flow_is f g h =
+    let hosts = and_first (same_host f.source g.source && same_host f.destination g.destination) (f.link.0 == g.link.0) h in
+    let link = and_second (same_host f.source g.source && same_host f.destination g.destination) (f.link.0 == g.link.0) h in
+    let source = and_first (same_host f.source g.source) (same_host f.destination g.destination) hosts in
+    let destination = and_second (same_host f.source g.source) (same_host f.destination g.destination) hosts in
+    same_numbers f g
+    (eqb-true f.source.imp g.source.imp (and_first (f.source.imp == g.source.imp) (f.source.host == g.source.host) source))
+    (eqb-true f.source.host g.source.host (and_second (f.source.imp == g.source.imp) (f.source.host == g.source.host) source))
+    (eqb-true f.destination.imp g.destination.imp (and_first (f.destination.imp == g.destination.imp) (f.destination.host == g.destination.host) destination))
+    (eqb-true f.destination.host g.destination.host (and_second (f.destination.imp == g.destination.imp) (f.destination.host == g.destination.host) destination))
+    (eqb-true f.link.0 g.link.0 link)
+
+and_both : (a b : Bool) → a ≡ true → b ≡ true → (a && b) ≡ true
+and_both a b ea eb = rw (ea, eb) refl
+
+pub same_flow_of : (f g : Flow) → f.source.imp ≡ g.source.imp → f.source.host ≡ g.source.host → f.destination.imp ≡ g.destination.imp
+    → f.destination.host ≡ g.destination.host → f.link.0 ≡ g.link.0 → same_flow f g ≡ true
+same_flow_of f g ei eh ej ek el =
+    and_both (same_host f.source g.source && same_host f.destination g.destination) (f.link.0 == g.link.0)
+    (and_both (same_host f.source g.source) (same_host f.destination g.destination)
+    (and_both (f.source.imp == g.source.imp) (f.source.host == g.source.host) (eq-eqb f.source.imp g.source.imp ei) (eq-eqb f.source.host g.source.host eh))
+    (and_both (f.destination.imp == g.destination.imp) (f.destination.host == g.destination.host) (eq-eqb f.destination.imp g.destination.imp ej) (eq-eqb f.destination.host g.destination.host ek)))
+    (eq-eqb f.link.0 g.link.0 el)
+
+pub same_flow_refl : (f : Flow) → same_flow f f ≡ true
+same_flow_refl f = same_flow_of f f refl refl refl refl refl
+
+pub before_else : (f g : Flow) → same_flow g f ≡ false → comes_before f g ≡ false → comes_before g f ≡ true
+before_else f g h k =
+    below_else (numbers_of f) (numbers_of g) refl k
+    (λ e. let same : same_flow g f ≡ true = same_flow_of g f (cc) (cc) (cc) (cc) (cc) in absurd (cc))
+
+-- ---- pieces
+
+insert_later : {X : Type 0} (x : X) (xs : List X) (n : ℕ) (y : X) → insert (x ∷ xs) (1 + n) y ≡ x ∷ insert xs n y
+insert_later x xs n y = let more : 1 + n ≡ suc n = omega arith in rw more refl
+
+set_later : {X : Type 0} (x : X) (xs : List X) (n : ℕ) (y : X) → set (x ∷ xs) (1 + n) y ≡ x ∷ set xs n y
+set_later x xs n y = let more : 1 + n ≡ suc n = omega arith in rw more refl
+
+pub with_piece_is : (p : Form) (ps : List Form) → with_piece p ps ≡ insert ps (position_or_len (λ q. not (nat_lt q.place p.place)) ps) p
+with_piece_is p [] = refl
+with_piece_is p (q ∷ qs) = elim (cases_Bool (nat_lt q.place p.place)) [
+  | inl e ↦ rw e (ap (λ (r : List Form). q ∷ r) (with_piece_is p qs) ∙ sym (insert_later q qs (position_or_len (λ (r : Form). not (nat_lt r.place p.place)) qs) p))
+  | inr e ↦ rw e refl
+]
+
+pub All_with_piece : (P : Form → Type 0) (p : Form) (ps : List Form) → P p → All P ps → All P (with_piece p ps)
+All_with_piece P p [] here all = All-cons P p [] here all
+All_with_piece P p (q ∷ qs) here all = elim (cases_Bool (nat_lt q.place p.place)) [
+  | inl e ↦ rw e (All-cons P q (with_piece p qs) (All-head P q qs all) (All_with_piece P p qs here (All-tail P q qs all)))
+  | inr e ↦ rw e (All-cons P p (q ∷ qs) here all)
+]
+
+pub length-with_piece : (p : Form) (ps : List Form) → length (with_piece p ps) ≡ length ps + 1
+length-with_piece p [] = refl
+length-with_piece p (q ∷ qs) = elim (cases_Bool (nat_lt q.place p.place)) [
+  | inl e ↦ rw e (omega (arith, length-with_piece p qs))
+  | inr e ↦ rw e (omega arith)
+]
+
+-- ---- the slot of a flow
+
+-- one of the elements, all of which have a property, passes the test
+found : {X : Type 0} (Q : X → Type 0) (p : X → Bool) (R : Type 0) (xs : List X) → All Q xs → list_any p xs ≡ true → ((x : X) → Q x → p x ≡ true → R) → R
+found Q p R [] all any go = absurd (cc)
+found {X} Q p R (x ∷ xs) all any go = elim (cases_Bool (p x)) [
+  | inl e ↦ go x (all 0 x (omega arith)) e
+  | inr e ↦ found Q p R xs (λ k d lt. all (suc k) d (omega arith)) (rw e at any) go
+]
+
+pub All_put : (P : SlotState → Type 0) (s : SlotState) (slots : List SlotState) → P s → All P slots → All P (put s slots)
+All_put P s [] here all = All-cons P s [] here (All-nil P)
+All_put P s (t ∷ ts) here all = elim (cases_Bool (same_flow s.flow t.flow)) [
+  | inl e ↦ rw e (All-cons P s ts here (All-tail P t ts all))
+  | inr e ↦ elim (cases_Bool (comes_before t.flow s.flow)) [
+    | inl b ↦ rw (e, b) (All-cons P t (put s ts) (All-head P t ts all) (All_put P s ts here (All-tail P t ts all)))
+    | inr b ↦ rw (e, b) (All-cons P s (t ∷ ts) here all)
+  ]
+]
+
+pub put_new : (s : SlotState) (slots : List SlotState) → list_any (λ t. same_flow s.flow t.flow) slots ≡ false
+    → put s slots ≡ insert slots (position_or_len (λ t. not (comes_before t.flow s.flow)) slots) s
+put_new s [] none = refl
+put_new s (t ∷ ts) none = elim (cases_Bool (same_flow s.flow t.flow)) [
+  | inl e ↦ absurd (let no : (same_flow s.flow t.flow || list_any (λ (u : SlotState). same_flow s.flow u.flow) ts) ≡ true = rw e refl in cc)
+  | inr e ↦ elim (cases_Bool (comes_before t.flow s.flow)) [
+    | inl b ↦ rw (e, b) (ap (λ (us : List SlotState). t ∷ us) (put_new s ts (rw e at none)) ∙ sym (insert_later t ts (position_or_len (λ (u : SlotState). not (comes_before u.flow s.flow)) ts) s))
+    | inr b ↦ rw (e, b) refl
+  ]
+]
+
+pub put_held : (s : SlotState) (slots : List SlotState) → IsInOrder slots → list_any (λ t. same_flow s.flow t.flow) slots ≡ true
+    → put s slots ≡ set slots (position_or_len (λ t. same_flow s.flow t.flow) slots) s
+put_held s [] order any = absurd (cc)
+put_held s (t ∷ ts) order any = elim (cases_Bool (same_flow s.flow t.flow)) [
+  | inl e ↦ rw e refl
+  | inr e ↦ (
+      let later : list_any (λ (u : SlotState). same_flow s.flow u.flow) ts ≡ true = rw e at any in
+      let before : comes_before t.flow s.flow ≡ true =
+      found (λ (u : SlotState). comes_before t.flow u.flow ≡ true) (λ (u : SlotState). same_flow s.flow u.flow) (comes_before t.flow s.flow ≡ true) ts order.0 later
+      (λ u q same. let P : Flow → Type 0 = λ f. comes_before t.flow f ≡ true in subst P (sym (same_flow_is s.flow u.flow same)) q) in
+      rw (e, before) (ap (λ (us : List SlotState). t ∷ us) (put_held s ts order.1 later) ∙ sym (set_later t ts (position_or_len (λ (u : SlotState). same_flow s.flow u.flow) ts) s)))
+]
+
+pub order_put : (s : SlotState) (slots : List SlotState) → IsInOrder slots → IsInOrder (put s slots)
+order_put s [] order = (All-nil (λ t. comes_before s.flow t.flow ≡ true), tt)
+order_put s (t ∷ ts) order = elim (cases_Bool (same_flow s.flow t.flow)) [
+  | inl e ↦ (let P : Flow → Type 0 = λ f. All (λ u. comes_before f u.flow ≡ true) ts in rw e (subst P (sym (same_flow_is s.flow t.flow e)) order.0, order.1))
+  | inr e ↦ elim (cases_Bool (comes_before t.flow s.flow)) [
+    | inl b ↦ rw (e, b) (All_put (λ u. comes_before t.flow u.flow ≡ true) s ts b order.0, order_put s ts order.1)
+    | inr b ↦ (
+        let first : comes_before s.flow t.flow ≡ true = before_else t.flow s.flow e b in
+        rw (e, b) (
+          All-cons (λ u. comes_before s.flow u.flow ≡ true) t ts first
+              (All-weaker (λ u. comes_before t.flow u.flow ≡ true) (λ u. comes_before s.flow u.flow ≡ true) (λ u q. below_trans (numbers_of s.flow) (numbers_of t.flow) (numbers_of u.flow) first q) ts order.0),
+          order,
+        ))
+  ]
+]
+
+pub order_filter : (p : SlotState → Bool) (slots : List SlotState) → IsInOrder slots → IsInOrder (filter p slots)
+order_filter p [] order = tt
+order_filter p (t ∷ ts) order = elim (cases_Bool (p t)) [
+  | inl e ↦ rw e (All-filter p (λ u. comes_before t.flow u.flow ≡ true) ts order.0, order_filter p ts order.1)
+  | inr e ↦ rw e (order_filter p ts order.1)
+]
+
+length-put : (s : SlotState) (slots : List SlotState) → length (put s slots) ≤ length slots + 1
+length-put s [] = omega arith
+length-put s (t ∷ ts) = elim (cases_Bool (same_flow s.flow t.flow)) [
+  | inl e ↦ rw e (omega arith)
+  | inr e ↦ elim (cases_Bool (comes_before t.flow s.flow)) [
+    | inl b ↦ rw (e, b) (omega (arith, length-put s ts))
+    | inr b ↦ rw (e, b) (omega arith)
+  ]
+]
+
+pub kept_sound : (slots : List SlotState) (f : Flow) (number : ℕ) → All IsSlot slots → All (IsPieceFor f number) (pieces_at (slot_of slots f) number)
+kept_sound [] f number all = All-nil (IsPieceFor f number)
+kept_sound (s ∷ slots) f number all = elim (cases_Bool (same_flow f s.flow)) [
+  | inl e ↦ elim (cases_Bool (s.number == number)) [
+    | inl n ↦ (
+        let here : IsSlot s = All-head IsSlot s slots all in
+        let same : f ≡ s.flow = same_flow_is f s.flow e in
+        let number_is : s.number ≡ number = eqb-true s.number number n in
+        rw (e, n) (All-weaker (IsPieceFor s.flow s.number) (IsPieceFor f number) (λ q h. record { data_kind = h.data_kind; flow = h.flow ∙ sym same; same_number = h.same_number ∙ number_is }) s.pieces here.pieces))
+    | inr n ↦ rw (e, n) (All-nil (IsPieceFor f number))
+  ]
+  | inr e ↦ rw e (kept_sound slots f number (All-tail IsSlot s slots all))
+]
+
+-- there is room where a packet is kept
+room_from : (old whole room : Bool) → (if old then outcome.Old else (if whole then outcome.Whole else (if room then outcome.Kept else outcome.Full))) ≡ outcome.Kept → room ≡ true
+room_from true whole room h = absurd (cc)
+room_from false true room h = absurd (cc)
+room_from false false true h = refl
+room_from false false false h = absurd (cc)
+
+pub kept_table : (slots : List SlotState) (p : Form) → IsTable slots → p.kind ≡ kind.Data → outcome_of slots p ≡ outcome.Kept → IsTable (kept slots p)
+kept_table slots p h piece kept_is =
+    let s : SlotState = record { flow = flow_of p; number = p.number; pieces = gathered slots p } in
+    let room : has_room slots (flow_of p) ≡ true = room_from (is_old (kept_for slots p) p) (is_whole_from 0 (gathered slots p)) (has_room slots (flow_of p)) kept_is in
+    let at_most : length slots ≤ 8 = h.few in
+    record {
+      few = elim (cases_Bool (list_any (λ (t : SlotState). same_flow (flow_of p) t.flow) slots)) [
+        | inl any ↦ (let same : length (put s slots) ≡ length slots = ap length (put_held s slots h.in_order any) ∙ length-set slots (position_or_len (λ (t : SlotState). same_flow s.flow t.flow) slots) s in omega arith)
+        | inr none ↦ (let free : nat_lt (length slots) 8 ≡ true = rw none at room in let fewer : length slots < 8 = grind (arith, nat_tests, free) in omega (arith, length-put s slots))
+      ];
+      in_order = order_put s slots h.in_order;
+      sound = All_put IsSlot s slots (record {
+        some = omega (arith, length-with_piece p (kept_for slots p));
+        pieces = All_with_piece (IsPieceFor (flow_of p) p.number) p (kept_for slots p) (record { data_kind = piece; flow = refl; same_number = refl }) (kept_sound slots (flow_of p) p.number h.sound);
+      }) h.sound;
+    }
+
+length-filter-le : {X : Type 0} (p : X → Bool) (xs : List X) → length (filter p xs) ≤ length xs
+length-filter-le p [] = omega arith
+length-filter-le p (x ∷ xs) = elim (cases_Bool (p x)) [
+  | inl e ↦ rw e (omega (arith, length-filter-le p xs))
+  | inr e ↦ rw e (omega (arith, length-filter-le p xs))
+]
+
+pub without_table : (slots : List SlotState) (f : Flow) → IsTable slots → IsTable (without slots f)
+without_table slots f h =
+    let at_most : length slots ≤ 8 = h.few in
+    record {
+      few = omega (arith, length-filter-le (λ (s : SlotState). not (same_flow f s.flow)) slots);
+      in_order = order_filter (λ (s : SlotState). not (same_flow f s.flow)) slots h.in_order;
+      sound = All-filter (λ (s : SlotState). not (same_flow f s.flow)) IsSlot slots h.sound;
+    }
+
+-- pieces and a packet, joined
+pub join_is : (p : Form) (ps front back : List Form) (n : ℕ) → n ≡ position_or_len (λ q. not (nat_lt q.place p.place)) ps → front ≡ take n ps → back ≡ drop n ps
+    → (joined front ++ p.bits) ++ joined back ≡ joined (with_piece p ps)
+join_is p ps front back n at e f =
+    let split : with_piece p ps ≡ front ++ p ∷ back = with_piece_is p ps ∙ ap (λ (k : ℕ). insert ps k p) (sym at) ∙ cc in
+    append_assoc (joined front) p.bits (joined back) ∙ sym (flat_map-append (λ (q : Form). q.bits) front (p ∷ back)) ∙ ap joined (sym split)
+
+-- ---- a packet that is kept
+
+slot_with : Flow → ℕ → List Form → SlotState
+slot_with f n ps = record { flow = f; number = n; pieces = ps }
+
+same_slot_with : {f g : Flow} {n m : ℕ} {ps qs : List Form} → f ≡ g → n ≡ m → ps ≡ qs → slot_with f n ps ≡ slot_with g m qs
+same_slot_with ef en eq = cc
+
+same_slot : (f g : Flow) (n m : ℕ) (ps qs : List Form) → f ≡ g → n ≡ m → ps ≡ qs
+    → (let a : SlotState = record { flow = f; number = n; pieces = ps } in let b : SlotState = record { flow = g; number = m; pieces = qs } in a ≡ b)
+unfolding slot_with
+same_slot f g n m ps qs ef en eq = same_slot_with ef en eq
+
+pub kept_at : (slots : List SlotState) (p : Form) (at : ℕ) (old new : SlotState) → IsInOrder slots → position (λ s. same_flow (flow_of p) s.flow) slots ≡ Some at
+    → old ≡ get_or slots at old → new ≡ record { flow = old.flow; number = p.number; pieces = with_piece p (pieces_at (Some old) p.number) }
+    → set slots at new ≡ kept slots p
+kept_at slots p at old new order place read is =
+    let test : SlotState → Bool = λ s. same_flow (flow_of p) s.flow in
+    let i : IsAt test slots at = position_some test slots at place in
+    let passes : test old ≡ true = ap test read ∙ ap (λ (k : ℕ). test (get_or slots k old)) (sym i.first) ∙ passes_at_first test slots old (omega (arith, i.first, i.within)) in
+    let flow : flow_of p ≡ old.flow = same_flow_is (flow_of p) old.flow passes in
+    let found_is : slot_of slots (flow_of p) ≡ Some old = find_at test slots ∙ ap (λ (k : ℕ). slice_get slots k) i.first ∙ slice_get_read slots (length slots) at old refl i.within read in
+    let s : SlotState = record { flow = flow_of p; number = p.number; pieces = gathered slots p } in
+    let same : new ≡ s = is ∙ same_slot old.flow (flow_of p) p.number p.number (with_piece p (pieces_at (Some old) p.number)) (gathered slots p) (sym flow) refl
+    (ap (λ (o : Option SlotState). with_piece p (pieces_at o p.number)) (sym found_is)) in
+    ap (λ (t : SlotState). set slots at t) same ∙ ap (λ (k : ℕ). set slots k s) (sym i.first) ∙ sym (put_held s slots order i.any)
+
+pub kept_new : (slots : List SlotState) (p : Form) (at number : ℕ) (f : Flow) (pieces : List Form) → position (λ s. same_flow (flow_of p) s.flow) slots ≡ None
+    → f ≡ flow_of p → number ≡ p.number → pieces ≡ p ∷ [] → at ≡ position_or_len (λ s. not (comes_before s.flow f)) slots
+    → insert slots at (record { flow = f; number = number; pieces = pieces }) ≡ kept slots p
+kept_new slots p at number f pieces none flow numbers one place =
+    let test : SlotState → Bool = λ s. same_flow (flow_of p) s.flow in
+    let unheld : list_any test slots ≡ false = position_none test slots none in
+    let no_slot : slot_of slots (flow_of p) ≡ None = find_none test slots unheld in
+    let s : SlotState = record { flow = flow_of p; number = p.number; pieces = gathered slots p } in
+    let t : SlotState = record { flow = f; number = number; pieces = pieces } in
+    let same : t ≡ s = same_slot f (flow_of p) number p.number pieces (gathered slots p) flow numbers
+    (one ∙ ap (λ (o : Option SlotState). with_piece p (pieces_at o p.number)) (sym no_slot)) in
+    let at_is : at ≡ position_or_len (λ (u : SlotState). not (comes_before u.flow s.flow)) slots = place ∙ ap (λ (g : Flow). position_or_len (λ (u : SlotState). not (comes_before u.flow g)) slots) flow in
+    ap (λ (u : SlotState). insert slots at u) same ∙ ap (λ (k : ℕ). insert slots k s) at_is ∙ sym (put_new s slots unheld)

@@ -1,0 +1,12 @@
+use Rattle.std.proofs.lemmas.List.Sorted.{IsPermutation-refl}
+use Rattle.packetiser.proofs.Holding.{added_only, discarded_only, whole_gathered, added_table, named_once}
+use Rattle.packetiser.proofs.law.holding.Goals as goal
+
+pub returns : goal.returns
+returns c = record {
+  added_only = added_only;
+  discarded_only = discarded_only;
+  whole = whole_gathered;
+  table = added_table;
+  named = named_once;
+}

@@ -1,0 +1,16 @@
+-- How a call on packets that may refuse answers.
+use Rattle.std.specs.Prelude.{◌≡◌, Result, Ok, Err, IsOk}
+use Rattle.packetiser.specs.declared.fault.PacketFault.{PacketFault}
+use Rattle.packetiser.specs.declared.fault.PacketFault.TheVariants as fault
+
+-- a call that answers `said`; want of memory comes last, where nothing else is refused
+abbrev pub Gives : {T : Type 0} → Result T PacketFault → Result T PacketFault → Type 0
+Gives said (Ok x) = said ≡ Ok x
+Gives said (Err fault.OutOfMemory) = IsOk said
+Gives said (Err e) = said ≡ Err e
+
+-- a call that is refused only for want of memory, and else gives a value with this property
+abbrev pub Makes : {T : Type 0} → (T → Type 0) → Result T PacketFault → Type 0
+Makes HasGiven (Ok x) = HasGiven x
+Makes HasGiven (Err fault.OutOfMemory) = Unit {0}
+Makes HasGiven (Err e) = ⊥

@@ -1,0 +1,104 @@
+-- Packets and their octets.
+--
+-- Octet 0 is the kind, 1 and 2 the addresses of the message's source and destination, 3 the link, 4 the number, 5 the place
+-- (lower three bits) and the last flag (upper bit), 6 and 7 the number of bits; from octet 8 on the bits follow.
+use Rattle.std.specs.Prelude.{◌≡◌, ℕ, ◌+◌, ◌*◌, ◌/◌, ◌%◌, Bool, true, false, not, List, [], ◌∷◌, ◌++◌, length, take, drop, slice_index, Result, Ok, Err, nat_lt, nat_le, ◌||◌, ◌&&◌, ◌==◌, if◌then◌else◌}
+use Rattle.bit_messages.specs.Octets.{bits_of, octets_of}
+use Rattle.leader1822.specs.Host.{Host, address_octet}
+use Rattle.packetiser.specs.Form.{Form}
+use Rattle.packetiser.specs.declared.format.TheConstants.{MAX_IMP, HEADER_OCTETS, PACKET_BITS, MAX_PACKETS}
+use Rattle.packetiser.specs.declared.packet.PacketKind.{PacketKind}
+use Rattle.packetiser.specs.declared.packet.PacketKind.TheVariants as kind
+use Rattle.packetiser.specs.declared.fault.PacketFault.{PacketFault}
+use Rattle.packetiser.specs.declared.fault.PacketFault.TheVariants as fault
+
+-- ---- writing
+
+abbrev pub kind_octet : PacketKind → ℕ
+kind_octet kind.Data = 0
+kind_octet kind.Rfnm = 1
+kind_octet kind.Dead = 2
+
+abbrev pub place_octet : ℕ → Bool → ℕ
+place_octet place last = if last then place + 128 else place
+
+-- how a packet is written
+abbrev pub spelling : Form → List ℕ
+spelling p =
+    kind_octet p.kind ∷ address_octet p.source ∷ address_octet p.destination ∷ p.link ∷ p.number ∷ place_octet p.place p.last
+    ∷ (length p.bits / 256) ∷ (length p.bits % 256) ∷ octets_of p.bits
+
+-- ---- reading
+
+-- what the octets say of themselves
+abbrev pub kind_of : ℕ → PacketKind
+kind_of octet = if octet == 0 then kind.Data else (if octet == 1 then kind.Rfnm else kind.Dead)
+
+abbrev pub host_of : ℕ → Host
+host_of octet = record { imp = octet % 64; host = octet / 64 }
+
+-- how many bits a packet says that it has
+abbrev pub bit_count : List ℕ → ℕ
+bit_count octets = 256 * slice_index octets 6 + slice_index octets 7
+
+-- how many octets a packet with so many bits has
+abbrev pub octet_count : ℕ → ℕ
+octet_count bits = HEADER_OCTETS + (bits + 7) / 8
+
+abbrev pub is_data : List ℕ → Bool
+is_data octets = slice_index octets 0 == 0
+
+abbrev pub is_last : List ℕ → Bool
+is_last octets = nat_le 128 (slice_index octets 5)
+
+abbrev pub place_of : List ℕ → ℕ
+place_of octets = slice_index octets 5 % 8
+
+-- an address octet with the number of an IMP of the subnet
+abbrev pub is_address : ℕ → Bool
+is_address octet = nat_le 1 (octet % 64) && nat_le (octet % 64) MAX_IMP
+
+-- fewer octets than a header has, or than the number of bits asks for
+unfoldable pub is_short : List ℕ → Bool
+is_short octets = nat_lt (length octets) HEADER_OCTETS || nat_lt (length octets) (octet_count (bit_count octets))
+
+-- an unknown kind, an address outside the subnet, a bit set between place and last flag, a place after which there is no
+-- other without the last flag, an answer that isn't one whole packet, or octets after the end
+unfoldable pub is_not_canonical : List ℕ → Bool
+is_not_canonical octets =
+    nat_lt 2 (slice_index octets 0)
+    || not (is_address (slice_index octets 1))
+    || not (is_address (slice_index octets 2))
+    || not (slice_index octets 5 / 8 % 16 == 0)
+    || not (is_last octets) && place_of octets + 1 == MAX_PACKETS
+    || not (is_data octets) && not (slice_index octets 5 == 128)
+    || nat_lt (octet_count (bit_count octets)) (length octets)
+
+-- an answer with bits; a piece with none, with more than a packet full or with part of a unit; a piece that isn't the last
+-- and not a packet full
+unfoldable pub is_bad_length : List ℕ → Bool
+is_bad_length octets =
+    if is_data octets
+    then bit_count octets == 0 || nat_lt PACKET_BITS (bit_count octets) || not (bit_count octets % 16 == 0) || not (is_last octets) && not (bit_count octets == PACKET_BITS)
+    else not (bit_count octets == 0)
+
+-- what the octets say, where they spell a packet
+abbrev pub form_of : List ℕ → Form
+form_of octets = record {
+  kind = kind_of (slice_index octets 0);
+  source = host_of (slice_index octets 1);
+  destination = host_of (slice_index octets 2);
+  link = slice_index octets 3;
+  number = slice_index octets 4;
+  place = place_of octets;
+  last = is_last octets;
+  bits = take (bit_count octets) (bits_of (drop HEADER_OCTETS octets));
+}
+
+-- the packet that the octets spell, or the first reason why they spell none
+abbrev pub read_of : List ℕ → Result Form PacketFault
+read_of octets =
+    if is_short octets then Err fault.Short
+    else (if is_not_canonical octets then Err fault.NotCanonical
+    else (if is_bad_length octets then Err fault.BadLength
+    else Ok (form_of octets)))

@@ -1,0 +1,51 @@
+-- What reassembly promises: words for the laws over its calls.
+use Rattle.std.specs.Prelude.{◌≡◌, ℕ, ◌<◌, Bool, true, false, List, [], ◌∷◌, ◌++◌, length, map, filter, All, Contains, ◌==◌, ◌||◌, if◌then◌else◌}
+use Rattle.std.specs.List.{list_any, list_all}
+use Rattle.leader1822.specs.declared.address.Flow.{Flow}
+use Rattle.packetiser.specs.Form.{Form, flow_of}
+use Rattle.packetiser.specs.Pieces.{piece_count, piece_packet, places}
+use Rattle.packetiser.specs.Slots.{SlotState, IsPieceFor, slot_of, pieces_at, has_room, is_whole_from, added, packets_in}
+use Rattle.packetiser.specs.declared.reassembly.Added.{Added}
+use Rattle.packetiser.specs.declared.reassembly.Added.TheVariants as answer
+
+-- each of these packets is one of those
+abbrev pub AreAmong : List Form → List Form → Type 0
+AreAmong ps qs = All (Contains qs) ps
+
+-- these are the pieces of a packet's message, the packet or what was held, one for each place up to the last one's
+pub record IsGathered (slots : List SlotState) (p : Form) (ps : List Form) : Type 0 where
+  pub of_message : All (IsPieceFor (flow_of p) p.number) ps
+  pub among : AreAmong ps (packets_in slots ++ p ∷ [])
+  pub in_places : map (λ q. q.place) ps ≡ places (length ps)
+  pub whole : is_whole_from 0 ps ≡ true
+
+-- ---- the pieces of one message
+
+-- whether the piece at a place came
+abbrev pub came : List ℕ → ℕ → Bool
+came ks place = list_any (λ k. k == place) ks
+
+-- whether all pieces of a body came
+abbrev pub all_came : List Bool → List ℕ → Bool
+all_came w ks = list_all (came ks) (places (piece_count w))
+
+-- the pieces of a body that came, in order of their places
+abbrev pub pieces_of : Flow → ℕ → List Bool → List ℕ → List Form
+pieces_of flow number w ks = map (piece_packet flow number w) (filter (came ks) (places (piece_count w)))
+
+-- of the message with this body the pieces at these places are held, and no others, and a slot is there for it
+pub record Holds (flow : Flow) (number : ℕ) (w : List Bool) (ks : List ℕ) (slots : List SlotState) : Type 0 where
+  pub pieces : pieces_at (slot_of slots flow) number ≡ pieces_of flow number w ks
+  pub room : has_room slots flow ≡ true
+
+-- what the piece at a place is answered after the pieces at these places
+abbrev pub answer_to : List Bool → List ℕ → ℕ → Added
+answer_to w ks place =
+    if came ks place then answer.Old
+    else (if all_came w (place ∷ ks) then answer.Whole w
+    else answer.Kept)
+
+-- the slots after the pieces at these places, the newest first
+abbrev pub after : Flow → ℕ → List Bool → List SlotState → List ℕ → List SlotState
+after flow number w slots [] = slots
+after flow number w slots (k ∷ ks) = added (after flow number w slots ks) (piece_packet flow number w k)

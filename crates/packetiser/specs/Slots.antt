@@ -1,0 +1,155 @@
+-- Messages in reassembly (Heart et al., SJCC 1970: the destination IMP collects a message's packets).
+--
+-- The slots are a list in order of their flows. Callers rely on no order: nothing that they are told names a slot's place.
+use Rattle.std.specs.Prelude.{◌≡◌, ℕ, ◌+◌, ◌≤◌, ◌<◌, Bool, true, false, not, List, [], ◌∷◌, length, Option, Some, None, nat_lt, ◌==◌, ◌||◌, ◌&&◌, if◌then◌else◌, filter, All}
+use Rattle.std.specs.List.{find, list_any, flat_map}
+use Rattle.leader1822.specs.Mailboxes.{same_flow}
+use Rattle.leader1822.specs.declared.address.Flow.{Flow}
+use Rattle.packetiser.specs.Form.{Form, flow_of}
+use Rattle.packetiser.specs.declared.format.TheConstants.{SLOTS}
+use Rattle.packetiser.specs.declared.packet.PacketKind.TheVariants as kind
+use Rattle.packetiser.specs.declared.reassembly.Outcome.{Outcome}
+use Rattle.packetiser.specs.declared.reassembly.Outcome.TheVariants as outcome
+use Rattle.packetiser.specs.declared.reassembly.Added.{Added}
+use Rattle.packetiser.specs.declared.reassembly.Added.TheVariants as answer
+
+-- ---- the state
+
+-- a slot: the flow and number of a message, and its pieces that came, in order of their places
+pub record SlotState : Type 0 where
+  pub flow : Flow
+  pub number : ℕ
+  pub pieces : List Form
+
+-- the numbers that a flow goes by
+abbrev pub numbers_of : Flow → List ℕ
+numbers_of f = f.source.imp ∷ f.source.host ∷ f.destination.imp ∷ f.destination.host ∷ f.link.0 ∷ []
+
+-- one list of numbers is below another: it is so where they first differ
+abbrev pub is_below : List ℕ → List ℕ → Bool
+is_below [] ys = false
+is_below (x ∷ xs) [] = false
+is_below (x ∷ xs) (y ∷ ys) = nat_lt x y || x == y && is_below xs ys
+
+abbrev pub comes_before : Flow → Flow → Bool
+comes_before f g = is_below (numbers_of f) (numbers_of g)
+
+-- a piece of the message of this flow and number
+pub record IsPieceFor (f : Flow) (number : ℕ) (p : Form) : Type 0 where
+  pub data_kind : p.kind ≡ kind.Data
+  pub flow : flow_of p ≡ f
+  pub same_number : p.number ≡ number
+
+-- a slot holds pieces of its message, at least one
+pub record IsSlot (s : SlotState) : Type 0 where
+  pub some : 0 < length s.pieces
+  pub pieces : All (IsPieceFor s.flow s.number) s.pieces
+
+-- the slots stand in order of their flows, so that there is at most one for each
+abbrev pub IsInOrder : List SlotState → Type 0
+IsInOrder [] = Unit {0}
+IsInOrder (s ∷ slots) = All (λ t. comes_before s.flow t.flow ≡ true) slots × IsInOrder slots
+
+pub record IsTable (slots : List SlotState) : Type 0 where
+  pub few : length slots ≤ SLOTS
+  pub in_order : IsInOrder slots
+  pub sound : All IsSlot slots
+
+-- ---- reading the slots
+
+-- the slot of a flow
+abbrev pub slot_of : List SlotState → Flow → Option SlotState
+slot_of slots f = find (λ s. same_flow f s.flow) slots
+
+-- what a slot holds of the message with this number
+abbrev pub pieces_at : Option SlotState → ℕ → List Form
+pieces_at None number = []
+pieces_at (Some s) number = if s.number == number then s.pieces else []
+
+-- the pieces of a packet's message that are held
+abbrev pub kept_for : List SlotState → Form → List Form
+kept_for slots p = pieces_at (slot_of slots (flow_of p)) p.number
+
+-- all packets in the slots
+abbrev pub packets_in : List SlotState → List Form
+packets_in slots = flat_map (λ s. s.pieces) slots
+
+-- ---- one packet
+
+-- a piece that is held leaves no place for a packet: it has the same place, or it is a last one below it, or the packet is
+-- a last one below the piece
+abbrev pub rules_out : Form → Form → Bool
+rules_out p q = q.place == p.place || q.last && nat_lt q.place p.place || p.last && nat_lt p.place q.place
+
+abbrev pub is_old : List Form → Form → Bool
+is_old pieces p = list_any (rules_out p) pieces
+
+-- the pieces with one more, in order of their places
+abbrev pub with_piece : Form → List Form → List Form
+with_piece p [] = p ∷ []
+with_piece p (q ∷ qs) = if nat_lt q.place p.place then q ∷ with_piece p qs else p ∷ q ∷ qs
+
+-- the pieces have the places from this one on, one after another, up to a last one, behind which there is none
+abbrev pub is_whole_from : ℕ → List Form → Bool
+is_whole_from place [] = false
+is_whole_from place (q ∷ qs) = q.place == place && (if q.last then length qs == 0 else is_whole_from (place + 1) qs)
+
+-- the bits of pieces, one after another
+abbrev pub joined : List Form → List Bool
+joined pieces = flat_map (λ q. q.bits) pieces
+
+-- the pieces of a packet's message, the packet among them
+abbrev pub gathered : List SlotState → Form → List Form
+gathered slots p = with_piece p (kept_for slots p)
+
+-- ---- the calls
+
+-- the slots without a flow's
+abbrev pub without : List SlotState → Flow → List SlotState
+without slots f = filter (λ s. not (same_flow f s.flow)) slots
+
+-- the slots with this one in place of its flow's
+abbrev pub put : SlotState → List SlotState → List SlotState
+put s [] = s ∷ []
+put s (t ∷ ts) =
+    if same_flow s.flow t.flow then s ∷ ts
+    else (if comes_before t.flow s.flow then t ∷ put s ts else s ∷ t ∷ ts)
+
+-- a packet's flow has a slot, or one is free
+abbrev pub has_room : List SlotState → Flow → Bool
+has_room slots f = list_any (λ s. same_flow f s.flow) slots || nat_lt (length slots) SLOTS
+
+-- what becomes of a packet. Pieces of another number than the packet's aren't looked at: they go
+abbrev pub outcome_of : List SlotState → Form → Outcome
+outcome_of slots p =
+    if is_old (kept_for slots p) p then outcome.Old
+    else (if is_whole_from 0 (gathered slots p) then outcome.Whole
+    else (if has_room slots (flow_of p) then outcome.Kept
+    else outcome.Full))
+
+abbrev pub answer_by : Outcome → List SlotState → Form → Added
+answer_by outcome.Kept slots p = answer.Kept
+answer_by outcome.Whole slots p = answer.Whole (joined (gathered slots p))
+answer_by outcome.Old slots p = answer.Old
+answer_by outcome.Full slots p = answer.Full
+
+abbrev pub answer_of : List SlotState → Form → Added
+answer_of slots p = answer_by (outcome_of slots p) slots p
+
+-- the slots with a packet that is kept
+abbrev pub kept : List SlotState → Form → List SlotState
+kept slots p = put (record { flow = flow_of p; number = p.number; pieces = gathered slots p }) slots
+
+abbrev pub added_by : Outcome → List SlotState → Form → List SlotState
+added_by outcome.Kept slots p = kept slots p
+added_by outcome.Whole slots p = without slots (flow_of p)
+added_by outcome.Old slots p = slots
+added_by outcome.Full slots p = slots
+
+-- the slots after a packet
+abbrev pub added : List SlotState → Form → List SlotState
+added slots p = added_by (outcome_of slots p) slots p
+
+-- an order of the slots, which isn't said: callers rely on each slot standing in it once
+unfoldable pub in_some_order : List SlotState → List SlotState
+in_some_order slots = slots

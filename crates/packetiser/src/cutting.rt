@@ -1,0 +1,72 @@
+//! Cutting a message into packets.
+
+ghost use Rattle.std.specs.Prelude.{◌≡◌, ◌+◌, ◌*◌, ◌<◌, ◌≤◌, length};
+ghost use Rattle.bit_messages.specs.Body.{body};
+ghost use Rattle.packetiser.specs.Faults.{Makes};
+ghost use Rattle.packetiser.specs.Form.{IsPacketHost};
+ghost use Rattle.packetiser.specs.Pieces.{piece_count, piece, piece_packet, packets_of, IsBodySize};
+
+use crate::format::{MAX_PACKETS, PACKET_BITS};
+use crate::{Packet, PacketFault, PacketKind};
+use bit_messages::Bits;
+use leader1822::{Flow, HostMessage};
+use std::alloc::Global;
+
+/// The packets of a message with this number: the pieces of its body in order, the last one marked
+/// (Heart et al., SJCC 1970). There are one to eight. The flow's IMPs are numbered from 1 to 16.
+#[tactic(auto, using(crate::proofs::Pieces::packets_more))]
+pub fn cut(alloc: Global, message: &HostMessage, number: u8) -> Result<Vec<Packet>, PacketFault>
+    requires source { IsPacketHost message.now.flow.source }
+    requires destination { IsPacketHost message.now.flow.destination }
+    ensures { Makes (λ packets. packets.items ≡ packets_of message.now.flow number (body message.now.text)) result }
+{
+    let Ok(body) = message.text.bits().pad16(alloc) else {
+        return Err(PacketFault::OutOfMemory);
+    };
+    let count = piece_count(&body);
+    let mut packets = Vec::with_capacity(alloc, count)?;
+    for place in 0..count {
+        packets.push(piece_packet(alloc, message.flow, number, &body, place)?)?;
+    }
+    Ok(packets)
+}
+
+/// How many pieces a body has.
+fn piece_count(body: &Bits) -> usize
+    ensures { result ≡ piece_count body.now }
+{
+    body.len().div_ceil(PACKET_BITS)
+}
+
+/// The packet with the piece at a place where there is one.
+fn piece_packet(
+    alloc: Global,
+    flow: Flow,
+    number: u8,
+    body: &Bits,
+    place: usize,
+) -> Result<Packet, PacketFault>
+    requires source { IsPacketHost flow.source }
+    requires destination { IsPacketHost flow.destination }
+    requires size { IsBodySize (length body.now) }
+    requires there { place < piece_count body.now }
+    ensures { Makes (λ packet. packet ≡ piece_packet flow number body.now place) result }
+{
+    let last = place + 1 == piece_count(body);
+    let bits = piece(alloc, body, place)?;
+    Ok(Packet::new(PacketKind::Data, flow, number, place as u8, last, bits))
+}
+
+/// The piece of a body at a place where there is one.
+fn piece(alloc: Global, body: &Bits, place: usize) -> Result<Bits, PacketFault>
+    requires few { place < MAX_PACKETS }
+    requires there { place < piece_count body.now }
+    ensures { Makes (λ bits. bits ≡ piece body.now place) result }
+{
+    let from = PACKET_BITS * place;
+    let to = (from + PACKET_BITS).min(body.len());
+    let Ok(bits) = body.slice(alloc, from, to) else {
+        return Err(PacketFault::OutOfMemory);
+    };
+    Ok(bits)
+}

@@ -1,0 +1,318 @@
+//! Packets and their octets.
+
+ghost use Rattle.std.specs.Prelude.{◌≡◌, ℕ, ◌<◌, ◌≤◌, Bool, List, ◌∷◌, length, nat_lt, nat_le, Option, Some, None, Result, Ok, Err, IfOk, true};
+ghost use Rattle.std.specs.Bool.{OnFalse};
+ghost use Rattle.packetiser.specs.Form.{Form, flow_of, IsForm, IsPacketHost, Carries};
+ghost use Rattle.packetiser.specs.Faults.{Gives, Makes};
+ghost use Rattle.packetiser.specs.Format.{spelling, read_of, kind_octet, kind_of, host_of, is_address, is_short, is_not_canonical, is_bad_length, bit_count, octet_count, is_last, place_of, place_octet};
+
+use crate::PacketFault;
+use crate::format::{HEADER_OCTETS, MAX_IMP, MAX_PACKETS, PACKET_BITS};
+use bit_messages::Bits;
+use leader1822::{Flow, HostAddr, Link};
+use std::alloc::{AllocError, Global};
+use std::marker::Model;
+
+/// What a packet is.
+#[derive(Clone, Copy, Debug, Drop, PartialEq, Eq)]
+pub enum PacketKind {
+    /// A piece of a message.
+    Data,
+    /// Ready for next message: the destination's host took the message.
+    Rfnm,
+    /// The destination's host is down or not there, and did not get the message.
+    Dead,
+}
+
+/// A packet: a piece of a message, or what became of one (Heart et al., SJCC 1970).
+///
+/// An answer names its message's source and destination like a piece of it does, and travels to the
+/// source. IMPs are numbered from 1 to 16 here. A piece has a place of 0 to 7, 16 to 1008 bits in units of
+/// sixteen, and all pieces of a message but its last have 1008.
+#[derive(Debug, Drop)]
+pub struct Packet {
+    kind: PacketKind,
+    source: HostAddr,
+    destination: HostAddr,
+    link: Link,
+    number: u8,
+    place: u8,
+    last: bool,
+    bits: Bits,
+}
+
+impl Model for Packet {
+    ghost use Rattle.packetiser.specs.Form.{Form, IsForm};
+
+    ghost Value = { Form };
+
+    ghost view = { λ p. record { kind = p.kind; source = p.source; destination = p.destination; link = p.link.0; number = p.number; place = p.place; last = p.last; bits = p.bits } };
+
+    ghost invariant = { λ p. IsForm (record { kind = p.kind; source = p.source; destination = p.destination; link = p.link.0; number = p.number; place = p.place; last = p.last; bits = p.bits }) };
+}
+
+impl Packet {
+    /// The packet that says this. The flow's IMPs are numbered from 1 to 16, the place is 0 to 7; a piece
+    /// has 16 to 1008 bits in units of sixteen, 1008 if it isn't the last, and the one at place 7 is the
+    /// last; an answer has place 0, the last flag and no bits.
+    pub fn new(
+        kind: PacketKind,
+        flow: Flow,
+        number: u8,
+        place: u8,
+        last: bool,
+        bits: Bits,
+    ) -> Packet
+        requires source { IsPacketHost flow.source }
+        requires destination { IsPacketHost flow.destination }
+        requires place { place < MAX_PACKETS }
+        requires body { Carries kind place last (length bits) }
+        ensures { result ≡ record { kind = kind; source = flow.source; destination = flow.destination; link = flow.link.0; number = number; place = place; last = last; bits = bits } }
+    {
+        let Flow {
+            source,
+            destination,
+            link,
+        } = flow;
+        Packet {
+            kind,
+            source,
+            destination,
+            link,
+            number,
+            place,
+            last,
+            bits,
+        }
+    }
+
+    /// What it is.
+    pub fn kind(&self) -> PacketKind
+        ensures same { result ≡ self.now.kind }
+        ensures format { IsForm self.now }
+    {
+        self.kind
+    }
+
+    /// The flow of its message.
+    pub fn flow(&self) -> Flow
+        ensures { result ≡ flow_of self.now }
+    {
+        Flow {
+            source: self.source,
+            destination: self.destination,
+            link: self.link,
+        }
+    }
+
+    /// The number of its message, 0 to 255.
+    pub fn number(&self) -> u8
+        ensures { result ≡ self.now.number }
+    {
+        self.number
+    }
+
+    /// Which piece of its message it carries: 0 to 7.
+    pub fn place(&self) -> u8
+        ensures same { result ≡ self.now.place }
+        ensures range { result ≤ 7 }
+    {
+        self.place
+    }
+
+    /// Whether it carries the last piece of its message.
+    pub fn is_last(&self) -> bool
+        ensures { result ≡ self.now.last }
+    {
+        self.last
+    }
+
+    /// Its bits.
+    pub fn bits(&self) -> &Bits
+        ensures { result.now ≡ self.now.bits }
+    {
+        &self.bits
+    }
+
+    /// The packet that these octets spell.
+    ///
+    /// Errors: `Short` for fewer than 8 octets, or fewer than the number of bits asks for; `NotCanonical`
+    /// for an octet 0 above 2, an IMP outside 1 to 16, a bit between place and last flag, place 7 without
+    /// the last flag, an answer whose octet 5 isn't 128, and octets after the end; `BadLength` for an
+    /// answer with bits, a piece with none, above 1008 or no multiple of 16, and a piece other than the
+    /// last that hasn't 1008.
+    pub fn read(alloc: Global, octets: &[u8]) -> Result<Packet, PacketFault>
+        ensures exact { Gives (read_of octets.now) result }
+        ensures found { IfOk result (λ packet. octets.now ≡ spelling packet) }
+    {
+        if is_short(octets) {
+            return Err(PacketFault::Short);
+        }
+        if is_not_canonical(octets) {
+            return Err(PacketFault::NotCanonical);
+        }
+        if is_bad_length(octets) {
+            return Err(PacketFault::BadLength);
+        }
+        let (_, body) = octets.split_at(HEADER_OCTETS);
+        let Ok(bits) = Bits::from_octets(alloc, body, bit_count(octets)) else {
+            return Err(PacketFault::OutOfMemory);
+        };
+        Ok(Packet {
+            kind: kind_of(octets[0]),
+            source: host_of(octets[1]),
+            destination: host_of(octets[2]),
+            link: Link(octets[3]),
+            number: octets[4],
+            place: octets[5] % 8,
+            last: octets[5] >= 128,
+            bits,
+        })
+    }
+
+    /// Its octets.
+    pub fn write(&self, alloc: Global) -> Result<Vec<u8>, PacketFault>
+        ensures spelled { Makes (λ octets. octets.items ≡ spelling self.now) result }
+        ensures again { IfOk result (λ octets. read_of octets.items ≡ Ok self.now) }
+    {
+        let Ok(bits) = self.bits.to_octets(alloc) else {
+            return Err(PacketFault::OutOfMemory);
+        };
+        let count = self.bits.len();
+        let mut octets = Vec::from_slice(
+            alloc,
+            &[
+                kind_octet(self.kind),
+                self.source.octet(),
+                self.destination.octet(),
+                self.link.0,
+                self.number,
+                place_octet(self.place, self.last),
+                (count / 256) as u8,
+                (count % 256) as u8,
+            ],
+        )?;
+        octets.extend_from_slice(&bits)?;
+        Ok(octets)
+    }
+}
+
+impl Clone for Packet {
+    /// The same packet once more.
+    fn clone(&self) -> Result<Packet, AllocError>
+        ensures { IfOk result (λ packet. packet ≡ self.now) }
+    {
+        Ok(Packet {
+            kind: self.kind,
+            source: self.source,
+            destination: self.destination,
+            link: self.link,
+            number: self.number,
+            place: self.place,
+            last: self.last,
+            bits: self.bits.clone()?,
+        })
+    }
+}
+
+/// The octet of a kind.
+fn kind_octet(kind: PacketKind) -> u8
+    ensures { result ≡ kind_octet kind }
+{
+    match kind {
+        PacketKind::Data => 0,
+        PacketKind::Rfnm => 1,
+        PacketKind::Dead => 2,
+    }
+}
+
+/// The kind with this octet, which is at most 2.
+fn kind_of(octet: u8) -> PacketKind
+    ensures { result ≡ kind_of octet }
+{
+    match octet {
+        0 => PacketKind::Data,
+        1 => PacketKind::Rfnm,
+        _ => PacketKind::Dead,
+    }
+}
+
+/// The octet of a place and a last flag.
+fn place_octet(place: u8, last: bool) -> u8
+    requires { place ≤ 7 }
+    ensures { result ≡ place_octet place last }
+{
+    if last { place + 128 } else { place }
+}
+
+/// Whether an address octet has the number of an IMP of the subnet.
+fn is_address(octet: u8) -> bool
+    ensures { result ≡ is_address octet }
+{
+    1 <= octet % 64 && octet % 64 <= MAX_IMP
+}
+
+/// The host that such an address octet names.
+fn host_of(octet: u8) -> HostAddr
+    requires { is_address octet ≡ true }
+    ensures { result ≡ host_of octet }
+{
+    HostAddr::from_octet(octet).unwrap()
+}
+
+/// How many bits a packet says that it has.
+fn bit_count(octets: &[u8]) -> usize
+    requires { HEADER_OCTETS ≤ length octets.now }
+    ensures { result ≡ bit_count octets.now }
+{
+    256 * octets[6] as usize + octets[7] as usize
+}
+
+/// Fewer octets than a header has, or than the number of bits asks for.
+#[tactic(auto, unfolding(crate::specs::Format::is_short))]
+fn is_short(octets: &[u8]) -> bool
+    ensures same { result ≡ is_short octets.now }
+    ensures long { OnFalse result (HEADER_OCTETS ≤ length octets.now) }
+{
+    octets.len() < HEADER_OCTETS || octets.len() < octet_count(bit_count(octets))
+}
+
+/// How many octets a packet with so many bits has.
+fn octet_count(bits: usize) -> usize
+    requires { bits ≤ 65535 }
+    ensures { result ≡ octet_count bits }
+{
+    HEADER_OCTETS + bits.div_ceil(8)
+}
+
+/// An unknown kind, an address outside the subnet, a bit set between place and last flag, the greatest
+/// place without the last flag, an answer that isn't one whole packet, or octets after the end.
+#[tactic(auto, unfolding(crate::specs::Format::is_not_canonical))]
+fn is_not_canonical(octets: &[u8]) -> bool
+    requires { HEADER_OCTETS ≤ length octets.now }
+    ensures { result ≡ is_not_canonical octets.now }
+{
+    let last = octets[5] >= 128;
+    octets[0] > 2
+        || !is_address(octets[1])
+        || !is_address(octets[2])
+        || octets[5] / 8 % 16 != 0
+        || !last && octets[5] % 8 + 1 == MAX_PACKETS
+        || octets[0] != 0 && octets[5] != 128
+        || octets.len() > octet_count(bit_count(octets))
+}
+
+/// A number of bits that such a packet cannot have.
+#[tactic(auto, unfolding(crate::specs::Format::is_bad_length))]
+fn is_bad_length(octets: &[u8]) -> bool
+    requires { HEADER_OCTETS ≤ length octets.now }
+    ensures { result ≡ is_bad_length octets.now }
+{
+    let count = bit_count(octets);
+    if octets[0] == 0 {
+        let last = octets[5] >= 128;
+        count == 0 || count > PACKET_BITS || count % 16 != 0 || !last && count != PACKET_BITS
+    } else {
+        count != 0
+    }
+}
