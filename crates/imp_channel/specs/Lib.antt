@@ -1,0 +1,3 @@
+pub mod Carriage
+pub mod Line
+pub mod Schedule
