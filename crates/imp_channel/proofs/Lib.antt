@@ -1,3 +1,4 @@
 pub mod Alternating
+pub mod Calls
 pub mod OneChannel
 pub mod Runs

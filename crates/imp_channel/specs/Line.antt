@@ -1,9 +1,11 @@
 -- One end of a line: what each call makes of it and answers.
-use Rattle.std.specs.Prelude.{ℕ, ◌+◌, Bool, true, false, not, List, [], ◌∷◌, ◌++◌, replicate, slice_index_or, slice_set, is_some, is_none, position, Option, Some, None, Result, Ok, Err, nat_le, if◌then◌else◌}
+use Rattle.std.specs.Prelude.{◌≡◌, ℕ, ◌+◌, Bool, true, false, not, List, [], ◌∷◌, ◌++◌, replicate, slice_index_or, slice_set, is_some, is_none, IsSome, position, Option, Some, None, Result, Ok, Err, nat_le, if◌then◌else◌}
 use Rattle.packetiser.specs.Form.{Form}
 use Rattle.imp_channel.specs.Carriage.{Carriage}
 use Rattle.imp_channel.specs.declared.fault.ChannelFault.{ChannelFault}
 use Rattle.imp_channel.specs.declared.fault.ChannelFault.TheVariants as fault
+use Rattle.imp_channel.specs.declared.fault.SubmitFault.{SubmitFault}
+use Rattle.imp_channel.specs.declared.fault.SubmitFault.TheVariants as refusal
 use Rattle.imp_channel.specs.declared.frame.Content.{Content}
 use Rattle.imp_channel.specs.declared.frame.Content.TheVariants as content
 use Rattle.imp_channel.specs.declared.frame.Frame.{Frame}
@@ -60,6 +62,11 @@ submitted_on e packet (Some c) = Some (holding e c packet, frame_on e c (channel
 -- a packet goes into the lowest free channel, under that channel's bit; `None` where all are busy
 unfoldable pub submitted : End → Form → Option (End × Frame)
 submitted e packet = submitted_on e packet (position is_free e.sending)
+
+-- a packet that isn't put in is handed back: all channels are busy, or one is free and memory ran out
+abbrev pub IsRefusal : End → Form → SubmitFault → Type 0
+IsRefusal e packet (refusal.AllBusy back) = (back ≡ packet) × (submitted e packet ≡ None)
+IsRefusal e packet (refusal.OutOfMemory back) = (back ≡ packet) × IsSome (submitted e packet)
 
 -- Frames again, acknowledgements and routes.
 

@@ -47,3 +47,48 @@ impl Model for Carried {
 
     ghost invariant = { λ c. c.channel < ACKS };
 }
+
+impl Carried {
+    ghost use Rattle.std.specs.Prelude.{◌≡◌, ◌<◌};
+
+    /// A packet on a channel of at most 7, under this bit.
+    pub fn new(channel: u8, bit: bool, packet: Packet) -> Self
+        requires { channel < ACKS }
+        ensures { result ≡ record { channel = channel; bit = bit; packet = packet } }
+    {
+        Carried {
+            channel,
+            bit,
+            packet,
+        }
+    }
+
+    /// The channel, at most 7.
+    pub fn channel(&self) -> u8
+        ensures value { result ≡ self.now.channel }
+        ensures in_range { result < ACKS }
+    {
+        self.channel
+    }
+
+    /// The packet's bit on its channel.
+    pub fn bit(&self) -> bool
+        ensures { result ≡ self.now.bit }
+    {
+        self.bit
+    }
+
+    /// The packet.
+    pub fn packet(&self) -> &Packet
+        ensures { result.now ≡ self.now.packet }
+    {
+        &self.packet
+    }
+
+    /// The packet, taken out.
+    pub fn into_packet(self) -> Packet
+        ensures { result ≡ self.packet }
+    {
+        self.packet
+    }
+}
