@@ -1,6 +1,12 @@
 //! Why a call on frames or a line is refused.
 
-use packetiser::Packet;
+ghost use Rattle.std.specs.Prelude.{◌≡◌};
+ghost use Rattle.imp_channel.specs.Format.{fault_of};
+ghost use Rattle.imp_channel.specs.declared.fault.ChannelFault.TheVariants.{OutOfMemory};
+
+use std::alloc::{AllocError, AllocFailed};
+
+use packetiser::{Packet, PacketFault};
 use thiserror::Error;
 
 /// Why octets are no frame, or a line doesn't take one. Where several apply, the first one here is given.
@@ -18,6 +24,35 @@ pub enum ChannelFault {
     /// No memory was left.
     #[error("out of memory")]
     OutOfMemory,
+}
+
+impl From<PacketFault> for ChannelFault {
+    ghost from_gives = { λ packet e. e ≡ fault_of packet };
+
+    fn from(fault: PacketFault) -> ChannelFault {
+        match fault {
+            PacketFault::Short => ChannelFault::Short,
+            PacketFault::NotCanonical => ChannelFault::NotCanonical,
+            PacketFault::BadLength => ChannelFault::BadLength,
+            PacketFault::OutOfMemory => ChannelFault::OutOfMemory,
+        }
+    }
+}
+
+impl From<AllocError> for ChannelFault {
+    ghost from_gives = { λ _ e. e ≡ OutOfMemory };
+
+    fn from(_error: AllocError) -> ChannelFault {
+        ChannelFault::OutOfMemory
+    }
+}
+
+impl<T: Drop> From<AllocFailed<T>> for ChannelFault {
+    ghost from_gives = { λ _ e. e ≡ OutOfMemory };
+
+    fn from(_error: AllocFailed<T>) -> ChannelFault {
+        ChannelFault::OutOfMemory
+    }
 }
 
 /// Why a packet isn't put on a line. It is handed back.

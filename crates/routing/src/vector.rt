@@ -58,6 +58,7 @@ impl Vector {
     pub fn distances(&self) -> &[u8]
         ensures value { result.now ≡ self.now }
         ensures a_vector { IsVector self.now }
+        ensures tested { IsTrue (is_vector self.now) }
     {
         &self.distances
     }
