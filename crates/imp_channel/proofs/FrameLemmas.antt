@@ -1,17 +1,19 @@
 -- Frames and their octets, both ways.
-use Rattle.std.proofs.Common.{◌≡◌, ℕ, zero, suc, ◌+◌, ◌*◌, ◌/◌, ◌%◌, ◌^◌, ◌<◌, ◌≤◌, Bool, true, false, List, [], ◌∷◌, ◌++◌, length, get_or, Ok, refl, sym, ap, ◌∙◌, arith, eqb, leb, ltb, cond, subst, All, ◌⊎◌, inl, inr}
+use Rattle.std.proofs.Common.{◌≡◌, ℕ, zero, suc, ◌+◌, ◌-◌, ◌*◌, ◌/◌, ◌%◌, ◌^◌, ◌<◌, ◌≤◌, Bool, true, false, List, [], ◌∷◌, ◌++◌, length, get_or, take, drop, Ok, Err, Result, refl, sym, ap, ◌∙◌, arith, eqb, leb, ltb, cond, subst, All, ◌⊎◌, inl, inr}
 use Rattle.std.proofs.lemmas.Bool.{cases_eq, cases_Bool, eq-eqb, ne_eqb, eqb-true, eqb-false, le-leb, lt-leb, le-ltb}
 use Rattle.std.proofs.Math.Nat.{pow-suc}
-use Rattle.std.proofs.lemmas.List.{nil_from_length}
+use Rattle.std.proofs.lemmas.List.{nil_from_length, take_rest}
 use Rattle.packetiser.specs.Format as packets
 use Rattle.routing.specs.Vector.{is_vector, IsVector}
 use Rattle.routing.specs.declared.vector.TheConstants.{IMPS, INFINITE}
 use Rattle.imp_channel.specs.Carriage.{Carriage}
+use Rattle.imp_channel.specs.declared.fault.ChannelFault.{ChannelFault}
+use Rattle.imp_channel.specs.declared.fault.ChannelFault.TheVariants as fault
 use Rattle.imp_channel.specs.declared.frame.Content.{Content}
 use Rattle.imp_channel.specs.declared.frame.Content.TheVariants as content
 use Rattle.imp_channel.specs.declared.frame.Frame.{Frame}
 use Rattle.imp_channel.specs.declared.frame.TheConstants.{ACKS}
-use Rattle.imp_channel.specs.Format.{octet_of, bits_of, bit_value, channel_octet, kind_octet, rest_of, content_of, carried_as, spelling, read_of, framed}
+use Rattle.imp_channel.specs.Format.{octet_of, bits_of, bit_value, channel_octet, kind_octet, rest_of, content_of, carried_as, read_of, framed, Gives}
 
 -- the octet of eight bits
 pub octet_of-eight : (bits : List Bool) → length bits ≡ 8
@@ -84,3 +86,19 @@ pub routes_again : (distances : List ℕ) → IsVector distances → is_vector d
 routes_again distances v tested =
     let enough : ltb (length distances) IMPS ≡ false = le-ltb (length distances) IMPS (omega (arith, v.one_each)) in
     rw (enough, tested) refl
+
+-- a fault of what a frame brings is the frame's
+framed_fault : (acks : List Bool) (said : Result Content ChannelFault) (e : ChannelFault) → Gives said (Err e) → Gives (framed acks said) (Err e)
+framed_fault acks (Ok brings) fault.OutOfMemory h = refl
+framed_fault acks (Err other) fault.OutOfMemory h = cc
+framed_fault acks said fault.Short h = let F : Result Content ChannelFault → Result Frame ChannelFault = λ r. framed acks r in ap F h
+framed_fault acks said fault.NotCanonical h = let F : Result Content ChannelFault → Result Frame ChannelFault = λ r. framed acks r in ap F h
+framed_fault acks said fault.BadLength h = let F : Result Content ChannelFault → Result Frame ChannelFault = λ r. framed acks r in ap F h
+
+pub read_fault : (octets : List ℕ) (e : ChannelFault) → 2 ≤ length octets
+  → Gives (content_of (get_or octets 0 0) (take (length octets - 2) (drop 2 octets))) (Err e) → Gives (read_of octets) (Err e)
+read_fault [] e two h = absurd (omega arith)
+read_fault (kind ∷ []) e two h = absurd (omega arith)
+read_fault (kind ∷ acks ∷ rest) e two h =
+    let P : List ℕ → Type 0 = λ l. Gives (content_of kind l) (Err e) in
+    framed_fault (bits_of ACKS acks) (content_of kind rest) e (subst P (take_rest (kind ∷ acks ∷ rest) 2) h)
