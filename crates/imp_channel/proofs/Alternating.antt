@@ -120,7 +120,7 @@ Turns-drop (suc n) b (a ∷ acks) (inr h) = Turns-from_AllAre b (drop n acks) (A
 
 -- frames may be passed over both ways
 pub kept_drop : (n m : ℕ) (ch : Channel) (expects : Bool) (way : List Passing) (acks : List Bool) (put given freed : List Form)
-  → Kept ch expects way acks put given freed → Kept ch expects (drop n way) (drop m acks) put given freed
+    → Kept ch expects way acks put given freed → Kept ch expects (drop n way) (drop m acks) put given freed
 kept_drop n m ch expects way acks put given freed (inl k) =
     inl record { packet = k.packet; expected = k.expected; passing = AllHave-drop n (not ch.bit) way k.passing; returning = AllAre-drop m ch.bit acks k.returning; all_given = k.all_given; all_freed = k.all_freed }
 kept_drop n m ch expects way acks put given freed (inr (inl k)) =
@@ -186,7 +186,7 @@ AllAre-along a b acks e h = let P : Bool → Type 0 = λ v. AllAre v acks in sub
 
 -- the sender writes frames that carry what its channel holds
 pub kept_wrote : (ch : Channel) (expects : Bool) (way more : List Passing) (acks : List Bool) (put given freed : List Form)
-  → Carries ch more → Kept ch expects way acks put given freed → Kept ch expects (way ++ more) acks put given freed
+    → Carries ch more → Kept ch expects way acks put given freed → Kept ch expects (way ++ more) acks put given freed
 kept_wrote ch expects way more acks put given freed c (inl k) =
     inl record { packet = k.packet; expected = k.expected; passing = AllHave-append (not ch.bit) way more k.passing (carries_none ch (not ch.bit) more k.packet c); returning = k.returning; all_given = k.all_given; all_freed = k.all_freed }
 kept_wrote ch expects way more acks put given freed c (inr (inl k)) =
@@ -196,7 +196,7 @@ kept_wrote ch expects way more acks put given freed c (inr (inr k)) =
 
 -- the far end writes frames that acknowledge with the bit that it expects
 pub kept_told : (ch : Channel) (expects : Bool) (way : List Passing) (acks more : List Bool) (put given freed : List Form)
-  → AllAre expects more → Kept ch expects way acks put given freed → Kept ch expects way (acks ++ more) put given freed
+    → AllAre expects more → Kept ch expects way acks put given freed → Kept ch expects way (acks ++ more) put given freed
 kept_told ch expects way acks more put given freed m (inl k) =
     inl record { packet = k.packet; expected = k.expected; passing = k.passing; returning = AllAre-append ch.bit acks more k.returning (AllAre-along expects ch.bit more k.expected m); all_given = k.all_given; all_freed = k.all_freed }
 kept_told ch expects way acks more put given freed m (inr (inl k)) =
@@ -206,8 +206,8 @@ kept_told ch expects way acks more put given freed m (inr (inr k)) =
 
 -- a packet is put into a free channel
 pub kept_submit : (ch : Channel) (p : Form) (expects : Bool) (way : List Passing) (acks : List Bool) (put given freed : List Form)
-  → ch.packet ≡ None → Kept ch expects way acks put given freed
-  → Kept (record { bit = ch.bit; packet = Some p }) expects way acks (put ++ p ∷ []) given freed
+    → ch.packet ≡ None → Kept ch expects way acks put given freed
+    → Kept (record { bit = ch.bit; packet = Some p }) expects way acks (put ++ p ∷ []) given freed
 kept_submit ch p expects way acks put given freed free (inl k) =
     inr (inl record { held = p; packet = refl; expected = k.expected; passing = OthersThen-from_AllHave ch.bit p way k.passing; returning = k.returning; all_given = ap (λ (l : List Form). l ++ p ∷ []) (sym k.all_given); all_freed = k.all_freed })
 kept_submit ch p expects way acks put given freed free (inr (inl k)) = let at = k.packet in cc
@@ -242,12 +242,12 @@ given_by (Some m) expects = cond (not (differs m.0 expects)) (m.1 ∷ []) []
 
 -- nothing is added
 kept_more_freed : (ch : Channel) (expects : Bool) (way : List Passing) (acks : List Bool) (put given freed : List Form)
-  → Kept ch expects way acks put given freed → Kept ch expects way acks put given (freed ++ [])
+    → Kept ch expects way acks put given freed → Kept ch expects way acks put given (freed ++ [])
 kept_more_freed ch expects way acks put given freed k =
     let P : List Form → Type 0 = λ l. Kept ch expects way acks put given l in subst P (sym (append-nil freed)) k
 
 kept_more_given : (ch : Channel) (expects : Bool) (way : List Passing) (acks : List Bool) (put given freed : List Form)
-  → Kept ch expects way acks put given freed → Kept ch expects way acks put (given ++ []) freed
+    → Kept ch expects way acks put given freed → Kept ch expects way acks put (given ++ []) freed
 kept_more_given ch expects way acks put given freed k =
     let P : List Form → Type 0 = λ l. Kept ch expects way acks put l freed in subst P (sym (append-nil given)) k
 
@@ -265,8 +265,8 @@ acked_on d b p = cond d (record { bit = not b; packet = None }) (record { bit = 
 
 -- the bit that comes back is the packet's: nothing changes
 acked_same : (b a : Bool) (p : Form) (expects : Bool) (way : List Passing) (acks : List Bool) (put given freed : List Form)
-  → a ≡ b → Kept (record { bit = b; packet = Some p }) expects way acks put given freed
-  → Kept (acked_on (differs a b) b p) expects way acks put given (freed ++ freed_by (Some p) (acked_on (differs a b) b p).packet)
+    → a ≡ b → Kept (record { bit = b; packet = Some p }) expects way acks put given freed
+    → Kept (acked_on (differs a b) b p) expects way acks put given (freed ++ freed_by (Some p) (acked_on (differs a b) b p).packet)
 acked_same b a p expects way acks put given freed e k =
     let same : differs a b ≡ false = ap (λ (v : Bool). differs v b) e ∙ differs_same b in
     let P : Bool → Type 0 = λ d. Kept (acked_on d b p) expects way acks put given (freed ++ freed_by (Some p) (acked_on d b p).packet) in
@@ -274,8 +274,8 @@ acked_same b a p expects way acks put given freed e k =
 
 -- it is the other bit: the channel is free
 acked_other : (b a : Bool) (p : Form) (expects : Bool) (way : List Passing) (acks : List Bool) (put given freed : List Form)
-  → a ≡ not b → AllAre (not b) acks → IsTaken (record { bit = b; packet = Some p }) expects way (a ∷ acks) put given freed
-  → Kept (acked_on (differs a b) b p) expects way (a ∷ acks) put given (freed ++ freed_by (Some p) (acked_on (differs a b) b p).packet)
+    → a ≡ not b → AllAre (not b) acks → IsTaken (record { bit = b; packet = Some p }) expects way (a ∷ acks) put given freed
+    → Kept (acked_on (differs a b) b p) expects way (a ∷ acks) put given (freed ++ freed_by (Some p) (acked_on (differs a b) b p).packet)
 acked_other b a p expects way acks put given freed e rest k =
     let other : differs a b ≡ true = ap (λ (v : Bool). differs v b) e ∙ differs_not b in
     let held : k.held ≡ p = let at = k.packet in cc in
@@ -292,56 +292,56 @@ acked_other b a p expects way acks put given freed e rest k =
 
 -- the sender takes an acknowledgement bit
 pub kept_acked : (b : Bool) (packet : Option Form) (a : Bool) (expects : Bool) (way : List Passing) (acks : List Bool) (put given freed : List Form)
-  → Kept (record { bit = b; packet = packet }) expects way (a ∷ acks) put given freed
-  → Kept (acknowledged a (record { bit = b; packet = packet })) expects way (a ∷ acks) put given (freed ++ freed_by packet (acknowledged a (record { bit = b; packet = packet })).packet)
+    → Kept (record { bit = b; packet = packet }) expects way (a ∷ acks) put given freed
+    → Kept (acknowledged a (record { bit = b; packet = packet })) expects way (a ∷ acks) put given (freed ++ freed_by packet (acknowledged a (record { bit = b; packet = packet })).packet)
 kept_acked b None a expects way acks put given freed k = kept_more_freed (record { bit = b; packet = None }) expects way (a ∷ acks) put given freed k
 kept_acked b (Some p) a expects way acks put given freed (inl k) = let at = k.packet in cc
 kept_acked b (Some p) a expects way acks put given freed (inr (inl k)) =
     acked_same b a p expects way (a ∷ acks) put given freed k.returning.0 (inr (inl k))
 kept_acked b (Some p) a expects way acks put given freed (inr (inr k)) =
     elim k.returning [
-      inl h ↦ acked_same b a p expects way (a ∷ acks) put given freed h.0 (inr (inr k))
+      | inl h ↦ acked_same b a p expects way (a ∷ acks) put given freed h.0 (inr (inr k))
       | inr h ↦ acked_other b a p expects way acks put given freed h.0 h.1 k
     ]
 
 -- a repeat changes nothing
 came_again : (ch : Channel) (expects : Bool) (m : Bool × Form) (way : List Passing) (acks : List Bool) (put given freed : List Form)
-  → differs m.0 expects ≡ true → Kept ch expects way acks put given freed
-  → Kept ch (expected_by (Some m) expects) way acks put (given ++ given_by (Some m) expects) freed
+    → differs m.0 expects ≡ true → Kept ch expects way acks put given freed
+    → Kept ch (expected_by (Some m) expects) way acks put (given ++ given_by (Some m) expects) freed
 came_again ch expects m way acks put given freed e k =
     let P : Bool → Type 0 = λ d. Kept ch (cond (not d) (not m.0) expects) way acks put (given ++ cond (not d) (m.1 ∷ []) []) freed in
     subst P (sym e) (kept_more_given ch expects way acks put given freed k)
 
 -- the packet that waits is given
 came_first : (ch : Channel) (expects : Bool) (m : Bool × Form) (way : List Passing) (acks : List Bool) (put given freed : List Form)
-  → (k : IsWaiting ch expects (Some m ∷ way) acks put given freed) → m.0 ≡ ch.bit → m.1 ≡ k.held → AllThis ch.bit k.held way
-  → Kept ch (expected_by (Some m) expects) (Some m ∷ way) acks put (given ++ given_by (Some m) expects) freed
+    → (k : IsWaiting ch expects (Some m ∷ way) acks put given freed) → m.0 ≡ ch.bit → m.1 ≡ k.held → AllThis ch.bit k.held way
+    → Kept ch (expected_by (Some m) expects) (Some m ∷ way) acks put (given ++ given_by (Some m) expects) freed
 came_first ch expects m way acks put given freed k bit packet rest =
     let same : differs m.0 expects ≡ false = ap (λ (v : Bool). differs m.0 v) (k.expected ∙ sym bit) ∙ differs_same m.0 in
     let P : Bool → Type 0 = λ d. Kept ch (cond (not d) (not m.0) expects) (Some m ∷ way) acks put (given ++ cond (not d) (m.1 ∷ []) []) freed in
     let this : given ++ m.1 ∷ [] ≡ given ++ k.held ∷ [] = ap (λ (q : Form). given ++ q ∷ []) packet in
     subst P (sym same)
     (inr
-      (inr record {
-        held = k.held;
-        packet = k.packet;
-        expected = ap not bit;
-        passing = (bit, AllHave-from_AllThis ch.bit k.held way rest);
-        returning = Turns-from_AllAre_same ch.bit acks k.returning;
-        all_given = this ∙ sym k.all_given;
-        all_freed = this ∙ ap (λ (l : List Form). l ++ k.held ∷ []) (sym k.all_freed);
-      }))
+    (inr record {
+      held = k.held;
+      packet = k.packet;
+      expected = ap not bit;
+      passing = (bit, AllHave-from_AllThis ch.bit k.held way rest);
+      returning = Turns-from_AllAre_same ch.bit acks k.returning;
+      all_given = this ∙ sym k.all_given;
+      all_freed = this ∙ ap (λ (l : List Form). l ++ k.held ∷ []) (sym k.all_freed);
+    }))
 
 -- the far end takes a frame
 pub kept_came : (ch : Channel) (expects : Bool) (m : Passing) (way : List Passing) (acks : List Bool) (put given freed : List Form)
-  → Kept ch expects (m ∷ way) acks put given freed
-  → Kept ch (expected_by m expects) (m ∷ way) acks put (given ++ given_by m expects) freed
+    → Kept ch expects (m ∷ way) acks put given freed
+    → Kept ch (expected_by m expects) (m ∷ way) acks put (given ++ given_by m expects) freed
 kept_came ch expects None way acks put given freed k = kept_more_given ch expects (None ∷ way) acks put given freed k
 kept_came ch expects (Some m) way acks put given freed (inl k) =
     came_again ch expects m (Some m ∷ way) acks put given freed (ap (λ (v : Bool). differs m.0 v) k.expected ∙ ap (λ (v : Bool). differs v ch.bit) k.passing.0 ∙ differs_not ch.bit) (inl k)
 kept_came ch expects (Some m) way acks put given freed (inr (inl k)) =
     elim k.passing [
-      inl h ↦ came_again ch expects m (Some m ∷ way) acks put given freed (ap (λ (v : Bool). differs m.0 v) k.expected ∙ ap (λ (v : Bool). differs v ch.bit) h.0 ∙ differs_not ch.bit) (inr (inl k))
+      | inl h ↦ came_again ch expects m (Some m ∷ way) acks put given freed (ap (λ (v : Bool). differs m.0 v) k.expected ∙ ap (λ (v : Bool). differs v ch.bit) h.0 ∙ differs_not ch.bit) (inr (inl k))
       | inr h ↦ came_first ch expects m way acks put given freed k h.0 h.1 h.2
     ]
 kept_came ch expects (Some m) way acks put given freed (inr (inr k)) =
@@ -349,13 +349,13 @@ kept_came ch expects (Some m) way acks put given freed (inr (inr k)) =
 
 -- what the moments say of the packets put in, given and freed
 pub kept_given : (ch : Channel) (expects : Bool) (way : List Passing) (acks : List Bool) (put given freed : List Form)
-  → Kept ch expects way acks put given freed → Begins given put
+    → Kept ch expects way acks put given freed → Begins given put
 kept_given ch expects way acks put given freed (inl k) = record { rest = []; joined = append-nil given ∙ k.all_given }
 kept_given ch expects way acks put given freed (inr (inl k)) = record { rest = k.held ∷ []; joined = sym k.all_given }
 kept_given ch expects way acks put given freed (inr (inr k)) = record { rest = []; joined = append-nil given ∙ k.all_given }
 
 pub kept_freed : (ch : Channel) (expects : Bool) (way : List Passing) (acks : List Bool) (put given freed : List Form)
-  → Kept ch expects way acks put given freed → Begins freed given
+    → Kept ch expects way acks put given freed → Begins freed given
 kept_freed ch expects way acks put given freed (inl k) = record { rest = []; joined = append-nil freed ∙ k.all_freed }
 kept_freed ch expects way acks put given freed (inr (inl k)) = record { rest = []; joined = append-nil freed ∙ k.all_freed }
 kept_freed ch expects way acks put given freed (inr (inr k)) = record { rest = k.held ∷ []; joined = sym k.all_freed }

@@ -17,8 +17,8 @@ use Rattle.imp_channel.specs.Format.{octet_of, bits_of, bit_value, channel_octet
 
 -- the octet of eight bits
 pub octet_of-eight : (bits : List Bool) → length bits ≡ 8
-  → octet_of bits
-  ≡ bit_value (get_or bits 0 false) + 2 * bit_value (get_or bits 1 false) + 4 * bit_value (get_or bits 2 false) + 8 * bit_value (get_or bits 3 false)
+    → octet_of bits
+    ≡ bit_value (get_or bits 0 false) + 2 * bit_value (get_or bits 1 false) + 4 * bit_value (get_or bits 2 false) + 8 * bit_value (get_or bits 3 false)
     + 16 * bit_value (get_or bits 4 false) + 32 * bit_value (get_or bits 5 false) + 64 * bit_value (get_or bits 6 false) + 128 * bit_value (get_or bits 7 false)
 unfolding octet_of
 octet_of-eight [] eight = omega arith
@@ -49,7 +49,7 @@ bits_of-octet_of (false ∷ bits) =
 bit_value-odd : (n : ℕ) → bit_value (eqb (n % 2) 1) ≡ n % 2
 bit_value-odd n =
     elim (cases_eq (n % 2) 1) [
-      inl one ↦ ap bit_value (eq-eqb (n % 2) 1 one) ∙ sym one
+      | inl one ↦ ap bit_value (eq-eqb (n % 2) 1 one) ∙ sym one
       | inr other ↦ ap bit_value (ne_eqb (n % 2) 1 other) ∙ (let zero : 0 ≡ n % 2 = omega arith in zero)
     ]
 
@@ -64,11 +64,11 @@ octet_of-bits_of (suc count) octet below =
 
 -- a packet frame's rest is read again, where the packet is
 pub packet_again : (carried : Carriage) → carried.channel < ACKS → packets.read_of (packets.spelling carried.packet) ≡ Ok carried.packet
-  → content_of (kind_octet (content.Packet carried)) (rest_of (content.Packet carried)) ≡ Ok (content.Packet carried)
+    → content_of (kind_octet (content.Packet carried)) (rest_of (content.Packet carried)) ≡ Ok (content.Packet carried)
 packet_again carried below again = at carried.bit carried.channel below
   where
     at : (bit : Bool) (c : ℕ) → c < ACKS
-      → content_of 0 (channel_octet (record { channel = c; bit = bit; packet = carried.packet }) ∷ packets.spelling carried.packet) ≡ Ok (content.Packet (record { channel = c; bit = bit; packet = carried.packet }))
+        → content_of 0 (channel_octet (record { channel = c; bit = bit; packet = carried.packet }) ∷ packets.spelling carried.packet) ≡ Ok (content.Packet (record { channel = c; bit = bit; packet = carried.packet }))
     at true c below =
         let used : leb 16 (c + 8) ≡ false = lt-leb 16 (c + 8) (omega arith) in
         let set : leb 8 (c + 8) ≡ true = le-leb 8 (c + 8) (omega arith) in
@@ -82,7 +82,7 @@ packet_again carried below again = at carried.bit carried.channel below
 
 -- a routes frame's rest is read again
 pub routes_again : (distances : List ℕ) → IsVector distances → is_vector distances ≡ true
-  → content_of (kind_octet (content.Routes distances)) (rest_of (content.Routes distances)) ≡ Ok (content.Routes distances)
+    → content_of (kind_octet (content.Routes distances)) (rest_of (content.Routes distances)) ≡ Ok (content.Routes distances)
 routes_again distances v tested =
     let enough : ltb (length distances) IMPS ≡ false = le-ltb (length distances) IMPS (omega (arith, v.one_each)) in
     rw (enough, tested) refl
@@ -96,7 +96,7 @@ framed_fault acks said fault.NotCanonical h = let F : Result Content ChannelFaul
 framed_fault acks said fault.BadLength h = let F : Result Content ChannelFault → Result Frame ChannelFault = λ r. framed acks r in ap F h
 
 pub read_fault : (octets : List ℕ) (e : ChannelFault) → 2 ≤ length octets
-  → Gives (content_of (get_or octets 0 0) (take (length octets - 2) (drop 2 octets))) (Err e) → Gives (read_of octets) (Err e)
+    → Gives (content_of (get_or octets 0 0) (take (length octets - 2) (drop 2 octets))) (Err e) → Gives (read_of octets) (Err e)
 read_fault [] e two h = absurd (omega arith)
 read_fault (kind ∷ []) e two h = absurd (omega arith)
 read_fault (kind ∷ acks ∷ rest) e two h =

@@ -33,7 +33,7 @@ ack_in c f = get_or f.acks c false
 -- Frames written.
 
 frame_acks : (e : End) (c n : ℕ) (bit : Bool) (packet : Option Form) (rest : List Frame) → AllAre (expected_at e c) (map (ack_in c) rest)
-  → AllAre (expected_at e c) (map (ack_in c) (frames_of e n bit packet ++ rest))
+    → AllAre (expected_at e c) (map (ack_in c) (frames_of e n bit packet ++ rest))
 frame_acks e c n bit None rest next = next
 frame_acks e c n bit (Some p) rest next = (refl, next)
 
@@ -43,13 +43,13 @@ AllAre-frames e c n [] = tt
 AllAre-frames e c n (ch ∷ chs) = frame_acks e c n ch.bit ch.packet (frames_from e (n + 1) chs) (AllAre-frames e c (n + 1) chs)
 
 frame_elsewhere : (e : End) (ch : Channel) (c n : ℕ) (bit : Bool) (packet : Option Form) (rest : List Frame) → (n ≡ c → ⊥)
-  → Carries ch (map (way_in c) rest) → Carries ch (map (way_in c) (frames_of e n bit packet ++ rest))
+    → Carries ch (map (way_in c) rest) → Carries ch (map (way_in c) (frames_of e n bit packet ++ rest))
 frame_elsewhere e ch c n bit None rest other next = next
 frame_elsewhere e ch c n bit (Some p) rest other next =
     let P : Bool → Type 0 = λ t. Carries ch (cond t (Some (bit, p)) None ∷ map (way_in c) rest) in subst P (sym (ne_eqb n c other)) next
 
 frame_here : (e : End) (ch : Channel) (c n : ℕ) (packet : Option Form) (rest : List Frame) → n ≡ c → ch.packet ≡ packet
-  → Carries ch (map (way_in c) rest) → Carries ch (map (way_in c) (frames_of e n ch.bit packet ++ rest))
+    → Carries ch (map (way_in c) rest) → Carries ch (map (way_in c) (frames_of e n ch.bit packet ++ rest))
 frame_here e ch c n None rest same is next = next
 frame_here e ch c n (Some p) rest same is next =
     let P : Bool → Type 0 = λ t. Carries ch (cond t (Some (ch.bit, p)) None ∷ map (way_in c) rest) in
@@ -71,11 +71,12 @@ Carries-frames e n (suc k) c (ch ∷ chs) at =
 
 -- a frame on a channel that holds its packet carries it there, and nothing elsewhere
 pub Carries-frame_on : (e : End) (k c : ℕ) (bit : Bool) (p : Form) (ch : Channel) → (k ≡ c → (bit ≡ ch.bit) × (ch.packet ≡ Some p))
-  → Carries ch (way_in c (frame_on e k bit p) ∷ [])
+    → Carries ch (way_in c (frame_on e k bit p) ∷ [])
 Carries-frame_on e k c bit p ch holds = ⊎_cases (cases_eq k c)
   where
     P : Bool → Type 0
     P t = Carries ch (cond t (Some (bit, p)) None ∷ [])
+
     ⊎_cases : (k ≡ c) ⊎ (k ≡ c → ⊥) → P (eqb k c)
     ⊎_cases (inl same) = let is = holds same in subst P (sym (eq-eqb k c same)) (is.0, is.1, tt)
     ⊎_cases (inr other) = subst P (sym (ne_eqb k c other)) tt
@@ -87,7 +88,7 @@ acknowledged-opening a = refl
 
 -- each channel has its own acknowledgement bit
 pub get_or-all_acknowledged : (acks : List Bool) (chs : List Channel) (c : ℕ)
-  → get_or (all_acknowledged acks chs) c opening_channel ≡ acknowledged (get_or acks c false) (get_or chs c opening_channel)
+    → get_or (all_acknowledged acks chs) c opening_channel ≡ acknowledged (get_or acks c false) (get_or chs c opening_channel)
 get_or-all_acknowledged [] [] c = refl
 get_or-all_acknowledged (a ∷ acks) [] c = refl
 get_or-all_acknowledged [] (ch ∷ chs) zero = refl
@@ -115,17 +116,17 @@ pub record IsOnChannel (c : ℕ) (expected : List Bool) (brings : Content) : Typ
   pub gives : given_on c brings (Ok (brought expected brings)) ≡ given_by (way_of c brings) (get_or expected c false)
 
 written_bit : (h : Bool) (expected : List Bool) (k : ℕ) (v : Bool) → k < length expected
-  → get_or (cond h (set expected k v) expected) k false ≡ cond h v (get_or expected k false)
+    → get_or (cond h (set expected k v) expected) k false ≡ cond h v (get_or expected k false)
 written_bit true expected k v within = get_or-set_same expected k v false within
 written_bit false expected k v within = refl
 
 other_bit : (h : Bool) (expected : List Bool) (k c : ℕ) (v : Bool) → (k ≡ c → ⊥)
-  → get_or (cond h (set expected k v) expected) c false ≡ get_or expected c false
+    → get_or (cond h (set expected k v) expected) c false ≡ get_or expected c false
 other_bit true expected k c v other = get_or-set_other expected k c v false (λ (same : c ≡ k). other (sym same))
 other_bit false expected k c v other = refl
 
 given_when : (c : ℕ) (carried : Carriage) (h : Bool)
-  → given_on c (content.Packet carried) (Ok (cond h (received.Fresh carried.packet) received.Repeat)) ≡ cond h (packet_on c (content.Packet carried)) []
+    → given_on c (content.Packet carried) (Ok (cond h (received.Fresh carried.packet) received.Repeat)) ≡ cond h (packet_on c (content.Packet carried)) []
 given_when c carried true = refl
 given_when c carried false = refl
 
@@ -134,34 +135,34 @@ none_either true = refl
 none_either false = refl
 
 same_gift : (t bit expects : Bool) (p : Form)
-  → cond (not (differs bit expects)) (cond t (p ∷ []) []) [] ≡ given_by (cond t (Some (bit, p)) None) expects
+    → cond (not (differs bit expects)) (cond t (p ∷ []) []) [] ≡ given_by (cond t (Some (bit, p)) None) expects
 same_gift true bit expects p = refl
 same_gift false bit expects p = none_either (not (differs bit expects))
 
 carried_here : (expected : List Bool) (carried : Carriage) → carried.channel < length expected
-  → IsOnChannel carried.channel expected (content.Packet carried)
+    → IsOnChannel carried.channel expected (content.Packet carried)
 carried_here expected carried within =
     let here : eqb carried.channel carried.channel ≡ true = eq-eqb carried.channel carried.channel refl in
     record {
       expects =
-        written_bit (has_expected_bit expected carried) expected carried.channel (not carried.bit) within
-        ∙ ap (λ (t : Bool). expected_by (cond t (Some (carried.bit, carried.packet)) None) (get_or expected carried.channel false)) (sym here);
+          written_bit (has_expected_bit expected carried) expected carried.channel (not carried.bit) within
+          ∙ ap (λ (t : Bool). expected_by (cond t (Some (carried.bit, carried.packet)) None) (get_or expected carried.channel false)) (sym here);
       gives = given_when carried.channel carried (has_expected_bit expected carried) ∙ same_gift (eqb carried.channel carried.channel) carried.bit (get_or expected carried.channel false) carried.packet;
     }
 
 carried_elsewhere : (c : ℕ) (expected : List Bool) (carried : Carriage) → (carried.channel ≡ c → ⊥)
-  → IsOnChannel c expected (content.Packet carried)
+    → IsOnChannel c expected (content.Packet carried)
 carried_elsewhere c expected carried other =
     let elsewhere : eqb carried.channel c ≡ false = ne_eqb carried.channel c other in
     record {
       expects =
-        other_bit (has_expected_bit expected carried) expected carried.channel c (not carried.bit) other
-        ∙ ap (λ (t : Bool). expected_by (cond t (Some (carried.bit, carried.packet)) None) (get_or expected c false)) (sym elsewhere);
+          other_bit (has_expected_bit expected carried) expected carried.channel c (not carried.bit) other
+          ∙ ap (λ (t : Bool). expected_by (cond t (Some (carried.bit, carried.packet)) None) (get_or expected c false)) (sym elsewhere);
       gives =
-        given_when c carried (has_expected_bit expected carried)
-        ∙ (ap (λ (t : Bool). cond (has_expected_bit expected carried) (cond t (carried.packet ∷ []) []) []) elsewhere
-        ∙ (none_either (has_expected_bit expected carried)
-        ∙ ap (λ (t : Bool). given_by (cond t (Some (carried.bit, carried.packet)) None) (get_or expected c false)) (sym elsewhere)));
+          given_when c carried (has_expected_bit expected carried)
+          ∙ (ap (λ (t : Bool). cond (has_expected_bit expected carried) (cond t (carried.packet ∷ []) []) []) elsewhere
+          ∙ (none_either (has_expected_bit expected carried)
+          ∙ ap (λ (t : Bool). given_by (cond t (Some (carried.bit, carried.packet)) None) (get_or expected c false)) (sym elsewhere)));
     }
 
 pub on_channel : (c : ℕ) (expected : List Bool) (brings : Content) → length expected ≡ ACKS → is_foreign brings ≡ false → IsOnChannel c expected brings
@@ -169,7 +170,7 @@ on_channel c expected (content.Packet carried) whole used =
     let below : carried.channel < CHANNELS = leb-false CHANNELS carried.channel used in
     let P : ℕ → Type 0 = λ k. IsOnChannel k expected (content.Packet carried) in
     elim (cases_eq carried.channel c) [
-      inl same ↦ subst P same (carried_here expected carried (omega arith))
+      | inl same ↦ subst P same (carried_here expected carried (omega arith))
       | inr other ↦ carried_elsewhere c expected carried other
     ]
 on_channel c expected content.Nothing whole used = record { expects = refl; gives = refl }

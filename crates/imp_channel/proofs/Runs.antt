@@ -42,22 +42,22 @@ pub record BothKept (c : ℕ) (me you : Side) : Type 0 where
 -- Writing.
 
 more_written : {X : Type 0} (f : Frame → X) (s : Side) (frames : List Frame) → IsSide s
-  → map f (drop s.reached (s.written ++ frames)) ≡ map f (drop s.reached s.written) ++ map f frames
+    → map f (drop s.reached (s.written ++ frames)) ≡ map f (drop s.reached s.written) ++ map f frames
 more_written f s frames side =
     ap (λ (l : List Frame). map f l) (drop-append-le s.reached s.written frames side.within) ∙ map-append f (drop s.reached s.written) frames
 
 -- frames that carry what the channel holds, and acknowledge what is expected, may be written
 kept_writes : (c : ℕ) (me you : Side) (frames : List Frame) → Carries (channel_at me.state c) (map (way_in c) frames)
-  → AllAre (expected_at me.state c) (map (ack_in c) frames) → BothKept c me you → BothKept c (writes frames me) you
+    → AllAre (expected_at me.state c) (map (ack_in c) frames) → BothKept c me you → BothKept c (writes frames me) you
 kept_writes c me you frames carries tells k = record {
   forth =
-    (let P : List Passing → Type 0 = λ l. Kept (channel_at me.state c) (expected_at you.state c) l (returning c you) (me.put c) (you.given c) (me.freed c) in
-    subst P (sym (more_written (way_in c) me frames k.mine))
-    (kept_wrote (channel_at me.state c) (expected_at you.state c) (way c me) (map (way_in c) frames) (returning c you) (me.put c) (you.given c) (me.freed c) carries k.forth));
+      (let P : List Passing → Type 0 = λ l. Kept (channel_at me.state c) (expected_at you.state c) l (returning c you) (me.put c) (you.given c) (me.freed c) in
+      subst P (sym (more_written (way_in c) me frames k.mine))
+      (kept_wrote (channel_at me.state c) (expected_at you.state c) (way c me) (map (way_in c) frames) (returning c you) (me.put c) (you.given c) (me.freed c) carries k.forth));
   back =
-    (let P : List Bool → Type 0 = λ l. Kept (channel_at you.state c) (expected_at me.state c) (way c you) l (you.put c) (me.given c) (you.freed c) in
-    subst P (sym (more_written (ack_in c) me frames k.mine))
-    (kept_told (channel_at you.state c) (expected_at me.state c) (way c you) (returning c me) (map (ack_in c) frames) (you.put c) (me.given c) (you.freed c) tells k.back));
+      (let P : List Bool → Type 0 = λ l. Kept (channel_at you.state c) (expected_at me.state c) (way c you) l (you.put c) (me.given c) (you.freed c) in
+      subst P (sym (more_written (ack_in c) me frames k.mine))
+      (kept_told (channel_at you.state c) (expected_at me.state c) (way c you) (returning c me) (map (ack_in c) frames) (you.put c) (me.given c) (you.freed c) tells k.back));
   mine = record { within = omega (arith, length-append me.written frames, k.mine.within); bits = k.mine.bits };
   yours = k.yours;
 }
@@ -69,17 +69,17 @@ abbrev pub holds : ℕ → Form → Side → Side
 holds at p s = record s { state = holding s.state at p; put = λ c. s.put c ++ packet_on c (frame_on s.state at (channel_at s.state at).bit p).content }
 
 put_here : (at : ℕ) (p : Form) (me you : Side) → at < length me.state.sending → (channel_at me.state at).packet ≡ None
-  → KeptFrom at me you → KeptFrom at (holds at p me) you
+    → KeptFrom at me you → KeptFrom at (holds at p me) you
 put_here at p me you within free k =
     let full : Channel = record { bit = (channel_at me.state at).bit; packet = Some p } in
     let P : Channel → Type 0 = λ ch. Kept ch (expected_at you.state at) (way at me) (returning at you) (me.put at ++ packet_on at (frame_on me.state at (channel_at me.state at).bit p).content) (you.given at) (me.freed at) in
     let Q : Bool → Type 0 = λ t. Kept full (expected_at you.state at) (way at me) (returning at you) (me.put at ++ cond t (p ∷ []) []) (you.given at) (me.freed at) in
     subst P (sym (get_or-set_same me.state.sending at full opening_channel within))
     (subst Q (sym (eq-eqb at at refl))
-      (kept_submit (channel_at me.state at) p (expected_at you.state at) (way at me) (returning at you) (me.put at) (you.given at) (me.freed at) free k))
+    (kept_submit (channel_at me.state at) p (expected_at you.state at) (way at me) (returning at you) (me.put at) (you.given at) (me.freed at) free k))
 
 put_elsewhere : (c at : ℕ) (p : Form) (me you : Side) → (at ≡ c → ⊥)
-  → KeptFrom c me you → KeptFrom c (holds at p me) you
+    → KeptFrom c me you → KeptFrom c (holds at p me) you
 put_elsewhere c at p me you other k =
     let full : Channel = record { bit = (channel_at me.state at).bit; packet = Some p } in
     let P : Channel → Type 0 = λ ch. Kept ch (expected_at you.state c) (way c me) (returning c you) (me.put c ++ packet_on c (frame_on me.state at (channel_at me.state at).bit p).content) (you.given c) (me.freed c) in
@@ -93,24 +93,24 @@ none_from None e = refl
 none_from (Some p) e = cc
 
 put : (c at : ℕ) (p : Form) (me you : Side) → at < length me.state.sending → (channel_at me.state at).packet ≡ None
-  → KeptFrom c me you → KeptFrom c (holds at p me) you
+    → KeptFrom c me you → KeptFrom c (holds at p me) you
 put c at p me you within free k =
     elim (cases_eq at c) [
-      inl same ↦
-        (let P : ℕ → Type 0 = λ x. KeptFrom x (holds at p me) you in
-        let Q : ℕ → Type 0 = λ x. KeptFrom x me you in
-        subst P same (put_here at p me you within free (subst Q (sym same) k)))
+      | inl same ↦
+          (let P : ℕ → Type 0 = λ x. KeptFrom x (holds at p me) you in
+          let Q : ℕ → Type 0 = λ x. KeptFrom x me you in
+          subst P same (put_here at p me you within free (subst Q (sym same) k)))
       | inr other ↦ put_elsewhere c at p me you other k
     ]
 
 -- the channel that holds the packet now
 held_at : (e : End) (at c : ℕ) (p : Form) → at < length e.sending → at ≡ c
-  → channel_at (holding e at p) c ≡ record { bit = (channel_at e at).bit; packet = Some p }
+    → channel_at (holding e at p) c ≡ record { bit = (channel_at e at).bit; packet = Some p }
 held_at e at c p within same =
     ap (λ (x : ℕ). channel_at (holding e at p) x) (sym same) ∙ get_or-set_same e.sending at (record { bit = (channel_at e at).bit; packet = Some p }) opening_channel within
 
 kept_puts_in : (c : ℕ) (p : Form) (me you : Side) (free : Option ℕ) → position is_free me.state.sending ≡ free
-  → BothKept c me you → BothKept c (puts_in (submitted_on me.state p free) me) you
+    → BothKept c me you → BothKept c (puts_in (submitted_on me.state p free) me) you
 kept_puts_in c p me you None is k = k
 kept_puts_in c p me you (Some at) is k =
     let found = position-Some is_free me.state.sending at opening_channel is in
@@ -120,33 +120,33 @@ kept_puts_in c p me you (Some at) is k =
     (Carries-frame_on me.state at c (channel_at me.state at).bit p (channel_at (holding me.state at p) c) (λ same. (sym (ap (λ (ch : Channel). ch.bit) (full same)), ap (λ (ch : Channel). ch.packet) (full same))))
     (refl, tt)
     (record {
-        forth = put c at p me you found.0 (none_from (channel_at me.state at).packet found.1) k.forth;
-        back = k.back;
-        mine = record { within = k.mine.within; bits = k.mine.bits };
-        yours = k.yours;
-      })
+      forth = put c at p me you found.0 (none_from (channel_at me.state at).packet found.1) k.forth;
+      back = k.back;
+      mine = record { within = k.mine.within; bits = k.mine.bits };
+      yours = k.yours;
+    })
 
 -- Taking a frame.
 
 -- what is left from a later place
 later : {X : Type 0} (f : Frame → X) (frames : List Frame) (from to : ℕ) → from ≤ to
-  → drop (to - from) (map f (drop from frames)) ≡ map f (drop to frames)
+    → drop (to - from) (map f (drop from frames)) ≡ map f (drop to frames)
 later f frames from to le =
     drop-map f (to - from) (drop from frames)
     ∙ ap (λ (l : List Frame). map f l) (drop-drop (to - from) from frames ∙ ap (λ (n : ℕ). drop n frames) (let e : from + (to - from) ≡ to = omega arith in e))
 
 -- frames may be passed over
 kept_reach : (c : ℕ) (me you : Side) (place : ℕ) → you.reached ≤ place → place ≤ length you.written
-  → BothKept c me you → BothKept c me (record you { reached = place })
+    → BothKept c me you → BothKept c me (record you { reached = place })
 kept_reach c me you place from to k = record {
   forth =
-    (let P : List Bool → Type 0 = λ l. Kept (channel_at me.state c) (expected_at you.state c) (way c me) l (me.put c) (you.given c) (me.freed c) in
-    subst P (later (ack_in c) you.written you.reached place from)
-    (kept_drop 0 (place - you.reached) (channel_at me.state c) (expected_at you.state c) (way c me) (returning c you) (me.put c) (you.given c) (me.freed c) k.forth));
+      (let P : List Bool → Type 0 = λ l. Kept (channel_at me.state c) (expected_at you.state c) (way c me) l (me.put c) (you.given c) (me.freed c) in
+      subst P (later (ack_in c) you.written you.reached place from)
+      (kept_drop 0 (place - you.reached) (channel_at me.state c) (expected_at you.state c) (way c me) (returning c you) (me.put c) (you.given c) (me.freed c) k.forth));
   back =
-    (let P : List Passing → Type 0 = λ l. Kept (channel_at you.state c) (expected_at me.state c) l (returning c me) (you.put c) (me.given c) (you.freed c) in
-    subst P (later (way_in c) you.written you.reached place from)
-    (kept_drop (place - you.reached) 0 (channel_at you.state c) (expected_at me.state c) (way c you) (returning c me) (you.put c) (me.given c) (you.freed c) k.back));
+      (let P : List Passing → Type 0 = λ l. Kept (channel_at you.state c) (expected_at me.state c) l (returning c me) (you.put c) (me.given c) (you.freed c) in
+      subst P (later (way_in c) you.written you.reached place from)
+      (kept_drop (place - you.reached) 0 (channel_at you.state c) (expected_at me.state c) (way c you) (returning c me) (you.put c) (me.given c) (you.freed c) k.back));
   mine = k.mine;
   yours = record { within = to; bits = k.yours.bits };
 }
@@ -174,17 +174,17 @@ freed_by-same (Some p) = refl
 kept_refuses : (c : ℕ) (me you : Side) (f : Frame) → BothKept c me you → BothKept c (takes_when true f me) you
 kept_refuses c me you f k = record {
   forth =
-    (let P : List Form → Type 0 = λ l. Kept (channel_at me.state c) (expected_at you.state c) (way c me) (returning c you) (me.put c) (you.given c) l in
-    subst P (sym (ap (λ (l : List Form). me.freed c ++ l) (freed_by-same (channel_at me.state c).packet) ∙ append-nil (me.freed c))) k.forth);
+      (let P : List Form → Type 0 = λ l. Kept (channel_at me.state c) (expected_at you.state c) (way c me) (returning c you) (me.put c) (you.given c) l in
+      subst P (sym (ap (λ (l : List Form). me.freed c ++ l) (freed_by-same (channel_at me.state c).packet) ∙ append-nil (me.freed c))) k.forth);
   back =
-    (let P : List Form → Type 0 = λ l. Kept (channel_at you.state c) (expected_at me.state c) (way c you) (returning c me) (you.put c) l (you.freed c) in
-    subst P (sym (append-nil (me.given c))) k.back);
+      (let P : List Form → Type 0 = λ l. Kept (channel_at you.state c) (expected_at me.state c) (way c you) (returning c me) (you.put c) l (you.freed c) in
+      subst P (sym (append-nil (me.given c))) k.back);
   mine = record { within = k.mine.within; bits = k.mine.bits };
   yours = k.yours;
 }
 
 kept_accepts : (c : ℕ) (me you : Side) (f : Frame) (rest : List Frame) → drop you.reached you.written ≡ f ∷ rest → is_foreign f.content ≡ false
-  → BothKept c me you → BothKept c (takes_when false f me) you
+    → BothKept c me you → BothKept c (takes_when false f me) you
 kept_accepts c me you f rest at used k =
     let here : IsOnChannel c me.state.expected f.content = on_channel c me.state.expected f.content k.mine.bits used in
     let ch : Channel = channel_at me.state c in
@@ -192,36 +192,36 @@ kept_accepts c me you f rest at used k =
     let way_at : way c you ≡ way_in c f ∷ map (way_in c) rest = ap (λ (l : List Frame). map (way_in c) l) at in
     record {
       forth =
-        (let P : List Bool → Type 0 = λ l. Kept (channel_at me.state c) (expected_at you.state c) (way c me) l (me.put c) (you.given c) (me.freed c) in
-        let Q : List Bool → Type 0 = λ l. Kept (acknowledged (ack_in c f) (channel_at me.state c)) (expected_at you.state c) (way c me) l (me.put c) (you.given c) (me.freed c ++ freed_by (channel_at me.state c).packet (acknowledged (ack_in c f) (channel_at me.state c)).packet) in
-        let R : Channel → Type 0 = λ after. Kept after (expected_at you.state c) (way c me) (returning c you) (me.put c) (you.given c) (me.freed c ++ freed_by (channel_at me.state c).packet after.packet) in
-        subst R (sym (get_or-all_acknowledged f.acks me.state.sending c))
-        (subst Q (sym acks_at)
+          (let P : List Bool → Type 0 = λ l. Kept (channel_at me.state c) (expected_at you.state c) (way c me) l (me.put c) (you.given c) (me.freed c) in
+          let Q : List Bool → Type 0 = λ l. Kept (acknowledged (ack_in c f) (channel_at me.state c)) (expected_at you.state c) (way c me) l (me.put c) (you.given c) (me.freed c ++ freed_by (channel_at me.state c).packet (acknowledged (ack_in c f) (channel_at me.state c)).packet) in
+          let R : Channel → Type 0 = λ after. Kept after (expected_at you.state c) (way c me) (returning c you) (me.put c) (you.given c) (me.freed c ++ freed_by (channel_at me.state c).packet after.packet) in
+          subst R (sym (get_or-all_acknowledged f.acks me.state.sending c))
+          (subst Q (sym acks_at)
           (kept_acked (channel_at me.state c).bit (channel_at me.state c).packet (ack_in c f) (expected_at you.state c) (way c me) (map (ack_in c) rest) (me.put c) (you.given c) (me.freed c) (subst P acks_at k.forth))));
       back =
-        (let P : List Passing → Type 0 = λ l. Kept (channel_at you.state c) (expected_at me.state c) l (returning c me) (you.put c) (me.given c) (you.freed c) in
-        let Q : List Passing → Type 0 = λ l. Kept (channel_at you.state c) (expected_by (way_in c f) (expected_at me.state c)) l (returning c me) (you.put c) (me.given c ++ given_by (way_in c f) (expected_at me.state c)) (you.freed c) in
-        let R : Bool → Type 0 = λ v. Kept (channel_at you.state c) v (way c you) (returning c me) (you.put c) (me.given c ++ given_by (way_in c f) (expected_at me.state c)) (you.freed c) in
-        let S : List Form → Type 0 = λ l. Kept (channel_at you.state c) (get_or (expected_after me.state.expected f.content) c false) (way c you) (returning c me) (you.put c) (me.given c ++ l) (you.freed c) in
-        subst S (sym here.gives)
-        (subst R (sym here.expects)
+          (let P : List Passing → Type 0 = λ l. Kept (channel_at you.state c) (expected_at me.state c) l (returning c me) (you.put c) (me.given c) (you.freed c) in
+          let Q : List Passing → Type 0 = λ l. Kept (channel_at you.state c) (expected_by (way_in c f) (expected_at me.state c)) l (returning c me) (you.put c) (me.given c ++ given_by (way_in c f) (expected_at me.state c)) (you.freed c) in
+          let R : Bool → Type 0 = λ v. Kept (channel_at you.state c) v (way c you) (returning c me) (you.put c) (me.given c ++ given_by (way_in c f) (expected_at me.state c)) (you.freed c) in
+          let S : List Form → Type 0 = λ l. Kept (channel_at you.state c) (get_or (expected_after me.state.expected f.content) c false) (way c you) (returning c me) (you.put c) (me.given c ++ l) (you.freed c) in
+          subst S (sym here.gives)
+          (subst R (sym here.expects)
           (subst Q (sym way_at)
-            (kept_came (channel_at you.state c) (expected_at me.state c) (way_in c f) (map (way_in c) rest) (returning c me) (you.put c) (me.given c) (you.freed c) (subst P way_at k.back)))));
+          (kept_came (channel_at you.state c) (expected_at me.state c) (way_in c f) (map (way_in c) rest) (returning c me) (you.put c) (me.given c) (you.freed c) (subst P way_at k.back)))));
       mine = record { within = k.mine.within; bits = length-expected_after me.state.expected f.content ∙ k.mine.bits };
       yours = k.yours;
     }
 
 kept_takes : (c : ℕ) (me you : Side) (f : Frame) (rest : List Frame) → drop you.reached you.written ≡ f ∷ rest
-  → BothKept c me you → BothKept c (takes f me) you
+    → BothKept c me you → BothKept c (takes f me) you
 kept_takes c me you f rest at k =
     let P : Bool → Type 0 = λ refused. BothKept c (takes_when refused f me) you in
     elim (cases_Bool (is_foreign f.content)) [
-      inl foreign ↦ subst P (sym foreign) (kept_refuses c me you f k)
+      | inl foreign ↦ subst P (sym foreign) (kept_refuses c me you f k)
       | inr used ↦ subst P (sym used) (kept_accepts c me you f rest at used k)
     ]
 
 kept_takes_at : (c place : ℕ) (me you : Side) (found : Option Frame) → slice_get you.written place ≡ found → you.reached ≤ place
-  → BothKept c me you → BothKept c (takes_at place found me you).0 (takes_at place found me you).1
+    → BothKept c me you → BothKept c (takes_at place found me you).0 (takes_at place found me you).1
 kept_takes_at c place me you None is le k = k
 kept_takes_at c place me you (Some f) is le k =
     let there : place < length you.written = slice_get_within you.written place f is in
@@ -240,7 +240,7 @@ kept_acted c (Tell distances) me you k = kept_writes c me you (routes_frame me.s
 kept_acted c (Take place) me you k =
     let P : Bool → Type 0 = λ t. BothKept c (cond t (takes_at place (slice_get you.written place) me you) (me, you)).0 (cond t (takes_at place (slice_get you.written place) me you) (me, you)).1 in
     elim (cases_Bool (leb you.reached place)) [
-      inl on ↦ subst P (sym on) (kept_takes_at c place me you (slice_get you.written place) refl (leb-true you.reached place on) k)
+      | inl on ↦ subst P (sym on) (kept_takes_at c place me you (slice_get you.written place) refl (leb-true you.reached place on) k)
       | inr back ↦ subst P (sym back) k
     ]
 

@@ -58,7 +58,9 @@ pub(crate) fn reset_all(channels: &mut [Channel], packets: &mut Vec<Packet>)
 {
     for channel in channels.iter_mut() {
         channel.bit = false;
-        if let Some(packet) = channel.packet.take() && packets.push(packet).is_err() {
+        if let Some(packet) = channel.packet.take()
+            && packets.push(packet).is_err()
+        {
             unreachable!();
         }
     }

@@ -4,9 +4,8 @@ ghost use Rattle.std.specs.Prelude.{◌≡◌};
 ghost use Rattle.imp_channel.specs.Format.{fault_of};
 ghost use Rattle.imp_channel.specs.declared.fault.ChannelFault.TheVariants.{OutOfMemory};
 
-use std::alloc::{AllocError, AllocFailed};
-
 use packetiser::{Packet, PacketFault};
+use std::alloc::{AllocError, AllocFailed};
 use thiserror::Error;
 
 /// Why octets are no frame, or a line doesn't take one. Where several apply, the first one here is given.

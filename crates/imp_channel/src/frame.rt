@@ -3,13 +3,11 @@
 ghost use Rattle.std.specs.Prelude.{◌≡◌, ◌≤◌, ◌++◌, Ok, IfOk, IfErr, OnOk};
 ghost use Rattle.imp_channel.specs.Format.{Gives, read_of, spelling, content_of, kind_octet, rest_of, packet_in, routes_in, channel_octet, octet_of, bits_of, bit_value};
 
-use std::alloc::Global;
-use std::marker::Model;
-
+use crate::ChannelFault;
 use packetiser::Packet;
 use routing::{IMPS, Vector};
-
-use crate::ChannelFault;
+use std::alloc::Global;
+use std::marker::Model;
 
 /// How many channels a frame can name, and acknowledge.
 pub const ACKS: usize = 8;
@@ -96,7 +94,11 @@ impl Carried {
         ensures value { result ≡ channel_octet self.now }
         ensures in_range { self.now.channel < ACKS }
     {
-        if self.bit { self.channel + 8 } else { self.channel }
+        if self.bit {
+            self.channel + 8
+        } else {
+            self.channel
+        }
     }
 
     /// The packet, taken out.

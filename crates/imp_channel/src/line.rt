@@ -4,14 +4,12 @@ ghost use Rattle.std.specs.Prelude.{◌≡◌, ◌<◌, ◌++◌, IfOk, IfErr, O
 ghost use Rattle.std.specs.Option.{option_copied};
 ghost use Rattle.imp_channel.specs.Line.{IsRefusal, is_free, frames_of, opening, frame_of, submitted, resent, acknowledgement, routes_frame, channel_at, packets_in, is_foreign, has_expected_bit, expected_after, brought, state_after, answer_to, is_fresh_answer};
 
-use std::alloc::{AllocError, Global};
-use std::marker::Model;
-
-use packetiser::Packet;
-use routing::Vector;
-
 use crate::channel::{acknowledge_all, reset_all};
 use crate::{ACKS, CHANNELS, Carried, Channel, ChannelFault, Content, Frame, SubmitFault};
+use packetiser::Packet;
+use routing::Vector;
+use std::alloc::{AllocError, Global};
+use std::marker::Model;
 
 /// What a frame brought.
 #[derive(Debug, Drop)]
@@ -159,7 +157,12 @@ impl Line {
     }
 
     /// Puts the frame of a channel, if it is busy, at the end of a list.
-    fn push_frame(&self, frames: &mut Vec<Frame>, c: u8, channel: &Channel) -> Result<(), AllocError>
+    fn push_frame(
+        &self,
+        frames: &mut Vec<Frame>,
+        c: u8,
+        channel: &Channel,
+    ) -> Result<(), AllocError>
         requires { c < ACKS }
         ensures { OnOk result (frames.new.items ≡ frames.old.items ++ frames_of self.now c channel.now.bit channel.now.packet) }
     {
