@@ -1,7 +1,7 @@
 -- One channel in one direction: the sending channel, the bit that the far end expects, the packets that are
 -- still on the way, the acknowledgement bits that are still on the way back, and the packets put in, given and freed.
 use Rattle.std.proofs.Common.{◌≡◌, ℕ, zero, suc, Bool, true, false, not, List, [], ◌∷◌, ◌++◌, drop, Option, Some, None, refl, sym, ap, ◌∙◌, subst, ◌⊎◌, inl, inr, cond}
-use Rattle.std.proofs.lemmas.List.{append-nil, append_assoc}
+use Rattle.std.proofs.lemmas.List.{append-nil}
 use Rattle.packetiser.specs.Form.{Form}
 use Rattle.imp_channel.specs.Line.{differs, acknowledged}
 use Rattle.imp_channel.specs.Schedule.{freed_by, Begins}

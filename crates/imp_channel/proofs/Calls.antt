@@ -1,5 +1,5 @@
 -- What the calls of an end need of its definitions.
-use Rattle.std.proofs.Common.{◌≡◌, ℕ, ◌+◌, ◌<◌, List, [], ◌∷◌, ◌++◌, length, get_or, set, drop, Some, refl, sym, ap, ◌∙◌, arith, position}
+use Rattle.std.proofs.Common.{◌≡◌, ℕ, ◌+◌, ◌<◌, List, ◌∷◌, ◌++◌, length, get_or, set, drop, Some, refl, sym, ap, ◌∙◌, position}
 use Rattle.std.proofs.lemmas.List.{append_assoc, drop_more, get_or_read}
 use Rattle.packetiser.specs.Form.{Form}
 use Rattle.imp_channel.specs.declared.channel.Channel.{Channel}

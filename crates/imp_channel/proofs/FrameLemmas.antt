@@ -1,11 +1,11 @@
 -- Frames and their octets, both ways.
-use Rattle.std.proofs.Common.{◌≡◌, ℕ, zero, suc, ◌+◌, ◌-◌, ◌*◌, ◌/◌, ◌%◌, ◌^◌, ◌<◌, ◌≤◌, Bool, true, false, List, [], ◌∷◌, ◌++◌, length, get_or, take, drop, Ok, Err, Result, refl, sym, ap, ◌∙◌, arith, eqb, leb, ltb, cond, subst, All, ◌⊎◌, inl, inr}
-use Rattle.std.proofs.lemmas.Bool.{cases_eq, cases_Bool, eq-eqb, ne_eqb, eqb-true, eqb-false, le-leb, lt-leb, le-ltb}
+use Rattle.std.proofs.Common.{◌≡◌, ℕ, zero, suc, ◌+◌, ◌-◌, ◌*◌, ◌/◌, ◌%◌, ◌^◌, ◌<◌, ◌≤◌, Bool, true, false, List, [], ◌∷◌, length, get_or, take, drop, Ok, Err, Result, refl, sym, ap, ◌∙◌, arith, eqb, leb, ltb, subst, inl, inr}
+use Rattle.std.proofs.lemmas.Bool.{cases_eq, eq-eqb, ne_eqb, le-leb, lt-leb, le-ltb}
 use Rattle.std.proofs.Math.Nat.{pow-suc}
 use Rattle.std.proofs.lemmas.List.{nil_from_length, take_rest}
 use Rattle.packetiser.specs.Format as packets
 use Rattle.routing.specs.Vector.{is_vector, IsVector}
-use Rattle.routing.specs.declared.vector.TheConstants.{IMPS, INFINITE}
+use Rattle.routing.specs.declared.vector.TheConstants.{IMPS}
 use Rattle.imp_channel.specs.Carriage.{Carriage}
 use Rattle.imp_channel.specs.declared.fault.ChannelFault.{ChannelFault}
 use Rattle.imp_channel.specs.declared.fault.ChannelFault.TheVariants as fault
@@ -13,7 +13,7 @@ use Rattle.imp_channel.specs.declared.frame.Content.{Content}
 use Rattle.imp_channel.specs.declared.frame.Content.TheVariants as content
 use Rattle.imp_channel.specs.declared.frame.Frame.{Frame}
 use Rattle.imp_channel.specs.declared.frame.TheConstants.{ACKS}
-use Rattle.imp_channel.specs.Format.{octet_of, bits_of, bit_value, channel_octet, kind_octet, rest_of, content_of, carried_as, read_of, framed, Gives}
+use Rattle.imp_channel.specs.Format.{octet_of, bits_of, bit_value, channel_octet, kind_octet, rest_of, content_of, read_of, framed, Gives}
 
 -- the octet of eight bits
 pub octet_of-eight : (bits : List Bool) → length bits ≡ 8

@@ -1,21 +1,18 @@
 -- What frames, and the calls of an end, are on one channel.
-use Rattle.std.proofs.Common.{◌≡◌, ℕ, zero, suc, ◌+◌, ◌<◌, ◌≤◌, Bool, true, false, not, List, [], ◌∷◌, ◌++◌, length, get_or, map, set, Option, Some, None, Result, Ok, Err, refl, sym, ap, ◌∙◌, subst, ◌⊎◌, inl, inr, cond, eqb, leb, arith, position}
-use Rattle.std.proofs.lemmas.Bool.{cases_eq, cases_Bool, eq-eqb, ne_eqb, leb-false}
-use Rattle.std.proofs.lemmas.List.{get_or-set_same, get_or-set_other, length-set, map-append}
+use Rattle.std.proofs.Common.{◌≡◌, ℕ, zero, suc, ◌+◌, ◌<◌, Bool, true, false, not, List, [], ◌∷◌, ◌++◌, length, get_or, map, set, Option, Some, None, Ok, refl, sym, ap, ◌∙◌, subst, ◌⊎◌, inl, inr, cond, eqb, arith}
+use Rattle.std.proofs.lemmas.Bool.{cases_eq, eq-eqb, ne_eqb, leb-false}
+use Rattle.std.proofs.lemmas.List.{get_or-set_same, get_or-set_other, length-set}
 use Rattle.packetiser.specs.Form.{Form}
 use Rattle.imp_channel.specs.Carriage.{Carriage}
 use Rattle.imp_channel.specs.declared.channel.Channel.{Channel}
 use Rattle.imp_channel.specs.declared.channel.TheConstants.{CHANNELS}
-use Rattle.imp_channel.specs.declared.fault.ChannelFault.{ChannelFault}
-use Rattle.imp_channel.specs.declared.fault.ChannelFault.TheVariants as fault
 use Rattle.imp_channel.specs.declared.frame.Content.{Content}
 use Rattle.imp_channel.specs.declared.frame.Content.TheVariants as content
 use Rattle.imp_channel.specs.declared.frame.Frame.{Frame}
 use Rattle.imp_channel.specs.declared.frame.TheConstants.{ACKS}
-use Rattle.imp_channel.specs.declared.line.Received.{Received}
 use Rattle.imp_channel.specs.declared.line.Received.TheVariants as received
-use Rattle.imp_channel.specs.Line.{End, opening_channel, channel_at, expected_at, differs, frame_on, frames_of, frames_from, acknowledged, all_acknowledged, is_foreign, has_expected_bit, expected_after, brought, answer_to, state_after}
-use Rattle.imp_channel.specs.Schedule.{packet_on, given_on, freed_by}
+use Rattle.imp_channel.specs.Line.{End, opening_channel, expected_at, differs, frame_on, frames_of, frames_from, acknowledged, all_acknowledged, is_foreign, has_expected_bit, expected_after, brought}
+use Rattle.imp_channel.specs.Schedule.{packet_on, given_on}
 use Rattle.imp_channel.proofs.Alternating.{Passing, Carries, AllAre, expected_by, given_by}
 
 -- what a frame has for this channel: a packet under its bit, and an acknowledgement bit

@@ -1,5 +1,5 @@
 -- Every schedule keeps every channel, in both directions.
-use Rattle.std.proofs.Common.{◌≡◌, ℕ, ◌+◌, ◌-◌, ◌≤◌, ◌<◌, Bool, true, false, List, [], ◌∷◌, ◌++◌, length, get_or, take, drop, map, set, Option, Some, None, Err, refl, sym, ap, ◌∙◌, subst, ◌⊎◌, inl, inr, cond, eqb, leb, arith, position, slice_get, is_none, zero, suc, Ok, replicate}
+use Rattle.std.proofs.Common.{◌≡◌, ℕ, ◌+◌, ◌-◌, ◌≤◌, ◌<◌, Bool, true, false, List, [], ◌∷◌, ◌++◌, length, get_or, drop, map, Option, Some, None, Err, refl, sym, ap, ◌∙◌, subst, inl, inr, cond, leb, arith, position, slice_get, is_none, zero, suc, Ok, replicate}
 use Rattle.std.proofs.lemmas.Bool.{cases_eq, cases_Bool, eq-eqb, ne_eqb, leb-true}
 use Rattle.std.proofs.lemmas.List.{append-nil, get_or-set_same, get_or-set_other, length-append, map-append, drop-append-le, drop-drop, length-replicate}
 use Rattle.std.specs.List.{drop-map}
@@ -9,10 +9,9 @@ use Rattle.packetiser.specs.Form.{Form}
 use Rattle.imp_channel.specs.declared.channel.Channel.{Channel}
 use Rattle.imp_channel.specs.declared.channel.TheConstants.{CHANNELS}
 use Rattle.imp_channel.specs.declared.fault.ChannelFault.TheVariants as fault
-use Rattle.imp_channel.specs.declared.frame.Content.TheVariants as content
 use Rattle.imp_channel.specs.declared.frame.Frame.{Frame}
 use Rattle.imp_channel.specs.declared.frame.TheConstants.{ACKS}
-use Rattle.imp_channel.specs.Line.{End, opening, opening_channel, channel_at, expected_at, is_free, holding, frame_on, submitted, submitted_on, resent, acknowledgement, routes_frame, acknowledged, all_acknowledged, is_foreign, expected_after, brought, answer_to, state_after}
+use Rattle.imp_channel.specs.Line.{End, opening, opening_channel, channel_at, expected_at, is_free, holding, frame_on, submitted, submitted_on, resent, acknowledgement, routes_frame, acknowledged, all_acknowledged, is_foreign, expected_after, brought}
 use Rattle.imp_channel.specs.Schedule.{Side, opening_side, Act, Submit, Resend, Acknowledge, Tell, Take, packet_on, given_on, freed_by, writes, puts_in, takes, takes_at, acted, Event, Left, Right, Sides, opening_sides, after, run, InOrder}
 use Rattle.imp_channel.proofs.Alternating.{Passing, Kept, Carries, AllAre, expected_by, given_by, kept_drop, kept_wrote, kept_told, kept_submit, kept_acked, kept_came, kept_given, kept_freed}
 use Rattle.imp_channel.proofs.OneChannel.{way_in, ack_in, AllAre-frames, Carries-frames, Carries-frame_on, get_or-all_acknowledged, length-expected_after, IsOnChannel, on_channel}

@@ -3,7 +3,7 @@
 -- Octet 0 is the kind, octet 1 the acknowledgement bits, that of channel 0 in the lowest place. In a packet frame octet 2
 -- has the channel in its lowest three places and the packet's bit in the next, and the packet follows. In a routes frame
 -- the distances follow, an octet each, that to IMP 1 first.
-use Rattle.std.specs.Prelude.{◌≡◌, ℕ, zero, suc, ◌+◌, ◌*◌, ◌/◌, ◌%◌, Bool, true, false, List, [], ◌∷◌, ◌++◌, length, Result, Ok, Err, IsOk, nat_lt, nat_le, ◌==◌, if◌then◌else◌}
+use Rattle.std.specs.Prelude.{◌≡◌, ℕ, zero, suc, ◌+◌, ◌*◌, ◌/◌, ◌%◌, Bool, true, false, List, [], ◌∷◌, length, Result, Ok, Err, IsOk, nat_lt, nat_le, ◌==◌, if◌then◌else◌}
 use Rattle.packetiser.specs.Form.{Form}
 use Rattle.packetiser.specs.Format as packets
 use Rattle.packetiser.specs.declared.fault.PacketFault.{PacketFault}

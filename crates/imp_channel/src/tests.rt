@@ -168,10 +168,12 @@ fn distances_come_with_acknowledgements(rt: HostRuntime) -> Result<(), Fail> {
     let alloc = rt.alloc();
     let mut line = Line::new(alloc)?;
     let heard = Frame::read(alloc, &ROUTES)?;
-    let Ok(Received::Routes(vector)) = line.receive(heard) else {
-        panic!(rt; "a routes frame");
+    let vector = match line.receive(heard)? {
+        Received::Routes(vector) => vector,
+        Received::Fresh(_packet) => panic!(rt; "a packet"),
+        Received::AckOnly | Received::Repeat => panic!(rt; "no distances"),
     };
-    assert_eq!(rt; Vector::from_slice(&ROUTES[2..]), Some(vector));
+    assert_eq!(rt; vector.distances(), &ROUTES[2..]);
     assert!(rt; begins(alloc, &line.routes_frame(vector), &[2, 0, 1, 0, 1, 16])?);
     Ok(())
 }

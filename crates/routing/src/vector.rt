@@ -14,7 +14,7 @@ pub const INFINITE: u8 = 16;
 
 /// The distances of an IMP to IMP 1, IMP 2 and so on to the last: [`IMPS`] of them, each at most
 /// [`INFINITE`].
-#[derive(Clone, Copy, Debug, PartialEq, Eq)]
+#[derive(Clone, Debug, Drop, PartialEq, Eq)]
 pub struct Vector {
     distances: [u8; IMPS],
 }

@@ -1,5 +1,5 @@
 use Rattle.std.proofs.Common.{arith, refl}
-use Rattle.imp_channel.specs.Format.{bits_of, octet_of}
+use Rattle.imp_channel.specs.Format.{bits_of}
 use Rattle.imp_channel.proofs.FrameLemmas.{octet_of-bits_of}
 use Rattle.imp_channel.proofs.frame.bits_of.Goals as goal
 

@@ -1,4 +1,4 @@
-use Rattle.std.proofs.Common.{◌≡◌, ◌∙◌, ap, ℕ, length, arith, sym}
+use Rattle.std.proofs.Common.{◌∙◌, ap, ℕ, arith, sym}
 use Rattle.imp_channel.specs.Format.{bits_of, octet_of}
 use Rattle.imp_channel.proofs.FrameLemmas.{octet_of-eight, bits_of-octet_of}
 use Rattle.imp_channel.proofs.frame.octet_of.Goals as goal
