@@ -12,6 +12,9 @@ use std::marker::Model;
 /// How many channels a frame can name, and acknowledge.
 pub const ACKS: usize = 8;
 
+/// What a packet's bit is worth in the octet that also says its channel.
+const BIT_VALUE: u8 = 8;
+
 /// A frame between two neighbouring IMPs.
 #[derive(Clone, Debug, Drop)]
 pub struct Frame {
@@ -94,11 +97,8 @@ impl Carried {
         ensures value { result ≡ channel_octet self.now }
         ensures in_range { self.now.channel < ACKS }
     {
-        if self.bit {
-            self.channel + 8
-        } else {
-            self.channel
-        }
+        let bit = if self.bit { BIT_VALUE } else { 0 };
+        bit + self.channel
     }
 
     /// The packet, taken out.
@@ -167,13 +167,13 @@ fn read_packet(alloc: Global, rest: &[u8]) -> Result<Content, ChannelFault>
     let [octet, body @ ..] = rest else {
         return Err(ChannelFault::Short);
     };
-    if *octet >= 16 {
+    if *octet >= 2 * BIT_VALUE {
         return Err(ChannelFault::NotCanonical);
     }
     let packet = Packet::read(alloc, body)?;
     Ok(Content::Packet(Carried {
-        channel: *octet % 8,
-        bit: *octet >= 8,
+        channel: *octet % BIT_VALUE,
+        bit: *octet >= BIT_VALUE,
         packet,
     }))
 }
