@@ -1,0 +1,23 @@
+-- What the calls of an end need of its definitions.
+use Rattle.std.proofs.Common.{◌≡◌, ℕ, ◌+◌, ◌<◌, List, ◌∷◌, ◌++◌, length, get_or, set, drop, Some, refl, sym, ap, ◌∙◌, position}
+use Rattle.std.proofs.lemmas.List.{append_assoc, drop_more, get_or_read}
+use Rattle.packetiser.specs.Form.{Form}
+use Rattle.imp_channel.specs.declared.channel.Channel.{Channel}
+use Rattle.imp_channel.specs.declared.frame.Frame.{Frame}
+use Rattle.imp_channel.specs.Line.{End, opening_channel, is_free, submitted, frame_on, frames_of, frames_from}
+
+-- one channel more
+pub frames_more : (e : End) (chs : List Channel) (i : ℕ) (x : Channel) (done : List Frame) → i < length chs → x ≡ get_or chs i x
+    → (done ++ frames_of e i x.bit x.packet) ++ frames_from e (i + 1) (drop (i + 1) chs) ≡ done ++ frames_from e i (drop i chs)
+frames_more e chs i x done within is =
+    append_assoc done (frames_of e i x.bit x.packet) (frames_from e (i + 1) (drop (i + 1) chs))
+    ∙ ap (λ (l : List Frame). done ++ l)
+    (sym (ap (λ (l : List Channel). frames_from e i l) (drop_more chs i x within ∙ ap (λ (y : Channel). y ∷ drop (i + 1) chs) (sym is))))
+
+-- the packet goes into the channel that was found
+pub submitted_at : (e : End) (p : Form) (at : ℕ) (x : Channel) → position is_free e.sending ≡ Some at → at < length e.sending → x ≡ get_or e.sending at x
+    → submitted e p ≡ Some (record { sending = set e.sending at (record { bit = x.bit; packet = Some p }); expected = e.expected }, frame_on e at x.bit p)
+unfolding submitted
+submitted_at e p at x found within is =
+    let read : get_or e.sending at opening_channel ≡ x = sym (get_or_read e.sending at x within is opening_channel) in
+    rw (found, read) refl

@@ -1,0 +1,5 @@
+pub mod Alternating
+pub mod Calls
+pub mod FrameLemmas
+pub mod OneChannel
+pub mod Runs

@@ -1,0 +1,4 @@
+pub mod Carriage
+pub mod Format
+pub mod Line
+pub mod Schedule

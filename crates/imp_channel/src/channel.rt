@@ -1,0 +1,67 @@
+//! One channel of a line.
+
+ghost use Rattle.std.specs.Prelude.{◌≡◌, ◌≤◌, ◌++◌, length, map, vec_len, vec_capacity, ◌+◌};
+ghost use Rattle.imp_channel.specs.Line.{all_acknowledged, acknowledged, opening_channel, packets_in};
+
+use packetiser::Packet;
+
+/// How many channels of a line are in use.
+pub const CHANNELS: usize = 1;
+
+/// A sending channel: it holds at most one packet, until the other end has acknowledged it.
+#[derive(Debug, Drop)]
+pub struct Channel {
+    /// The bit of the packet that waits here, or of the next one.
+    pub bit: bool,
+    /// The packet that waits for its acknowledgement.
+    pub packet: Option<Packet>,
+}
+
+impl Channel {
+    /// A channel that has sent nothing: its first packet goes out under bit 0.
+    pub(crate) fn new() -> Self
+        ensures { result ≡ opening_channel }
+    {
+        Channel {
+            bit: false,
+            packet: None,
+        }
+    }
+
+    /// Takes an acknowledgement bit. One that differs from the bit of the packet that waits frees the
+    /// channel, and the next packet has the other bit.
+    fn acknowledge(&mut self, ack: bool)
+        ensures { self.new ≡ acknowledged ack self.old }
+    {
+        if self.packet.is_some() && ack != self.bit {
+            self.packet = None;
+            self.bit = !self.bit;
+        }
+    }
+}
+
+/// Takes the acknowledgement bit of each channel.
+pub(crate) fn acknowledge_all(channels: &mut [Channel], acks: &[bool])
+    requires { length channels.old ≤ length acks.now }
+    ensures { channels.new ≡ all_acknowledged acks.now channels.old }
+{
+    for (c, channel) in channels.iter_mut().enumerate() {
+        channel.acknowledge(acks[c]);
+    }
+}
+
+/// Resets the channels, and puts the packets that waited there at the end of a list with room for them.
+pub(crate) fn reset_all(channels: &mut [Channel], packets: &mut Vec<Packet>)
+    requires { vec_len packets.old + length channels.old ≤ vec_capacity packets.old }
+    ensures packets { packets.new.items ≡ packets.old.items ++ packets_in channels.old }
+    ensures channels { channels.new ≡ map (λ _. opening_channel) channels.old }
+{
+    for channel in channels.iter_mut() {
+        channel.bit = false;
+        if let Some(packet) = channel.packet.take()
+            && packets.push(packet).is_err()
+        {
+            unreachable!();
+        }
+    }
+}

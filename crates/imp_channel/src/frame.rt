@@ -1,0 +1,269 @@
+//! What goes over a line.
+
+ghost use Rattle.std.specs.Prelude.{◌≡◌, ◌≤◌, ◌++◌, Ok, IfOk, IfErr, OnOk};
+ghost use Rattle.imp_channel.specs.Format.{Gives, read_of, spelling, content_of, kind_octet, rest_of, packet_in, routes_in, channel_octet, octet_of, bits_of, bit_value};
+
+use crate::ChannelFault;
+use packetiser::Packet;
+use routing::{IMPS, Vector};
+use std::alloc::Global;
+use std::marker::Model;
+
+/// How many channels a frame can name, and acknowledge.
+pub const ACKS: usize = 8;
+
+/// What a packet's bit is worth in the octet that also says its channel.
+const BIT_VALUE: u8 = 8;
+
+/// A frame between two neighbouring IMPs.
+#[derive(Clone, Debug, Drop)]
+pub struct Frame {
+    /// The acknowledgement bits, that of channel 0 of the other direction first.
+    pub acks: [bool; ACKS],
+    /// What it brings beside them.
+    pub content: Content,
+}
+
+/// What a frame brings beside acknowledgements.
+#[derive(Clone, Debug, Drop)]
+pub enum Content {
+    /// A packet on a channel.
+    Packet(Carried),
+    /// Nothing: the frame is there for its acknowledgements.
+    Nothing,
+    /// The sender's distances.
+    Routes(Vector),
+}
+
+/// A packet with the channel that it is on, at most 7, and its bit there.
+#[derive(Clone, Debug, Drop)]
+pub struct Carried {
+    channel: u8,
+    bit: bool,
+    packet: Packet,
+}
+
+impl Model for Carried {
+    ghost use Rattle.std.specs.Prelude.{◌<◌};
+    ghost use Rattle.imp_channel.specs.declared.frame.TheConstants.{ACKS};
+    ghost use Rattle.imp_channel.specs.Carriage.{Carriage};
+
+    ghost Value = { Carriage };
+
+    ghost view = { λ c. record { channel = c.channel; bit = c.bit; packet = c.packet } };
+
+    ghost invariant = { λ c. c.channel < ACKS };
+}
+
+impl Carried {
+    ghost use Rattle.std.specs.Prelude.{◌<◌};
+
+    /// A packet on a channel of at most 7, under this bit.
+    pub fn new(channel: u8, bit: bool, packet: Packet) -> Self
+        requires { channel < ACKS }
+        ensures { result ≡ record { channel = channel; bit = bit; packet = packet } }
+    {
+        Carried {
+            channel,
+            bit,
+            packet,
+        }
+    }
+
+    /// The channel, at most 7.
+    pub fn channel(&self) -> u8
+        ensures value { result ≡ self.now.channel }
+        ensures in_range { result < ACKS }
+    {
+        self.channel
+    }
+
+    /// The packet's bit on its channel.
+    pub fn bit(&self) -> bool
+        ensures { result ≡ self.now.bit }
+    {
+        self.bit
+    }
+
+    /// The packet.
+    pub fn packet(&self) -> &Packet
+        ensures { result.now ≡ self.now.packet }
+    {
+        &self.packet
+    }
+
+    /// The octet that says the channel and the bit.
+    fn octet(&self) -> u8
+        ensures value { result ≡ channel_octet self.now }
+        ensures in_range { self.now.channel < ACKS }
+    {
+        let bit = if self.bit { BIT_VALUE } else { 0 };
+        bit + self.channel
+    }
+
+    /// The packet, taken out.
+    pub fn into_packet(self) -> Packet
+        ensures { result ≡ self.packet }
+    {
+        self.packet
+    }
+}
+
+impl Frame {
+    /// The frame that these octets spell.
+    ///
+    /// Errors: `Short` for fewer than two octets, a packet frame without a channel, a routes frame with
+    /// fewer than sixteen distances; `NotCanonical` for a kind above 2, a bit above the channel and its bit,
+    /// octets after the end, a distance above 16; then those of the packet.
+    pub fn read(alloc: Global, octets: &[u8]) -> Result<Frame, ChannelFault>
+        ensures exact { Gives (read_of octets.now) result }
+        ensures found { IfOk result (λ frame. octets.now ≡ spelling frame) }
+    {
+        let [kind, acks, rest @ ..] = octets else {
+            return Err(ChannelFault::Short);
+        };
+        let content = read_content(alloc, *kind, rest)?;
+        Ok(Frame {
+            acks: bits_of(*acks),
+            content,
+        })
+    }
+
+    /// Its octets.
+    ///
+    /// Errors: `OutOfMemory` alone.
+    pub fn write(&self, alloc: Global) -> Result<Vec<u8>, ChannelFault>
+        ensures spelled { IfOk result (λ octets. octets.items ≡ spelling self.now) }
+        ensures again { IfOk result (λ octets. read_of octets.items ≡ Ok self.now) }
+        ensures memory { IfErr result (λ fault. fault ≡ ChannelFault.OutOfMemory) }
+    {
+        let kind = kind_octet(&self.content);
+        let mut octets = Vec::from_slice(alloc, &[kind, octet_of(&self.acks)])?;
+        write_rest(&self.content, alloc, &mut octets)?;
+        Ok(octets)
+    }
+}
+
+/// Reads what follows the acknowledgement bits in a frame of this kind.
+fn read_content(alloc: Global, kind: u8, rest: &[u8]) -> Result<Content, ChannelFault>
+    ensures exact { Gives (content_of kind rest.now) result }
+    ensures kind { IfOk result (λ content. kind ≡ kind_octet content) }
+    ensures rest { IfOk result (λ content. rest.now ≡ rest_of content) }
+{
+    match kind {
+        0 => read_packet(alloc, rest),
+        1 if rest.is_empty() => Ok(Content::Nothing),
+        2 => read_routes(rest),
+        _ => Err(ChannelFault::NotCanonical),
+    }
+}
+
+/// Reads a packet, with its channel and bit before it.
+fn read_packet(alloc: Global, rest: &[u8]) -> Result<Content, ChannelFault>
+    ensures exact { Gives (packet_in rest.now) result }
+    ensures kind { IfOk result (λ content. kind_octet content ≡ 0) }
+    ensures rest { IfOk result (λ content. rest.now ≡ rest_of content) }
+{
+    let [octet, body @ ..] = rest else {
+        return Err(ChannelFault::Short);
+    };
+    if *octet >= 2 * BIT_VALUE {
+        return Err(ChannelFault::NotCanonical);
+    }
+    let packet = Packet::read(alloc, body)?;
+    Ok(Content::Packet(Carried {
+        channel: *octet % BIT_VALUE,
+        bit: *octet >= BIT_VALUE,
+        packet,
+    }))
+}
+
+/// Reads distances.
+fn read_routes(rest: &[u8]) -> Result<Content, ChannelFault>
+    ensures exact { result ≡ routes_in rest.now }
+    ensures kind { IfOk result (λ content. kind_octet content ≡ 2) }
+    ensures rest { IfOk result (λ content. rest.now ≡ rest_of content) }
+{
+    if rest.len() < IMPS {
+        return Err(ChannelFault::Short);
+    }
+    match Vector::from_slice(rest) {
+        Some(vector) => Ok(Content::Routes(vector)),
+        None => Err(ChannelFault::NotCanonical),
+    }
+}
+
+/// Which kind of frame brings this.
+fn kind_octet(content: &Content) -> u8
+    ensures { result ≡ kind_octet content.now }
+{
+    match content {
+        Content::Packet(_) => 0,
+        Content::Nothing => 1,
+        Content::Routes(_) => 2,
+    }
+}
+
+/// Puts what follows the acknowledgement bits at the end.
+fn write_rest(content: &Content, alloc: Global, octets: &mut Vec<u8>) -> Result<(), ChannelFault>
+    ensures spelled { OnOk result (octets.new.items ≡ octets.old.items ++ rest_of content.now) }
+    ensures again { OnOk result (content_of (kind_octet content.now) (rest_of content.now) ≡ Ok content.now) }
+    ensures memory { IfErr result (λ fault. fault ≡ ChannelFault.OutOfMemory) }
+{
+    match content {
+        Content::Packet(carried) => {
+            octets.push(carried.octet())?;
+            octets.extend_from_slice(&carried.packet().write(alloc)?)?;
+        }
+        Content::Nothing => {}
+        Content::Routes(vector) => octets.extend_from_slice(vector.distances())?,
+    }
+    Ok(())
+}
+
+/// The octet of acknowledgement bits, that of channel 0 in the lowest place.
+fn octet_of(acks: &[bool; ACKS]) -> u8
+    ensures octet { result ≡ octet_of acks.now }
+    ensures again { bits_of ACKS result ≡ acks.now }
+{
+    bit_value(acks[0])
+        + 2 * bit_value(acks[1])
+        + 4 * bit_value(acks[2])
+        + 8 * bit_value(acks[3])
+        + 16 * bit_value(acks[4])
+        + 32 * bit_value(acks[5])
+        + 64 * bit_value(acks[6])
+        + 128 * bit_value(acks[7])
+}
+
+/// A bit as a number.
+fn bit_value(bit: bool) -> u8
+    ensures value { result ≡ bit_value bit }
+    ensures most { result ≤ 1 }
+{
+    u8::from(bit)
+}
+
+/// The acknowledgement bits of an octet, that in the lowest place first.
+fn bits_of(octet: u8) -> [bool; ACKS]
+    ensures bits { result ≡ bits_of ACKS octet }
+    ensures again { octet_of result ≡ octet }
+{
+    let from_1 = octet / 2;
+    let from_2 = from_1 / 2;
+    let from_3 = from_2 / 2;
+    let from_4 = from_3 / 2;
+    let from_5 = from_4 / 2;
+    let from_6 = from_5 / 2;
+    let from_7 = from_6 / 2;
+    [
+        octet % 2 == 1,
+        from_1 % 2 == 1,
+        from_2 % 2 == 1,
+        from_3 % 2 == 1,
+        from_4 % 2 == 1,
+        from_5 % 2 == 1,
+        from_6 % 2 == 1,
+        from_7 % 2 == 1,
+    ]
+}

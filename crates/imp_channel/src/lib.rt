@@ -1,0 +1,24 @@
+//! Frames between two neighbouring IMPs, and the two ends of the line that carries them.
+//!
+//! A line loses frames and may bring one again. So a packet stays in its channel, and its frame is sent
+//! again, until the neighbour has acknowledged it, by one bit for each channel (Heart et al., "The interface
+//! message processor for the ARPA computer network", SJCC 1970). Here live the frame with its one spelling
+//! in octets and a line's end with its channels.
+//!
+//! The layer above relies on each call being exact, and on the law of [`law::in_order`]: what comes out of
+//! a channel was put in, in order, once, whatever frames are lost or come again. That a packet ever comes
+//! out is not said. Nothing here knows of routes, stores or hosts.
+#![tactic(auto)]
+
+mod channel;
+mod fault;
+mod frame;
+pub mod law;
+mod line;
+#[cfg(test)]
+mod tests;
+
+pub use channel::{CHANNELS, Channel};
+pub use fault::{ChannelFault, SubmitFault};
+pub use frame::{ACKS, Carried, Content, Frame};
+pub use line::{Line, Received};

@@ -1,0 +1,227 @@
+//! One end of a line.
+
+ghost use Rattle.std.specs.Prelude.{◌≡◌, ◌<◌, ◌++◌, IfOk, IfErr, OnOk, OnErr, Some, None, position};
+ghost use Rattle.std.specs.Option.{option_copied};
+ghost use Rattle.imp_channel.specs.Line.{IsRefusal, is_free, frames_of, opening, frame_of, submitted, resent, acknowledgement, routes_frame, channel_at, packets_in, is_foreign, has_expected_bit, expected_after, brought, state_after, answer_to, is_fresh_answer};
+
+use crate::channel::{acknowledge_all, reset_all};
+use crate::{ACKS, CHANNELS, Carried, Channel, ChannelFault, Content, Frame, SubmitFault};
+use packetiser::Packet;
+use routing::Vector;
+use std::alloc::{AllocError, Global};
+use std::marker::Model;
+
+/// What a frame brought.
+#[derive(Debug, Drop)]
+pub enum Received {
+    /// A packet that wasn't given before.
+    Fresh(Packet),
+    /// Acknowledgements alone.
+    AckOnly,
+    /// The neighbour's distances.
+    Routes(Vector),
+    /// A packet that was given before.
+    Repeat,
+}
+
+/// One end of a line: its sending channels, and the bit that it expects next on each channel of the other
+/// end (Heart et al., SJCC 1970: a packet is kept and sent again until the neighbour acknowledges it).
+#[derive(Debug, Drop)]
+pub struct Line {
+    channels: Vec<Channel>,
+    expected: [bool; ACKS],
+}
+
+impl Model for Line {
+    ghost use Rattle.std.specs.Prelude.{◌≡◌, length};
+    ghost use Rattle.imp_channel.specs.declared.channel.TheConstants.{CHANNELS};
+    ghost use Rattle.imp_channel.specs.Line.{End};
+
+    ghost Value = { End };
+
+    ghost view = { λ l. record { sending = l.channels.items; expected = l.expected } };
+
+    ghost invariant = { λ l. length l.channels.items ≡ CHANNELS };
+}
+
+impl Line {
+    /// An end that was just reset: all channels are free, and bit 0 comes first both ways.
+    pub fn new(alloc: Global) -> Result<Self, AllocError>
+        ensures { IfOk result (λ line. line ≡ opening) }
+    {
+        let mut channels = Vec::with_capacity(alloc, CHANNELS)?;
+        for _ in 0..CHANNELS {
+            channels.push(Channel::new())?;
+        }
+        Ok(Line {
+            channels,
+            expected: [false; ACKS],
+        })
+    }
+
+    /// Puts a packet into the lowest free channel and gives its frame. The channel keeps the packet until
+    /// it is acknowledged.
+    ///
+    /// Errors: `AllBusy` where no channel is free, `OutOfMemory` without memory for the frame's copy of the
+    /// packet. Both hand the packet back, and nothing has changed.
+    #[tactic(auto, using(crate::proofs::Calls::submitted_at), unfolding(crate::specs::Line::submitted))]
+    pub fn submit(&mut self, packet: Packet) -> Result<Frame, SubmitFault>
+        ensures ok { IfOk result (λ frame. submitted self.old packet ≡ Some (self.new, frame)) }
+        ensures refusal { IfErr result (IsRefusal self.old packet) }
+        ensures err { OnErr result (self.new ≡ self.old) }
+    {
+        let Some(at) = lowest_free(&self.channels) else {
+            return Err(SubmitFault::AllBusy(packet));
+        };
+        let Ok(copy) = packet.clone() else {
+            return Err(SubmitFault::OutOfMemory(packet));
+        };
+        let channel = &mut self.channels[at];
+        channel.packet = Some(packet);
+        let carried = Carried::new(at as u8, channel.bit, copy);
+        Ok(self.frame(Content::Packet(carried)))
+    }
+
+    /// Takes a frame: its acknowledgement bits free channels, and a packet with the bit that is expected on
+    /// its channel is given.
+    ///
+    /// Errors: `NotCanonical` for a packet on a channel that isn't in use; nothing has changed then.
+    pub fn receive(&mut self, frame: Frame) -> Result<Received, ChannelFault>
+        ensures state { self.new ≡ state_after self.old frame }
+        ensures answer { result ≡ answer_to self.old frame }
+    {
+        if is_foreign(&frame.content) {
+            return Err(ChannelFault::NotCanonical);
+        }
+        let Frame { acks, content } = frame;
+        acknowledge_all(&mut self.channels, &acks);
+        Ok(take_content(&mut self.expected, content))
+    }
+
+    /// Whether `receive` would answer `Fresh`. Nothing changes.
+    pub fn is_fresh(&self, frame: &Frame) -> bool
+        ensures { result ≡ is_fresh_answer (answer_to self.now frame.now) }
+    {
+        match &frame.content {
+            Content::Packet(carried) => {
+                (carried.channel() as usize) < CHANNELS && has_expected_bit(&self.expected, carried)
+            }
+            _ => false,
+        }
+    }
+
+    /// The frames of all busy channels once more, in channel order.
+    #[tactic(auto, using(crate::proofs::Calls::frames_more))]
+    pub fn resend(&self, alloc: Global) -> Result<Vec<Frame>, AllocError>
+        ensures { IfOk result (λ frames. frames.items ≡ resent self.now) }
+    {
+        let mut frames = Vec::new(alloc);
+        for (c, channel) in self.channels.iter().enumerate() {
+            self.push_frame(&mut frames, c as u8, channel)?;
+        }
+        Ok(frames)
+    }
+
+    /// Starts anew, as the line's other end must too, and gives back the packets of the busy channels in
+    /// channel order. Without memory nothing has changed.
+    pub fn reset(&mut self, alloc: Global) -> Result<Vec<Packet>, AllocError>
+        ensures packets { IfOk result (λ packets. packets.items ≡ packets_in self.old.sending) }
+        ensures state { IfOk result (λ _. self.new ≡ opening) }
+        ensures err { OnErr result (self.new ≡ self.old) }
+    {
+        let mut packets = Vec::with_capacity(alloc, CHANNELS)?;
+        reset_all(&mut self.channels, &mut packets);
+        self.expected = [false; ACKS];
+        Ok(packets)
+    }
+
+    /// A frame that brings acknowledgements alone.
+    pub fn ack_frame(&self) -> Frame
+        ensures { result ≡ acknowledgement self.now }
+    {
+        self.frame(Content::Nothing)
+    }
+
+    /// A frame that brings distances, beside the acknowledgements.
+    pub fn routes_frame(&self, vector: Vector) -> Frame
+        ensures { result ≡ routes_frame self.now vector }
+    {
+        self.frame(Content::Routes(vector))
+    }
+
+    /// The packet that waits in a channel; `None` where it is free or isn't in use.
+    pub fn packet(&self, channel: u8) -> Option<&Packet>
+        ensures { option_copied result ≡ (channel_at self.now channel).packet }
+    {
+        self.channels.get(channel as usize)?.packet.as_ref()
+    }
+
+    /// Puts the frame of a channel, if it is busy, at the end of a list.
+    fn push_frame(
+        &self,
+        frames: &mut Vec<Frame>,
+        c: u8,
+        channel: &Channel,
+    ) -> Result<(), AllocError>
+        requires { c < ACKS }
+        ensures { OnOk result (frames.new.items ≡ frames.old.items ++ frames_of self.now c channel.now.bit channel.now.packet) }
+    {
+        if let Some(packet) = &channel.packet {
+            let carried = Carried::new(c, channel.bit, packet.clone()?);
+            frames.push(self.frame(Content::Packet(carried)))?;
+        }
+        Ok(())
+    }
+
+    /// A frame with this content. Every frame carries the bits that are expected next.
+    fn frame(&self, content: Content) -> Frame
+        ensures { result ≡ frame_of self.now content }
+    {
+        Frame {
+            acks: self.expected,
+            content,
+        }
+    }
+}
+
+/// The lowest free one of these channels.
+fn lowest_free(channels: &[Channel]) -> Option<usize>
+    ensures { result ≡ position is_free channels.now }
+{
+    channels.iter().position(|channel| channel.packet.is_none())
+}
+
+/// Whether this is a packet on a channel that isn't in use.
+fn is_foreign(content: &Content) -> bool
+    ensures { result ≡ is_foreign content.now }
+{
+    match content {
+        Content::Packet(carried) => carried.channel() as usize >= CHANNELS,
+        _ => false,
+    }
+}
+
+/// Whether a packet has the bit that is expected on its channel.
+fn has_expected_bit(expected: &[bool; ACKS], carried: &Carried) -> bool
+    ensures { result ≡ has_expected_bit expected.now carried.now }
+{
+    carried.bit() == expected[carried.channel() as usize]
+}
+
+/// Takes what a frame brings: after the expected bit the other is expected.
+fn take_content(expected: &mut [bool; ACKS], content: Content) -> Received
+    ensures expected { expected.new ≡ expected_after expected.old content }
+    ensures brought { result ≡ brought expected.old content }
+{
+    match content {
+        Content::Packet(carried) => {
+            if !has_expected_bit(expected, &carried) {
+                return Received::Repeat;
+            }
+            expected[carried.channel() as usize] = !carried.bit();
+            Received::Fresh(carried.into_packet())
+        }
+        Content::Nothing => Received::AckOnly,
+        Content::Routes(vector) => Received::Routes(vector),
+    }
+}

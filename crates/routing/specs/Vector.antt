@@ -1,0 +1,13 @@
+-- What an IMP tells its neighbours of its distances (Heart et al., SJCC 1970, routing).
+use Rattle.std.specs.Prelude.{◌≡◌, ℕ, ◌≤◌, Bool, List, length, All, nat_le, ◌==◌, ◌&&◌}
+use Rattle.std.specs.List.{list_all}
+use Rattle.routing.specs.declared.vector.TheConstants.{IMPS, INFINITE}
+
+-- one distance for each IMP that there can be, none above the infinite one
+pub record IsVector (distances : List ℕ) : Type 0 where
+  pub one_each : length distances ≡ IMPS
+  pub in_range : All (λ d. d ≤ INFINITE) distances
+
+-- the same as a test
+abbrev pub is_vector : List ℕ → Bool
+is_vector distances = (length distances == IMPS) && list_all (λ d. nat_le d INFINITE) distances

@@ -1,0 +1,15 @@
+//! Distances between the IMPs of a network.
+//!
+//! Every IMP tells its neighbours how many lines lie between it and each IMP that there can be, itself
+//! among them (Heart et al., "The interface message processor for the ARPA computer network", SJCC 1970,
+//! "Routing algorithm"). Such a list of distances is a [`Vector`].
+//!
+//! The layers above see a [`Vector`] as a list of [`IMPS`] numbers, none above [`INFINITE`], in the order
+//! of the IMPs' numbers, of which the first is 1. Nothing here says that a distance is right.
+#![tactic(auto)]
+
+#[cfg(test)]
+mod tests;
+mod vector;
+
+pub use vector::{IMPS, INFINITE, Vector};

@@ -1,0 +1,73 @@
+//! What an IMP tells its neighbours: its distance to every IMP.
+
+ghost use Rattle.std.specs.Prelude.{◌≡◌, ◌≤◌, ◌↔◌, All, IsTrue, nat_le, Some, None, if◌then◌else◌};
+ghost use Rattle.std.specs.List.{list_all};
+ghost use Rattle.routing.specs.Vector.{IsVector, is_vector};
+
+use std::marker::Model;
+
+/// How many IMPs a network can have. They are numbered from 1.
+pub const IMPS: usize = 16;
+
+/// The distance of an IMP that no path leads to. Every other distance is below it.
+pub const INFINITE: u8 = 16;
+
+/// The distances of an IMP to IMP 1, IMP 2 and so on to the last: [`IMPS`] of them, each at most
+/// [`INFINITE`].
+#[derive(Clone, Debug, Drop, PartialEq, Eq)]
+pub struct Vector {
+    distances: [u8; IMPS],
+}
+
+impl Model for Vector {
+    ghost use Rattle.std.specs.Prelude.{ℕ, List};
+    ghost use Rattle.routing.specs.Vector.{IsVector};
+
+    ghost Value = { List ℕ };
+
+    ghost view = { λ v. v.distances };
+
+    ghost invariant = { λ v. IsVector v.distances };
+
+    ghost inverse = { λ distances. record { distances = distances } };
+}
+
+impl Vector {
+    /// The vector with these distances, on the condition that none is above [`INFINITE`].
+    pub fn new(distances: [u8; IMPS]) -> Self
+        requires { All (λ d. d ≤ INFINITE) distances }
+        ensures { result ≡ distances }
+    {
+        Vector { distances }
+    }
+
+    /// The vector with these distances; `None` where they aren't [`IMPS`] numbers of at most
+    /// [`INFINITE`].
+    pub fn from_slice(distances: &[u8]) -> Option<Self>
+        ensures { result ≡ (if is_vector distances.now then Some distances.now else None) }
+    {
+        if distances.len() != IMPS || !all_in_range(distances) {
+            return None;
+        }
+        let mut copy = [0; IMPS];
+        copy.copy_from_slice(distances);
+        Some(Vector { distances: copy })
+    }
+
+    /// The distances, that to IMP 1 first.
+    pub fn distances(&self) -> &[u8]
+        ensures value { result.now ≡ self.now }
+        ensures a_vector { IsVector self.now }
+        ensures tested { IsTrue (is_vector self.now) }
+    {
+        &self.distances
+    }
+}
+
+/// Whether no distance is above the infinite one.
+fn all_in_range(distances: &[u8]) -> bool
+    ensures test { result ≡ list_all (λ d. nat_le d INFINITE) distances.now }
+    ensures fact { IsTrue result ↔ All (λ d. d ≤ INFINITE) distances.now }
+{
+    distances.iter().all(|distance| *distance <= INFINITE)
+}
