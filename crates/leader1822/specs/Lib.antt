@@ -1,6 +1,7 @@
+pub mod Boxes
+pub mod Calls
 pub mod Host
 pub mod Leader
 pub mod Mailboxes
-pub mod Calls
-pub mod Boxes
+pub mod Printed
 pub mod Soundness

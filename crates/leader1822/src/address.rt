@@ -110,6 +110,10 @@ impl HostAddr {
 
 /// Prints `host/imp`.
 impl fmt::Display for HostAddr {
+    ghost use Rattle.leader1822.specs.Printed.{host_text};
+
+    ghost output = { λ h. Some (host_text h) };
+
     fn fmt<W: fmt::Write>(&self, f: &mut fmt::Formatter<W>) -> fmt::Result {
         let host = self.host;
         let imp = self.imp;
@@ -130,4 +134,18 @@ pub struct Flow {
     pub destination: HostAddr,
     /// The link.
     pub link: Link,
+}
+
+/// Prints `source destination link`, the two hosts as `host/imp`.
+impl fmt::Display for Flow {
+    ghost use Rattle.leader1822.specs.Printed.{flow_text};
+
+    ghost output = { λ f. Some (flow_text f) };
+
+    fn fmt<W: fmt::Write>(&self, f: &mut fmt::Formatter<W>) -> fmt::Result {
+        let source = &self.source;
+        let destination = &self.destination;
+        let link = self.link.0;
+        write!(f, "{source} {destination} {link}")
+    }
 }

@@ -1,5 +1,7 @@
 //! What crosses the interface between a host and its IMP.
 
+ghost use Rattle.std.specs.Prelude.{Some};
+
 use crate::{Flow, HostAddr, HostMessage};
 use std::fmt;
 
@@ -36,4 +38,45 @@ pub enum Inbound {
     Message(HostMessage),
     /// What became of the host's own message on this flow.
     Answer(Answer, Flow),
+}
+
+/// Prints `rfnm`, `incomplete` or `dead`.
+impl fmt::Display for Answer {
+    ghost use Rattle.leader1822.specs.Printed.{answer_text};
+
+    ghost output = { λ kind. Some (answer_text kind) };
+
+    fn fmt<W: fmt::Write>(&self, f: &mut fmt::Formatter<W>) -> fmt::Result {
+        match self {
+            Answer::Rfnm => write!(f, "rfnm"),
+            Answer::Incomplete => write!(f, "incomplete"),
+            Answer::Dead => write!(f, "dead"),
+        }
+    }
+}
+
+/// Prints `out FLOW BITS`, `in FLOW BITS`, `answer WORD FLOW`, `down HOST` or `up HOST`, where `BITS` is
+/// the number of bits of the text.
+impl fmt::Display for Crossing {
+    ghost use Rattle.leader1822.specs.Printed.{crossing_text};
+
+    ghost output = { λ c. Some (crossing_text c) };
+
+    fn fmt<W: fmt::Write>(&self, f: &mut fmt::Formatter<W>) -> fmt::Result {
+        match self {
+            Crossing::Out(message) => {
+                let flow = &message.flow;
+                let bits = message.text.bits().len();
+                write!(f, "out {flow} {bits}")
+            }
+            Crossing::In(message) => {
+                let flow = &message.flow;
+                let bits = message.text.bits().len();
+                write!(f, "in {flow} {bits}")
+            }
+            Crossing::Answer(kind, flow) => write!(f, "answer {kind} {flow}"),
+            Crossing::Down(host) => write!(f, "down {host}"),
+            Crossing::Up(host) => write!(f, "up {host}"),
+        }
+    }
 }
