@@ -1,0 +1,7 @@
+mod Events
+mod Hosts
+mod Lines
+mod Messages
+mod Numbers
+mod Texts
+mod Words
