@@ -1,7 +1,9 @@
+mod Documents
 mod Events
 mod Hosts
 mod Lines
 mod Messages
 mod Numbers
+mod Order
 mod Texts
 mod Words
