@@ -5,5 +5,6 @@ mod Lines
 mod Messages
 mod Numbers
 mod Order
+mod Parts
 mod Texts
 mod Words

@@ -1,5 +1,8 @@
 //! The whole program, from what it reads to what it writes.
 
+ghost use Rattle.std.specs.Prelude.{◌≤◌, length, IfOk};
+ghost use Rattle.leader1822.specs.Calls.{InOrder};
+
 use crate::arguments::{ArgumentFault, Options};
 use crate::event::Event;
 use crate::fault::ScriptFault;
@@ -75,7 +78,9 @@ pub fn run_script<R: Read, W: Write>(
 }
 
 /// All that the reader gives, up to one octet more than an input may have.
-fn read_input<R: Read>(alloc: Global, reader: &mut R) -> Result<Vec<u8>, ScriptFault> {
+fn read_input<R: Read>(alloc: Global, reader: &mut R) -> Result<Vec<u8>, ScriptFault>
+    ensures { IfOk result (λ input. length input.items ≤ MAX_INPUT) }
+{
     let mut input = Vec::new(alloc);
     let mut limited = reader.take(MAX_INPUT as u64 + 1);
     match limited.read_to_end(&mut input) {
@@ -87,7 +92,9 @@ fn read_input<R: Read>(alloc: Global, reader: &mut R) -> Result<Vec<u8>, ScriptF
 }
 
 /// The hosts of a topology that can be run: one of plain mailboxes without host programs.
-fn read_hosts(alloc: Global, text: &[u8]) -> Result<Vec<HostAddr>, ScriptFault> {
+fn read_hosts(alloc: Global, text: &[u8]) -> Result<Vec<HostAddr>, ScriptFault>
+    ensures { IfOk result (λ hosts. InOrder hosts.items) }
+{
     let text = str::from_utf8(text).map_err(|_| ScriptFault::BadTopology)?;
     let topology = match Topology::read(alloc, text) {
         Ok(topology) => topology,
@@ -106,7 +113,9 @@ fn run_plain<W: Write>(
     hosts: Vec<HostAddr>,
     events: &[Event],
     writer: &mut W,
-) -> Result<(), ScriptFault> {
+) -> Result<(), ScriptFault>
+    requires { InOrder hosts.items }
+{
     let mut carrier = PlainBoxes::new(alloc, hosts);
     let mut buffered = BufWriter::new(alloc, writer).map_err(|_| ScriptFault::Stopped)?;
     let outcome = run(alloc, &mut carrier, events, &mut buffered);

@@ -2,12 +2,12 @@
 
 ghost use Rattle.std.specs.Prelude.{◌≡◌, ◌≢◌, ℕ, ◌==◌, ◌≤◌, false, List, ◌∷◌, ◌++◌, length, codes, MatchOption, MatchResult, IfOk};
 ghost use Rattle.leader1822.specs.Printed.{flow_text};
-ghost use Rattle.arpasim.specs.Script.{lines_of, lines_after, is_passed_over, AskFor, IsScriptFault};
+ghost use Rattle.arpasim.specs.Script.{lines_of, is_passed_over, AskFor, IsScriptFault};
 ghost use Rattle.arpasim.specs.Spelling.{ReadsAs, ReadsFlow, Unmarked, IsFlow, IsMessage, IsEvent, message_text, spelling};
 
 use crate::event::Event;
 use crate::fault::ScriptFault;
-use crate::input::MAX_INPUT;
+use crate::input::{MAX_INPUT, first_line};
 use crate::word::{cut, read_count, read_host, read_octet, read_text};
 use leader1822::{Flow, HostMessage, Link, NetEvent};
 use std::alloc::{AllocError, Global};
@@ -36,16 +36,6 @@ pub fn read_script(alloc: Global, text: &[u8]) -> Result<Vec<Event>, ScriptFault
         rest = more;
     }
     Ok(events)
-}
-
-/// The first line of a text, and the text behind it where there is a further line.
-fn first_line(text: &[u8]) -> (&[u8], Option<&[u8]>)
-    ensures { lines_of text.now ≡ result.0.now ∷ lines_after result.1 }
-{
-    match cut(text, b'\n') {
-        Some((line, more)) => (line, Some(more)),
-        None => (text, None),
-    }
 }
 
 /// Whether a line is empty or a comment.
