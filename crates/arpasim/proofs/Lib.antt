@@ -1,0 +1,10 @@
+mod Documents
+mod Events
+mod Hosts
+mod Lines
+mod Messages
+mod Numbers
+mod Order
+mod Parts
+mod Texts
+mod Words

@@ -1,0 +1,7 @@
+pub mod Faults
+pub mod Input
+pub mod Numbers
+pub mod Reading
+pub mod Script
+pub mod Spelling
+pub mod Topology

@@ -1,0 +1,134 @@
+//! The whole program, from what it reads to what it writes.
+
+ghost use Rattle.std.specs.Prelude.{◌≤◌, length, IfOk};
+ghost use Rattle.leader1822.specs.Calls.{InOrder};
+
+use crate::arguments::{ArgumentFault, Options};
+use crate::event::Event;
+use crate::fault::ScriptFault;
+use crate::input::{MAX_INPUT, split_input};
+use crate::run::{RunFault, run};
+use crate::script::read_script;
+use crate::topology::{CarrierKind, Topology, TopologyFault};
+use leader1822::{HostAddr, PlainBoxes};
+use std::alloc::{AllocError, Global};
+use std::io::{BufWriter, ErrorKind, Read, Write};
+use std::rt::Env;
+use std::{env, io, str};
+
+/// Runs the program as the command line asks, from standard input to standard output.
+pub(crate) fn from_command_line<R: Env + Input + Print + AllocGlobal>(
+    rt: &R,
+) -> Result<(), ScriptFault> {
+    let options = options_of(rt)?;
+    let mut reader = rt.reader();
+    let mut writer = io::writer(rt);
+    run_script(
+        rt.alloc(),
+        &mut reader,
+        &mut writer,
+        options.book,
+        options.check,
+    )
+}
+
+/// The options on the command line.
+fn options_of<R: Env + AllocGlobal>(rt: &R) -> Result<Options, ScriptFault> {
+    let words = match env::args(rt) {
+        Ok(words) => words,
+        Err(error) if error.kind() == ErrorKind::OutOfMemory => return Err(ScriptFault::Stopped),
+        Err(_) => return Err(ScriptFault::BadArguments),
+    };
+    let words: Vec<String> = words.skip(1).collect(rt.alloc())?;
+    let mut texts = Vec::new(rt.alloc());
+    for word in &words {
+        texts.push(word.as_str())?;
+    }
+    match Options::read(rt.alloc(), &texts) {
+        Ok(options) => Ok(options),
+        Err(ArgumentFault::BadArguments) => Err(ScriptFault::BadArguments),
+        Err(ArgumentFault::OutOfMemory) => Err(ScriptFault::Stopped),
+    }
+}
+
+/// Reads a topology, a line `%` and a script, runs the script, and writes what crossed and what was
+/// refused, a line each, and a last line `end`. With `check` it only reads and writes `ok`. With `book`
+/// the connections would stand before the end; without host programs there are none.
+///
+/// Errors, in this order: `CannotRead` where a read fails; `BadTopology` for an input of more than
+/// 1,048,576 octets, without a line `%`, or with no topology that can be run; `BadLine` for the first
+/// line of the script that is no event, with nothing run and nothing written; `Stopped` where no memory
+/// is left or a write fails, with the first part of the output written.
+pub fn run_script<R: Read, W: Write>(
+    alloc: Global,
+    reader: &mut R,
+    writer: &mut W,
+    _book: bool,
+    check: bool,
+) -> Result<(), ScriptFault> {
+    let input = read_input(alloc, reader)?;
+    let (topology, script) = split_input(&input).ok_or(ScriptFault::BadTopology)?;
+    let hosts = read_hosts(alloc, topology)?;
+    let events = read_script(alloc, script)?;
+    if check {
+        let written = writer.write_all(b"ok\n");
+        return written.map_err(|_| ScriptFault::Stopped);
+    }
+    run_plain(alloc, hosts, &events, writer)
+}
+
+/// All that the reader gives, up to one octet more than an input may have.
+fn read_input<R: Read>(alloc: Global, reader: &mut R) -> Result<Vec<u8>, ScriptFault>
+    ensures { IfOk result (λ input. length input.items ≤ MAX_INPUT) }
+{
+    let mut input = Vec::new(alloc);
+    let mut limited = reader.take(MAX_INPUT as u64 + 1);
+    match limited.read_to_end(&mut input) {
+        Ok(_) if input.len() > MAX_INPUT => Err(ScriptFault::BadTopology),
+        Ok(_) => Ok(input),
+        Err(error) if error.kind() == ErrorKind::OutOfMemory => Err(ScriptFault::Stopped),
+        Err(_) => Err(ScriptFault::CannotRead),
+    }
+}
+
+/// The hosts of a topology that can be run: one of plain mailboxes without host programs.
+fn read_hosts(alloc: Global, text: &[u8]) -> Result<Vec<HostAddr>, ScriptFault>
+    ensures { IfOk result (λ hosts. InOrder hosts.items) }
+{
+    let text = str::from_utf8(text).map_err(|_| ScriptFault::BadTopology)?;
+    let topology = match Topology::read(alloc, text) {
+        Ok(topology) => topology,
+        Err(TopologyFault::BadTopology) => return Err(ScriptFault::BadTopology),
+        Err(TopologyFault::OutOfMemory) => return Err(ScriptFault::Stopped),
+    };
+    if topology.carrier() != CarrierKind::Plain || !topology.is_raw() {
+        return Err(ScriptFault::BadTopology);
+    }
+    Ok(topology.hosts(alloc)?)
+}
+
+/// Runs events over plain mailboxes between these hosts, and writes what is to be seen of it.
+fn run_plain<W: Write>(
+    alloc: Global,
+    hosts: Vec<HostAddr>,
+    events: &[Event],
+    writer: &mut W,
+) -> Result<(), ScriptFault>
+    requires { InOrder hosts.items }
+{
+    let mut carrier = PlainBoxes::new(alloc, hosts);
+    let mut buffered = BufWriter::new(alloc, writer).map_err(|_| ScriptFault::Stopped)?;
+    let outcome = run(alloc, &mut carrier, events, &mut buffered);
+    if outcome.is_ok() {
+        let end = buffered.write_all(b"end\n");
+        end.map_err(|_| ScriptFault::Stopped)?;
+    }
+    let flushed = buffered.flush();
+    outcome.map_err(stopped)?;
+    flushed.map_err(|_| ScriptFault::Stopped)
+}
+
+/// A run that ended before its end stops the program.
+fn stopped(_fault: RunFault) -> ScriptFault {
+    ScriptFault::Stopped
+}
