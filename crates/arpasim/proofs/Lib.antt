@@ -6,5 +6,6 @@ mod Messages
 mod Numbers
 mod Order
 mod Parts
+mod Runs
 mod Texts
 mod Words

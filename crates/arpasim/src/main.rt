@@ -26,7 +26,7 @@ pub use event::Event;
 pub use fault::ScriptFault;
 pub use input::{MAX_INPUT, split_input};
 pub use program::run_script;
-pub use run::{RunFault, run};
+pub use run::{RunFault, run_events};
 pub use script::read_script;
 use std::io::Write;
 use std::process::ExitCode;

@@ -7,7 +7,7 @@ use crate::arguments::{ArgumentFault, Options};
 use crate::event::Event;
 use crate::fault::ScriptFault;
 use crate::input::{MAX_INPUT, split_input};
-use crate::run::{RunFault, run};
+use crate::run::{RunFault, run_events};
 use crate::script::read_script;
 use crate::topology::{CarrierKind, Topology, TopologyFault};
 use leader1822::{HostAddr, PlainBoxes};
@@ -118,7 +118,7 @@ fn run_plain<W: Write>(
 {
     let mut carrier = PlainBoxes::new(alloc, hosts);
     let mut buffered = BufWriter::new(alloc, writer).map_err(|_| ScriptFault::Stopped)?;
-    let outcome = run(alloc, &mut carrier, events, &mut buffered);
+    let outcome = run_events(&mut carrier, events, &mut buffered);
     if outcome.is_ok() {
         let end = buffered.write_all(b"end\n");
         end.map_err(|_| ScriptFault::Stopped)?;

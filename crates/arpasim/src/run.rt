@@ -1,8 +1,12 @@
 //! Running a script's events over a carrier.
 
+ghost use Rattle.std.specs.Prelude.{OnOk, IfOk};
+ghost use Rattle.leader1822.specs.Messages.{SafeMessages};
+ghost use Rattle.arpasim.specs.Run.{RunGives, EventGives, Happens};
+
 use crate::event::Event;
 use leader1822::{Carrier, CarrierFault, Crossing};
-use std::alloc::Global;
+use std::alloc::AllocError;
 use std::io;
 use std::io::Write;
 use thiserror::Error;
@@ -18,50 +22,70 @@ pub enum RunFault {
     CannotWrite,
 }
 
+impl From<AllocError> for RunFault {
+    fn from(_error: AllocError) -> RunFault {
+        RunFault::OutOfMemory
+    }
+}
+
 /// Runs the events in order, and prints each crossing and each refusal as it comes, a line each.
 ///
 /// A refused event changes nothing, and the run goes on behind it. Errors: `OutOfMemory` and
 /// `CannotWrite`, after which the lines written are the first of those of the whole run, the last of them
-/// perhaps in part.
-pub fn run<C: Carrier, W: Write>(
-    alloc: Global,
+/// perhaps in part. However the run ends, each RFNM speaks of one message that was taken once, and no
+/// message was taken twice (BBN Report 1822: one message outstanding on a link).
+pub fn run_events<C: Carrier, W: Write>(
     carrier: &mut C,
     events: &[Event],
     writer: &mut W,
-) -> Result<(), RunFault> {
+) -> Result<(), RunFault>
+    ensures messages { SafeMessages (C.seen carrier.new).log }
+    ensures events { OnOk result (RunGives (record { offers = C.offers; takes = C.takes; steps = C.steps }) carrier.old events.now carrier.new) }
+{
+    let outcome = in_turn(carrier, events, writer);
+    let _log = carrier.log();
+    outcome
+}
+
+/// Runs the events in order.
+fn in_turn<C: Carrier, W: Write>(
+    carrier: &mut C,
+    events: &[Event],
+    writer: &mut W,
+) -> Result<(), RunFault>
+    ensures { OnOk result (RunGives (record { offers = C.offers; takes = C.takes; steps = C.steps }) carrier.old events.now carrier.new) }
+{
     for event in events {
-        run_event(alloc, carrier, event, writer)?;
+        run_event(carrier, event, writer)?;
     }
     Ok(())
 }
 
 /// Runs one event, and prints what crossed and the refusal.
 fn run_event<C: Carrier, W: Write>(
-    alloc: Global,
     carrier: &mut C,
     event: &Event,
     writer: &mut W,
-) -> Result<(), RunFault> {
+) -> Result<(), RunFault>
+    ensures { OnOk result (Happens (record { offers = C.offers; takes = C.takes; steps = C.steps }) carrier.old event.now carrier.new) }
+{
     let booked = carrier.log().len();
-    let outcome = apply(alloc, carrier, event);
+    let outcome = apply(carrier, event)?;
     print_crossings(carrier.log(), booked, writer)?;
     print_refusal(outcome, writer)
 }
 
 /// One event at a carrier.
-fn apply<C: Carrier>(alloc: Global, carrier: &mut C, event: &Event) -> Result<(), CarrierFault> {
+fn apply<C: Carrier>(carrier: &mut C, event: &Event) -> Result<Result<(), CarrierFault>, AllocError>
+    ensures { IfOk result (λ r. EventGives (record { offers = C.offers; takes = C.takes; steps = C.steps }) carrier.old event.now r carrier.new) }
+{
     match event {
-        Event::Out(message) => {
-            let message = message
-                .copied(alloc)
-                .map_err(|_| CarrierFault::OutOfMemory)?;
-            carrier.offer_out(message)
-        }
+        Event::Out(message) => Ok(carrier.offer_out(message.clone()?)),
         Event::Take(host) => match carrier.take_in(*host) {
-            Ok(_) => Ok(()),
-            Err(fault) => Err(fault),
+            Ok(_) => Ok(Ok(())),
+            Err(fault) => Ok(Err(fault)),
         },
-        Event::Net(event) => carrier.step(*event),
+        Event::Net(event) => Ok(carrier.step(*event)),
     }
 }
 
