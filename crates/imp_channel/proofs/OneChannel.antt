@@ -80,9 +80,6 @@ Carries-frame_on e k c bit p ch holds = ⊎_cases (cases_eq k c)
 
 -- Frames taken.
 
-acknowledged-opening : (a : Bool) → acknowledged a opening_channel ≡ opening_channel
-acknowledged-opening a = refl
-
 -- each channel has its own acknowledgement bit
 pub get_or-all_acknowledged : (acks : List Bool) (chs : List Channel) (c : ℕ)
     → get_or (all_acknowledged acks chs) c opening_channel ≡ acknowledged (get_or acks c false) (get_or chs c opening_channel)
@@ -92,11 +89,6 @@ get_or-all_acknowledged [] (ch ∷ chs) zero = refl
 get_or-all_acknowledged [] (ch ∷ chs) (suc c) = get_or-all_acknowledged [] chs c
 get_or-all_acknowledged (a ∷ acks) (ch ∷ chs) zero = refl
 get_or-all_acknowledged (a ∷ acks) (ch ∷ chs) (suc c) = get_or-all_acknowledged acks chs c
-
-pub length-all_acknowledged : (acks : List Bool) (chs : List Channel) → length (all_acknowledged acks chs) ≡ length chs
-length-all_acknowledged acks [] = refl
-length-all_acknowledged [] (ch ∷ chs) = ap suc (length-all_acknowledged [] chs)
-length-all_acknowledged (a ∷ acks) (ch ∷ chs) = ap suc (length-all_acknowledged acks chs)
 
 pub length-expected_after : (expected : List Bool) (brings : Content) → length (expected_after expected brings) ≡ length expected
 length-expected_after expected (content.Packet carried) = at (has_expected_bit expected carried)
