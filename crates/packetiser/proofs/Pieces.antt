@@ -1,6 +1,5 @@
 -- The pieces of a body.
-use Rattle.std.proofs.Common.{◌≡◌, ℕ, ◌+◌, ◌*◌, ◌%◌, ◌<◌, ◌≤◌, Bool, true, false, List, length, take, drop, min, refl, ap, sym, ◌∙◌, arith, length-append, ◌-◌, length-drop, replicate, ◌∷◌, ◌==◌, eq-eqb, eqb-true, ne_eqb, ◌≢◌}
-use Rattle.std.proofs.lemmas.Bool.Decides.{nat_tests}
+use Rattle.std.proofs.Common.{◌≡◌, ℕ, ◌+◌, ◌*◌, ◌<◌, ◌≤◌, Bool, true, false, List, length, take, drop, min, ap, ◌∙◌, arith, length-append, ◌-◌, length-drop, replicate, ◌∷◌, ◌==◌, eq-eqb, ◌≢◌}
 use Rattle.std.proofs.lemmas.List.{length-take, length-replicate, take_min, drop-take}
 use Rattle.std.proofs.Common.{map, ◌++◌, []}
 use Rattle.std.proofs.lemmas.List.FromFn.{map-range_with_len_more}

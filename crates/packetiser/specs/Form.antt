@@ -1,5 +1,5 @@
 -- A packet, as a record of what it says.
-use Rattle.std.specs.Prelude.{◌≡◌, ◌≢◌, ℕ, ◌+◌, ◌*◌, ◌%◌, ◌<◌, ◌≤◌, Bool, true, false, List, length}
+use Rattle.std.specs.Prelude.{◌≡◌, ℕ, ◌+◌, ◌%◌, ◌<◌, ◌≤◌, Bool, true, false, List, length}
 use Rattle.leader1822.specs.Host.{Host}
 use Rattle.leader1822.specs.declared.address.Flow.{Flow}
 use Rattle.packetiser.specs.declared.format.TheConstants.{MAX_IMP, NUMBERS, PACKET_BITS, MAX_PACKETS}

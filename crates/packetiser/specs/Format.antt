@@ -2,7 +2,7 @@
 --
 -- Octet 0 is the kind, 1 and 2 the addresses of the message's source and destination, 3 the link, 4 the number, 5 the place
 -- (lower three bits) and the last flag (upper bit), 6 and 7 the number of bits; from octet 8 on the bits follow.
-use Rattle.std.specs.Prelude.{◌≡◌, ℕ, ◌+◌, ◌*◌, ◌/◌, ◌%◌, Bool, true, false, not, List, [], ◌∷◌, ◌++◌, length, take, drop, slice_index, Result, Ok, Err, nat_lt, nat_le, ◌||◌, ◌&&◌, ◌==◌, if◌then◌else◌}
+use Rattle.std.specs.Prelude.{ℕ, ◌+◌, ◌*◌, ◌/◌, ◌%◌, Bool, not, List, ◌∷◌, length, take, drop, slice_index, Result, Ok, Err, nat_lt, nat_le, ◌||◌, ◌&&◌, ◌==◌, if◌then◌else◌}
 use Rattle.bit_messages.specs.Octets.{bits_of, octets_of}
 use Rattle.leader1822.specs.Host.{Host, address_octet}
 use Rattle.packetiser.specs.Form.{Form}

@@ -1,5 +1,5 @@
-use Rattle.std.proofs.Common.{◌≡◌, map, vec_len, vec_capacity, ◌≤◌, ◌+◌}
-use Rattle.packetiser.specs.Pieces.{piece_packet, places, piece_count}
+use Rattle.std.proofs.Common.{◌≡◌, map}
+use Rattle.packetiser.specs.Pieces.{piece_packet, places}
 use Rattle.bit_messages.specs.Body.{body}
 use Rattle.packetiser.proofs.cutting.cut.Given as goal
 

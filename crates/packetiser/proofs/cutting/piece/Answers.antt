@@ -1,4 +1,4 @@
-use Rattle.std.proofs.Common.{◌∙◌, ap, ◌≡◌, ℕ, List, Bool, drop, take, min, ◌*◌, ◌+◌, length}
+use Rattle.std.proofs.Common.{◌∙◌, ap, ◌≡◌, ℕ, drop, take, min, ◌*◌, ◌+◌, length}
 use Rattle.packetiser.proofs.Pieces.{piece_between}
 use Rattle.packetiser.proofs.cutting.piece.Goals as goal
 

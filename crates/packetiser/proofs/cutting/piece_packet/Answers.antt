@@ -1,5 +1,5 @@
-use Rattle.std.proofs.Common.{sym, ap, ◌∙◌, arith, subst, length, ◌≡◌, ◌==◌, ◌+◌, ℕ, Bool, List, rules, ◌<◌, ◌≤◌}
-use Rattle.packetiser.specs.Form.{IsPiece, IsForm}
+use Rattle.std.proofs.Common.{arith, length, ◌==◌, ◌+◌, ◌≤◌}
+use Rattle.packetiser.specs.Form.{IsPiece}
 use Rattle.packetiser.specs.Pieces.{piece, piece_count}
 use Rattle.packetiser.proofs.Pieces.{piece_fits, few_pieces}
 use Rattle.packetiser.proofs.cutting.piece_packet.Goals as goal

@@ -1,4 +1,3 @@
-use Rattle.std.proofs.lemmas.List.Sorted.{IsPermutation-refl}
 use Rattle.packetiser.proofs.Holding.{added_only, discarded_only, whole_gathered, added_table, named_once}
 use Rattle.packetiser.proofs.law.holding.Goals as goal
 

@@ -1,4 +1,4 @@
-use Rattle.std.proofs.Common.{sym, ap, ◌∙◌, ◌≡◌, Ok}
+use Rattle.std.proofs.Common.{sym, ap, ◌∙◌}
 use Rattle.packetiser.specs.Format.{read_of}
 use Rattle.packetiser.proofs.Packets.{read_again, read_is, same_read}
 use Rattle.packetiser.proofs.law.spellings.Goals as goal

@@ -1,4 +1,4 @@
-use Rattle.std.proofs.Common.{sym, ◌∙◌, ap, insert, ℕ, List, rules, ◌≡◌, not, nat_lt}
+use Rattle.std.proofs.Common.{sym, ◌∙◌, ap, insert, ℕ, List, ◌≡◌, not, nat_lt}
 use Rattle.std.specs.List.{position_or_len}
 use Rattle.packetiser.specs.Form.{Form}
 use Rattle.packetiser.proofs.Slots.{with_piece_is}

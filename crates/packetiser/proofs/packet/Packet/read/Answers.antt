@@ -1,6 +1,6 @@
-use Rattle.std.proofs.Common.{sym, ◌∙◌, refl, subst, List, ℕ, Bool, ◌≡◌, get_or, ap, ◌<◌, arith}
+use Rattle.std.proofs.Common.{sym, ◌∙◌, refl, subst, List, ℕ, get_or, ap, ◌<◌, arith}
 use Rattle.packetiser.specs.Form.{Form, IsForm}
-use Rattle.packetiser.specs.Format.{form_of, spelling, is_last, place_of}
+use Rattle.packetiser.specs.Format.{spelling, is_last, place_of}
 use Rattle.packetiser.proofs.Packets.{IsPacket, packet_from, form_fits, spelled, canonical_from, form_made}
 use Rattle.packetiser.proofs.packet.Packet.read.Goals as goal
 

@@ -1,4 +1,4 @@
-use Rattle.std.proofs.Common.{ap, subst, rules, ◌≡◌, ◌∙◌, sym}
+use Rattle.std.proofs.Common.{ap, subst, rules, ◌≡◌, ◌∙◌}
 use Rattle.packetiser.specs.Form.{IsForm}
 use Rattle.packetiser.specs.Format.{read_of, spelling}
 use Rattle.packetiser.proofs.Packets.{read_again}

@@ -1,4 +1,3 @@
-use Rattle.std.proofs.Common.{sym, subst, ◌≡◌}
 use Rattle.packetiser.proofs.Calls.{still_table}
 use Rattle.packetiser.proofs.reassembly.Reassembly.keep.Goals as goal
 
