@@ -6,5 +6,6 @@ mod Messages
 mod Numbers
 mod Order
 mod Parts
+mod Shown
 mod Texts
 mod Words

@@ -118,7 +118,7 @@ fn run_plain<W: Write>(
 {
     let mut carrier = PlainBoxes::new(alloc, hosts);
     let mut buffered = BufWriter::new(alloc, writer).map_err(|_| ScriptFault::Stopped)?;
-    let outcome = run(alloc, &mut carrier, events, &mut buffered);
+    let outcome = run(&mut carrier, events, &mut buffered);
     if outcome.is_ok() {
         let end = buffered.write_all(b"end\n");
         end.map_err(|_| ScriptFault::Stopped)?;

@@ -1,8 +1,13 @@
 //! Running a script's events over a carrier.
 
+ghost use Rattle.std.specs.Prelude.{◌≡◌, OnOk, IfSome, drop, length, ◌≤◌, IsOk};
+ghost use Rattle.std.specs.Io.KnownBytes.{Appends};
+ghost use Rattle.leader1822.specs.Messages.{SafeMessages};
+ghost use Rattle.arpasim.specs.Output.{Shows, Grew, output, shown_refusal, shown_crossings, fault_name};
+
 use crate::event::Event;
+use leader1822::law::messages;
 use leader1822::{Carrier, CarrierFault, Crossing};
-use std::alloc::Global;
 use std::io;
 use std::io::Write;
 use thiserror::Error;
@@ -24,37 +29,44 @@ pub enum RunFault {
 /// `CannotWrite`, after which the lines written are the first of those of the whole run, the last of them
 /// perhaps in part.
 pub fn run<C: Carrier, W: Write>(
-    alloc: Global,
     carrier: &mut C,
     events: &[Event],
     writer: &mut W,
-) -> Result<(), RunFault> {
+) -> Result<(), RunFault>
+    ensures shown { OnOk result (Shows (C.seen carrier.old).log (C.seen carrier.new).log (W.contents writer.old) (W.contents writer.new)) }
+
+    // each RFNM speaks of one message, which was taken exactly once
+    ensures messages { OnOk result (SafeMessages (C.seen carrier.new).log) }
+{
     for event in events {
-        run_event(alloc, carrier, event, writer)?;
+        run_event(carrier, event, writer)?;
     }
+    let _ = carrier.log();
+    messages();
     Ok(())
 }
 
 /// Runs one event, and prints what crossed and the refusal.
 fn run_event<C: Carrier, W: Write>(
-    alloc: Global,
     carrier: &mut C,
     event: &Event,
     writer: &mut W,
-) -> Result<(), RunFault> {
+) -> Result<(), RunFault>
+    ensures { OnOk result (Shows (C.seen carrier.old).log (C.seen carrier.new).log (W.contents writer.old) (W.contents writer.new)) }
+{
     let booked = carrier.log().len();
-    let outcome = apply(alloc, carrier, event);
+    let outcome = apply(carrier, event);
     print_crossings(carrier.log(), booked, writer)?;
     print_refusal(outcome, writer)
 }
 
 /// One event at a carrier.
-fn apply<C: Carrier>(alloc: Global, carrier: &mut C, event: &Event) -> Result<(), CarrierFault> {
+fn apply<C: Carrier>(carrier: &mut C, event: &Event) -> Result<(), CarrierFault>
+    ensures { Grew (C.seen carrier.old).log (C.seen carrier.new).log }
+{
     match event {
         Event::Out(message) => {
-            let message = message
-                .copied(alloc)
-                .map_err(|_| CarrierFault::OutOfMemory)?;
+            let message = message.clone().map_err(|_| CarrierFault::OutOfMemory)?;
             carrier.offer_out(message)
         }
         Event::Take(host) => match carrier.take_in(*host) {
@@ -70,10 +82,10 @@ fn print_crossings<W: Write>(
     log: &[Crossing],
     booked: usize,
     writer: &mut W,
-) -> Result<(), RunFault> {
-    if booked > log.len() {
-        return Ok(());
-    }
+) -> Result<(), RunFault>
+    requires { booked ≤ length log.now }
+    ensures { OnOk result (Appends (W.contents writer.old) (W.contents writer.new) (output (shown_crossings (drop booked log.now)))) }
+{
     let (_, crossings) = log.split_at(booked);
     for crossing in crossings {
         check_written(writeln!(writer, "{crossing}"))?;
@@ -85,7 +97,9 @@ fn print_crossings<W: Write>(
 fn print_refusal<W: Write>(
     outcome: Result<(), CarrierFault>,
     writer: &mut W,
-) -> Result<(), RunFault> {
+) -> Result<(), RunFault>
+    ensures { OnOk result (Appends (W.contents writer.old) (W.contents writer.new) (output (shown_refusal outcome))) }
+{
     let Err(fault) = outcome else {
         return Ok(());
     };
@@ -97,7 +111,9 @@ fn print_refusal<W: Write>(
 }
 
 /// The name of a refusal; `None` where the carrier has stopped for want of memory.
-fn name_of(fault: CarrierFault) -> Option<&'static str> {
+fn name_of(fault: CarrierFault) -> Option<&'static str>
+    ensures { IfSome result (λ name. name.now ≡ fault_name fault) }
+{
     match fault {
         CarrierFault::NoSuch => Some("NoSuch"),
         CarrierFault::StillAlive => Some("StillAlive"),
@@ -112,6 +128,8 @@ fn name_of(fault: CarrierFault) -> Option<&'static str> {
 }
 
 /// A write's answer, with the one fault that it has here.
-fn check_written(outcome: io::Result<()>) -> Result<(), RunFault> {
+fn check_written(outcome: io::Result<()>) -> Result<(), RunFault>
+    ensures { IsOk result → IsOk outcome }
+{
     outcome.map_err(|_| RunFault::CannotWrite)
 }

@@ -1,0 +1,8 @@
+use Rattle.arpasim.proofs.Shown.{grew_offer, grew_take}
+use Rattle.arpasim.proofs.run.apply.Goals as goal
+
+pub returns-in_ok-message-in-Out : goal.returns-in_ok-message-in-Out
+returns-in_ok-message-in-Out g c = grew_offer (g.C.Carrier.seen c.args.carrier.now) c.in_ok-message-in-Out.message c.offer_out.result (g.C.Carrier.seen c.offer_out.new.self) c.offer_out.ensures.shown
+
+pub returns-after-take_in : goal.returns-after-take_in
+returns-after-take_in g c = grew_take (g.C.Carrier.seen c.args.carrier.now) c.in-Take.host c.take_in.result (g.C.Carrier.seen c.take_in.new.self) c.take_in.ensures.shown
