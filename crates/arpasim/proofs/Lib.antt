@@ -7,5 +7,6 @@ mod Numbers
 mod Order
 mod Parts
 mod Runs
+mod Shown
 mod Texts
 mod Words

@@ -1,6 +1,7 @@
 pub mod Faults
 pub mod Input
 pub mod Numbers
+pub mod Output
 pub mod Reading
 pub mod Run
 pub mod Script

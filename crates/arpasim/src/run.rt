@@ -1,8 +1,10 @@
 //! Running a script's events over a carrier.
 
-ghost use Rattle.std.specs.Prelude.{OnOk, IfOk};
+ghost use Rattle.std.specs.Prelude.{◌≡◌, OnOk, IfOk, IfSome, drop, length, ◌≤◌, IsOk};
+ghost use Rattle.std.specs.Io.KnownBytes.{Appends};
 ghost use Rattle.leader1822.specs.Messages.{SafeMessages};
 ghost use Rattle.arpasim.specs.Run.{RunGives, EventGives, Happens};
+ghost use Rattle.arpasim.specs.Output.{Shows, Grew, output, shown_refusal, shown_crossings, fault_name};
 
 use crate::event::Event;
 use leader1822::{Carrier, CarrierFault, Crossing};
@@ -39,8 +41,14 @@ pub fn run_events<C: Carrier, W: Write>(
     events: &[Event],
     writer: &mut W,
 ) -> Result<(), RunFault>
+    // each RFNM speaks of one message, which was taken exactly once
     ensures messages { SafeMessages (C.seen carrier.new).log }
+
+    // each event in turn went as the carrier says that its calls may go
     ensures events { OnOk result (RunGives (record { offers = C.offers; takes = C.takes; steps = C.steps }) carrier.old events.now carrier.new) }
+
+    // what crossed was printed, in order, with the refusals between
+    ensures shown { OnOk result (Shows (C.seen carrier.old).log (C.seen carrier.new).log (W.contents writer.old) (W.contents writer.new)) }
 {
     let outcome = in_turn(carrier, events, writer);
     let _log = carrier.log();
@@ -53,7 +61,8 @@ fn in_turn<C: Carrier, W: Write>(
     events: &[Event],
     writer: &mut W,
 ) -> Result<(), RunFault>
-    ensures { OnOk result (RunGives (record { offers = C.offers; takes = C.takes; steps = C.steps }) carrier.old events.now carrier.new) }
+    ensures events { OnOk result (RunGives (record { offers = C.offers; takes = C.takes; steps = C.steps }) carrier.old events.now carrier.new) }
+    ensures shown { OnOk result (Shows (C.seen carrier.old).log (C.seen carrier.new).log (W.contents writer.old) (W.contents writer.new)) }
 {
     for event in events {
         run_event(carrier, event, writer)?;
@@ -67,7 +76,8 @@ fn run_event<C: Carrier, W: Write>(
     event: &Event,
     writer: &mut W,
 ) -> Result<(), RunFault>
-    ensures { OnOk result (Happens (record { offers = C.offers; takes = C.takes; steps = C.steps }) carrier.old event.now carrier.new) }
+    ensures event { OnOk result (Happens (record { offers = C.offers; takes = C.takes; steps = C.steps }) carrier.old event.now carrier.new) }
+    ensures shown { OnOk result (Shows (C.seen carrier.old).log (C.seen carrier.new).log (W.contents writer.old) (W.contents writer.new)) }
 {
     let booked = carrier.log().len();
     let outcome = apply(carrier, event)?;
@@ -77,7 +87,8 @@ fn run_event<C: Carrier, W: Write>(
 
 /// One event at a carrier.
 fn apply<C: Carrier>(carrier: &mut C, event: &Event) -> Result<Result<(), CarrierFault>, AllocError>
-    ensures { IfOk result (λ r. EventGives (record { offers = C.offers; takes = C.takes; steps = C.steps }) carrier.old event.now r carrier.new) }
+    ensures event { IfOk result (λ r. EventGives (record { offers = C.offers; takes = C.takes; steps = C.steps }) carrier.old event.now r carrier.new) }
+    ensures grew { Grew (C.seen carrier.old).log (C.seen carrier.new).log }
 {
     match event {
         Event::Out(message) => Ok(carrier.offer_out(message.clone()?)),
@@ -94,10 +105,10 @@ fn print_crossings<W: Write>(
     log: &[Crossing],
     booked: usize,
     writer: &mut W,
-) -> Result<(), RunFault> {
-    if booked > log.len() {
-        return Ok(());
-    }
+) -> Result<(), RunFault>
+    requires { booked ≤ length log.now }
+    ensures { OnOk result (Appends (W.contents writer.old) (W.contents writer.new) (output (shown_crossings (drop booked log.now)))) }
+{
     let (_, crossings) = log.split_at(booked);
     for crossing in crossings {
         check_written(writeln!(writer, "{crossing}"))?;
@@ -109,7 +120,9 @@ fn print_crossings<W: Write>(
 fn print_refusal<W: Write>(
     outcome: Result<(), CarrierFault>,
     writer: &mut W,
-) -> Result<(), RunFault> {
+) -> Result<(), RunFault>
+    ensures { OnOk result (Appends (W.contents writer.old) (W.contents writer.new) (output (shown_refusal outcome))) }
+{
     let Err(fault) = outcome else {
         return Ok(());
     };
@@ -121,7 +134,9 @@ fn print_refusal<W: Write>(
 }
 
 /// The name of a refusal; `None` where the carrier has stopped for want of memory.
-fn name_of(fault: CarrierFault) -> Option<&'static str> {
+fn name_of(fault: CarrierFault) -> Option<&'static str>
+    ensures { IfSome result (λ name. name.now ≡ fault_name fault) }
+{
     match fault {
         CarrierFault::NoSuch => Some("NoSuch"),
         CarrierFault::StillAlive => Some("StillAlive"),
@@ -136,6 +151,8 @@ fn name_of(fault: CarrierFault) -> Option<&'static str> {
 }
 
 /// A write's answer, with the one fault that it has here.
-fn check_written(outcome: io::Result<()>) -> Result<(), RunFault> {
+fn check_written(outcome: io::Result<()>) -> Result<(), RunFault>
+    ensures { IsOk result → IsOk outcome }
+{
     outcome.map_err(|_| RunFault::CannotWrite)
 }
