@@ -1,8 +1,9 @@
 //! The whole program, from what it reads to what it writes.
 
-ghost use Rattle.std.specs.Prelude.{◌≡◌, ◌≢◌, ◌≤◌, true, false, codes, length, IfOk, IfErr, OnOk};
+ghost use Rattle.std.specs.Prelude.{◌≡◌, ◌≢◌, ◌≤◌, true, false, Err, IsUtf8, codes, length, IfOk, IfErr, OnOk};
 ghost use Rattle.std.specs.Io.KnownBytes.{Appends};
 ghost use Rattle.arpasim.specs.Output.{Ran};
+ghost use Rattle.arpasim.specs.Topology.{Network, IsRunnable, HasHosts};
 ghost use Rattle.leader1822.specs.Calls.{InOrder};
 
 use crate::arguments::{ArgumentFault, Options};
@@ -108,6 +109,8 @@ fn read_input<R: Read>(alloc: Global, reader: &mut R) -> Result<Vec<u8>, ScriptF
 /// The hosts of a topology that can be run: one of plain mailboxes without host programs.
 fn read_hosts(alloc: Global, text: &[u8]) -> Result<Vec<HostAddr>, ScriptFault>
     ensures ordered { IfOk result (λ hosts. InOrder hosts.items) }
+    ensures found { IfOk result (λ hosts. HasHosts text.now hosts.items) }
+    ensures refused { result ≡ Err ScriptFault.BadTopology → IsUtf8 text.now → (n : Network) → ¬ IsRunnable text.now n }
     ensures fault { IfErr result (λ f. f ≢ ScriptFault.BadArguments) }
 {
     let text = str::from_utf8(text).map_err(|_| ScriptFault::BadTopology)?;
@@ -116,10 +119,10 @@ fn read_hosts(alloc: Global, text: &[u8]) -> Result<Vec<HostAddr>, ScriptFault>
         Err(TopologyFault::BadTopology) => return Err(ScriptFault::BadTopology),
         Err(TopologyFault::OutOfMemory) => return Err(ScriptFault::Stopped),
     };
-    if topology.carrier() != CarrierKind::Plain || !topology.is_raw() {
-        return Err(ScriptFault::BadTopology);
+    match topology.carrier() {
+        CarrierKind::Plain if topology.is_raw() => Ok(topology.hosts(alloc)?),
+        _ => Err(ScriptFault::BadTopology),
     }
-    Ok(topology.hosts(alloc)?)
 }
 
 /// Runs events over plain mailboxes between these hosts, and writes what is to be seen of it.
