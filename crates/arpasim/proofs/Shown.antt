@@ -1,11 +1,12 @@
 -- What a run shows, call by call.
-use Rattle.std.proofs.Common.{◌≡◌, ℕ, ◌<◌, ◌≤◌, ◌+◌, Bool, true, false, List, [], ◌∷◌, ◌++◌, length, get_or, take, drop, reverse, Option, Some, None, Result, Ok, Err, if◌then◌else◌, refl, sym, ap, ◌∙◌, subst, arith, OnOk, IsOk}
+use Rattle.std.proofs.Common.{◌≡◌, ℕ, ◌<◌, ◌≤◌, ◌+◌, Bool, true, false, List, [], ◌∷◌, ◌++◌, length, get_or, take, drop, reverse, Option, Some, None, Result, Ok, Err, if◌then◌else◌, refl, sym, ap, ◌∙◌, subst, arith, OnOk, IsOk, codes}
 use Rattle.std.proofs.lemmas.List.{append_assoc, append-nil, take_more, drop_at, reverse-append, reverse-reverse}
 use Rattle.std.proofs.lemmas.Bool.{false≢true}
 use Rattle.std.proofs.lemmas.Grind.{flat_map-append}
 use Rattle.std.specs.List.{flat_map}
 use Rattle.std.specs.Io.KnownBytes.{Appends}
 use Rattle.leader1822.specs.Host.{Host}
+use Rattle.leader1822.specs.Messages.{SafeMessages}
 use Rattle.leader1822.specs.Printed.{crossing_text}
 use Rattle.leader1822.specs.Calls.{Seen, grown, halted, is_memory, crossing_of, ShowsRefusal, ShowsCrossings, ShowsOffer, ShowsTake}
 use Rattle.leader1822.specs.declared.carrier.CarrierFault.{CarrierFault}
@@ -14,7 +15,7 @@ use Rattle.leader1822.specs.declared.crossing.Crossing.TheVariants as crossing
 use Rattle.leader1822.specs.declared.crossing.Inbound.{Inbound}
 use Rattle.leader1822.specs.declared.message.HostMessage.{HostMessage}
 use Rattle.arpasim.specs.Input.{ended}
-use Rattle.arpasim.specs.Output.{Grew, Shown, Shows, Crossed, Refused, shown_text, output, crossings_of, shown_crossings, shown_refusal}
+use Rattle.arpasim.specs.Output.{Grew, Ran, Shown, Shows, Crossed, Refused, shown_text, output, crossings_of, shown_crossings, shown_refusal}
 
 same_log : (b : Bool) (s : Seen) → (if b then halted s else s).log ≡ s.log
 same_log true s = refl
@@ -106,3 +107,11 @@ shows_more x y z a b c h k = record {
 pub was_ok : {T E P : Type 0} (r : Result T E) → IsOk r → OnOk r P → P
 was_ok (Ok x) o h = h
 was_ok (Err e) o h = absurd (false≢true o)
+
+-- a whole run over a log that was empty
+pub ran : (log : List Crossing) (a b c : Option (List ℕ)) → Shows [] log a b → SafeMessages log → Appends b c (codes "end\n") → Ran a c
+ran log a b c h safe last = record {
+  shown = h.shown;
+  written = appends_more a b c (output h.shown) (codes "end\n") h.written last;
+  messages = subst SafeMessages (h.grown ∙ append-nil (reverse (crossings_of h.shown))) safe;
+}

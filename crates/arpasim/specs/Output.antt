@@ -2,6 +2,7 @@
 use Rattle.std.specs.Prelude.{◌≡◌, ℕ, Bool, List, [], ◌∷◌, ◌++◌, Option, Some, None, Result, Ok, Err, reverse, codes}
 use Rattle.std.specs.List.{flat_map}
 use Rattle.std.specs.Io.KnownBytes.{Appends}
+use Rattle.leader1822.specs.Messages.{SafeMessages}
 use Rattle.leader1822.specs.Printed.{crossing_text}
 use Rattle.leader1822.specs.declared.carrier.CarrierFault.{CarrierFault}
 use Rattle.leader1822.specs.declared.carrier.CarrierFault.TheVariants as fault
@@ -58,3 +59,9 @@ shown_refusal (Err f) = Refused f ∷ []
 abbrev pub shown_crossings : List Crossing → List Shown
 shown_crossings [] = []
 shown_crossings (c ∷ crossings) = Crossed c ∷ shown_crossings crossings
+
+-- a whole run: what crossed is a log that every host may rely on, and the last line is `end`
+pub record Ran (before after : Option (List ℕ)) : Type 0 where
+  pub shown : List Shown
+  pub written : Appends before after (output shown ++ codes "end\n")
+  pub messages : SafeMessages (reverse (crossings_of shown))

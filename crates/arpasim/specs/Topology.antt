@@ -3,6 +3,7 @@ use Rattle.std.specs.Prelude.{◌≡◌, ℕ, zero, suc, ◌+◌, ◌*◌, ◌/�
 use Rattle.std.specs.Cmp.Lexicographic.{pointwise}
 use Rattle.std.specs.List.{All, list_any, list_all, find, cons_option}
 use Rattle.toml.specs.Data.{Data, Items, no_items, item, Members, no_members, member, table, get, as_integer, as_str, as_bool, as_array, as_table}
+use Rattle.toml.specs.Parse.{parse_document}
 use Rattle.leader1822.specs.Host.{Host}
 use Rattle.arpasim.specs.declared.topology.CarrierKind.{CarrierKind}
 use Rattle.arpasim.specs.declared.topology.CarrierKind.TheVariants as kind
@@ -213,3 +214,17 @@ hosts_below imps (suc place) = hosts_below imps place ++ host_if (has_host imps 
 -- all hosts of a network of 16 IMPs
 abbrev pub hosts_of : Network → List Host
 hosts_of n = hosts_below n.imps 64
+
+-- ---- what can be run
+
+-- the text describes this network, which is one of plain mailboxes without host programs
+pub record IsRunnable (text : List ℕ) (n : Network) : Type 0 where
+  pub described : network_in (parse_document text) ≡ Some n
+  pub carrier : n.carrier ≡ kind.Plain
+  pub raw : n.raw ≡ true
+
+-- the hosts of the network that a text describes
+pub record HasHosts (text : List ℕ) (hosts : List Host) : Type 0 where
+  pub network : Network
+  pub runnable : IsRunnable text network
+  pub all : hosts ≡ hosts_of network

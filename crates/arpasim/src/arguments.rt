@@ -1,6 +1,7 @@
 //! The program's arguments.
 
-ghost use Rattle.std.specs.Prelude.{◌≡◌};
+ghost use Rattle.std.specs.Prelude.{◌≡◌, ◌≢◌, codes, false, IsTrue, ◌↔◌, OnOk};
+ghost use Rattle.std.specs.List.{All};
 
 use clap::error::ErrorKind;
 use clap::{Arg, ArgAction, ArgMatches, Command};
@@ -42,8 +43,10 @@ impl Options {
     /// order, each at most once.
     ///
     /// Errors: `BadArguments` for anything else, `OutOfMemory`.
-    pub fn read(alloc: Global, words: &[&str]) -> Result<Options, ArgumentFault> {
-        if words.iter().any(|word| *word == "--") {
+    pub fn read(alloc: Global, words: &[&str]) -> Result<Options, ArgumentFault>
+        ensures { OnOk result (All (λ word. word.now ≢ codes "--") words.now) }
+    {
+        if has_mark(words) {
             return Err(ArgumentFault::BadArguments);
         }
         match command(alloc)?.try_get_matches_from(words) {
@@ -65,6 +68,25 @@ impl Options {
             check: check == 1,
         })
     }
+}
+
+/// Whether `--` is one of the words.
+fn has_mark(words: &[&str]) -> bool
+    ensures { result ≡ false → All (λ word. word.now ≢ codes "--") words.now }
+{
+    for word in words {
+        if is_mark(word) {
+            return true;
+        }
+    }
+    false
+}
+
+/// Whether a word is `--`.
+fn is_mark(word: &str) -> bool
+    ensures { IsTrue result ↔ (word.now ≡ codes "--") }
+{
+    word == "--"
 }
 
 /// The program's command line: two flags that are counted, no help and no version.

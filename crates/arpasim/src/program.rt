@@ -1,6 +1,9 @@
 //! The whole program, from what it reads to what it writes.
 
-ghost use Rattle.std.specs.Prelude.{◌≤◌, length, IfOk};
+ghost use Rattle.std.specs.Prelude.{◌≡◌, ◌≢◌, ◌≤◌, true, false, Err, IsUtf8, codes, length, IfOk, IfErr, OnOk};
+ghost use Rattle.std.specs.Io.KnownBytes.{Appends};
+ghost use Rattle.arpasim.specs.Output.{Ran};
+ghost use Rattle.arpasim.specs.Topology.{Network, IsRunnable, HasHosts};
 ghost use Rattle.leader1822.specs.Calls.{InOrder};
 
 use crate::arguments::{ArgumentFault, Options};
@@ -22,14 +25,18 @@ pub(crate) fn from_command_line<R: Env + Input + Print + AllocGlobal>(
 ) -> Result<(), ScriptFault> {
     let options = options_of(rt)?;
     let mut reader = rt.reader();
-    let mut writer = io::writer(rt);
-    run_script(
+    let buffered = BufWriter::new(rt.alloc(), io::writer(rt));
+    let mut writer = buffered.map_err(|_| ScriptFault::Stopped)?;
+    let outcome = run_script(
         rt.alloc(),
         &mut reader,
         &mut writer,
         options.book,
         options.check,
-    )
+    );
+    let flushed = writer.flush();
+    outcome?;
+    flushed.map_err(|_| ScriptFault::Stopped)
 }
 
 /// The options on the command line.
@@ -65,21 +72,29 @@ pub fn run_script<R: Read, W: Write>(
     writer: &mut W,
     _book: bool,
     check: bool,
-) -> Result<(), ScriptFault> {
+) -> Result<(), ScriptFault>
+    ensures checked { check ≡ true → OnOk result (Appends (W.contents writer.old) (W.contents writer.new) (codes "ok\n")) }
+    ensures ran { check ≡ false → OnOk result (Ran (W.contents writer.old) (W.contents writer.new)) }
+    ensures arguments { IfErr result (λ f. f ≢ ScriptFault.BadArguments) }
+
+    // what is found in reading leaves nothing written
+    ensures untouched { IfErr result (λ f. f ≢ ScriptFault.Stopped → writer.new ≡ writer.old) }
+{
     let input = read_input(alloc, reader)?;
     let (topology, script) = split_input(&input).ok_or(ScriptFault::BadTopology)?;
     let hosts = read_hosts(alloc, topology)?;
     let events = read_script(alloc, script)?;
     if check {
-        let written = writer.write_all(b"ok\n");
-        return written.map_err(|_| ScriptFault::Stopped);
+        write_last(writer, b"ok\n")
+    } else {
+        run_plain(alloc, hosts, &events, writer)
     }
-    run_plain(alloc, hosts, &events, writer)
 }
 
 /// All that the reader gives, up to one octet more than an input may have.
 fn read_input<R: Read>(alloc: Global, reader: &mut R) -> Result<Vec<u8>, ScriptFault>
-    ensures { IfOk result (λ input. length input.items ≤ MAX_INPUT) }
+    ensures long { IfOk result (λ input. length input.items ≤ MAX_INPUT) }
+    ensures fault { IfErr result (λ f. f ≢ ScriptFault.BadArguments) }
 {
     let mut input = Vec::new(alloc);
     let mut limited = reader.take(MAX_INPUT as u64 + 1);
@@ -93,7 +108,10 @@ fn read_input<R: Read>(alloc: Global, reader: &mut R) -> Result<Vec<u8>, ScriptF
 
 /// The hosts of a topology that can be run: one of plain mailboxes without host programs.
 fn read_hosts(alloc: Global, text: &[u8]) -> Result<Vec<HostAddr>, ScriptFault>
-    ensures { IfOk result (λ hosts. InOrder hosts.items) }
+    ensures ordered { IfOk result (λ hosts. InOrder hosts.items) }
+    ensures found { IfOk result (λ hosts. HasHosts text.now hosts.items) }
+    ensures refused { result ≡ Err ScriptFault.BadTopology → IsUtf8 text.now → (n : Network) → ¬ IsRunnable text.now n }
+    ensures fault { IfErr result (λ f. f ≢ ScriptFault.BadArguments) }
 {
     let text = str::from_utf8(text).map_err(|_| ScriptFault::BadTopology)?;
     let topology = match Topology::read(alloc, text) {
@@ -101,10 +119,10 @@ fn read_hosts(alloc: Global, text: &[u8]) -> Result<Vec<HostAddr>, ScriptFault>
         Err(TopologyFault::BadTopology) => return Err(ScriptFault::BadTopology),
         Err(TopologyFault::OutOfMemory) => return Err(ScriptFault::Stopped),
     };
-    if topology.carrier() != CarrierKind::Plain || !topology.is_raw() {
-        return Err(ScriptFault::BadTopology);
+    match topology.carrier() {
+        CarrierKind::Plain if topology.is_raw() => Ok(topology.hosts(alloc)?),
+        _ => Err(ScriptFault::BadTopology),
     }
-    Ok(topology.hosts(alloc)?)
 }
 
 /// Runs events over plain mailboxes between these hosts, and writes what is to be seen of it.
@@ -115,20 +133,26 @@ fn run_plain<W: Write>(
     writer: &mut W,
 ) -> Result<(), ScriptFault>
     requires { InOrder hosts.items }
+    ensures ran { OnOk result (Ran (W.contents writer.old) (W.contents writer.new)) }
+    ensures fault { IfErr result (λ f. f ≡ ScriptFault.Stopped) }
 {
     let mut carrier = PlainBoxes::new(alloc, hosts);
-    let mut buffered = BufWriter::new(alloc, writer).map_err(|_| ScriptFault::Stopped)?;
-    let outcome = run_events(&mut carrier, events, &mut buffered);
-    if outcome.is_ok() {
-        let end = buffered.write_all(b"end\n");
-        end.map_err(|_| ScriptFault::Stopped)?;
+    match run_events(&mut carrier, events, writer) {
+        Ok(()) => write_last(writer, b"end\n"),
+        Err(RunFault::OutOfMemory | RunFault::CannotWrite) => Err(ScriptFault::Stopped),
     }
-    let flushed = buffered.flush();
-    outcome.map_err(stopped)?;
-    flushed.map_err(|_| ScriptFault::Stopped)
 }
 
-/// A run that ended before its end stops the program.
-fn stopped(_fault: RunFault) -> ScriptFault {
-    ScriptFault::Stopped
+/// Writes the last line, and all that waits in the writer.
+fn write_last<W: Write>(writer: &mut W, line: &[u8]) -> Result<(), ScriptFault>
+    ensures written { OnOk result (Appends (W.contents writer.old) (W.contents writer.new) line.now) }
+    ensures fault { IfErr result (λ f. f ≡ ScriptFault.Stopped) }
+{
+    match writer.write_all(line) {
+        Ok(()) => match writer.flush() {
+            Ok(()) => Ok(()),
+            Err(_) => Err(ScriptFault::Stopped),
+        },
+        Err(_) => Err(ScriptFault::Stopped),
+    }
 }
