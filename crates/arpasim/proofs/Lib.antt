@@ -9,4 +9,5 @@ mod Parts
 mod Runs
 mod Shown
 mod Texts
+mod Whole
 mod Words

@@ -1,6 +1,6 @@
 -- Going through the lines of an input up to its mark.
-use Rattle.std.proofs.Common.{◌≡◌, ◌≢◌, ℕ, ◌<◌, ◌≤◌, ◌+◌, List, [], ◌∷◌, ◌++◌, length, take, codes, Option, Some, None, Bor, refl, sym, ap, ◌∙◌, subst, arith, inl, inr, MatchOption, ◌⊎◌, suc}
-use Rattle.std.proofs.lemmas.List.{append_assoc, append-nil, take_at, length-append}
+use Rattle.std.proofs.Common.{◌≡◌, ◌≢◌, ℕ, ◌<◌, ◌≤◌, ◌+◌, List, [], ◌∷◌, ◌++◌, length, take, codes, Option, Some, None, Bor, refl, sym, ap, ◌∙◌, subst, arith, inl, inr, MatchOption, ◌⊎◌, suc, IfSome, option_map, min}
+use Rattle.std.proofs.lemmas.List.{append_assoc, append-nil, take_at, length-append, length-take, take_all}
 use Rattle.std.proofs.lemmas.List.Elements.{All-append, All-cons, All-nil}
 use Rattle.std.proofs.lemmas.Grind.{flat_map-append}
 use Rattle.std.specs.List.{All, flat_map}
@@ -80,3 +80,11 @@ short_script input passed left line script more p whole behind =
     let all : length input ≡ length (flat_map ended p.before) + length left.now = ap length p.whole.0 ∙ length-append (flat_map ended p.before) left.now in
     let few : length script ≤ length left.now = script_fits left.now line script more whole behind in
     omega arith
+
+-- what was read up to a limit, and is shorter, is all that there was
+pub whole_taken : (known : Option (List ℕ)) (old new : List ℕ) (limit bound : ℕ) → limit ≡ bound → old ≡ [] → IfSome (option_map (take limit) known) (λ xs. new ≡ old ++ xs) → length new < bound → IfSome known (λ xs. new ≡ xs)
+whole_taken None old new limit bound same empty read short = tt
+whole_taken (Some xs) old new limit bound same empty read short =
+    let taken : new ≡ take limit xs = read ∙ ap (λ front. front ++ take limit xs) empty in
+    let counted : length new ≡ min limit (length xs) = ap length taken ∙ length-take limit xs in
+    taken ∙ take_all limit xs (omega arith)

@@ -7,3 +7,4 @@ pub mod Run
 pub mod Script
 pub mod Spelling
 pub mod Topology
+pub mod Whole

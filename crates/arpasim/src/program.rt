@@ -1,8 +1,9 @@
 //! The whole program, from what it reads to what it writes.
 
-ghost use Rattle.std.specs.Prelude.{◌≡◌, ◌≢◌, ◌≤◌, true, false, Err, IsUtf8, codes, length, IfOk, IfErr, OnOk};
+ghost use Rattle.std.specs.Prelude.{◌≡◌, ◌≢◌, ◌≤◌, true, false, Err, IsUtf8, codes, ◌<◌, length, IfSome, MatchResult, IfOk, IfErr, OnOk};
 ghost use Rattle.std.specs.Io.KnownBytes.{Appends};
 ghost use Rattle.arpasim.specs.Output.{Ran};
+ghost use Rattle.arpasim.specs.Whole.{IsProgram, IsSomeProgram, IsInputFault, IsHostsFault, IsReadFault};
 ghost use Rattle.arpasim.specs.Topology.{Network, IsRunnable, HasHosts};
 ghost use Rattle.leader1822.specs.Calls.{InOrder};
 
@@ -77,13 +78,14 @@ pub fn run_script<R: Read, W: Write>(
     ensures ran { check ≡ false → OnOk result (Ran (W.contents writer.old) (W.contents writer.new)) }
     ensures arguments { IfErr result (λ f. f ≢ ScriptFault.BadArguments) }
 
+    // what is read is a program, or the first fault is given
+    ensures read { IfSome (R.remaining reader.old) (λ input. MatchResult result (λ _. IsSomeProgram input) (IsInputFault input)) }
+
     // what is found in reading leaves nothing written
     ensures untouched { IfErr result (λ f. f ≢ ScriptFault.Stopped → writer.new ≡ writer.old) }
 {
     let input = read_input(alloc, reader)?;
-    let (topology, script) = split_input(&input).ok_or(ScriptFault::BadTopology)?;
-    let hosts = read_hosts(alloc, topology)?;
-    let events = read_script(alloc, script)?;
+    let (hosts, events) = read_program(alloc, &input)?;
     if check {
         write_last(writer, b"ok\n")
     } else {
@@ -91,10 +93,30 @@ pub fn run_script<R: Read, W: Write>(
     }
 }
 
+/// The hosts and the events of an input.
+fn read_program(alloc: Global, input: &[u8]) -> Result<(Vec<HostAddr>, Vec<Event>), ScriptFault>
+    requires { length input.now ≤ MAX_INPUT }
+    ensures ordered { IfOk result (λ read. InOrder read.0.items) }
+    ensures program { IfOk result (λ read. IsProgram input.now read.0.items read.1.items) }
+    ensures fault { IfErr result (IsInputFault input.now) }
+{
+    let Some((topology, script)) = split_input(input) else {
+        return Err(ScriptFault::BadTopology);
+    };
+    let hosts = match read_hosts(alloc, topology) {
+        Ok(hosts) => hosts,
+        Err(fault) => return Err(fault),
+    };
+    let events = read_script(alloc, script)?;
+    Ok((hosts, events))
+}
+
 /// All that the reader gives, up to one octet more than an input may have.
 fn read_input<R: Read>(alloc: Global, reader: &mut R) -> Result<Vec<u8>, ScriptFault>
     ensures long { IfOk result (λ input. length input.items ≤ MAX_INPUT) }
-    ensures fault { IfErr result (λ f. f ≢ ScriptFault.BadArguments) }
+    ensures whole { IfOk result (λ input. IfSome (R.remaining reader.old) (λ octets. input.items ≡ octets)) }
+    ensures too_long { result ≡ Err ScriptFault.BadTopology → IfSome (R.remaining reader.old) (λ octets. MAX_INPUT < length octets) }
+    ensures fault { IfErr result IsReadFault }
 {
     let mut input = Vec::new(alloc);
     let mut limited = reader.take(MAX_INPUT as u64 + 1);
@@ -111,7 +133,7 @@ fn read_hosts(alloc: Global, text: &[u8]) -> Result<Vec<HostAddr>, ScriptFault>
     ensures ordered { IfOk result (λ hosts. InOrder hosts.items) }
     ensures found { IfOk result (λ hosts. HasHosts text.now hosts.items) }
     ensures refused { result ≡ Err ScriptFault.BadTopology → IsUtf8 text.now → (n : Network) → ¬ IsRunnable text.now n }
-    ensures fault { IfErr result (λ f. f ≢ ScriptFault.BadArguments) }
+    ensures fault { IfErr result IsHostsFault }
 {
     let text = str::from_utf8(text).map_err(|_| ScriptFault::BadTopology)?;
     let topology = match Topology::read(alloc, text) {
