@@ -1,7 +1,9 @@
 mod Documents
 mod Events
+mod Flags
 mod Hosts
 mod Lines
+mod Marks
 mod Messages
 mod Numbers
 mod Order

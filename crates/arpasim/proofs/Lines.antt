@@ -1,11 +1,11 @@
 -- Going through the lines of a text.
-use Rattle.std.proofs.Common.{◌≡◌, ◌≢◌, ℕ, ◌<◌, ◌≤◌, ◌+◌, ◌-◌, ◌==◌, Bool, true, false, not, cond, zero, suc, List, [], ◌∷◌, ◌++◌, length, take, drop, map, filter, Option, Some, None, Bor, refl, sym, ap, ◌∙◌, arith, subst, rules, slice_get, count_by, get_or}
+use Rattle.std.proofs.Common.{◌≡◌, ◌≢◌, ℕ, ◌<◌, ◌≤◌, ◌+◌, ◌-◌, ◌==◌, true, false, not, cond, zero, suc, List, [], ◌∷◌, ◌++◌, length, take, drop, map, filter, Some, refl, sym, ap, ◌∙◌, arith, subst, slice_get, count_by, get_or}
 use Rattle.std.proofs.lemmas.List.{take_all, drop-drop, length-drop, drop_more, take_more, map-append, append-nil}
 use Rattle.std.proofs.lemmas.List.Sums.{count_by-le-length}
 use Rattle.std.proofs.lemmas.List.Splits.{length-slice_split, slice_split_at, slice_split_none}
 use Rattle.std.proofs.lemmas.List.Elements.{All-append, All-cons, All-nil, filter-append}
-use Rattle.std.specs.List.{All, slice_split}
-use Rattle.arpasim.specs.Script.{lines_of, lines_after, is_passed_over, asks, AskFor, IsFirstBad}
+use Rattle.std.specs.List.{All}
+use Rattle.arpasim.specs.Script.{lines_of, is_passed_over, asks, AskFor, IsFirstBad}
 use Rattle.arpasim.specs.Spelling.{spelling, IsEvent}
 use Rattle.arpasim.specs.declared.event.Event.{Event}
 

@@ -1,13 +1,12 @@
 -- Messages as words.
-use Rattle.std.proofs.Common.{◌≡◌, ◌≢◌, ℕ, ◌<◌, ◌≤◌, ◌^◌, Bool, List, [], ◌∷◌, ◌++◌, length, Option, Some, None, refl, sym, ap, ◌∙◌, arith, subst, rules, lit<}
+use Rattle.std.proofs.Common.{◌≡◌, ◌≢◌, ℕ, ◌<◌, ◌≤◌, List, ◌∷◌, ◌++◌, length, None, sym, ◌∙◌, arith, lit<}
 use Rattle.std.proofs.lemmas.Fmt.{decimal_injective}
 use Rattle.std.specs.Fmt.{decimal}
-use Rattle.leader1822.specs.Printed.{host_text, flow_text}
-use Rattle.leader1822.specs.declared.address.Flow.{Flow}
+use Rattle.leader1822.specs.Printed.{host_text}
 use Rattle.leader1822.specs.declared.message.HostMessage.{HostMessage}
-use Rattle.arpasim.specs.Spelling.{ReadsAs, ReadsFlow, IsHost, IsFlow, IsMessage, message_text, octets_text, Unmarked}
+use Rattle.arpasim.specs.Spelling.{ReadsAs, ReadsFlow, IsMessage, message_text, octets_text, Unmarked}
 use Rattle.arpasim.proofs.Numbers.{All-unmarked_decimal}
-use Rattle.arpasim.proofs.Words.{SameCut, SameThree, same_three}
+use Rattle.arpasim.proofs.Words.{SameThree, same_three}
 use Rattle.arpasim.proofs.Hosts.{host_unmarked, same_words}
 
 -- a message's five words

@@ -1,21 +1,21 @@
 -- What a run shows, call by call.
-use Rattle.std.proofs.Common.{◌≡◌, ℕ, ◌<◌, ◌≤◌, ◌+◌, Bool, true, false, List, [], ◌∷◌, ◌++◌, length, get_or, take, drop, reverse, Option, Some, None, Result, Ok, Err, if◌then◌else◌, refl, sym, ap, ◌∙◌, subst, arith, OnOk, IsOk, codes}
+use Rattle.std.proofs.Common.{◌≡◌, ℕ, ◌<◌, ◌+◌, Bool, true, false, List, [], ◌∷◌, ◌++◌, length, get_or, take, drop, reverse, Option, Some, None, Result, Ok, Err, if◌then◌else◌, refl, sym, ap, ◌∙◌, subst, OnOk, IsOk}
 use Rattle.std.proofs.lemmas.List.{append_assoc, append-nil, take_more, drop_at, reverse-append, reverse-reverse}
 use Rattle.std.proofs.lemmas.Bool.{false≢true}
 use Rattle.std.proofs.lemmas.Grind.{flat_map-append}
-use Rattle.std.specs.List.{flat_map}
 use Rattle.std.specs.Io.KnownBytes.{Appends}
 use Rattle.leader1822.specs.Host.{Host}
-use Rattle.leader1822.specs.Messages.{SafeMessages}
 use Rattle.leader1822.specs.Printed.{crossing_text}
-use Rattle.leader1822.specs.Calls.{Seen, grown, halted, is_memory, crossing_of, ShowsRefusal, ShowsCrossings, ShowsOffer, ShowsTake}
+use Rattle.leader1822.specs.Calls.{Seen, halted, is_memory, crossing_of, ShowsRefusal, ShowsCrossings, ShowsOffer, ShowsTake}
 use Rattle.leader1822.specs.declared.carrier.CarrierFault.{CarrierFault}
 use Rattle.leader1822.specs.declared.crossing.Crossing.{Crossing}
 use Rattle.leader1822.specs.declared.crossing.Crossing.TheVariants as crossing
 use Rattle.leader1822.specs.declared.crossing.Inbound.{Inbound}
 use Rattle.leader1822.specs.declared.message.HostMessage.{HostMessage}
 use Rattle.arpasim.specs.Input.{ended}
-use Rattle.arpasim.specs.Output.{Grew, Ran, Shown, Shows, Crossed, Refused, shown_text, output, crossings_of, shown_crossings, shown_refusal}
+use Rattle.arpasim.specs.Output.{Grew, Shown, Writes, Crossed, Refused, shown_text, output, crossings_of, shown_crossings, shown_refusal}
+use Rattle.arpasim.specs.Run.{Calls, EventGives, GoesOn, Happens}
+use Rattle.arpasim.specs.declared.event.Event.{Event}
 
 same_log : (b : Bool) (s : Seen) → (if b then halted s else s).log ≡ s.log
 same_log true s = refl
@@ -47,7 +47,7 @@ pub appends_none : (a : Option (List ℕ)) → Appends a a []
 appends_none None = tt
 appends_none (Some a) = sym (append-nil a)
 
-output-append : (xs ys : List Shown) → output (xs ++ ys) ≡ output xs ++ output ys
+pub output-append : (xs ys : List Shown) → output (xs ++ ys) ≡ output xs ++ output ys
 output-append xs ys = flat_map-append (λ s. ended (shown_text s)) xs ys
 
 shown_crossings-append : (xs ys : List Crossing) → shown_crossings (xs ++ ys) ≡ shown_crossings xs ++ shown_crossings ys
@@ -62,7 +62,7 @@ crossing_written a b c crossings i d h before now =
     ∙ ap (λ xs. output (shown_crossings (take i crossings)) ++ xs) (append-nil (ended (crossing_text (get_or crossings i d)))) in
     subst (Appends a c) (sym all) (appends_more a b c (output (shown_crossings (take i crossings))) (ended (crossing_text (get_or crossings i d))) before now)
 
-crossings_of-append : (xs ys : List Shown) → crossings_of (xs ++ ys) ≡ crossings_of xs ++ crossings_of ys
+pub crossings_of-append : (xs ys : List Shown) → crossings_of (xs ++ ys) ≡ crossings_of xs ++ crossings_of ys
 crossings_of-append [] ys = refl
 crossings_of-append (Crossed c ∷ xs) ys = ap (λ cs. c ∷ cs) (crossings_of-append xs ys)
 crossings_of-append (Refused f ∷ xs) ys = crossings_of-append xs ys
@@ -76,42 +76,45 @@ no_crossing (Ok done) = refl
 no_crossing (Err f) = refl
 
 -- one event: its crossings, and then its refusal
-pub shows_event : (old new : List Crossing) (a b c : Option (List ℕ)) (r : Result (Unit {0}) CarrierFault) (before after : List Crossing) → Grew old new → before ≡ reverse old → after ≡ reverse new → Appends a b (output (shown_crossings (drop (length before) after))) → Appends b c (output (shown_refusal r)) → Shows old new a c
-shows_event old new a b c r before after grew was is crossed refused =
-    let back : after ≡ before ++ reverse grew.crossings = is ∙ ap reverse grew.grown ∙ reverse-append grew.crossings old ∙ ap (λ xs. xs ++ reverse grew.crossings) (sym was) in
+pub event_writes : {C : Type 0} (calls : Calls C) (old new : C) (e : Event) (r : Result (Unit {0}) CarrierFault) (a b c : Option (List ℕ)) (before after : List Crossing)
+    → EventGives calls old e r new → GoesOn r → Grew (calls.seen old).log (calls.seen new).log → before ≡ reverse (calls.seen old).log → after ≡ reverse (calls.seen new).log
+    → Appends a b (output (shown_crossings (drop (length before) after))) → Appends b c (output (shown_refusal r)) → Writes (Happens calls old e new) a c
+event_writes calls old new e r a b c before after gives goes_on grew was is crossed refused =
+    let back : after ≡ before ++ reverse grew.crossings =
+    is ∙ ap reverse grew.grown ∙ reverse-append grew.crossings (calls.seen old).log ∙ ap (λ xs. xs ++ reverse grew.crossings) (sym was) in
     let fresh : drop (length before) after ≡ reverse grew.crossings = ap (drop (length before)) back ∙ drop_at before (reverse grew.crossings) (length before) refl in
-    let all : crossings_of (shown_crossings (drop (length before) after) ++ shown_refusal r) ≡ reverse grew.crossings =
-    crossings_of-append (shown_crossings (drop (length before) after)) (shown_refusal r) ∙ ap (λ cs. crossings_of (shown_crossings (drop (length before) after)) ++ cs) (no_crossing r) ∙ append-nil (crossings_of (shown_crossings (drop (length before) after))) ∙ crossings_again (drop (length before) after) ∙ fresh in
+    let shown : List Shown = shown_crossings (drop (length before) after) ++ shown_refusal r in
     record {
-      shown = shown_crossings (drop (length before) after) ++ shown_refusal r;
-      grown = grew.grown ∙ ap (λ cs. cs ++ old) (sym (reverse-reverse grew.crossings) ∙ ap reverse (sym all));
-      written = subst (Appends a c) (sym (output-append (shown_crossings (drop (length before) after)) (shown_refusal r))) (appends_more a b c (output (shown_crossings (drop (length before) after))) (output (shown_refusal r)) crossed refused);
+      shown = shown;
+      is_shown = record {
+        outcome = r;
+        gives = gives;
+        goes_on = goes_on;
+        crossings = drop (length before) after;
+        grown = grew.grown ∙ ap (λ cs. cs ++ (calls.seen old).log) (sym (reverse-reverse grew.crossings) ∙ ap reverse (sym fresh));
+        lines = refl;
+      };
+      written = subst (Appends a c) (sym (output-append (shown_crossings (drop (length before) after)) (shown_refusal r)))
+          (appends_more a b c (output (shown_crossings (drop (length before) after))) (output (shown_refusal r)) crossed refused);
     }
+
+-- what an event shows is what its log gained
+pub happens_shows : {C : Type 0} (calls : Calls C) (old new : C) (e : Event) (shown : List Shown) → Happens calls old e new shown
+    → (calls.seen new).log ≡ reverse (crossings_of shown) ++ (calls.seen old).log
+happens_shows calls old new e shown h =
+    let all : crossings_of shown ≡ h.crossings =
+    ap crossings_of h.lines ∙ crossings_of-append (shown_crossings h.crossings) (shown_refusal h.outcome) ∙ ap (λ cs. crossings_of (shown_crossings h.crossings) ++ cs) (no_crossing h.outcome)
+    ∙ append-nil (crossings_of (shown_crossings h.crossings)) ∙ crossings_again h.crossings in
+    h.grown ∙ ap (λ cs. reverse cs ++ (calls.seen old).log) (sym all)
 
 pub on_ok : {T E P Q : Type 0} (r : Result T E) → (P → Q) → OnOk r P → OnOk r Q
 on_ok (Ok x) f p = f p
 on_ok (Err e) f p = tt
 
--- nothing yet, and one part after another
-pub shows_none : (log : List Crossing) (a : Option (List ℕ)) → Shows log log a a
-shows_none log a = record { shown = []; grown = refl; written = appends_none a }
-
-pub shows_more : (x y z : List Crossing) (a b c : Option (List ℕ)) → Shows x y a b → Shows y z b c → Shows x z a c
-shows_more x y z a b c h k = record {
-  shown = h.shown ++ k.shown;
-  grown = k.grown ∙ ap (λ log. reverse (crossings_of k.shown) ++ log) h.grown ∙ sym (append_assoc (reverse (crossings_of k.shown)) (reverse (crossings_of h.shown)) x)
-      ∙ ap (λ cs. cs ++ x) (sym (reverse-append (crossings_of h.shown) (crossings_of k.shown))) ∙ ap (λ cs. reverse cs ++ x) (sym (crossings_of-append h.shown k.shown));
-  written = subst (Appends a c) (sym (output-append h.shown k.shown)) (appends_more a b c (output h.shown) (output k.shown) h.written k.written);
-}
+pub on_both : {T E P Q R : Type 0} (r : Result T E) → (P → Q → R) → OnOk r P → OnOk r Q → OnOk r R
+on_both (Ok x) f p q = f p q
+on_both (Err e) f p q = tt
 
 pub was_ok : {T E P : Type 0} (r : Result T E) → IsOk r → OnOk r P → P
 was_ok (Ok x) o h = h
 was_ok (Err e) o h = absurd (false≢true o)
-
--- a whole run over a log that was empty
-pub ran : (log : List Crossing) (a b c : Option (List ℕ)) → Shows [] log a b → SafeMessages log → Appends b c (codes "end\n") → Ran a c
-ran log a b c h safe last = record {
-  shown = h.shown;
-  written = appends_more a b c (output h.shown) (codes "end\n") h.written last;
-  messages = subst SafeMessages (h.grown ∙ append-nil (reverse (crossings_of h.shown))) safe;
-}

@@ -2,7 +2,7 @@
 use Rattle.std.proofs.Common.{◌≡◌, List, ℕ, IsUtf8, inr, refl}
 use Rattle.arpasim.specs.Input.{IsParted}
 use Rattle.arpasim.specs.Topology.{Network, IsRunnable}
-use Rattle.arpasim.specs.Whole.{IsInputFault, IsHostsFault, HasBadTopology}
+use Rattle.arpasim.specs.Whole.{IsInputFault, IsHostsFault}
 use Rattle.arpasim.specs.declared.fault.ScriptFault.{ScriptFault}
 use Rattle.arpasim.specs.declared.fault.ScriptFault.TheVariants as fault
 

@@ -1,5 +1,5 @@
 -- What a run prints.
-use Rattle.std.specs.Prelude.{◌≡◌, ℕ, Bool, List, [], ◌∷◌, ◌++◌, Option, Some, None, Result, Ok, Err, reverse, codes}
+use Rattle.std.specs.Prelude.{◌≡◌, ℕ, List, [], ◌∷◌, ◌++◌, Option, Result, Ok, Err, reverse, codes}
 use Rattle.std.specs.List.{flat_map}
 use Rattle.std.specs.Io.KnownBytes.{Appends}
 use Rattle.leader1822.specs.Messages.{SafeMessages}
@@ -40,11 +40,10 @@ crossings_of [] = []
 crossings_of (Crossed c ∷ shown) = c ∷ crossings_of shown
 crossings_of (Refused f ∷ shown) = crossings_of shown
 
--- between two logs (newest first) and two states of a writer: the log grew by crossings, and the writer by a line for each of
--- them, in order, and lines for refusals between them
-pub record Shows (old_log new_log : List Crossing) (before after : Option (List ℕ)) : Type 0 where
+-- what is shown was written, whatever is to be said of it
+pub record Writes (IsShown : List Shown → Type 0) (before after : Option (List ℕ)) : Type 0 where
   pub shown : List Shown
-  pub grown : new_log ≡ reverse (crossings_of shown) ++ old_log
+  pub is_shown : IsShown shown
   pub written : Appends before after (output shown)
 
 -- a log that only grew

@@ -1,5 +1,5 @@
 -- How the reading of a topology answers.
-use Rattle.std.specs.Prelude.{◌≡◌, Bool, List, Option, Some, None, Result, Ok, Err, Vec, if◌then◌else◌, ℕ}
+use Rattle.std.specs.Prelude.{◌≡◌, List, Option, Some, None, Result, Ok, Err, Vec}
 use Rattle.std.specs.declared.alloc.Global.{Global}
 use Rattle.arpasim.specs.declared.topology.TopologyFault.{TopologyFault}
 use Rattle.arpasim.specs.declared.topology.TopologyFault.TheVariants as fault

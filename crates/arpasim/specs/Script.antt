@@ -1,5 +1,5 @@
 -- Scripts: one event a line.
-use Rattle.std.specs.Prelude.{◌≡◌, ◌≢◌, ℕ, ◌≤◌, ◌-◌, ◌==◌, Bool, true, false, not, List, [], ◌∷◌, Option, Some, None, map, take, slice_get, filter}
+use Rattle.std.specs.Prelude.{◌≡◌, ◌≢◌, ℕ, ◌≤◌, ◌-◌, ◌==◌, Bool, true, not, List, [], ◌∷◌, Option, Some, None, map, take, slice_get, filter}
 use Rattle.std.specs.Borrow.{Bor}
 use Rattle.std.specs.List.{All, slice_split}
 use Rattle.arpasim.specs.Spelling.{spelling, IsEvent}

@@ -1,7 +1,7 @@
 -- Topologies: a network's IMPs, hosts and lines, and the documents that describe them.
-use Rattle.std.specs.Prelude.{◌≡◌, ℕ, zero, suc, ◌+◌, ◌*◌, ◌/◌, ◌%◌, ◌<◌, ◌≤◌, ◌==◌, ◌&&◌, ◌||◌, nat_le, nat_lt, not, Bool, true, false, List, [], ◌∷◌, ◌++◌, length, codes, Option, Some, None, option_map, option_and_then, is_some, if◌then◌else◌, ℤ, pos, negsuc, count_by, nat_eq}
+use Rattle.std.specs.Prelude.{◌≡◌, ℕ, zero, suc, ◌+◌, ◌/◌, ◌%◌, ◌<◌, ◌==◌, ◌&&◌, ◌||◌, nat_le, nat_lt, not, Bool, true, false, List, [], ◌∷◌, ◌++◌, length, codes, Option, Some, None, option_and_then, is_some, if◌then◌else◌, ℤ, pos, negsuc, count_by, nat_eq}
 use Rattle.std.specs.Cmp.Lexicographic.{pointwise}
-use Rattle.std.specs.List.{All, list_any, list_all, find, cons_option}
+use Rattle.std.specs.List.{list_any, list_all, find, cons_option}
 use Rattle.toml.specs.Data.{Data, Items, no_items, item, Members, no_members, member, table, get, as_integer, as_str, as_bool, as_array, as_table}
 use Rattle.toml.specs.Parse.{parse_document}
 use Rattle.leader1822.specs.Host.{Host}

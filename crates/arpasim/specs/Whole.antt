@@ -1,8 +1,13 @@
--- What the program reads.
-use Rattle.std.specs.Prelude.{◌≡◌, ◌≢◌, ℕ, ◌<◌, List, length, codes, ◌⊎◌, IsUtf8}
+-- What the program reads, and what it makes of it.
+use Rattle.std.specs.Prelude.{◌≡◌, ◌≢◌, ℕ, ◌<◌, false, List, [], ◌++◌, length, reverse, Option, codes, ◌⊎◌, IsUtf8}
 use Rattle.std.specs.List.{All}
+use Rattle.std.specs.Io.KnownBytes.{Appends}
+use Rattle.leader1822.specs.Boxes.{Boxes, BoxesOffer, BoxesStep, BoxesTake, seen_of}
 use Rattle.leader1822.specs.Host.{Host}
+use Rattle.leader1822.specs.Messages.{SafeMessages}
 use Rattle.arpasim.specs.Input.{IsParted}
+use Rattle.arpasim.specs.Output.{Shown, crossings_of, output}
+use Rattle.arpasim.specs.Run.{Calls, Runs}
 use Rattle.arpasim.specs.Script.{lines_of, AskFor, IsFirstBad}
 use Rattle.arpasim.specs.Topology.{Network, IsRunnable, HasHosts}
 use Rattle.arpasim.specs.declared.event.Event.{Event}
@@ -59,3 +64,30 @@ IsReadFault fault.CannotRead = Unit {0}
 IsReadFault fault.Stopped = Unit {0}
 IsReadFault fault.BadArguments = ⊥
 IsReadFault (fault.BadLine number) = ⊥
+
+-- ---- running
+
+-- plain mailboxes between hosts that are all up, with nothing on its way
+abbrev pub opening_boxes : List Host → Boxes
+opening_boxes hosts = record { hosts = hosts; down = []; queue = []; answers = []; log = []; stopped = false }
+
+-- how their calls go
+abbrev pub plain_calls : Calls Boxes
+plain_calls = record { seen = seen_of; offers = BoxesOffer; takes = BoxesTake; steps = BoxesStep }
+
+-- events are run over plain mailboxes between hosts: what they show is written, and a last line `end`; what crossed is all that
+-- crossed, and a log that every host may rely on
+pub record RunsPlain (hosts : List Host) (events : List Event) (before after : Option (List ℕ)) : Type 0 where
+  pub shown : List Shown
+  pub last : Boxes
+  pub run : Runs plain_calls (opening_boxes hosts) events last shown
+  pub written : Appends before after (output shown ++ codes "end\n")
+  pub crossed : last.log ≡ reverse (crossings_of shown)
+  pub messages : SafeMessages last.log
+
+-- the script of an input is run between the hosts of its topology
+pub record RunsInput (input : List ℕ) (before after : Option (List ℕ)) : Type 0 where
+  pub hosts : List Host
+  pub events : List Event
+  pub program : IsProgram input hosts events
+  pub run : RunsPlain hosts events before after

@@ -1,10 +1,13 @@
 //! The program's arguments.
 
-ghost use Rattle.std.specs.Prelude.{◌≡◌, ◌≢◌, codes, false, IsTrue, ◌↔◌, OnOk};
-ghost use Rattle.std.specs.List.{All};
+ghost use Rattle.std.specs.Prelude.{◌≡◌, codes, map, IfOk};
+ghost use Rattle.std.specs.List.{list_any};
+ghost use Rattle.std.specs.Str.{bytes_eq};
+ghost use Rattle.clap.specs.Words.{app_of};
+ghost use Rattle.arpasim.specs.Arguments.{Asked, options_of, command_line};
 
 use clap::error::ErrorKind;
-use clap::{Arg, ArgAction, ArgMatches, Command};
+use clap::{Arg, ArgAction, Command};
 use std::alloc::{AllocError, Global};
 use thiserror::Error;
 
@@ -44,59 +47,39 @@ impl Options {
     ///
     /// Errors: `BadArguments` for anything else, `OutOfMemory`.
     pub fn read(alloc: Global, words: &[&str]) -> Result<Options, ArgumentFault>
-        ensures { OnOk result (All (λ word. word.now ≢ codes "--") words.now) }
+        ensures { Asked (options_of (map (λ word. word.now) words.now)) result }
     {
         if has_mark(words) {
             return Err(ArgumentFault::BadArguments);
         }
         match command(alloc)?.try_get_matches_from(words) {
-            Ok(matches) => Options::from_matches(&matches),
+            Ok(matches) => Ok(Options {
+                book: matches.get_flag("book"),
+                check: matches.get_flag("check"),
+            }),
             Err(error) if error.kind() == ErrorKind::OutOfMemory => Err(ArgumentFault::OutOfMemory),
             Err(_) => Err(ArgumentFault::BadArguments),
         }
-    }
-
-    /// The options of what was found on the command line.
-    fn from_matches(matches: &ArgMatches<'_>) -> Result<Options, ArgumentFault> {
-        let book = matches.get_count("book");
-        let check = matches.get_count("check");
-        if book > 1 || check > 1 {
-            return Err(ArgumentFault::BadArguments);
-        }
-        Ok(Options {
-            book: book == 1,
-            check: check == 1,
-        })
     }
 }
 
 /// Whether `--` is one of the words.
 fn has_mark(words: &[&str]) -> bool
-    ensures { result ≡ false → All (λ word. word.now ≢ codes "--") words.now }
+    ensures { result ≡ list_any (λ word. bytes_eq word.now (codes "--")) words.now }
 {
-    for word in words {
-        if is_mark(word) {
-            return true;
-        }
-    }
-    false
+    words.iter().any(|word| *word == "--")
 }
 
-/// Whether a word is `--`.
-fn is_mark(word: &str) -> bool
-    ensures { IsTrue result ↔ (word.now ≡ codes "--") }
+/// The program's command line: two flags, no help and no version.
+fn command<'a>(alloc: Global) -> Result<Command<'a>, AllocError>
+    ensures { IfOk result (λ command. app_of command ≡ command_line) }
 {
-    word == "--"
-}
-
-/// The program's command line: two flags that are counted, no help and no version.
-fn command<'a>(alloc: Global) -> Result<Command<'a>, AllocError> {
     let book = Arg::new(alloc, "book")
         .long("book")
-        .action(ArgAction::Count);
+        .action(ArgAction::SetTrue);
     let check = Arg::new(alloc, "check")
         .long("check")
-        .action(ArgAction::Count);
+        .action(ArgAction::SetTrue);
     Command::new(alloc, "arpasim")
         .no_binary_name(true)
         .disable_help_flag(true)

@@ -3,7 +3,7 @@
 ghost use Rattle.std.specs.Prelude.{◌≡◌, ◌≢◌, ◌≤◌, true, false, Err, IsUtf8, codes, ◌<◌, length, IfSome, MatchResult, IfOk, IfErr, OnOk};
 ghost use Rattle.std.specs.Io.KnownBytes.{Appends};
 ghost use Rattle.arpasim.specs.Output.{Ran};
-ghost use Rattle.arpasim.specs.Whole.{IsProgram, IsSomeProgram, IsInputFault, IsHostsFault, IsReadFault};
+ghost use Rattle.arpasim.specs.Whole.{IsProgram, IsSomeProgram, IsInputFault, IsHostsFault, IsReadFault, RunsInput, RunsPlain};
 ghost use Rattle.arpasim.specs.Topology.{Network, IsRunnable, HasHosts};
 ghost use Rattle.leader1822.specs.Calls.{InOrder};
 
@@ -76,6 +76,9 @@ pub fn run_script<R: Read, W: Write>(
 ) -> Result<(), ScriptFault>
     ensures checked { check ≡ true → OnOk result (Appends (W.contents writer.old) (W.contents writer.new) (codes "ok\n")) }
     ensures ran { check ≡ false → OnOk result (Ran (W.contents writer.old) (W.contents writer.new)) }
+
+    // the script that was read is run between the hosts of the topology that was read
+    ensures run { check ≡ false → OnOk result (IfSome (R.remaining reader.old) (λ input. RunsInput input (W.contents writer.old) (W.contents writer.new))) }
     ensures arguments { IfErr result (λ f. f ≢ ScriptFault.BadArguments) }
 
     // what is read is a program, or the first fault is given
@@ -156,6 +159,7 @@ fn run_plain<W: Write>(
 ) -> Result<(), ScriptFault>
     requires { InOrder hosts.items }
     ensures ran { OnOk result (Ran (W.contents writer.old) (W.contents writer.new)) }
+    ensures run { OnOk result (RunsPlain hosts.items events.now (W.contents writer.old) (W.contents writer.new)) }
     ensures fault { IfErr result (λ f. f ≡ ScriptFault.Stopped) }
 {
     let mut carrier = PlainBoxes::new(alloc, hosts);

@@ -1,10 +1,10 @@
 //! Running a script's events over a carrier.
 
-ghost use Rattle.std.specs.Prelude.{◌≡◌, OnOk, IfOk, IfSome, drop, length, ◌≤◌, IsOk};
+ghost use Rattle.std.specs.Prelude.{◌≡◌, Err, OnOk, IfOk, IfSome, drop, length, ◌≤◌, IsOk};
 ghost use Rattle.std.specs.Io.KnownBytes.{Appends};
 ghost use Rattle.leader1822.specs.Messages.{SafeMessages};
-ghost use Rattle.arpasim.specs.Run.{RunGives, EventGives, Happens};
-ghost use Rattle.arpasim.specs.Output.{Shows, Grew, output, shown_refusal, shown_crossings, fault_name};
+ghost use Rattle.arpasim.specs.Run.{EventGives, GoesOn, Happens, Runs};
+ghost use Rattle.arpasim.specs.Output.{Grew, Writes, output, shown_refusal, shown_crossings, fault_name};
 
 use crate::event::Event;
 use leader1822::{Carrier, CarrierFault, Crossing};
@@ -44,11 +44,9 @@ pub fn run_events<C: Carrier, W: Write>(
     // each RFNM speaks of one message, which was taken exactly once
     ensures messages { SafeMessages (C.seen carrier.new).log }
 
-    // each event in turn went as the carrier says that its calls may go
-    ensures events { OnOk result (RunGives (record { offers = C.offers; takes = C.takes; steps = C.steps }) carrier.old events.now carrier.new) }
-
-    // what crossed was printed, in order, with the refusals between
-    ensures shown { OnOk result (Shows (C.seen carrier.old).log (C.seen carrier.new).log (W.contents writer.old) (W.contents writer.new)) }
+    // each event in turn went as the carrier says that its calls may go, and what it showed was printed: what
+    // crossed, and then its refusal
+    ensures run { OnOk result (Writes (Runs (record { seen = C.seen; offers = C.offers; takes = C.takes; steps = C.steps }) carrier.old events.now carrier.new) (W.contents writer.old) (W.contents writer.new)) }
 {
     let outcome = in_turn(carrier, events, writer);
     let _log = carrier.log();
@@ -61,8 +59,7 @@ fn in_turn<C: Carrier, W: Write>(
     events: &[Event],
     writer: &mut W,
 ) -> Result<(), RunFault>
-    ensures events { OnOk result (RunGives (record { offers = C.offers; takes = C.takes; steps = C.steps }) carrier.old events.now carrier.new) }
-    ensures shown { OnOk result (Shows (C.seen carrier.old).log (C.seen carrier.new).log (W.contents writer.old) (W.contents writer.new)) }
+    ensures { OnOk result (Writes (Runs (record { seen = C.seen; offers = C.offers; takes = C.takes; steps = C.steps }) carrier.old events.now carrier.new) (W.contents writer.old) (W.contents writer.new)) }
 {
     for event in events {
         run_event(carrier, event, writer)?;
@@ -76,8 +73,7 @@ fn run_event<C: Carrier, W: Write>(
     event: &Event,
     writer: &mut W,
 ) -> Result<(), RunFault>
-    ensures event { OnOk result (Happens (record { offers = C.offers; takes = C.takes; steps = C.steps }) carrier.old event.now carrier.new) }
-    ensures shown { OnOk result (Shows (C.seen carrier.old).log (C.seen carrier.new).log (W.contents writer.old) (W.contents writer.new)) }
+    ensures { OnOk result (Writes (Happens (record { seen = C.seen; offers = C.offers; takes = C.takes; steps = C.steps }) carrier.old event.now carrier.new) (W.contents writer.old) (W.contents writer.new)) }
 {
     let booked = carrier.log().len();
     let outcome = apply(carrier, event)?;
@@ -87,7 +83,7 @@ fn run_event<C: Carrier, W: Write>(
 
 /// One event at a carrier.
 fn apply<C: Carrier>(carrier: &mut C, event: &Event) -> Result<Result<(), CarrierFault>, AllocError>
-    ensures event { IfOk result (λ r. EventGives (record { offers = C.offers; takes = C.takes; steps = C.steps }) carrier.old event.now r carrier.new) }
+    ensures event { IfOk result (λ r. EventGives (record { seen = C.seen; offers = C.offers; takes = C.takes; steps = C.steps }) carrier.old event.now r carrier.new) }
     ensures grew { Grew (C.seen carrier.old).log (C.seen carrier.new).log }
 {
     match event {
@@ -121,7 +117,8 @@ fn print_refusal<W: Write>(
     outcome: Result<(), CarrierFault>,
     writer: &mut W,
 ) -> Result<(), RunFault>
-    ensures { OnOk result (Appends (W.contents writer.old) (W.contents writer.new) (output (shown_refusal outcome))) }
+    ensures shown { OnOk result (Appends (W.contents writer.old) (W.contents writer.new) (output (shown_refusal outcome))) }
+    ensures goes_on { OnOk result (GoesOn outcome) }
 {
     let Err(fault) = outcome else {
         return Ok(());
@@ -135,7 +132,8 @@ fn print_refusal<W: Write>(
 
 /// The name of a refusal; `None` where the carrier has stopped for want of memory.
 fn name_of(fault: CarrierFault) -> Option<&'static str>
-    ensures { IfSome result (λ name. name.now ≡ fault_name fault) }
+    ensures name { IfSome result (λ name. name.now ≡ fault_name fault) }
+    ensures goes_on { IfSome result (λ _. GoesOn (Err fault)) }
 {
     match fault {
         CarrierFault::NoSuch => Some("NoSuch"),

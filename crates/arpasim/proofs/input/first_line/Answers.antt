@@ -1,5 +1,3 @@
-use Rattle.std.proofs.Common.{◌==◌, refl, ◌∙◌}
-use Rattle.arpasim.specs.Script.{lines_of}
 use Rattle.arpasim.proofs.Lines.{lines_cut, lines_uncut}
 use Rattle.arpasim.proofs.input.first_line.Goals as goal
 

@@ -1,6 +1,6 @@
 use Rattle.std.proofs.Common.{sym, ◌∙◌}
 use Rattle.std.proofs.lemmas.Bool.{false≢true}
-use Rattle.arpasim.proofs.Parts.{none_passed, pass_line, passed_fits, parted, unparted, short_script}
+use Rattle.arpasim.proofs.Parts.{pass_line}
 use Rattle.arpasim.proofs.input.split_input.Goals as goal
 
 pub lines-preserved : goal.lines-preserved

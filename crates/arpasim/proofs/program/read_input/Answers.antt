@@ -1,4 +1,4 @@
-use Rattle.std.proofs.Common.{◌≡◌, ◌<◌, ◌≤◌, length, subst, IfSome, arith, vec_len}
+use Rattle.std.proofs.Common.{◌≡◌, ◌≤◌, length, subst, IfSome, arith, vec_len}
 use Rattle.arpasim.proofs.Parts.{whole_taken}
 use Rattle.arpasim.proofs.program.read_input.Goals as goal
 

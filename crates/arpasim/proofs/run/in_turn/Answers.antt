@@ -1,20 +1,21 @@
-use Rattle.arpasim.specs.Run.{Calls, Happens}
-use Rattle.arpasim.proofs.Runs.{run_more, run_end}
-use Rattle.arpasim.proofs.Shown.{shows_none, shows_more}
+use Rattle.arpasim.specs.Run.{Calls}
+use Rattle.arpasim.proofs.Runs.{all_run, nothing_yet, one_more}
 use Rattle.arpasim.proofs.run.in_turn.Goals as goal
+
+pub loop-event-init : goal.loop-event-init
+loop-event-init g c =
+    let calls : Calls g.row.C.Denot = record { seen = g.C.Carrier.seen; offers = g.C.Carrier.offers; takes = g.C.Carrier.takes; steps = g.C.Carrier.steps } in
+    nothing_yet calls c.args.carrier.now c.args.events.now (g.W.Write.contents c.args.writer.now)
 
 pub loop-event-preserved : goal.loop-event-preserved
 loop-event-preserved g c =
-    let calls : Calls g.row.C.Denot = record { offers = g.C.Carrier.offers; takes = g.C.Carrier.takes; steps = g.C.Carrier.steps } in
-    let happens : Happens calls c.loop-event.carrier c.event-item.result c.run_event.new.carrier = c.in_ok-run_event.ensures.event in (
-      λ new rest. c.loop-event.invariant.0 new
-          (run_more calls c.loop-event.carrier c.run_event.new.carrier new c.args.events.now c.loop-event.event-index c.event-item.result
-          c.loop-event-test.true c.event-item.is happens rest),
-      shows_more (g.C.Carrier.seen c.args.carrier.now).log (g.C.Carrier.seen c.loop-event.carrier).log (g.C.Carrier.seen c.run_event.new.carrier).log
-          (g.W.Write.contents c.args.writer.now) (g.W.Write.contents c.loop-event.writer) (g.W.Write.contents c.run_event.new.writer) c.loop-event.invariant.1 c.in_ok-run_event.ensures.shown,
-    )
+    let calls : Calls g.row.C.Denot = record { seen = g.C.Carrier.seen; offers = g.C.Carrier.offers; takes = g.C.Carrier.takes; steps = g.C.Carrier.steps } in
+    one_more calls c.args.carrier.now c.loop-event.carrier c.run_event.new.carrier c.args.events.now c.loop-event.event-index c.event-item.result
+    (g.W.Write.contents c.args.writer.now) (g.W.Write.contents c.loop-event.writer) (g.W.Write.contents c.run_event.new.writer) c.loop-event-test.true c.event-item.is c.loop-event.invariant
+    c.in_ok-run_event.ensures
 
-pub returns-clause-events : goal.returns-clause-events
-returns-clause-events g c =
-    let calls : Calls g.row.C.Denot = record { offers = g.C.Carrier.offers; takes = g.C.Carrier.takes; steps = g.C.Carrier.steps } in
-    c.loop-event.invariant.0 c.loop-event.carrier (run_end calls c.loop-event.carrier c.args.events.now c.loop-event.event-index c.loop-event-test.false)
+pub returns : goal.returns
+returns g c =
+    let calls : Calls g.row.C.Denot = record { seen = g.C.Carrier.seen; offers = g.C.Carrier.offers; takes = g.C.Carrier.takes; steps = g.C.Carrier.steps } in
+    all_run calls c.args.carrier.now c.loop-event.carrier c.args.events.now c.loop-event.event-index (g.W.Write.contents c.args.writer.now) (g.W.Write.contents c.loop-event.writer)
+    c.loop-event-test.false c.loop-event.invariant

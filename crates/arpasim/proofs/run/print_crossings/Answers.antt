@@ -1,8 +1,8 @@
-use Rattle.std.proofs.Common.{◌≡◌, ◌<◌, length, rules, refl, sym, ap, ◌∙◌, subst}
+use Rattle.std.proofs.Common.{refl, subst}
 use Rattle.std.specs.Io.KnownBytes.{Appends}
 use Rattle.leader1822.specs.Printed.{crossing_text}
 use Rattle.arpasim.specs.Input.{ended}
-use Rattle.arpasim.proofs.Shown.{crossing_written, appends_none, was_ok}
+use Rattle.arpasim.proofs.Shown.{crossing_written, was_ok}
 use Rattle.arpasim.proofs.run.print_crossings.Goals as goal
 
 pub loop-crossing-preserved : goal.loop-crossing-preserved

@@ -1,4 +1,4 @@
-use Rattle.arpasim.proofs.Messages.{too_few_words, no_flow, no_count, no_text, CutInFive}
+use Rattle.arpasim.proofs.Messages.{too_few_words, no_flow, no_count, no_text}
 use Rattle.arpasim.proofs.script.read_message.Goals as goal
 
 pub returns-in_default-cut_twice : goal.returns-in_default-cut_twice

@@ -1,6 +1,6 @@
-use Rattle.std.proofs.Common.{arith, ◌≡◌, ◌≤◌, ◌<◌, ◌+◌, ◌-◌, length, drop, take, sym, ap, ◌∙◌, refl, rules, lit<, not, false, true, [], subst}
-use Rattle.arpasim.specs.Script.{lines_of, lines_after, is_passed_over, AskFor, IsFirstBad}
-use Rattle.arpasim.proofs.Lines.{drop_next, take_next, get_next, length_next, take_whole, line_count, ask_past, ask_next, ask_none, first_bad}
+use Rattle.std.proofs.Common.{arith, ◌≡◌, ◌≤◌, ◌<◌, ◌+◌, length, drop, take, sym, ap, ◌∙◌, refl, [], subst}
+use Rattle.arpasim.specs.Script.{lines_of, lines_after, AskFor}
+use Rattle.arpasim.proofs.Lines.{drop_next, take_next, length_next, take_whole, line_count, ask_past, ask_next, ask_none, first_bad}
 use Rattle.arpasim.proofs.script.read_script.Goals as goal
 use Rattle.arpasim.proofs.script.read_script.Goals.{then-not-is_passed_over+in_ok-event+in-Some-2+in_ok-push, else-not-is_passed_over}
 

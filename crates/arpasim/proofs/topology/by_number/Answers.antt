@@ -1,6 +1,6 @@
-use Rattle.std.proofs.Common.{◌≡◌, sym, ap, ◌∙◌, ◌++◌, []}
+use Rattle.std.proofs.Common.{sym, ap, ◌∙◌, ◌++◌, []}
 use Rattle.std.specs.List.{cons_option}
-use Rattle.arpasim.specs.Topology.{numbered_below, imp_of_number}
+use Rattle.arpasim.specs.Topology.{numbered_below}
 use Rattle.arpasim.proofs.Order.{numbered_next, numbered_none}
 use Rattle.arpasim.proofs.topology.by_number.Goals as goal
 

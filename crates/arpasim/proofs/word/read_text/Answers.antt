@@ -1,7 +1,7 @@
-use Rattle.std.proofs.Common.{arith, ◌<◌, ◌≤◌, ◌+◌, ◌*◌, ◌≡◌, ◌≢◌, List, ℕ, Bool, sym, ap, ◌∙◌, length, take, Ok, subst, rules}
+use Rattle.std.proofs.Common.{arith, ◌<◌, ◌*◌, ◌≡◌, sym, ap, ◌∙◌, length, take, Ok}
 use Rattle.std.proofs.lemmas.Bool.{false≢true}
-use Rattle.hex.specs.Hex.{encode_upper, decode_of}
-use Rattle.bit_messages.specs.Octets.{octets_of, bits_of}
+use Rattle.hex.specs.Hex.{decode_of}
+use Rattle.bit_messages.specs.Octets.{bits_of}
 use Rattle.arpasim.proofs.Texts.{no_octets, too_few, other_case, this_case, text_made}
 use Rattle.arpasim.proofs.word.read_text.Goals as goal
 

@@ -1,5 +1,5 @@
-use Rattle.std.proofs.Common.{sym, ap, ◌∙◌, subst, ◌≡◌, true, rules}
-use Rattle.arpasim.specs.Topology.{IsRising, are_imps, are_lines}
+use Rattle.std.proofs.Common.{sym, subst, rules}
+use Rattle.arpasim.specs.Topology.{IsRising}
 use Rattle.arpasim.proofs.Order.{numbered_rising}
 use Rattle.arpasim.proofs.topology.Topology.from_document.Goals as goal
 
