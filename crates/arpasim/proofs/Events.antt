@@ -11,7 +11,7 @@ use Rattle.arpasim.specs.declared.event.Event.TheVariants as event
 use Rattle.arpasim.specs.Spelling.{Unmarked, spelling, IsEvent, message_text}
 use Rattle.arpasim.proofs.Words.{SameCut, same_cut, uncut}
 
-unmarked_where : (mark : ℕ) (xs : List ℕ) → list_any (λ x. x == mark) xs ≡ false → Unmarked mark xs
+pub unmarked_where : (mark : ℕ) (xs : List ℕ) → list_any (λ x. x == mark) xs ≡ false → Unmarked mark xs
 unmarked_where mark [] h = All-nil (λ x. (x == mark) ≡ false)
 unmarked_where mark (x ∷ xs) h =
     let both = or_parts (x == mark) (list_any (λ z. z == mark) xs) h in

@@ -31,7 +31,7 @@ host_unmarked mark h low is =
 pub no_slash : (word : List ℕ) → Unmarked 47 word → (h : Host) → IsHost h → word ≢ host_text h
 no_slash word unmarked = not_cut 47 word (λ h. decimal h.host) (λ h. decimal h.imp) IsHost unmarked
 
-front_unmarked : (h : Host) → IsHost h → Unmarked 47 (decimal h.host)
+pub front_unmarked : (h : Host) → IsHost h → Unmarked 47 (decimal h.host)
 front_unmarked h is =
     let small : h.host ≤ 3 = (host_range h is).host in
     All-unmarked_decimal 47 h.host (omega arith) (omega arith)

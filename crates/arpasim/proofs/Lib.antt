@@ -6,6 +6,8 @@ mod Lines
 mod Marks
 mod Messages
 mod Numbers
+mod Once
+mod OneReading
 mod Order
 mod Parts
 mod Runs

@@ -10,7 +10,7 @@ use Rattle.arpasim.proofs.Words.{SameThree, same_three}
 use Rattle.arpasim.proofs.Hosts.{host_unmarked, same_words}
 
 -- a message's five words
-message_words : (m : HostMessage) → message_text m ≡ host_text m.flow.source ++ 32 ∷ (host_text m.flow.destination ++ 32 ∷ (decimal m.flow.link.0 ++ 32 ∷ (decimal (length m.text) ++ 32 ∷ octets_text m.text)))
+pub message_words : (m : HostMessage) → message_text m ≡ host_text m.flow.source ++ 32 ∷ (host_text m.flow.destination ++ 32 ∷ (decimal m.flow.link.0 ++ 32 ∷ (decimal (length m.text) ++ 32 ∷ octets_text m.text)))
 message_words m = same_words m.flow (decimal (length m.text) ++ 32 ∷ octets_text m.text)
 
 -- words that are cut twice, and the two words that a message begins with

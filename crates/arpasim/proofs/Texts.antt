@@ -21,7 +21,7 @@ enough_octets text =
     let all : 8 * length (octets_of text) ≡ length text + length (replicate (spare_bits (length text)) false) = sym (length-bits_of (octets_of text)) ∙ ap length (bits_again text) ∙ length-append text _ in
     omega arith
 
-spelled_text : (text : List Bool) → 0 < length text → octets_text text ≡ encode_upper (octets_of text)
+pub spelled_text : (text : List Bool) → 0 < length text → octets_text text ≡ encode_upper (octets_of text)
 spelled_text [] some = absurd (omega arith)
 spelled_text (b ∷ bits) some = refl
 
@@ -33,7 +33,7 @@ bytes_from [] h i = lit< tt
 bytes_from (x ∷ xs) h zero = All-head (λ n. n < 256) x xs h
 bytes_from (x ∷ xs) h (suc i) = bytes_from xs (All-tail (λ n. n < 256) x xs h) i
 
-are_bytes : (x : List Bool) → IsBytes (octets_of x)
+pub are_bytes : (x : List Bool) → IsBytes (octets_of x)
 are_bytes x = bytes_from (octets_of x) (octets_below x)
 
 -- hexadecimal that is refused is none that was written

@@ -13,6 +13,7 @@ mod arguments;
 mod event;
 mod fault;
 mod input;
+pub mod law;
 mod program;
 mod run;
 mod script;
