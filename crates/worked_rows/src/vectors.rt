@@ -1,4 +1,6 @@
-use crate::{INFINITE, Vector};
+//! Worked examples of lists of distances.
+
+use routing::{INFINITE, Vector};
 
 #[test]
 fn a_vector_is_sixteen_distances_of_at_most_sixteen(rt: HostRuntime) {
