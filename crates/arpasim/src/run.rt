@@ -1,6 +1,6 @@
 //! Running a script's events over a carrier.
 
-ghost use Rattle.std.specs.Prelude.{◌≡◌, Err, OnOk, IfOk, IfSome, drop, length, ◌≤◌, IsOk};
+ghost use Rattle.std.specs.Prelude.{◌≡◌, ◌↔◌, Err, OnOk, IfErr, IfOk, IfSome, drop, length, ◌≤◌, IsOk, IsSome};
 ghost use Rattle.std.specs.Io.KnownBytes.{Appends};
 ghost use Rattle.leader1822.specs.Messages.{SafeMessages};
 ghost use Rattle.arpasim.specs.Run.{EventGives, GoesOn, Happens, Runs};
@@ -133,7 +133,7 @@ fn print_refusal<W: Write>(
 /// The name of a refusal; `None` where the carrier has stopped for want of memory.
 fn name_of(fault: CarrierFault) -> Option<&'static str>
     ensures name { IfSome result (λ name. name.now ≡ fault_name fault) }
-    ensures goes_on { IfSome result (λ _. GoesOn (Err fault)) }
+    ensures goes_on { IsSome result ↔ GoesOn (Err fault) }
 {
     match fault {
         CarrierFault::NoSuch => Some("NoSuch"),
@@ -150,7 +150,8 @@ fn name_of(fault: CarrierFault) -> Option<&'static str>
 
 /// A write's answer, with the one fault that it has here.
 fn check_written(outcome: io::Result<()>) -> Result<(), RunFault>
-    ensures { IsOk result → IsOk outcome }
+    ensures ok { IsOk result ↔ IsOk outcome }
+    ensures fault { IfErr result (λ f. f ≡ RunFault.CannotWrite) }
 {
     outcome.map_err(|_| RunFault::CannotWrite)
 }

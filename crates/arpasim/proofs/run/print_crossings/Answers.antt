@@ -8,4 +8,4 @@ use Rattle.arpasim.proofs.run.print_crossings.Goals as goal
 pub loop-crossing-preserved : goal.loop-crossing-preserved
 loop-crossing-preserved g c =
     crossing_written (g.W.Write.contents c.args.writer.now) (g.W.Write.contents c.loop-crossing.writer) (g.W.Write.contents c.writeln.new.self) c.split_at.result.1.now c.loop-crossing.crossing-index c.crossing-item.result c.loop-crossing-test.true c.loop-crossing.invariant
-    (subst (λ x. Appends (g.W.Write.contents c.loop-crossing.writer) (g.W.Write.contents c.writeln.new.self) (ended (crossing_text x))) c.crossing-item.is (was_ok c.writeln.result (c.in_ok-check_written.ensures refl) c.writeln.ensures.bytes))
+    (subst (λ x. Appends (g.W.Write.contents c.loop-crossing.writer) (g.W.Write.contents c.writeln.new.self) (ended (crossing_text x))) c.crossing-item.is (was_ok c.writeln.result (c.in_ok-check_written.ensures.ok.0 refl) c.writeln.ensures.bytes))
