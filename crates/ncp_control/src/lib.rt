@@ -21,6 +21,8 @@ mod packing;
 mod reading;
 mod receive_socket;
 mod send_socket;
+#[cfg(test)]
+mod tests;
 mod writing;
 
 pub use allocation::{Allocation, MAX_DATA_BITS, WHOLE};

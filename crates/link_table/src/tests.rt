@@ -1,7 +1,5 @@
-//! Worked examples of a flow's numbers, at its source and at its destination.
-
+use crate::{Age, DestFlows, FlowFault, Release, SourceFlows};
 use leader1822::{Flow, HostAddr, ImpNumber, Link};
-use link_table::{Age, DestFlows, FlowFault, Release, SourceFlows};
 use std::test::Fail;
 
 /// The flow from host 0 at one IMP to host 0 at another, on this link.

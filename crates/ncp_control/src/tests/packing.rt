@@ -1,6 +1,6 @@
 //! Commands packed into control messages.
 
-use ncp_control::{Command, ConnectionLink, ReceiveSocket, SendSocket, pack, packed_count};
+use crate::{Command, ConnectionLink, ReceiveSocket, SendSocket, pack, packed_count};
 use std::test::Fail;
 
 #[test]

@@ -1,8 +1,6 @@
 //! Commands and their octets.
 
-use ncp_control::{
-    ByteSize, Command, ConnectionLink, ControlFault, ReceiveSocket, SendSocket, read_one,
-};
+use crate::{ByteSize, Command, ConnectionLink, ControlFault, ReceiveSocket, SendSocket, read_one};
 use std::test::Fail;
 
 fn request_to_receive(receive: u32, send: u32, link: u8) -> Option<Command> {

@@ -1,7 +1,7 @@
 //! The header in front of data.
 
+use crate::DataHeader;
 use bit_messages::Bits;
-use ncp_control::DataHeader;
 use std::test::Fail;
 
 #[test]

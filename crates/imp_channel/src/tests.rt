@@ -1,6 +1,4 @@
-//! Worked examples of frames and of the two ends of a line.
-
-use imp_channel::{ChannelFault, Content, Frame, Line, Received, SubmitFault};
+use crate::{ChannelFault, Content, Frame, Line, Received, SubmitFault};
 use packetiser::Packet;
 use routing::Vector;
 use std::alloc::Global;

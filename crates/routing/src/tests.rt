@@ -1,6 +1,4 @@
-//! Worked examples of lists of distances.
-
-use routing::{INFINITE, Vector};
+use crate::{INFINITE, Vector};
 
 #[test]
 fn a_vector_is_sixteen_distances_of_at_most_sixteen(rt: HostRuntime) {

@@ -1,6 +1,6 @@
 //! The counters of an allocation.
 
-use ncp_control::{Allocation, Command, DataHeader};
+use crate::{Allocation, Command, DataHeader};
 use std::test::Fail;
 
 fn of(messages: u16, bits: u32) -> Allocation {
