@@ -13,96 +13,144 @@ fn zeros(alloc: Global, count: usize) -> Result<Bits, BitFault> {
     Ok(bits)
 }
 
-#[test]
-fn a_slice_shifts_across_octets(rt: HostRuntime) -> Result<(), Fail> {
-    let alloc = rt.alloc();
-    let bits = Bits::from_octets(alloc, &[0x41, 0x42], 16)?;
-    let mut part = bits.slice(alloc, 4, 12)?;
-    assert_eq!(rt; part.to_octets(alloc)?.as_slice(), [0x14].as_slice());
-    part.push(true)?;
-    assert_eq!(rt; part.len(), 9);
-    assert_eq!(rt; part.to_octets(alloc)?.as_slice(), [0x14, 0x80].as_slice());
-    Ok(())
+/// A one, and behind it the first three bits of an octet: 1011.
+fn four(alloc: Global) -> Result<Bits, BitFault> {
+    let mut bits = Bits::new(alloc);
+    bits.push(true)?;
+    bits.append(&Bits::from_octets(alloc, &[0x60], 3)?)?;
+    Ok(bits)
 }
 
 #[test]
 fn bits_are_a_list(rt: HostRuntime) -> Result<(), Fail> {
-    let alloc = rt.alloc();
-    let mut bits = Bits::new(alloc);
-    assert!(rt; bits.is_empty());
-    bits.push(true)?;
-    bits.append(&Bits::from_octets(alloc, &[0x60], 3)?)?;
-    assert_eq!(rt; bits.len(), 4);
-    assert_eq!(rt; bits.get(0), Some(true));
-    assert_eq!(rt; bits.get(1), Some(false));
-    assert_eq!(rt; bits.get(3), Some(true));
-    assert_eq!(rt; bits.get(4), None);
-    assert!(rt; bits == Bits::from_octets(alloc, &[0xB0], 4)?);
-    assert!(rt; bits != Bits::from_octets(alloc, &[0xB0], 5)?);
-    assert!(rt; bits.clone()? == bits);
+    let bits = four(rt.alloc())?;
+    let places = [bits.get(0), bits.get(1), bits.get(3), bits.get(4)];
+    assert_eq!(rt; places, [Some(true), Some(false), Some(true), None]);
+    let sizes = (bits.len(), bits.is_empty());
+    assert_eq!(rt; sizes, (4, false));
+    assert!(rt; Bits::new(rt.alloc()).is_empty());
     Ok(())
 }
 
-#[test]
-fn bad_bounds_are_out_of_range(rt: HostRuntime) -> Result<(), Fail> {
-    let alloc = rt.alloc();
-    let bits = zeros(alloc, 8)?;
-    assert_eq!(rt; bits.slice(alloc, 5, 4).err(), Some(BitFault::Range));
-    assert_eq!(rt; bits.slice(alloc, 4, 9).err(), Some(BitFault::Range));
-    assert_eq!(rt; bits.slice(alloc, 8, 8)?.len(), 0);
-    assert_eq!(rt;
-        Bits::from_octets(alloc, &[0], 9).err(),
-        Some(BitFault::Range)
-    );
-    assert_eq!(rt; Bits::from_octets(alloc, &[], 0)?.len(), 0);
-    Ok(())
+/// Whether the four bits are those of an octet, whether they are those and one more, and whether they are
+/// their own copy.
+fn likeness(alloc: Global) -> Result<[bool; 3], BitFault> {
+    let bits = four(alloc)?;
+    let same = bits == Bits::from_octets(alloc, &[0xB0], 4)?;
+    let longer = bits == Bits::from_octets(alloc, &[0xB0], 5)?;
+    let copied = bits.clone()? == bits;
+    Ok([same, longer, copied])
 }
 
 #[test]
-fn the_empty_text_has_a_body_of_sixteen_bits(rt: HostRuntime) -> Result<(), Fail> {
-    let alloc = rt.alloc();
-    let body = Bits::new(alloc).pad16(alloc)?;
-    assert_eq!(rt; body.len(), 16);
-    assert_eq!(rt; body.to_octets(alloc)?.as_slice(), [0x80, 0x00].as_slice());
+fn lists_are_equal_bit_by_bit(rt: HostRuntime) -> Result<(), Fail> {
+    assert_eq!(rt; likeness(rt.alloc())?, [true, false, true]);
     Ok(())
+}
+
+/// The length and the octets of bits 4 to 12 of `41 42`, with so many ones behind them.
+fn part(alloc: Global, ones: usize) -> Result<(usize, Vec<u8>), BitFault> {
+    let bits = Bits::from_octets(alloc, &[0x41, 0x42], 16)?;
+    let mut part = bits.slice(alloc, 4, 12)?;
+    for _ in 0..ones {
+        part.push(true)?;
+    }
+    Ok((part.len(), part.to_octets(alloc)?))
+}
+
+#[test]
+fn a_slice_shifts_across_octets(rt: HostRuntime) -> Result<(), Fail> {
+    for (ones, length, octets) in [(0, 8, &[0x14u8] as &[u8]), (1, 9, &[0x14, 0x80])] {
+        let (found, spelled) = part(rt.alloc(), ones)?;
+        assert!(rt;
+            found == length && spelled.as_slice() == octets,
+            "with {ones} more"
+        );
+    }
+    Ok(())
+}
+
+/// How many bits of eight zeros lie between two places.
+fn between(alloc: Global, from: usize, to: usize) -> Result<usize, BitFault> {
+    Ok(zeros(alloc, 8)?.slice(alloc, from, to)?.len())
+}
+
+/// How many bits are read as the first ones of an octet or of none.
+fn read(alloc: Global, octets: &[u8], count: usize) -> Result<usize, BitFault> {
+    Ok(Bits::from_octets(alloc, octets, count)?.len())
+}
+
+#[test]
+fn bad_bounds_are_out_of_range(rt: HostRuntime) {
+    let alloc = rt.alloc();
+    for (from, to, length) in [
+        (5, 4, Err(BitFault::Range)),
+        (4, 9, Err(BitFault::Range)),
+        (8, 8, Ok(0)),
+    ] {
+        assert_eq!(rt; between(alloc, from, to), length, "from {from} to {to}");
+    }
+    for (octets, count, length) in [(&[0u8] as &[u8], 9, Err(BitFault::Range)), (&[], 0, Ok(0))] {
+        assert_eq!(rt; read(alloc, octets, count), length, "{count} bits");
+    }
+}
+
+/// The length and the octets of the text of a body, which is so many bits of these octets.
+fn stripped(alloc: Global, octets: &[u8], count: usize) -> Result<(usize, Vec<u8>), BitFault> {
+    let text = Bits::from_octets(alloc, octets, count)?.strip(alloc)?;
+    Ok((text.len(), text.to_octets(alloc)?))
 }
 
 #[test]
 fn a_body_is_stripped_however_many_zeros_follow(rt: HostRuntime) -> Result<(), Fail> {
-    let alloc = rt.alloc();
-    assert_eq!(rt;
-        Bits::from_octets(alloc, &[0x80, 0, 0, 0], 32)?
-            .strip(alloc)?
-            .len(),
-        0
-    );
-    let text = Bits::from_octets(alloc, &[0xFF, 0xF8], 16)?.strip(alloc)?;
-    assert_eq!(rt; text.len(), 12);
-    assert_eq!(rt; text.to_octets(alloc)?.as_slice(), [0xFF, 0xF0].as_slice());
+    for (octets, count, length, text) in [
+        (&[0x80u8, 0] as &[u8], 16, 0, &[] as &[u8]),
+        (&[0x80, 0, 0, 0], 32, 0, &[]),
+        (&[0xFF, 0xF8], 16, 12, &[0xFF, 0xF0]),
+    ] {
+        let (found, spelled) = stripped(rt.alloc(), octets, count)?;
+        assert!(rt; found == length && spelled.as_slice() == text, "{octets:?}");
+    }
     Ok(())
+}
+
+/// Why so many zeros and the first bits of octets are no body.
+fn refusal(
+    alloc: Global,
+    before: usize,
+    octets: &[u8],
+    count: usize,
+) -> Result<Option<BitFault>, BitFault> {
+    let mut bits = zeros(alloc, before)?;
+    bits.append(&Bits::from_octets(alloc, octets, count)?)?;
+    Ok(bits.strip(alloc).err())
 }
 
 #[test]
 fn what_is_no_body_is_refused_by_name(rt: HostRuntime) -> Result<(), Fail> {
-    let alloc = rt.alloc();
-    assert_eq!(rt;
-        Bits::from_octets(alloc, &[0, 0], 16)?.strip(alloc).err(),
-        Some(BitFault::NoMark)
-    );
-    assert_eq!(rt; Bits::new(alloc).strip(alloc).err(), Some(BitFault::NoMark));
-    assert_eq!(rt;
-        Bits::from_octets(alloc, &[0x80], 8)?.strip(alloc).err(),
-        Some(BitFault::Range)
-    );
-    let mut long = zeros(alloc, 8064)?;
-    long.push(true)?;
-    assert_eq!(rt; long.strip(alloc).err(), Some(BitFault::TooLong));
+    for (before, octets, count, fault) in [
+        (0, &[0u8, 0] as &[u8], 16, BitFault::NoMark),
+        (0, &[], 0, BitFault::NoMark),
+        (0, &[0x80], 8, BitFault::Range),
+        (8064, &[0x80], 1, BitFault::TooLong),
+    ] {
+        let found = refusal(rt.alloc(), before, octets, count)?;
+        assert_eq!(rt; found, Some(fault), "{before} zeros and {octets:?}");
+    }
     Ok(())
+}
+
+/// Whether a text of so many zeros has a body of this length with the mark behind the text, which gives the
+/// text back.
+fn is_filled(alloc: Global, text: usize, body: usize) -> Result<bool, BitFault> {
+    let bits = zeros(alloc, text)?;
+    let padded = bits.pad16(alloc)?;
+    let marked = padded.get(text) == Some(true);
+    Ok(padded.len() == body && marked && padded.strip(alloc)? == bits)
 }
 
 #[test]
 fn the_longest_text_fills_its_body(rt: HostRuntime) -> Result<(), Fail> {
-    let alloc = rt.alloc();
     for (text, body) in [
         (0, 16),
         (15, 16),
@@ -111,15 +159,18 @@ fn the_longest_text_fills_its_body(rt: HostRuntime) -> Result<(), Fail> {
         (1008, 1024),
         (8063, 8064),
     ] {
-        let bits = zeros(alloc, text)?;
-        let padded = bits.pad16(alloc)?;
-        assert_eq!(rt; padded.len(), body, "a text of {text} bits");
-        assert_eq!(rt; padded.get(text), Some(true), "the mark of {text} bits");
-        assert!(rt; padded.strip(alloc)? == bits, "a text of {text} bits");
+        assert!(rt; is_filled(rt.alloc(), text, body)?, "a text of {text} bits");
     }
+    assert_eq!(rt; is_filled(rt.alloc(), 8064, 8080), Err(BitFault::TooLong));
+    Ok(())
+}
+
+#[test]
+fn the_empty_text_has_a_body_of_sixteen_bits(rt: HostRuntime) -> Result<(), Fail> {
+    let body = Bits::new(rt.alloc()).pad16(rt.alloc())?;
     assert_eq!(rt;
-        zeros(alloc, 8064)?.pad16(alloc).err(),
-        Some(BitFault::TooLong)
+        body.to_octets(rt.alloc())?.as_slice(),
+        [0x80, 0].as_slice()
     );
     Ok(())
 }

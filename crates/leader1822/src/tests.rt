@@ -43,132 +43,158 @@ fn two_hosts(rt: &impl Abort, alloc: Global) -> Result<PlainBoxes, Fail> {
     Ok(PlainBoxes::new(alloc, hosts))
 }
 
+/// Offers that message.
+fn offer(
+    rt: &impl Abort,
+    alloc: Global,
+    boxes: &mut PlainBoxes,
+) -> Result<Result<(), CarrierFault>, BitFault> {
+    Ok(boxes.offer_out(message(rt, alloc)?))
+}
+
+/// What a host takes: the flow, the kind of an answer, and how many bits a message's text has.
+type Taking = Result<Option<(Flow, Option<Answer>, usize)>, CarrierFault>;
+
+/// A host takes what waits for it.
+fn taking(boxes: &mut PlainBoxes, host: HostAddr) -> Taking {
+    Ok(match boxes.take_in(host)? {
+        Some(Inbound::Message(message)) => Some((message.flow, None, message.text.bits().len())),
+        Some(Inbound::Answer(kind, flow)) => Some((flow, Some(kind), 0)),
+        None => None,
+    })
+}
+
+/// The RFNM from host 1 at IMP 2 about link 5.
+fn rfnm(rt: &impl Abort) -> Leader {
+    Leader::Answer {
+        kind: Answer::Rfnm,
+        address: host(rt, 1, 2),
+        link: Link(5),
+    }
+}
+
+/// The leader of a message to host 1 at IMP 2 on link 5.
+fn regular(rt: &impl Abort) -> Leader {
+    Leader::Regular {
+        address: host(rt, 1, 2),
+        link: Link(5),
+    }
+}
+
 #[test]
 fn leaders_from_an_imp(rt: HostRuntime) {
-    let rfnm = Leader::Answer {
-        kind: Answer::Rfnm,
-        address: host(&rt, 1, 2),
-        link: Link(5),
-    };
-    assert_eq!(rt; Leader::read_from_imp(&[0x05, 0x42, 0x05, 0x00]), Ok(rfnm));
-    assert_eq!(rt; Leader::read_from_imp(&[0xF5, 0x42, 0x05, 0xFF]), Ok(rfnm));
-    assert_eq!(rt;
-        Leader::read_from_imp(&[0x02, 0x42, 0x05, 0x00]),
-        Err(LeaderFault::UnknownType(2))
-    );
-    assert_eq!(rt;
-        Leader::read_from_imp(&[0x00, 0x40, 0x05, 0x00]),
-        Err(LeaderFault::BadImp)
-    );
-    assert_eq!(rt;
-        Leader::read_from_imp(&[0x00, 0x42, 0x05]),
-        Err(LeaderFault::ShortLeader)
-    );
-    assert_eq!(rt;
-        Leader::read_from_imp(&[0x14, 0x00, 0x05, 0x07]),
-        Ok(Leader::Nop)
-    );
-    assert_eq!(rt;
-        rfnm.write().as_slice(),
-        [0x05, 0x42, 0x05, 0x00].as_slice()
-    );
+    for octets in [[0x05, 0x42, 0x05, 0x00], [0xF5, 0x42, 0x05, 0xFF]] {
+        assert_eq!(rt; Leader::read_from_imp(&octets), Ok(rfnm(&rt)), "{octets:?}");
+    }
+    for (octets, leader) in [
+        (
+            &[0x02u8, 0x42, 0x05, 0x00] as &[u8],
+            Err(LeaderFault::UnknownType(2)),
+        ),
+        (&[0x00, 0x40, 0x05, 0x00], Err(LeaderFault::BadImp)),
+        (&[0x00, 0x42, 0x05], Err(LeaderFault::ShortLeader)),
+        (&[0x14, 0x00, 0x05, 0x07], Ok(Leader::Nop)),
+    ] {
+        assert_eq!(rt; Leader::read_from_imp(octets), leader, "{octets:?}");
+    }
 }
 
 #[test]
 fn leaders_from_a_host(rt: HostRuntime) {
-    let regular = Leader::Regular {
-        address: host(&rt, 1, 2),
-        link: Link(5),
-    };
-    assert_eq!(rt;
-        Leader::read_from_host(&[0x70, 0x42, 0x05, 0x01, 0x99]),
-        Ok(regular)
-    );
-    assert_eq!(rt;
-        Leader::read_from_host(&[0x04, 0x00, 0x00, 0x00]),
-        Ok(Leader::Nop)
-    );
-    for kind in [5u8, 7, 9, 1, 15] {
-        assert_eq!(rt;
-            Leader::read_from_host(&[kind, 0x42, 0x05, 0x00]),
-            Err(LeaderFault::UnknownType(kind))
-        );
+    for (octets, leader) in [
+        (&[0x70u8, 0x42, 0x05, 0x01, 0x99] as &[u8], Ok(regular(&rt))),
+        (&[0x04, 0x00, 0x00, 0x00], Ok(Leader::Nop)),
+        (&[0x05, 0x42, 0x05, 0x00], Err(LeaderFault::UnknownType(5))),
+        (&[0x07, 0x42, 0x05, 0x00], Err(LeaderFault::UnknownType(7))),
+        (&[0x09, 0x42, 0x05, 0x00], Err(LeaderFault::UnknownType(9))),
+        (&[0x01, 0x42, 0x05, 0x00], Err(LeaderFault::UnknownType(1))),
+        (&[0x0F, 0x42, 0x05, 0x00], Err(LeaderFault::UnknownType(15))),
+    ] {
+        assert_eq!(rt; Leader::read_from_host(octets), leader, "{octets:?}");
     }
-    assert_eq!(rt;
-        regular.write().as_slice(),
-        [0x00, 0x42, 0x05, 0x00].as_slice()
-    );
-    assert_eq!(rt;
-        Leader::Nop.write().as_slice(),
-        [0x04, 0x00, 0x00, 0x00].as_slice()
-    );
+}
+
+#[test]
+fn leaders_are_written(rt: HostRuntime) {
+    for (leader, octets) in [
+        (rfnm(&rt), [0x05, 0x42, 0x05, 0x00]),
+        (regular(&rt), [0x00, 0x42, 0x05, 0x00]),
+        (Leader::Nop, [0x04, 0x00, 0x00, 0x00]),
+    ] {
+        assert_eq!(rt; leader.write(), octets);
+    }
 }
 
 #[test]
 fn addresses_have_their_ranges(rt: HostRuntime) {
-    assert_eq!(rt; ImpNumber::new(0), None);
-    assert_eq!(rt; ImpNumber::new(63).map(|imp| imp.number()), Some(63));
-    assert_eq!(rt; ImpNumber::new(64), None);
-    assert_eq!(rt; HostAddr::new(4, 1), None);
-    assert_eq!(rt; HostAddr::new(3, 64), None);
-    let address = host(&rt, 3, 63);
-    assert_eq!(rt; address.octet(), 0xFF);
-    assert_eq!(rt; HostAddr::from_octet(0xFF), Some(address));
-    assert_eq!(rt; (address.host(), address.imp()), (3, 63));
-    assert_eq!(rt; HostAddr::from_octet(0xC0), None);
+    for (number, found) in [(0, None), (63, Some(63)), (64, None)] {
+        assert_eq!(rt; ImpNumber::new(number).map(|imp| imp.number()), found);
+    }
+    for (host, imp, octet) in [(4, 1, None), (3, 64, None), (3, 63, Some(0xFF))] {
+        assert_eq!(rt;
+            HostAddr::new(host, imp).map(|address| address.octet()),
+            octet
+        );
+    }
+    for (octet, found) in [(0xFF, Some((3, 63))), (0xC0, None)] {
+        let address = HostAddr::from_octet(octet);
+        assert_eq!(rt;
+            address.map(|address| (address.host(), address.imp())),
+            found
+        );
+    }
 }
 
 #[test]
 fn a_message_is_taken_and_answered(rt: HostRuntime) -> Result<(), Fail> {
     let alloc = rt.alloc();
+    let flow = flow(&rt);
     let mut boxes = two_hosts(&rt, alloc)?;
-    assert_eq!(rt; boxes.offer_out(message(&rt, alloc)?), Ok(()));
+    let offered = [
+        offer(&rt, alloc, &mut boxes)?,
+        offer(&rt, alloc, &mut boxes)?,
+    ];
+    assert_eq!(rt; offered, [Ok(()), Err(CarrierFault::Blocked)]);
+    let taken = [
+        taking(&mut boxes, flow.source),
+        taking(&mut boxes, flow.destination),
+        taking(&mut boxes, flow.source),
+    ];
+    let answer = Some((flow, Some(Answer::Rfnm), 0));
+    assert_eq!(rt; taken, [Ok(None), Ok(Some((flow, None, 8))), Ok(answer)]);
+    let quiet = boxes.quiet_round();
     assert_eq!(rt;
-        boxes.offer_out(message(&rt, alloc)?),
-        Err(CarrierFault::Blocked)
+        (quiet, boxes.hosts().len(), boxes.log().len()),
+        (Ok(()), 2, 3)
     );
-    assert!(rt; matches!(boxes.take_in(host(&rt, 0, 1)), Ok(None)));
-    let Ok(Some(Inbound::Message(taken))) = boxes.take_in(host(&rt, 0, 2)) else {
-        assert!(rt; false, "the message waits");
-        return Ok(());
-    };
-    assert!(rt; taken.flow == flow(&rt) && taken.text.bits().len() == 8);
-    assert_eq!(rt; boxes.quiet_round(), Ok(()));
-    assert!(rt;
-        matches!(
-            boxes.take_in(host(&rt, 0, 1)),
-            Ok(Some(Inbound::Answer(Answer::Rfnm, _)))
-        )
-    );
-    assert_eq!(rt; boxes.log().len(), 3);
     assert!(rt; matches!(boxes.log().last(), Some(Crossing::Answer(Answer::Rfnm, _))));
-    assert_eq!(rt; boxes.hosts().len(), 2);
     Ok(())
 }
 
 #[test]
 fn a_host_that_stops_gives_dead(rt: HostRuntime) -> Result<(), Fail> {
     let alloc = rt.alloc();
+    let flow = flow(&rt);
     let mut boxes = two_hosts(&rt, alloc)?;
-    let (here, there) = (host(&rt, 0, 1), host(&rt, 0, 2));
-    assert_eq!(rt; boxes.offer_out(message(&rt, alloc)?), Ok(()));
-    assert_eq!(rt; boxes.step(NetEvent::HostDown(there)), Ok(()));
-    assert_eq!(rt;
+    let offered = offer(&rt, alloc, &mut boxes)?;
+    let there = flow.destination;
+    let stopped = [
+        offered,
         boxes.step(NetEvent::HostDown(there)),
-        Err(CarrierFault::IsDown)
-    );
-    assert!(rt;
-        matches!(
-            boxes.take_in(here),
-            Ok(Some(Inbound::Answer(Answer::Dead, _)))
-        )
-    );
-    assert_eq!(rt; boxes.take_in(there).err(), Some(CarrierFault::IsDown));
-    assert_eq!(rt; boxes.step(NetEvent::HostUp(there)), Ok(()));
-    assert_eq!(rt;
+        boxes.step(NetEvent::HostDown(there)),
+    ];
+    assert_eq!(rt; stopped, [Ok(()), Ok(()), Err(CarrierFault::IsDown)]);
+    let taken = [
+        taking(&mut boxes, flow.source),
+        taking(&mut boxes, flow.destination),
+    ];
+    let dead = Some((flow, Some(Answer::Dead), 0));
+    assert_eq!(rt; taken, [Ok(dead), Err(CarrierFault::IsDown)]);
+    let started = [
         boxes.step(NetEvent::HostUp(there)),
-        Err(CarrierFault::IsUp)
-    );
+        boxes.step(NetEvent::HostUp(there)),
+    ];
+    assert_eq!(rt; started, [Ok(()), Err(CarrierFault::IsUp)]);
     assert_eq!(rt; boxes.log().len(), 4);
     Ok(())
 }
@@ -176,56 +202,59 @@ fn a_host_that_stops_gives_dead(rt: HostRuntime) -> Result<(), Fail> {
 #[test]
 fn a_message_is_given_up(rt: HostRuntime) -> Result<(), Fail> {
     let alloc = rt.alloc();
+    let flow = flow(&rt);
     let mut boxes = two_hosts(&rt, alloc)?;
-    let here = host(&rt, 0, 1);
+    let given_up = NetEvent::GiveUp(flow);
+    let up = NetEvent::HostUp(flow.source);
+    let done = [
+        boxes.step(given_up),
+        offer(&rt, alloc, &mut boxes)?,
+        boxes.step(NetEvent::HostDown(flow.source)),
+        boxes.step(up),
+        boxes.step(given_up),
+        boxes.step(up),
+        offer(&rt, alloc, &mut boxes)?,
+        boxes.step(given_up),
+        boxes.step(given_up),
+    ];
     assert_eq!(rt;
-        boxes.step(NetEvent::GiveUp(flow(&rt))),
-        Err(CarrierFault::NotOutstanding)
+        done,
+        [
+            Err(CarrierFault::NotOutstanding),
+            Ok(()),
+            Ok(()),
+            Err(CarrierFault::Unsettled),
+            Ok(()),
+            Ok(()),
+            Ok(()),
+            Ok(()),
+            Err(CarrierFault::NotOutstanding),
+        ]
     );
-    assert_eq!(rt; boxes.offer_out(message(&rt, alloc)?), Ok(()));
-    assert_eq!(rt; boxes.step(NetEvent::HostDown(here)), Ok(()));
+    let taken = [
+        taking(&mut boxes, flow.source),
+        taking(&mut boxes, flow.destination),
+    ];
     assert_eq!(rt;
-        boxes.step(NetEvent::HostUp(here)),
-        Err(CarrierFault::Unsettled)
+        taken,
+        [Ok(Some((flow, Some(Answer::Incomplete), 0))), Ok(None)]
     );
-    assert_eq!(rt; boxes.step(NetEvent::GiveUp(flow(&rt))), Ok(()));
-    assert_eq!(rt; boxes.step(NetEvent::HostUp(here)), Ok(()));
-    assert_eq!(rt; boxes.offer_out(message(&rt, alloc)?), Ok(()));
-    assert_eq!(rt; boxes.step(NetEvent::GiveUp(flow(&rt))), Ok(()));
-    assert_eq!(rt;
-        boxes.step(NetEvent::GiveUp(flow(&rt))),
-        Err(CarrierFault::NotOutstanding)
-    );
-    assert!(rt;
-        matches!(
-            boxes.take_in(here),
-            Ok(Some(Inbound::Answer(Answer::Incomplete, _)))
-        )
-    );
-    assert!(rt; matches!(boxes.take_in(host(&rt, 0, 2)), Ok(None)));
     Ok(())
 }
 
 #[test]
 fn a_host_that_is_not_there(rt: HostRuntime) -> Result<(), Fail> {
     let alloc = rt.alloc();
+    let nobody = host(&rt, 0, 9);
     let mut boxes = two_hosts(&rt, alloc)?;
     let mut lost = message(&rt, alloc)?;
-    lost.flow.destination = host(&rt, 0, 9);
-    assert_eq!(rt;
-        boxes.take_in(host(&rt, 0, 9)).err(),
-        Some(CarrierFault::NoSuch)
-    );
-    assert_eq!(rt; boxes.offer_out(lost), Ok(()));
-    assert!(rt;
-        matches!(
-            boxes.take_in(host(&rt, 0, 1)),
-            Ok(Some(Inbound::Answer(Answer::Dead, _)))
-        )
-    );
-    assert_eq!(rt;
-        boxes.step(NetEvent::ImpUp(ImpNumber::new(1).expect(&rt, "an IMP"))),
-        Err(CarrierFault::NoSuch)
-    );
+    lost.flow.destination = nobody;
+    let flow = lost.flow;
+    let imp = ImpNumber::new(1).expect(&rt, "an IMP");
+    let done = [boxes.offer_out(lost), boxes.step(NetEvent::ImpUp(imp))];
+    assert_eq!(rt; done, [Ok(()), Err(CarrierFault::NoSuch)]);
+    let taken = [taking(&mut boxes, nobody), taking(&mut boxes, flow.source)];
+    let dead = Some((flow, Some(Answer::Dead), 0));
+    assert_eq!(rt; taken, [Err(CarrierFault::NoSuch), Ok(dead)]);
     Ok(())
 }
