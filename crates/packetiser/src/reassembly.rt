@@ -6,7 +6,7 @@ ghost use Rattle.std.specs.Option.{option_copied};
 ghost use Rattle.leader1822.specs.Mailboxes.{same_flow};
 ghost use Rattle.packetiser.specs.Faults.{Makes};
 ghost use Rattle.packetiser.specs.Form.{Form, flow_of};
-ghost use Rattle.packetiser.specs.Slots.{SlotState, numbers_of, comes_before, pieces_at, kept_for, is_old, with_piece, is_whole_from, joined, gathered, without, put, has_room, outcome_of, answer_of, added, kept, in_some_order, slot_of, IsTable, IsInOrder};
+ghost use Rattle.packetiser.specs.Slots.{SlotState, comes_before, pieces_at, kept_for, is_old, with_piece, is_whole_from, joined, gathered, without, put, has_room, outcome_of, answer_of, added, kept, in_some_order, slot_of, IsTable, IsInOrder};
 
 use crate::format::SLOTS;
 use crate::{Packet, PacketFault, PacketKind};
@@ -71,14 +71,14 @@ impl Slot {
     fn is_of(&self, flow: &Flow) -> bool
         ensures { result ≡ same_flow flow.now self.now.flow }
     {
-        is_same(flow, &self.flow)
+        *flow == self.flow
     }
 
     /// Whether its flow comes before this one.
     fn is_before(&self, flow: &Flow) -> bool
         ensures { result ≡ comes_before self.now.flow flow.now }
     {
-        comes_before(&self.flow, flow)
+        self.flow < *flow
     }
 
     /// What it holds of the message with this number.
@@ -252,44 +252,6 @@ fn open_slot(slots: &mut Vec<Slot>, alloc: Global, packet: Packet) -> Result<(),
         },
     )?;
     Ok(())
-}
-
-/// Whether two flows are one.
-fn is_same(one: &Flow, other: &Flow) -> bool
-    ensures { result ≡ same_flow one.now other.now }
-{
-    one.source.imp() == other.source.imp()
-        && one.source.host() == other.source.host()
-        && one.destination.imp() == other.destination.imp()
-        && one.destination.host() == other.destination.host()
-        && one.link.0 == other.link.0
-}
-
-/// Whether a flow comes before another in the order of the slots.
-fn comes_before(one: &Flow, other: &Flow) -> bool
-    ensures { result ≡ comes_before one.now other.now }
-{
-    let a = numbers_of(one);
-    let b = numbers_of(other);
-    a[0] < b[0]
-        || a[0] == b[0]
-            && (a[1] < b[1]
-                || a[1] == b[1]
-                    && (a[2] < b[2]
-                        || a[2] == b[2] && (a[3] < b[3] || a[3] == b[3] && a[4] < b[4])))
-}
-
-/// The numbers that a flow goes by.
-fn numbers_of(flow: &Flow) -> [u8; 5]
-    ensures { result ≡ numbers_of flow.now }
-{
-    [
-        flow.source.imp(),
-        flow.source.host(),
-        flow.destination.imp(),
-        flow.destination.host(),
-        flow.link.0,
-    ]
 }
 
 /// Where the slot of a flow is.
