@@ -1,6 +1,5 @@
 //! Worked examples of packets, cutting and reassembly.
 
-ghost use Rattle.std.specs.Prelude.{IfOk};
 ghost use Rattle.packetiser.specs.Form.{IsPacketHost};
 
 use crate::{Added, Outcome, Packet, PacketFault, PacketKind, Reassembly, cut};
@@ -11,57 +10,70 @@ use std::process::Abort;
 use std::test::Fail;
 
 /// The flow from 0/1 to 0/2 on this link.
-fn flow(link: u8) -> Result<Flow, Fail>
-    ensures source { IfOk result (λ flow. IsPacketHost flow.source) }
-    ensures destination { IfOk result (λ flow. IsPacketHost flow.destination) }
+fn flow(link: u8) -> Flow
+    ensures source { IsPacketHost result.source }
+    ensures destination { IsPacketHost result.destination }
 {
-    let source = HostAddr::new(0, 1).ok_or("no host 0/1")?;
-    let destination = HostAddr::new(0, 2).ok_or("no host 0/2")?;
-    Ok(Flow {
-        source,
-        destination,
+    Flow {
+        source: HostAddr::new(0, 1).unwrap(),
+        destination: HostAddr::new(0, 2).unwrap(),
         link: Link(link),
-    })
+    }
 }
 
-/// A list of so many ones.
-fn ones(alloc: Global, count: usize) -> Result<Bits, Fail> {
+/// A list of so many bits, all alike.
+fn alike(alloc: Global, bit: bool, count: usize) -> Result<Bits, PacketFault> {
     let mut bits = Bits::new(alloc);
     for _ in 0..count {
-        bits.push(true)?;
+        if bits.push(bit).is_err() {
+            return Err(PacketFault::OutOfMemory);
+        }
     }
     Ok(bits)
 }
 
-/// The packets of a message of so many ones from 0/1 to 0/2.
-fn pieces(alloc: Global, link: u8, number: u8, count: usize) -> Result<Vec<Packet>, Fail> {
-    let flow = flow(link)?;
-    let text = Text::new(ones(alloc, count)?).ok_or("too long a text")?;
-    Ok(cut(alloc, &HostMessage { flow, text }, number)?)
+/// The packets of the message with this number and these bits from 0/1 to 0/2.
+fn packets_of(alloc: Global, link: u8, number: u8, bits: Bits) -> Result<Vec<Packet>, PacketFault> {
+    let Some(text) = Text::new(bits) else {
+        return Err(PacketFault::BadLength);
+    };
+    let flow = flow(link);
+    cut(alloc, &HostMessage { flow, text }, number)
 }
 
-/// The packet of such a message at a place.
-fn piece(alloc: Global, link: u8, number: u8, count: usize, place: usize) -> Result<Packet, Fail> {
+/// The packets of a message of so many ones from 0/1 to 0/2.
+fn pieces(alloc: Global, link: u8, number: u8, count: usize) -> Result<Vec<Packet>, PacketFault> {
+    packets_of(alloc, link, number, alike(alloc, true, count)?)
+}
+
+/// The packet of such a message at a place where there is one.
+fn piece(
+    alloc: Global,
+    link: u8,
+    number: u8,
+    count: usize,
+    place: usize,
+) -> Result<Packet, PacketFault> {
     let mut packets = pieces(alloc, link, number, count)?;
     if place >= packets.len() {
-        return Err("no such piece".into());
+        return Err(PacketFault::Short);
     }
     Ok(packets.remove(place))
 }
 
-/// Gives a piece to reassembly, which must have said before what becomes of it.
-fn give(alloc: Global, slots: &mut Reassembly, packet: Packet) -> Result<Added, Fail> {
+/// Gives a piece to reassembly: what that said before would become of it, and what became of it.
+fn give(
+    alloc: Global,
+    slots: &mut Reassembly,
+    packet: Packet,
+) -> Result<(Outcome, Added), PacketFault> {
     match packet.kind() {
         PacketKind::Data => {
-            let outcome = slots.outcome(&packet);
+            let said = slots.outcome(&packet);
             let added = slots.add(alloc, packet)?;
-            if outcome == named(&added) {
-                Ok(added)
-            } else {
-                Err("another outcome".into())
-            }
+            Ok((said, added))
         }
-        _ => Err("no piece".into()),
+        _ => Err(PacketFault::NotCanonical),
     }
 }
 
@@ -75,23 +87,150 @@ fn named(added: &Added) -> Outcome {
     }
 }
 
-/// Why octets are no packet; nothing where they are read and written again.
-fn verdict(alloc: Global, octets: &[u8]) -> Result<Option<PacketFault>, Fail> {
-    match Packet::read(alloc, octets) {
-        Ok(packet) => {
-            let again = packet.write(alloc)?;
-            if again.as_slice() == octets {
-                Ok(None)
-            } else {
-                Err("another spelling".into())
-            }
-        }
-        Err(fault) => Ok(Some(fault)),
+/// A piece that comes: its link, its message's number and how many ones that is, its place, and what
+/// becomes of it.
+type Row = (u8, u8, usize, usize, Outcome);
+
+/// What was said would become of a row's piece, and what became of it.
+fn outcomes(alloc: Global, slots: &mut Reassembly, row: Row) -> Result<[Outcome; 2], PacketFault> {
+    let (link, number, count, place, _) = row;
+    let packet = piece(alloc, link, number, count, place)?;
+    let (said, added) = give(alloc, slots, packet)?;
+    Ok([said, named(&added)])
+}
+
+/// Checks what becomes of pieces that come one after the other.
+fn check_rows(rt: &impl Abort, alloc: Global, slots: &mut Reassembly, rows: &[Row]) {
+    for row in rows {
+        let want = row.4;
+        assert_eq!(rt; outcomes(alloc, slots, *row), Ok([want, want]), "{row:?}");
     }
 }
 
+/// Whether a piece of 3000 ones makes them whole, as reassembly said before, and whether nothing is held
+/// then.
+fn completes(
+    alloc: Global,
+    slots: &mut Reassembly,
+    place: usize,
+) -> Result<[bool; 2], PacketFault> {
+    let packet = piece(alloc, 5, 0, 3000, place)?;
+    let (said, added) = give(alloc, slots, packet)?;
+    let is_whole = said == Outcome::Whole && has_body(alloc, &added, 3000)?;
+    Ok([is_whole, slots.held(0).is_none()])
+}
+
+/// Whether a message is whole, with the body of so many ones.
+fn has_body(alloc: Global, added: &Added, count: usize) -> Result<bool, PacketFault> {
+    let Ok(body) = alike(alloc, true, count)?.pad16(alloc) else {
+        return Err(PacketFault::OutOfMemory);
+    };
+    match added {
+        Added::Whole(whole) => Ok(*whole == body),
+        _ => Ok(false),
+    }
+}
+
+/// Which links have a message held that is numbered like its link, one bit for each of so many messages.
+fn links_held(slots: &Reassembly, count: usize) -> Option<u16> {
+    let mut links = 0;
+    for k in 0..count {
+        let held = slots.held(k)?;
+        if held.flow.link != Link(held.number) {
+            return None;
+        }
+        links ^= 1u16 << (held.number % 16);
+    }
+    Some(links)
+}
+
+/// Whether octets are read as a packet and written again; else why they are no packet.
+fn verdict(alloc: Global, octets: &[u8]) -> Result<bool, PacketFault> {
+    let packet = Packet::read(alloc, octets)?;
+    Ok(is_written(alloc, &packet, octets))
+}
+
+/// Whether a packet is written as these octets.
+fn is_written(alloc: Global, packet: &Packet, octets: &[u8]) -> bool {
+    match packet.write(alloc) {
+        Ok(written) => written.as_slice() == octets,
+        Err(_) => false,
+    }
+}
+
+/// Whether a copy of the request, the RFNM and the packet of the empty message are written as they stand
+/// here.
+fn all_written(alloc: Global) -> Result<[bool; 3], PacketFault> {
+    let request = Packet::read(alloc, &RTS)?.clone()?;
+    let answer = Packet::new(PacketKind::Rfnm, flow(5), 0, 0, true, Bits::new(alloc));
+    let empty = piece(alloc, 5, 0, 0, 0)?;
+    Ok([
+        is_written(alloc, &request, &RTS),
+        is_written(alloc, &answer, &RFNM),
+        is_written(alloc, &empty, &EMPTY),
+    ])
+}
+
+/// Whether bits are written as these octets.
+fn spells(alloc: Global, bits: &Bits, octets: &[u8]) -> bool {
+    match bits.to_octets(alloc) {
+        Ok(written) => written.as_slice() == octets,
+        Err(_) => false,
+    }
+}
+
+/// All that a packet says but its bits; a host's number stands in front of its IMP's.
+#[derive(Clone, Copy, Debug, PartialEq)]
+struct Header {
+    kind: PacketKind,
+    source: [u8; 2],
+    destination: [u8; 2],
+    link: Link,
+    number: u8,
+    place: u8,
+    last: bool,
+}
+
+/// What this packet says.
+fn header_of(packet: &Packet) -> Header {
+    let flow = packet.flow();
+    Header {
+        kind: packet.kind(),
+        source: [flow.source.host(), flow.source.imp()],
+        destination: [flow.destination.host(), flow.destination.imp()],
+        link: flow.link,
+        number: packet.number(),
+        place: packet.place(),
+        last: packet.is_last(),
+    }
+}
+
+/// A packet's place, whether it is the last, and how many bits it has.
+fn shape(packet: &Packet) -> (usize, bool, usize) {
+    (
+        packet.place() as usize,
+        packet.is_last(),
+        packet.bits().len(),
+    )
+}
+
+/// How many packets the longest message of zeros has, and of the last one: whether it says that it is
+/// the last, and its bits at 1006 and 1007.
+fn longest(alloc: Global) -> Result<(usize, [Option<bool>; 3]), PacketFault> {
+    let packets = packets_of(alloc, 5, 0, alike(alloc, false, 8063)?)?;
+    let ends = match packets.as_slice() {
+        [.., last] => [
+            Some(last.is_last()),
+            last.bits().get(1006),
+            last.bits().get(1007),
+        ],
+        [] => [None; 3],
+    };
+    Ok((packets.len(), ends))
+}
+
 /// The octets with one of them changed.
-fn changed(alloc: Global, octets: &[u8], at: usize, to: u8) -> Result<Vec<u8>, Fail> {
+fn changed(alloc: Global, octets: &[u8], at: usize, to: u8) -> Result<Vec<u8>, PacketFault> {
     let mut copy = Vec::new(alloc);
     for (k, octet) in octets.iter().enumerate() {
         copy.push(if k == at { to } else { *octet })?;
@@ -99,13 +238,19 @@ fn changed(alloc: Global, octets: &[u8], at: usize, to: u8) -> Result<Vec<u8>, F
     Ok(copy)
 }
 
-const READ: Option<PacketFault> = None;
+/// The verdict on the octets with one of them changed.
+fn verdict_changed(alloc: Global, octets: &[u8], at: usize, to: u8) -> Result<bool, PacketFault> {
+    let copy = changed(alloc, octets, at, to)?;
+    verdict(alloc, &copy)
+}
 
-const SHORT: Option<PacketFault> = Some(PacketFault::Short);
+const READ: Result<bool, PacketFault> = Ok(true);
 
-const NOT: Option<PacketFault> = Some(PacketFault::NotCanonical);
+const SHORT: Result<bool, PacketFault> = Err(PacketFault::Short);
 
-const LENGTH: Option<PacketFault> = Some(PacketFault::BadLength);
+const NOT: Result<bool, PacketFault> = Err(PacketFault::NotCanonical);
+
+const LENGTH: Result<bool, PacketFault> = Err(PacketFault::BadLength);
 
 /// The empty message from 0/1 to 0/2 on link 5, number 0.
 const EMPTY: [u8; 10] = [0, 1, 2, 5, 0, 0x80, 0, 0x10, 0x80, 0];
@@ -119,27 +264,26 @@ const RTS: [u8; 24] = [
 ];
 
 /// What becomes of a header when one octet of it is changed to 0, 127 and 255.
-type Sweep = [[Option<PacketFault>; 3]; 8];
+type Sweep = [[Result<bool, PacketFault>; 3]; 8];
 
 /// Checks a packet, its fronts, and it with each octet changed; octets behind the header can be any.
-fn sweep(rt: &impl Abort, alloc: Global, octets: &[u8], table: &Sweep) -> Result<(), Fail> {
-    assert_eq!(rt; verdict(alloc, octets)?, READ);
+fn sweep(rt: &impl Abort, alloc: Global, octets: &[u8], table: &Sweep) {
+    assert_eq!(rt; verdict(alloc, octets), READ);
     for end in 0..octets.len() {
         let (front, _) = octets.split_at(end);
-        assert_eq!(rt; verdict(alloc, front)?, SHORT, "the first {end}");
+        assert_eq!(rt; verdict(alloc, front), SHORT, "the first {end}");
     }
     for at in 0..octets.len() {
         let wanted = table.get(at).copied().unwrap_or([READ; 3]);
         for (to, want) in [(0, wanted[0]), (127, wanted[1]), (255, wanted[2])] {
-            let copy = changed(alloc, octets, at, to)?;
-            assert_eq!(rt; verdict(alloc, &copy)?, want, "octet {at} changed to {to}");
+            let found = verdict_changed(alloc, octets, at, to);
+            assert_eq!(rt; found, want, "octet {at} changed to {to}");
         }
     }
-    Ok(())
 }
 
 #[test]
-fn the_empty_packet_is_read_and_refused_octet_by_octet(rt: HostRuntime) -> Result<(), Fail> {
+fn the_empty_packet_is_read_and_refused_octet_by_octet(rt: HostRuntime) {
     sweep(
         &rt,
         rt.alloc(),
@@ -154,11 +298,11 @@ fn the_empty_packet_is_read_and_refused_octet_by_octet(rt: HostRuntime) -> Resul
             [READ, SHORT, SHORT],
             [NOT, SHORT, SHORT],
         ],
-    )
+    );
 }
 
 #[test]
-fn its_rfnm_is_read_and_refused_octet_by_octet(rt: HostRuntime) -> Result<(), Fail> {
+fn its_rfnm_is_read_and_refused_octet_by_octet(rt: HostRuntime) {
     sweep(
         &rt,
         rt.alloc(),
@@ -173,11 +317,11 @@ fn its_rfnm_is_read_and_refused_octet_by_octet(rt: HostRuntime) -> Result<(), Fa
             [READ, SHORT, SHORT],
             [READ, SHORT, SHORT],
         ],
-    )
+    );
 }
 
 #[test]
-fn a_request_is_read_and_refused_octet_by_octet(rt: HostRuntime) -> Result<(), Fail> {
+fn a_request_is_read_and_refused_octet_by_octet(rt: HostRuntime) {
     sweep(
         &rt,
         rt.alloc(),
@@ -192,7 +336,7 @@ fn a_request_is_read_and_refused_octet_by_octet(rt: HostRuntime) -> Result<(), F
             [READ, SHORT, SHORT],
             [NOT, LENGTH, SHORT],
         ],
-    )
+    );
 }
 
 #[test]
@@ -214,62 +358,48 @@ fn a_full_packet_is_read_and_refused_octet_by_octet(rt: HostRuntime) -> Result<(
                 [NOT, SHORT, SHORT],
                 [NOT, NOT, SHORT],
             ],
-        )?;
+        );
     }
     Ok(())
 }
 
 #[test]
-fn octets_that_spell_no_packet_are_refused_by_name(rt: HostRuntime) -> Result<(), Fail> {
-    let alloc = rt.alloc();
+fn octets_that_spell_no_packet_are_refused_by_name(rt: HostRuntime) {
     let behind = [0, 1, 2, 5, 0, 0x80, 0, 0x10, 0x80, 0, 0];
-    assert_eq!(rt; verdict(alloc, &behind)?, NOT, "an octet behind the end");
     let unfinished = [0, 1, 2, 5, 0, 0x07, 0, 0x10, 0x80, 0];
-    assert_eq!(rt; verdict(alloc, &unfinished)?, NOT, "place 7, not the last");
     let octet = [0, 1, 2, 5, 0, 0x80, 0, 8, 0x80];
-    assert_eq!(rt; verdict(alloc, &octet)?, LENGTH, "half a unit");
     let dead = [2, 1, 2, 5, 0, 0x80, 0, 0];
-    assert_eq!(rt; verdict(alloc, &dead)?, READ, "an answer");
-    Ok(())
+    for (octets, want, what) in [
+        (behind.as_slice(), NOT, "an octet behind the end"),
+        (unfinished.as_slice(), NOT, "place 7, not the last"),
+        (octet.as_slice(), LENGTH, "half a unit"),
+        (dead.as_slice(), READ, "an answer"),
+    ] {
+        assert_eq!(rt; verdict(rt.alloc(), octets), want, "{what}");
+    }
 }
 
 #[test]
 fn a_packet_says_what_its_octets_spell(rt: HostRuntime) -> Result<(), Fail> {
     let alloc = rt.alloc();
     let packet = Packet::read(alloc, &[0, 0xC1, 0x42, 9, 200, 0x83, 0, 0x10, 0xA5, 0x80])?;
-    assert_eq!(rt; packet.kind(), PacketKind::Data);
-    let flow = packet.flow();
-    assert_eq!(rt; flow.source.host(), 3);
-    assert_eq!(rt; flow.source.imp(), 1);
-    assert_eq!(rt; flow.destination.host(), 1);
-    assert_eq!(rt; flow.destination.imp(), 2);
-    assert_eq!(rt; flow.link, Link(9));
-    assert_eq!(rt; packet.number(), 200);
-    assert_eq!(rt; packet.place(), 3);
-    assert!(rt; packet.is_last());
-    assert_eq!(rt;
-        packet.bits().to_octets(alloc)?.as_slice(),
-        [0xA5, 0x80].as_slice()
-    );
+    let want = Header {
+        kind: PacketKind::Data,
+        source: [3, 1],
+        destination: [1, 2],
+        link: Link(9),
+        number: 200,
+        place: 3,
+        last: true,
+    };
+    let is_spelled = spells(alloc, packet.bits(), &[0xA5, 0x80]);
+    assert_eq!(rt; (header_of(&packet), is_spelled), (want, true));
     Ok(())
 }
 
 #[test]
-fn a_copy_is_written_alike(rt: HostRuntime) -> Result<(), Fail> {
-    let alloc = rt.alloc();
-    let packet = Packet::read(alloc, &RTS)?;
-    assert_eq!(rt; packet.clone()?.write(alloc)?.as_slice(), RTS.as_slice());
-    let answer = Packet::new(PacketKind::Rfnm, flow(5)?, 0, 0, true, Bits::new(alloc));
-    assert_eq!(rt; answer.write(alloc)?.as_slice(), RFNM.as_slice());
-    Ok(())
-}
-
-#[test]
-fn the_empty_message_is_one_packet(rt: HostRuntime) -> Result<(), Fail> {
-    let alloc = rt.alloc();
-    let packet = piece(alloc, 5, 0, 0, 0)?;
-    assert_eq!(rt; packet.write(alloc)?.as_slice(), EMPTY.as_slice());
-    Ok(())
+fn a_copy_an_answer_and_the_empty_message_are_written(rt: HostRuntime) {
+    assert_eq!(rt; all_written(rt.alloc()), Ok([true, true, true]));
 }
 
 #[test]
@@ -287,37 +417,26 @@ fn a_message_is_cut_into_full_packets_and_a_rest(rt: HostRuntime) -> Result<(), 
         assert_eq!(rt; cut.len(), packets, "packets of {count} bits");
         for (place, packet) in cut.iter().enumerate() {
             let last = place + 1 == packets;
-            assert_eq!(rt; packet.place() as usize, place, "of {count} bits");
-            assert_eq!(rt; packet.is_last(), last, "of {count} bits");
             let size = if last { rest } else { 1008 };
-            assert_eq!(rt; packet.bits().len(), size, "piece {place} of {count} bits");
+            assert_eq!(rt;
+                shape(packet),
+                (place, last, size),
+                "piece {place} of {count} bits"
+            );
         }
     }
     Ok(())
 }
 
 #[test]
-fn the_longest_message_ends_with_its_mark(rt: HostRuntime) -> Result<(), Fail> {
-    let alloc = rt.alloc();
-    let mut bits = Bits::new(alloc);
-    for _ in 0..8063 {
-        bits.push(false)?;
-    }
-    let flow = flow(5)?;
-    let text = Text::new(bits).ok_or("too long a text")?;
-    let mut packets = cut(alloc, &HostMessage { flow, text }, 0)?;
-    assert_eq!(rt; packets.len(), 8);
-    let last = packets.pop().ok_or("no packet")?;
-    assert!(rt; last.is_last());
-    assert_eq!(rt; last.bits().get(1006), Some(false));
-    assert_eq!(rt; last.bits().get(1007), Some(true));
-    Ok(())
+fn the_longest_message_ends_with_its_mark(rt: HostRuntime) {
+    let want = (8, [Some(true), Some(false), Some(true)]);
+    assert_eq!(rt; longest(rt.alloc()), Ok(want));
 }
 
 #[test]
-fn pieces_rejoin_in_any_order(rt: HostRuntime) -> Result<(), Fail> {
+fn pieces_rejoin_in_any_order(rt: HostRuntime) {
     let alloc = rt.alloc();
-    let body = ones(alloc, 3000)?.pad16(alloc)?;
     for order in [
         [0, 1, 2],
         [0, 2, 1],
@@ -328,95 +447,83 @@ fn pieces_rejoin_in_any_order(rt: HostRuntime) -> Result<(), Fail> {
     ] {
         let mut slots = Reassembly::new(alloc);
         let [first, second, third] = order;
-        for (place, want) in [
-            (first, Outcome::Kept),
-            (first, Outcome::Old),
-            (second, Outcome::Kept),
-            (first, Outcome::Old),
-            (second, Outcome::Old),
-        ] {
-            let added = give(alloc, &mut slots, piece(alloc, 5, 0, 3000, place)?)?;
-            assert_eq!(rt; named(&added), want, "piece {place} of {order:?}");
-        }
-        match give(alloc, &mut slots, piece(alloc, 5, 0, 3000, third)?)? {
-            Added::Whole(whole) => assert!(rt; whole == body, "in order {order:?}"),
-            _ => assert!(rt; false, "not whole in order {order:?}"),
-        }
-        assert!(rt; slots.held(0).is_none());
+        let rows = [
+            (5, 0, 3000, first, Outcome::Kept),
+            (5, 0, 3000, first, Outcome::Old),
+            (5, 0, 3000, second, Outcome::Kept),
+            (5, 0, 3000, first, Outcome::Old),
+            (5, 0, 3000, second, Outcome::Old),
+        ];
+        check_rows(&rt, alloc, &mut slots, &rows);
+        let done = completes(alloc, &mut slots, third);
+        assert_eq!(rt; done, Ok([true, true]), "in order {order:?}");
     }
-    Ok(())
 }
 
 #[test]
-fn eight_messages_are_held_at_once(rt: HostRuntime) -> Result<(), Fail> {
+fn eight_messages_are_held_at_once(rt: HostRuntime) {
     let alloc = rt.alloc();
     let mut slots = Reassembly::new(alloc);
-    for link in 2..10 {
-        let added = give(alloc, &mut slots, piece(alloc, link, 0, 1008, 0)?)?;
-        assert_eq!(rt; named(&added), Outcome::Kept, "link {link}");
-    }
-    let ninth = give(alloc, &mut slots, piece(alloc, 10, 0, 1008, 0)?)?;
-    assert_eq!(rt; named(&ninth), Outcome::Full);
-    let single = give(alloc, &mut slots, piece(alloc, 10, 0, 7, 0)?)?;
-    assert_eq!(rt; named(&single), Outcome::Whole);
-    slots.discard(flow(5)?);
-    let again = give(alloc, &mut slots, piece(alloc, 10, 0, 1008, 0)?)?;
-    assert_eq!(rt; named(&again), Outcome::Kept);
-    Ok(())
+    let rows = [
+        (2, 0, 1008, 0, Outcome::Kept),
+        (3, 0, 1008, 0, Outcome::Kept),
+        (4, 0, 1008, 0, Outcome::Kept),
+        (5, 0, 1008, 0, Outcome::Kept),
+        (6, 0, 1008, 0, Outcome::Kept),
+        (7, 0, 1008, 0, Outcome::Kept),
+        (8, 0, 1008, 0, Outcome::Kept),
+        (9, 0, 1008, 0, Outcome::Kept),
+        (10, 0, 1008, 0, Outcome::Full),
+        (10, 0, 7, 0, Outcome::Whole),
+    ];
+    check_rows(&rt, alloc, &mut slots, &rows);
+    slots.discard(flow(5));
+    check_rows(&rt, alloc, &mut slots, &[(10, 0, 1008, 0, Outcome::Kept)]);
 }
 
 #[test]
-fn each_message_held_is_named_once(rt: HostRuntime) -> Result<(), Fail> {
+fn each_message_held_is_named_once(rt: HostRuntime) {
     let alloc = rt.alloc();
     let mut slots = Reassembly::new(alloc);
-    for link in [9, 2, 5] {
-        give(alloc, &mut slots, piece(alloc, link, link, 1008, 1)?)?;
-    }
-    let mut links = 0;
-    for k in 0..3 {
-        let held = slots.held(k).ok_or("a message is missing")?;
-        assert_eq!(rt; held.flow.link, Link(held.number));
-        links ^= 1u16 << (held.number % 16);
-    }
-    assert_eq!(rt; links, 0b10_0010_0100);
-    assert!(rt; slots.held(3).is_none());
-    Ok(())
+    let rows = [
+        (9, 9, 1008, 1, Outcome::Kept),
+        (2, 2, 1008, 1, Outcome::Kept),
+        (5, 5, 1008, 1, Outcome::Kept),
+    ];
+    check_rows(&rt, alloc, &mut slots, &rows);
+    let is_past = slots.held(3).is_none();
+    assert_eq!(rt;
+        (links_held(&slots, 3), is_past),
+        (Some(0b10_0010_0100), true)
+    );
 }
 
 #[test]
-fn pieces_that_contradict_a_slot_are_dropped(rt: HostRuntime) -> Result<(), Fail> {
-    let alloc = rt.alloc();
-    let mut slots = Reassembly::new(alloc);
-    for (count, place, want) in [
-        (3000, 2, Outcome::Kept),
-        (5000, 3, Outcome::Old),
-        (2000, 1, Outcome::Old),
-        (5000, 2, Outcome::Old),
-        (900, 0, Outcome::Old),
-        (5000, 1, Outcome::Kept),
-        (3000, 0, Outcome::Whole),
-    ] {
-        let added = give(alloc, &mut slots, piece(alloc, 5, 0, count, place)?)?;
-        assert_eq!(rt; named(&added), want, "piece {place} of {count} bits");
-    }
-    Ok(())
+fn pieces_that_contradict_a_slot_are_dropped(rt: HostRuntime) {
+    let mut slots = Reassembly::new(rt.alloc());
+    let rows = [
+        (5, 0, 3000, 2, Outcome::Kept),
+        (5, 0, 5000, 3, Outcome::Old),
+        (5, 0, 2000, 1, Outcome::Old),
+        (5, 0, 5000, 2, Outcome::Old),
+        (5, 0, 900, 0, Outcome::Old),
+        (5, 0, 5000, 1, Outcome::Kept),
+        (5, 0, 3000, 0, Outcome::Whole),
+    ];
+    check_rows(&rt, rt.alloc(), &mut slots, &rows);
 }
 
 #[test]
-fn a_slot_begins_again_with_another_number(rt: HostRuntime) -> Result<(), Fail> {
-    let alloc = rt.alloc();
-    let mut slots = Reassembly::new(alloc);
-    for (number, count, place, want) in [
-        (0, 1008, 0, Outcome::Kept),
-        (1, 1008, 1, Outcome::Kept),
-        (1, 1008, 0, Outcome::Whole),
-        (2, 1008, 0, Outcome::Kept),
-        (2, 7, 0, Outcome::Old),
-        (3, 7, 0, Outcome::Whole),
-        (2, 1008, 1, Outcome::Kept),
-    ] {
-        let added = give(alloc, &mut slots, piece(alloc, 5, number, count, place)?)?;
-        assert_eq!(rt; named(&added), want, "piece {place} of message {number}");
-    }
-    Ok(())
+fn a_slot_begins_again_with_another_number(rt: HostRuntime) {
+    let mut slots = Reassembly::new(rt.alloc());
+    let rows = [
+        (5, 0, 1008, 0, Outcome::Kept),
+        (5, 1, 1008, 1, Outcome::Kept),
+        (5, 1, 1008, 0, Outcome::Whole),
+        (5, 2, 1008, 0, Outcome::Kept),
+        (5, 2, 7, 0, Outcome::Old),
+        (5, 3, 7, 0, Outcome::Whole),
+        (5, 2, 1008, 1, Outcome::Kept),
+    ];
+    check_rows(&rt, rt.alloc(), &mut slots, &rows);
 }
