@@ -1,27 +1,36 @@
 //! Commands and their octets.
 
-use crate::{ByteSize, Command, ConnectionLink, ControlFault, ReceiveSocket, SendSocket, read_one};
-use std::test::Fail;
+ghost use Rattle.std.specs.Prelude.{◌≡◌, false};
+ghost use Rattle.ncp_control.specs.Command.{is_alone};
 
-fn request_to_receive(receive: u32, send: u32, link: u8) -> Option<Command> {
-    Some(Command::Rts {
-        receive: ReceiveSocket::new(receive)?,
-        send: SendSocket::new(send)?,
-        link: ConnectionLink::new(link)?,
-    })
+use crate::{ByteSize, Command, ConnectionLink, ControlFault, ReceiveSocket, SendSocket, read_one};
+use std::alloc::Global;
+use std::process::Abort;
+
+/// The request to receive on socket 16 what socket 33 sends, over link 5.
+pub(super) fn request_to_receive(rt: &impl Abort) -> Command
+    ensures { is_alone result ≡ false }
+{
+    Command::Rts {
+        receive: ReceiveSocket::new(16).expect(rt, "an even number"),
+        send: SendSocket::new(33).expect(rt, "an odd number"),
+        link: ConnectionLink::new(5).expect(rt, "a link"),
+    }
 }
 
-fn request_to_send(send: u32, receive: u32, size: u8) -> Option<Command> {
-    Some(Command::Str {
-        send: SendSocket::new(send)?,
-        receive: ReceiveSocket::new(receive)?,
-        size: ByteSize::new(size)?,
-    })
+/// The request to send from socket 33 to socket 16, in bytes of 8 bits.
+fn request_to_send(rt: &impl Abort) -> Command {
+    Command::Str {
+        send: SendSocket::new(33).expect(rt, "an odd number"),
+        receive: ReceiveSocket::new(16).expect(rt, "an even number"),
+        size: ByteSize::new(8).expect(rt, "a byte size"),
+    }
 }
 
 const DETAIL: [u8; 10] = [14, 7, 0, 0, 0, 0, 0, 0, 0, 0];
 
-const SPELLINGS: [&[u8]; 14] = [
+/// The octets of `commands`, in their order.
+const SPELLINGS: [&[u8]; 17] = [
     &[0],
     &[1, 0, 0, 0, 0x10, 0, 0, 0, 0x21, 5],
     &[2, 0, 0, 0, 0x21, 0, 0, 0, 0x10, 8],
@@ -36,14 +45,17 @@ const SPELLINGS: [&[u8]; 14] = [
     &[11, 1, 14, 7, 0, 0, 0, 0, 0, 0, 0, 0],
     &[12],
     &[13],
+    &[11, 1, 14, 7, 0, 0, 0, 0, 0, 0, 0, 0],
+    &[11, 2, 1, 0, 0, 0, 0, 0, 0, 0, 0, 0],
+    &[11, 3, 9, 8, 7, 6, 5, 4, 3, 2, 1, 255],
 ];
 
-#[test]
-fn each_command_has_its_octets(rt: HostRuntime) -> Result<(), Fail> {
-    let commands = [
+/// A command of each code, and then ERRs that quote too few octets and too many.
+fn commands(rt: &impl Abort) -> [Command; 17] {
+    [
         Command::Nop,
-        request_to_receive(16, 33, 5).ok_or("no RTS")?,
-        request_to_send(33, 16, 8).ok_or("no STR")?,
+        request_to_receive(rt),
+        request_to_send(rt),
         Command::Cls {
             own: 16,
             foreign: 33,
@@ -73,168 +85,166 @@ fn each_command_has_its_octets(rt: HostRuntime) -> Result<(), Fail> {
         },
         Command::Rst,
         Command::Rrp,
-    ];
-    for (command, spelling) in commands.iter().zip(SPELLINGS.iter()) {
-        let octets = command.write(rt.alloc())?;
-        assert_eq!(rt; octets.as_slice(), *spelling, "{command:?}");
-        assert_eq!(rt; command.spelled_len(), spelling.len());
-        assert_eq!(rt; read_one(spelling), Ok((*command, spelling.len())));
+        Command::error(1, &[14, 7]),
+        Command::error(2, &[1, 0, 0, 0]),
+        Command::error(3, &[9, 8, 7, 6, 5, 4, 3, 2, 1, 255, 254]),
+    ]
+}
+
+/// How many shorter fronts of a command's octets, from the empty one on, are read as too short.
+fn short_fronts(spelling: &[u8]) -> usize {
+    for length in 0..spelling.len() {
+        let (front, _) = spelling.split_at(length);
+        let quoted = length.min(10);
+        if read_one(front) != Err(ControlFault::Short { quoted }) {
+            return length;
+        }
+    }
+    spelling.len()
+}
+
+/// Whether a command is written as these octets.
+pub(super) fn is_written_as(
+    alloc: Global,
+    command: Command,
+    spelling: &[u8],
+) -> Result<bool, ControlFault> {
+    Ok(command.write(alloc)?.as_slice() == spelling)
+}
+
+/// Whether a command is written as these octets, has their number, is read from them, and from no
+/// shorter front of them.
+fn agreement(alloc: Global, command: Command, spelling: &[u8]) -> Result<[bool; 4], ControlFault> {
+    Ok([
+        is_written_as(alloc, command, spelling)?,
+        command.spelled_len() == spelling.len(),
+        read_one(spelling) == Ok((command, spelling.len())),
+        short_fronts(spelling) == spelling.len(),
+    ])
+}
+
+#[test]
+fn each_command_has_its_octets(rt: HostRuntime) -> Result<(), ControlFault> {
+    for (command, spelling) in commands(&rt).iter().zip(SPELLINGS.iter()) {
+        assert_eq!(rt;
+            agreement(rt.alloc(), *command, spelling)?,
+            [true; 4],
+            "{command:?}"
+        );
     }
     Ok(())
 }
 
-#[test]
-fn each_shorter_front_is_short(rt: HostRuntime) {
-    for spelling in SPELLINGS {
-        for length in 0..spelling.len() {
-            let (front, _) = spelling.split_at(length);
-            let quoted = length.min(10);
-            assert_eq!(rt;
-                read_one(front),
-                Err(ControlFault::Short { quoted }),
-                "{spelling:?} {length}"
-            );
-        }
-    }
-}
-
-/// What reading gives where one octet of a command was changed: for the octets in order `N` a NOP, `C`
-/// the command with that octet changed, `E` erroneous, `I` an illegal code.
-const CHANGED: [(u8, [&[u8]; 14]); 3] = [
-    (
-        0x00,
-        [
-            b"N",
-            b"NCCCCCCCEE",
-            b"NCCCECCCCE",
-            b"NCCCCCCCC",
-            b"NCCCCCCC",
-            b"NCCC",
-            b"NCCCCCCC",
-            b"NC",
-            b"NC",
-            b"NC",
-            b"NC",
-            b"NCCCCCCCCCCC",
-            b"N",
-            b"N",
-        ],
-    ),
-    (
-        0x7F,
-        [
-            b"I",
-            b"ICCCECCCCE",
-            b"ICCCCCCCEC",
-            b"ICCCCCCCC",
-            b"ICCCCCCC",
-            b"ICCC",
-            b"ICCCCCCC",
-            b"IC",
-            b"IC",
-            b"IC",
-            b"IC",
-            b"ICCCCCCCCCCC",
-            b"I",
-            b"I",
-        ],
-    ),
-    (
-        0xFF,
-        [
-            b"I",
-            b"ICCCECCCCE",
-            b"ICCCCCCCEC",
-            b"ICCCCCCCC",
-            b"ICCCCCCC",
-            b"ICCC",
-            b"ICCCCCCC",
-            b"IC",
-            b"IC",
-            b"IC",
-            b"IC",
-            b"ICCCCCCCCCCC",
-            b"I",
-            b"I",
-        ],
-    ),
+/// What reading gives where one octet of a command was changed, to 0, to 0x7F and to 0xFF: for the octets
+/// in order `N` a NOP, `C` the command with that octet changed, `E` erroneous, `I` an illegal code.
+const CHANGED: [[&[u8]; 3]; 17] = [
+    [b"N", b"I", b"I"],
+    [b"NCCCCCCCEE", b"ICCCECCCCE", b"ICCCECCCCE"],
+    [b"NCCCECCCCE", b"ICCCCCCCEC", b"ICCCCCCCEC"],
+    [b"NCCCCCCCC", b"ICCCCCCCC", b"ICCCCCCCC"],
+    [b"NCCCCCCC", b"ICCCCCCC", b"ICCCCCCC"],
+    [b"NCCC", b"ICCC", b"ICCC"],
+    [b"NCCCCCCC", b"ICCCCCCC", b"ICCCCCCC"],
+    [b"NC", b"IC", b"IC"],
+    [b"NC", b"IC", b"IC"],
+    [b"NC", b"IC", b"IC"],
+    [b"NC", b"IC", b"IC"],
+    [b"NCCCCCCCCCCC", b"ICCCCCCCCCCC", b"ICCCCCCCCCCC"],
+    [b"N", b"I", b"I"],
+    [b"N", b"I", b"I"],
+    [b"NCCCCCCCCCCC", b"ICCCCCCCCCCC", b"ICCCCCCCCCCC"],
+    [b"NCCCCCCCCCCC", b"ICCCCCCCCCCC", b"ICCCCCCCCCCC"],
+    [b"NCCCCCCCCCCC", b"ICCCCCCCCCCC", b"ICCCCCCCCCCC"],
 ];
 
-#[test]
-fn one_octet_changed(rt: HostRuntime) -> Result<(), Fail> {
-    for (value, rows) in CHANGED {
-        for (spelling, row) in SPELLINGS.iter().zip(rows.iter()) {
-            assert_eq!(rt; spelling.len(), row.len());
-            for (place, kind) in row.iter().enumerate() {
-                let mut octets = spelling.to_vec(rt.alloc())?;
-                if let Some(octet) = octets.get_mut(place) {
-                    *octet = value;
-                }
-                let read = read_one(&octets);
-                let quoted = spelling.len().min(10);
-                match kind {
-                    b'N' => assert_eq!(rt; read, Ok((Command::Nop, 1))),
-                    b'I' => assert_eq!(rt; read, Err(ControlFault::IllegalCode { quoted })),
-                    b'E' => assert_eq!(rt; read, Err(ControlFault::Erroneous { quoted: 10 })),
-                    _ => {
-                        let (command, used) = read?;
-                        assert_eq!(rt; used, spelling.len());
-                        assert_eq!(rt; command.write(rt.alloc())?.as_slice(), octets.as_slice());
-                    }
-                }
-            }
+/// The letter, as in `CHANGED`, of what reading a command's octets gives, one of which was changed; `?`
+/// for a command that has other octets.
+fn letter(alloc: Global, octets: &[u8]) -> Result<u8, ControlFault> {
+    let quoted = octets.len().min(10);
+    let read = read_one(octets);
+    if read == Ok((Command::Nop, 1)) {
+        return Ok(b'N');
+    }
+    if read == Err(ControlFault::IllegalCode { quoted }) {
+        return Ok(b'I');
+    }
+    if read == Err(ControlFault::Erroneous { quoted: 10 }) {
+        return Ok(b'E');
+    }
+    let (command, used) = read?;
+    let written = command.write(alloc)?;
+    if used == octets.len() && written.as_slice() == octets {
+        Ok(b'C')
+    } else {
+        Ok(b'?')
+    }
+}
+
+/// Whether a command's octets are read as these letters say, each changed to this value in turn.
+fn changed_reads_as(
+    alloc: Global,
+    spelling: &[u8],
+    value: u8,
+    letters: &[u8],
+) -> Result<bool, ControlFault> {
+    for (place, kind) in letters.iter().enumerate() {
+        let mut octets = spelling.to_vec(alloc)?;
+        if let Some(octet) = octets.get_mut(place) {
+            *octet = value;
         }
+        if letter(alloc, &octets)? != *kind {
+            return Ok(false);
+        }
+    }
+    Ok(letters.len() == spelling.len())
+}
+
+/// Whether this holds for each of the three values that `CHANGED` has letters for.
+fn each_change_reads_as(
+    alloc: Global,
+    spelling: &[u8],
+    letters: &[&[u8]; 3],
+) -> Result<[bool; 3], ControlFault> {
+    Ok([
+        changed_reads_as(alloc, spelling, 0x00, letters[0])?,
+        changed_reads_as(alloc, spelling, 0x7F, letters[1])?,
+        changed_reads_as(alloc, spelling, 0xFF, letters[2])?,
+    ])
+}
+
+#[test]
+fn one_octet_changed(rt: HostRuntime) -> Result<(), ControlFault> {
+    for (spelling, letters) in SPELLINGS.iter().zip(CHANGED.iter()) {
+        let as_said = each_change_reads_as(rt.alloc(), spelling, letters)?;
+        assert_eq!(rt; as_said, [true; 3], "{spelling:?}");
     }
     Ok(())
 }
 
 #[test]
-fn faults_say_what_an_err_quotes(rt: HostRuntime) {
-    let table: [(&[u8], ControlFault); 7] = [
-        (&[], ControlFault::Short { quoted: 0 }),
-        (&[14], ControlFault::IllegalCode { quoted: 1 }),
-        (&[14, 7], ControlFault::IllegalCode { quoted: 2 }),
+fn octets_are_read_as_a_command_or_a_fault(rt: HostRuntime) {
+    let table: [(&[u8], Result<(Command, usize), ControlFault>); 8] = [
+        (&[], Err(ControlFault::Short { quoted: 0 })),
+        (&[14], Err(ControlFault::IllegalCode { quoted: 1 })),
+        (&[14, 7], Err(ControlFault::IllegalCode { quoted: 2 })),
         (
             &[255, 1, 2, 3, 4, 5, 6, 7, 8, 9, 10, 11],
-            ControlFault::IllegalCode { quoted: 10 },
+            Err(ControlFault::IllegalCode { quoted: 10 }),
         ),
-        (&[4, 5], ControlFault::Short { quoted: 2 }),
+        (&[4, 5], Err(ControlFault::Short { quoted: 2 })),
         (
             &[1, 0, 0, 0, 0x11, 0, 0, 0, 0x21, 5],
-            ControlFault::Erroneous { quoted: 10 },
+            Err(ControlFault::Erroneous { quoted: 10 }),
         ),
         (
             &[2, 0, 0, 0, 0x21, 0, 0, 0, 0x10, 0, 7],
-            ControlFault::Erroneous { quoted: 10 },
+            Err(ControlFault::Erroneous { quoted: 10 }),
         ),
+        // what follows is left alone
+        (&[9, 0x41, 14, 7], Ok((Command::Eco { octet: 0x41 }, 2))),
     ];
-    for (octets, fault) in table {
-        assert_eq!(rt; read_one(octets), Err(fault), "{octets:?}");
+    for (octets, read) in table {
+        let found = read_one(octets);
+        assert!(rt; found == read, "{octets:?}: {found:?}");
     }
-}
-
-#[test]
-fn an_err_quotes_ten_octets(rt: HostRuntime) -> Result<(), Fail> {
-    let table: [(u8, &[u8], [u8; 12]); 3] = [
-        (1, &[14, 7], [11, 1, 14, 7, 0, 0, 0, 0, 0, 0, 0, 0]),
-        (2, &[1, 0, 0, 0], [11, 2, 1, 0, 0, 0, 0, 0, 0, 0, 0, 0]),
-        (
-            3,
-            &[9, 8, 7, 6, 5, 4, 3, 2, 1, 255, 254],
-            [11, 3, 9, 8, 7, 6, 5, 4, 3, 2, 1, 255],
-        ),
-    ];
-    for (code, octets, spelling) in table {
-        let error = Command::error(code, octets);
-        assert_eq!(rt; error.write(rt.alloc())?.as_slice(), spelling.as_slice());
-    }
-    Ok(())
-}
-
-#[test]
-fn what_follows_is_left_alone(rt: HostRuntime) {
-    assert_eq!(rt;
-        read_one(&[9, 0x41, 14, 7]),
-        Ok((Command::Eco { octet: 0x41 }, 2))
-    );
 }

@@ -1,7 +1,9 @@
 //! The counters of an allocation.
 
-use crate::{Allocation, Command, DataHeader};
-use std::test::Fail;
+use super::commands::is_written_as;
+use crate::{Allocation, Command, ControlFault, DataHeader};
+use bit_messages::BitFault;
+use std::alloc::Global;
 
 fn of(messages: u16, bits: u32) -> Allocation {
     Allocation { messages, bits }
@@ -26,33 +28,17 @@ fn a_grant_stays_at_the_greatest_number(rt: HostRuntime) {
 #[test]
 fn a_message_takes_the_least_that_may_go(rt: HostRuntime) {
     let full = of(1, 4294967295);
-    assert_eq!(rt; full.may_send(1, 9000), 8023);
-    assert_eq!(rt; full.may_send(8, 2000), 1002);
-    assert_eq!(rt; full.may_send(255, 2000), 31);
-    assert_eq!(rt; full.may_send(8, 7), 7);
-    assert_eq!(rt; of(0, 4294967295).may_send(8, 7), 0);
-    assert_eq!(rt; of(3, 7).may_send(8, 7), 0);
-    assert_eq!(rt; of(3, 8).may_send(8, 7), 1);
-    assert_eq!(rt; Allocation::new().may_send(1, 1), 0);
-}
-
-#[test]
-fn thirteen_octets_and_room_for_twelve(rt: HostRuntime) -> Result<(), Fail> {
-    let mut allocation = Allocation::new();
-    allocation.grant(2, 100);
-    let count = allocation.may_send(8, 13);
-    assert_eq!(rt; count, 12);
-    let header = DataHeader { size: 8, count };
-    let bits = header.write(rt.alloc())?;
-    assert_eq!(rt;
-        bits.to_octets(rt.alloc())?.as_slice(),
-        [0, 8, 0, 12, 0].as_slice()
-    );
-    assert!(rt; allocation.messages == 2 && allocation.bits == 100 && header.data_bits() == 96);
-    allocation.spend(header.data_bits());
-    assert_eq!(rt; allocation, of(1, 4));
-    assert_eq!(rt; allocation.may_send(8, 1), 0);
-    Ok(())
+    let counts = [
+        full.may_send(1, 9000),
+        full.may_send(8, 2000),
+        full.may_send(255, 2000),
+        full.may_send(8, 7),
+        of(0, 4294967295).may_send(8, 7),
+        of(3, 7).may_send(8, 7),
+        of(3, 8).may_send(8, 7),
+        Allocation::new().may_send(1, 1),
+    ];
+    assert_eq!(rt; counts, [8023, 1002, 31, 7, 0, 0, 1, 0]);
 }
 
 #[test]
@@ -79,13 +65,43 @@ fn shares_are_rounded_down(rt: HostRuntime) {
     ];
     for (before, f, g, returned, after) in table {
         let mut allocation = before;
-        assert_eq!(rt; allocation.give_back(f, g), returned);
-        assert_eq!(rt; allocation, after);
+        let given = allocation.give_back(f, g);
+        assert!(rt;
+            given == returned && allocation == after,
+            "{before:?}: {given:?} {allocation:?}"
+        );
     }
 }
 
+/// Whether a header is written as these octets.
+fn header_is_written_as(
+    alloc: Global,
+    header: DataHeader,
+    spelling: &[u8],
+) -> Result<bool, BitFault> {
+    let bits = header.write(alloc)?;
+    Ok(bits.to_octets(alloc)?.as_slice() == spelling)
+}
+
 #[test]
-fn what_is_asked_back_is_returned(rt: HostRuntime) -> Result<(), Fail> {
+fn thirteen_octets_and_room_for_twelve(rt: HostRuntime) -> Result<(), BitFault> {
+    let mut allocation = Allocation::new();
+    allocation.grant(2, 100);
+    let count = allocation.may_send(8, 13);
+    let header = DataHeader { size: 8, count };
+    let written = header_is_written_as(rt.alloc(), header, &[0, 8, 0, 12, 0])?;
+    let bits = header.data_bits();
+    assert!(rt; allocation == of(2, 100) && bits == 96);
+    allocation.spend(bits);
+    assert_eq!(rt;
+        (count, written, allocation, allocation.may_send(8, 1)),
+        (12, true, of(1, 4), 0)
+    );
+    Ok(())
+}
+
+#[test]
+fn what_is_asked_back_is_returned(rt: HostRuntime) -> Result<(), ControlFault> {
     let mut allocation = of(3, 100);
     let (messages, bits) = allocation.give_back(64, 200);
     let ret = Command::Ret {
@@ -93,10 +109,7 @@ fn what_is_asked_back_is_returned(rt: HostRuntime) -> Result<(), Fail> {
         messages,
         bits,
     };
-    assert_eq!(rt;
-        ret.write(rt.alloc())?.as_slice(),
-        [6, 5, 0, 1, 0, 0, 0, 0x64].as_slice()
-    );
-    assert_eq!(rt; allocation, of(2, 0));
+    let written = is_written_as(rt.alloc(), ret, &[6, 5, 0, 1, 0, 0, 0, 0x64])?;
+    assert_eq!(rt; (written, allocation), (true, of(2, 0)));
     Ok(())
 }

@@ -1,38 +1,41 @@
 //! Commands packed into control messages.
 
-use crate::{Command, ConnectionLink, ReceiveSocket, SendSocket, pack, packed_count};
-use std::test::Fail;
+ghost use Rattle.std.specs.Prelude.{not, IsTrue};
+ghost use Rattle.std.specs.List.{list_all};
+ghost use Rattle.ncp_control.specs.Command.{is_alone};
 
-#[test]
-fn of_thirteen_requests_twelve_are_packed(rt: HostRuntime) -> Result<(), Fail> {
-    let request = Command::Rts {
-        receive: ReceiveSocket::new(16).ok_or("odd")?,
-        send: SendSocket::new(33).ok_or("even")?,
-        link: ConnectionLink::new(5).ok_or("no link")?,
-    };
-    let (octets, count) = pack(rt.alloc(), &[request; 13])?;
-    assert_eq!(rt; count, 12);
-    assert_eq!(rt; octets.len(), 120);
-    for command in octets.chunks(10) {
-        assert_eq!(rt; command, [1, 0, 0, 0, 16, 0, 0, 0, 33, 5].as_slice());
-    }
-    Ok(())
+use super::commands::request_to_receive;
+use crate::{Command, ControlFault, pack, packed_count};
+use std::alloc::Global;
+
+/// How many of these commands are packed, and whether their octets are these.
+fn packed(
+    alloc: Global,
+    commands: &[Command],
+    spelling: &[u8],
+) -> Result<(usize, bool), ControlFault>
+    requires { IsTrue (list_all (λ c. not (is_alone c)) commands.now) }
+{
+    let (octets, count) = pack(alloc, commands)?;
+    Ok((count, octets.as_slice() == spelling))
 }
 
 #[test]
-fn a_front_keeps_its_order(rt: HostRuntime) -> Result<(), Fail> {
+fn the_longest_front_is_packed_in_order(rt: HostRuntime) -> Result<(), ControlFault> {
+    let requests = [request_to_receive(&rt); 13];
     let commands = [
         Command::Inr { link: 7 },
         Command::Nop,
         Command::Eco { octet: 65 },
         Command::Ins { link: 9 },
     ];
-    let (octets, count) = pack(rt.alloc(), &commands)?;
-    assert_eq!(rt; count, 4);
-    assert_eq!(rt; octets.as_slice(), [7, 7, 0, 9, 65, 8, 9].as_slice());
-    let (nothing, none) = pack(rt.alloc(), &[])?;
-    assert_eq!(rt; none, 0);
-    assert!(rt; nothing.is_empty());
+    let twelve = [1, 0, 0, 0, 16, 0, 0, 0, 33, 5].repeat(rt.alloc(), 12)?;
+    let found = [
+        packed(rt.alloc(), &requests, &twelve)?,
+        packed(rt.alloc(), &commands, &[7, 7, 0, 9, 65, 8, 9])?,
+        packed(rt.alloc(), &[], &[])?,
+    ];
+    assert_eq!(rt; found, [(12, true), (4, true), (0, true)]);
     Ok(())
 }
 
@@ -43,8 +46,21 @@ fn error() -> Command {
     }
 }
 
+/// Nine ERR and a GVB, which have 112 octets; then this command, and a NOP.
+fn ending_with(next: Command) -> [Command; 12] {
+    let mut commands = [error(); 12];
+    commands[9] = Command::Gvb {
+        link: 5,
+        messages: 0,
+        bits: 0,
+    };
+    commands[10] = next;
+    commands[11] = Command::Nop;
+    commands
+}
+
 #[test]
-fn no_command_is_passed_over(rt: HostRuntime) -> Result<(), Fail> {
+fn no_command_is_passed_over(rt: HostRuntime) {
     let close = Command::Cls {
         own: 16,
         foreign: 33,
@@ -54,20 +70,11 @@ fn no_command_is_passed_over(rt: HostRuntime) -> Result<(), Fail> {
         messages: 1,
         bits: 1,
     };
-    // nine ERR and a GVB have 112 octets; then this command, and a NOP
-    for (next, count) in [(Command::Nop, 12), (error(), 10), (close, 10), (grant, 11)] {
-        let mut commands = Vec::new(rt.alloc());
-        for _ in 0..9u8 {
-            commands.push(error())?;
-        }
-        commands.push(Command::Gvb {
-            link: 5,
-            messages: 0,
-            bits: 0,
-        })?;
-        commands.push(next)?;
-        commands.push(Command::Nop)?;
-        assert_eq!(rt; packed_count(&commands), count);
-    }
-    Ok(())
+    let counts = [
+        packed_count(&ending_with(Command::Nop)),
+        packed_count(&ending_with(error())),
+        packed_count(&ending_with(close)),
+        packed_count(&ending_with(grant)),
+    ];
+    assert_eq!(rt; counts, [12, 10, 10, 11]);
 }
