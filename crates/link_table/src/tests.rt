@@ -1,87 +1,123 @@
-use crate::{Age, DestFlows, FlowFault, Release, SourceFlows};
+//! Worked examples of the numbers of a flow's messages.
+
+use crate::{Age, DestFlows, FlowFault, Number, Release, SourceFlows};
 use leader1822::{Flow, HostAddr, ImpNumber, Link};
-use std::test::Fail;
+use std::process::Abort;
 
-/// The flow from host 0 at one IMP to host 0 at another, on this link.
-fn flow_of(from: u8, to: u8, link: u8) -> Option<Flow> {
-    Some(Flow {
-        source: HostAddr::new(0, from)?,
-        destination: HostAddr::new(0, to)?,
-        link: Link(link),
-    })
+/// The flow from host 0 at this IMP to host 0 at IMP 2, on link 5.
+fn flow_from(rt: &impl Abort, imp: u8) -> Flow {
+    Flow {
+        source: HostAddr::new(0, imp).expect(rt, "a host's address"),
+        destination: HostAddr::new(0, 2).expect(rt, "a host's address"),
+        link: Link(5),
+    }
+}
+
+/// How old a number is where this one is the flow's last.
+fn judged(flows: &mut DestFlows, flow: &Flow, last: Number, number: Number) -> Option<Age> {
+    flows.note(flow, last).ok()?;
+    Some(flows.judge(flow, number))
 }
 
 #[test]
-fn only_the_window_ahead_of_the_last_number_is_new(rt: HostRuntime) -> Result<(), Fail> {
-    let flow = flow_of(1, 2, 5).ok_or("flow")?;
-    let rows = [
-        (5, 5, Age::Old),
-        (5, 6, Age::New),
-        (5, 132, Age::New),
-        (5, 133, Age::Old),
-        (5, 4, Age::Old),
-        (255, 0, Age::New),
-    ];
+fn only_the_window_ahead_of_the_last_number_is_new(rt: HostRuntime) {
+    let flow = flow_from(&rt, 1);
     let mut flows = DestFlows::new(rt.alloc());
-    for (last, number, expected) in rows {
-        flows.note(&flow, last)?;
-        assert_eq!(rt; flows.judge(&flow, number), expected);
-    }
-    Ok(())
+    let ages = [
+        judged(&mut flows, &flow, 5, 5),
+        judged(&mut flows, &flow, 5, 6),
+        judged(&mut flows, &flow, 5, 132),
+        judged(&mut flows, &flow, 5, 133),
+        judged(&mut flows, &flow, 5, 4),
+        judged(&mut flows, &flow, 255, 0),
+    ];
+    let (old, new) = (Some(Age::Old), Some(Age::New));
+    assert_eq!(rt; ages, [old, new, new, old, old, new]);
 }
 
-#[test]
-fn every_number_is_new_where_none_is_kept(rt: HostRuntime) -> Result<(), Fail> {
-    let flow = flow_of(1, 2, 5).ok_or("flow")?;
-    let flows = DestFlows::new(rt.alloc());
+/// The first number that isn't new.
+fn first_old(flows: &DestFlows, flow: &Flow) -> Option<Number> {
     for number in 0..=255u8 {
-        assert_eq!(rt; flows.judge(&flow, number), Age::New);
+        if flows.judge(flow, number) == Age::Old {
+            return Some(number);
+        }
     }
-    Ok(())
+    None
 }
 
 #[test]
-fn a_flow_is_blocked_until_its_host_has_the_answer(rt: HostRuntime) -> Result<(), Fail> {
-    let flow = flow_of(1, 2, 5).ok_or("flow")?;
+fn every_number_is_new_where_none_is_kept(rt: HostRuntime) {
+    let flow = flow_from(&rt, 1);
+    let flows = DestFlows::new(rt.alloc());
+    assert_eq!(rt; first_old(&flows, &flow), None);
+}
+
+#[test]
+fn a_flow_is_blocked_until_its_host_has_the_answer(rt: HostRuntime) {
+    let flow = flow_from(&rt, 1);
     let mut flows = SourceFlows::new(rt.alloc());
-    assert_eq!(rt; flows.begin(&flow), Ok(0));
-    assert_eq!(rt; flows.begin(&flow), Err(FlowFault::Blocked));
-    assert_eq!(rt; flows.answer(&flow, 1), Release::Stale);
-    assert_eq!(rt; flows.outstanding(&flow), Some(0));
-    assert_eq!(rt; flows.answer(&flow, 0), Release::Freed);
-    assert_eq!(rt; flows.begin(&flow), Err(FlowFault::Blocked));
+    let first = (
+        flows.begin(&flow),
+        flows.begin(&flow),
+        flows.answer(&flow, 1),
+        flows.outstanding(&flow),
+        flows.answer(&flow, 0),
+        flows.begin(&flow),
+    );
     flows.handed(&flow);
-    assert_eq!(rt; flows.is_idle(&flow), true);
-    assert_eq!(rt; flows.begin(&flow), Ok(1));
-    assert_eq!(rt; flows.last(&flow), Some(1));
-    Ok(())
+    let second = (flows.is_idle(&flow), flows.begin(&flow), flows.last(&flow));
+    let blocked = Err(FlowFault::Blocked);
+    assert_eq!(rt;
+        (first, second),
+        (
+            (
+                Ok(0),
+                blocked,
+                Release::Stale,
+                Some(0),
+                Release::Freed,
+                blocked
+            ),
+            (true, Ok(1), Some(1)),
+        )
+    );
+}
+
+/// The number of a flow's next message, which is given up, so that the one after it can begin.
+fn number_of_next(flows: &mut SourceFlows, flow: &Flow) -> Result<Number, FlowFault> {
+    let number = flows.begin(flow);
+    flows.give_up(flow);
+    flows.handed(flow);
+    number
 }
 
 #[test]
-fn after_255_comes_0(rt: HostRuntime) -> Result<(), Fail> {
-    let flow = flow_of(1, 2, 5).ok_or("flow")?;
+fn after_255_comes_0(rt: HostRuntime) {
+    let flow = flow_from(&rt, 1);
     let mut flows = SourceFlows::new(rt.alloc());
     for expected in 0..=255u8 {
-        assert_eq!(rt; flows.begin(&flow), Ok(expected));
-        flows.give_up(&flow);
-        flows.handed(&flow);
+        assert_eq!(rt; number_of_next(&mut flows, &flow), Ok(expected));
     }
-    assert_eq!(rt; flows.begin(&flow), Ok(0));
-    Ok(())
+    assert_eq!(rt; number_of_next(&mut flows, &flow), Ok(0));
 }
 
 #[test]
-fn forgetting_one_imp_keeps_the_numbers_of_another(rt: HostRuntime) -> Result<(), Fail> {
-    let near = flow_of(1, 2, 5).ok_or("flow")?;
-    let far = flow_of(3, 2, 5).ok_or("flow")?;
-    let imp = ImpNumber::new(1).ok_or("imp")?;
+fn forgetting_one_imp_keeps_the_numbers_of_another(rt: HostRuntime) {
+    let near = flow_from(&rt, 1);
+    let far = flow_from(&rt, 3);
+    let imp = ImpNumber::new(1).expect(&rt, "an IMP");
     let mut flows = DestFlows::new(rt.alloc());
-    flows.note(&near, 7)?;
-    flows.note(&far, 9)?;
-    assert_eq!(rt; flows.keeps(imp), true);
+    let noted = [flows.note(&near, 7).is_ok(), flows.note(&far, 9).is_ok()];
+    let kept = flows.keeps(imp);
     flows.forget(imp);
-    assert_eq!(rt; flows.keeps(imp), false);
-    assert_eq!(rt; flows.kept(&near), None);
-    assert_eq!(rt; flows.kept(&far), Some(9));
-    Ok(())
+    assert_eq!(rt;
+        (
+            noted,
+            kept,
+            flows.keeps(imp),
+            flows.kept(&near),
+            flows.kept(&far)
+        ),
+        ([true, true], true, false, None, Some(9))
+    );
 }
