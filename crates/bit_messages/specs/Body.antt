@@ -1,5 +1,5 @@
 -- The text of a message and its body, as lists of bits (BBN Report 1822, padding of host messages).
-use Rattle.std.specs.Prelude.{◌≡◌, ℕ, ◌+◌, ◌-◌, ◌*◌, ◌%◌, ◌≤◌, Bool, true, false, not, List, ◌∷◌, ◌++◌, length, replicate, Option, Some, None, nat_lt, ◌||◌, ◌==◌, if◌then◌else◌}
+use Rattle.std.specs.Prelude.{◌≡◌, ℕ, ◌+◌, ◌-◌, ◌%◌, ◌≤◌, Bool, true, false, not, List, ◌∷◌, ◌++◌, length, replicate, Option, Some, None, nat_lt, ◌||◌, ◌==◌, if◌then◌else◌}
 use Rattle.std.specs.List.{list_any, before_last}
 use Rattle.bit_messages.specs.declared.bits.TheConstants.{MAX_TEXT_BITS, BODY_UNIT}
 use Rattle.bit_messages.specs.declared.fault.BitFault.{BitFault}

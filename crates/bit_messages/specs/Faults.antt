@@ -1,5 +1,5 @@
 -- How a call that may refuse answers.
-use Rattle.std.specs.Prelude.{◌≡◌, ℕ, Option, Some, None, Result, Ok, Err}
+use Rattle.std.specs.Prelude.{◌≡◌, Option, Some, None, Result, Ok, Err}
 use Rattle.bit_messages.specs.declared.fault.BitFault.{BitFault}
 use Rattle.bit_messages.specs.declared.fault.BitFault.TheVariants as fault
 

@@ -1,5 +1,5 @@
 -- Octets and their bits, the most significant bit first.
-use Rattle.std.specs.Prelude.{◌≡◌, ℕ, ◌+◌, ◌*◌, ◌/◌, ◌%◌, ◌-◌, Bool, true, false, List, [], ◌∷◌, ◌==◌, length, nat_lt, Option, Some, None, if◌then◌else◌}
+use Rattle.std.specs.Prelude.{ℕ, ◌+◌, ◌*◌, ◌/◌, ◌%◌, ◌-◌, Bool, true, false, List, [], ◌∷◌, ◌==◌, length, nat_lt, Option, Some, None, if◌then◌else◌}
 use Rattle.bit_messages.specs.declared.fault.BitFault.{BitFault}
 use Rattle.bit_messages.specs.declared.fault.BitFault.TheVariants as fault
 use Rattle.std.specs.List.{flat_map}

@@ -1,7 +1,6 @@
 //! Worked examples of frames, and of what the ends of a line do.
 //!
-//! A step at a line's end is answered in a word, so that a test there is a table of its steps, each with the
-//! word that has to come.
+//! A test at a line's ends is a table of steps, each with what has to come of it.
 
 use crate::{ACKS, ChannelFault, Content, Frame, Line, Received, SubmitFault};
 use packetiser::Packet;
@@ -86,66 +85,95 @@ fn channels_and_bits_stand_in_their_places(rt: HostRuntime) {
     );
 }
 
-/// Checks that each step was answered as it should be. The first step is step 0.
-fn all_as_expected(rt: &impl Abort, steps: &[(&str, &str)]) {
+/// What came of a step at a line's end.
+#[derive(Clone, Copy, Debug, PartialEq, Eq)]
+enum Came {
+    /// A frame goes out, with the octets that it has to have.
+    Sent,
+    /// A packet is handed back, with the octets that it had.
+    Back,
+    /// A frame brought a packet, and was called fresh before.
+    Fresh,
+    /// A frame brought a packet once more.
+    Repeat,
+    /// A frame brought acknowledgements alone.
+    Acknowledgements,
+    /// A frame brought distances.
+    Distances,
+    /// A frame was refused as not canonical.
+    NotCanonical,
+    /// A packet is in the channel.
+    Waits,
+    /// No packet is in the channel.
+    Nothing,
+    /// Octets are others than they have to be, or there is not exactly one frame or packet.
+    Other,
+    /// A frame was called fresh and is not, or the other way round.
+    Misjudged,
+    /// No memory was left, or octets could not be read.
+    Failed,
+}
+
+/// Checks that of each step came what has to come. The first step is step 0.
+fn all_as_expected(rt: &impl Abort, steps: &[(Came, Came)]) {
     for (step, (seen, expected)) in steps.iter().enumerate() {
         assert_eq!(rt; seen, expected, "at step {step}");
     }
 }
 
-/// What came of a frame that goes out: "sent" if it has these octets.
-fn sent(alloc: Global, frame: &Frame, octets: &[u8]) -> &'static str {
+/// What comes of a frame that goes out and has to have these octets.
+fn sent(alloc: Global, frame: &Frame, octets: &[u8]) -> Came {
     match frame.write(alloc) {
-        Ok(written) if written.as_slice() == octets => "sent",
-        Ok(_) => "other octets",
-        Err(_) => "out of memory",
+        Ok(written) if written.as_slice() == octets => Came::Sent,
+        Ok(_) => Came::Other,
+        Err(_) => Came::Failed,
     }
 }
 
-/// What came of a packet that comes back: "back" if it has these octets.
-fn back(alloc: Global, packet: &Packet, octets: &[u8]) -> &'static str {
+/// What comes of a packet that is handed back and has to have these octets.
+fn back(alloc: Global, packet: &Packet, octets: &[u8]) -> Came {
     match packet.write(alloc) {
-        Ok(written) if written.as_slice() == octets => "back",
-        Ok(_) => "other octets",
-        Err(_) => "out of memory",
+        Ok(written) if written.as_slice() == octets => Came::Back,
+        Ok(_) => Came::Other,
+        Err(_) => Came::Failed,
     }
 }
 
-/// What came of a packet of these octets that was submitted: "sent" if it went out in a frame of those.
-fn submit(alloc: Global, line: &mut Line, octets: &[u8], frame: &[u8]) -> &'static str {
+/// What comes of a packet of these octets that is submitted, and has to go out in a frame of those.
+fn submit(alloc: Global, line: &mut Line, octets: &[u8], frame: &[u8]) -> Came {
     let Ok(packet) = Packet::read(alloc, octets) else {
-        return "no packet";
+        return Came::Failed;
     };
     match line.submit(packet) {
         Ok(taken) => sent(alloc, &taken, frame),
         Err(SubmitFault::AllBusy(packet)) => back(alloc, &packet, octets),
-        Err(SubmitFault::OutOfMemory(_)) => "out of memory",
+        Err(SubmitFault::OutOfMemory(_)) => Came::Failed,
     }
 }
 
-/// What a frame of these octets brings to an end.
-fn hear(alloc: Global, line: &mut Line, octets: &[u8]) -> &'static str {
+/// What comes of a frame of these octets that an end takes.
+fn hear(alloc: Global, line: &mut Line, octets: &[u8]) -> Came {
     let Ok(frame) = Frame::read(alloc, octets) else {
-        return "no frame";
+        return Came::Failed;
     };
     let called_fresh = line.is_fresh(&frame);
     match line.receive(frame) {
-        Ok(Received::Fresh(_)) if called_fresh => "fresh",
-        _ if called_fresh => "called fresh wrongly",
-        Ok(Received::Fresh(_)) => "fresh and not called so",
-        Ok(Received::Repeat) => "repeat",
-        Ok(Received::AckOnly) => "acknowledgements",
-        Ok(Received::Routes(_)) => "distances",
-        Err(ChannelFault::NotCanonical) => "not canonical",
-        Err(_) => "another fault",
+        Ok(Received::Fresh(_)) if called_fresh => Came::Fresh,
+        _ if called_fresh => Came::Misjudged,
+        Ok(Received::Fresh(_)) => Came::Misjudged,
+        Ok(Received::Repeat) => Came::Repeat,
+        Ok(Received::AckOnly) => Came::Acknowledgements,
+        Ok(Received::Routes(_)) => Came::Distances,
+        Err(ChannelFault::NotCanonical) => Came::NotCanonical,
+        Err(_) => Came::Failed,
     }
 }
 
 /// Whether a packet waits in a channel of an end.
-fn waits(line: &Line, channel: u8) -> &'static str {
+fn waits(line: &Line, channel: u8) -> Came {
     match line.packet(channel) {
-        Some(_) => "waits",
-        None => "none",
+        Some(_) => Came::Waits,
+        None => Came::Nothing,
     }
 }
 
@@ -155,24 +183,24 @@ fn a_packet_is_given_once_and_acknowledged(rt: HostRuntime) -> Result<(), Fail> 
     let mut left = Line::new(alloc)?;
     let mut right = Line::new(alloc)?;
     let steps = [
-        (submit(alloc, &mut left, &READY, &READY_FRAME), "sent"),
-        (hear(alloc, &mut right, &READY_FRAME), "fresh"),
-        (sent(alloc, &right.ack_frame(), &[1, 1]), "sent"),
-        (hear(alloc, &mut right, &READY_FRAME), "repeat"),
-        (sent(alloc, &right.ack_frame(), &[1, 1]), "sent"),
-        (hear(alloc, &mut left, &[1, 1]), "acknowledgements"),
-        (submit(alloc, &mut left, &PIECE, &PIECE_FRAME), "sent"),
+        (submit(alloc, &mut left, &READY, &READY_FRAME), Came::Sent),
+        (hear(alloc, &mut right, &READY_FRAME), Came::Fresh),
+        (sent(alloc, &right.ack_frame(), &[1, 1]), Came::Sent),
+        (hear(alloc, &mut right, &READY_FRAME), Came::Repeat),
+        (sent(alloc, &right.ack_frame(), &[1, 1]), Came::Sent),
+        (hear(alloc, &mut left, &[1, 1]), Came::Acknowledgements),
+        (submit(alloc, &mut left, &PIECE, &PIECE_FRAME), Came::Sent),
     ];
     all_as_expected(&rt, &steps);
     Ok(())
 }
 
-/// What an end sends again: "sent" if it is one frame, of these octets.
-fn resend(alloc: Global, line: &Line, octets: &[u8]) -> &'static str {
+/// What comes of sending again, which has to give one frame of these octets.
+fn resend(alloc: Global, line: &Line, octets: &[u8]) -> Came {
     match line.resend(alloc) {
         Ok(frames) if frames.len() == 1 => sent(alloc, &frames[0], octets),
-        Ok(_) => "not one frame",
-        Err(_) => "out of memory",
+        Ok(_) => Came::Other,
+        Err(_) => Came::Failed,
     }
 }
 
@@ -181,12 +209,12 @@ fn a_busy_line_takes_no_packet_and_sends_its_own_again(rt: HostRuntime) -> Resul
     let alloc = rt.alloc();
     let mut line = Line::new(alloc)?;
     let steps = [
-        (submit(alloc, &mut line, &READY, &READY_FRAME), "sent"),
-        (submit(alloc, &mut line, &PIECE, &PIECE_FRAME), "back"),
-        (hear(alloc, &mut line, &[1, 1]), "acknowledgements"),
-        (waits(&line, 0), "none"),
-        (submit(alloc, &mut line, &PIECE, &PIECE_FRAME), "sent"),
-        (resend(alloc, &line, &PIECE_FRAME), "sent"),
+        (submit(alloc, &mut line, &READY, &READY_FRAME), Came::Sent),
+        (submit(alloc, &mut line, &PIECE, &PIECE_FRAME), Came::Back),
+        (hear(alloc, &mut line, &[1, 1]), Came::Acknowledgements),
+        (waits(&line, 0), Came::Nothing),
+        (submit(alloc, &mut line, &PIECE, &PIECE_FRAME), Came::Sent),
+        (resend(alloc, &line, &PIECE_FRAME), Came::Sent),
     ];
     all_as_expected(&rt, &steps);
     Ok(())
@@ -198,23 +226,23 @@ fn a_packet_on_another_channel_changes_nothing(rt: HostRuntime) -> Result<(), Fa
     let foreign: &[u8] = &[0, 1, 1, 1, 0x01, 0x42, 5, 0, 0x80, 0, 0];
     let mut line = Line::new(alloc)?;
     let steps = [
-        (submit(alloc, &mut line, &READY, &READY_FRAME), "sent"),
-        (hear(alloc, &mut line, foreign), "not canonical"),
-        (waits(&line, 0), "waits"),
-        (hear(alloc, &mut line, &[1, 0xFE]), "acknowledgements"),
-        (waits(&line, 0), "waits"),
-        (waits(&line, 1), "none"),
+        (submit(alloc, &mut line, &READY, &READY_FRAME), Came::Sent),
+        (hear(alloc, &mut line, foreign), Came::NotCanonical),
+        (waits(&line, 0), Came::Waits),
+        (hear(alloc, &mut line, &[1, 0xFE]), Came::Acknowledgements),
+        (waits(&line, 0), Came::Waits),
+        (waits(&line, 1), Came::Nothing),
     ];
     all_as_expected(&rt, &steps);
     Ok(())
 }
 
-/// What a reset gives back: "back" if it is one packet, of these octets.
-fn reset(alloc: Global, line: &mut Line, octets: &[u8]) -> &'static str {
+/// What comes of a reset, which has to give back one packet of these octets.
+fn reset(alloc: Global, line: &mut Line, octets: &[u8]) -> Came {
     match line.reset(alloc) {
         Ok(packets) if packets.len() == 1 => back(alloc, &packets[0], octets),
-        Ok(_) => "not one packet",
-        Err(_) => "out of memory",
+        Ok(_) => Came::Other,
+        Err(_) => Came::Failed,
     }
 }
 
@@ -224,11 +252,11 @@ fn a_reset_line_gives_its_packets_back_and_begins_anew(rt: HostRuntime) -> Resul
     let mine: &[u8] = &[0, 0, 0, 0, 0x01, 0x42, 5, 1, 0x80, 0, 16, 0xAB, 0xCD];
     let mut line = Line::new(alloc)?;
     let steps = [
-        (submit(alloc, &mut line, &PIECE, mine), "sent"),
-        (hear(alloc, &mut line, mine), "fresh"),
-        (reset(alloc, &mut line, &PIECE), "back"),
-        (sent(alloc, &line.ack_frame(), &[1, 0]), "sent"),
-        (submit(alloc, &mut line, &READY, &READY_FRAME), "sent"),
+        (submit(alloc, &mut line, &PIECE, mine), Came::Sent),
+        (hear(alloc, &mut line, mine), Came::Fresh),
+        (reset(alloc, &mut line, &PIECE), Came::Back),
+        (sent(alloc, &line.ack_frame(), &[1, 0]), Came::Sent),
+        (submit(alloc, &mut line, &READY, &READY_FRAME), Came::Sent),
     ];
     all_as_expected(&rt, &steps);
     Ok(())
@@ -253,6 +281,6 @@ fn distances_come_with_acknowledgements(rt: HostRuntime) -> Result<(), Fail> {
     let mut onward = ROUTES;
     onward[1] = 0;
     let frame = line.routes_frame(vector);
-    assert_eq!(rt; sent(alloc, &frame, &onward), "sent");
+    assert_eq!(rt; sent(alloc, &frame, &onward), Came::Sent);
     Ok(())
 }

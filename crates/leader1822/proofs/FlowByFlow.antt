@@ -1,13 +1,11 @@
 -- If each flow's part of a log is a run of its own box and its two hosts, the log is a run.
-use Rattle.std.proofs.Common.{◌≡◌, ◌≢◌, ℕ, ◌+◌, Bool, true, false, ◌||◌, List, [], ◌∷◌, ◌++◌, length, refl, ap, sym, subst, ◌∙◌, inl, inr, ◌⊎◌, if◌then◌else◌}
-use Rattle.leader1822.specs.Host.{Host, same_host, is_host}
-use Rattle.leader1822.specs.Mailboxes.{Box, Empty, Waiting, Holds, Fits, fetched, touched, turned, box_of, is_up, same_flow, Needs, IsRun, Passing, Put, Fetched, Told, SourceDown, SourceUp, DestinationDown, DestinationUp, first_if, passings, passed, Mail, opening_mail, MailNeeds, mail_after, mail_of, IsFlowRun, UpsAreHosts, EachIsRun}
+use Rattle.std.proofs.Common.{◌≡◌, Bool, true, false, List, [], ◌∷◌, ◌++◌, length, refl, ap, subst, ◌∙◌, if◌then◌else◌}
+use Rattle.leader1822.specs.Host.{Host, same_host}
+use Rattle.leader1822.specs.Mailboxes.{Empty, Waiting, fetched, box_of, is_up, same_flow, Needs, IsRun, Passing, Put, Fetched, Told, SourceDown, SourceUp, DestinationDown, DestinationUp, first_if, passings, passed, Mail, opening_mail, MailNeeds, mail_after, mail_of, IsFlowRun, UpsAreHosts, EachIsRun}
 use Rattle.leader1822.specs.declared.address.Flow.{Flow}
-use Rattle.leader1822.specs.declared.crossing.Answer.{Answer}
 use Rattle.leader1822.specs.declared.crossing.Crossing.{Crossing}
 use Rattle.leader1822.specs.declared.crossing.Crossing.TheVariants as crossing
-use Rattle.leader1822.specs.declared.message.HostMessage.{HostMessage}
-use Rattle.leader1822.proofs.Lists.{same_flow-true, same_flow-refl, same_host-refl}
+use Rattle.leader1822.proofs.Lists.{same_flow-refl, same_host-refl}
 
 abbrev mail_at : List Host → Flow → List Crossing → Mail
 mail_at hosts f log = record { source = is_up hosts f.source log; destination = is_up hosts f.destination log; box = box_of f log }

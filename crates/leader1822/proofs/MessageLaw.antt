@@ -1,10 +1,9 @@
 -- From a run of the mailboxes alone: messages are answered and taken as they should be.
-use Rattle.std.proofs.Common.{◌≡◌, ◌≢◌, ℕ, ◌+◌, Bool, true, false, ◌||◌, List, [], ◌∷◌, ◌++◌, length, refl, ap, sym, subst, ◌∙◌, inl, inr, ◌⊎◌, if◌then◌else◌}
+use Rattle.std.proofs.Common.{◌≡◌, ℕ, Bool, true, false, List, [], ◌∷◌, ◌++◌, length, refl, ap, sym, subst, ◌∙◌, inl, inr, ◌⊎◌, if◌then◌else◌}
 use Rattle.leader1822.specs.Host.{Host, same_host}
-use Rattle.leader1822.specs.Mailboxes.{Box, Empty, Waiting, Taken, Holds, Fits, fetched, touched, box_of, same_flow, Needs, IsRun}
+use Rattle.leader1822.specs.Mailboxes.{Box, Empty, Waiting, Taken, Holds, Fits, fetched, box_of, same_flow, IsRun}
 use Rattle.leader1822.specs.Messages.{taken_in, went_out, SinceLastOut, TakenOnce, SafeMessages}
 use Rattle.leader1822.specs.declared.address.Flow.{Flow}
-use Rattle.leader1822.specs.declared.crossing.Answer.{Answer}
 use Rattle.leader1822.specs.declared.crossing.Answer.TheVariants as answer
 use Rattle.leader1822.specs.declared.crossing.Crossing.{Crossing}
 use Rattle.leader1822.specs.declared.crossing.Crossing.TheVariants as crossing

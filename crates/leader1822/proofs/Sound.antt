@@ -1,21 +1,20 @@
 -- Each call of the plain boxes leaves what waits fitting the mailboxes.
-use Rattle.std.proofs.Common.{◌≡◌, ◌≢◌, ℕ, ◌+◌, Bool, true, false, not, ◌&&◌, ◌||◌, List, [], ◌∷◌, ◌++◌, length, filter, find, map, refl, ap, sym, subst, ◌∙◌, if◌then◌else◌, append_assoc, Option, Some, None, inl, inr, ◌⊎◌}
+use Rattle.std.proofs.Common.{◌≡◌, ℕ, Bool, true, false, not, List, [], ◌∷◌, ◌++◌, length, find, refl, ap, sym, subst, ◌∙◌, Some, None, inl, inr}
 use Rattle.std.specs.List.{list_any}
 use Rattle.std.proofs.lemmas.List.{append-nil}
-use Rattle.leader1822.specs.Host.{Host, same_host, is_host}
-use Rattle.leader1822.specs.Mailboxes.{Box, Empty, Waiting, Taken, Holds, Fits, fetched, same_flow, box_of, is_up, IsRun, Needs}
-use Rattle.leader1822.specs.Boxes.{Boxes, Told, is_of, is_about, is_rfnm, is_rfnm_about, is_running, is_from, is_to, is_told_to, is_busy, is_outstanding, one_if, dead_to, offer_refusal, offered, host_refusal, next_for, taken, inbound_of, without_first, give_up_refusal, given_up, host_stopped, host_up_refusal, host_started}
+use Rattle.leader1822.specs.Host.{Host, is_host}
+use Rattle.leader1822.specs.Mailboxes.{Box, Empty, Waiting, Taken, Holds, Fits, fetched, same_flow, box_of}
+use Rattle.leader1822.specs.Boxes.{Boxes, Told, is_of, is_about, is_running, is_to, is_told_to, is_busy, one_if, offer_refusal, offered, host_refusal, taken, inbound_of, without_first}
 use Rattle.leader1822.specs.Soundness.{texts_of, kinds_of, FitsBox, FlowFits, Matches, IsSound}
 use Rattle.leader1822.specs.declared.address.Flow.{Flow}
 use Rattle.leader1822.specs.declared.carrier.CarrierFault.TheVariants as fault
 use Rattle.leader1822.specs.declared.crossing.Answer.{Answer}
 use Rattle.leader1822.specs.declared.crossing.Answer.TheVariants as answer
 use Rattle.leader1822.specs.declared.crossing.Crossing.TheVariants as crossing
-use Rattle.leader1822.specs.declared.crossing.Inbound.{Inbound}
 use Rattle.leader1822.specs.declared.crossing.Inbound.TheVariants as inbound
 use Rattle.leader1822.specs.declared.message.HostMessage.{HostMessage}
-use Rattle.leader1822.proofs.Lists.{guard, not_false, and_true, or_false, or_true, or_nothing, same_host-true, same_host-refl, same_host-sym, same_flow-true, same_flow-refl, same_flow-sym, Apart, apart, Alone, alone, never_empty}
-use Rattle.leader1822.proofs.Waiting.{texts_of-append, kinds_of-append, texts_one_same, texts_one_other, kinds_one_same, kinds_one_other, texts_of-filter, kinds_of-filter, filter_all, kinds_of-dead_to, any_of, any_about, any_rfnm, none_waits, none_from, has_any}
+use Rattle.leader1822.proofs.Lists.{guard, not_false, or_false, same_host-true, same_flow-true, same_flow-refl, Apart, apart, Alone, alone, never_empty}
+use Rattle.leader1822.proofs.Waiting.{texts_of-append, kinds_of-append, texts_one_same, texts_one_other, kinds_one_same, kinds_one_other, any_of, any_about, none_waits}
 
 -- what fits, said of equal parts
 pub same_fits : {s s' d d' : Bool} {ts ts' : List (List Bool)} {ks ks' : List Answer} {b b' : Box}

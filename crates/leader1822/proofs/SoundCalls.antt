@@ -1,11 +1,10 @@
 -- Soundness of boxes whose parts are known one by one.
-use Rattle.std.proofs.Common.{◌≡◌, ◌≢◌, Bool, true, false, List, [], ◌∷◌, ◌++◌, find, refl, ap, sym, subst, ◌∙◌, Option, Some, None}
-use Rattle.leader1822.specs.Host.{Host, same_host}
+use Rattle.std.proofs.Common.{◌≡◌, Bool, true, false, List, [], ◌∷◌, find, refl, ap, sym, subst, ◌∙◌, Option, Some, None}
+use Rattle.leader1822.specs.Host.{Host}
 use Rattle.leader1822.specs.Calls.{Seen, ShowsCrossings}
 use Rattle.leader1822.specs.Boxes.{Boxes, Told, is_told_to, is_to, next_for, answer_first, inbound_of, without_first}
 use Rattle.leader1822.specs.Soundness.{IsSound}
 use Rattle.leader1822.specs.declared.crossing.Crossing.{Crossing}
-use Rattle.leader1822.specs.declared.crossing.Inbound.{Inbound}
 use Rattle.leader1822.specs.declared.crossing.Inbound.TheVariants as inbound
 use Rattle.leader1822.specs.declared.message.HostMessage.{HostMessage}
 use Rattle.leader1822.proofs.Lists.{same_host-true, Apart, apart}

@@ -1,9 +1,9 @@
 -- The plainest carrier: each host's messages wait in one queue, and answers wait for their sources. Nothing is ever lost.
-use Rattle.std.specs.Prelude.{◌≡◌, ℕ, Bool, true, false, not, List, [], ◌∷◌, ◌++◌, Option, Some, None, Result, Ok, Err, if◌then◌else◌, ◌==◌, ◌&&◌, ◌||◌, filter, map, find}
+use Rattle.std.specs.Prelude.{◌≡◌, Bool, true, false, not, List, [], ◌∷◌, ◌++◌, Option, Some, None, Result, Ok, Err, if◌then◌else◌, ◌&&◌, ◌||◌, filter, map, find}
 use Rattle.std.specs.List.{list_any}
 use Rattle.leader1822.specs.Host.{Host, same_host, is_host}
 use Rattle.leader1822.specs.Mailboxes.{same_flow}
-use Rattle.leader1822.specs.Calls.{Seen, is_memory}
+use Rattle.leader1822.specs.Calls.{Seen}
 use Rattle.leader1822.specs.declared.address.Flow.{Flow}
 use Rattle.leader1822.specs.declared.carrier.CarrierFault.{CarrierFault}
 use Rattle.leader1822.specs.declared.carrier.CarrierFault.TheVariants as fault

@@ -1,8 +1,7 @@
 -- What every carrier shows of its calls, whatever it is made of.
-use Rattle.std.specs.Prelude.{◌≡◌, ℕ, Bool, true, false, List, [], ◌∷◌, ◌++◌, Option, Some, None, Result, Ok, Err, if◌then◌else◌, ◌==◌, ◌&&◌, ◌||◌, nat_lt, filter, map, reverse, MatchBool}
-use Rattle.leader1822.specs.Host.{Host, is_host}
+use Rattle.std.specs.Prelude.{◌≡◌, ℕ, Bool, true, false, List, [], ◌∷◌, ◌++◌, Option, Some, None, Result, Ok, Err, if◌then◌else◌, ◌==◌, ◌&&◌, ◌||◌, nat_lt, filter, map, reverse}
+use Rattle.leader1822.specs.Host.{Host}
 use Rattle.leader1822.specs.Mailboxes.{is_up}
-use Rattle.leader1822.specs.declared.address.Flow.{Flow}
 use Rattle.leader1822.specs.declared.carrier.CarrierFault.{CarrierFault}
 use Rattle.leader1822.specs.declared.carrier.CarrierFault.TheVariants as fault
 use Rattle.leader1822.specs.declared.crossing.Crossing.{Crossing}

@@ -2,7 +2,7 @@
 --
 -- Each flow has one box, and each host is up or down. A crossing needs something of them and gives something. A log is
 -- read newest first: what a crossing needs is looked for in the log below it, and its place is the number of crossings there.
-use Rattle.std.specs.Prelude.{◌≡◌, ◌≢◌, ℕ, Bool, true, false, List, [], ◌∷◌, length, if◌then◌else◌, ◌==◌, ◌&&◌, ◌++◌}
+use Rattle.std.specs.Prelude.{◌≡◌, ℕ, Bool, true, false, List, [], ◌∷◌, length, if◌then◌else◌, ◌==◌, ◌&&◌, ◌++◌}
 use Rattle.leader1822.specs.Host.{Host, same_host, is_host}
 use Rattle.leader1822.specs.declared.address.Flow.{Flow}
 use Rattle.leader1822.specs.declared.crossing.Answer.{Answer}

@@ -1,5 +1,5 @@
 -- How hosts, flows and crossings are printed.
-use Rattle.std.specs.Prelude.{ℕ, List, [], ◌∷◌, ◌++◌, length, codes}
+use Rattle.std.specs.Prelude.{ℕ, List, ◌++◌, length, codes}
 use Rattle.std.specs.Fmt.{decimal}
 use Rattle.leader1822.specs.Host.{Host}
 use Rattle.leader1822.specs.declared.address.Flow.{Flow}

@@ -1,5 +1,5 @@
 -- What the plain boxes keep true: their log is a run, and what waits fits the mailboxes.
-use Rattle.std.specs.Prelude.{◌≡◌, ℕ, Bool, true, false, List, [], ◌∷◌, ◌++◌, if◌then◌else◌, ◌⊎◌}
+use Rattle.std.specs.Prelude.{◌≡◌, Bool, true, false, List, [], ◌∷◌, ◌++◌, if◌then◌else◌, ◌⊎◌}
 use Rattle.leader1822.specs.Host.{Host}
 use Rattle.leader1822.specs.Mailboxes.{Box, Empty, Holds, Fits, IsRun, box_of, is_up}
 use Rattle.leader1822.specs.Calls.{InOrder}

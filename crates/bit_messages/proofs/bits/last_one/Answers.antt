@@ -1,5 +1,4 @@
-use Rattle.std.proofs.Common.{◌≡◌, ◌+◌, ◌-◌, ◌<◌, suc, ℕ, ap, subst, arith, true, false, length, get_or, ◌∙◌}
-use Rattle.bit_messages.specs.Body.{has_mark, text_of}
+use Rattle.std.proofs.Common.{◌≡◌, ◌-◌, ◌<◌, suc, arith, length}
 use Rattle.bit_messages.proofs.BodyLemmas.{HasZerosFrom, IsMarkedAt, marked_at, marked_none}
 use Rattle.bit_messages.proofs.bits.last_one.Goals as goal
 

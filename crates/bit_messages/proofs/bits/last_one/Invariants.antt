@@ -1,4 +1,3 @@
-use Rattle.std.proofs.Common.{ℕ, ◌≤◌}
 use Rattle.bit_messages.proofs.BodyLemmas.{HasZerosFrom}
 use Rattle.bit_messages.proofs.bits.last_one.Given as goal
 

@@ -1,5 +1,4 @@
-use Rattle.std.proofs.Common.{◌≡◌, ◌∙◌, ap, ◌∷◌, [], ℕ, List, sym, arith, get_or, false}
-use Rattle.bit_messages.specs.Octets.{octet, bit_value}
+use Rattle.std.proofs.Common.{◌∙◌, ap, ◌∷◌, [], ℕ, arith}
 use Rattle.bit_messages.proofs.OctetLemmas.{octets_of-few}
 use Rattle.bit_messages.proofs.bits.octet_at.Goals as goal
 

@@ -1,4 +1,4 @@
-use Rattle.std.proofs.Common.{sym, ◌∙◌, ap}
+use Rattle.std.proofs.Common.{sym, ◌∙◌}
 use Rattle.leader1822.specs.Boxes.{is_to}
 use Rattle.leader1822.proofs.First.{first_found, first_left, none_found, none_left}
 use Rattle.leader1822.proofs.plain_boxes.take_message.Goals as goal

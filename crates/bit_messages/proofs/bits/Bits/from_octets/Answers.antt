@@ -1,5 +1,5 @@
-use Rattle.std.proofs.Common.{◌≡◌, ◌*◌, ◌≤◌, ap, rules, ◌∙◌, ℕ, length, take, arith, List, Bool}
-use Rattle.std.proofs.lemmas.Grind.{div_ceil_times, common_steps}
+use Rattle.std.proofs.Common.{◌≡◌, ◌*◌, ◌≤◌, ap, ◌∙◌, take, arith, List, Bool}
+use Rattle.std.proofs.lemmas.Grind.{div_ceil_times}
 use Rattle.std.proofs.lemmas.List.{take_all}
 use Rattle.bit_messages.specs.Octets.{bits_of}
 use Rattle.bit_messages.proofs.OctetLemmas.{first_bits, HasFirstBits}

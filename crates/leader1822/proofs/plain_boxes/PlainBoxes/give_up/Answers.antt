@@ -1,4 +1,4 @@
-use Rattle.std.proofs.Common.{◌≡◌, ◌∙◌, ap, refl, reverse, rules, None}
+use Rattle.std.proofs.Common.{◌≡◌, refl, reverse, rules, None}
 use Rattle.leader1822.specs.Boxes.{Boxes, give_up_refusal, given_up}
 use Rattle.leader1822.proofs.SoundEvents.{given_sound}
 use Rattle.leader1822.proofs.SoundCalls.{sound_as}

@@ -1,5 +1,5 @@
 use Rattle.std.proofs.Common.{◌≡◌, ◌∷◌, ◌∙◌, ap, refl, reverse, rules, Bool, List, None, not, ◌++◌}
-use Rattle.leader1822.specs.Boxes.{Boxes, Told, offer_refusal, offered, is_running, one_if}
+use Rattle.leader1822.specs.Boxes.{Boxes, offer_refusal, offered, is_running, one_if}
 use Rattle.leader1822.specs.declared.crossing.Answer.TheVariants as answer
 use Rattle.leader1822.specs.declared.crossing.Crossing.{Crossing}
 use Rattle.leader1822.specs.declared.crossing.Crossing.TheVariants as crossing

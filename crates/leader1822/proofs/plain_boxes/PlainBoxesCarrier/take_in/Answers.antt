@@ -1,5 +1,5 @@
-use Rattle.std.proofs.Common.{◌≡◌, ◌∷◌, [], ◌++◌, ◌∙◌, ap, refl, sym, subst, reverse, rules, Bool, List, None, Some, Ok, find}
-use Rattle.leader1822.specs.Boxes.{Boxes, Told, host_refusal, taken, inbound_of, is_told_to, is_to, is_running, one_if, next_for, seen_of}
+use Rattle.std.proofs.Common.{◌≡◌, ◌∷◌, [], ◌++◌, ◌∙◌, ap, refl, sym, subst, reverse, rules, Bool, List, None, Some, find}
+use Rattle.leader1822.specs.Boxes.{Boxes, Told, host_refusal, taken, inbound_of, is_told_to, is_to, is_running, one_if, seen_of}
 use Rattle.leader1822.specs.Calls.{ShowsCrossings, crossing_of, IsFor}
 use Rattle.leader1822.specs.declared.crossing.Answer.TheVariants as answer
 use Rattle.leader1822.specs.declared.crossing.Crossing.{Crossing}
@@ -8,7 +8,7 @@ use Rattle.leader1822.specs.declared.crossing.Inbound.{Inbound}
 use Rattle.leader1822.specs.declared.crossing.Inbound.TheVariants as inbound
 use Rattle.leader1822.proofs.Lists.{reverse_push}
 use Rattle.leader1822.proofs.Sound.{answer_sound, message_sound, runs_here}
-use Rattle.leader1822.proofs.SoundCalls.{sound_as, same_boxes, told_to, sent_to, not_found, next_answer, next_message, next_nothing, shows_one}
+use Rattle.leader1822.proofs.SoundCalls.{sound_as, same_boxes, told_to, sent_to, not_found, next_message, next_nothing, shows_one}
 use Rattle.leader1822.proofs.plain_boxes.PlainBoxesCarrier.take_in.Goals as goal
 
 pub invariant_of-self : goal.invariant_of-self
