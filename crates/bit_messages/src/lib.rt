@@ -12,8 +12,6 @@
 mod bits;
 mod fault;
 pub mod law;
-#[cfg(test)]
-mod tests;
 
 pub use bits::{BODY_UNIT, Bits, MAX_TEXT_BITS};
 pub use fault::BitFault;

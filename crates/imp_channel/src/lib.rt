@@ -15,8 +15,6 @@ mod fault;
 mod frame;
 pub mod law;
 mod line;
-#[cfg(test)]
-mod tests;
 
 pub use channel::{CHANNELS, Channel};
 pub use fault::{ChannelFault, SubmitFault};

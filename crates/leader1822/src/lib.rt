@@ -17,8 +17,6 @@ pub mod law;
 mod leader;
 mod message;
 mod plain_boxes;
-#[cfg(test)]
-mod tests;
 
 pub use address::{Flow, HostAddr, ImpNumber, Link};
 pub use carrier::{Carrier, CarrierFault};

@@ -16,8 +16,6 @@ mod flow_map;
 pub mod law;
 pub mod numbers;
 mod source;
-#[cfg(test)]
-mod tests;
 
 pub use destination::{Age, DestFlows};
 pub use fault::FlowFault;

@@ -21,8 +21,6 @@ mod packing;
 mod reading;
 mod receive_socket;
 mod send_socket;
-#[cfg(test)]
-mod tests;
 mod writing;
 
 pub use allocation::{Allocation, MAX_DATA_BITS, WHOLE};

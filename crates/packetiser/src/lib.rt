@@ -14,8 +14,6 @@ pub mod format;
 pub mod law;
 mod packet;
 mod reassembly;
-#[cfg(test)]
-mod tests;
 
 pub use cutting::cut;
 pub use fault::PacketFault;

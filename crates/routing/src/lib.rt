@@ -8,8 +8,6 @@
 //! of the IMPs' numbers, of which the first is 1. Nothing here says that a distance is right.
 #![tactic(auto)]
 
-#[cfg(test)]
-mod tests;
 mod vector;
 
 pub use vector::{IMPS, INFINITE, Vector};

@@ -2,7 +2,7 @@
 //!
 //! A test at a line's ends is a table of steps, each with what has to come of it.
 
-use crate::{ACKS, ChannelFault, Content, Frame, Line, Received, SubmitFault};
+use imp_channel::{ACKS, ChannelFault, Content, Frame, Line, Received, SubmitFault};
 use packetiser::Packet;
 use routing::Vector;
 use std::alloc::Global;

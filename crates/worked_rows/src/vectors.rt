@@ -1,4 +1,4 @@
-use crate::{INFINITE, Vector};
+use routing::{INFINITE, Vector};
 
 #[test]
 fn a_vector_is_sixteen_distances_of_at_most_sixteen(rt: HostRuntime) {

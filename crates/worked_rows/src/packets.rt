@@ -2,9 +2,9 @@
 
 ghost use Rattle.packetiser.specs.Form.{IsPacketHost};
 
-use crate::{Added, Outcome, Packet, PacketFault, PacketKind, Reassembly, cut};
 use bit_messages::Bits;
 use leader1822::{Flow, HostAddr, HostMessage, Link, Text};
+use packetiser::{Added, Outcome, Packet, PacketFault, PacketKind, Reassembly, cut};
 use std::alloc::Global;
 use std::process::Abort;
 use std::test::Fail;

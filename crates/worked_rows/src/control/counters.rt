@@ -1,8 +1,8 @@
 //! The counters of an allocation.
 
 use super::commands::is_written_as;
-use crate::{Allocation, Command, ControlFault, DataHeader};
 use bit_messages::BitFault;
+use ncp_control::{Allocation, Command, ControlFault, DataHeader};
 use std::alloc::Global;
 
 fn of(messages: u16, bits: u32) -> Allocation {

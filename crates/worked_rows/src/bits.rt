@@ -1,6 +1,6 @@
 //! Worked examples of bits, bodies and octets.
 
-use crate::{BitFault, Bits};
+use bit_messages::{BitFault, Bits};
 use std::alloc::Global;
 use std::test::Fail;
 

@@ -5,7 +5,7 @@ ghost use Rattle.std.specs.List.{list_all};
 ghost use Rattle.ncp_control.specs.Command.{is_alone};
 
 use super::commands::request_to_receive;
-use crate::{Command, ControlFault, pack, packed_count};
+use ncp_control::{Command, ControlFault, pack, packed_count};
 use std::alloc::Global;
 
 /// How many of these commands are packed, and whether their octets are these.

@@ -1,7 +1,7 @@
 //! The header in front of data.
 
-use crate::DataHeader;
 use bit_messages::{BitFault, Bits};
+use ncp_control::DataHeader;
 use std::alloc::Global;
 
 /// The header that so many bits of these octets begin with.

@@ -1,10 +1,10 @@
 //! Worked examples of leaders and plain boxes.
 
-use crate::{
+use bit_messages::{BitFault, Bits};
+use leader1822::{
     Answer, Carrier, CarrierFault, Crossing, Flow, HostAddr, HostMessage, ImpNumber, Inbound,
     Leader, LeaderFault, Link, NetEvent, PlainBoxes, Text,
 };
-use bit_messages::{BitFault, Bits};
 use std::alloc::Global;
 use std::process::Abort;
 use std::test::Fail;

@@ -3,7 +3,9 @@
 ghost use Rattle.std.specs.Prelude.{◌≡◌, false};
 ghost use Rattle.ncp_control.specs.Command.{is_alone};
 
-use crate::{ByteSize, Command, ConnectionLink, ControlFault, ReceiveSocket, SendSocket, read_one};
+use ncp_control::{
+    ByteSize, Command, ConnectionLink, ControlFault, ReceiveSocket, SendSocket, read_one,
+};
 use std::alloc::Global;
 use std::process::Abort;
 

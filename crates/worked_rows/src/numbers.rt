@@ -1,7 +1,7 @@
 //! Worked examples of the numbers of a flow's messages.
 
-use crate::{Age, DestFlows, FlowFault, Number, Release, SourceFlows};
 use leader1822::{Flow, HostAddr, ImpNumber, Link};
+use link_table::{Age, DestFlows, FlowFault, Number, Release, SourceFlows};
 use std::process::Abort;
 
 /// The flow from host 0 at this IMP to host 0 at IMP 2, on link 5.
