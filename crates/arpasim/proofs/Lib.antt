@@ -1,17 +1,2 @@
-mod Documents
-mod Events
 mod Flags
-mod Hosts
-mod Lines
 mod Marks
-mod Messages
-mod Numbers
-mod Once
-mod OneReading
-mod Order
-mod Parts
-mod Runs
-mod Shown
-mod Texts
-mod Whole
-mod Words

@@ -1,11 +1,1 @@
 pub mod Arguments
-pub mod Faults
-pub mod Input
-pub mod Numbers
-pub mod Output
-pub mod Reading
-pub mod Run
-pub mod Script
-pub mod Spelling
-pub mod Topology
-pub mod Whole

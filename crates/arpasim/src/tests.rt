@@ -1,78 +1,36 @@
-//! Whole runs over inputs in memory, and bad inputs.
+//! The program's arguments.
 
-use crate::{Options, ScriptFault, run_script};
-use std::alloc::{AllocError, Global};
-use std::io;
-use std::io::{Cursor, Read, Write};
-use std::test::Fail;
+use crate::{ArgumentFault, Options};
 
-mod bad;
-mod faults;
-mod runs;
-
-/// Two IMPs with a host each, and the mark.
-const TWO_IMPS: &str =
-    "carrier = \"plain\"\nraw = true\n[[imp]]\nid = 1\nhosts = 1\n[[imp]]\nid = 2\nhosts = 1\n%\n";
-
-/// What an input gives: its fault, and what was written.
-fn outcome(alloc: Global, input: &[u8], check: bool) -> (Result<(), ScriptFault>, Vec<u8>) {
-    let mut reader = Cursor::new(input);
-    let mut writer = Vec::new(alloc);
-    let result = run_script(alloc, &mut reader, &mut writer, false, check);
-    (result, writer)
-}
-
-/// An input over two IMPs.
-fn over_two_imps(alloc: Global, script: &[u8]) -> Result<Vec<u8>, AllocError> {
-    let mut input = Vec::from_slice(alloc, TWO_IMPS.as_bytes())?;
-    input.extend_from_slice(script)?;
-    Ok(input)
-}
-
-/// Gives one octet a read, and fails at a read.
-#[derive(Drop)]
-struct FailingReader {
-    reads: u32,
-}
-
-impl Read for FailingReader {
-    fn read(&mut self, buf: &mut [u8]) -> io::Result<usize> {
-        if self.reads == 0 {
-            return Err(io::Error::from(io::ErrorKind::Other));
-        }
-        self.reads -= 1;
-        match buf.first_mut() {
-            Some(octet) => {
-                *octet = b'#';
-                Ok(1)
-            }
-            None => Ok(0),
-        }
+#[test]
+fn bad_arguments(rt: HostRuntime) {
+    let bad = Err(ArgumentFault::BadArguments);
+    let words: [&[&str]; 8] = [
+        &["--"],
+        &["--book", "--"],
+        &["--book", "--book"],
+        &["--check", "--book", "--check"],
+        &["--help"],
+        &["--version"],
+        &["-b"],
+        &["file"],
+    ];
+    for list in words {
+        assert_eq!(rt; Options::read(rt.alloc(), list), bad, "of {list:?}");
     }
 }
 
-/// Keeps up to a number of octets, one a write, and then fails.
-#[derive(Drop)]
-struct FailingWriter {
-    kept: Vec<u8>,
-    room: usize,
-}
-
-impl Write for FailingWriter {
-    fn write(&mut self, buf: &[u8]) -> io::Result<usize> {
-        if self.kept.len() >= self.room {
-            return Err(io::Error::from(io::ErrorKind::Other));
-        }
-        match buf.first() {
-            Some(octet) => {
-                self.kept.push(*octet)?;
-                Ok(1)
-            }
-            None => Ok(0),
-        }
-    }
-
-    fn flush(&mut self) -> io::Result<()> {
-        Ok(())
-    }
+#[test]
+fn flags_in_any_order(rt: HostRuntime) {
+    let both = Ok(Options {
+        book: true,
+        check: true,
+    });
+    assert_eq!(rt; Options::read(rt.alloc(), &["--check", "--book"]), both);
+    assert_eq!(rt; Options::read(rt.alloc(), &["--book", "--check"]), both);
+    let none = Ok(Options {
+        book: false,
+        check: false,
+    });
+    assert_eq!(rt; Options::read(rt.alloc(), &[]), none);
 }

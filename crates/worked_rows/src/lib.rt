@@ -22,4 +22,6 @@ mod numbers;
 #[cfg(test)]
 mod packets;
 #[cfg(test)]
+mod scripts;
+#[cfg(test)]
 mod vectors;

@@ -1,6 +1,0 @@
-use Rattle.std.proofs.Common.{◌≡◌}
-use Rattle.arpasim.specs.Topology.{numbered_below}
-use Rattle.arpasim.proofs.topology.by_number.Given as goal
-
-abbrev pub invariant-loop-number : goal.invariant-loop-number
-invariant-loop-number l = l.sorted.items ≡ numbered_below l.imps l.number

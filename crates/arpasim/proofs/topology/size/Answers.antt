@@ -1,7 +1,0 @@
-use Rattle.std.proofs.Common.{sym, ap, ◌∙◌}
-use Rattle.arpasim.specs.Topology.{size_of}
-use Rattle.arpasim.proofs.Documents.{count_members}
-use Rattle.arpasim.proofs.topology.size.Goals as goal
-
-pub returns-in-Some : goal.returns-in-Some
-returns-in-Some c = c.len.ensures.len ∙ sym (count_members c.in-Some.table.now.entries) ∙ ap size_of c.in-Some.ensures

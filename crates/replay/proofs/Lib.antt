@@ -1,0 +1,6 @@
+mod Once
+mod OneProgram
+mod Runs
+mod Shown
+mod Taken
+mod Whole

@@ -1,0 +1,21 @@
+use Rattle.replay.specs.Run.{Calls}
+use Rattle.replay.proofs.Runs.{all_run, nothing_yet, one_more}
+use Rattle.replay.proofs.run.in_turn.Goals as goal
+
+pub loop-event-init : goal.loop-event-init
+loop-event-init g c =
+    let calls : Calls g.row.C.Denot = record { seen = g.C.Carrier.seen; offers = g.C.Carrier.offers; takes = g.C.Carrier.takes; steps = g.C.Carrier.steps } in
+    nothing_yet calls c.args.carrier.now c.args.events.now (g.W.Write.contents c.args.writer.now)
+
+pub loop-event-preserved : goal.loop-event-preserved
+loop-event-preserved g c =
+    let calls : Calls g.row.C.Denot = record { seen = g.C.Carrier.seen; offers = g.C.Carrier.offers; takes = g.C.Carrier.takes; steps = g.C.Carrier.steps } in
+    one_more calls c.args.carrier.now c.loop-event.carrier c.run_event.new.carrier c.args.events.now c.loop-event.event-index c.event-item.result
+    (g.W.Write.contents c.args.writer.now) (g.W.Write.contents c.loop-event.writer) (g.W.Write.contents c.run_event.new.writer) c.loop-event-test.true c.event-item.is c.loop-event.invariant
+    c.in_ok-run_event.ensures
+
+pub returns : goal.returns
+returns g c =
+    let calls : Calls g.row.C.Denot = record { seen = g.C.Carrier.seen; offers = g.C.Carrier.offers; takes = g.C.Carrier.takes; steps = g.C.Carrier.steps } in
+    all_run calls c.args.carrier.now c.loop-event.carrier c.args.events.now c.loop-event.event-index (g.W.Write.contents c.args.writer.now) (g.W.Write.contents c.loop-event.writer)
+    c.loop-event-test.false c.loop-event.invariant

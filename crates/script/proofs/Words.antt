@@ -1,0 +1,86 @@
+-- Cutting words apart.
+use Rattle.std.proofs.Common.{◌≡◌, ◌≢◌, ℕ, ◌==◌, true, false, List, [], ◌∷◌, ◌++◌, refl, sym, ap, ◌∙◌, arith, subst}
+use Rattle.std.proofs.lemmas.Bool.{false≢true}
+use Rattle.std.proofs.lemmas.Bool.Decides.{nat_tests}
+use Rattle.std.proofs.lemmas.List.Elements.{All-head, All-tail}
+use Rattle.script.specs.Spelling.{Unmarked}
+
+self_mark : (mark : ℕ) → (mark == mark) ≡ true
+self_mark mark = grind (arith, nat_tests)
+
+-- the first octet, and those behind it
+unmarked_first : (mark x : ℕ) (xs : List ℕ) → Unmarked mark (x ∷ xs) → (x == mark) ≡ false
+unmarked_first mark x xs h = All-head (λ z. (z == mark) ≡ false) x xs h
+
+unmarked_rest : (mark x : ℕ) (xs : List ℕ) → Unmarked mark (x ∷ xs) → Unmarked mark xs
+unmarked_rest mark x xs h = All-tail (λ z. (z == mark) ≡ false) x xs h
+
+-- what has no mark is not cut by one
+pub uncut : (mark : ℕ) (front back : List ℕ) → Unmarked mark (front ++ mark ∷ back) → ⊥
+uncut mark [] back h = false≢true (sym (unmarked_first mark mark back h) ∙ self_mark mark)
+uncut mark (x ∷ front) back h = uncut mark front back (unmarked_rest mark x (front ++ mark ∷ back) h)
+
+-- a word is cut at its first mark in one way
+pub record SameCut (a b c d : List ℕ) : Type 0 where
+  pub front : a ≡ c
+  pub back : b ≡ d
+
+first_same : {x y : ℕ} {xs ys : List ℕ} → x ∷ xs ≡ y ∷ ys → x ≡ y
+first_same e = cc
+
+rest_same : {x y : ℕ} {xs ys : List ℕ} → x ∷ xs ≡ y ∷ ys → xs ≡ ys
+rest_same e = cc
+
+pub same_cut : (mark : ℕ) (a b c d : List ℕ) → Unmarked mark a → Unmarked mark c → a ++ mark ∷ b ≡ c ++ mark ∷ d → SameCut a b c d
+same_cut mark [] b [] d ha hc e = record { front = refl; back = rest_same e }
+same_cut mark [] b (y ∷ c) d ha hc e =
+    let first : mark ≡ y = first_same e in
+    absurd (false≢true (sym (unmarked_first mark y c hc) ∙ ap (λ z. z == mark) (sym first) ∙ self_mark mark))
+same_cut mark (x ∷ a) b [] d ha hc e =
+    let first : x ≡ mark = first_same e in
+    absurd (false≢true (sym (unmarked_first mark x a ha) ∙ ap (λ z. z == mark) first ∙ self_mark mark))
+same_cut mark (x ∷ a) b (y ∷ c) d ha hc e =
+    let rest : SameCut a b c d = same_cut mark a b c d (unmarked_rest mark x a ha) (unmarked_rest mark y c hc) (rest_same e) in
+    let first : x ≡ y = first_same e in
+    record { front = ap (λ z. z ∷ a) first ∙ ap (λ zs. y ∷ zs) rest.front; back = rest.back }
+
+-- a word that spells something in two parts is cut into these parts
+pub not_cut : {X : Type 0} (mark : ℕ) (word : List ℕ) (front back : X → List ℕ) (IsMeant : X → Type 0) → Unmarked mark word → (x : X) → IsMeant x → word ≢ front x ++ mark ∷ back x
+not_cut {X} mark word front back IsMeant h = λ x meant e. uncut mark (front x) (back x) (subst (Unmarked mark) e h)
+
+pub not_front : {X : Type 0} (mark : ℕ) (word a b : List ℕ) (front back : X → List ℕ) (IsMeant : X → Type 0) → word ≡ a ++ mark ∷ b → Unmarked mark a → ((x : X) → IsMeant x → Unmarked mark (front x)) → ((x : X) → IsMeant x → a ≢ front x) → (x : X) → IsMeant x → word ≢ front x ++ mark ∷ back x
+not_front {X} mark word a b front back IsMeant is ha hfront differs = λ x meant e.
+    let same : SameCut a b (front x) (back x) = same_cut mark a b (front x) (back x) ha (hfront x meant) (sym is ∙ e) in
+    differs x meant same.front
+
+pub not_back : {X : Type 0} (mark : ℕ) (word a b : List ℕ) (front back : X → List ℕ) (IsMeant : X → Type 0) → word ≡ a ++ mark ∷ b → Unmarked mark a → ((x : X) → IsMeant x → Unmarked mark (front x)) → ((x : X) → IsMeant x → b ≢ back x) → (x : X) → IsMeant x → word ≢ front x ++ mark ∷ back x
+not_back {X} mark word a b front back IsMeant is ha hfront differs = λ x meant e.
+    let same : SameCut a b (front x) (back x) = same_cut mark a b (front x) (back x) ha (hfront x meant) (sym is ∙ e) in
+    differs x meant same.back
+
+-- three words, with a mark between each two
+pub record SameThree (a b c d e f : List ℕ) : Type 0 where
+  pub first : a ≡ d
+  pub second : b ≡ e
+  pub third : c ≡ f
+
+pub same_three : (mark : ℕ) (a b c d e f : List ℕ) → Unmarked mark a → Unmarked mark b → Unmarked mark d → Unmarked mark e → a ++ mark ∷ (b ++ mark ∷ c) ≡ d ++ mark ∷ (e ++ mark ∷ f) → SameThree a b c d e f
+same_three mark a b c d e f ha hb hd he is =
+    let outer : SameCut a (b ++ mark ∷ c) d (e ++ mark ∷ f) = same_cut mark a (b ++ mark ∷ c) d (e ++ mark ∷ f) ha hd is in
+    let inner : SameCut b c e f = same_cut mark b c e f hb he outer.back in
+    record { first = outer.front; second = inner.front; third = inner.back }
+
+-- where a mark is wanting, there are no three words
+pub no_mark : (mark : ℕ) (word : List ℕ) → Unmarked mark word → (a b c : List ℕ) → word ≢ a ++ mark ∷ (b ++ mark ∷ c)
+no_mark mark word h a b c e = uncut mark a (b ++ mark ∷ c) (subst (Unmarked mark) e h)
+
+twice_unmarked : (mark : ℕ) (x y a b c : List ℕ) → Unmarked mark x → Unmarked mark y → x ++ mark ∷ y ≡ a ++ mark ∷ (b ++ mark ∷ c) → ⊥
+twice_unmarked mark [] y [] b c hx hy e = uncut mark b c (subst (Unmarked mark) (rest_same e) hy)
+twice_unmarked mark [] y (z ∷ a) b c hx hy e = uncut mark a (b ++ mark ∷ c) (subst (Unmarked mark) (rest_same e) hy)
+twice_unmarked mark (z ∷ x) y [] b c hx hy e =
+    let first : z ≡ mark = first_same e in
+    absurd (false≢true (sym (unmarked_first mark z x hx) ∙ ap (λ v. v == mark) first ∙ self_mark mark))
+twice_unmarked mark (z ∷ x) y (v ∷ a) b c hx hy e = twice_unmarked mark x y a b c (unmarked_rest mark z x hx) hy (rest_same e)
+
+pub no_second_mark : (mark : ℕ) (word x y : List ℕ) → word ≡ x ++ mark ∷ y → Unmarked mark x → Unmarked mark y → (a b c : List ℕ) → word ≢ a ++ mark ∷ (b ++ mark ∷ c)
+no_second_mark mark word x y is hx hy a b c e = twice_unmarked mark x y a b c hx hy (sym is ∙ e)

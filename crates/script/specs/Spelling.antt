@@ -1,0 +1,88 @@
+-- How events are spelled in a script: words with single spaces between.
+use Rattle.std.specs.Prelude.{◌≡◌, ◌≢◌, ℕ, ◌<◌, ◌≤◌, Bool, List, [], ◌∷◌, ◌++◌, length, codes, Option, Some, None, ◌==◌, false}
+use Rattle.std.specs.List.{All}
+use Rattle.std.specs.Fmt.{decimal}
+use Rattle.hex.specs.Hex.{encode_upper}
+use Rattle.bit_messages.specs.Octets.{octets_of}
+use Rattle.bit_messages.specs.Body.{most_text_bits}
+use Rattle.leader1822.specs.Host.{Host, host_at}
+use Rattle.leader1822.specs.Printed.{host_text, flow_text}
+use Rattle.leader1822.specs.declared.address.Flow.{Flow}
+use Rattle.leader1822.specs.declared.event.Direction.{Direction}
+use Rattle.leader1822.specs.declared.event.Direction.TheVariants as direction
+use Rattle.leader1822.specs.declared.event.NetEvent.{NetEvent}
+use Rattle.leader1822.specs.declared.event.NetEvent.TheVariants as net
+use Rattle.leader1822.specs.declared.message.HostMessage.{HostMessage}
+use Rattle.script.specs.declared.event.Event.{Event}
+use Rattle.script.specs.declared.event.Event.TheVariants as event
+
+-- a word spells one of these values, or none of those that are meant
+abbrev pub ReadsAs : {X : Type 0} → (X → List ℕ) → (X → Type 0) → List ℕ → Option X → Type 0
+ReadsAs {X} spelled IsMeant word (Some x) = (word ≡ spelled x) × IsMeant x
+ReadsAs {X} spelled IsMeant word None = (x : X) → IsMeant x → word ≢ spelled x
+
+-- a list of octets in which this one doesn't stand
+abbrev pub Unmarked : ℕ → List ℕ → Type 0
+Unmarked mark xs = All (λ x. (x == mark) ≡ false) xs
+
+-- a host that can be: number 0 to 3 at IMP 1 to 63
+abbrev pub IsHost : Host → Type 0
+IsHost h = host_at h.host h.imp ≡ Some h
+
+abbrev pub IsFlow : Flow → Type 0
+IsFlow f = IsHost f.source × IsHost f.destination × (f.link.0 < 256)
+
+-- three words spell this flow, or none that can be
+abbrev pub ReadsFlow : List ℕ → List ℕ → List ℕ → Option Flow → Type 0
+ReadsFlow source destination link (Some f) = (source ≡ host_text f.source) × (destination ≡ host_text f.destination) × (link ≡ decimal f.link.0) × IsFlow f
+ReadsFlow source destination link None = (f : Flow) → IsFlow f → source ≡ host_text f.source → destination ≡ host_text f.destination → link ≡ decimal f.link.0 → ⊥
+
+-- the octets of a text in upper case hexadecimal, the last filled with zeros; a hyphen for no bits
+abbrev pub octets_text : List Bool → List ℕ
+octets_text [] = codes "-"
+octets_text (b ∷ bits) = encode_upper (octets_of (b ∷ bits))
+
+abbrev pub direction_text : Direction → List ℕ
+direction_text direction.Forward = codes "+"
+direction_text direction.Back = codes "-"
+
+-- a message: its flow, how many bits its text has, and their octets
+abbrev pub message_text : HostMessage → List ℕ
+message_text m = flow_text m.flow ++ (codes " " ++ (decimal (length m.text) ++ (codes " " ++ octets_text m.text)))
+
+abbrev pub IsMessage : HostMessage → Type 0
+IsMessage m = IsFlow m.flow × (length m.text ≤ most_text_bits)
+
+-- what happens inside a network
+abbrev pub net_spelling : NetEvent → List ℕ
+net_spelling (net.Deliver line way frame) = codes "deliver " ++ (decimal line ++ (codes " " ++ (direction_text way ++ (codes " " ++ decimal frame))))
+net_spelling (net.Drop line way frame) = codes "drop " ++ (decimal line ++ (codes " " ++ (direction_text way ++ (codes " " ++ decimal frame))))
+net_spelling (net.Resend imp) = codes "resend " ++ decimal imp
+net_spelling (net.Route imp) = codes "route " ++ decimal imp
+net_spelling (net.EndDown imp line) = codes "enddown " ++ (decimal imp ++ (codes " " ++ decimal line))
+net_spelling (net.EndUp imp line) = codes "endup " ++ (decimal imp ++ (codes " " ++ decimal line))
+net_spelling (net.ImpDown imp) = codes "impdown " ++ decimal imp
+net_spelling (net.ImpUp imp) = codes "impup " ++ decimal imp
+net_spelling (net.HostDown h) = codes "hostdown " ++ host_text h
+net_spelling (net.HostUp h) = codes "hostup " ++ host_text h
+net_spelling (net.GiveUp f) = codes "giveup " ++ flow_text f
+net_spelling (net.Forget at from) = codes "forget " ++ (decimal at ++ (codes " " ++ decimal from))
+net_spelling (net.Abandon f) = codes "abandon " ++ flow_text f
+
+-- an event's line
+abbrev pub spelling : Event → List ℕ
+spelling (event.Out m) = codes "out " ++ message_text m
+spelling (event.Take h) = codes "take " ++ host_text h
+spelling (event.Net e) = net_spelling e
+
+-- the events that a script may ask for: of those inside a network giving up, and hosts that stop and start
+abbrev pub IsNetEvent : NetEvent → Type 0
+IsNetEvent (net.HostDown h) = IsHost h
+IsNetEvent (net.HostUp h) = IsHost h
+IsNetEvent (net.GiveUp f) = IsFlow f
+IsNetEvent e = ⊥
+
+abbrev pub IsEvent : Event → Type 0
+IsEvent (event.Out m) = IsMessage m
+IsEvent (event.Take h) = IsHost h
+IsEvent (event.Net e) = IsNetEvent e

@@ -1,0 +1,130 @@
+//! Scripts: one event a line.
+
+ghost use Rattle.std.specs.Prelude.{◌≡◌, ◌≢◌, ℕ, ◌==◌, ◌≤◌, false, List, ◌∷◌, ◌++◌, length, codes, MatchOption, MatchResult, IfOk};
+ghost use Rattle.leader1822.specs.Printed.{flow_text};
+ghost use Rattle.script.specs.Script.{lines_of, is_passed_over, AskFor, IsLineFault};
+ghost use Rattle.script.specs.Spelling.{ReadsAs, ReadsFlow, Unmarked, IsFlow, IsMessage, IsEvent, message_text, spelling};
+
+use crate::event::Event;
+use crate::fault::LineFault;
+use crate::input::{MAX_INPUT, first_line};
+use crate::word::{cut, read_count, read_host, read_octet, read_text};
+use leader1822::{Flow, HostMessage, Link, NetEvent};
+use std::alloc::{AllocError, Global};
+
+/// The events of a script, in order. Empty lines and lines that begin with `#` are passed over but
+/// counted.
+///
+/// Errors: `BadLine` with the number of the first line, counted from 1, that is no event; `OutOfMemory`.
+pub fn read_script(alloc: Global, text: &[u8]) -> Result<Vec<Event>, LineFault>
+    requires { length text.now ≤ MAX_INPUT }
+    ensures { MatchResult result (λ events. AskFor events.items (lines_of text.now)) (IsLineFault text.now) }
+{
+    let mut events = Vec::new(alloc);
+    let mut passed = 0;
+    let mut rest = Some(text);
+    'lines: while let Some(left) = rest {
+        let (line, more) = first_line(left);
+        if !is_passed_over(line) {
+            let Some(event) = read_event(alloc, line)? else {
+                return Err(LineFault::BadLine(passed + 1));
+            };
+            events.push(event)?;
+        }
+        passed += 1;
+        rest = more;
+    }
+    Ok(events)
+}
+
+/// Whether a line is empty or a comment.
+fn is_passed_over(line: &[u8]) -> bool
+    ensures { result ≡ is_passed_over line.now }
+{
+    match line.split_first() {
+        Some((octet, _)) => *octet == b'#',
+        None => true,
+    }
+}
+
+/// The event that a line asks for; `None` where it is spelled in no such way.
+fn read_event(alloc: Global, line: &[u8]) -> Result<Option<Event>, AllocError>
+    ensures { IfOk result (ReadsAs spelling IsEvent line.now) }
+{
+    let Some((word, rest)) = cut(line, b' ') else {
+        return Ok(None);
+    };
+    if word == b"out".as_slice() {
+        return Ok(read_message(alloc, rest)?.map(Event::Out));
+    }
+    Ok(read_plain(word, rest))
+}
+
+/// The event of a line without a text, from its first word and the rest.
+fn read_plain(word: &[u8], rest: &[u8]) -> Option<Event>
+    requires word { Unmarked 32 word.now }
+    requires not_out { word.now ≢ codes "out" }
+    ensures { ReadsAs spelling IsEvent (word.now ++ 32 ∷ rest.now) result }
+{
+    if word == b"take".as_slice() {
+        Some(Event::Take(read_host(rest)?))
+    } else if word == b"giveup".as_slice() {
+        Some(Event::Net(NetEvent::GiveUp(read_three(rest)?)))
+    } else if word == b"hostdown".as_slice() {
+        Some(Event::Net(NetEvent::HostDown(read_host(rest)?)))
+    } else if word == b"hostup".as_slice() {
+        Some(Event::Net(NetEvent::HostUp(read_host(rest)?)))
+    } else {
+        None
+    }
+}
+
+/// The first two words, and what stands behind them.
+fn cut_twice(words: &[u8]) -> Option<(&[u8], &[u8], &[u8])>
+    ensures { MatchOption result ((a b c : List ℕ) → words.now ≢ a ++ 32 ∷ (b ++ 32 ∷ c)) (λ parts. (words.now ≡ parts.0.now ++ 32 ∷ (parts.1.now ++ 32 ∷ parts.2.now)) × Unmarked 32 parts.0.now × Unmarked 32 parts.1.now) }
+{
+    let (first, rest) = cut(words, b' ')?;
+    let (second, rest) = cut(rest, b' ')?;
+    Some((first, second, rest))
+}
+
+/// The flow of these three words.
+fn read_flow(source: &[u8], destination: &[u8], link: &[u8]) -> Option<Flow>
+    ensures { ReadsFlow source.now destination.now link.now result }
+{
+    Some(Flow {
+        source: read_host(source)?,
+        destination: read_host(destination)?,
+        link: Link(read_octet(link)?),
+    })
+}
+
+/// The flow that is spelled `source destination link`.
+fn read_three(words: &[u8]) -> Option<Flow>
+    ensures { ReadsAs flow_text IsFlow words.now result }
+{
+    let (source, destination, link) = cut_twice(words)?;
+    read_flow(source, destination, link)
+}
+
+/// The message of words that are spelled `source destination link bits octets`.
+fn read_message(alloc: Global, words: &[u8]) -> Result<Option<HostMessage>, AllocError>
+    ensures { IfOk result (ReadsAs message_text IsMessage words.now) }
+{
+    let Some((source, destination, rest)) = cut_twice(words) else {
+        return Ok(None);
+    };
+    let Some((link, count, octets)) = cut_twice(rest) else {
+        return Ok(None);
+    };
+    let Some(flow) = read_flow(source, destination, link) else {
+        return Ok(None);
+    };
+    let Some(count) = read_count(count) else {
+        return Ok(None);
+    };
+    let Some(text) = read_text(alloc, count, octets)? else {
+        return Ok(None);
+    };
+    Ok(Some(HostMessage { flow, text }))
+}

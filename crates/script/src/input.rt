@@ -1,0 +1,59 @@
+//! The two parts of the input, and the lines of a text.
+
+ghost use Rattle.std.specs.Prelude.{◌≡◌, ◌≢◌, ◌≤◌, ◌++◌, ◌∷◌, [], length, codes, MatchOption, IfSome, IsTrue, ◌↔◌};
+ghost use Rattle.std.specs.List.{All};
+ghost use Rattle.script.specs.Script.{lines_of, lines_after};
+ghost use Rattle.script.specs.Input.{IsParted};
+
+use crate::word::cut;
+
+/// The most octets that an input has.
+pub const MAX_INPUT: usize = 1_048_576;
+
+/// The topology and the script of an input: what stands before its first line that is exactly `%`, and
+/// what stands behind that line. `None` where there is no such line.
+pub fn split_input(input: &[u8]) -> Option<(&[u8], &[u8])>
+    requires { length input.now ≤ MAX_INPUT }
+    ensures short { IfSome result (λ parts. length parts.1.now ≤ length input.now) }
+    ensures parted { MatchOption result (All (λ line. line ≢ codes "%") (lines_of input.now)) (λ parts. IsParted input.now parts.0.now parts.1.now) }
+{
+    let mut passed = 0;
+    let mut rest = Some(input);
+    'lines: while let Some(left) = rest {
+        let (line, more) = first_line(left);
+        if is_mark(line) {
+            return Some((&input[..passed], text_behind(more)));
+        }
+        passed += line.len() + 1;
+        rest = more;
+    }
+    None
+}
+
+/// The text behind a line; nothing where there is no further line.
+fn text_behind(more: Option<&[u8]>) -> &[u8]
+    ensures { MatchOption more.entry (result.now ≡ []) (λ text. result.now ≡ text.now) }
+{
+    match more {
+        Some(text) => text,
+        None => &[],
+    }
+}
+
+/// Whether a line is the mark between topology and script.
+fn is_mark(line: &[u8]) -> bool
+    ensures { IsTrue result ↔ (line.now ≡ codes "%") }
+{
+    line.len() == 1 && line[0] == b'%'
+}
+
+/// The first line of a text, and the text behind it where there is a further line.
+pub(crate) fn first_line(text: &[u8]) -> (&[u8], Option<&[u8]>)
+    ensures lines { lines_of text.now ≡ result.0.now ∷ lines_after result.1 }
+    ensures whole { MatchOption result.1 (text.now ≡ result.0.now) (λ more. text.now ≡ result.0.now ++ 10 ∷ more.now) }
+{
+    match cut(text, b'\n') {
+        Some((line, more)) => (line, Some(more)),
+        None => (text, None),
+    }
+}

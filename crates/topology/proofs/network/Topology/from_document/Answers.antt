@@ -1,0 +1,11 @@
+use Rattle.std.proofs.Common.{sym, subst, rules}
+use Rattle.topology.specs.Network.{IsRising}
+use Rattle.topology.proofs.Order.{numbered_rising}
+use Rattle.topology.proofs.network.Topology.from_document.Goals as goal
+
+pub invariant_of-result : goal.invariant_of-result
+invariant_of-result c = record {
+  imps = search rules;
+  rising = subst IsRising (sym c.in_ok-imps.ensures) (numbered_rising c.deref.result.now 17);
+  lines = search rules;
+}

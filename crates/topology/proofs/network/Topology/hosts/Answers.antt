@@ -1,0 +1,21 @@
+use Rattle.std.proofs.Common.{sym, ap, ◌∙◌, subst, ◌++◌, ◌+◌, ◌/◌, ◌%◌}
+use Rattle.leader1822.specs.Host.{Host}
+use Rattle.leader1822.specs.Calls.{InOrder}
+use Rattle.topology.specs.Network.{Network, hosts_below, host_if, has_host}
+use Rattle.topology.proofs.Order.{hosts_ordered, hosts_next, hosts_none}
+use Rattle.topology.proofs.network.Topology.hosts.Goals as goal
+
+pub returns-clause-ordered : goal.returns-clause-ordered
+returns-clause-ordered c = subst InOrder (sym c.loop-place.invariant) (hosts_ordered c.args.self.now.imps c.loop-place.place)
+
+pub loop-place-init : goal.loop-place-init
+loop-place-init c = c.new-hosts.ensures.items ∙ sym (hosts_none c.args.self.now.imps)
+
+pub loop-place-preserved : goal.loop-place-preserved
+loop-place-preserved c =
+    let place = c.loop-place.place in
+    let there : Host = record { imp = place / 4 + 1; host = place % 4 } in
+    c.in_ok-push_host.ensures
+    ∙ ap (λ xs. xs ++ host_if (has_host c.deref.result.now (place / 4 + 1) (place % 4)) there) c.loop-place.invariant
+    ∙ ap (λ imps. hosts_below c.args.self.now.imps place ++ host_if (has_host imps (place / 4 + 1) (place % 4)) there) (c.deref.ensures.value ∙ ap (λ (n : Network). n.imps) c.self.view_is)
+    ∙ sym (hosts_next c.args.self.now.imps c.loop-place.place)

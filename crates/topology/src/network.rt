@@ -1,0 +1,453 @@
+//! Which IMPs, hosts and lines a network has.
+
+ghost use Rattle.std.specs.Prelude.{◌≡◌, ◌==◌, ◌*◌, ◌≤◌, not, Some, None, ◌/◌, ◌%◌, ◌+◌, ◌<◌, ◌++◌, [], IfOk, OnOk, codes};
+ghost use Rattle.std.specs.List.{list_any, list_all, cons_option};
+ghost use Rattle.toml.specs.View.{view, items_view};
+ghost use Rattle.toml.specs.Data.{get};
+ghost use Rattle.leader1822.specs.Calls.{InOrder};
+ghost use Rattle.topology.specs.Network.{Network, hosts_of, has_host, network_in, network_of, size, has, one_if, known_members, carrier_of, raw_of, number_at, host_if, is_imp, is_line, each_of, imp_of, line_of, imps_of, lines_of, are_imps, is_there, are_lines, are_apart, joins_same, has_ports, line_count, by_number, imp_of_number};
+ghost use Rattle.topology.specs.Reading.{Described, DescribedIn};
+
+use leader1822::HostAddr;
+use std::alloc::{AllocError, AllocFailed, Global};
+use std::marker::Model;
+use thiserror::Error;
+use toml::Value;
+
+/// The most IMPs that a network has.
+pub const MOST_IMPS: usize = 16;
+
+/// The most lines that an IMP has (Heart et al. 1970: an IMP has up to five lines).
+pub const MOST_LINES: usize = 5;
+
+/// What carries the messages between the hosts.
+#[derive(Clone, Copy, Debug, PartialEq, Eq)]
+pub enum CarrierKind {
+    /// One mailbox for each flow, and nothing between.
+    Plain,
+    /// IMPs and lines.
+    Subnet,
+}
+
+/// An IMP and its hosts.
+#[derive(Clone, Copy, Debug, PartialEq, Eq)]
+pub struct ImpHosts {
+    /// The IMP's number, 1 to 16.
+    pub imp: u8,
+    /// How many hosts it has, 0 to 4. They are numbered from 0.
+    pub hosts: u8,
+}
+
+/// The two IMPs that a line joins.
+#[derive(Clone, Copy, Debug, PartialEq, Eq)]
+pub struct Ends {
+    /// The number of its first IMP.
+    pub a: u8,
+    /// The number of its second IMP.
+    pub b: u8,
+}
+
+/// A network's IMPs by rising number, its lines in their order, and what it is run on.
+#[derive(Debug, Drop)]
+pub struct Topology {
+    carrier: CarrierKind,
+    raw: bool,
+    imps: Vec<ImpHosts>,
+    lines: Vec<Ends>,
+}
+
+impl Model for Topology {
+    ghost use Rattle.topology.specs.Network.{Network, IsNetwork};
+
+    ghost Value = { Network };
+
+    ghost view = { λ t. record { carrier = t.carrier; raw = t.raw; imps = t.imps.items; lines = t.lines.items } };
+
+    ghost invariant = { λ t. IsNetwork (record { carrier = t.carrier; raw = t.raw; imps = t.imps.items; lines = t.lines.items }) };
+}
+
+/// Why there is no topology.
+#[derive(Clone, Copy, Debug, Drop, PartialEq, Eq, Error)]
+pub enum TopologyFault {
+    /// The text is no topology.
+    #[error("bad topology")]
+    BadTopology,
+    /// No memory was left.
+    #[error("out of memory")]
+    OutOfMemory,
+}
+
+impl From<AllocError> for TopologyFault {
+    ghost use Rattle.topology.specs.declared.network.TopologyFault.TheVariants.{OutOfMemory};
+
+    ghost from_gives = { λ _ e. e ≡ OutOfMemory };
+
+    fn from(_error: AllocError) -> TopologyFault {
+        TopologyFault::OutOfMemory
+    }
+}
+
+impl<T: Drop> From<AllocFailed<T>> for TopologyFault {
+    ghost use Rattle.topology.specs.declared.network.TopologyFault.TheVariants.{OutOfMemory};
+
+    ghost from_gives = { λ _ e. e ≡ OutOfMemory };
+
+    fn from(_error: AllocFailed<T>) -> TopologyFault {
+        TopologyFault::OutOfMemory
+    }
+}
+
+impl Topology {
+    /// The topology that this TOML document describes.
+    ///
+    /// Errors: `BadTopology` where the text is no such document, `OutOfMemory`.
+    pub fn read(alloc: Global, text: &str) -> Result<Topology, TopologyFault>
+        ensures { Described (network_in text.now) result }
+    {
+        match toml::table_from_str(alloc, text) {
+            Ok(table) => Topology::from_document(alloc, &Value::Table(table)),
+            Err(error) if error.is_memory() => Err(TopologyFault::OutOfMemory),
+            Err(_) => Err(TopologyFault::BadTopology),
+        }
+    }
+
+    /// The topology that a document describes.
+    fn from_document(alloc: Global, document: &Value) -> Result<Topology, TopologyFault>
+        ensures { Described (network_of (view document.now)) result }
+    {
+        if size(document) != known_members(document) {
+            return Err(TopologyFault::BadTopology);
+        }
+        let carrier = carrier_of(document).ok_or(TopologyFault::BadTopology)?;
+        let raw = raw_of(document).ok_or(TopologyFault::BadTopology)?;
+        let listed = imps_of(alloc, document)?;
+        let lines = lines_of(alloc, document)?;
+        let imps = by_number(alloc, &listed)?;
+        if imps.len() == listed.len() && are_imps(&imps) && are_lines(&imps, &lines) {
+            Ok(Topology {
+                carrier,
+                raw,
+                imps,
+                lines,
+            })
+        } else {
+            Err(TopologyFault::BadTopology)
+        }
+    }
+
+    /// What carries the messages.
+    pub fn carrier(&self) -> CarrierKind
+        ensures { result ≡ self.now.carrier }
+    {
+        self.carrier
+    }
+
+    /// Whether the script sends and takes messages itself, without host programs.
+    pub fn is_raw(&self) -> bool
+        ensures { result ≡ self.now.raw }
+    {
+        self.raw
+    }
+
+    /// The IMPs with their hosts, by rising number.
+    pub fn imps(&self) -> &[ImpHosts]
+        ensures { result.now ≡ self.now.imps }
+    {
+        &self.imps
+    }
+
+    /// All hosts, by IMP and then by number.
+    pub fn hosts(&self, alloc: Global) -> Result<Vec<HostAddr>, AllocError>
+        ensures all { IfOk result (λ hosts. hosts.items ≡ hosts_of self.now) }
+        ensures ordered { IfOk result (λ hosts. InOrder hosts.items) }
+    {
+        let mut hosts = Vec::new(alloc);
+        for place in 0..64u8 {
+            push_host(&mut hosts, &self.imps, place)?;
+        }
+        Ok(hosts)
+    }
+
+    /// The lines, in the order of the document. They are numbered from 0.
+    pub fn lines(&self) -> &[Ends]
+        ensures { result.now ≡ self.now.lines }
+    {
+        &self.lines
+    }
+}
+
+/// How many members a table has; 0 for any other value.
+fn size(value: &Value) -> usize
+    ensures { result ≡ size (view value.now) }
+{
+    match value.as_table() {
+        Some(table) => table.len(),
+        None => 0,
+    }
+}
+
+/// Whether a table has a member with this key.
+fn has(value: &Value, key: &str) -> bool
+    ensures { result ≡ has key.now (view value.now) }
+{
+    value.get(key).is_some()
+}
+
+/// How many of the four keys of a topology a document has.
+fn known_members(document: &Value) -> usize
+    ensures { result ≡ known_members (view document.now) }
+{
+    usize::from(has(document, "carrier"))
+        + usize::from(has(document, "raw"))
+        + usize::from(has(document, "imp"))
+        + usize::from(has(document, "line"))
+}
+
+/// The carrier that a document names; a subnet where it names none.
+fn carrier_of(document: &Value) -> Option<CarrierKind>
+    ensures { result ≡ carrier_of (get (codes "carrier") (view document.now)) }
+{
+    let Some(value) = document.get("carrier") else {
+        return Some(CarrierKind::Subnet);
+    };
+    let name = value.as_str()?;
+    if name == "plain" {
+        Some(CarrierKind::Plain)
+    } else if name == "subnet" {
+        Some(CarrierKind::Subnet)
+    } else {
+        None
+    }
+}
+
+/// Whether a document says raw; false where it doesn't say.
+fn raw_of(document: &Value) -> Option<bool>
+    ensures { result ≡ raw_of (get (codes "raw") (view document.now)) }
+{
+    match document.get("raw") {
+        Some(value) => value.as_bool(),
+        None => Some(false),
+    }
+}
+
+/// The number from 0 to 255 that a table has at a key.
+fn number_at(table: &Value, key: &str) -> Option<u8>
+    ensures { result ≡ number_at key.now (view table.now) }
+{
+    let value = table.get(key)?;
+    let number = value.as_integer()?;
+    u8::try_from(number).ok()
+}
+
+/// The IMP that a table with the keys `id` and `hosts` describes.
+fn imp_of(value: &Value) -> Option<ImpHosts>
+    ensures { result ≡ imp_of (view value.now) }
+{
+    if size(value) != 2 {
+        return None;
+    }
+    Some(ImpHosts {
+        imp: number_at(value, "id")?,
+        hosts: number_at(value, "hosts")?,
+    })
+}
+
+/// The line that a table with the keys `a` and `b` describes.
+fn line_of(value: &Value) -> Option<Ends>
+    ensures { result ≡ line_of (view value.now) }
+{
+    if size(value) != 2 {
+        return None;
+    }
+    Some(Ends {
+        a: number_at(value, "a")?,
+        b: number_at(value, "b")?,
+    })
+}
+
+/// The IMPs of a document, in its order.
+fn imps_of(alloc: Global, document: &Value) -> Result<Vec<ImpHosts>, TopologyFault>
+    ensures { DescribedIn (imps_of (get (codes "imp") (view document.now))) result }
+{
+    let Some(listed) = document.get("imp") else {
+        return Err(TopologyFault::BadTopology);
+    };
+    match listed.as_array() {
+        Some(values) => each_imp(alloc, values),
+        None => Err(TopologyFault::BadTopology),
+    }
+}
+
+/// The IMPs that these values describe.
+fn each_imp(alloc: Global, values: &[Value]) -> Result<Vec<ImpHosts>, TopologyFault>
+    ensures { DescribedIn (each_of imp_of (items_view values.now)) result }
+{
+    let mut imps = Vec::new(alloc);
+    for value in values {
+        let Some(imp) = imp_of(value) else {
+            return Err(TopologyFault::BadTopology);
+        };
+        imps.push(imp)?;
+    }
+    Ok(imps)
+}
+
+/// The lines of a document, in its order; none where it has no key for them.
+fn lines_of(alloc: Global, document: &Value) -> Result<Vec<Ends>, TopologyFault>
+    ensures { DescribedIn (lines_of (get (codes "line") (view document.now))) result }
+{
+    let Some(listed) = document.get("line") else {
+        return Ok(Vec::new(alloc));
+    };
+    match listed.as_array() {
+        Some(values) => each_line(alloc, values),
+        None => Err(TopologyFault::BadTopology),
+    }
+}
+
+/// The lines that these values describe.
+fn each_line(alloc: Global, values: &[Value]) -> Result<Vec<Ends>, TopologyFault>
+    ensures { DescribedIn (each_of line_of (items_view values.now)) result }
+{
+    let mut lines = Vec::new(alloc);
+    for value in values {
+        let Some(line) = line_of(value) else {
+            return Err(TopologyFault::BadTopology);
+        };
+        lines.push(line)?;
+    }
+    Ok(lines)
+}
+
+/// Whether these are 1 to 16 IMPs, numbered 1 to 16 and with at most 4 hosts each.
+fn are_imps(imps: &[ImpHosts]) -> bool
+    ensures { result ≡ are_imps imps.now }
+{
+    1 <= imps.len() && imps.len() <= MOST_IMPS && all_imps(imps)
+}
+
+/// Whether each of these IMPs is numbered 1 to 16 and has at most 4 hosts.
+fn all_imps(imps: &[ImpHosts]) -> bool
+    ensures { result ≡ list_all is_imp imps.now }
+{
+    imps.iter().all(is_imp)
+}
+
+/// Whether an IMP is numbered 1 to 16 and has at most 4 hosts.
+fn is_imp(imp: &ImpHosts) -> bool
+    ensures { result ≡ is_imp imp.now }
+{
+    1 <= imp.imp && imp.imp <= 16 && imp.hosts <= 4
+}
+
+/// Whether there is an IMP with this number.
+fn is_there(imps: &[ImpHosts], number: u8) -> bool
+    ensures { result ≡ is_there imps.now number }
+{
+    imps.iter().any(|other| other.imp == number)
+}
+
+/// Whether lines join IMPs that are there, no two the same, and no IMP has more than five.
+fn are_lines(imps: &[ImpHosts], lines: &[Ends]) -> bool
+    ensures { result ≡ are_lines imps.now lines.now }
+{
+    join_imps(imps, lines) && are_apart(lines) && has_ports(imps, lines)
+}
+
+/// Whether each of these lines joins two IMPs that are there.
+fn join_imps(imps: &[ImpHosts], lines: &[Ends]) -> bool
+    ensures { result ≡ list_all (is_line imps.now) lines.now }
+{
+    lines.iter().all(|line| is_line(imps, line))
+}
+
+/// Whether a line joins two IMPs that are there.
+fn is_line(imps: &[ImpHosts], line: &Ends) -> bool
+    ensures { result ≡ is_line imps.now line.now }
+{
+    line.a != line.b && is_there(imps, line.a) && is_there(imps, line.b)
+}
+
+/// Whether no two of these lines join the same IMPs.
+fn are_apart(lines: &[Ends]) -> bool
+    ensures { result ≡ are_apart lines.now }
+{
+    match lines.split_first() {
+        Some((first, rest)) => !is_joined(rest, first) && are_apart(rest),
+        None => true,
+    }
+}
+
+/// Whether one of these lines joins the same IMPs as this one.
+fn is_joined(lines: &[Ends], line: &Ends) -> bool
+    ensures { result ≡ list_any (joins_same line.now) lines.now }
+{
+    lines.iter().any(|other| (other.a == line.a && other.b == line.b)
+        || (other.a == line.b && other.b == line.a))
+}
+
+/// Whether no IMP has more than five lines.
+fn has_ports(imps: &[ImpHosts], lines: &[Ends]) -> bool
+    ensures { result ≡ has_ports imps.now lines.now }
+{
+    imps.iter()
+        .all(|imp| line_count(lines, imp.imp) <= MOST_LINES)
+}
+
+/// How many of these lines end at an IMP.
+fn line_count(lines: &[Ends], number: u8) -> usize
+    ensures { result ≡ line_count lines.now number }
+{
+    lines
+        .iter()
+        .filter(|line| line.a == number || line.b == number)
+        .count()
+}
+
+/// The IMPs by rising number.
+fn by_number(alloc: Global, imps: &[ImpHosts]) -> Result<Vec<ImpHosts>, AllocError>
+    ensures { IfOk result (λ sorted. sorted.items ≡ by_number imps.now) }
+{
+    let mut sorted = Vec::new(alloc);
+    for number in 0..17u8 {
+        push_found(&mut sorted, imp_of_number(imps, number))?;
+    }
+    Ok(sorted)
+}
+
+/// Puts an IMP that was found at the end.
+fn push_found(imps: &mut Vec<ImpHosts>, found: Option<ImpHosts>) -> Result<(), AllocError>
+    ensures { OnOk result (imps.new.items ≡ imps.old.items ++ cons_option found []) }
+{
+    if let Some(imp) = found {
+        imps.push(imp)?;
+    }
+    Ok(())
+}
+
+/// The IMP with this number.
+fn imp_of_number(imps: &[ImpHosts], number: u8) -> Option<ImpHosts>
+    ensures { result ≡ imp_of_number imps.now number }
+{
+    imps.iter().copied().find(|imp| imp.imp == number)
+}
+
+/// Whether there is an IMP with this number that has a host with this number.
+fn has_host(imps: &[ImpHosts], number: u8, host: u8) -> bool
+    ensures { result ≡ has_host imps.now number host }
+{
+    imps.iter().any(|imp| imp.imp == number && host < imp.hosts)
+}
+
+/// Puts the host at a place at the end, where it is there: four places an IMP, from IMP 1 on.
+fn push_host(hosts: &mut Vec<HostAddr>, imps: &[ImpHosts], place: u8) -> Result<(), AllocError>
+    requires { place < 64 }
+    ensures { OnOk result (hosts.new.items ≡ hosts.old.items ++ host_if (has_host imps.now (place / 4 + 1) (place % 4)) (record { imp = place / 4 + 1; host = place % 4 })) }
+{
+    if has_host(imps, place / 4 + 1, place % 4) {
+        if let Some(host) = HostAddr::new(place % 4, place / 4 + 1) {
+            hosts.push(host)?;
+        }
+    }
+    Ok(())
+}

@@ -1,0 +1,47 @@
+//! Scripts and what they print.
+
+use super::*;
+
+/// Scripts over two IMPs with a host each, and their output.
+const RUNS: [(&[u8], &[u8]); 4] = [
+    (
+        b"out 0/1 0/2 5 24 414243\nout 0/1 0/2 5 8 FF\ntake 0/2\ntake 0/1\ntake 0/1\n",
+        b"out 0/1 0/2 5 24\nrefused Blocked\nin 0/1 0/2 5 24\nanswer rfnm 0/1 0/2 5\nend\n",
+    ),
+    (
+        b"take 0/3\nout 0/3 0/1 5 0 -\nout 0/1 0/3 5 0 -\ntake 0/1\nout 0/1 0/3 5 0 -\n",
+        b"refused NoSuch\nrefused NoSuch\nout 0/1 0/3 5 0\nanswer dead 0/1 0/3 5\nout 0/1 0/3 5 0\nend\n",
+    ),
+    (
+        b"out 0/1 0/2 5 8 FF\nhostdown 0/2\nhostdown 0/2\ntake 0/1\nhostup 0/2\nout 0/1 0/2 5 8 FF\nhostdown 0/1\nhostup 0/1\ngiveup 0/1 0/2 5\nhostup 0/1\ngiveup 0/1 0/2 5\nhostup 0/2\ntake 0/3\n",
+        b"out 0/1 0/2 5 8\ndown 0/2\nrefused IsDown\nanswer dead 0/1 0/2 5\nup 0/2\nout 0/1 0/2 5 8\ndown 0/1\nrefused Unsettled\nup 0/1\nrefused NotOutstanding\nrefused IsUp\nrefused NoSuch\nend\n",
+    ),
+    (b"", b"end\n"),
+];
+
+#[test]
+fn scripts_print_what_crosses(rt: HostRuntime) {
+    for (row, (script, printed)) in RUNS.iter().enumerate() {
+        let ended = run_over_two_imps(rt.alloc(), script, false, printed);
+        assert_eq!(rt; ended, (Ok(()), true), "row {row}");
+    }
+}
+
+#[test]
+fn check_reads_only(rt: HostRuntime) {
+    let ended = run_over_two_imps(rt.alloc(), b"out 0/1 0/2 5 0 -\n", true, b"ok\n");
+    assert_eq!(rt; ended, (Ok(()), true));
+}
+
+/// How a run of two IMPs ends whose input has no octet behind the mark, and whether it wrote `end` alone.
+fn run_to_the_mark(alloc: Global) -> (Result<(), ScriptFault>, bool) {
+    match TWO_IMPS.strip_suffix('\n') {
+        Some(input) => run(alloc, input.as_bytes(), false, b"end\n"),
+        None => (Err(ScriptFault::Stopped), false),
+    }
+}
+
+#[test]
+fn an_input_may_end_with_the_mark(rt: HostRuntime) {
+    assert_eq!(rt; run_to_the_mark(rt.alloc()), (Ok(()), true));
+}
