@@ -1,6 +1,6 @@
 //! From the command line, standard input and standard output to a run.
 
-use crate::arguments::{ArgumentFault, Options};
+use arguments::{ArgumentFault, Options};
 use replay::{ScriptFault, run_script};
 use std::alloc::AllocError;
 use std::io::{BufWriter, ErrorKind, Write};

@@ -16,6 +16,8 @@ mod boxes;
 #[cfg(test)]
 mod control;
 #[cfg(test)]
+mod flags;
+#[cfg(test)]
 mod lines;
 #[cfg(test)]
 mod numbers;

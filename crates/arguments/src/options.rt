@@ -4,7 +4,7 @@ ghost use Rattle.std.specs.Prelude.{◌≡◌, codes, map, IfOk};
 ghost use Rattle.std.specs.List.{list_any};
 ghost use Rattle.std.specs.Str.{bytes_eq};
 ghost use Rattle.clap.specs.Words.{app_of};
-ghost use Rattle.arpasim.specs.Arguments.{Asked, options_of, command_line};
+ghost use Rattle.arguments.specs.Arguments.{Asked, options_of, command_line};
 
 use clap::error::ErrorKind;
 use clap::{Arg, ArgAction, Command};
@@ -32,7 +32,7 @@ pub enum ArgumentFault {
 }
 
 impl From<AllocError> for ArgumentFault {
-    ghost use Rattle.arpasim.specs.declared.arguments.ArgumentFault.TheVariants.{OutOfMemory};
+    ghost use Rattle.arguments.specs.declared.options.ArgumentFault.TheVariants.{OutOfMemory};
 
     ghost from_gives = { λ _ e. e ≡ OutOfMemory };
 
