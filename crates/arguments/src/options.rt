@@ -1,6 +1,6 @@
 //! The program's arguments.
 
-ghost use Rattle.std.specs.Prelude.{◌≡◌, codes, map, IfOk};
+ghost use Rattle.std.specs.Prelude.{◌≡◌, codes, map, IfOk, string_bytes};
 ghost use Rattle.std.specs.List.{list_any};
 ghost use Rattle.std.specs.Str.{bytes_eq};
 ghost use Rattle.clap.specs.Words.{app_of};
@@ -46,7 +46,15 @@ impl Options {
     /// order, each at most once.
     ///
     /// Errors: `BadArguments` for anything else, `OutOfMemory`.
-    pub fn read(alloc: Global, words: &[&str]) -> Result<Options, ArgumentFault>
+    pub fn read(alloc: Global, words: &[String]) -> Result<Options, ArgumentFault>
+        ensures { Asked (options_of (map string_bytes words.now)) result }
+    {
+        let words: Vec<&str> = words.iter().map(|word| word.as_str()).collect(alloc)?;
+        Options::read_texts(alloc, &words)
+    }
+
+    /// The options that these words ask for.
+    fn read_texts(alloc: Global, words: &[&str]) -> Result<Options, ArgumentFault>
         ensures { Asked (options_of (map (λ word. word.now) words.now)) result }
     {
         if has_mark(words) {

@@ -31,6 +31,10 @@ pub record Boxes : Type 0 where
   pub log : List Crossing
   pub stopped : Bool
 
+-- between hosts that are all up, with nothing on its way
+abbrev pub opening_boxes : List Host → Boxes
+opening_boxes hosts = record { hosts = hosts; down = []; queue = []; answers = []; log = []; stopped = false }
+
 abbrev pub seen_of : Boxes → Seen
 seen_of b = record { hosts = b.hosts; log = b.log; stopped = b.stopped }
 

@@ -5,7 +5,7 @@ ghost use Rattle.leader1822.specs.Host.{Host, is_host, same_host};
 ghost use Rattle.std.specs.List.{list_any};
 ghost use Rattle.leader1822.specs.Calls.{Seen, InOrder};
 ghost use Rattle.leader1822.specs.Boxes as boxes;
-ghost use Rattle.leader1822.specs.Boxes.{Boxes, BoxesDecided, BoxesOffer, BoxesTake, BoxesStep, BoxesRound, seen_of, without_first};
+ghost use Rattle.leader1822.specs.Boxes.{Boxes, BoxesDecided, BoxesOffer, BoxesTake, BoxesStep, BoxesRound, opening_boxes, seen_of, without_first};
 ghost use Rattle.leader1822.specs.declared.crossing.Answer.TheVariants as answer;
 ghost use Rattle.leader1822.specs.declared.crossing.Crossing.TheVariants as crossing;
 ghost use Rattle.leader1822.specs.declared.event.NetEvent.{NetEvent};
@@ -44,7 +44,7 @@ impl PlainBoxes {
     /// A network of these hosts, all up, with nothing on its way.
     pub fn new(alloc: Global, hosts: Vec<HostAddr>) -> PlainBoxes
         requires { InOrder hosts.items }
-        ensures { result ≡ record { hosts = hosts.items; down = []; queue = []; answers = []; log = []; stopped = false } }
+        ensures { result ≡ opening_boxes hosts.items }
     {
         PlainBoxes {
             hosts,

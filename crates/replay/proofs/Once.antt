@@ -2,7 +2,7 @@
 use Rattle.std.proofs.Common.{◌≡◌, ◌||◌, false, List, [], ◌∷◌, ◌++◌, Option, Some, None, Result, Ok, Err, reverse, codes, refl, sym, ap, ap₂, subst, ◌∙◌, ℕ}
 use Rattle.std.proofs.lemmas.Bool.{false≢true}
 use Rattle.std.proofs.lemmas.List.{append_cancel_right, reverse-reverse}
-use Rattle.leader1822.specs.Boxes.{Boxes, BoxesDecided, host_refusal, next_for, offer_refusal, offered, step_refusal, stepped, taken}
+use Rattle.leader1822.specs.Boxes.{Boxes, BoxesDecided, host_refusal, next_for, offer_refusal, offered, opening_boxes, step_refusal, stepped, taken}
 use Rattle.leader1822.specs.Calls.{is_halt, is_memory}
 use Rattle.leader1822.specs.Host.{Host}
 use Rattle.leader1822.specs.declared.carrier.CarrierFault.{CarrierFault}
@@ -10,7 +10,7 @@ use Rattle.leader1822.specs.declared.carrier.CarrierFault.TheVariants as fault
 use Rattle.leader1822.specs.declared.crossing.Inbound.{Inbound}
 use Rattle.replay.specs.Output.{Shown, output, shown_crossings, shown_refusal}
 use Rattle.replay.specs.Run.{GoesOn, Happens, Runs, outcome_of}
-use Rattle.replay.specs.Whole.{RunsInput, RunsPlain, opening_boxes, plain_calls}
+use Rattle.replay.specs.Whole.{RunsInput, RunsPlain, plain_calls}
 use Rattle.script.specs.declared.event.Event.{Event}
 use Rattle.script.specs.declared.event.Event.TheVariants as event
 use Rattle.replay.proofs.OneProgram.{SameProgram, program_once}

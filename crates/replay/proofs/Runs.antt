@@ -2,12 +2,12 @@
 use Rattle.std.proofs.Common.{◌≡◌, ℕ, ◌+◌, ◌<◌, ◌≤◌, List, [], ◌∷◌, ◌++◌, Option, length, get_or, drop, reverse, refl, ap, sym, subst, codes, ◌∙◌}
 use Rattle.std.proofs.lemmas.List.{append_assoc, append-nil, drop_more, drop_all, reverse-append}
 use Rattle.std.specs.Io.KnownBytes.{Appends}
-use Rattle.leader1822.specs.Boxes.{Boxes}
+use Rattle.leader1822.specs.Boxes.{Boxes, opening_boxes}
 use Rattle.leader1822.specs.Host.{Host}
 use Rattle.leader1822.specs.Messages.{SafeMessages}
 use Rattle.replay.specs.Output.{Ran, Shown, Writes, crossings_of, output}
 use Rattle.replay.specs.Run.{Calls, Happens, Runs}
-use Rattle.replay.specs.Whole.{RunsPlain, opening_boxes, plain_calls}
+use Rattle.replay.specs.Whole.{RunsPlain, plain_calls}
 use Rattle.script.specs.declared.event.Event.{Event}
 use Rattle.replay.proofs.Shown.{appends_more, appends_none, crossings_of-append, happens_shows, output-append}
 

@@ -1,8 +1,8 @@
 -- What the program reads, and what it makes of it.
-use Rattle.std.specs.Prelude.{◌≡◌, ◌≢◌, ℕ, ◌<◌, false, List, [], ◌++◌, length, reverse, Option, codes, ◌⊎◌, IsUtf8}
+use Rattle.std.specs.Prelude.{◌≡◌, ◌≢◌, ℕ, ◌<◌, List, ◌++◌, length, reverse, Option, codes, ◌⊎◌, IsUtf8}
 use Rattle.std.specs.List.{All}
 use Rattle.std.specs.Io.KnownBytes.{Appends}
-use Rattle.leader1822.specs.Boxes.{Boxes, BoxesOffer, BoxesStep, BoxesTake, seen_of}
+use Rattle.leader1822.specs.Boxes.{Boxes, BoxesOffer, BoxesStep, BoxesTake, opening_boxes, seen_of}
 use Rattle.leader1822.specs.Host.{Host}
 use Rattle.leader1822.specs.Messages.{SafeMessages}
 use Rattle.script.specs.Input.{IsParted}
@@ -67,10 +67,6 @@ IsReadFault fault.BadArguments = ⊥
 IsReadFault (fault.BadLine number) = ⊥
 
 -- ---- running
-
--- plain mailboxes between hosts that are all up, with nothing on its way
-abbrev pub opening_boxes : List Host → Boxes
-opening_boxes hosts = record { hosts = hosts; down = []; queue = []; answers = []; log = []; stopped = false }
 
 -- how their calls go
 abbrev pub plain_calls : Calls Boxes

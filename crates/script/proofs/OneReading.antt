@@ -1,5 +1,5 @@
 -- What is read is one thing: no two events are spelled alike, and an input is parted in one way.
-use Rattle.std.proofs.Common.{◌≡◌, ◌≢◌, ℕ, ◌<◌, ◌≤◌, Bool, false, List, [], ◌∷◌, ◌++◌, ◌+◌, ◌==◌, ◌⊎◌, inl, inr, Some, count_by, Ok, length, take, map, codes, refl, sym, ap, ap₂, ◌∙◌, subst, arith, lit<}
+use Rattle.std.proofs.Common.{◌≡◌, ◌≢◌, ℕ, ◌<◌, ◌≤◌, Bool, false, List, [], ◌∷◌, ◌++◌, ◌+◌, ◌==◌, ◌⊎◌, inl, inr, count_by, Ok, length, take, map, codes, refl, sym, ap, ap₂, ◌∙◌, arith, lit<}
 use Rattle.std.proofs.lemmas.Bool.{false≢true}
 use Rattle.std.proofs.lemmas.Fmt.{decimal_injective}
 use Rattle.std.proofs.lemmas.Slice.Eq.{bytes_eq-Decides}
@@ -26,7 +26,7 @@ use Rattle.script.proofs.Hosts.{front_unmarked, host_range, host_unmarked}
 use Rattle.script.proofs.Messages.{message_words}
 use Rattle.script.proofs.Numbers.{All-unmarked_decimal}
 use Rattle.script.proofs.Texts.{are_bytes, text_again}
-use Rattle.script.proofs.Words.{SameCut, SameThree, same_cut, same_three}
+use Rattle.script.proofs.Words.{SameCut, SameThree, same_cut, same_parts, same_three}
 
 -- ---- hosts, flows and messages
 
@@ -195,25 +195,6 @@ asked_once ds es lines d e = events_once ds es d.meant e.meant (d.spelled ∙ sy
 
 -- ---- inputs
 
-first_line : {x y : List ℕ} {xs ys : List (List ℕ)} → x ∷ xs ≡ y ∷ ys → x ≡ y
-first_line e = cc
-
-rest_lines : {x y : List ℕ} {xs ys : List (List ℕ)} → x ∷ xs ≡ y ∷ ys → xs ≡ ys
-rest_lines e = cc
-
-record SameParts (a b c d : List (List ℕ)) : Type 0 where
-  front : a ≡ c
-  back : b ≡ d
-
--- the first mark among lines is at one place
-mark_once : (mark : List ℕ) (a b c d : List (List ℕ)) → All (λ line. line ≢ mark) a → All (λ line. line ≢ mark) c → a ++ mark ∷ b ≡ c ++ mark ∷ d → SameParts a b c d
-mark_once mark [] b [] d p q e = record { front = refl; back = rest_lines e }
-mark_once mark [] b (y ∷ c) d p q e = absurd (All-head (λ line. line ≢ mark) y c q (sym (first_line e)))
-mark_once mark (x ∷ a) b [] d p q e = absurd (All-head (λ line. line ≢ mark) x a p (first_line e))
-mark_once mark (x ∷ a) b (y ∷ c) d p q e =
-    let rest : SameParts a b c d = mark_once mark a b c d (All-tail (λ line. line ≢ mark) x a p) (All-tail (λ line. line ≢ mark) y c q) (rest_lines e) in
-    record { front = ap₂ (λ z zs. z ∷ zs) (first_line e) rest.front; back = rest.back }
-
 -- a text has a line
 some_line : (text : List ℕ) → lines_of text ≢ []
 some_line text e =
@@ -228,8 +209,8 @@ pub record SameInput (topology script other more : List ℕ) : Type 0 where
 pub parted_once : (input topology script other more : List ℕ) → IsParted input topology script → IsParted input other more → SameInput topology script other more
 parted_once input topology script other more p q = by p.lines q.lines
   where
-    both : (xs ys : List (List ℕ)) → lines_of input ≡ p.before ++ codes "%" ∷ xs → lines_of input ≡ q.before ++ codes "%" ∷ ys → SameParts p.before xs q.before ys
-    both xs ys h k = mark_once (codes "%") p.before xs q.before ys p.unmarked q.unmarked (sym h ∙ k)
+    both : (xs ys : List (List ℕ)) → lines_of input ≡ p.before ++ codes "%" ∷ xs → lines_of input ≡ q.before ++ codes "%" ∷ ys → SameCut p.before xs q.before ys
+    both xs ys h k = same_parts (codes "%") p.before xs q.before ys p.unmarked q.unmarked (sym h ∙ k)
 
     fronts : p.before ≡ q.before → topology ≡ other
     fronts e = p.front ∙ ap (flat_map ended) e ∙ sym q.front

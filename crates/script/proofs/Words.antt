@@ -1,8 +1,9 @@
 -- Cutting words apart.
-use Rattle.std.proofs.Common.{◌≡◌, ◌≢◌, ℕ, ◌==◌, true, false, List, [], ◌∷◌, ◌++◌, refl, sym, ap, ◌∙◌, arith, subst}
+use Rattle.std.proofs.Common.{◌≡◌, ◌≢◌, ℕ, ◌==◌, true, false, List, [], ◌∷◌, ◌++◌, refl, sym, ap, ap₂, ◌∙◌, arith, subst}
 use Rattle.std.proofs.lemmas.Bool.{false≢true}
 use Rattle.std.proofs.lemmas.Bool.Decides.{nat_tests}
-use Rattle.std.proofs.lemmas.List.Elements.{All-head, All-tail}
+use Rattle.std.proofs.lemmas.List.Elements.{All-head, All-tail, All-weaker}
+use Rattle.std.specs.List.{All}
 use Rattle.script.specs.Spelling.{Unmarked}
 
 self_mark : (mark : ℕ) → (mark == mark) ≡ true
@@ -20,29 +21,31 @@ pub uncut : (mark : ℕ) (front back : List ℕ) → Unmarked mark (front ++ mar
 uncut mark [] back h = false≢true (sym (unmarked_first mark mark back h) ∙ self_mark mark)
 uncut mark (x ∷ front) back h = uncut mark front back (unmarked_rest mark x (front ++ mark ∷ back) h)
 
--- a word is cut at its first mark in one way
-pub record SameCut (a b c d : List ℕ) : Type 0 where
+-- a list is cut at its first mark in one way
+pub record SameCut {X : Type 0} (a b c d : List X) : Type 0 where
   pub front : a ≡ c
   pub back : b ≡ d
 
-first_same : {x y : ℕ} {xs ys : List ℕ} → x ∷ xs ≡ y ∷ ys → x ≡ y
+first_same : {X : Type 0} {x y : X} {xs ys : List X} → x ∷ xs ≡ y ∷ ys → x ≡ y
 first_same e = cc
 
-rest_same : {x y : ℕ} {xs ys : List ℕ} → x ∷ xs ≡ y ∷ ys → xs ≡ ys
+rest_same : {X : Type 0} {x y : X} {xs ys : List X} → x ∷ xs ≡ y ∷ ys → xs ≡ ys
 rest_same e = cc
 
+pub same_parts : {X : Type 0} (mark : X) (a b c d : List X) → All (λ x. x ≢ mark) a → All (λ x. x ≢ mark) c → a ++ mark ∷ b ≡ c ++ mark ∷ d → SameCut a b c d
+same_parts {X} mark [] b [] d ha hc e = record { front = refl; back = rest_same e }
+same_parts {X} mark [] b (y ∷ c) d ha hc e = absurd (All-head (λ x. x ≢ mark) y c hc (sym (first_same e)))
+same_parts {X} mark (x ∷ a) b [] d ha hc e = absurd (All-head (λ x. x ≢ mark) x a ha (first_same e))
+same_parts {X} mark (x ∷ a) b (y ∷ c) d ha hc e =
+    let rest : SameCut a b c d = same_parts mark a b c d (All-tail (λ z. z ≢ mark) x a ha) (All-tail (λ z. z ≢ mark) y c hc) (rest_same e) in
+    record { front = ap₂ (λ z zs. z ∷ zs) (first_same e) rest.front; back = rest.back }
+
+all_differ : (mark : ℕ) (xs : List ℕ) → Unmarked mark xs → All (λ x. x ≢ mark) xs
+all_differ mark xs h = All-weaker (λ x. (x == mark) ≡ false) (λ x. x ≢ mark) (λ x differs is. false≢true (sym differs ∙ ap (λ z. z == mark) is ∙ self_mark mark)) xs h
+
+-- the same of words
 pub same_cut : (mark : ℕ) (a b c d : List ℕ) → Unmarked mark a → Unmarked mark c → a ++ mark ∷ b ≡ c ++ mark ∷ d → SameCut a b c d
-same_cut mark [] b [] d ha hc e = record { front = refl; back = rest_same e }
-same_cut mark [] b (y ∷ c) d ha hc e =
-    let first : mark ≡ y = first_same e in
-    absurd (false≢true (sym (unmarked_first mark y c hc) ∙ ap (λ z. z == mark) (sym first) ∙ self_mark mark))
-same_cut mark (x ∷ a) b [] d ha hc e =
-    let first : x ≡ mark = first_same e in
-    absurd (false≢true (sym (unmarked_first mark x a ha) ∙ ap (λ z. z == mark) first ∙ self_mark mark))
-same_cut mark (x ∷ a) b (y ∷ c) d ha hc e =
-    let rest : SameCut a b c d = same_cut mark a b c d (unmarked_rest mark x a ha) (unmarked_rest mark y c hc) (rest_same e) in
-    let first : x ≡ y = first_same e in
-    record { front = ap (λ z. z ∷ a) first ∙ ap (λ zs. y ∷ zs) rest.front; back = rest.back }
+same_cut mark a b c d ha hc e = same_parts mark a b c d (all_differ mark a ha) (all_differ mark c hc) e
 
 -- a word that spells something in two parts is cut into these parts
 pub not_cut : {X : Type 0} (mark : ℕ) (word : List ℕ) (front back : X → List ℕ) (IsMeant : X → Type 0) → Unmarked mark word → (x : X) → IsMeant x → word ≢ front x ++ mark ∷ back x

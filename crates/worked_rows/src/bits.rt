@@ -1,17 +1,9 @@
 //! Worked examples of bits, bodies and octets.
 
+use crate::values::alike;
 use bit_messages::{BitFault, Bits};
 use std::alloc::Global;
 use std::test::Fail;
-
-/// A list of so many zeros.
-fn zeros(alloc: Global, count: usize) -> Result<Bits, BitFault> {
-    let mut bits = Bits::new(alloc);
-    for _ in 0..count {
-        bits.push(false)?;
-    }
-    Ok(bits)
-}
 
 /// A one, and behind it the first three bits of an octet: 1011.
 fn four(alloc: Global) -> Result<Bits, BitFault> {
@@ -72,7 +64,7 @@ fn a_slice_shifts_across_octets(rt: HostRuntime) -> Result<(), Fail> {
 
 /// How many bits of eight zeros lie between two places.
 fn between(alloc: Global, from: usize, to: usize) -> Result<usize, BitFault> {
-    Ok(zeros(alloc, 8)?.slice(alloc, from, to)?.len())
+    Ok(alike(alloc, false, 8)?.slice(alloc, from, to)?.len())
 }
 
 /// How many bits are read as the first ones of an octet or of none.
@@ -121,7 +113,7 @@ fn refusal(
     octets: &[u8],
     count: usize,
 ) -> Result<Option<BitFault>, BitFault> {
-    let mut bits = zeros(alloc, before)?;
+    let mut bits = alike(alloc, false, before)?;
     bits.append(&Bits::from_octets(alloc, octets, count)?)?;
     Ok(bits.strip(alloc).err())
 }
@@ -143,7 +135,7 @@ fn what_is_no_body_is_refused_by_name(rt: HostRuntime) -> Result<(), Fail> {
 /// Whether a text of so many zeros has a body of this length with the mark behind the text, which gives the
 /// text back.
 fn is_filled(alloc: Global, text: usize, body: usize) -> Result<bool, BitFault> {
-    let bits = zeros(alloc, text)?;
+    let bits = alike(alloc, false, text)?;
     let padded = bits.pad16(alloc)?;
     let marked = padded.get(text) == Some(true);
     Ok(padded.len() == body && marked && padded.strip(alloc)? == bits)

@@ -1,5 +1,6 @@
 //! Worked examples of leaders and plain boxes.
 
+use crate::values::flow;
 use bit_messages::{BitFault, Bits};
 use leader1822::{
     Answer, Carrier, CarrierFault, Crossing, Flow, HostAddr, HostMessage, ImpNumber, Inbound,
@@ -14,20 +15,11 @@ fn host(rt: &impl Abort, host: u8, imp: u8) -> HostAddr {
     HostAddr::new(host, imp).expect(rt, "a host's address")
 }
 
-/// The flow on link 5 from the host of IMP 1 to that of IMP 2.
-fn flow(rt: &impl Abort) -> Flow {
-    Flow {
-        source: host(rt, 0, 1),
-        destination: host(rt, 0, 2),
-        link: Link(5),
-    }
-}
-
-/// A message of eight ones on that flow.
+/// A message of eight ones on link 5 from 0/1 to 0/2.
 fn message(rt: &impl Abort, alloc: Global) -> Result<HostMessage, BitFault> {
     let bits = Bits::from_octets(alloc, &[0xFF], 8)?;
     Ok(HostMessage {
-        flow: flow(rt),
+        flow: flow(5),
         text: Text::new(bits).expect(rt, "a short text"),
     })
 }
@@ -148,7 +140,7 @@ fn addresses_have_their_ranges(rt: HostRuntime) {
 #[test]
 fn a_message_is_taken_and_answered(rt: HostRuntime) -> Result<(), Fail> {
     let alloc = rt.alloc();
-    let flow = flow(&rt);
+    let flow = flow(5);
     let mut boxes = two_hosts(&rt, alloc)?;
     let offered = [
         offer(&rt, alloc, &mut boxes)?,
@@ -174,7 +166,7 @@ fn a_message_is_taken_and_answered(rt: HostRuntime) -> Result<(), Fail> {
 #[test]
 fn a_host_that_stops_gives_dead(rt: HostRuntime) -> Result<(), Fail> {
     let alloc = rt.alloc();
-    let flow = flow(&rt);
+    let flow = flow(5);
     let mut boxes = two_hosts(&rt, alloc)?;
     let offered = offer(&rt, alloc, &mut boxes)?;
     let there = flow.destination;
@@ -202,7 +194,7 @@ fn a_host_that_stops_gives_dead(rt: HostRuntime) -> Result<(), Fail> {
 #[test]
 fn a_message_is_given_up(rt: HostRuntime) -> Result<(), Fail> {
     let alloc = rt.alloc();
-    let flow = flow(&rt);
+    let flow = flow(5);
     let mut boxes = two_hosts(&rt, alloc)?;
     let given_up = NetEvent::GiveUp(flow);
     let up = NetEvent::HostUp(flow.source);

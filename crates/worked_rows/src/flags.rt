@@ -1,7 +1,7 @@
 //! Words that are the program's arguments, and words that aren't.
 
 use arguments::{ArgumentFault, Options};
-use std::alloc::Global;
+use std::alloc::{AllocError, Global};
 
 /// Words that are no arguments of the program.
 const NO_ARGUMENTS: [&[&str]; 8] = [
@@ -15,18 +15,27 @@ const NO_ARGUMENTS: [&[&str]; 8] = [
     &["file"],
 ];
 
+/// These words, each in memory of its own.
+fn strings(alloc: Global, words: &[&str]) -> Result<Vec<String>, AllocError> {
+    let mut strings = Vec::new(alloc);
+    for word in words {
+        strings.push(word.to_string(alloc)?)?;
+    }
+    Ok(strings)
+}
+
+/// What these words ask for: whether for the book, and whether for a check.
+fn asked(alloc: Global, words: &[&str]) -> Result<(bool, bool), ArgumentFault> {
+    let options = Options::read(alloc, &strings(alloc, words)?)?;
+    Ok((options.book, options.check))
+}
+
 #[test]
 fn bad_arguments(rt: HostRuntime) {
     for words in NO_ARGUMENTS {
-        let read = Options::read(rt.alloc(), words);
-        assert_eq!(rt; read, Err(ArgumentFault::BadArguments), "of {words:?}");
+        let found = asked(rt.alloc(), words);
+        assert_eq!(rt; found, Err(ArgumentFault::BadArguments), "of {words:?}");
     }
-}
-
-/// Whether a book and whether a check is asked for by these words.
-fn asked(alloc: Global, words: &[&str]) -> Option<(bool, bool)> {
-    let options = Options::read(alloc, words).ok()?;
-    Some((options.book, options.check))
 }
 
 #[test]
@@ -38,13 +47,13 @@ fn flags_in_any_order(rt: HostRuntime) {
         asked(rt.alloc(), &["--check", "--book"]),
         asked(rt.alloc(), &["--book", "--check"]),
     ];
-    let both = Some((true, true));
+    let both = Ok((true, true));
     assert_eq!(rt;
         found,
         [
-            Some((false, false)),
-            Some((true, false)),
-            Some((false, true)),
+            Ok((false, false)),
+            Ok((true, false)),
+            Ok((false, true)),
             both,
             both
         ]

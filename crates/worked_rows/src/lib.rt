@@ -26,4 +26,6 @@ mod packets;
 #[cfg(test)]
 mod scripts;
 #[cfg(test)]
+mod values;
+#[cfg(test)]
 mod vectors;

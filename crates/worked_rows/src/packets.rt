@@ -1,35 +1,16 @@
 //! Worked examples of packets, cutting and reassembly.
 
-ghost use Rattle.packetiser.specs.Form.{IsPacketHost};
-
+use crate::values::{alike, flow};
 use bit_messages::Bits;
-use leader1822::{Flow, HostAddr, HostMessage, Link, Text};
+use leader1822::{HostMessage, Link, Text};
 use packetiser::{Added, Outcome, Packet, PacketFault, PacketKind, Reassembly, cut};
 use std::alloc::Global;
 use std::process::Abort;
 use std::test::Fail;
 
-/// The flow from 0/1 to 0/2 on this link.
-fn flow(link: u8) -> Flow
-    ensures source { IsPacketHost result.source }
-    ensures destination { IsPacketHost result.destination }
-{
-    Flow {
-        source: HostAddr::new(0, 1).unwrap(),
-        destination: HostAddr::new(0, 2).unwrap(),
-        link: Link(link),
-    }
-}
-
 /// A list of so many bits, all alike.
-fn alike(alloc: Global, bit: bool, count: usize) -> Result<Bits, PacketFault> {
-    let mut bits = Bits::new(alloc);
-    for _ in 0..count {
-        if bits.push(bit).is_err() {
-            return Err(PacketFault::OutOfMemory);
-        }
-    }
-    Ok(bits)
+fn bits_alike(alloc: Global, bit: bool, count: usize) -> Result<Bits, PacketFault> {
+    alike(alloc, bit, count).map_err(|_| PacketFault::OutOfMemory)
 }
 
 /// The packets of the message with this number and these bits from 0/1 to 0/2.
@@ -43,7 +24,7 @@ fn packets_of(alloc: Global, link: u8, number: u8, bits: Bits) -> Result<Vec<Pac
 
 /// The packets of a message of so many ones from 0/1 to 0/2.
 fn pieces(alloc: Global, link: u8, number: u8, count: usize) -> Result<Vec<Packet>, PacketFault> {
-    packets_of(alloc, link, number, alike(alloc, true, count)?)
+    packets_of(alloc, link, number, bits_alike(alloc, true, count)?)
 }
 
 /// The packet of such a message at a place where there is one.
@@ -122,7 +103,7 @@ fn completes(
 
 /// Whether a message is whole, with the body of so many ones.
 fn has_body(alloc: Global, added: &Added, count: usize) -> Result<bool, PacketFault> {
-    let Ok(body) = alike(alloc, true, count)?.pad16(alloc) else {
+    let Ok(body) = bits_alike(alloc, true, count)?.pad16(alloc) else {
         return Err(PacketFault::OutOfMemory);
     };
     match added {
@@ -217,7 +198,7 @@ fn shape(packet: &Packet) -> (usize, bool, usize) {
 /// How many packets the longest message of zeros has, and of the last one: whether it says that it is
 /// the last, and its bits at 1006 and 1007.
 fn longest(alloc: Global) -> Result<(usize, [Option<bool>; 3]), PacketFault> {
-    let packets = packets_of(alloc, 5, 0, alike(alloc, false, 8063)?)?;
+    let packets = packets_of(alloc, 5, 0, bits_alike(alloc, false, 8063)?)?;
     let ends = match packets.as_slice() {
         [.., last] => [
             Some(last.is_last()),

@@ -1,8 +1,8 @@
 use Rattle.std.proofs.Common.{subst}
-use Rattle.leader1822.specs.Boxes.{Boxes}
+use Rattle.leader1822.specs.Boxes.{Boxes, opening_boxes}
 use Rattle.replay.specs.Output.{Writes}
 use Rattle.replay.specs.Run.{Runs}
-use Rattle.replay.specs.Whole.{opening_boxes, plain_calls}
+use Rattle.replay.specs.Whole.{plain_calls}
 use Rattle.replay.proofs.Runs.{ran, runs_plain}
 use Rattle.replay.proofs.Shown.{on_ok}
 use Rattle.replay.proofs.program.run_plain.Goals as goal
