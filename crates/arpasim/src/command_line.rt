@@ -7,7 +7,7 @@ ghost use Rattle.replay.specs.Whole.{IsInputFault, IsSomeProgram, RunsInput};
 
 use arguments::{ArgumentFault, Options};
 use replay::{ScriptFault, run_script};
-use std::alloc::{AllocError, Global};
+use std::alloc::Global;
 use std::io::{BufWriter, ErrorKind, Read, Write};
 use std::rt::Env;
 use std::{env, io};

@@ -12,7 +12,7 @@ use crate::fault::ScriptFault;
 use crate::run::{RunFault, run_events};
 use leader1822::{HostAddr, PlainBoxes};
 use script::{Event, LineFault, MAX_INPUT, read_script, split_input};
-use std::alloc::{AllocError, Global};
+use std::alloc::Global;
 use std::io::{ErrorKind, Read, Write};
 use std::str;
 use topology::{CarrierKind, Topology, TopologyFault};
