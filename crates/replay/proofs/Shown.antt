@@ -1,9 +1,9 @@
 -- What a run shows, call by call.
-use Rattle.std.proofs.Common.{◌≡◌, ℕ, ◌<◌, ◌+◌, Bool, true, false, List, [], ◌∷◌, ◌++◌, length, get_or, take, drop, reverse, Option, Some, None, Result, Ok, Err, if◌then◌else◌, refl, sym, ap, ◌∙◌, subst, OnOk, IsOk}
-use Rattle.std.proofs.lemmas.List.{append_assoc, append-nil, take_more, drop_at, reverse-append, reverse-reverse}
+use Rattle.std.proofs.Common.{◌≡◌, ℕ, ◌<◌, ◌+◌, Bool, true, false, List, [], ◌∷◌, ◌++◌, length, get_or, take, drop, reverse, Option, Some, None, Result, Ok, Err, if◌then◌else◌, refl, sym, ap, ◌∙◌, subst, arith, IfErr, OnOk, IsOk}
+use Rattle.std.proofs.lemmas.List.{append_assoc, append-nil, take_more, drop_all, drop_at, reverse-append, reverse-reverse}
 use Rattle.std.proofs.lemmas.Bool.{false≢true}
 use Rattle.std.proofs.lemmas.Grind.{flat_map-append}
-use Rattle.std.specs.Io.KnownBytes.{Appends}
+use Rattle.std.specs.Io.KnownBytes.{Appends, Keeps}
 use Rattle.leader1822.specs.Host.{Host}
 use Rattle.leader1822.specs.Printed.{crossing_text}
 use Rattle.leader1822.specs.Calls.{Seen, halted, is_memory, crossing_of, ShowsRefusal, ShowsCrossings, ShowsOffer, ShowsTake}
@@ -14,7 +14,7 @@ use Rattle.leader1822.specs.declared.crossing.Inbound.{Inbound}
 use Rattle.leader1822.specs.declared.message.HostMessage.{HostMessage}
 use Rattle.script.specs.Input.{ended}
 use Rattle.replay.specs.Output.{Grew, Shown, Writes, Crossed, Refused, shown_text, output, crossings_of, shown_crossings, shown_refusal}
-use Rattle.replay.specs.Run.{Calls, EventGives, GoesOn, Happens}
+use Rattle.replay.specs.Run.{Calls, EventGives, GoesOn, Halts, Happens}
 use Rattle.script.specs.declared.event.Event.{Event}
 
 same_log : (b : Bool) (s : Seen) → (if b then halted s else s).log ≡ s.log
@@ -46,6 +46,20 @@ appends_more (Some a) (Some b) (Some c) xs ys h k = k ∙ ap (λ v. v ++ ys) h �
 pub appends_none : (a : Option (List ℕ)) → Appends a a []
 appends_none None = tt
 appends_none (Some a) = sym (append-nil a)
+
+pub keeps_none : (a b : Option (List ℕ)) → Appends a b [] → Keeps a b
+keeps_none None b h = tt
+keeps_none (Some a) None h = absurd h
+keeps_none (Some a) (Some b) h = h ∙ append-nil a
+
+-- nothing is written of an event in which the carrier stops
+pub keeps_halted : (outcome : Result (Unit {0}) CarrierFault) (old new before after : List Crossing) (a b : Option (List ℕ)) → Halts outcome → IfErr outcome (λ f. new ≡ old)
+    → before ≡ reverse old → after ≡ reverse new → Appends a b (output (shown_crossings (drop (length before) after))) → Keeps a b
+keeps_halted (Ok done) old new before after a b halts same was is written = absurd halts
+keeps_halted (Err f) old new before after a b halts same was is written =
+    let one : after ≡ before = is ∙ ap reverse same ∙ sym was in
+    let none : drop (length before) after ≡ [] = ap (drop (length before)) one ∙ drop_all (length before) before (omega arith) in
+    keeps_none a b (subst (λ cs. Appends a b (output (shown_crossings cs))) none written)
 
 pub output-append : (xs ys : List Shown) → output (xs ++ ys) ≡ output xs ++ output ys
 output-append xs ys = flat_map-append (λ s. ended (shown_text s)) xs ys

@@ -1,5 +1,5 @@
 -- A script's events over a carrier, whatever it is made of.
-use Rattle.std.specs.Prelude.{◌≡◌, false, ◌||◌, List, [], ◌∷◌, ◌++◌, Option, Result, Ok, Err, reverse}
+use Rattle.std.specs.Prelude.{◌≡◌, true, false, ◌||◌, ◌⊎◌, List, [], ◌∷◌, ◌++◌, Option, Result, Ok, Err, reverse}
 use Rattle.leader1822.specs.Host.{Host}
 use Rattle.leader1822.specs.Calls.{Seen, is_halt, is_memory}
 use Rattle.leader1822.specs.declared.CarrierFault.{CarrierFault}
@@ -34,6 +34,11 @@ abbrev pub GoesOn : Result (Unit {0}) CarrierFault → Type 0
 GoesOn (Ok done) = Unit {0}
 GoesOn (Err f) = (is_halt f || is_memory f) ≡ false
 
+-- want of memory has stopped the carrier, or stops it now
+abbrev pub Halts : Result (Unit {0}) CarrierFault → Type 0
+Halts (Ok done) = ⊥
+Halts (Err f) = (is_halt f || is_memory f) ≡ true
+
 -- one event happens, refused or not, and shows what crossed, oldest first, and then its refusal
 pub record Happens {C : Type 0} (calls : Calls C) (old : C) (e : Event) (new : C) (shown : List Shown) : Type 0 where
   pub outcome : Result (Unit {0}) CarrierFault
@@ -48,3 +53,23 @@ abbrev pub Runs : {C : Type 0} → Calls C → C → List Event → C → List S
 Runs {C} calls old [] new shown = (new ≡ old) × (shown ≡ [])
 Runs {C} calls old (e ∷ events) new shown =
     (mid : C) × (first : List Shown) × (rest : List Shown) × Happens calls old e mid first × Runs calls mid events new rest × (shown ≡ first ++ rest)
+
+-- ---- a run that ends early, in one of its events
+
+-- of this event the carrier did its part, whatever it answered
+abbrev pub MayDo : {C : Type 0} → Calls C → C → Event → C → Type 0
+MayDo calls old e new = (outcome : Result (Unit {0}) CarrierFault) × EventGives calls old e outcome new
+
+-- of this event nothing was done, or the carrier stopped for want of memory
+abbrev pub StopsIn : {C : Type 0} → Calls C → C → Event → C → Type 0
+StopsIn calls old e new = (new ≡ old) ⊎ ((outcome : Result (Unit {0}) CarrierFault) × EventGives calls old e outcome new × Halts outcome)
+
+-- the events before one were done and showed this, and that one went so
+pub record EndsIn {C : Type 0} (calls : Calls C) (Goes : Calls C → C → Event → C → Type 0) (old : C) (events : List Event) (new : C) (shown : List Shown) : Type 0 where
+  pub done : List Event
+  pub last : Event
+  pub left : List Event
+  pub parts : events ≡ done ++ last ∷ left
+  pub mid : C
+  pub before : Runs calls old done mid shown
+  pub goes : Goes calls mid last new

@@ -1,10 +1,10 @@
 //! Running a script's events over a carrier.
 
-ghost use Rattle.std.specs.Prelude.{◌≡◌, ◌↔◌, Err, OnOk, IfErr, IfOk, IfSome, drop, length, ◌≤◌, IsOk, IsSome};
-ghost use Rattle.std.specs.Io.KnownBytes.{Appends};
+ghost use Rattle.std.specs.Prelude.{◌≡◌, ◌↔◌, Err, OnOk, IfErr, IfOk, IfSome, drop, length, ◌≤◌, List, IsOk, IsSome};
+ghost use Rattle.std.specs.Io.KnownBytes.{Appends, Keeps};
 ghost use Rattle.leader1822.specs.Messages.{SafeMessages};
-ghost use Rattle.replay.specs.Run.{EventGives, GoesOn, Happens, Runs};
-ghost use Rattle.replay.specs.Output.{Grew, Writes, output, shown_refusal, shown_crossings, fault_name};
+ghost use Rattle.replay.specs.Run.{EndsIn, EventGives, GoesOn, Halts, Happens, MayDo, Runs, StopsIn};
+ghost use Rattle.replay.specs.Output.{Grew, Shown, Writes, output, shown_refusal, shown_crossings, fault_name};
 
 use leader1822::{Carrier, CarrierFault, Crossing};
 use script::Event;
@@ -25,6 +25,10 @@ pub enum RunFault {
 }
 
 impl From<AllocError> for RunFault {
+    ghost use Rattle.replay.specs.declared.run.RunFault.TheVariants.{OutOfMemory};
+
+    ghost from_gives = { λ _ e. e ≡ OutOfMemory };
+
     fn from(_error: AllocError) -> RunFault {
         RunFault::OutOfMemory
     }
@@ -47,6 +51,12 @@ pub fn run_events<C: Carrier, W: Write>(
     // each event in turn went as the carrier says that its calls may go, and what it showed was printed: what
     // crossed, and then its refusal
     ensures run { OnOk result (Writes (Runs (record { seen = C.seen; offers = C.offers; takes = C.takes; steps = C.steps }) carrier.old events.now carrier.new) (W.contents writer.old) (W.contents writer.new)) }
+
+    // for want of memory the run ends in an event: what the events before it showed was printed, and nothing of that one
+    ensures memory { result ≡ Err RunFault.OutOfMemory → Writes (EndsIn (record { seen = C.seen; offers = C.offers; takes = C.takes; steps = C.steps }) StopsIn carrier.old events.now carrier.new) (W.contents writer.old) (W.contents writer.new) }
+
+    // where printing fails the run ends in an event too, of which the carrier did its part
+    ensures cannot_write { result ≡ Err RunFault.CannotWrite → (shown : List Shown) × EndsIn (record { seen = C.seen; offers = C.offers; takes = C.takes; steps = C.steps }) MayDo carrier.old events.now carrier.new shown }
 {
     let outcome = in_turn(carrier, events, writer);
     let _log = carrier.log();
@@ -59,7 +69,9 @@ fn in_turn<C: Carrier, W: Write>(
     events: &[Event],
     writer: &mut W,
 ) -> Result<(), RunFault>
-    ensures { OnOk result (Writes (Runs (record { seen = C.seen; offers = C.offers; takes = C.takes; steps = C.steps }) carrier.old events.now carrier.new) (W.contents writer.old) (W.contents writer.new)) }
+    ensures run { OnOk result (Writes (Runs (record { seen = C.seen; offers = C.offers; takes = C.takes; steps = C.steps }) carrier.old events.now carrier.new) (W.contents writer.old) (W.contents writer.new)) }
+    ensures memory { result ≡ Err RunFault.OutOfMemory → Writes (EndsIn (record { seen = C.seen; offers = C.offers; takes = C.takes; steps = C.steps }) StopsIn carrier.old events.now carrier.new) (W.contents writer.old) (W.contents writer.new) }
+    ensures cannot_write { result ≡ Err RunFault.CannotWrite → (shown : List Shown) × EndsIn (record { seen = C.seen; offers = C.offers; takes = C.takes; steps = C.steps }) MayDo carrier.old events.now carrier.new shown }
 {
     for event in events {
         run_event(carrier, event, writer)?;
@@ -73,7 +85,9 @@ fn run_event<C: Carrier, W: Write>(
     event: &Event,
     writer: &mut W,
 ) -> Result<(), RunFault>
-    ensures { OnOk result (Writes (Happens (record { seen = C.seen; offers = C.offers; takes = C.takes; steps = C.steps }) carrier.old event.now carrier.new) (W.contents writer.old) (W.contents writer.new)) }
+    ensures happens { OnOk result (Writes (Happens (record { seen = C.seen; offers = C.offers; takes = C.takes; steps = C.steps }) carrier.old event.now carrier.new) (W.contents writer.old) (W.contents writer.new)) }
+    ensures memory { result ≡ Err RunFault.OutOfMemory → StopsIn (record { seen = C.seen; offers = C.offers; takes = C.takes; steps = C.steps }) carrier.old event.now carrier.new × Keeps (W.contents writer.old) (W.contents writer.new) }
+    ensures cannot_write { result ≡ Err RunFault.CannotWrite → MayDo (record { seen = C.seen; offers = C.offers; takes = C.takes; steps = C.steps }) carrier.old event.now carrier.new }
 {
     let booked = carrier.log().len();
     let outcome = apply(carrier, event)?;
@@ -85,6 +99,8 @@ fn run_event<C: Carrier, W: Write>(
 fn apply<C: Carrier>(carrier: &mut C, event: &Event) -> Result<Result<(), CarrierFault>, AllocError>
     ensures event { IfOk result (λ r. EventGives (record { seen = C.seen; offers = C.offers; takes = C.takes; steps = C.steps }) carrier.old event.now r carrier.new) }
     ensures grew { Grew (C.seen carrier.old).log (C.seen carrier.new).log }
+    ensures refused { IfOk result (λ r. IfErr r (λ f. (C.seen carrier.new).log ≡ (C.seen carrier.old).log)) }
+    ensures memory { IfErr result (λ f. carrier.new ≡ carrier.old) }
 {
     match event {
         Event::Out(message) => Ok(carrier.offer_out(message.clone()?)),
@@ -103,7 +119,8 @@ fn print_crossings<W: Write>(
     writer: &mut W,
 ) -> Result<(), RunFault>
     requires { booked ≤ length log.now }
-    ensures { OnOk result (Appends (W.contents writer.old) (W.contents writer.new) (output (shown_crossings (drop booked log.now)))) }
+    ensures written { OnOk result (Appends (W.contents writer.old) (W.contents writer.new) (output (shown_crossings (drop booked log.now)))) }
+    ensures fault { IfErr result (λ f. f ≡ RunFault.CannotWrite) }
 {
     let (_, crossings) = log.split_at(booked);
     for crossing in crossings {
@@ -119,6 +136,7 @@ fn print_refusal<W: Write>(
 ) -> Result<(), RunFault>
     ensures shown { OnOk result (Appends (W.contents writer.old) (W.contents writer.new) (output (shown_refusal outcome))) }
     ensures goes_on { OnOk result (GoesOn outcome) }
+    ensures memory { result ≡ Err RunFault.OutOfMemory → Halts outcome × (writer.new ≡ writer.old) }
 {
     let Err(fault) = outcome else {
         return Ok(());
