@@ -43,22 +43,6 @@ void *realloc(void *old, size_t size)
     return fails("FAIL_ALLOCATION", &allocations) ? NULL : next(old, size);
 }
 
-int posix_memalign(void **made, size_t alignment, size_t size)
-{
-    static int (*next)(void **, size_t, size_t);
-    if (next == NULL)
-        next = (int (*)(void **, size_t, size_t))dlsym(RTLD_NEXT, "posix_memalign");
-    return fails("FAIL_ALLOCATION", &allocations) ? ENOMEM : next(made, alignment, size);
-}
-
-void *aligned_alloc(size_t alignment, size_t size)
-{
-    static void *(*next)(size_t, size_t);
-    if (next == NULL)
-        next = (void *(*)(size_t, size_t))dlsym(RTLD_NEXT, "aligned_alloc");
-    return fails("FAIL_ALLOCATION", &allocations) ? NULL : next(alignment, size);
-}
-
 ssize_t read(int file, void *octets, size_t size)
 {
     static ssize_t (*next)(int, void *, size_t);

@@ -36,10 +36,13 @@ impl From<AllocError> for RunFault {
 
 /// Runs the events in order, and prints each crossing and each refusal as it comes, a line each.
 ///
-/// A refused event changes nothing, and the run goes on behind it. Errors: `OutOfMemory` and
-/// `CannotWrite`, after which the lines written are the first of those of the whole run, the last of them
-/// perhaps in part. However the run ends, each RFNM speaks of one message that was taken once, and no
-/// message was taken twice (BBN Report 1822: one message outstanding on a link).
+/// A refused event changes nothing, and the run goes on behind it. However the run ends, each RFNM speaks of
+/// one message that was taken once, and no message was taken twice (BBN Report 1822: one message
+/// outstanding on a link).
+///
+/// Errors: `OutOfMemory`, where the run ends in one event, with the lines of those before it written and none
+/// of its own; `CannotWrite`, where it ends in one event, of which the carrier did its part. How much of the
+/// last lines stands on the output then is the writer's.
 pub fn run_events<C: Carrier, W: Write>(
     carrier: &mut C,
     events: &[Event],
