@@ -1,20 +1,44 @@
 //! The program `arpasim`: it runs a network over a script and prints what its hosts see.
 //!
-//! Standard input is a topology, a line `%` and a script. Here is the way from the command line to a run, and
-//! the exit status; the arguments are read by `arguments`, and the run itself is `replay::run_script`.
+//! Standard input is a topology, a line `%` and a script. The program itself is `command_line::run`; here it
+//! is given the words of the command line, standard input and standard output, and its fault becomes a line
+//! on standard error and the exit status.
 #![tactic(auto)]
 
-mod command_line;
-
-use std::io::Write;
+use command_line::run;
+use replay::ScriptFault;
+use std::io::{BufWriter, ErrorKind, Write};
 use std::process::ExitCode;
+use std::rt::Env;
+use std::{env, io};
 
 fn main(rt: HostRuntime) -> ExitCode {
-    match command_line::from_command_line(&rt) {
+    match from_command_line(&rt) {
         Ok(()) => ExitCode::SUCCESS,
         Err(fault) => {
             let _ = eprintln!(rt; "{fault}");
             ExitCode::from(fault.status())
         }
+    }
+}
+
+/// Runs the program as the command line asks, from standard input to standard output.
+fn from_command_line<R: Env + Input + Print + AllocGlobal>(rt: &R) -> Result<(), ScriptFault> {
+    let words = words_of(rt)?;
+    let mut reader = rt.reader();
+    let buffered = BufWriter::new(rt.alloc(), io::writer(rt));
+    let mut writer = buffered.map_err(|_| ScriptFault::Stopped)?;
+    let outcome = run(rt.alloc(), &words, &mut reader, &mut writer);
+    let flushed = writer.flush();
+    outcome?;
+    flushed.map_err(|_| ScriptFault::Stopped)
+}
+
+/// The words of the command line behind the program's name.
+fn words_of<R: Env + AllocGlobal>(rt: &R) -> Result<Vec<String>, ScriptFault> {
+    match env::args(rt) {
+        Ok(words) => Ok(words.skip(1).collect(rt.alloc())?),
+        Err(error) if error.kind() == ErrorKind::OutOfMemory => Err(ScriptFault::Stopped),
+        Err(_) => Err(ScriptFault::BadArguments),
     }
 }

@@ -3,72 +3,31 @@
 use crate::values::flow;
 use bit_messages::{BitFault, Bits};
 use leader1822::{
-    Answer, Carrier, CarrierFault, Crossing, Flow, HostAddr, HostMessage, ImpNumber, Inbound,
-    Leader, LeaderFault, Link, NetEvent, PlainBoxes, Text,
+    Answer, Carrier, CarrierFault, Flow, HostAddr, HostMessage, ImpNumber, Inbound, Leader,
+    LeaderFault, Link, NetEvent, PlainBoxes, Text,
 };
 use std::alloc::Global;
 use std::process::Abort;
 use std::test::Fail;
 
-/// Host `host` at IMP `imp`.
-fn host(rt: &impl Abort, host: u8, imp: u8) -> HostAddr {
-    HostAddr::new(host, imp).expect(rt, "a host's address")
-}
-
-/// A message of eight ones on link 5 from 0/1 to 0/2.
-fn message(rt: &impl Abort, alloc: Global) -> Result<HostMessage, BitFault> {
-    let bits = Bits::from_octets(alloc, &[0xFF], 8)?;
-    Ok(HostMessage {
-        flow: flow(5),
-        text: Text::new(bits).expect(rt, "a short text"),
-    })
-}
-
-/// Two hosts, one at IMP 1 and one at IMP 2.
-fn two_hosts(rt: &impl Abort, alloc: Global) -> Result<PlainBoxes, Fail> {
-    let mut hosts = Vec::new(alloc);
-    for imp in 1..3u8 {
-        hosts.push(HostAddr::new(0, imp).expect(rt, "a host's address"))?;
-    }
-    let ordered = hosts.len() == 2 && hosts[0].imp() == 1 && hosts[1].imp() == 2;
-    assert!(rt; ordered);
-    Ok(PlainBoxes::new(alloc, hosts))
-}
-
-/// Offers that message.
-fn offer(
-    rt: &impl Abort,
-    alloc: Global,
-    boxes: &mut PlainBoxes,
-) -> Result<Result<(), CarrierFault>, BitFault> {
-    Ok(boxes.offer_out(message(rt, alloc)?))
-}
-
-/// What a host takes: the flow, the kind of an answer, and how many bits a message's text has.
-type Taking = Result<Option<(Flow, Option<Answer>, usize)>, CarrierFault>;
-
-/// A host takes what waits for it.
-fn taking(boxes: &mut PlainBoxes, host: HostAddr) -> Taking {
-    Ok(match boxes.take_in(host)? {
-        Some(Inbound::Message(message)) => Some((message.flow, None, message.text.bits().len())),
-        Some(Inbound::Answer(kind, flow)) => Some((flow, Some(kind), 0)),
-        None => None,
-    })
+/// Host 1 at IMP 2.
+fn there() -> HostAddr {
+    HostAddr::new(1, 2).unwrap()
 }
 
 /// The RFNM from host 1 at IMP 2 about link 5.
-fn rfnm(rt: &impl Abort) -> Leader {
+fn rfnm() -> Leader {
     Leader::Answer {
         kind: Answer::Rfnm,
-        address: host(rt, 1, 2),
+        address: there(),
         link: Link(5),
     }
 }
 
 /// The leader of a message to host 1 at IMP 2 on link 5.
-fn regular(rt: &impl Abort) -> Leader {
+fn regular() -> Leader {
     Leader::Regular {
-        address: host(rt, 1, 2),
+        address: there(),
         link: Link(5),
     }
 }
@@ -76,7 +35,7 @@ fn regular(rt: &impl Abort) -> Leader {
 #[test]
 fn leaders_from_an_imp(rt: HostRuntime) {
     for octets in [[0x05, 0x42, 0x05, 0x00], [0xF5, 0x42, 0x05, 0xFF]] {
-        assert_eq!(rt; Leader::read_from_imp(&octets), Ok(rfnm(&rt)), "{octets:?}");
+        assert_eq!(rt; Leader::read_from_imp(&octets), Ok(rfnm()), "{octets:?}");
     }
     for (octets, leader) in [
         (
@@ -94,7 +53,7 @@ fn leaders_from_an_imp(rt: HostRuntime) {
 #[test]
 fn leaders_from_a_host(rt: HostRuntime) {
     for (octets, leader) in [
-        (&[0x70u8, 0x42, 0x05, 0x01, 0x99] as &[u8], Ok(regular(&rt))),
+        (&[0x70u8, 0x42, 0x05, 0x01, 0x99] as &[u8], Ok(regular())),
         (&[0x04, 0x00, 0x00, 0x00], Ok(Leader::Nop)),
         (&[0x05, 0x42, 0x05, 0x00], Err(LeaderFault::UnknownType(5))),
         (&[0x07, 0x42, 0x05, 0x00], Err(LeaderFault::UnknownType(7))),
@@ -109,144 +68,237 @@ fn leaders_from_a_host(rt: HostRuntime) {
 #[test]
 fn leaders_are_written(rt: HostRuntime) {
     for (leader, octets) in [
-        (rfnm(&rt), [0x05, 0x42, 0x05, 0x00]),
-        (regular(&rt), [0x00, 0x42, 0x05, 0x00]),
+        (rfnm(), [0x05, 0x42, 0x05, 0x00]),
+        (regular(), [0x00, 0x42, 0x05, 0x00]),
         (Leader::Nop, [0x04, 0x00, 0x00, 0x00]),
     ] {
         assert_eq!(rt; leader.write(), octets);
     }
 }
 
+/// The octet of a host's address.
+fn octet(host: u8, imp: u8) -> Option<u8> {
+    Some(HostAddr::new(host, imp)?.octet())
+}
+
+/// The host and the IMP that an octet names.
+fn parts(octet: u8) -> Option<(u8, u8)> {
+    let address = HostAddr::from_octet(octet)?;
+    Some((address.host(), address.imp()))
+}
+
+/// The number of the IMP with this number.
+fn imp_number(number: u8) -> Option<u8> {
+    Some(ImpNumber::new(number)?.number())
+}
+
 #[test]
 fn addresses_have_their_ranges(rt: HostRuntime) {
-    for (number, found) in [(0, None), (63, Some(63)), (64, None)] {
-        assert_eq!(rt; ImpNumber::new(number).map(|imp| imp.number()), found);
+    let numbers = [imp_number(0), imp_number(63), imp_number(64)];
+    assert_eq!(rt; numbers, [None, Some(63), None]);
+    let octets = [octet(4, 1), octet(3, 64), octet(3, 63)];
+    assert_eq!(rt; octets, [None, None, Some(0xFF)]);
+    assert_eq!(rt; [parts(0xFF), parts(0xC0)], [Some((3, 63)), None]);
+}
+
+/// Something done to plain boxes.
+#[derive(Clone, Copy)]
+enum Act {
+    /// 0/1 offers a message of eight ones on link 5 to this host.
+    Offer(HostAddr),
+    /// This host takes what waits for it.
+    Take(HostAddr),
+    /// This happens in the network.
+    Step(NetEvent),
+    /// A quiet round passes.
+    Quiet,
+    /// The hosts and the log are looked at.
+    Look,
+}
+
+/// What an act gives.
+#[derive(Clone, Copy, PartialEq)]
+enum Outcome {
+    /// What was asked for happened.
+    Done,
+    /// It was refused.
+    Refused(CarrierFault),
+    /// Nothing waits.
+    Nothing,
+    /// A message of so many bits is taken.
+    Message(Flow, usize),
+    /// An answer is taken.
+    Answered(Answer, Flow),
+    /// There are so many hosts, and so many crossings on the log.
+    Seen(usize, usize),
+}
+
+/// The outcome of a call that gives nothing.
+fn done(answer: Result<(), CarrierFault>) -> Outcome {
+    match answer {
+        Ok(()) => Outcome::Done,
+        Err(fault) => Outcome::Refused(fault),
     }
-    for (host, imp, octet) in [(4, 1, None), (3, 64, None), (3, 63, Some(0xFF))] {
-        assert_eq!(rt;
-            HostAddr::new(host, imp).map(|address| address.octet()),
-            octet
-        );
+}
+
+/// The outcome of a taking.
+fn taken(answer: Result<Option<Inbound>, CarrierFault>) -> Outcome {
+    match answer {
+        Ok(Some(Inbound::Message(message))) => {
+            Outcome::Message(message.flow, message.text.bits().len())
+        }
+        Ok(Some(Inbound::Answer(kind, flow))) => Outcome::Answered(kind, flow),
+        Ok(None) => Outcome::Nothing,
+        Err(fault) => Outcome::Refused(fault),
     }
-    for (octet, found) in [(0xFF, Some((3, 63))), (0xC0, None)] {
-        let address = HostAddr::from_octet(octet);
-        assert_eq!(rt;
-            address.map(|address| (address.host(), address.imp())),
-            found
-        );
+}
+
+/// The message that 0/1 offers to this host.
+fn message(rt: &impl Abort, alloc: Global, destination: HostAddr) -> Result<HostMessage, BitFault> {
+    let bits = Bits::from_octets(alloc, &[0xFF], 8)?;
+    Ok(HostMessage {
+        flow: Flow {
+            destination,
+            ..flow(5)
+        },
+        text: Text::new(bits).expect(rt, "a short text"),
+    })
+}
+
+/// Plain boxes of the hosts 0/1 and 0/2.
+fn two_hosts(rt: &impl Abort, alloc: Global) -> Result<PlainBoxes, Fail> {
+    let flow = flow(5);
+    let mut hosts = Vec::new(alloc);
+    hosts.push(flow.source)?;
+    hosts.push(flow.destination)?;
+    let ordered = hosts.len() == 2 && hosts[0].imp() == 1 && hosts[1].imp() == 2;
+    assert!(rt; ordered);
+    Ok(PlainBoxes::new(alloc, hosts))
+}
+
+/// What something done to boxes gives.
+fn outcome_of(
+    rt: &impl Abort,
+    alloc: Global,
+    boxes: &mut PlainBoxes,
+    what: Act,
+) -> Result<Outcome, BitFault> {
+    Ok(match what {
+        Act::Offer(destination) => done(boxes.offer_out(message(rt, alloc, destination)?)),
+        Act::Take(host) => taken(boxes.take_in(host)),
+        Act::Step(event) => done(boxes.step(event)),
+        Act::Quiet => done(boxes.quiet_round()),
+        Act::Look => Outcome::Seen(boxes.hosts().len(), boxes.log().len()),
+    })
+}
+
+/// The place of the first act that doesn't give what stands beside it, over the boxes of two hosts.
+fn first_other(
+    rt: &impl Abort,
+    alloc: Global,
+    acts: &[(Act, Outcome)],
+) -> Result<Option<usize>, Fail> {
+    let mut boxes = two_hosts(rt, alloc)?;
+    for (place, (what, outcome)) in acts.iter().enumerate() {
+        if outcome_of(rt, alloc, &mut boxes, *what)? != *outcome {
+            return Ok(Some(place));
+        }
     }
+    Ok(None)
 }
 
 #[test]
 fn a_message_is_taken_and_answered(rt: HostRuntime) -> Result<(), Fail> {
-    let alloc = rt.alloc();
     let flow = flow(5);
-    let mut boxes = two_hosts(&rt, alloc)?;
-    let offered = [
-        offer(&rt, alloc, &mut boxes)?,
-        offer(&rt, alloc, &mut boxes)?,
+    let acts = [
+        (Act::Look, Outcome::Seen(2, 0)),
+        (Act::Offer(flow.destination), Outcome::Done),
+        (
+            Act::Offer(flow.destination),
+            Outcome::Refused(CarrierFault::Blocked),
+        ),
+        (Act::Take(flow.source), Outcome::Nothing),
+        (Act::Take(flow.destination), Outcome::Message(flow, 8)),
+        (
+            Act::Take(flow.source),
+            Outcome::Answered(Answer::Rfnm, flow),
+        ),
+        (Act::Quiet, Outcome::Done),
+        (Act::Look, Outcome::Seen(2, 3)),
     ];
-    assert_eq!(rt; offered, [Ok(()), Err(CarrierFault::Blocked)]);
-    let taken = [
-        taking(&mut boxes, flow.source),
-        taking(&mut boxes, flow.destination),
-        taking(&mut boxes, flow.source),
-    ];
-    let answer = Some((flow, Some(Answer::Rfnm), 0));
-    assert_eq!(rt; taken, [Ok(None), Ok(Some((flow, None, 8))), Ok(answer)]);
-    let quiet = boxes.quiet_round();
-    assert_eq!(rt;
-        (quiet, boxes.hosts().len(), boxes.log().len()),
-        (Ok(()), 2, 3)
-    );
-    assert!(rt; matches!(boxes.log().last(), Some(Crossing::Answer(Answer::Rfnm, _))));
+    assert_eq!(rt; first_other(&rt, rt.alloc(), &acts)?, None);
     Ok(())
 }
 
 #[test]
 fn a_host_that_stops_gives_dead(rt: HostRuntime) -> Result<(), Fail> {
-    let alloc = rt.alloc();
     let flow = flow(5);
-    let mut boxes = two_hosts(&rt, alloc)?;
-    let offered = offer(&rt, alloc, &mut boxes)?;
-    let there = flow.destination;
-    let stopped = [
-        offered,
-        boxes.step(NetEvent::HostDown(there)),
-        boxes.step(NetEvent::HostDown(there)),
+    let down = Act::Step(NetEvent::HostDown(flow.destination));
+    let up = Act::Step(NetEvent::HostUp(flow.destination));
+    let acts = [
+        (Act::Offer(flow.destination), Outcome::Done),
+        (down, Outcome::Done),
+        (down, Outcome::Refused(CarrierFault::IsDown)),
+        (
+            Act::Take(flow.source),
+            Outcome::Answered(Answer::Dead, flow),
+        ),
+        (
+            Act::Take(flow.destination),
+            Outcome::Refused(CarrierFault::IsDown),
+        ),
+        (up, Outcome::Done),
+        (up, Outcome::Refused(CarrierFault::IsUp)),
+        (Act::Look, Outcome::Seen(2, 4)),
     ];
-    assert_eq!(rt; stopped, [Ok(()), Ok(()), Err(CarrierFault::IsDown)]);
-    let taken = [
-        taking(&mut boxes, flow.source),
-        taking(&mut boxes, flow.destination),
-    ];
-    let dead = Some((flow, Some(Answer::Dead), 0));
-    assert_eq!(rt; taken, [Ok(dead), Err(CarrierFault::IsDown)]);
-    let started = [
-        boxes.step(NetEvent::HostUp(there)),
-        boxes.step(NetEvent::HostUp(there)),
-    ];
-    assert_eq!(rt; started, [Ok(()), Err(CarrierFault::IsUp)]);
-    assert_eq!(rt; boxes.log().len(), 4);
+    assert_eq!(rt; first_other(&rt, rt.alloc(), &acts)?, None);
     Ok(())
 }
 
 #[test]
 fn a_message_is_given_up(rt: HostRuntime) -> Result<(), Fail> {
-    let alloc = rt.alloc();
     let flow = flow(5);
-    let mut boxes = two_hosts(&rt, alloc)?;
-    let given_up = NetEvent::GiveUp(flow);
-    let up = NetEvent::HostUp(flow.source);
-    let done = [
-        boxes.step(given_up),
-        offer(&rt, alloc, &mut boxes)?,
-        boxes.step(NetEvent::HostDown(flow.source)),
-        boxes.step(up),
-        boxes.step(given_up),
-        boxes.step(up),
-        offer(&rt, alloc, &mut boxes)?,
-        boxes.step(given_up),
-        boxes.step(given_up),
+    let given_up = Act::Step(NetEvent::GiveUp(flow));
+    let up = Act::Step(NetEvent::HostUp(flow.source));
+    let none = Outcome::Refused(CarrierFault::NotOutstanding);
+    let acts = [
+        (given_up, none),
+        (Act::Offer(flow.destination), Outcome::Done),
+        (Act::Step(NetEvent::HostDown(flow.source)), Outcome::Done),
+        (up, Outcome::Refused(CarrierFault::Unsettled)),
+        (given_up, Outcome::Done),
+        (up, Outcome::Done),
+        (Act::Offer(flow.destination), Outcome::Done),
+        (given_up, Outcome::Done),
+        (given_up, none),
+        (
+            Act::Take(flow.source),
+            Outcome::Answered(Answer::Incomplete, flow),
+        ),
+        (Act::Take(flow.destination), Outcome::Nothing),
     ];
-    assert_eq!(rt;
-        done,
-        [
-            Err(CarrierFault::NotOutstanding),
-            Ok(()),
-            Ok(()),
-            Err(CarrierFault::Unsettled),
-            Ok(()),
-            Ok(()),
-            Ok(()),
-            Ok(()),
-            Err(CarrierFault::NotOutstanding),
-        ]
-    );
-    let taken = [
-        taking(&mut boxes, flow.source),
-        taking(&mut boxes, flow.destination),
-    ];
-    assert_eq!(rt;
-        taken,
-        [Ok(Some((flow, Some(Answer::Incomplete), 0))), Ok(None)]
-    );
+    assert_eq!(rt; first_other(&rt, rt.alloc(), &acts)?, None);
     Ok(())
 }
 
 #[test]
 fn a_host_that_is_not_there(rt: HostRuntime) -> Result<(), Fail> {
-    let alloc = rt.alloc();
-    let nobody = host(&rt, 0, 9);
-    let mut boxes = two_hosts(&rt, alloc)?;
-    let mut lost = message(&rt, alloc)?;
-    lost.flow.destination = nobody;
-    let flow = lost.flow;
-    let imp = ImpNumber::new(1).expect(&rt, "an IMP");
-    let done = [boxes.offer_out(lost), boxes.step(NetEvent::ImpUp(imp))];
-    assert_eq!(rt; done, [Ok(()), Err(CarrierFault::NoSuch)]);
-    let taken = [taking(&mut boxes, nobody), taking(&mut boxes, flow.source)];
-    let dead = Some((flow, Some(Answer::Dead), 0));
-    assert_eq!(rt; taken, [Err(CarrierFault::NoSuch), Ok(dead)]);
+    let nobody = HostAddr::new(0, 9).unwrap();
+    let lost = Flow {
+        destination: nobody,
+        ..flow(5)
+    };
+    let imp = ImpNumber::new(1).unwrap();
+    let nothing_such = Outcome::Refused(CarrierFault::NoSuch);
+    let acts = [
+        (Act::Offer(nobody), Outcome::Done),
+        (Act::Step(NetEvent::ImpUp(imp)), nothing_such),
+        (Act::Take(nobody), nothing_such),
+        (
+            Act::Take(lost.source),
+            Outcome::Answered(Answer::Dead, lost),
+        ),
+    ];
+    assert_eq!(rt; first_other(&rt, rt.alloc(), &acts)?, None);
     Ok(())
 }

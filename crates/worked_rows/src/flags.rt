@@ -1,7 +1,9 @@
-//! Words that are the program's arguments, and words that aren't.
+//! Words that are the program's arguments, words that aren't, and what the program does on them.
 
-use arguments::{ArgumentFault, Options};
+use command_line::{ArgumentFault, Options, run};
+use replay::ScriptFault;
 use std::alloc::{AllocError, Global};
+use std::io::Cursor;
 
 /// Words that are no arguments of the program.
 const NO_ARGUMENTS: [&[&str]; 8] = [
@@ -56,6 +58,37 @@ fn flags_in_any_order(rt: HostRuntime) {
             Ok((false, true)),
             both,
             both
+        ]
+    );
+}
+
+/// A host at an IMP, and a script of no event.
+const NO_SCRIPT: &[u8] = b"carrier = \"plain\"\nraw = true\n[[imp]]\nid = 1\nhosts = 1\n%\n";
+
+/// How the program ends that is given these words and that input, and whether it wrote this.
+fn ended(alloc: Global, words: &[&str], printed: &[u8]) -> (Result<(), ScriptFault>, bool) {
+    let Ok(words) = strings(alloc, words) else {
+        return (Err(ScriptFault::Stopped), false);
+    };
+    let mut reader = Cursor::new(NO_SCRIPT);
+    let mut writer = Vec::new(alloc);
+    let result = run(alloc, &words, &mut reader, &mut writer);
+    (result, writer.as_slice() == printed)
+}
+
+#[test]
+fn the_words_say_what_is_done(rt: HostRuntime) {
+    let found = [
+        ended(rt.alloc(), &["--book"], b"end\n"),
+        ended(rt.alloc(), &["--check"], b"ok\n"),
+        ended(rt.alloc(), &["--quiet"], b""),
+    ];
+    assert_eq!(rt;
+        found,
+        [
+            (Ok(()), true),
+            (Ok(()), true),
+            (Err(ScriptFault::BadArguments), true)
         ]
     );
 }

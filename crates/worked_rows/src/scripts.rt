@@ -13,37 +13,52 @@ mod runs;
 const TWO_IMPS: &str =
     "carrier = \"plain\"\nraw = true\n[[imp]]\nid = 1\nhosts = 1\n[[imp]]\nid = 2\nhosts = 1\n%\n";
 
+/// An input: a topology with the mark, and behind it some octets, so many that are all alike, and some more.
+#[derive(Clone, Copy)]
+struct Input<'a> {
+    topology: &'a [u8],
+    front: &'a [u8],
+    filling: u8,
+    count: usize,
+    back: &'a [u8],
+}
+
+/// The input of two IMPs and this script.
+fn over_two_imps(script: &[u8]) -> Input<'_> {
+    Input {
+        topology: TWO_IMPS.as_bytes(),
+        front: script,
+        filling: 0,
+        count: 0,
+        back: b"",
+    }
+}
+
+/// How a run ends, and whether it wrote what it should.
+type Ended = (Result<(), ScriptFault>, bool);
+
 /// How a run of this input ends, and whether it wrote this.
-fn run(
-    alloc: Global,
-    input: &[u8],
-    check: bool,
-    printed: &[u8],
-) -> (Result<(), ScriptFault>, bool) {
+fn run(alloc: Global, input: &[u8], check: bool, printed: &[u8]) -> Ended {
     let mut reader = Cursor::new(input);
     let mut writer = Vec::new(alloc);
     let result = run_script(alloc, &mut reader, &mut writer, false, check);
     (result, writer.as_slice() == printed)
 }
 
-/// The same of a script over two IMPs.
-fn run_over_two_imps(
+/// The same of an input that is put together first.
+fn run_input(
     alloc: Global,
-    script: &[u8],
+    input: Input<'_>,
     check: bool,
     printed: &[u8],
-) -> (Result<(), ScriptFault>, bool) {
-    match over_two_imps(alloc, script) {
-        Ok(input) => run(alloc, &input, check, printed),
-        Err(_) => (Err(ScriptFault::Stopped), false),
+) -> Result<Ended, AllocError> {
+    let mut octets = Vec::from_slice(alloc, input.topology)?;
+    octets.extend_from_slice(input.front)?;
+    for _ in 0..input.count {
+        octets.push(input.filling)?;
     }
-}
-
-/// An input over two IMPs.
-fn over_two_imps(alloc: Global, script: &[u8]) -> Result<Vec<u8>, AllocError> {
-    let mut input = Vec::from_slice(alloc, TWO_IMPS.as_bytes())?;
-    input.extend_from_slice(script)?;
-    Ok(input)
+    octets.extend_from_slice(input.back)?;
+    Ok(run(alloc, &octets, check, printed))
 }
 
 /// Gives one octet a read, and fails at a read.

@@ -57,50 +57,44 @@ const NO_EVENTS: [&str; 24] = [
     "calm 1",
 ];
 
-/// How a run ends whose script has this line behind three good ones, and whether it wrote nothing.
-fn run_with_line(alloc: Global, line: &str) -> (Result<(), ScriptFault>, bool) {
-    let Ok(mut input) = over_two_imps(alloc, b"out 0/1 0/2 5 0 -\n\n# seen\n") else {
-        return (Err(ScriptFault::Stopped), false);
-    };
-    match input.extend_from_slice(line.as_bytes()) {
-        Ok(()) => run(alloc, &input, false, b""),
-        Err(_) => (Err(ScriptFault::Stopped), false),
-    }
-}
-
 #[test]
 fn bad_lines_run_nothing(rt: HostRuntime) {
     for line in NO_EVENTS {
-        let ended = run_with_line(rt.alloc(), line);
-        assert_eq!(rt; ended, (Err(ScriptFault::BadLine(4)), true), "of {line:?}");
+        let input = Input {
+            back: line.as_bytes(),
+            ..over_two_imps(b"out 0/1 0/2 5 0 -\n\n# seen\n")
+        };
+        let ended = run_input(rt.alloc(), input, false, b"");
+        assert_eq!(rt;
+            ended,
+            Ok((Err(ScriptFault::BadLine(4)), true)),
+            "of {line:?}"
+        );
     }
 }
 
 #[test]
 fn any_octets_in_a_comment(rt: HostRuntime) {
-    let ended = run_over_two_imps(rt.alloc(), b"#\xFF\0\r\ntake 0/1\n", false, b"end\n");
-    assert_eq!(rt; ended, (Ok(()), true));
+    let input = over_two_imps(b"#\xFF\0\r\ntake 0/1\n");
+    let ended = run_input(rt.alloc(), input, false, b"end\n");
+    assert_eq!(rt; ended, Ok((Ok(()), true)));
 }
 
-/// How a run ends that checks the line of a message with so many bits, told by so many octets of 0.
-fn run_with_text(
-    alloc: Global,
-    bits: u32,
-    octets: usize,
-) -> Result<Result<(), ScriptFault>, AllocError> {
-    let mut line = format!(in alloc; "out 0/1 0/2 5 {bits} ")?.into_bytes();
-    for _ in 0..octets {
-        line.extend_from_slice(b"00")?;
+/// The line of a message, but for its text of 1008 octets of 0.
+fn with_text(line: &[u8]) -> Input<'_> {
+    Input {
+        filling: b'0',
+        count: 2016,
+        ..over_two_imps(line)
     }
-    Ok(run_over_two_imps(alloc, &line, true, b"ok\n").0)
 }
 
 #[test]
 fn the_longest_text(rt: HostRuntime) {
-    let longest = run_with_text(rt.alloc(), 8063, 1008);
-    let longer = run_with_text(rt.alloc(), 8064, 1008);
+    let longest = run_input(rt.alloc(), with_text(b"out 0/1 0/2 5 8063 "), true, b"ok\n");
+    let longer = run_input(rt.alloc(), with_text(b"out 0/1 0/2 5 8064 "), true, b"");
     assert_eq!(rt;
         (longest, longer),
-        (Ok(Ok(())), Ok(Err(ScriptFault::BadLine(1))))
+        (Ok((Ok(()), true)), Ok((Err(ScriptFault::BadLine(1)), true)))
     );
 }

@@ -3,52 +3,54 @@
 use super::*;
 use script::MAX_INPUT;
 
-/// How a run ends of two IMPs and a script that begins so, filled up to this many octets, and whether it wrote this.
-fn run_filled(
-    alloc: Global,
-    script: &[u8],
-    filling: u8,
-    size: usize,
-    printed: &[u8],
-) -> Result<(Result<(), ScriptFault>, bool), AllocError> {
-    let mut input = over_two_imps(alloc, script)?;
-    input.resize(size, filling)?;
-    Ok(run(alloc, &input, false, printed))
+/// An input of so many octets, of which the script is one comment.
+fn of_size(size: usize) -> Input<'static> {
+    Input {
+        filling: b'x',
+        count: size.saturating_sub(TWO_IMPS.len() + 1),
+        ..over_two_imps(b"#")
+    }
 }
 
 #[test]
 fn the_longest_input(rt: HostRuntime) {
-    let longest = run_filled(rt.alloc(), b"#", b'x', MAX_INPUT, b"end\n");
-    let longer = run_filled(rt.alloc(), b"#", b'x', MAX_INPUT + 1, b"");
-    let refused = Err(ScriptFault::BadTopology);
+    let longest = run_input(rt.alloc(), of_size(MAX_INPUT), false, b"end\n");
+    let longer = run_input(rt.alloc(), of_size(MAX_INPUT + 1), false, b"");
     assert_eq!(rt;
         (longest, longer),
-        (Ok((Ok(()), true)), Ok((refused, true)))
+        (
+            Ok((Ok(()), true)),
+            Ok((Err(ScriptFault::BadTopology), true))
+        )
     );
 }
 
 #[test]
 fn a_long_line_is_bad(rt: HostRuntime) {
-    let ended = run_filled(rt.alloc(), b"take ", b'0', 1_000_000, b"");
+    let input = Input {
+        filling: b'0',
+        count: 1_000_000,
+        ..over_two_imps(b"take ")
+    };
+    let ended = run_input(rt.alloc(), input, false, b"");
     assert_eq!(rt; ended, Ok((Err(ScriptFault::BadLine(1)), true)));
-}
-
-/// How a run ends whose topology is so many octets, brackets after the first six, and whether it wrote nothing.
-fn run_deep(alloc: Global, size: usize) -> Result<(Result<(), ScriptFault>, bool), AllocError> {
-    let mut input = Vec::from_slice(alloc, b"imp = ")?;
-    input.resize(size, b'[')?;
-    input.extend_from_slice(b"\n%\n")?;
-    Ok(run(alloc, &input, false, b""))
 }
 
 #[test]
 fn deep_brackets_are_no_topology(rt: HostRuntime) {
-    let ended = run_deep(rt.alloc(), 10_006);
+    let input = Input {
+        topology: b"imp = ",
+        front: b"",
+        filling: b'[',
+        count: 10_000,
+        back: b"\n%\n",
+    };
+    let ended = run_input(rt.alloc(), input, false, b"");
     assert_eq!(rt; ended, Ok((Err(ScriptFault::BadTopology), true)));
 }
 
 /// How a run ends whose read fails after so many, and whether it wrote nothing.
-fn run_failing_reads(alloc: Global, reads: u32) -> (Result<(), ScriptFault>, bool) {
+fn run_failing_reads(alloc: Global, reads: u32) -> Ended {
     let mut reader = FailingReader { reads };
     let mut writer = Vec::new(alloc);
     let result = run_script(alloc, &mut reader, &mut writer, false, false);
@@ -67,19 +69,20 @@ fn each_read_may_fail(rt: HostRuntime) {
     }
 }
 
+/// Two hosts at one IMP, of which the first offers a message that the second takes.
+const OFFER_AND_TAKE: &[u8] =
+    b"carrier = \"plain\"\nraw = true\n[[imp]]\nid = 1\nhosts = 2\n%\nout 0/1 1/1 5 0 -\ntake 1/1\n";
+
 /// What a message offered and taken prints.
-const OFFERED_AND_TAKEN: &[u8] = b"out 0/1 0/2 5 0\nin 0/1 0/2 5 0\nend\n";
+const OFFERED_AND_TAKEN: &[u8] = b"out 0/1 1/1 5 0\nin 0/1 1/1 5 0\nend\n";
 
 /// How a run ends that has room for so many octets, and whether it wrote the first so many of all.
-fn run_failing_writes(alloc: Global, room: usize) -> (Result<(), ScriptFault>, bool) {
+fn run_failing_writes(alloc: Global, room: usize) -> Ended {
     let mut writer = FailingWriter {
         kept: Vec::new(alloc),
         room,
     };
-    let Ok(input) = over_two_imps(alloc, b"out 0/1 0/2 5 0 -\ntake 0/2\n") else {
-        return (Err(ScriptFault::Stopped), false);
-    };
-    let mut reader = Cursor::new(input.as_slice());
+    let mut reader = Cursor::new(OFFER_AND_TAKE);
     let result = run_script(alloc, &mut reader, &mut writer, false, false);
     let first = OFFERED_AND_TAKEN.get(..room);
     (result, first == Some(writer.kept.as_slice()))

@@ -22,26 +22,20 @@ const RUNS: [(&[u8], &[u8]); 4] = [
 #[test]
 fn scripts_print_what_crosses(rt: HostRuntime) {
     for (row, (script, printed)) in RUNS.iter().enumerate() {
-        let ended = run_over_two_imps(rt.alloc(), script, false, printed);
-        assert_eq!(rt; ended, (Ok(()), true), "row {row}");
+        let ended = run_input(rt.alloc(), over_two_imps(script), false, printed);
+        assert_eq!(rt; ended, Ok((Ok(()), true)), "row {row}");
     }
 }
 
 #[test]
 fn check_reads_only(rt: HostRuntime) {
-    let ended = run_over_two_imps(rt.alloc(), b"out 0/1 0/2 5 0 -\n", true, b"ok\n");
-    assert_eq!(rt; ended, (Ok(()), true));
-}
-
-/// How a run of two IMPs ends whose input has no octet behind the mark, and whether it wrote `end` alone.
-fn run_to_the_mark(alloc: Global) -> (Result<(), ScriptFault>, bool) {
-    match TWO_IMPS.strip_suffix('\n') {
-        Some(input) => run(alloc, input.as_bytes(), false, b"end\n"),
-        None => (Err(ScriptFault::Stopped), false),
-    }
+    let input = over_two_imps(b"out 0/1 0/2 5 0 -\n");
+    let ended = run_input(rt.alloc(), input, true, b"ok\n");
+    assert_eq!(rt; ended, Ok((Ok(()), true)));
 }
 
 #[test]
 fn an_input_may_end_with_the_mark(rt: HostRuntime) {
-    assert_eq!(rt; run_to_the_mark(rt.alloc()), (Ok(()), true));
+    let input = TWO_IMPS.trim_end().as_bytes();
+    assert_eq!(rt; run(rt.alloc(), input, false, b"end\n"), (Ok(()), true));
 }

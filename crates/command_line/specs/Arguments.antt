@@ -3,9 +3,9 @@ use Rattle.std.specs.Prelude.{◌≡◌, ℕ, true, false, not, ◌&&◌, List, 
 use Rattle.std.specs.Str.{bytes_eq}
 use Rattle.clap.specs.Words.{App, Rule, Text, new_app, new_rule, with_rule}
 use Rattle.clap.specs.declared.builder.action.ArgAction.TheVariants.{SetTrue}
-use Rattle.arguments.specs.declared.options.Options.{Options}
-use Rattle.arguments.specs.declared.options.ArgumentFault.{ArgumentFault}
-use Rattle.arguments.specs.declared.options.ArgumentFault.TheVariants as fault
+use Rattle.command_line.specs.declared.options.Options.{Options}
+use Rattle.command_line.specs.declared.options.ArgumentFault.{ArgumentFault}
+use Rattle.command_line.specs.declared.options.ArgumentFault.TheVariants as fault
 
 -- the options with a word more: the flag that it names, if that wasn't given before
 abbrev pub with_word : List ℕ → Options → Option Options

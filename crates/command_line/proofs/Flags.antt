@@ -18,9 +18,9 @@ use Rattle.clap.proofs.OnLiterals.{clap_on_literals}
 use Rattle.clap.specs.Values.{kind_of, reading_of}
 use Rattle.clap.specs.declared.builder.value_parser.ValueParser.TheVariants as parser
 use Rattle.clap.specs.declared.parser.matches.ValueSource.TheVariants.{CommandLine}
-use Rattle.arguments.specs.Arguments.{command_line, options_after, options_of, with_word}
-use Rattle.arguments.specs.declared.options.Options.{Options}
-use Rattle.arguments.proofs.Marks.{long_is}
+use Rattle.command_line.specs.Arguments.{command_line, options_after, options_of, with_word}
+use Rattle.command_line.specs.declared.options.Options.{Options}
+use Rattle.command_line.proofs.Marks.{long_is}
 
 abbrev pub shape : Shape
 shape = (built command_line).top

@@ -9,9 +9,9 @@ use Rattle.clap.specs.Words.{App, app_of, fault_of, is_simple, is_simple_and_fre
 use Rattle.clap.specs.Kinds.{HasKind}
 use Rattle.clap.specs.Values.{kind_of}
 use Rattle.clap.specs.declared.error.kind.ErrorKind.TheVariants as kind
-use Rattle.arguments.specs.Arguments.{command_line}
-use Rattle.arguments.proofs.Flags.{Verdict, flag_is, is_simple_line, marked, refused, verdict}
-use Rattle.arguments.proofs.options.Options.read_texts.Goals as goal
+use Rattle.command_line.specs.Arguments.{command_line}
+use Rattle.command_line.proofs.Flags.{Verdict, flag_is, is_simple_line, marked, refused, verdict}
+use Rattle.command_line.proofs.options.Options.read_texts.Goals as goal
 
 marks : (words : List (Bor Text)) → list_any (λ word. bytes_eq word (codes "--")) (map (λ word. word.now) words) ≡ list_any (λ word. bytes_eq word.now (codes "--")) words
 marks words = sym (list_any-map (λ word. bytes_eq word (codes "--")) (λ word. word.now) words)

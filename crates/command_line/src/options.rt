@@ -4,7 +4,7 @@ ghost use Rattle.std.specs.Prelude.{◌≡◌, codes, map, IfOk, string_bytes};
 ghost use Rattle.std.specs.List.{list_any};
 ghost use Rattle.std.specs.Str.{bytes_eq};
 ghost use Rattle.clap.specs.Words.{app_of};
-ghost use Rattle.arguments.specs.Arguments.{Asked, options_of, command_line};
+ghost use Rattle.command_line.specs.Arguments.{Asked, options_of, command_line};
 
 use clap::error::ErrorKind;
 use clap::{Arg, ArgAction, Command};
@@ -32,7 +32,7 @@ pub enum ArgumentFault {
 }
 
 impl From<AllocError> for ArgumentFault {
-    ghost use Rattle.arguments.specs.declared.options.ArgumentFault.TheVariants.{OutOfMemory};
+    ghost use Rattle.command_line.specs.declared.options.ArgumentFault.TheVariants.{OutOfMemory};
 
     ghost from_gives = { λ _ e. e ≡ OutOfMemory };
 
@@ -75,7 +75,7 @@ impl Options {
 fn has_mark(words: &[&str]) -> bool
     ensures { result ≡ list_any (λ word. bytes_eq word.now (codes "--")) words.now }
 {
-    words.iter().any(|word| *word == "--")
+    words.contains(&"--")
 }
 
 /// The program's command line: two flags, no help and no version.

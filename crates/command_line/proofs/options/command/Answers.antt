@@ -1,8 +1,8 @@
 use Rattle.std.proofs.Common.{◌≡◌, refl, codes}
 use Rattle.clap.specs.Words.{App, app_of, new_app, with_rule}
-use Rattle.arguments.specs.Arguments.{bare, flag}
-use Rattle.arguments.proofs.CommandLine.{IsFlag, is_bare, is_flag, with_flag, with_flag_if}
-use Rattle.arguments.proofs.options.command.Goals as goal
+use Rattle.command_line.specs.Arguments.{bare, flag}
+use Rattle.command_line.proofs.CommandLine.{IsFlag, is_bare, is_flag, with_flag, with_flag_if}
+use Rattle.command_line.proofs.options.command.Goals as goal
 
 pub returns : goal.returns
 returns c =

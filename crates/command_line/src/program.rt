@@ -1,45 +1,20 @@
-//! From the command line, standard input and standard output to a run.
+//! The whole program, as a function of the words of its command line, a reader and a writer.
 
 ghost use Rattle.std.specs.Prelude.{◌≡◌, ◌≢◌, ◌⊎◌, None, Err, true, false, codes, map, string_bytes, IfSome, IfErr, MatchResult, OnOk};
 ghost use Rattle.std.specs.Io.KnownBytes.{Appends};
-ghost use Rattle.arguments.specs.Arguments.{options_of};
+ghost use Rattle.command_line.specs.Arguments.{options_of};
 ghost use Rattle.replay.specs.Whole.{IsInputFault, IsSomeProgram, RunsInput};
 
-use arguments::{ArgumentFault, Options};
+use crate::{ArgumentFault, Options};
 use replay::{ScriptFault, run_script};
 use std::alloc::Global;
-use std::io::{BufWriter, ErrorKind, Read, Write};
-use std::rt::Env;
-use std::{env, io};
-
-/// Runs the program as the command line asks, from standard input to standard output.
-pub(crate) fn from_command_line<R: Env + Input + Print + AllocGlobal>(
-    rt: &R,
-) -> Result<(), ScriptFault> {
-    let words = words_of(rt)?;
-    let mut reader = rt.reader();
-    let buffered = BufWriter::new(rt.alloc(), io::writer(rt));
-    let mut writer = buffered.map_err(|_| ScriptFault::Stopped)?;
-    let outcome = run(rt.alloc(), &words, &mut reader, &mut writer);
-    let flushed = writer.flush();
-    outcome?;
-    flushed.map_err(|_| ScriptFault::Stopped)
-}
-
-/// The words of the command line behind the program's name.
-fn words_of<R: Env + AllocGlobal>(rt: &R) -> Result<Vec<String>, ScriptFault> {
-    match env::args(rt) {
-        Ok(words) => Ok(words.skip(1).collect(rt.alloc())?),
-        Err(error) if error.kind() == ErrorKind::OutOfMemory => Err(ScriptFault::Stopped),
-        Err(_) => Err(ScriptFault::BadArguments),
-    }
-}
+use std::io::{Read, Write};
 
 /// Runs the program on the words behind its name, from a reader to a writer.
 ///
 /// Errors: `BadArguments` for words that aren't `--book` and `--check`, each at most once, with nothing read
 /// and nothing written; else as [`run_script`].
-fn run<R: Read, W: Write>(
+pub fn run<R: Read, W: Write>(
     alloc: Global,
     words: &[String],
     reader: &mut R,
