@@ -1,8 +1,8 @@
 //! The flows of a source.
 
-ghost use Rattle.std.specs.Prelude.{◌≡◌, OnErr};
+ghost use Rattle.std.specs.Prelude.{◌≡◌, OnErr, Err, None};
 ghost use Rattle.std.specs.FinMap as map;
-ghost use Rattle.link_table.specs.Flows.{Decided, begin_fault, begun, answered, given_up, handed, number_in, last_of, last_in, outstanding_in, is_idle_in, answered_in, given_up_in, handed_in, release_in};
+ghost use Rattle.link_table.specs.Flows.{FlowDecided, begin_fault, begun, answered, given_up, handed, number_in, last_of, last_in, outstanding_in, is_idle_in, answered_in, given_up_in, handed_in, release_in};
 
 use crate::FlowFault;
 use crate::flow_map::FlowMap;
@@ -108,11 +108,13 @@ impl SourceFlows {
     /// Begins a message of an idle flow and answers its number: 0 for the flow's first message, and then
     /// one after the other, going round. The flow is then outstanding with it. A refusal changes nothing.
     ///
-    /// Errors: `Blocked` where the flow isn't idle.
+    /// Errors: `Blocked` if the flow isn't idle. `OutOfMemory` only for a flow of which no message was
+    /// begun before, since only then the table grows.
     #[tactic(auto, unfolding(crate::specs::Flows::begun))]
     pub fn begin(&mut self, flow: &Flow) -> Result<Number, FlowFault>
-        ensures decided { Decided (begin_fault self.old flow.now) (λ number. (number ≡ number_in (map.get self.old flow.now)) × (self.new ≡ begun self.old flow.now)) result }
+        ensures decided { FlowDecided (begin_fault self.old flow.now) (λ number. (number ≡ number_in (map.get self.old flow.now)) × (self.new ≡ begun self.old flow.now)) result }
         ensures err { OnErr result (self.new ≡ self.old) }
+        ensures fresh { result ≡ Err FlowFault.OutOfMemory → map.get self.old flow.now ≡ None }
     {
         let number = match self.flows.get(flow) {
             None => 0,
