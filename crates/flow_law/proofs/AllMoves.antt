@@ -1,6 +1,6 @@
 -- Each move keeps the clauses, and shows the hosts what their mailbox allows.
 use Rattle.std.proofs.Common.{◌≡◌, Bool, true, false, List, [], ◌∷◌, ◌++◌, None, inl, inr, refl, ap, sym, ◌∙◌, subst, append_assoc, if◌then◌else◌}
-use Rattle.leader1822.specs.Mailboxes.{Box, Mail, Passing, Holds, MailNeeds, mail_after, mail_of, IsFlowRun}
+use Rattle.leader1822.specs.Mailboxes.{Box, Mail, Passing, WaitsWith, MailNeeds, mail_after, mail_of, IsFlowRun}
 use Rattle.flow_law.specs.View.{View, Packet, Queued, mail_now}
 use Rattle.flow_law.specs.Moves.{Move, Needs, Makes, Either, CanOffer, CanTakeMessage, NeedsAll, Grown, queued, after, after_all, shows, shown_by}
 use Rattle.flow_law.specs.Invariant.{Invariant, Held}
@@ -61,13 +61,13 @@ offered_empty v t can h = elim (h.settled can.source can.idle) [
 ]
 
 -- the box holds what is taken
-taken_holds : {Piece : List Bool → Packet → Type 0} (v : View) (t : Packet → Type 0) (oldest : Queued) (others : List Queued) → CanTakeMessage v oldest others → Invariant Piece v t → Holds v.box oldest.text
+taken_holds : {Piece : List Bool → Packet → Type 0} (v : View) (t : Packet → Type 0) (oldest : Queued) (others : List Queued) → CanTakeMessage v oldest others → Invariant Piece v t → WaitsWith v.box oldest.text
 taken_holds v t oldest others can h =
     let held : Held v.from_up v.outstanding v.queue v.box = held_there v t oldest others can h in
     let waits : v.queue ≡ oldest ∷ others = can.waits in
     let one : v.queue ≡ queued held.number held.text ∷ [] = held.one in
     let same : queued held.number held.text ≡ oldest = cc in
-    subst (λ (b : Box). Holds b oldest.text) (sym held.waits) (ap (λ (q : Queued). q.text) same)
+    subst (λ (b : Box). WaitsWith b oldest.text) (sym held.waits) (ap (λ (q : Queued). q.text) same)
 
 -- what a move shows is what the mailbox allows
 pub shows_run : {Piece : List Bool → Packet → Type 0} (m : Move) (v : View) (t : Packet → Type 0) → Needs Piece m v t → Invariant Piece v t → (start : Mail) (seen : List Passing)

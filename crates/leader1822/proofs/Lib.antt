@@ -1,6 +1,7 @@
 pub mod First
 pub mod FlowByFlow
 pub mod Lists
+pub mod Order
 pub mod MessageLaw
 pub mod Waiting
 pub mod Sound

@@ -4,7 +4,7 @@ use Rattle.std.specs.List.{find}
 use Rattle.std.proofs.lemmas.List.{reverse-append}
 use Rattle.std.proofs.lemmas.Bool.{eqb-true}
 use Rattle.leader1822.specs.Host.{Host, same_host}
-use Rattle.leader1822.specs.Mailboxes.{same_flow}
+use Rattle.leader1822.specs.Mailboxes.{same_flow, Box, Empty, Waiting, Taken, WaitsWith}
 use Rattle.leader1822.specs.Boxes.{without_first}
 use Rattle.leader1822.specs.declared.address.Flow.{Flow}
 
@@ -127,3 +127,11 @@ pub record Alone {A : Type 0} (front : List A) (x : A) (back : List A) (y : A) :
 pub alone : {A : Type 0} (front : List A) (x : A) (back : List A) (y : A) → front ++ x ∷ back ≡ y ∷ [] → Alone front x back y
 alone [] x back y e = record { nothing_before = refl; same = cc; nothing_behind = cc }
 alone (z ∷ zs) x back y e = absurd (never_empty zs x back (cc))
+
+-- ---- boxes
+
+-- the box of a text that waits
+pub waits_with : (box : Box) (text : List Bool) → WaitsWith box text → (place : ℕ) × (box ≡ Waiting place text)
+waits_with Empty text h = absurd h
+waits_with (Waiting place kept) text h = (place, ap (λ (t : List Bool). Waiting place t) h)
+waits_with (Taken place kept) text h = absurd h

@@ -1,7 +1,7 @@
 -- From a run of the mailboxes alone: messages are answered and taken as they should be.
 use Rattle.std.proofs.Common.{◌≡◌, ℕ, Bool, true, false, List, [], ◌∷◌, ◌++◌, length, refl, ap, sym, subst, ◌∙◌, inl, inr, ◌⊎◌, if◌then◌else◌}
 use Rattle.leader1822.specs.Host.{Host, same_host}
-use Rattle.leader1822.specs.Mailboxes.{Box, Empty, Waiting, Taken, Holds, Fits, fetched, box_of, same_flow, IsRun}
+use Rattle.leader1822.specs.Mailboxes.{Box, Empty, Waiting, Taken, WaitsWith, Fits, fetched, box_of, same_flow, IsRun}
 use Rattle.leader1822.specs.Messages.{taken_in, went_out, SinceLastOut, TakenOnce, SafeMessages}
 use Rattle.leader1822.specs.declared.address.Flow.{Flow}
 use Rattle.leader1822.specs.declared.crossing.Answer.TheVariants as answer
@@ -22,12 +22,12 @@ pub record Quiet (box : Box) (texts : List (List Bool)) : Type 0 where
   pub none : texts ≡ []
 
 -- the box and what was taken, after one crossing more
-quiet_in : (f : Flow) (m : HostMessage) (log : List Crossing) → Holds (box_of m.flow log) m.text → Quiet (box_of f log) (taken_in f log)
+quiet_in : (f : Flow) (m : HostMessage) (log : List Crossing) → WaitsWith (box_of m.flow log) m.text → Quiet (box_of f log) (taken_in f log)
     → (b : Bool) → same_flow f m.flow ≡ b → Quiet (box_of f (crossing.In m ∷ log)) (taken_in f (crossing.In m ∷ log))
 quiet_in f m log needs q true e =
-    let P : Flow → Type 0 = λ g. Holds (box_of g log) m.text in
-    let here : Holds (box_of f log) m.text = subst P (sym (same_flow-true f m.flow e)) needs in
-    let Q : Box → Type 0 = λ x. Holds x m.text in
+    let P : Flow → Type 0 = λ g. WaitsWith (box_of g log) m.text in
+    let here : WaitsWith (box_of f log) m.text = subst P (sym (same_flow-true f m.flow e)) needs in
+    let Q : Box → Type 0 = λ x. WaitsWith x m.text in
     absurd (subst Q q.empty here)
 quiet_in f m log needs q false e = rw e q
 
@@ -66,7 +66,7 @@ at_most_once Empty text taken h = h
 at_most_once (Waiting place kept) text taken h = inl h.1
 at_most_once (Taken place kept) text taken h = inr h
 
-tells_in : (box : Box) (text other : List Bool) (taken : List (List Bool)) → Holds box other → Tells box text taken → Tells (fetched box) text (other ∷ taken)
+tells_in : (box : Box) (text other : List Bool) (taken : List (List Bool)) → WaitsWith box other → Tells box text taken → Tells (fetched box) text (other ∷ taken)
 tells_in Empty text other taken holds h = absurd holds
 tells_in (Waiting place kept) text other taken holds h =
     ap (λ (x : List Bool). x ∷ taken) (sym holds ∙ h.0) ∙ ap (λ (x : List (List Bool)). text ∷ x) h.1
@@ -76,10 +76,10 @@ tells_if : (b : Bool) (box : Box) (text : List Bool) (taken : List (List Bool)) 
 tells_if true box text taken h = at_most_once box text taken h
 tells_if false box text taken h = h
 
-tells_more_in : (f : Flow) (m : HostMessage) (log since : List Crossing) (text : List Bool) → Holds (box_of m.flow log) m.text → Tells (box_of f log) text (taken_in f since)
+tells_more_in : (f : Flow) (m : HostMessage) (log since : List Crossing) (text : List Bool) → WaitsWith (box_of m.flow log) m.text → Tells (box_of f log) text (taken_in f since)
     → (b : Bool) → same_flow f m.flow ≡ b → Tells (box_of f (crossing.In m ∷ log)) text (taken_in f (crossing.In m ∷ since))
 tells_more_in f m log since text needs h true e =
-    let P : Flow → Type 0 = λ g. Holds (box_of g log) m.text in
+    let P : Flow → Type 0 = λ g. WaitsWith (box_of g log) m.text in
     rw e (tells_in (box_of f log) text m.text (taken_in f since) (subst P (sym (same_flow-true f m.flow e)) needs) h)
 tells_more_in f m log since text needs h false e = rw e h
 

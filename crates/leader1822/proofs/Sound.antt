@@ -3,9 +3,9 @@ use Rattle.std.proofs.Common.{◌≡◌, ℕ, Bool, true, false, not, List, [], 
 use Rattle.std.specs.List.{list_any}
 use Rattle.std.proofs.lemmas.List.{append-nil}
 use Rattle.leader1822.specs.Host.{Host, is_host}
-use Rattle.leader1822.specs.Mailboxes.{Box, Empty, Waiting, Taken, Holds, Fits, fetched, same_flow, box_of}
-use Rattle.leader1822.specs.Boxes.{Boxes, Told, is_of, is_about, is_running, is_to, is_told_to, is_busy, one_if, offer_refusal, offered, host_refusal, taken, inbound_of, without_first}
-use Rattle.leader1822.specs.Soundness.{texts_of, kinds_of, FitsBox, FlowFits, Matches, IsSound}
+use Rattle.leader1822.specs.Mailboxes.{Box, Empty, Waiting, Taken, WaitsWith, Fits, fetched, same_flow, box_of}
+use Rattle.leader1822.specs.Boxes.{Boxes, WaitingAnswer, is_of, is_about, is_running, is_to, is_told_to, is_busy, one_if, offer_refusal, offered, host_refusal, taken, inbound_of, without_first}
+use Rattle.leader1822.specs.Inside.Soundness.{texts_of, kinds_of, FitsBox, FlowFits, Matches, IsSound}
 use Rattle.leader1822.specs.declared.address.Flow.{Flow}
 use Rattle.leader1822.specs.declared.carrier.CarrierFault.TheVariants as fault
 use Rattle.leader1822.specs.declared.crossing.Answer.{Answer}
@@ -128,19 +128,19 @@ fits_empty : (s d : Bool) → FitsBox s d [] [] Empty
 fits_empty s d = record { queued = inl refl; told = λ u n. inl (refl, refl); shut = λ u. refl }
 
 -- the answer that a host takes is all that waits of its flow
-record TakesAnswer (b : Boxes) (a : Told) (front back : List Told) : Type 0 where
+record TakesAnswer (b : Boxes) (a : WaitingAnswer) (front back : List WaitingAnswer) : Type 0 where
   pub fit : Fits a.0 (box_of a.1 b.log)
   pub no_text : texts_of a.1 b.queue ≡ []
   pub before : kinds_of a.1 front ≡ []
   pub behind : kinds_of a.1 back ≡ []
 
-takes_answer : (b : Boxes) (a : Told) (front back : List Told) → FlowFits b a.1 → is_running b.hosts b.down a.1.source ≡ true
+takes_answer : (b : Boxes) (a : WaitingAnswer) (front back : List WaitingAnswer) → FlowFits b a.1 → is_running b.hosts b.down a.1.source ≡ true
     → b.answers ≡ front ++ a ∷ back → TakesAnswer b a front back
 takes_answer b a front back h up whole =
     let f = a.1 in
     let here : kinds_of f (a ∷ back) ≡ a.0 ∷ kinds_of f back = rw (same_flow-refl f) refl in
     let split : kinds_of f b.answers ≡ kinds_of f front ++ a.0 ∷ kinds_of f back =
-    ap (λ (xs : List Told). kinds_of f xs) whole ∙ kinds_of-append f front (a ∷ back) ∙ ap (λ (ks : List Answer). kinds_of f front ++ ks) here in
+    ap (λ (xs : List WaitingAnswer). kinds_of f xs) whole ∙ kinds_of-append f front (a ∷ back) ∙ ap (λ (ks : List Answer). kinds_of f front ++ ks) here in
     elim h.queued [
       | inr (t, one, holds, none, there) ↦ absurd (never_empty (kinds_of f front) a.0 (kinds_of f back) (sym split ∙ none))
       | inl quiet ↦ elim (h.told up quiet) [
@@ -152,24 +152,24 @@ takes_answer b a front back h up whole =
       ]
     ]
 
-answer_flow : (b : Boxes) (h : Host) (a : Told) (front back : List Told) → without_first (is_told_to h) b.answers ≡ front ++ back → b.answers ≡ front ++ a ∷ back
+answer_flow : (b : Boxes) (h : Host) (a : WaitingAnswer) (front back : List WaitingAnswer) → without_first (is_told_to h) b.answers ≡ front ++ back → b.answers ≡ front ++ a ∷ back
     → Matches b → TakesAnswer b a front back → (g : Flow) (same : Bool) → same_flow g a.1 ≡ same → FlowFits (taken b h (Some (inbound_of a))) g
 answer_flow b h a front back left whole k t g true e =
     let f = a.1 in
     let P : Flow → Type 0 = λ x. FlowFits (taken b h (Some (inbound_of a))) x in
     let kinds : kinds_of f (without_first (is_told_to h) b.answers) ≡ [] =
-    ap (λ (xs : List Told). kinds_of f xs) left ∙ kinds_of-append f front back ∙ ap (λ (ks : List Answer). ks ++ kinds_of f back) t.before ∙ t.behind in
+    ap (λ (xs : List WaitingAnswer). kinds_of f xs) left ∙ kinds_of-append f front back ∙ ap (λ (ks : List Answer). ks ++ kinds_of f back) t.before ∙ t.behind in
     let box : box_of f (crossing.Answer a.0 f ∷ b.log) ≡ Empty = rw (same_flow-refl f) refl in
     subst P (sym (same_flow-true g f e)) (same_fits refl refl t.no_text kinds box (fits_empty (is_running b.hosts b.down f.source) (is_running b.hosts b.down f.destination)))
 answer_flow b h a front back left whole k t g false e =
     let other : kinds_of g (a ∷ back) ≡ kinds_of g back = rw e refl in
     let kinds : kinds_of g (without_first (is_told_to h) b.answers) ≡ kinds_of g b.answers =
-    ap (λ (xs : List Told). kinds_of g xs) left ∙ kinds_of-append g front back
-    ∙ sym (ap (λ (xs : List Told). kinds_of g xs) whole ∙ kinds_of-append g front (a ∷ back) ∙ ap (λ (ks : List Answer). kinds_of g front ++ ks) other) in
+    ap (λ (xs : List WaitingAnswer). kinds_of g xs) left ∙ kinds_of-append g front back
+    ∙ sym (ap (λ (xs : List WaitingAnswer). kinds_of g xs) whole ∙ kinds_of-append g front (a ∷ back) ∙ ap (λ (ks : List Answer). kinds_of g front ++ ks) other) in
     let box : box_of g (crossing.Answer a.0 a.1 ∷ b.log) ≡ box_of g b.log = rw e refl in
     same_fits refl refl refl kinds box (k.flows g)
 
-pub answer_sound : (b : Boxes) (h : Host) (a : Told) → IsSound b → host_refusal b.stopped b.hosts b.down h ≡ None → find (is_told_to h) b.answers ≡ Some a
+pub answer_sound : (b : Boxes) (h : Host) (a : WaitingAnswer) → IsSound b → host_refusal b.stopped b.hosts b.down h ≡ None → find (is_told_to h) b.answers ≡ Some a
     → IsSound (taken b h (Some (inbound_of a)))
 answer_sound b h a s e found =
     let r : Runs b h = runs_here b h e in
@@ -185,14 +185,14 @@ answer_sound b h a s e found =
     }
 
 -- the RFNM of a message that was taken waits for its source, if that is up
-fits_fetched : (s d : Bool) (box : Box) (t : List Bool) → Holds box t → FitsBox s d [] (one_if s answer.Rfnm) (fetched box)
+fits_fetched : (s d : Bool) (box : Box) (t : List Bool) → WaitsWith box t → FitsBox s d [] (one_if s answer.Rfnm) (fetched box)
 fits_fetched s d Empty t h = absurd h
 fits_fetched s d (Taken place kept) t h = absurd h
 fits_fetched true d (Waiting place kept) t h = record { queued = inl refl; told = λ u n. inr (answer.Rfnm, refl, tt); shut = λ u. absurd (cc) }
 fits_fetched false d (Waiting place kept) t h = record { queued = inl refl; told = λ u n. absurd (cc); shut = λ u. refl }
 
 record TakesMessage (b : Boxes) (m : HostMessage) (front back : List HostMessage) : Type 0 where
-  pub holds : Holds (box_of m.flow b.log) m.text
+  pub holds : WaitsWith (box_of m.flow b.log) m.text
   pub there : is_running b.hosts b.down m.flow.destination ≡ true
   pub no_kind : kinds_of m.flow b.answers ≡ []
   pub before : texts_of m.flow front ≡ []
@@ -208,7 +208,7 @@ takes_message b m front back h whole =
       | inl none ↦ absurd (never_empty (texts_of f front) m.text (texts_of f back) (sym split ∙ none))
       | inr (t, one, holds, none, there) ↦
           (let w : Alone (texts_of f front) m.text (texts_of f back) t = alone (texts_of f front) m.text (texts_of f back) t (sym split ∙ one) in
-          let P : List Bool → Type 0 = λ x. Holds (box_of f b.log) x in
+          let P : List Bool → Type 0 = λ x. WaitsWith (box_of f b.log) x in
           record { holds = subst P (sym w.same) holds; there = there; no_kind = none; before = w.nothing_before; behind = w.nothing_behind })
     ]
 

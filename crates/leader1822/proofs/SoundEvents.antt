@@ -4,9 +4,9 @@ use Rattle.std.specs.List.{list_any}
 use Rattle.std.proofs.lemmas.List.{append-nil}
 use Rattle.std.proofs.lemmas.List.Folds.{list_any-append}
 use Rattle.leader1822.specs.Host.{Host, same_host, is_host}
-use Rattle.leader1822.specs.Mailboxes.{Box, Empty, Waiting, Taken, Holds, Fits, same_flow, box_of}
+use Rattle.leader1822.specs.Mailboxes.{Box, Empty, Waiting, Taken, WaitsWith, Fits, same_flow, box_of}
 use Rattle.leader1822.specs.Boxes.{Boxes, is_of, is_rfnm, is_rfnm_about, is_running, is_from, is_to, is_told_to, is_outstanding, one_if, dead_to, host_refusal, give_up_refusal, given_up, host_stopped, host_up_refusal, host_started}
-use Rattle.leader1822.specs.Soundness.{texts_of, kinds_of, FitsBox, FlowFits, Matches, IsSound}
+use Rattle.leader1822.specs.Inside.Soundness.{texts_of, kinds_of, FitsBox, FlowFits, Matches, IsSound}
 use Rattle.leader1822.specs.declared.address.Flow.{Flow}
 use Rattle.leader1822.specs.declared.carrier.CarrierFault.TheVariants as fault
 use Rattle.leader1822.specs.declared.crossing.Answer.{Answer}
@@ -17,7 +17,7 @@ use Rattle.leader1822.proofs.Sound.{same_fits, Runs, runs_here}
 
 -- ---- giving up
 
-fits_incomplete : (box : Box) (t : List Bool) → Holds box t → Fits answer.Incomplete box
+fits_incomplete : (box : Box) (t : List Bool) → WaitsWith box t → Fits answer.Incomplete box
 fits_incomplete Empty t h = absurd h
 fits_incomplete (Waiting place kept) t h = tt
 fits_incomplete (Taken place kept) t h = absurd h
@@ -136,7 +136,7 @@ given_sound b f s e =
 abbrev down_kinds : Bool → Bool → Bool → List (List Bool) → List Answer → List Answer
 down_kinds a b s ts ks = (if a then [] else ks) ++ (if (if a then false else s) then map (λ t. answer.Dead) (if b then ts else []) else [])
 
-dead_fits : (box : Box) (t : List Bool) → Holds box t → Fits answer.Dead box
+dead_fits : (box : Box) (t : List Bool) → WaitsWith box t → Fits answer.Dead box
 dead_fits Empty t h = absurd h
 dead_fits (Waiting place kept) t h = tt
 dead_fits (Taken place kept) t h = absurd h

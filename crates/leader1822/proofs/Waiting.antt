@@ -3,8 +3,8 @@ use Rattle.std.proofs.Common.{◌≡◌, Bool, true, false, ◌||◌, List, [], 
 use Rattle.std.specs.List.{list_any}
 use Rattle.leader1822.specs.Host.{Host, same_host}
 use Rattle.leader1822.specs.Mailboxes.{same_flow}
-use Rattle.leader1822.specs.Boxes.{Told, is_of, is_about, is_rfnm, is_rfnm_about, is_running, is_from, one_if, dead_to}
-use Rattle.leader1822.specs.Soundness.{texts_of, kinds_of}
+use Rattle.leader1822.specs.Boxes.{WaitingAnswer, is_of, is_about, is_rfnm, is_rfnm_about, is_running, is_from, one_if, dead_to}
+use Rattle.leader1822.specs.Inside.Soundness.{texts_of, kinds_of}
 use Rattle.leader1822.specs.declared.address.Flow.{Flow}
 use Rattle.leader1822.specs.declared.crossing.Answer.{Answer}
 use Rattle.leader1822.specs.declared.crossing.Answer.TheVariants as answer
@@ -19,7 +19,7 @@ texts_of-append f (m ∷ xs) ys =
     let here = (if is_of f m then m.text ∷ [] else []) in
     ap (λ (ts : List (List Bool)). here ++ ts) (texts_of-append f xs ys) ∙ sym (append_assoc here (texts_of f xs) (texts_of f ys))
 
-pub kinds_of-append : (f : Flow) (xs ys : List Told) → kinds_of f (xs ++ ys) ≡ kinds_of f xs ++ kinds_of f ys
+pub kinds_of-append : (f : Flow) (xs ys : List WaitingAnswer) → kinds_of f (xs ++ ys) ≡ kinds_of f xs ++ kinds_of f ys
 kinds_of-append f [] ys = refl
 kinds_of-append f (a ∷ xs) ys =
     let here = (if is_about f a then a.0 ∷ [] else []) in
@@ -63,7 +63,7 @@ pub texts_of-filter : (f : Flow) (test : HostMessage → Bool) (q : List HostMes
 texts_of-filter f test [] = refl
 texts_of-filter f test (m ∷ q) = texts_filter_more f test m q (texts_of-filter f test q) (is_of f m) (test m) refl refl
 
-kinds_filter_more : (f : Flow) (test : Told → Bool) (a : Told) (xs : List Told) → kinds_of f (filter test xs) ≡ filter (λ k. test (k, f)) (kinds_of f xs)
+kinds_filter_more : (f : Flow) (test : WaitingAnswer → Bool) (a : WaitingAnswer) (xs : List WaitingAnswer) → kinds_of f (filter test xs) ≡ filter (λ k. test (k, f)) (kinds_of f xs)
     → (b c : Bool) → is_about f a ≡ b → test a ≡ c → kinds_of f (filter test (a ∷ xs)) ≡ filter (λ k. test (k, f)) (kinds_of f (a ∷ xs))
 kinds_filter_more f test a xs rest true true e t =
     let p : test (a.0, f) ≡ true = ap (λ (g : Flow). test (a.0, g)) (same_flow-true f a.1 e) ∙ t in
@@ -74,7 +74,7 @@ kinds_filter_more f test a xs rest true false e t =
 kinds_filter_more f test a xs rest false true e t = rw (t, e) rest
 kinds_filter_more f test a xs rest false false e t = rw (t, e) rest
 
-pub kinds_of-filter : (f : Flow) (test : Told → Bool) (xs : List Told) → kinds_of f (filter test xs) ≡ filter (λ k. test (k, f)) (kinds_of f xs)
+pub kinds_of-filter : (f : Flow) (test : WaitingAnswer → Bool) (xs : List WaitingAnswer) → kinds_of f (filter test xs) ≡ filter (λ k. test (k, f)) (kinds_of f xs)
 kinds_of-filter f test [] = refl
 kinds_of-filter f test (a ∷ xs) = kinds_filter_more f test a xs (kinds_of-filter f test xs) (is_about f a) (test a) refl refl
 
@@ -127,12 +127,12 @@ pub any_of : (f : Flow) (q : List HostMessage) → list_any (is_of f) q ≡ has_
 any_of f [] = refl
 any_of f (m ∷ q) = any_of_more f m q (any_of f q) (is_of f m) refl
 
-any_about_more : (f : Flow) (a : Told) (xs : List Told) → list_any (is_about f) xs ≡ has_any (kinds_of f xs)
+any_about_more : (f : Flow) (a : WaitingAnswer) (xs : List WaitingAnswer) → list_any (is_about f) xs ≡ has_any (kinds_of f xs)
     → (b : Bool) → is_about f a ≡ b → list_any (is_about f) (a ∷ xs) ≡ has_any (kinds_of f (a ∷ xs))
 any_about_more f a xs rest true e = rw e refl
 any_about_more f a xs rest false e = rw e rest
 
-pub any_about : (f : Flow) (xs : List Told) → list_any (is_about f) xs ≡ has_any (kinds_of f xs)
+pub any_about : (f : Flow) (xs : List WaitingAnswer) → list_any (is_about f) xs ≡ has_any (kinds_of f xs)
 any_about f [] = refl
 any_about f (a ∷ xs) = any_about_more f a xs (any_about f xs) (is_about f a) refl
 
@@ -140,12 +140,12 @@ pub none_waits : {A : Type 0} (xs : List A) → has_any xs ≡ false → xs ≡ 
 none_waits [] e = refl
 none_waits (x ∷ xs) e = absurd (cc)
 
-any_rfnm_more : (f : Flow) (a : Told) (xs : List Told) → list_any (is_rfnm_about f) xs ≡ list_any is_rfnm (kinds_of f xs)
+any_rfnm_more : (f : Flow) (a : WaitingAnswer) (xs : List WaitingAnswer) → list_any (is_rfnm_about f) xs ≡ list_any is_rfnm (kinds_of f xs)
     → (b : Bool) → is_about f a ≡ b → list_any (is_rfnm_about f) (a ∷ xs) ≡ list_any is_rfnm (kinds_of f (a ∷ xs))
 any_rfnm_more f a xs rest true e = rw e (ap (λ (v : Bool). is_rfnm a.0 || v) rest)
 any_rfnm_more f a xs rest false e = rw e rest
 
-pub any_rfnm : (f : Flow) (xs : List Told) → list_any (is_rfnm_about f) xs ≡ list_any is_rfnm (kinds_of f xs)
+pub any_rfnm : (f : Flow) (xs : List WaitingAnswer) → list_any (is_rfnm_about f) xs ≡ list_any is_rfnm (kinds_of f xs)
 any_rfnm f [] = refl
 any_rfnm f (a ∷ xs) = any_rfnm_more f a xs (any_rfnm f xs) (is_about f a) refl
 

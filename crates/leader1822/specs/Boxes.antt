@@ -18,8 +18,8 @@ use Rattle.leader1822.specs.declared.event.NetEvent.TheVariants as event
 use Rattle.leader1822.specs.declared.message.HostMessage.{HostMessage}
 
 -- an answer that waits for the source of its flow
-abbrev pub Told : Type 0
-Told = Answer × Flow
+abbrev pub WaitingAnswer : Type 0
+WaitingAnswer = Answer × Flow
 
 -- the hosts, those of them that are down, the messages and the answers that wait (oldest first), the log (newest first),
 -- and whether want of memory has stopped it all
@@ -27,7 +27,7 @@ pub record Boxes : Type 0 where
   pub hosts : List Host
   pub down : List Host
   pub queue : List HostMessage
-  pub answers : List Told
+  pub answers : List WaitingAnswer
   pub log : List Crossing
   pub stopped : Bool
 
@@ -47,7 +47,7 @@ is_running hosts down h = is_host hosts h && not (is_host down h)
 abbrev pub is_of : Flow → HostMessage → Bool
 is_of f m = same_flow f m.flow
 
-abbrev pub is_about : Flow → Told → Bool
+abbrev pub is_about : Flow → WaitingAnswer → Bool
 is_about f a = same_flow f a.1
 
 abbrev pub is_from : Host → HostMessage → Bool
@@ -56,7 +56,7 @@ is_from h m = same_host h m.flow.source
 abbrev pub is_to : Host → HostMessage → Bool
 is_to h m = same_host h m.flow.destination
 
-abbrev pub is_told_to : Host → Told → Bool
+abbrev pub is_told_to : Host → WaitingAnswer → Bool
 is_told_to h a = same_host h a.1.source
 
 abbrev pub is_rfnm : Answer → Bool
@@ -64,15 +64,15 @@ is_rfnm answer.Rfnm = true
 is_rfnm answer.Incomplete = false
 is_rfnm answer.Dead = false
 
-abbrev pub is_rfnm_about : Flow → Told → Bool
+abbrev pub is_rfnm_about : Flow → WaitingAnswer → Bool
 is_rfnm_about f a = is_about f a && is_rfnm a.0
 
 -- a flow is busy while its message or an answer about it waits
-abbrev pub is_busy : List HostMessage → List Told → Flow → Bool
+abbrev pub is_busy : List HostMessage → List WaitingAnswer → Flow → Bool
 is_busy queue answers f = list_any (is_of f) queue || list_any (is_about f) answers
 
 -- a message of a flow is outstanding while it waits or its RFNM waits
-abbrev pub is_outstanding : List HostMessage → List Told → Flow → Bool
+abbrev pub is_outstanding : List HostMessage → List WaitingAnswer → Flow → Bool
 is_outstanding queue answers f = list_any (is_of f) queue || list_any (is_rfnm_about f) answers
 
 abbrev pub one_if : {A : Type 0} → Bool → A → List A
@@ -80,7 +80,7 @@ one_if test x = if test then x ∷ [] else []
 
 -- ---- offering
 
-abbrev pub offer_refusal : Bool → List Host → List Host → List HostMessage → List Told → Flow → Option CarrierFault
+abbrev pub offer_refusal : Bool → List Host → List Host → List HostMessage → List WaitingAnswer → Flow → Option CarrierFault
 offer_refusal stopped hosts down queue answers f =
     if stopped then Some fault.Stopped
     else (if not (is_host hosts f.source) then Some fault.NoSuch
@@ -110,16 +110,16 @@ abbrev pub without_first : {A : Type 0} → (A → Bool) → List A → List A
 without_first test [] = []
 without_first test (x ∷ xs) = if test x then xs else x ∷ without_first test xs
 
-abbrev pub inbound_of : Told → Inbound
+abbrev pub inbound_of : WaitingAnswer → Inbound
 inbound_of a = inbound.Answer a.0 a.1
 
 -- what a host takes next: the oldest answer that waits for it, else the oldest message, else nothing
-abbrev pub answer_first : Option Told → Option HostMessage → Option Inbound
+abbrev pub answer_first : Option WaitingAnswer → Option HostMessage → Option Inbound
 answer_first (Some a) m = Some (inbound_of a)
 answer_first None (Some m) = Some (inbound.Message m)
 answer_first None None = None
 
-abbrev pub next_for : List Told → List HostMessage → Host → Option Inbound
+abbrev pub next_for : List WaitingAnswer → List HostMessage → Host → Option Inbound
 next_for answers queue h = answer_first (find (is_told_to h) answers) (find (is_to h) queue)
 
 -- what is left when a host took this; for a message an RFNM waits for its source, if that is up
@@ -139,7 +139,7 @@ taken b h (Some (inbound.Message m)) = record b {
 
 -- giving up looks for the source alone, and whether its flow has something outstanding: a message that waits, or, while
 -- the source is up, an RFNM that waits; a flow that is told Dead or Incomplete already has nothing
-abbrev pub give_up_refusal : Bool → List Host → List HostMessage → List Told → Flow → Option CarrierFault
+abbrev pub give_up_refusal : Bool → List Host → List HostMessage → List WaitingAnswer → Flow → Option CarrierFault
 give_up_refusal stopped hosts queue answers f =
     if stopped then Some fault.Stopped
     else (if not (is_host hosts f.source) then Some fault.NoSuch
@@ -155,7 +155,7 @@ given_up b f = record b {
 
 -- what waits for the host is cleared, and each of its messages gives its source Dead, if that is up; the host itself is
 -- down by then
-abbrev pub dead_to : List Host → List Host → List HostMessage → List Told
+abbrev pub dead_to : List Host → List Host → List HostMessage → List WaitingAnswer
 dead_to hosts down messages = map (λ m. (answer.Dead, m.flow)) (filter (λ m. is_running hosts down m.flow.source) messages)
 
 abbrev pub host_stopped : Boxes → Host → Boxes

@@ -1,6 +1,7 @@
 -- What every carrier shows of its calls, whatever it is made of.
-use Rattle.std.specs.Prelude.{◌≡◌, ℕ, Bool, true, false, List, [], ◌∷◌, ◌++◌, Option, Some, None, Result, Ok, Err, if◌then◌else◌, ◌==◌, ◌&&◌, ◌||◌, nat_lt, filter, map, reverse}
+use Rattle.std.specs.Prelude.{◌≡◌, ℕ, Bool, true, false, List, [], ◌∷◌, ◌++◌, Option, Some, None, Result, Ok, Err, if◌then◌else◌, ◌==◌, ◌&&◌, filter, map, reverse}
 use Rattle.leader1822.specs.Host.{Host}
+pub use Rattle.leader1822.specs.Host.{host_before, InOrder}
 use Rattle.leader1822.specs.Mailboxes.{is_up}
 use Rattle.leader1822.specs.declared.carrier.CarrierFault.{CarrierFault}
 use Rattle.leader1822.specs.declared.carrier.CarrierFault.TheVariants as fault
@@ -11,16 +12,6 @@ use Rattle.leader1822.specs.declared.crossing.Inbound.TheVariants as inbound
 use Rattle.leader1822.specs.declared.event.NetEvent.{NetEvent}
 use Rattle.leader1822.specs.declared.event.NetEvent.TheVariants as event
 use Rattle.leader1822.specs.declared.message.HostMessage.{HostMessage}
-
--- one host stands before another: by IMP, then by host
-abbrev pub host_before : Host → Host → Bool
-host_before g h = nat_lt g.imp h.imp || (g.imp == h.imp && nat_lt g.host h.host)
-
--- hosts in order of IMP and host, each once
-abbrev pub InOrder : List Host → Type 0
-InOrder [] = Unit {0}
-InOrder (g ∷ []) = Unit {0}
-InOrder (g ∷ h ∷ hosts) = (host_before g h ≡ true) × InOrder (h ∷ hosts)
 
 -- the hosts of the network, all crossings so far (newest first), and whether want of memory has stopped the carrier
 pub record Seen : Type 0 where

@@ -1,6 +1,8 @@
--- Hosts and how the leader spells them (BBN Report 1822).
-use Rattle.std.specs.Prelude.{ℕ, ◌+◌, ◌*◌, ◌/◌, ◌%◌, ◌≤◌, Bool, ◌==◌, ◌&&◌, nat_le, Option, Some, None, if◌then◌else◌, List}
+-- Hosts, their order, and how the leader spells them (BBN Report 1822).
+use Rattle.std.specs.Prelude.{◌≡◌, ℕ, ◌+◌, ◌*◌, ◌/◌, ◌%◌, ◌≤◌, Bool, true, ◌==◌, ◌&&◌, nat_le, Option, Some, None, if◌then◌else◌, List, [], ◌∷◌}
 use Rattle.std.specs.List.{list_any}
+use Rattle.std.specs.declared.cmp.Ordering.{Ordering}
+use Rattle.std.specs.Ordering.{nat_cmp, ordering_then, is_lt}
 
 -- a host: its number at its IMP, and the IMP's
 pub record Host : Type 0 where
@@ -31,6 +33,19 @@ same_host g h = g.imp == h.imp && g.host == h.host
 -- whether a host is one of these
 abbrev pub is_host : List Host → Host → Bool
 is_host hosts h = list_any (same_host h) hosts
+
+-- hosts in order of their IMPs, and at one IMP of their own numbers
+abbrev pub host_cmp : Host → Host → Ordering
+host_cmp g h = ordering_then (nat_cmp g.imp h.imp) (nat_cmp g.host h.host)
+
+abbrev pub host_before : Host → Host → Bool
+host_before g h = is_lt (host_cmp g h)
+
+-- each host stands before the next one
+abbrev pub InOrder : List Host → Type 0
+InOrder [] = Unit {0}
+InOrder (g ∷ []) = Unit {0}
+InOrder (g ∷ h ∷ hosts) = (host_before g h ≡ true) × InOrder (h ∷ hosts)
 
 -- a host that an address octet can name
 pub record IsAddress (h : Host) : Type 0 where

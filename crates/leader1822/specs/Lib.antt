@@ -1,8 +1,9 @@
 pub mod Boxes
 pub mod Calls
+pub mod Flow
 pub mod Host
+pub mod Inside
 pub mod Leader
 pub mod Mailboxes
-pub mod Printed
-pub mod Soundness
 pub mod Messages
+pub mod Printed

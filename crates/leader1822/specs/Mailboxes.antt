@@ -2,16 +2,14 @@
 --
 -- Each flow has one box, and each host is up or down. A crossing needs something of them and gives something. A log is
 -- read newest first: what a crossing needs is looked for in the log below it, and its place is the number of crossings there.
-use Rattle.std.specs.Prelude.{◌≡◌, ℕ, Bool, true, false, List, [], ◌∷◌, length, if◌then◌else◌, ◌==◌, ◌&&◌, ◌++◌}
+use Rattle.std.specs.Prelude.{◌≡◌, ℕ, Bool, true, false, List, [], ◌∷◌, length, if◌then◌else◌, ◌++◌}
 use Rattle.leader1822.specs.Host.{Host, same_host, is_host}
+pub use Rattle.leader1822.specs.Flow.{same_flow}
 use Rattle.leader1822.specs.declared.address.Flow.{Flow}
 use Rattle.leader1822.specs.declared.crossing.Answer.{Answer}
 use Rattle.leader1822.specs.declared.crossing.Answer.TheVariants as answer
 use Rattle.leader1822.specs.declared.crossing.Crossing.{Crossing}
 use Rattle.leader1822.specs.declared.crossing.Crossing.TheVariants as crossing
-
-abbrev pub same_flow : Flow → Flow → Bool
-same_flow f g = same_host f.source g.source && same_host f.destination g.destination && f.link.0 == g.link.0
 
 -- ---- one box
 
@@ -23,10 +21,10 @@ pub data Box : Type 0 where
   Taken : (place : ℕ) → (text : List Bool) → Box
 
 -- the text waits in the box
-abbrev pub Holds : Box → List Bool → Type 0
-Holds Empty text = ⊥
-Holds (Waiting place kept) text = kept ≡ text
-Holds (Taken place kept) text = ⊥
+abbrev pub WaitsWith : Box → List Bool → Type 0
+WaitsWith Empty text = ⊥
+WaitsWith (Waiting place kept) text = kept ≡ text
+WaitsWith (Taken place kept) text = ⊥
 
 -- the box when its message was taken
 abbrev pub fetched : Box → Box
@@ -80,7 +78,7 @@ is_up hosts h (c ∷ log) = turned h c (is_up hosts h log)
 -- what a crossing needs of the log below it
 abbrev pub Needs : List Host → Crossing → List Crossing → Type 0
 Needs hosts (crossing.Out m) log = (is_up hosts m.flow.source log ≡ true) × (box_of m.flow log ≡ Empty)
-Needs hosts (crossing.In m) log = (is_up hosts m.flow.destination log ≡ true) × Holds (box_of m.flow log) m.text
+Needs hosts (crossing.In m) log = (is_up hosts m.flow.destination log ≡ true) × WaitsWith (box_of m.flow log) m.text
 Needs hosts (crossing.Answer kind f) log = (is_up hosts f.source log ≡ true) × Fits kind (box_of f log)
 Needs hosts (crossing.Down h) log = is_up hosts h log ≡ true
 Needs hosts (crossing.Up h) log = (is_host hosts h ≡ true) × (is_up hosts h log ≡ false)
@@ -132,7 +130,7 @@ opening_mail hosts f = record { source = is_host hosts f.source; destination = i
 -- what a passing needs
 abbrev pub MailNeeds : Passing → Mail → Type 0
 MailNeeds (Put place text) m = (m.source ≡ true) × (m.box ≡ Empty)
-MailNeeds (Fetched text) m = (m.destination ≡ true) × Holds m.box text
+MailNeeds (Fetched text) m = (m.destination ≡ true) × WaitsWith m.box text
 MailNeeds (Told kind) m = (m.source ≡ true) × Fits kind m.box
 MailNeeds SourceDown m = m.source ≡ true
 MailNeeds SourceUp m = m.source ≡ false

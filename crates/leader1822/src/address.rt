@@ -125,6 +125,9 @@ impl fmt::Display for HostAddr {
 #[derive(Clone, Copy, Debug, PartialEq, Eq, PartialOrd, Ord)]
 pub struct Link(pub u8);
 
+/// How many numbers the messages of a flow go by: they begin with 0, and 0 follows 255.
+pub const MESSAGE_NUMBERS: u32 = 256;
+
 /// The messages from one host to another on one link. At most one of them is outstanding.
 #[derive(Clone, Copy, Debug, PartialEq, Eq, PartialOrd, Ord)]
 pub struct Flow {

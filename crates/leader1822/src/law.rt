@@ -1,10 +1,10 @@
 //! What leaders and mailboxes promise, as laws over their definitions. The functions here do nothing:
 //! each clause is the law.
 
-ghost use Rattle.std.specs.Prelude.{◌≡◌, ℕ, ◌+◌, ◌*◌, ◌<◌, ◌≤◌, Bool, List, [], ◌∷◌, ◌++◌, Ok};
-ghost use Rattle.leader1822.specs.Host.{Host, IsAddress};
+ghost use Rattle.std.specs.Prelude.{◌≡◌, ℕ, ◌+◌, ◌*◌, ◌<◌, ◌≤◌, Bool, List, [], ◌∷◌, ◌++◌, Ok, Some, slice_get};
+ghost use Rattle.leader1822.specs.Host.{Host, IsAddress, InOrder};
 ghost use Rattle.leader1822.specs.Leader.{read_from_host, read_from_imp, spelling, IsWritten, IsFromHost};
-ghost use Rattle.leader1822.specs.Mailboxes.{IsRun, EachIsRun, Mail, opening_mail, mail_of, passed, is_up, box_of};
+ghost use Rattle.leader1822.specs.Mailboxes.{IsRun, EachIsRun, Box, Waiting, WaitsWith, Mail, opening_mail, mail_of, passed, is_up, box_of};
 ghost use Rattle.leader1822.specs.Messages.{SafeMessages};
 ghost use Rattle.leader1822.specs.declared.address.Flow.{Flow};
 ghost use Rattle.leader1822.specs.declared.crossing.Crossing.{Crossing};
@@ -26,10 +26,19 @@ pub fn leaders()
     ensures nop { (address link last : ℕ) (rest : List ℕ) → read_from_imp (4 ∷ address ∷ link ∷ last ∷ rest) ≡ Ok leader.Nop }
 {}
 
+/// Hosts in order, as a carrier names them.
+pub fn hosts()
+    // a host stands at one place alone
+    ensures once { (hosts : List Host) (i j : ℕ) (h : Host) → InOrder hosts → slice_get hosts i ≡ Some h → slice_get hosts j ≡ Some h → i ≡ j }
+{}
+
 /// A network may be looked at one flow at a time (BBN Report 1822: one message outstanding on a link).
 pub fn mailboxes()
     // if each flow's part of a log is a run of its own box and its two hosts, the log is a run
     ensures flow_by_flow { (hosts : List Host) (log : List Crossing) → EachIsRun hosts log → IsRun hosts log }
+
+    // the box of a text that waits is that of a message which waits, with this text
+    ensures waiting { (box : Box) (text : List Bool) → WaitsWith box text → (place : ℕ) × (box ≡ Waiting place text) }
 
     // a flow's own part of a log tells its hosts and its box
     ensures own_story { (hosts : List Host) (f : Flow) (log : List Crossing) → mail_of (opening_mail hosts f) (passed f log) ≡ record { source = is_up hosts f.source log; destination = is_up hosts f.destination log; box = box_of f log } }

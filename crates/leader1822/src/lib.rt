@@ -18,7 +18,7 @@ mod leader;
 mod message;
 mod plain_boxes;
 
-pub use address::{Flow, HostAddr, ImpNumber, Link};
+pub use address::{Flow, HostAddr, ImpNumber, Link, MESSAGE_NUMBERS};
 pub use carrier::{Carrier, CarrierFault};
 pub use crossing::{Answer, Crossing, Inbound};
 pub use event::{Direction, NetEvent};

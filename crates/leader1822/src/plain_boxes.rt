@@ -31,7 +31,7 @@ pub struct PlainBoxes {
 impl Model for PlainBoxes {
     ghost use Rattle.std.specs.Prelude.{reverse};
     ghost use Rattle.leader1822.specs.Boxes.{Boxes};
-    ghost use Rattle.leader1822.specs.Soundness.{IsSound};
+    ghost use Rattle.leader1822.specs.Inside.Soundness.{IsSound};
 
     ghost Value = { Boxes };
 

@@ -1,12 +1,13 @@
 -- IMPs and hosts in order.
-use Rattle.std.proofs.Common.{◌≡◌, ℕ, zero, suc, ◌<◌, ◌≤◌, ◌+◌, ◌*◌, ◌/◌, ◌%◌, ◌==◌, ◌&&◌, ◌||◌, nat_lt, Bool, true, false, List, [], ◌∷◌, ◌++◌, Option, Some, None, refl, sym, ap, ◌∙◌, subst, arith, lit<, add-one, append-nil, cond, eqb-true}
+use Rattle.std.proofs.Common.{◌≡◌, ℕ, zero, suc, ◌<◌, ◌≤◌, ◌+◌, ◌*◌, ◌/◌, ◌%◌, ◌==◌, ◌&&◌, ◌||◌, nat_lt, Bool, true, false, List, [], ◌∷◌, ◌++◌, Option, Some, None, refl, sym, ap, ◌∙◌, subst, arith, lit<, inl, inr, add-one, append-nil, cond, eqb-true}
 use Rattle.std.proofs.Math.Nat.{div-add-mod}
 use Rattle.std.proofs.lemmas.Nat.{mod_below}
-use Rattle.std.proofs.lemmas.Bool.Decides.{nat_tests}
+use Rattle.std.proofs.lemmas.Bool.{cases_lt}
 use Rattle.std.proofs.lemmas.List.Elements.{All-nil, All-cons, All-append, All-head, All-tail}
 use Rattle.std.specs.List.{All, cons_option}
 use Rattle.leader1822.specs.Host.{Host}
-use Rattle.leader1822.specs.Calls.{host_before, InOrder}
+use Rattle.leader1822.specs.Host.{host_before, InOrder}
+use Rattle.leader1822.proofs.Order.{before_from_numbers}
 use Rattle.topology.specs.declared.network.ImpHosts.{ImpHosts}
 use Rattle.topology.specs.Network.{hosts_below, host_if, has_host, numbered_below, imp_of_number, IsRising}
 
@@ -20,8 +21,11 @@ record StandsBelow (n : ℕ) (h : Host) : Type 0 where
   place : 4 * h.imp + h.host < n + 4
   host : h.host ≤ 3
 
-before_from_place : (a b c d : ℕ) → b ≤ 3 → 4 * a + b < 4 * c + d → d ≤ 3 → (nat_lt a c || (a == c && nat_lt b d)) ≡ true
-before_from_place a b c d small less few = grind (arith, nat_tests)
+before_from_place : (g h : Host) → g.host ≤ 3 → 4 * g.imp + g.host < 4 * h.imp + h.host → h.host ≤ 3 → host_before g h ≡ true
+before_from_place g h small less few = before_from_numbers g h (elim (cases_lt g.imp h.imp) [
+  | inl imp ↦ inl imp
+  | inr imp ↦ inr (omega arith, omega arith)
+])
 
 abbrev place_of : ℕ → Host
 place_of n = record { imp = n / 4 + 1; host = n % 4 }
@@ -70,7 +74,7 @@ hosts_ordered imps (suc n) =
     let low : n % 4 < 4 = mod_below n 4 (lit< tt) in
     ordered_if (hosts_below imps n) (has_host imps (n / 4 + 1) (n % 4)) (place_of n) (hosts_ordered imps n)
     (All-more (StandsBelow n) (λ g. host_before g (place_of n) ≡ true) (hosts_below imps n)
-    (λ g b. let place : 4 * g.imp + g.host < n + 4 = b.place in before_from_place g.imp g.host (n / 4 + 1) (n % 4) b.host (omega arith) (omega arith)) (below_hosts imps n))
+    (λ g b. let place : 4 * g.imp + g.host < n + 4 = b.place in before_from_place g (place_of n) b.host (omega arith) (omega arith)) (below_hosts imps n))
 
 rising_more : (imps : List ImpHosts) (i : ImpHosts) → IsRising imps → All (λ j. j.imp < i.imp) imps → IsRising (imps ++ i ∷ [])
 rising_more [] i o b = tt

@@ -1,5 +1,5 @@
 use Rattle.std.proofs.Common.{◌≡◌, ◌∷◌, [], ◌++◌, ◌∙◌, ap, refl, sym, subst, reverse, rules, Bool, List, None, Some, find}
-use Rattle.leader1822.specs.Boxes.{Boxes, Told, host_refusal, taken, inbound_of, is_told_to, is_to, is_running, one_if, seen_of}
+use Rattle.leader1822.specs.Boxes.{Boxes, WaitingAnswer, host_refusal, taken, inbound_of, is_told_to, is_to, is_running, one_if, seen_of}
 use Rattle.leader1822.specs.Calls.{ShowsCrossings, crossing_of, IsFor}
 use Rattle.leader1822.specs.declared.crossing.Answer.TheVariants as answer
 use Rattle.leader1822.specs.declared.crossing.Crossing.{Crossing}
@@ -15,7 +15,7 @@ pub invariant_of-self : goal.invariant_of-self
 invariant_of-self c =
     let i = c.self.inside in
     let h = c.args.host in
-    let a : Told = (c.in-Some-take_answer.kind, c.in-Some-take_answer.flow) in
+    let a : WaitingAnswer = (c.in-Some-take_answer.kind, c.in-Some-take_answer.flow) in
     let b : Boxes = record { hosts = i.hosts.items; down = i.down.items; queue = i.queue.items; answers = i.answers.items; log = reverse i.log.items; stopped = i.stopped } in
     let none : host_refusal b.stopped b.hosts b.down h ≡ None = search rules in
     let found : find (is_told_to h) b.answers ≡ Some a = search rules in
@@ -29,7 +29,7 @@ returns-in-Some-take_answer-clause-shown c =
     let h = c.args.host in
     let b : Boxes = record { hosts = i.hosts.items; down = i.down.items; queue = i.queue.items; answers = i.answers.items; log = reverse i.log.items; stopped = i.stopped } in
     let none : host_refusal b.stopped b.hosts b.down h ≡ None = search rules in
-    let a : Told = (c.in-Some-take_answer.kind, c.in-Some-take_answer.flow) in
+    let a : WaitingAnswer = (c.in-Some-take_answer.kind, c.in-Some-take_answer.flow) in
     let found : find (is_told_to h) b.answers ≡ Some a = search rules in
     let log : reverse c.store_answer.new.log.items ≡ crossing.Answer a.0 a.1 ∷ b.log =
     ap (λ (xs : List Crossing). reverse xs) c.in-Ok.ensures.log ∙ reverse_push i.log.items (crossing.Answer a.0 a.1) in
@@ -73,7 +73,7 @@ invariant_of-self-in-Ok-store_taking c =
     let up : c.is_running-source_up.result ≡ is_running b.hosts b.down m.flow.source = search rules in
     let kept : c.take_answer.new.answers.items ≡ b.answers = c.take_answer.ensures.left ∙ not_found (is_told_to h) b.answers untold in
     let answers : c.store_taking.new.answers.items ≡ b.answers ++ one_if (is_running b.hosts b.down m.flow.source) (answer.Rfnm, m.flow) =
-    c.in-Ok-store_taking.ensures.answers ∙ ap (λ (xs : List Told). xs ++ one_if c.is_running-source_up.result (answer.Rfnm, m.flow)) kept
+    c.in-Ok-store_taking.ensures.answers ∙ ap (λ (xs : List WaitingAnswer). xs ++ one_if c.is_running-source_up.result (answer.Rfnm, m.flow)) kept
     ∙ ap (λ (r : Bool). b.answers ++ one_if r (answer.Rfnm, m.flow)) up in
     let log : reverse c.store_taking.new.log.items ≡ crossing.In m ∷ b.log =
     ap (λ (xs : List Crossing). reverse xs) c.in-Ok-store_taking.ensures.log ∙ reverse_push i.log.items (crossing.In m) in
@@ -91,7 +91,7 @@ returns-clause-relation c =
     let up : c.is_running-source_up.result ≡ is_running b.hosts b.down m.flow.source = search rules in
     let kept : c.take_answer.new.answers.items ≡ b.answers = c.take_answer.ensures.left ∙ not_found (is_told_to h) b.answers untold in
     let answers : c.store_taking.new.answers.items ≡ b.answers ++ one_if (is_running b.hosts b.down m.flow.source) (answer.Rfnm, m.flow) =
-    c.in-Ok-store_taking.ensures.answers ∙ ap (λ (xs : List Told). xs ++ one_if c.is_running-source_up.result (answer.Rfnm, m.flow)) kept
+    c.in-Ok-store_taking.ensures.answers ∙ ap (λ (xs : List WaitingAnswer). xs ++ one_if c.is_running-source_up.result (answer.Rfnm, m.flow)) kept
     ∙ ap (λ (r : Bool). b.answers ++ one_if r (answer.Rfnm, m.flow)) up in
     let log : reverse c.store_taking.new.log.items ≡ crossing.In m ∷ b.log =
     ap (λ (xs : List Crossing). reverse xs) c.in-Ok-store_taking.ensures.log ∙ reverse_push i.log.items (crossing.In m) in
@@ -110,7 +110,7 @@ returns-clause-shown c =
     let up : c.is_running-source_up.result ≡ is_running b.hosts b.down m.flow.source = search rules in
     let kept : c.take_answer.new.answers.items ≡ b.answers = c.take_answer.ensures.left ∙ not_found (is_told_to h) b.answers untold in
     let answers : c.store_taking.new.answers.items ≡ b.answers ++ one_if (is_running b.hosts b.down m.flow.source) (answer.Rfnm, m.flow) =
-    c.in-Ok-store_taking.ensures.answers ∙ ap (λ (xs : List Told). xs ++ one_if c.is_running-source_up.result (answer.Rfnm, m.flow)) kept
+    c.in-Ok-store_taking.ensures.answers ∙ ap (λ (xs : List WaitingAnswer). xs ++ one_if c.is_running-source_up.result (answer.Rfnm, m.flow)) kept
     ∙ ap (λ (r : Bool). b.answers ++ one_if r (answer.Rfnm, m.flow)) up in
     let log : reverse c.store_taking.new.log.items ≡ crossing.In m ∷ b.log =
     ap (λ (xs : List Crossing). reverse xs) c.in-Ok-store_taking.ensures.log ∙ reverse_push i.log.items (crossing.In m) in

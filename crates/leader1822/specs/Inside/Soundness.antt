@@ -1,9 +1,9 @@
 -- What the plain boxes keep true: their log is a run, and what waits fits the mailboxes.
 use Rattle.std.specs.Prelude.{◌≡◌, Bool, true, false, List, [], ◌∷◌, ◌++◌, if◌then◌else◌, ◌⊎◌}
 use Rattle.leader1822.specs.Host.{Host}
-use Rattle.leader1822.specs.Mailboxes.{Box, Empty, Holds, Fits, IsRun, box_of, is_up}
+use Rattle.leader1822.specs.Mailboxes.{Box, Empty, WaitsWith, Fits, IsRun, box_of, is_up}
 use Rattle.leader1822.specs.Calls.{InOrder}
-use Rattle.leader1822.specs.Boxes.{Boxes, Told, is_of, is_about, is_running}
+use Rattle.leader1822.specs.Boxes.{Boxes, WaitingAnswer, is_of, is_about, is_running}
 use Rattle.leader1822.specs.declared.address.Flow.{Flow}
 use Rattle.leader1822.specs.declared.crossing.Answer.{Answer}
 use Rattle.leader1822.specs.declared.message.HostMessage.{HostMessage}
@@ -14,14 +14,14 @@ texts_of f [] = []
 texts_of f (m ∷ queue) = (if is_of f m then m.text ∷ [] else []) ++ texts_of f queue
 
 -- the answers about a flow that wait, oldest first
-abbrev pub kinds_of : Flow → List Told → List Answer
+abbrev pub kinds_of : Flow → List WaitingAnswer → List Answer
 kinds_of f [] = []
 kinds_of f (a ∷ answers) = (if is_about f a then a.0 ∷ [] else []) ++ kinds_of f answers
 
 -- what waits of one flow fits its box
 pub record FitsBox (source destination : Bool) (texts : List (List Bool)) (kinds : List Answer) (box : Box) : Type 0 where
   -- no message waits, or one, for a host that is up, and then the box holds it and no answer waits
-  pub queued : (texts ≡ []) ⊎ ((t : List Bool) × (texts ≡ t ∷ []) × Holds box t × (kinds ≡ []) × (destination ≡ true))
+  pub queued : (texts ≡ []) ⊎ ((t : List Bool) × (texts ≡ t ∷ []) × WaitsWith box t × (kinds ≡ []) × (destination ≡ true))
   -- while the source is up and no message waits, one answer waits that fits the box, or the box is empty
   pub told : source ≡ true → texts ≡ [] → ((kinds ≡ []) × (box ≡ Empty)) ⊎ ((k : Answer) × (kinds ≡ k ∷ []) × Fits k box)
   -- no answer waits for a host that is down
