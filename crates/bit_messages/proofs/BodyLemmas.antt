@@ -7,7 +7,6 @@ use Rattle.std.proofs.lemmas.List.Sums.{suffix_len_is}
 use Rattle.std.proofs.Common.{◌⊎◌, inl, inr, None, Some, eq-eqb, drop-cons, nat_lt, ◌==◌, if◌then◌else◌}
 use Rattle.std.proofs.lemmas.List.{get_or-drop, length-drop, get_or-replicate, get_or_at, take-append-drop}
 use Rattle.std.proofs.lemmas.Bool.{le-ltb, ltb-false, eqb-true}
-use Rattle.bit_messages.specs.declared.bits.TheConstants.{MAX_TEXT_BITS, BODY_UNIT}
 use Rattle.bit_messages.specs.declared.fault.BitFault.TheVariants as fault
 use Rattle.bit_messages.specs.Body.{is_one, has_mark, text_of, IsBodyOf, strip_fault, body, filling}
 
@@ -117,10 +116,10 @@ stripped_padded text zeros =
     marked_at (length text) (text ++ true ∷ replicate zeros false) lt (get_or_at text true (replicate zeros false) false (length text) refl) (after_mark text zeros) in
     record { marked = m.marked; before = m.text ∙ take_at text (true ∷ replicate zeros false) (length text) refl }
 
-no_fault : (bits : List Bool) → has_mark bits ≡ true → length (text_of bits) ≤ MAX_TEXT_BITS → length bits % BODY_UNIT ≡ 0 → strip_fault bits ≡ None
+no_fault : (bits : List Bool) → has_mark bits ≡ true → length (text_of bits) ≤ 8063 → length bits % 16 ≡ 0 → strip_fault bits ≡ None
 no_fault bits marked short units =
-    let fits : nat_lt MAX_TEXT_BITS (length (text_of bits)) ≡ false = le-ltb MAX_TEXT_BITS (length (text_of bits)) short in
-    let whole : (length bits % BODY_UNIT == 0) ≡ true = eq-eqb (length bits % BODY_UNIT) 0 units in
+    let fits : nat_lt 8063 (length (text_of bits)) ≡ false = le-ltb 8063 (length (text_of bits)) short in
+    let whole : (length bits % 16 == 0) ≡ true = eq-eqb (length bits % 16) 0 units in
     rw (marked, fits, whole) refl
 
 -- what is a body is stripped to its text
@@ -147,21 +146,25 @@ passed false long whole e = absurd (cc)
 -- what is stripped was a body
 pub body_from : (bits : List Bool) → strip_fault bits ≡ None → IsBodyOf (text_of bits) bits
 body_from bits none =
-    let p : Passed (has_mark bits) (nat_lt MAX_TEXT_BITS (length (text_of bits))) (length bits % BODY_UNIT == 0) =
-    passed (has_mark bits) (nat_lt MAX_TEXT_BITS (length (text_of bits))) (length bits % BODY_UNIT == 0) none in
+    let p : Passed (has_mark bits) (nat_lt 8063 (length (text_of bits))) (length bits % 16 == 0) =
+    passed (has_mark bits) (nat_lt 8063 (length (text_of bits))) (length bits % 16 == 0) none in
     let s : IsSplit bits = split_text bits p.is_marked in
     record {
       zeros = s.zeros;
       padded = s.padded;
-      short = ltb-false MAX_TEXT_BITS (length (text_of bits)) p.is_short;
-      units = eqb-true (length bits % BODY_UNIT) 0 p.is_whole;
+      short = ltb-false 8063 (length (text_of bits)) p.is_short;
+      units = eqb-true (length bits % 16) 0 p.is_whole;
     }
 
 -- a body is one
-pub body_is : (text : List Bool) → length text ≤ MAX_TEXT_BITS → IsBodyOf text (body text)
+pub body_is : (text : List Bool) → length text ≤ 8063 → IsBodyOf text (body text)
 body_is text short = record {
   zeros = filling (length text);
   padded = refl;
   short = short;
   units = omega (arith, length-append text (true ∷ replicate (filling (length text)) false), length-replicate (filling (length text)) false);
 }
+
+-- a text of any length is given back
+pub text_of-body : (text : List Bool) → text_of (body text) ≡ text
+text_of-body text = let s : IsStripped text (body text) = stripped_padded text (filling (length text)) in s.before

@@ -1,9 +1,10 @@
 //! A list of bits.
 
-ghost use Rattle.std.specs.Prelude.{◌≡◌, ℕ, ◌+◌, ◌-◌, ◌*◌, ◌≤◌, ◌<◌, ◌≢◌, Bool, List, [], ◌∷◌, ◌++◌, length, take, drop, slice_get, slice_index_or, true, false, if◌then◌else◌, nat_le, nat_lt, ◌||◌, ◌==◌, IfOk, IfSome, OnOk, OnErr, None, Some};
+ghost use Rattle.std.specs.Prelude.{◌≡◌, ℕ, ◌+◌, ◌-◌, ◌*◌, ◌≤◌, ◌<◌, ◌≢◌, Bool, List, [], ◌∷◌, ◌++◌, length, take, drop, slice_get, slice_index_or, true, false, if◌then◌else◌, nat_le, nat_lt, ◌||◌, ◌==◌, IfOk, IfSome, OnOk, OnErr, None, Some, Err};
 ghost use Rattle.bit_messages.specs.Body.{body, has_mark, text_of, strip_fault, pad_fault, slice_fault};
 ghost use Rattle.bit_messages.specs.Faults.{Decided};
 ghost use Rattle.bit_messages.specs.Octets.{bits_of, octet_bits, octets_of, octets_fault, bit_value};
+ghost use Rattle.bit_messages.specs.declared.fault.BitFault.TheVariants as fault;
 
 use crate::BitFault;
 use std::alloc::{AllocError, Global};
@@ -16,7 +17,7 @@ pub const MAX_TEXT_BITS: usize = 8063;
 pub const BODY_UNIT: usize = 16;
 
 /// A list of bits, of any length.
-#[derive(Clone, Debug, Drop)]
+#[derive(Debug, Drop)]
 pub struct Bits {
     bits: Vec<bool>,
 }
@@ -58,7 +59,9 @@ impl Bits {
         self.bits.get(i).copied()
     }
 
-    /// Puts a bit at the end. Without memory nothing changes.
+    /// Puts a bit at the end.
+    ///
+    /// Errors: `OutOfMemory`, and then nothing changes.
     pub fn push(&mut self, bit: bool) -> Result<(), BitFault>
         ensures decided { Decided None (λ _. self.new ≡ self.old ++ bit ∷ []) result }
         ensures err { OnErr result (self.new ≡ self.old) }
@@ -67,9 +70,12 @@ impl Bits {
         Ok(())
     }
 
-    /// Puts the bits of `other` at the end. Without memory nothing changes.
+    /// Puts the bits of `other` at the end.
+    ///
+    /// Errors: `OutOfMemory` where `other` has bits, and then nothing changes.
     pub fn append(&mut self, other: &Bits) -> Result<(), BitFault>
         ensures decided { Decided None (λ _. self.new ≡ self.old ++ other.now) result }
+        ensures memory { result ≡ Err fault.OutOfMemory → 0 < length other.now }
         ensures err { OnErr result (self.new ≡ self.old) }
     {
         self.bits.extend_from_slice(&other.bits)?;
@@ -78,25 +84,25 @@ impl Bits {
 
     /// The bits from place `from` up to and without place `to`.
     ///
-    /// Errors: `Range` where `from` passes `to` or `to` passes the end.
+    /// Errors: `Range` where `from` passes `to` or `to` passes the end; `OutOfMemory` only for a part that has bits.
     pub fn slice(&self, alloc: Global, from: usize, to: usize) -> Result<Bits, BitFault>
         ensures decided { Decided (slice_fault from to self.now) (λ part. part ≡ drop from (take to self.now)) result }
+        ensures memory { result ≡ Err fault.OutOfMemory → from < to }
     {
         if from > to || to > self.bits.len() {
             return Err(BitFault::Range);
         }
         let (front, _) = self.bits.split_at(to);
         let (_, part) = front.split_at(from);
-        Ok(Bits {
-            bits: Vec::from_slice(alloc, part)?,
-        })
+        Ok(copied(alloc, part)?)
     }
 
     /// The first `count` bits of the octets, the most significant bit of each octet first.
     ///
-    /// Errors: `Range` where the octets have fewer bits.
+    /// Errors: `Range` where the octets have fewer bits; `OutOfMemory` only where `count` isn't 0.
     pub fn from_octets(alloc: Global, octets: &[u8], count: usize) -> Result<Bits, BitFault>
         ensures decided { Decided (octets_fault octets.now count) (λ bits. bits ≡ take count (bits_of octets.now)) result }
+        ensures memory { result ≡ Err fault.OutOfMemory → 0 < count }
     {
         let whole = count.div_ceil(8);
         if whole > octets.len() {
@@ -112,8 +118,11 @@ impl Bits {
     }
 
     /// The bits in octets, the last octet filled with zeros.
+    ///
+    /// Errors: `OutOfMemory` where there are bits.
     pub fn to_octets(&self, alloc: Global) -> Result<Vec<u8>, BitFault>
         ensures decided { Decided None (λ octets. octets.items ≡ octets_of self.now) result }
+        ensures memory { result ≡ Err fault.OutOfMemory → 0 < length self.now }
     {
         let mut octets = Vec::new(alloc);
         let mut rest = self.bits.as_slice();
@@ -125,9 +134,9 @@ impl Bits {
         Ok(octets)
     }
 
-    /// The body of this text: its bits, a one, and the least zeros up to a multiple of sixteen bits.
+    /// The body of this text: its bits, a 1, and the fewest zeros that make a multiple of sixteen bits.
     ///
-    /// Errors: `TooLong` for a text of more than 8063 bits.
+    /// Errors: `TooLong` for a text of more than 8063 bits, then `OutOfMemory`.
     pub fn pad16(&self, alloc: Global) -> Result<Bits, BitFault>
         ensures decided { Decided (pad_fault self.now) (λ padded. padded ≡ body self.now) result }
     {
@@ -141,12 +150,13 @@ impl Bits {
         Ok(Bits { bits })
     }
 
-    /// The text of this body: what stands before its last one.
+    /// The text of this body: what stands before its last 1.
     ///
-    /// Errors: `NoMark` where there is no one, `TooLong` where the text has more than 8063 bits, `Range`
-    /// where the body isn't a multiple of sixteen bits.
+    /// Errors: `NoMark` where no bit is a 1, `TooLong` where the text has more than 8063 bits, `Range`
+    /// where the body isn't a multiple of sixteen bits; `OutOfMemory` only for a text that has bits.
     pub fn strip(&self, alloc: Global) -> Result<Bits, BitFault>
         ensures decided { Decided (strip_fault self.now) (λ text. text ≡ text_of self.now) result }
+        ensures memory { result ≡ Err fault.OutOfMemory → 0 < length (text_of self.now) }
     {
         let Some(mark) = last_one(&self.bits) else {
             return Err(BitFault::NoMark);
@@ -158,9 +168,18 @@ impl Bits {
             return Err(BitFault::Range);
         }
         let (text, _) = self.bits.split_at(mark);
-        Ok(Bits {
-            bits: Vec::from_slice(alloc, text)?,
-        })
+        Ok(copied(alloc, text)?)
+    }
+}
+
+/// A clone has the same bits. An empty list is cloned without memory.
+impl Clone for Bits {
+    ghost is_clone = { λ x y. y ≡ x };
+
+    ghost is_infallible = { λ x. x ≡ [] };
+
+    fn clone(&self) -> Result<Bits, AllocError> {
+        copied(*self.bits.allocator(), &self.bits)
     }
 }
 
@@ -180,7 +199,17 @@ impl PartialEq for Bits {
     }
 }
 
-/// The place of the last one.
+/// A list of these bits.
+fn copied(alloc: Global, part: &[bool]) -> Result<Bits, AllocError>
+    ensures same { IfOk result (λ bits. bits ≡ part.now) }
+    ensures memory { OnErr result (0 < length part.now) }
+{
+    let mut bits = Vec::new(alloc);
+    bits.extend_from_slice(part)?;
+    Ok(Bits { bits })
+}
+
+/// The place of the last 1.
 fn last_one(bits: &[bool]) -> Option<usize>
     ensures none { result ≡ None → has_mark bits.now ≡ false }
     ensures some { IfSome result (λ mark. (has_mark bits.now ≡ true) × (mark < length bits.now) × (text_of bits.now ≡ take mark bits.now)) }

@@ -4,22 +4,24 @@
 ghost use Rattle.std.specs.Prelude.{◌≡◌, ℕ, ◌+◌, ◌*◌, ◌%◌, ◌<◌, ◌≤◌, Bool, true, false, List, ◌∷◌, ◌++◌, length, replicate, None, Some, All};
 ghost use Rattle.bit_messages.specs.Body.{body, filling, IsBodyOf, has_mark, text_of, strip_fault};
 ghost use Rattle.bit_messages.specs.Octets.{bits_of, octets_of, spare_bits};
-ghost use Rattle.bit_messages.specs.declared.bits.TheConstants.{MAX_TEXT_BITS, BODY_UNIT};
 ghost use Rattle.bit_messages.specs.declared.fault.BitFault.{BitFault};
 ghost use Rattle.bit_messages.specs.declared.fault.BitFault.TheVariants as fault;
 
 /// A body gives its text back, and is the shortest list that does (BBN Report 1822, padding).
 pub fn padding()
     // stripping a padded text gives the text
-    ensures given_back { (text : List Bool) → length text ≤ MAX_TEXT_BITS → (strip_fault (body text) ≡ None) × (text_of (body text) ≡ text) }
+    ensures given_back { (text : List Bool) → length text ≤ 8063 → (strip_fault (body text) ≡ None) × (text_of (body text) ≡ text) }
 
-    // a body is a text, a one and zeros, in full units of sixteen bits
-    ensures a_body { (text : List Bool) → length text ≤ MAX_TEXT_BITS → IsBodyOf text (body text) }
+    // so does stripping a text that is too long for a body
+    ensures unbounded { (text : List Bool) → text_of (body text) ≡ text }
+
+    // a body is a text, its mark and zeros, in full units of sixteen bits
+    ensures a_body { (text : List Bool) → length text ≤ 8063 → IsBodyOf text (body text) }
 
     // no fewer zeros fill the last unit
-    ensures least { (text : List Bool) (zeros : ℕ) → length (text ++ true ∷ replicate zeros false) % BODY_UNIT ≡ 0 → filling (length text) ≤ zeros }
+    ensures least { (text : List Bool) (zeros : ℕ) → length (text ++ true ∷ replicate zeros false) % 16 ≡ 0 → filling (length text) ≤ zeros }
 
-    // a list of bits is stripped to a text exactly where it is that text, a one and zeros
+    // a list of bits is stripped to a text exactly where it is that text, its mark and zeros
     ensures stripped { (text bits : List Bool) → IsBodyOf text bits → (strip_fault bits ≡ None) × (text_of bits ≡ text) }
     ensures only_bodies { (bits : List Bool) → strip_fault bits ≡ None → IsBodyOf (text_of bits) bits }
     ensures unmarked { (bits : List Bool) → has_mark bits ≡ false → strip_fault bits ≡ Some fault.NoMark }

@@ -1,5 +1,5 @@
 use Rattle.bit_messages.specs.Body.{body}
-use Rattle.bit_messages.proofs.BodyLemmas.{stripped_body, body_from, body_is}
+use Rattle.bit_messages.proofs.BodyLemmas.{stripped_body, body_from, body_is, text_of-body}
 use Rattle.bit_messages.proofs.law.padding.Goals as goal
 
 pub returns-clause-given_back : goal.returns-clause-given_back
@@ -10,3 +10,6 @@ returns-clause-stripped c = stripped_body
 
 pub returns-clause-only_bodies : goal.returns-clause-only_bodies
 returns-clause-only_bodies c = body_from
+
+pub returns-clause-unbounded : goal.returns-clause-unbounded
+returns-clause-unbounded c = text_of-body
