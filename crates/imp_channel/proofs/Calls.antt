@@ -1,7 +1,7 @@
 -- What the calls of an end need of its definitions.
 use Rattle.std.proofs.Common.{◌≡◌, ℕ, ◌+◌, ◌<◌, List, ◌∷◌, ◌++◌, length, get_or, set, drop, Some, refl, sym, ap, ◌∙◌, position}
 use Rattle.std.proofs.lemmas.List.{append_assoc, drop_more, get_or_read}
-use Rattle.packetiser.specs.Form.{Form}
+use Rattle.packetiser.specs.PacketFields.{PacketFields}
 use Rattle.imp_channel.specs.declared.channel.Channel.{Channel}
 use Rattle.imp_channel.specs.declared.frame.Frame.{Frame}
 use Rattle.imp_channel.specs.Line.{End, opening_channel, is_free, submitted, frame_on, frames_of, frames_from}
@@ -15,7 +15,7 @@ frames_more e chs i x done within is =
     (sym (ap (λ (l : List Channel). frames_from e i l) (drop_more chs i x within ∙ ap (λ (y : Channel). y ∷ drop (i + 1) chs) (sym is))))
 
 -- the packet goes into the channel that was found
-pub submitted_at : (e : End) (p : Form) (at : ℕ) (x : Channel) → position is_free e.sending ≡ Some at → at < length e.sending → x ≡ get_or e.sending at x
+pub submitted_at : (e : End) (p : PacketFields) (at : ℕ) (x : Channel) → position is_free e.sending ≡ Some at → at < length e.sending → x ≡ get_or e.sending at x
     → submitted e p ≡ Some (record { sending = set e.sending at (record { bit = x.bit; packet = Some p }); expected = e.expected }, frame_on e at x.bit p)
 unfolding submitted
 submitted_at e p at x found within is =

@@ -2,7 +2,7 @@
 use Rattle.std.proofs.Common.{◌≡◌, ℕ, zero, suc, ◌+◌, ◌<◌, Bool, true, false, not, List, [], ◌∷◌, ◌++◌, length, get_or, map, set, Option, Some, None, Ok, refl, sym, ap, ◌∙◌, subst, ◌⊎◌, inl, inr, cond, eqb, arith}
 use Rattle.std.proofs.lemmas.Bool.{cases_eq, eq-eqb, ne_eqb, leb-false}
 use Rattle.std.proofs.lemmas.List.{get_or-set_same, get_or-set_other, length-set}
-use Rattle.packetiser.specs.Form.{Form}
+use Rattle.packetiser.specs.PacketFields.{PacketFields}
 use Rattle.imp_channel.specs.Carriage.{Carriage}
 use Rattle.imp_channel.specs.declared.channel.Channel.{Channel}
 use Rattle.imp_channel.specs.declared.channel.TheConstants.{CHANNELS}
@@ -29,7 +29,7 @@ ack_in c f = get_or f.acks c false
 
 -- Frames written.
 
-frame_acks : (e : End) (c n : ℕ) (bit : Bool) (packet : Option Form) (rest : List Frame) → AllAre (expected_at e c) (map (ack_in c) rest)
+frame_acks : (e : End) (c n : ℕ) (bit : Bool) (packet : Option PacketFields) (rest : List Frame) → AllAre (expected_at e c) (map (ack_in c) rest)
     → AllAre (expected_at e c) (map (ack_in c) (frames_of e n bit packet ++ rest))
 frame_acks e c n bit None rest next = next
 frame_acks e c n bit (Some p) rest next = (refl, next)
@@ -39,13 +39,13 @@ pub AllAre-frames : (e : End) (c n : ℕ) (chs : List Channel) → AllAre (expec
 AllAre-frames e c n [] = tt
 AllAre-frames e c n (ch ∷ chs) = frame_acks e c n ch.bit ch.packet (frames_from e (n + 1) chs) (AllAre-frames e c (n + 1) chs)
 
-frame_elsewhere : (e : End) (ch : Channel) (c n : ℕ) (bit : Bool) (packet : Option Form) (rest : List Frame) → (n ≡ c → ⊥)
+frame_elsewhere : (e : End) (ch : Channel) (c n : ℕ) (bit : Bool) (packet : Option PacketFields) (rest : List Frame) → (n ≡ c → ⊥)
     → Carries ch (map (way_in c) rest) → Carries ch (map (way_in c) (frames_of e n bit packet ++ rest))
 frame_elsewhere e ch c n bit None rest other next = next
 frame_elsewhere e ch c n bit (Some p) rest other next =
     let P : Bool → Type 0 = λ t. Carries ch (cond t (Some (bit, p)) None ∷ map (way_in c) rest) in subst P (sym (ne_eqb n c other)) next
 
-frame_here : (e : End) (ch : Channel) (c n : ℕ) (packet : Option Form) (rest : List Frame) → n ≡ c → ch.packet ≡ packet
+frame_here : (e : End) (ch : Channel) (c n : ℕ) (packet : Option PacketFields) (rest : List Frame) → n ≡ c → ch.packet ≡ packet
     → Carries ch (map (way_in c) rest) → Carries ch (map (way_in c) (frames_of e n ch.bit packet ++ rest))
 frame_here e ch c n None rest same is next = next
 frame_here e ch c n (Some p) rest same is next =
@@ -67,7 +67,7 @@ Carries-frames e n (suc k) c (ch ∷ chs) at =
     frame_elsewhere e (get_or chs k opening_channel) c n ch.bit ch.packet (frames_from e (n + 1) chs) (λ (same : n ≡ c). omega arith) (Carries-frames e (n + 1) k c chs (omega arith))
 
 -- a frame on a channel that holds its packet carries it there, and nothing elsewhere
-pub Carries-frame_on : (e : End) (k c : ℕ) (bit : Bool) (p : Form) (ch : Channel) → (k ≡ c → (bit ≡ ch.bit) × (ch.packet ≡ Some p))
+pub Carries-frame_on : (e : End) (k c : ℕ) (bit : Bool) (p : PacketFields) (ch : Channel) → (k ≡ c → (bit ≡ ch.bit) × (ch.packet ≡ Some p))
     → Carries ch (way_in c (frame_on e k bit p) ∷ [])
 Carries-frame_on e k c bit p ch holds = ⊎_cases (cases_eq k c)
   where
@@ -119,11 +119,11 @@ given_when : (c : ℕ) (carried : Carriage) (h : Bool)
 given_when c carried true = refl
 given_when c carried false = refl
 
-none_either : (h : Bool) → cond {A = List Form} h [] [] ≡ []
+none_either : (h : Bool) → cond {A = List PacketFields} h [] [] ≡ []
 none_either true = refl
 none_either false = refl
 
-same_gift : (t bit expects : Bool) (p : Form)
+same_gift : (t bit expects : Bool) (p : PacketFields)
     → cond (not (differs bit expects)) (cond t (p ∷ []) []) [] ≡ given_by (cond t (Some (bit, p)) None) expects
 same_gift true bit expects p = refl
 same_gift false bit expects p = none_either (not (differs bit expects))

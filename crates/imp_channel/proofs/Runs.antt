@@ -5,7 +5,7 @@ use Rattle.std.proofs.lemmas.List.{append-nil, get_or-set_same, get_or-set_other
 use Rattle.std.specs.List.{drop-map}
 use Rattle.std.proofs.lemmas.List.Quantifiers.{position-Some}
 use Rattle.std.proofs.lemmas.Option.{slice_get_within}
-use Rattle.packetiser.specs.Form.{Form}
+use Rattle.packetiser.specs.PacketFields.{PacketFields}
 use Rattle.imp_channel.specs.declared.channel.Channel.{Channel}
 use Rattle.imp_channel.specs.declared.channel.TheConstants.{CHANNELS}
 use Rattle.imp_channel.specs.declared.fault.ChannelFault.TheVariants as fault
@@ -64,10 +64,10 @@ kept_writes c me you frames carries tells k = record {
 -- Putting a packet in.
 
 -- the side whose channel `at` holds the packet, with no frame written yet
-abbrev pub holds : ℕ → Form → Side → Side
+abbrev pub holds : ℕ → PacketFields → Side → Side
 holds at p s = record s { state = holding s.state at p; put = λ c. s.put c ++ packet_on c (frame_on s.state at (channel_at s.state at).bit p).content }
 
-put_here : (at : ℕ) (p : Form) (me you : Side) → at < length me.state.sending → (channel_at me.state at).packet ≡ None
+put_here : (at : ℕ) (p : PacketFields) (me you : Side) → at < length me.state.sending → (channel_at me.state at).packet ≡ None
     → KeptFrom at me you → KeptFrom at (holds at p me) you
 put_here at p me you within free k =
     let full : Channel = record { bit = (channel_at me.state at).bit; packet = Some p } in
@@ -77,21 +77,21 @@ put_here at p me you within free k =
     (subst Q (sym (eq-eqb at at refl))
     (kept_submit (channel_at me.state at) p (expected_at you.state at) (way at me) (returning at you) (me.put at) (you.given at) (me.freed at) free k))
 
-put_elsewhere : (c at : ℕ) (p : Form) (me you : Side) → (at ≡ c → ⊥)
+put_elsewhere : (c at : ℕ) (p : PacketFields) (me you : Side) → (at ≡ c → ⊥)
     → KeptFrom c me you → KeptFrom c (holds at p me) you
 put_elsewhere c at p me you other k =
     let full : Channel = record { bit = (channel_at me.state at).bit; packet = Some p } in
     let P : Channel → Type 0 = λ ch. Kept ch (expected_at you.state c) (way c me) (returning c you) (me.put c ++ packet_on c (frame_on me.state at (channel_at me.state at).bit p).content) (you.given c) (me.freed c) in
     let Q : Bool → Type 0 = λ t. Kept (channel_at me.state c) (expected_at you.state c) (way c me) (returning c you) (me.put c ++ cond t (p ∷ []) []) (you.given c) (me.freed c) in
-    let R : List Form → Type 0 = λ l. Kept (channel_at me.state c) (expected_at you.state c) (way c me) (returning c you) l (you.given c) (me.freed c) in
+    let R : List PacketFields → Type 0 = λ l. Kept (channel_at me.state c) (expected_at you.state c) (way c me) (returning c you) l (you.given c) (me.freed c) in
     subst P (sym (get_or-set_other me.state.sending at c full opening_channel (λ (same : c ≡ at). other (sym same))))
     (subst Q (sym (ne_eqb at c other)) (subst R (sym (append-nil (me.put c))) k))
 
-none_from : (o : Option Form) → is_none o ≡ true → o ≡ None
+none_from : (o : Option PacketFields) → is_none o ≡ true → o ≡ None
 none_from None e = refl
 none_from (Some p) e = cc
 
-put : (c at : ℕ) (p : Form) (me you : Side) → at < length me.state.sending → (channel_at me.state at).packet ≡ None
+put : (c at : ℕ) (p : PacketFields) (me you : Side) → at < length me.state.sending → (channel_at me.state at).packet ≡ None
     → KeptFrom c me you → KeptFrom c (holds at p me) you
 put c at p me you within free k =
     elim (cases_eq at c) [
@@ -103,12 +103,12 @@ put c at p me you within free k =
     ]
 
 -- the channel that holds the packet now
-held_at : (e : End) (at c : ℕ) (p : Form) → at < length e.sending → at ≡ c
+held_at : (e : End) (at c : ℕ) (p : PacketFields) → at < length e.sending → at ≡ c
     → channel_at (holding e at p) c ≡ record { bit = (channel_at e at).bit; packet = Some p }
 held_at e at c p within same =
     ap (λ (x : ℕ). channel_at (holding e at p) x) (sym same) ∙ get_or-set_same e.sending at (record { bit = (channel_at e at).bit; packet = Some p }) opening_channel within
 
-kept_puts_in : (c : ℕ) (p : Form) (me you : Side) (free : Option ℕ) → position is_free me.state.sending ≡ free
+kept_puts_in : (c : ℕ) (p : PacketFields) (me you : Side) (free : Option ℕ) → position is_free me.state.sending ≡ free
     → BothKept c me you → BothKept c (puts_in (submitted_on me.state p free) me) you
 kept_puts_in c p me you None is k = k
 kept_puts_in c p me you (Some at) is k =
@@ -166,17 +166,17 @@ takes_when refused f s =
       freed = λ c. s.freed c ++ freed_by (channel_at s.state c).packet (channel_at state c).packet;
     }
 
-freed_by-same : (o : Option Form) → freed_by o o ≡ []
+freed_by-same : (o : Option PacketFields) → freed_by o o ≡ []
 freed_by-same None = refl
 freed_by-same (Some p) = refl
 
 kept_refuses : (c : ℕ) (me you : Side) (f : Frame) → BothKept c me you → BothKept c (takes_when true f me) you
 kept_refuses c me you f k = record {
   forth =
-      (let P : List Form → Type 0 = λ l. Kept (channel_at me.state c) (expected_at you.state c) (way c me) (returning c you) (me.put c) (you.given c) l in
-      subst P (sym (ap (λ (l : List Form). me.freed c ++ l) (freed_by-same (channel_at me.state c).packet) ∙ append-nil (me.freed c))) k.forth);
+      (let P : List PacketFields → Type 0 = λ l. Kept (channel_at me.state c) (expected_at you.state c) (way c me) (returning c you) (me.put c) (you.given c) l in
+      subst P (sym (ap (λ (l : List PacketFields). me.freed c ++ l) (freed_by-same (channel_at me.state c).packet) ∙ append-nil (me.freed c))) k.forth);
   back =
-      (let P : List Form → Type 0 = λ l. Kept (channel_at you.state c) (expected_at me.state c) (way c you) (returning c me) (you.put c) l (you.freed c) in
+      (let P : List PacketFields → Type 0 = λ l. Kept (channel_at you.state c) (expected_at me.state c) (way c you) (returning c me) (you.put c) l (you.freed c) in
       subst P (sym (append-nil (me.given c))) k.back);
   mine = record { within = k.mine.within; bits = k.mine.bits };
   yours = k.yours;
@@ -201,7 +201,7 @@ kept_accepts c me you f rest at used k =
           (let P : List Passing → Type 0 = λ l. Kept (channel_at you.state c) (expected_at me.state c) l (returning c me) (you.put c) (me.given c) (you.freed c) in
           let Q : List Passing → Type 0 = λ l. Kept (channel_at you.state c) (expected_by (way_in c f) (expected_at me.state c)) l (returning c me) (you.put c) (me.given c ++ given_by (way_in c f) (expected_at me.state c)) (you.freed c) in
           let R : Bool → Type 0 = λ v. Kept (channel_at you.state c) v (way c you) (returning c me) (you.put c) (me.given c ++ given_by (way_in c f) (expected_at me.state c)) (you.freed c) in
-          let S : List Form → Type 0 = λ l. Kept (channel_at you.state c) (get_or (expected_after me.state.expected f.content) c false) (way c you) (returning c me) (you.put c) (me.given c ++ l) (you.freed c) in
+          let S : List PacketFields → Type 0 = λ l. Kept (channel_at you.state c) (get_or (expected_after me.state.expected f.content) c false) (way c you) (returning c me) (you.put c) (me.given c ++ l) (you.freed c) in
           subst S (sym here.gives)
           (subst R (sym here.expects)
           (subst Q (sym way_at)

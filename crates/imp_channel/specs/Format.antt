@@ -4,7 +4,7 @@
 -- has the channel in its lowest three places and the packet's bit in the next, and the packet follows. In a routes frame
 -- the distances follow, an octet each, that to IMP 1 first.
 use Rattle.std.specs.Prelude.{◌≡◌, ℕ, zero, suc, ◌+◌, ◌*◌, ◌/◌, ◌%◌, Bool, true, false, List, [], ◌∷◌, length, Result, Ok, Err, IsOk, nat_lt, nat_le, ◌==◌, if◌then◌else◌}
-use Rattle.packetiser.specs.Form.{Form}
+use Rattle.packetiser.specs.PacketFields.{PacketFields}
 use Rattle.packetiser.specs.Format as packets
 use Rattle.packetiser.specs.declared.fault.PacketFault.{PacketFault}
 use Rattle.packetiser.specs.declared.fault.PacketFault.TheVariants as packet_fault
@@ -62,7 +62,7 @@ fault_of packet_fault.NotCanonical = fault.NotCanonical
 fault_of packet_fault.BadLength = fault.BadLength
 fault_of packet_fault.OutOfMemory = fault.OutOfMemory
 
-abbrev pub carried_as : ℕ → Result Form PacketFault → Result Content ChannelFault
+abbrev pub carried_as : ℕ → Result PacketFields PacketFault → Result Content ChannelFault
 carried_as octet (Ok packet) = Ok (content.Packet (record { channel = octet % ACKS; bit = nat_le ACKS octet; packet = packet }))
 carried_as octet (Err e) = Err (fault_of e)
 

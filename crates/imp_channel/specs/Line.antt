@@ -1,6 +1,6 @@
 -- One end of a line: what each call makes of it and answers.
 use Rattle.std.specs.Prelude.{◌≡◌, ℕ, ◌+◌, Bool, true, false, not, List, [], ◌∷◌, ◌++◌, replicate, slice_index_or, slice_set, is_some, is_none, IsSome, position, Option, Some, None, Result, Ok, Err, nat_le, if◌then◌else◌}
-use Rattle.packetiser.specs.Form.{Form}
+use Rattle.packetiser.specs.PacketFields.{PacketFields}
 use Rattle.imp_channel.specs.Carriage.{Carriage}
 use Rattle.imp_channel.specs.declared.fault.ChannelFault.{ChannelFault}
 use Rattle.imp_channel.specs.declared.fault.ChannelFault.TheVariants as fault
@@ -48,29 +48,29 @@ is_free channel = is_none channel.packet
 abbrev pub frame_of : End → Content → Frame
 frame_of e content = record { acks = e.expected; content = content }
 
-abbrev pub frame_on : End → ℕ → Bool → Form → Frame
+abbrev pub frame_on : End → ℕ → Bool → PacketFields → Frame
 frame_on e c bit packet = frame_of e (content.Packet (record { channel = c; bit = bit; packet = packet }))
 
 -- this channel holds the packet until it is acknowledged
-abbrev pub holding : End → ℕ → Form → End
+abbrev pub holding : End → ℕ → PacketFields → End
 holding e c packet = record e { sending = slice_set e.sending c (record { bit = (channel_at e c).bit; packet = Some packet }) }
 
-abbrev pub submitted_on : End → Form → Option ℕ → Option (End × Frame)
+abbrev pub submitted_on : End → PacketFields → Option ℕ → Option (End × Frame)
 submitted_on e packet None = None
 submitted_on e packet (Some c) = Some (holding e c packet, frame_on e c (channel_at e c).bit packet)
 
 -- a packet goes into the lowest free channel, under that channel's bit; `None` where all are busy
-unfoldable pub submitted : End → Form → Option (End × Frame)
+unfoldable pub submitted : End → PacketFields → Option (End × Frame)
 submitted e packet = submitted_on e packet (position is_free e.sending)
 
 -- a packet that isn't put in is handed back: all channels are busy, or one is free and memory ran out
-abbrev pub IsRefusal : End → Form → SubmitFault → Type 0
+abbrev pub IsRefusal : End → PacketFields → SubmitFault → Type 0
 IsRefusal e packet (refusal.AllBusy back) = (back ≡ packet) × (submitted e packet ≡ None)
 IsRefusal e packet (refusal.OutOfMemory back) = (back ≡ packet) × IsSome (submitted e packet)
 
 -- Frames again, acknowledgements and routes.
 
-abbrev pub frames_of : End → ℕ → Bool → Option Form → List Frame
+abbrev pub frames_of : End → ℕ → Bool → Option PacketFields → List Frame
 frames_of e c bit None = []
 frames_of e c bit (Some packet) = frame_on e c bit packet ∷ []
 
@@ -149,10 +149,10 @@ is_fresh_answer (Err e) = false
 -- Resetting.
 
 -- the packets of the busy channels, in channel order
-abbrev pub packets_in : List Channel → List Form
+abbrev pub packets_in : List Channel → List PacketFields
 packets_in [] = []
 packets_in (channel ∷ rest) = packets_of channel.packet ++ packets_in rest
   where
-    packets_of : Option Form → List Form
+    packets_of : Option PacketFields → List PacketFields
     packets_of None = []
     packets_of (Some packet) = packet ∷ []

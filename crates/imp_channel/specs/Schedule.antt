@@ -1,6 +1,6 @@
 -- Two ends of a line under any schedule, and what it means that packets come out in order and once.
 use Rattle.std.specs.Prelude.{◌≡◌, ℕ, List, [], ◌∷◌, ◌++◌, slice_get, Option, Some, None, Result, Ok, Err, nat_le, ◌==◌, if◌then◌else◌}
-use Rattle.packetiser.specs.Form.{Form}
+use Rattle.packetiser.specs.PacketFields.{PacketFields}
 use Rattle.imp_channel.specs.declared.fault.ChannelFault.{ChannelFault}
 use Rattle.imp_channel.specs.declared.frame.Content.{Content}
 use Rattle.imp_channel.specs.declared.frame.Content.TheVariants as content
@@ -18,11 +18,11 @@ pub record Side : Type 0 where
   -- the place, in that list, of the frame that the other end took last; it never goes back
   pub reached : ℕ
   -- the packets put in here, by channel, oldest first
-  pub put : ℕ → List Form
+  pub put : ℕ → List PacketFields
   -- the other end's packets that were given here as fresh, by channel
-  pub given : ℕ → List Form
+  pub given : ℕ → List PacketFields
   -- the packets whose channel was busy before a frame was taken here, and free after it
-  pub freed : ℕ → List Form
+  pub freed : ℕ → List PacketFields
 
 -- a side that was just reset
 abbrev pub opening_side : Side
@@ -31,20 +31,20 @@ opening_side = record { state = opening; written = []; reached = 0; put = λ _. 
 -- what an end can do: a packet or a vector comes from above, and a frame is taken from its place in the list
 -- that the other end wrote
 pub data Act : Type 0 where
-  Submit : (packet : Form) → Act
+  Submit : (packet : PacketFields) → Act
   Resend : Act
   Acknowledge : Act
   Tell : (distances : List ℕ) → Act
   Take : (place : ℕ) → Act
 
 -- the packet that a frame carries on this channel
-abbrev pub packet_on : ℕ → Content → List Form
+abbrev pub packet_on : ℕ → Content → List PacketFields
 packet_on c (content.Packet carried) = if carried.channel == c then carried.packet ∷ [] else []
 packet_on c content.Nothing = []
 packet_on c (content.Routes distances) = []
 
 -- the packet that a frame with this answer gave on this channel
-abbrev pub given_on : ℕ → Content → Result Received ChannelFault → List Form
+abbrev pub given_on : ℕ → Content → Result Received ChannelFault → List PacketFields
 given_on c content (Ok (received.Fresh packet)) = packet_on c content
 given_on c content (Ok received.AckOnly) = []
 given_on c content (Ok (received.Routes distances)) = []
@@ -52,7 +52,7 @@ given_on c content (Ok received.Repeat) = []
 given_on c content (Err e) = []
 
 -- the packet of a channel that was busy and is free
-abbrev pub freed_by : Option Form → Option Form → List Form
+abbrev pub freed_by : Option PacketFields → Option PacketFields → List PacketFields
 freed_by None after = []
 freed_by (Some packet) None = packet ∷ []
 freed_by (Some packet) (Some other) = []

@@ -1,6 +1,6 @@
 //! Values that the rows share.
 
-ghost use Rattle.packetiser.specs.Form.{IsPacketHost};
+ghost use Rattle.packetiser.specs.PacketFields.{IsPacketHost};
 
 use bit_messages::{BitFault, Bits};
 use leader1822::{Flow, HostAddr, Link};

@@ -9,8 +9,8 @@ use Rattle.std.proofs.Common.{length-drop}
 use Rattle.bit_messages.specs.Octets.{octets_of, bits_of, spare_bits}
 use Rattle.bit_messages.proofs.OctetLemmas.{length-bits_of, octets_again, bits_again}
 use Rattle.leader1822.specs.Host.{Host, address_octet}
-use Rattle.packetiser.specs.Form.{Form, IsForm, IsPacketHost, IsPiece, IsAnswer, Carries}
-use Rattle.packetiser.specs.Format.{spelling, read_of, kind_octet, kind_of, host_of, is_address, is_short, is_not_canonical, is_bad_length, bit_count, octet_count, is_data, is_last, place_of, place_octet, form_of}
+use Rattle.packetiser.specs.PacketFields.{PacketFields, IsPacket, IsPacketHost, IsPiece, IsAnswer, Carries}
+use Rattle.packetiser.specs.Format.{spelling, read_of, kind_octet, kind_of, host_of, is_address, is_short, is_not_canonical, is_bad_length, bit_count, octet_count, is_data, is_last, place_of, place_octet, fields_of}
 use Rattle.packetiser.specs.declared.packet.PacketKind.{PacketKind}
 use Rattle.packetiser.specs.declared.packet.PacketKind.TheVariants as kind
 use Rattle.packetiser.specs.declared.fault.PacketFault.{PacketFault}
@@ -117,12 +117,12 @@ good_from octets e =
     good_by (is_data octets) (is_last octets) (bit_count octets) e
 
 -- the three tests of octets, where none of them refuses
-pub record IsPacket (octets : List ℕ) : Type 0 where
+pub record SpellsPacket (octets : List ℕ) : Type 0 where
   pub long : IsLong octets
   pub canonical : IsCanonical octets
   pub good : IsGoodCount (is_data octets) (is_last octets) (bit_count octets)
 
-pub packet_from : (octets : List ℕ) → is_short octets ≡ false → is_not_canonical octets ≡ false → is_bad_length octets ≡ false → IsPacket octets
+pub packet_from : (octets : List ℕ) → is_short octets ≡ false → is_not_canonical octets ≡ false → is_bad_length octets ≡ false → SpellsPacket octets
 packet_from octets long canonical good = record { long = long_from octets long; canonical = canonical_from octets canonical; good = good_from octets good }
 
 -- ---- what is read is a packet
@@ -143,14 +143,14 @@ length-read octets h =
     length-take-le (bit_count octets) (bits_of (drop 8 octets)) enough
 
 -- eight bits are an octet
-units_of_eight : (octets : List ℕ) → IsPacket octets → bit_count octets % 8 ≡ 0
+units_of_eight : (octets : List ℕ) → SpellsPacket octets → bit_count octets % 8 ≡ 0
 units_of_eight octets h = elim (cases_Bool (is_data octets)) [
   | inl piece ↦ (let units : bit_count octets % 16 ≡ 0 = h.good.units piece in omega arith)
   | inr answer ↦ (let none : bit_count octets ≡ 0 = h.good.empty answer in omega arith)
 ]
 
-pub form_fits : (octets : List ℕ) → ((k : ℕ) → get_or octets k 0 < 256) → IsPacket octets → IsForm (form_of octets)
-form_fits octets small h =
+pub fields_fit : (octets : List ℕ) → ((k : ℕ) → get_or octets k 0 < 256) → SpellsPacket octets → IsPacket (fields_of octets)
+fields_fit octets small h =
     let size : length (take (bit_count octets) (bits_of (drop 8 octets))) ≡ bit_count octets = length-read octets h.long in
     record {
       source = address_is (get_or octets 1 0) (small 1) h.canonical.source;
@@ -181,7 +181,7 @@ same_octets : {a b c d e f g h a' b' c' d' e' f' g' h' : ℕ} {rest rest' : List
     → a ∷ b ∷ c ∷ d ∷ e ∷ f ∷ g ∷ h ∷ rest ≡ a' ∷ b' ∷ c' ∷ d' ∷ e' ∷ f' ∷ g' ∷ h' ∷ rest'
 same_octets pa pb pc pd pe pf pg ph pr = cc
 
-pub spelled : (octets : List ℕ) → ((k : ℕ) → get_or octets k 0 < 256) → IsPacket octets → octets ≡ spelling (form_of octets)
+pub spelled : (octets : List ℕ) → ((k : ℕ) → get_or octets k 0 < 256) → SpellsPacket octets → octets ≡ spelling (fields_of octets)
 spelled [] small h = absurd (omega (arith, h.long.header))
 spelled (a ∷ []) small h = absurd (omega (arith, h.long.header))
 spelled (a ∷ b ∷ []) small h = absurd (omega (arith, h.long.header))
@@ -227,7 +227,7 @@ octets_are bits eights =
     record { again = again; count = sym (length-bits_of (octets_of bits)) ∙ ap length again }
 
 -- what a packet's kind says of the number of its bits
-record HasSize (p : Form) : Type 0 where
+record HasSize (p : PacketFields) : Type 0 where
   pub eights : length p.bits % 8 ≡ 0
   pub most : length p.bits ≤ 1008
 
@@ -246,7 +246,7 @@ none_of_seven a b c d e f g ea eb ec ed ee ef eg = rw (ea, eb, ec, ed, ee, ef, e
 none_of_four : (a b c d : Bool) → a ≡ false → b ≡ false → c ≡ false → d ≡ false → (a || b || c || d) ≡ false
 none_of_four a b c d ea eb ec ed = rw (ea, eb, ec, ed) refl
 
-pub long_again : (p : Form) → IsForm p → is_short (spelling p) ≡ false
+pub long_again : (p : PacketFields) → IsPacket p → is_short (spelling p) ≡ false
 unfolding is_short
 long_again p h =
     let size : (length p.bits % 8 ≡ 0) × (length p.bits ≤ 1008) = size_by p.kind p.place p.last (length p.bits) h.body in
@@ -276,7 +276,7 @@ answer_as kind.Data place last size h = refl
 answer_as kind.Rfnm place last size h = rw (h.first, h.only) refl
 answer_as kind.Dead place last size h = rw (h.first, h.only) refl
 
-pub canonical_again : (p : Form) → IsForm p → is_not_canonical (spelling p) ≡ false
+pub canonical_again : (p : PacketFields) → IsPacket p → is_not_canonical (spelling p) ≡ false
 unfolding is_not_canonical
 canonical_again p h =
     let size : (length p.bits % 8 ≡ 0) × (length p.bits ≤ 1008) = size_by p.kind p.place p.last (length p.bits) h.body in
@@ -301,7 +301,7 @@ good_as kind.Data place false size h = let full : size ≡ 1008 = h.full refl in
 good_as kind.Rfnm place last size h = let empty : size ≡ 0 = h.empty in rw empty refl
 good_as kind.Dead place last size h = let empty : size ≡ 0 = h.empty in rw empty refl
 
-pub good_again : (p : Form) → IsForm p → is_bad_length (spelling p) ≡ false
+pub good_again : (p : PacketFields) → IsPacket p → is_bad_length (spelling p) ≡ false
 unfolding is_bad_length
 good_again p h =
     let held : HoldsPlace p.place p.last = place_held p.place p.last h.place in
@@ -330,7 +330,7 @@ host_read a h =
     same_host_parts (address_octet a % 64) a.imp (address_octet a / 64) a.host imp host
 
 -- a packet by its parts
-packet_of : PacketKind → Host → Host → ℕ → ℕ → ℕ → Bool → List Bool → Form
+packet_of : PacketKind → Host → Host → ℕ → ℕ → ℕ → Bool → List Bool → PacketFields
 packet_of k s d l n place last bits = record { kind = k; source = s; destination = d; link = l; number = n; place = place; last = last; bits = bits }
 
 same_parts : {k k' : PacketKind} {s s' d d' : Host} {l l' n n' place place' : ℕ} {last last' : Bool} {bits bits' : List Bool}
@@ -338,56 +338,56 @@ same_parts : {k k' : PacketKind} {s s' d d' : Host} {l l' n n' place place' : �
     → packet_of k s d l n place last bits ≡ packet_of k' s' d' l' n' place' last' bits'
 same_parts kinds sources destinations links numbers places lasts all_bits = cc
 
-pub same_form : (p q : Form) → p.kind ≡ q.kind → p.source ≡ q.source → p.destination ≡ q.destination → p.link ≡ q.link → p.number ≡ q.number
+pub same_fields : (p q : PacketFields) → p.kind ≡ q.kind → p.source ≡ q.source → p.destination ≡ q.destination → p.link ≡ q.link → p.number ≡ q.number
     → p.place ≡ q.place → p.last ≡ q.last → p.bits ≡ q.bits → p ≡ q
 unfolding packet_of
-same_form p q kinds sources destinations links numbers places lasts all_bits = same_parts kinds sources destinations links numbers places lasts all_bits
+same_fields p q kinds sources destinations links numbers places lasts all_bits = same_parts kinds sources destinations links numbers places lasts all_bits
 
-pub form_again : (p : Form) → IsForm p → form_of (spelling p) ≡ p
-form_again p h =
+pub fields_again : (p : PacketFields) → IsPacket p → fields_of (spelling p) ≡ p
+fields_again p h =
     let size : (length p.bits % 8 ≡ 0) × (length p.bits ≤ 1008) = size_by p.kind p.place p.last (length p.bits) h.body in
     let o : AreOctets p.bits = octets_are p.bits size.0 in
     let held : HoldsPlace p.place p.last = place_held p.place p.last h.place in
     let count : bit_count (spelling p) ≡ length p.bits = omega arith in
-    same_form (form_of (spelling p)) p (kind_read p.kind) (host_read p.source h.source) (host_read p.destination h.destination) refl refl
+    same_fields (fields_of (spelling p)) p (kind_read p.kind) (host_read p.source h.source) (host_read p.destination h.destination) refl refl
     held.low held.high
     (ap (λ (n : ℕ). take n (bits_of (octets_of p.bits))) count ∙ ap (λ (b : List Bool). take (length p.bits) b) o.again ∙ take_all (length p.bits) p.bits (omega arith))
 
-pub read_again : (p : Form) → IsForm p → read_of (spelling p) ≡ Ok p
-read_again p h = rw (long_again p h, canonical_again p h, good_again p h) (ap Ok (form_again p h))
+pub read_again : (p : PacketFields) → IsPacket p → read_of (spelling p) ≡ Ok p
+read_again p h = rw (long_again p h, canonical_again p h, good_again p h) (ap Ok (fields_again p h))
 
 -- ---- what the reader makes
 
 -- what is read, given by its parts
-pub form_made : (octets : List ℕ) (p : Form) (body : List ℕ) (count : ℕ) → p.kind ≡ kind_of (get_or octets 0 0) → p.source ≡ host_of (get_or octets 1 0)
+pub fields_made : (octets : List ℕ) (p : PacketFields) (body : List ℕ) (count : ℕ) → p.kind ≡ kind_of (get_or octets 0 0) → p.source ≡ host_of (get_or octets 1 0)
     → p.destination ≡ host_of (get_or octets 2 0) → p.link ≡ get_or octets 3 0 → p.number ≡ get_or octets 4 0 → p.place ≡ place_of octets
-    → p.last ≡ is_last octets → p.bits ≡ take count (bits_of body) → body ≡ drop 8 octets → count ≡ bit_count octets → form_of octets ≡ p
-form_made octets p body count kinds sources destinations links numbers places lasts bits at counts =
-    same_form (form_of octets) p (sym kinds) (sym sources) (sym destinations) (sym links) (sym numbers) (sym places) (sym lasts)
+    → p.last ≡ is_last octets → p.bits ≡ take count (bits_of body) → body ≡ drop 8 octets → count ≡ bit_count octets → fields_of octets ≡ p
+fields_made octets p body count kinds sources destinations links numbers places lasts bits at counts =
+    same_fields (fields_of octets) p (sym kinds) (sym sources) (sym destinations) (sym links) (sym numbers) (sym places) (sym lasts)
     (ap (λ (n : ℕ). take n (bits_of (drop 8 octets))) (sym counts) ∙ ap (λ (ns : List ℕ). take count (bits_of ns)) (sym at) ∙ sym bits)
 
 -- ---- what is read was a packet's spelling
 
-pub same_read : (p q : Form) → (let a : Result Form PacketFault = Ok p in let b : Result Form PacketFault = Ok q in a ≡ b) → p ≡ q
+pub same_read : (p q : PacketFields) → (let a : Result PacketFields PacketFault = Ok p in let b : Result PacketFields PacketFault = Ok q in a ≡ b) → p ≡ q
 same_read p q e = cc
 
 -- no reason to refuse, by the three tests
-record ReadsBy (octets : List ℕ) (p : Form) : Type 0 where
-  pub packet : IsPacket octets
-  pub same : form_of octets ≡ p
+record ReadsBy (octets : List ℕ) (p : PacketFields) : Type 0 where
+  pub packet : SpellsPacket octets
+  pub same : fields_of octets ≡ p
 
-read_by : (octets : List ℕ) (p : Form) (short canonical bad : Bool) → is_short octets ≡ short → is_not_canonical octets ≡ canonical → is_bad_length octets ≡ bad
+read_by : (octets : List ℕ) (p : PacketFields) (short canonical bad : Bool) → is_short octets ≡ short → is_not_canonical octets ≡ canonical → is_bad_length octets ≡ bad
     → read_of octets ≡ Ok p → ReadsBy octets p
 read_by octets p true canonical bad s n b read = absurd (let refused : Err fault.Short ≡ Ok p = rw s at read in cc)
 read_by octets p false true bad s n b read = absurd (let refused : Err fault.NotCanonical ≡ Ok p = rw (s, n) at read in cc)
 read_by octets p false false true s n b read = absurd (let refused : Err fault.BadLength ≡ Ok p = rw (s, n, b) at read in cc)
-read_by octets p false false false s n b read = record { packet = packet_from octets s n b; same = same_read (form_of octets) p (rw (s, n, b) at read) }
+read_by octets p false false false s n b read = record { packet = packet_from octets s n b; same = same_read (fields_of octets) p (rw (s, n, b) at read) }
 
-pub read_is : (octets : List ℕ) (p : Form) → All (λ n. n < 256) octets → read_of octets ≡ Ok p → IsForm p × (octets ≡ spelling p)
+pub read_is : (octets : List ℕ) (p : PacketFields) → All (λ n. n < 256) octets → read_of octets ≡ Ok p → IsPacket p × (octets ≡ spelling p)
 read_is octets p all read =
     let small : (k : ℕ) → get_or octets k 0 < 256 = λ k. elim (cases_lt k (length octets)) [
       | inl lt ↦ all k 0 lt
       | inr ge ↦ (let past : get_or octets k 0 ≡ 0 = get_or_past octets k 0 ge in rw past (omega arith))
     ] in
     let r : ReadsBy octets p = read_by octets p (is_short octets) (is_not_canonical octets) (is_bad_length octets) refl refl refl read in
-    (subst IsForm r.same (form_fits octets small r.packet), spelled octets small r.packet ∙ ap spelling r.same)
+    (subst IsPacket r.same (fields_fit octets small r.packet), spelled octets small r.packet ∙ ap spelling r.same)

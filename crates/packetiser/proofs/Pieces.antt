@@ -5,7 +5,7 @@ use Rattle.std.proofs.Common.{map, ◌++◌, []}
 use Rattle.std.proofs.lemmas.List.FromFn.{map-range_with_len_more}
 use Rattle.leader1822.specs.declared.address.Flow.{Flow}
 use Rattle.bit_messages.specs.Body.{body, filling}
-use Rattle.packetiser.specs.Form.{IsPiece}
+use Rattle.packetiser.specs.PacketFields.{IsPiece}
 use Rattle.packetiser.specs.Pieces.{piece_count, piece, IsBodySize, piece_packet, places}
 
 -- a body has the size of one

@@ -8,7 +8,7 @@ use Rattle.std.proofs.lemmas.List.{take-append-drop, drop-drop, drop_all, length
 use Rattle.std.proofs.lemmas.List.Elements.{All-cons, All-nil, All-head, All-tail, All-weaker, All-filter, All-map}
 use Rattle.leader1822.specs.Mailboxes.{same_flow}
 use Rattle.leader1822.specs.declared.address.Flow.{Flow}
-use Rattle.packetiser.specs.Form.{Form, flow_of}
+use Rattle.packetiser.specs.PacketFields.{PacketFields, flow_of}
 use Rattle.packetiser.specs.Pieces.{piece_count, piece, piece_packet, places, packets_of, IsPieceOf}
 use Rattle.packetiser.specs.Slots.{SlotState, IsPieceFor, slot_of, pieces_at, kept_for, gathered, with_piece, put, without, outcome_of, answer_of, answer_by, added, added_by, has_room, is_old, rules_out, is_whole_from, joined, comes_before}
 use Rattle.packetiser.specs.Rejoining.{came, all_came, pieces_of, Holds, answer_to, after}
@@ -33,7 +33,7 @@ piece_and_rest w place =
 nothing_behind : (w : List Bool) (place : ℕ) → place ≡ piece_count w → from_piece w place ≡ []
 nothing_behind w place end = drop_all (1008 * place) w (omega (arith, end))
 
-joined_from : (w : List Bool) (place : ℕ) (ps : List Form) → All (IsPieceOf w) ps → is_whole_from place ps ≡ true → joined ps ≡ from_piece w place
+joined_from : (w : List Bool) (place : ℕ) (ps : List PacketFields) → All (IsPieceOf w) ps → is_whole_from place ps ≡ true → joined ps ≡ from_piece w place
 joined_from w place [] all whole = absurd (cc)
 joined_from w place (q ∷ qs) all whole =
     let here : IsPieceOf w q = All-head (IsPieceOf w) q qs all in
@@ -48,11 +48,11 @@ joined_from w place (q ∷ qs) all whole =
     ] in
     ap (λ (b : List Bool). b ++ joined qs) (here.bits ∙ ap (piece w) at) ∙ ap (λ (b : List Bool). piece w place ++ b) rest ∙ piece_and_rest w place
 
-pub joined_whole : (w : List Bool) (ps : List Form) → All (IsPieceOf w) ps → is_whole_from 0 ps ≡ true → joined ps ≡ w
+pub joined_whole : (w : List Bool) (ps : List PacketFields) → All (IsPieceOf w) ps → is_whole_from 0 ps ≡ true → joined ps ≡ w
 joined_whole w ps all whole = joined_from w 0 ps all whole
 
 -- pieces at all places from one on
-places_from : (w : List Bool) (place count : ℕ) (ps : List Form) → All (IsPieceOf w) ps → map (λ q. q.place) ps ≡ range_with_len place count → place + count ≡ piece_count w
+places_from : (w : List Bool) (place count : ℕ) (ps : List PacketFields) → All (IsPieceOf w) ps → map (λ q. q.place) ps ≡ range_with_len place count → place + count ≡ piece_count w
     → joined ps ≡ from_piece w place
 places_from w place zero ps all same end =
     let none : length ps ≡ 0 = sym (length-map ps (λ q. q.place)) ∙ ap length same in
@@ -61,11 +61,11 @@ places_from w place (suc count) [] all same end = absurd (cc)
 places_from w place (suc count) (q ∷ qs) all same end =
     let here : IsPieceOf w q = All-head (IsPieceOf w) q qs all in
     let at : q.place ≡ place = cc in
-    let others : map (λ (r : Form). r.place) qs ≡ range_with_len (place + 1) count = cc in
+    let others : map (λ (r : PacketFields). r.place) qs ≡ range_with_len (place + 1) count = cc in
     let rest : joined qs ≡ from_piece w (place + 1) = places_from w (place + 1) count qs (All-tail (IsPieceOf w) q qs all) others (omega (arith, end)) in
     ap (λ (b : List Bool). b ++ joined qs) (here.bits ∙ ap (piece w) at) ∙ ap (λ (b : List Bool). piece w place ++ b) rest ∙ piece_and_rest w place
 
-pub joined_places : (w : List Bool) (ps : List Form) → All (IsPieceOf w) ps → map (λ q. q.place) ps ≡ places (piece_count w) → joined ps ≡ w
+pub joined_places : (w : List Bool) (ps : List PacketFields) → All (IsPieceOf w) ps → map (λ q. q.place) ps ≡ places (piece_count w) → joined ps ≡ w
 joined_places w ps all same = places_from w 0 (piece_count w) ps all same (zero-add (piece_count w))
 
 -- ---- the packets of a body
@@ -98,7 +98,7 @@ places_whole flow number w a (suc (suc count)) end some =
 pub packets_whole : (flow : Flow) (number : ℕ) (w : List Bool) → 0 < length w → is_whole_from 0 (packets_of flow number w) ≡ true
 packets_whole flow number w some = places_whole flow number w 0 (piece_count w) (zero-add (piece_count w)) (omega arith)
 
-map_places : (flow : Flow) (number : ℕ) (w : List Bool) (js : List ℕ) → map (λ (q : Form). q.place) (map (piece_packet flow number w) js) ≡ js
+map_places : (flow : Flow) (number : ℕ) (w : List Bool) (js : List ℕ) → map (λ (q : PacketFields). q.place) (map (piece_packet flow number w) js) ≡ js
 map_places flow number w [] = refl
 map_places flow number w (j ∷ js) = ap (λ (is : List ℕ). j ∷ is) (map_places flow number w js)
 
@@ -237,7 +237,7 @@ with_range flow number w ks a (suc count) k low high fresh = elim (cases_eq a k)
       let rest : with_piece (piece_packet flow number w k) (map (piece_packet flow number w) (filter (came ks) (range_with_len (a + 1) count)))
       ≡ map (piece_packet flow number w) (filter (came (k ∷ ks)) (range_with_len (a + 1) count)) = with_range flow number w ks (a + 1) count k (omega arith) (omega arith) fresh in
       elim (cases_Bool (came ks a)) [
-        | inl e ↦ rw (other, e, below) (ap (λ (ps : List Form). piece_packet flow number w a ∷ ps) rest)
+        | inl e ↦ rw (other, e, below) (ap (λ (ps : List PacketFields). piece_packet flow number w a ∷ ps) rest)
         | inr e ↦ rw (other, e) rest
       ])
 ]
@@ -298,13 +298,13 @@ slot_without_other (t ∷ ts) f g other = elim (cases_Bool (same_flow g t.flow))
   ]
 ]
 
-slot_by_outcome : (o : Outcome) (slots : List SlotState) (p : Form) (f : Flow) → same_flow f (flow_of p) ≡ false → slot_of (added_by o slots p) f ≡ slot_of slots f
+slot_by_outcome : (o : Outcome) (slots : List SlotState) (p : PacketFields) (f : Flow) → same_flow f (flow_of p) ≡ false → slot_of (added_by o slots p) f ≡ slot_of slots f
 slot_by_outcome outcome.Kept slots p f other = slot_put_other (record { flow = flow_of p; number = p.number; pieces = gathered slots p }) slots f other
 slot_by_outcome outcome.Whole slots p f other = slot_without_other slots f (flow_of p) other
 slot_by_outcome outcome.Old slots p f other = refl
 slot_by_outcome outcome.Full slots p f other = refl
 
-pub slot_added_other : (slots : List SlotState) (p : Form) (f : Flow) → same_flow f (flow_of p) ≡ false → slot_of (added slots p) f ≡ slot_of slots f
+pub slot_added_other : (slots : List SlotState) (p : PacketFields) (f : Flow) → same_flow f (flow_of p) ≡ false → slot_of (added slots p) f ≡ slot_of slots f
 slot_added_other slots p f other = slot_by_outcome (outcome_of slots p) slots p f other
 
 -- ---- one piece of a message
@@ -327,13 +327,13 @@ record Comes (flow : Flow) (number : ℕ) (w : List Bool) (ks : List ℕ) (k : �
 
 comes : (flow : Flow) (number : ℕ) (w : List Bool) (ks : List ℕ) (k : ℕ) (slots : List SlotState) → Holds flow number w ks slots → k < piece_count w → Comes flow number w ks k slots
 comes flow number w ks k slots h lt =
-    let p : Form = piece_packet flow number w k in
+    let p : PacketFields = piece_packet flow number w k in
     let low : All (λ (j : ℕ). j < piece_count w) (filter (came ks) (places (piece_count w))) = All-filter (came ks) (λ (j : ℕ). j < piece_count w) (places (piece_count w))
     (All-weaker (λ j. (0 ≤ j) × (j < 0 + piece_count w)) (λ j. j < piece_count w) (λ j b. let high : j < 0 + piece_count w = b.1 in omega arith) (places (piece_count w)) (range_within 0 (piece_count w))) in
     let all : came ks k ≡ false → gathered slots p ≡ pieces_of flow number w (k ∷ ks) =
     λ fresh. ap (with_piece p) h.pieces ∙ with_range flow number w ks 0 (piece_count w) k (omega arith) (omega (arith, lt)) fresh in
     record {
-      old = ap (λ (ps : List Form). is_old ps p) h.pieces ∙ rules_same flow number w k (filter (came ks) (places (piece_count w))) lt low ∙ any_in_range (came ks) 0 (piece_count w) k (omega arith) (omega (arith, lt));
+      old = ap (λ (ps : List PacketFields). is_old ps p) h.pieces ∙ rules_same flow number w k (filter (came ks) (places (piece_count w))) lt low ∙ any_in_range (came ks) 0 (piece_count w) k (omega arith) (omega (arith, lt));
       together = all;
       whole = λ fresh. ap (is_whole_from 0) (all fresh) ∙ whole_range flow number w (came (k ∷ ks)) 0 (piece_count w) (zero-add (piece_count w)) (omega (arith, lt));
     }
@@ -347,7 +347,7 @@ pieces_are flow number w ks = All-map (IsPieceOf w) (piece_packet flow number w)
 pub answered : (flow : Flow) (number : ℕ) (w : List Bool) (slots : List SlotState) (ks : List ℕ) (k : ℕ) → Holds flow number w ks slots → k < piece_count w
     → answer_of slots (piece_packet flow number w k) ≡ answer_to w ks k
 answered flow number w slots ks k h lt =
-    let p : Form = piece_packet flow number w k in
+    let p : PacketFields = piece_packet flow number w k in
     let known : Comes flow number w ks k slots = comes flow number w ks k slots h lt in
     elim (cases_Bool (came ks k)) [
       | inl e ↦ (
@@ -367,7 +367,7 @@ answered flow number w slots ks k h lt =
 pub still_held : (flow : Flow) (number : ℕ) (w : List Bool) (slots : List SlotState) (ks : List ℕ) (k : ℕ) → Holds flow number w ks slots → k < piece_count w
     → all_came w (k ∷ ks) ≡ false → Holds flow number w (k ∷ ks) (added slots (piece_packet flow number w k))
 still_held flow number w slots ks k h lt missing =
-    let p : Form = piece_packet flow number w k in
+    let p : PacketFields = piece_packet flow number w k in
     let known : Comes flow number w ks k slots = comes flow number w ks k slots h lt in
     let s : SlotState = record { flow = flow_of p; number = number; pieces = gathered slots p } in
     let P : Outcome → Type 0 = λ o. Holds flow number w (k ∷ ks) (added_by o slots p) in

@@ -15,7 +15,7 @@ use Rattle.std.specs.List.{slice_get}
 use Rattle.leader1822.specs.Mailboxes.{same_flow}
 use Rattle.leader1822.specs.Host.{same_host}
 use Rattle.leader1822.specs.declared.address.Flow.{Flow}
-use Rattle.packetiser.specs.Form.{Form, flow_of}
+use Rattle.packetiser.specs.PacketFields.{PacketFields, flow_of}
 use Rattle.packetiser.specs.Slots.{SlotState, IsSlot, IsInOrder, IsTable, IsPieceFor, numbers_of, is_below, comes_before, slot_of, pieces_at, kept_for, gathered, with_piece, put, without, kept, outcome_of, has_room, is_old, is_whole_from, joined}
 use Rattle.packetiser.specs.declared.packet.PacketKind.TheVariants as kind
 use Rattle.packetiser.specs.declared.reassembly.Outcome.TheVariants as outcome
@@ -188,21 +188,21 @@ insert_later x xs n y = let more : 1 + n ≡ suc n = omega arith in rw more refl
 set_later : {X : Type 0} (x : X) (xs : List X) (n : ℕ) (y : X) → set (x ∷ xs) (1 + n) y ≡ x ∷ set xs n y
 set_later x xs n y = let more : 1 + n ≡ suc n = omega arith in rw more refl
 
-pub with_piece_is : (p : Form) (ps : List Form) → with_piece p ps ≡ insert ps (position_or_len (λ q. not (nat_lt q.place p.place)) ps) p
+pub with_piece_is : (p : PacketFields) (ps : List PacketFields) → with_piece p ps ≡ insert ps (position_or_len (λ q. not (nat_lt q.place p.place)) ps) p
 with_piece_is p [] = refl
 with_piece_is p (q ∷ qs) = elim (cases_Bool (nat_lt q.place p.place)) [
-  | inl e ↦ rw e (ap (λ (r : List Form). q ∷ r) (with_piece_is p qs) ∙ sym (insert_later q qs (position_or_len (λ (r : Form). not (nat_lt r.place p.place)) qs) p))
+  | inl e ↦ rw e (ap (λ (r : List PacketFields). q ∷ r) (with_piece_is p qs) ∙ sym (insert_later q qs (position_or_len (λ (r : PacketFields). not (nat_lt r.place p.place)) qs) p))
   | inr e ↦ rw e refl
 ]
 
-pub All_with_piece : (P : Form → Type 0) (p : Form) (ps : List Form) → P p → All P ps → All P (with_piece p ps)
+pub All_with_piece : (P : PacketFields → Type 0) (p : PacketFields) (ps : List PacketFields) → P p → All P ps → All P (with_piece p ps)
 All_with_piece P p [] here all = All-cons P p [] here all
 All_with_piece P p (q ∷ qs) here all = elim (cases_Bool (nat_lt q.place p.place)) [
   | inl e ↦ rw e (All-cons P q (with_piece p qs) (All-head P q qs all) (All_with_piece P p qs here (All-tail P q qs all)))
   | inr e ↦ rw e (All-cons P p (q ∷ qs) here all)
 ]
 
-pub length-with_piece : (p : Form) (ps : List Form) → length (with_piece p ps) ≡ length ps + 1
+pub length-with_piece : (p : PacketFields) (ps : List PacketFields) → length (with_piece p ps) ≡ length ps + 1
 length-with_piece p [] = refl
 length-with_piece p (q ∷ qs) = elim (cases_Bool (nat_lt q.place p.place)) [
   | inl e ↦ rw e (omega (arith, length-with_piece p qs))
@@ -307,7 +307,7 @@ room_from false true room h = absurd (cc)
 room_from false false true h = refl
 room_from false false false h = absurd (cc)
 
-pub kept_table : (slots : List SlotState) (p : Form) → IsTable slots → p.kind ≡ kind.Data → outcome_of slots p ≡ outcome.Kept → IsTable (kept slots p)
+pub kept_table : (slots : List SlotState) (p : PacketFields) → IsTable slots → p.kind ≡ kind.Data → outcome_of slots p ≡ outcome.Kept → IsTable (kept slots p)
 kept_table slots p h piece kept_is =
     let s : SlotState = record { flow = flow_of p; number = p.number; pieces = gathered slots p } in
     let room : has_room slots (flow_of p) ≡ true = room_from (is_old (kept_for slots p) p) (is_whole_from 0 (gathered slots p)) (has_room slots (flow_of p)) kept_is in
@@ -341,26 +341,26 @@ without_table slots f h =
     }
 
 -- pieces and a packet, joined
-pub join_is : (p : Form) (ps front back : List Form) (n : ℕ) → n ≡ position_or_len (λ q. not (nat_lt q.place p.place)) ps → front ≡ take n ps → back ≡ drop n ps
+pub join_is : (p : PacketFields) (ps front back : List PacketFields) (n : ℕ) → n ≡ position_or_len (λ q. not (nat_lt q.place p.place)) ps → front ≡ take n ps → back ≡ drop n ps
     → (joined front ++ p.bits) ++ joined back ≡ joined (with_piece p ps)
 join_is p ps front back n at e f =
     let split : with_piece p ps ≡ front ++ p ∷ back = with_piece_is p ps ∙ ap (λ (k : ℕ). insert ps k p) (sym at) ∙ cc in
-    append_assoc (joined front) p.bits (joined back) ∙ sym (flat_map-append (λ (q : Form). q.bits) front (p ∷ back)) ∙ ap joined (sym split)
+    append_assoc (joined front) p.bits (joined back) ∙ sym (flat_map-append (λ (q : PacketFields). q.bits) front (p ∷ back)) ∙ ap joined (sym split)
 
 -- ---- a packet that is kept
 
-slot_with : Flow → ℕ → List Form → SlotState
+slot_with : Flow → ℕ → List PacketFields → SlotState
 slot_with f n ps = record { flow = f; number = n; pieces = ps }
 
-same_slot_with : {f g : Flow} {n m : ℕ} {ps qs : List Form} → f ≡ g → n ≡ m → ps ≡ qs → slot_with f n ps ≡ slot_with g m qs
+same_slot_with : {f g : Flow} {n m : ℕ} {ps qs : List PacketFields} → f ≡ g → n ≡ m → ps ≡ qs → slot_with f n ps ≡ slot_with g m qs
 same_slot_with ef en eq = cc
 
-same_slot : (f g : Flow) (n m : ℕ) (ps qs : List Form) → f ≡ g → n ≡ m → ps ≡ qs
+same_slot : (f g : Flow) (n m : ℕ) (ps qs : List PacketFields) → f ≡ g → n ≡ m → ps ≡ qs
     → (let a : SlotState = record { flow = f; number = n; pieces = ps } in let b : SlotState = record { flow = g; number = m; pieces = qs } in a ≡ b)
 unfolding slot_with
 same_slot f g n m ps qs ef en eq = same_slot_with ef en eq
 
-pub kept_at : (slots : List SlotState) (p : Form) (at : ℕ) (old new : SlotState) → IsInOrder slots → position (λ s. same_flow (flow_of p) s.flow) slots ≡ Some at
+pub kept_at : (slots : List SlotState) (p : PacketFields) (at : ℕ) (old new : SlotState) → IsInOrder slots → position (λ s. same_flow (flow_of p) s.flow) slots ≡ Some at
     → old ≡ get_or slots at old → new ≡ record { flow = old.flow; number = p.number; pieces = with_piece p (pieces_at (Some old) p.number) }
     → set slots at new ≡ kept slots p
 kept_at slots p at old new order place read is =
@@ -374,7 +374,7 @@ kept_at slots p at old new order place read is =
     (ap (λ (o : Option SlotState). with_piece p (pieces_at o p.number)) (sym found_is)) in
     ap (λ (t : SlotState). set slots at t) same ∙ ap (λ (k : ℕ). set slots k s) (sym i.first) ∙ sym (put_held s slots order i.any)
 
-pub kept_new : (slots : List SlotState) (p : Form) (at number : ℕ) (f : Flow) (pieces : List Form) → position (λ s. same_flow (flow_of p) s.flow) slots ≡ None
+pub kept_new : (slots : List SlotState) (p : PacketFields) (at number : ℕ) (f : Flow) (pieces : List PacketFields) → position (λ s. same_flow (flow_of p) s.flow) slots ≡ None
     → f ≡ flow_of p → number ≡ p.number → pieces ≡ p ∷ [] → at ≡ position_or_len (λ s. not (comes_before s.flow f)) slots
     → insert slots at (record { flow = f; number = number; pieces = pieces }) ≡ kept slots p
 kept_new slots p at number f pieces none flow numbers one place =

@@ -10,7 +10,7 @@ Gives said (Err fault.OutOfMemory) = IsOk said
 Gives said (Err e) = said ≡ Err e
 
 -- a call that is refused only for want of memory, and else gives a value with this property
-abbrev pub Makes : {T : Type 0} → (T → Type 0) → Result T PacketFault → Type 0
-Makes HasGiven (Ok x) = HasGiven x
-Makes HasGiven (Err fault.OutOfMemory) = Unit {0}
-Makes HasGiven (Err e) = ⊥
+abbrev pub GivesIfMemory : {T : Type 0} → (T → Type 0) → Result T PacketFault → Type 0
+GivesIfMemory HasGiven (Ok x) = HasGiven x
+GivesIfMemory HasGiven (Err fault.OutOfMemory) = Unit {0}
+GivesIfMemory HasGiven (Err e) = ⊥

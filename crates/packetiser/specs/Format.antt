@@ -5,7 +5,7 @@
 use Rattle.std.specs.Prelude.{ℕ, ◌+◌, ◌*◌, ◌/◌, ◌%◌, Bool, not, List, ◌∷◌, length, take, drop, slice_index, Result, Ok, Err, nat_lt, nat_le, ◌||◌, ◌&&◌, ◌==◌, if◌then◌else◌}
 use Rattle.bit_messages.specs.Octets.{bits_of, octets_of}
 use Rattle.leader1822.specs.Host.{Host, address_octet}
-use Rattle.packetiser.specs.Form.{Form}
+use Rattle.packetiser.specs.PacketFields.{PacketFields}
 use Rattle.packetiser.specs.declared.format.TheConstants.{MAX_IMP, HEADER_OCTETS, PACKET_BITS, MAX_PACKETS}
 use Rattle.packetiser.specs.declared.packet.PacketKind.{PacketKind}
 use Rattle.packetiser.specs.declared.packet.PacketKind.TheVariants as kind
@@ -23,7 +23,7 @@ abbrev pub place_octet : ℕ → Bool → ℕ
 place_octet place last = if last then place + 128 else place
 
 -- how a packet is written
-abbrev pub spelling : Form → List ℕ
+abbrev pub spelling : PacketFields → List ℕ
 spelling p =
     kind_octet p.kind ∷ address_octet p.source ∷ address_octet p.destination ∷ p.link ∷ p.number ∷ place_octet p.place p.last
     ∷ (length p.bits / 256) ∷ (length p.bits % 256) ∷ octets_of p.bits
@@ -83,8 +83,8 @@ is_bad_length octets =
     else not (bit_count octets == 0)
 
 -- what the octets say, where they spell a packet
-abbrev pub form_of : List ℕ → Form
-form_of octets = record {
+abbrev pub fields_of : List ℕ → PacketFields
+fields_of octets = record {
   kind = kind_of (slice_index octets 0);
   source = host_of (slice_index octets 1);
   destination = host_of (slice_index octets 2);
@@ -96,9 +96,9 @@ form_of octets = record {
 }
 
 -- the packet that the octets spell, or the first reason why they spell none
-abbrev pub read_of : List ℕ → Result Form PacketFault
+abbrev pub read_of : List ℕ → Result PacketFields PacketFault
 read_of octets =
     if is_short octets then Err fault.Short
     else (if is_not_canonical octets then Err fault.NotCanonical
     else (if is_bad_length octets then Err fault.BadLength
-    else Ok (form_of octets)))
+    else Ok (fields_of octets)))

@@ -1,5 +1,5 @@
 pub mod Faults
-pub mod Form
+pub mod PacketFields
 pub mod Format
 pub mod Pieces
 pub mod Slots

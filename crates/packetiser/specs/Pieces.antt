@@ -3,7 +3,7 @@ use Rattle.std.specs.Prelude.{◌≡◌, ℕ, ◌+◌, ◌-◌, ◌*◌, ◌/◌
 use Rattle.std.specs.List.{range_with_len}
 use Rattle.bit_messages.specs.declared.bits.TheConstants.{BODY_UNIT}
 use Rattle.leader1822.specs.declared.address.Flow.{Flow}
-use Rattle.packetiser.specs.Form.{Form}
+use Rattle.packetiser.specs.PacketFields.{PacketFields}
 use Rattle.packetiser.specs.declared.format.TheConstants.{PACKET_BITS, MAX_PACKETS}
 use Rattle.packetiser.specs.declared.packet.PacketKind.TheVariants as kind
 
@@ -26,7 +26,7 @@ abbrev pub places : ℕ → List ℕ
 places count = range_with_len 0 count
 
 -- the packet with the piece at a place; the last piece is marked
-abbrev pub piece_packet : Flow → ℕ → List Bool → ℕ → Form
+abbrev pub piece_packet : Flow → ℕ → List Bool → ℕ → PacketFields
 piece_packet flow number body place = record {
   kind = kind.Data;
   source = flow.source;
@@ -39,11 +39,11 @@ piece_packet flow number body place = record {
 }
 
 -- the packets of a message with this body and number
-abbrev pub packets_of : Flow → ℕ → List Bool → List Form
+abbrev pub packets_of : Flow → ℕ → List Bool → List PacketFields
 packets_of flow number body = map (piece_packet flow number body) (places (piece_count body))
 
 -- a packet carries a piece of this body
-pub record IsPieceOf (body : List Bool) (p : Form) : Type 0 where
+pub record IsPieceOf (body : List Bool) (p : PacketFields) : Type 0 where
   pub place : p.place < piece_count body
   pub last : p.last ≡ (p.place + 1 == piece_count body)
   pub bits : p.bits ≡ piece body p.place

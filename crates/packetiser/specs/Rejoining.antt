@@ -2,18 +2,18 @@
 use Rattle.std.specs.Prelude.{◌≡◌, ℕ, Bool, true, List, [], ◌∷◌, ◌++◌, length, map, filter, All, Contains, ◌==◌, if◌then◌else◌}
 use Rattle.std.specs.List.{list_any, list_all}
 use Rattle.leader1822.specs.declared.address.Flow.{Flow}
-use Rattle.packetiser.specs.Form.{Form, flow_of}
+use Rattle.packetiser.specs.PacketFields.{PacketFields, flow_of}
 use Rattle.packetiser.specs.Pieces.{piece_count, piece_packet, places}
 use Rattle.packetiser.specs.Slots.{SlotState, IsPieceFor, slot_of, pieces_at, has_room, is_whole_from, added, packets_in}
 use Rattle.packetiser.specs.declared.reassembly.Added.{Added}
 use Rattle.packetiser.specs.declared.reassembly.Added.TheVariants as answer
 
 -- each of these packets is one of those
-abbrev pub AreAmong : List Form → List Form → Type 0
+abbrev pub AreAmong : List PacketFields → List PacketFields → Type 0
 AreAmong ps qs = All (Contains qs) ps
 
 -- these are the pieces of a packet's message, the packet or what was held, one for each place up to the last one's
-pub record IsGathered (slots : List SlotState) (p : Form) (ps : List Form) : Type 0 where
+pub record IsGathered (slots : List SlotState) (p : PacketFields) (ps : List PacketFields) : Type 0 where
   pub of_message : All (IsPieceFor (flow_of p) p.number) ps
   pub among : AreAmong ps (packets_in slots ++ p ∷ [])
   pub in_places : map (λ q. q.place) ps ≡ places (length ps)
@@ -30,7 +30,7 @@ abbrev pub all_came : List Bool → List ℕ → Bool
 all_came w ks = list_all (came ks) (places (piece_count w))
 
 -- the pieces of a body that came, in order of their places
-abbrev pub pieces_of : Flow → ℕ → List Bool → List ℕ → List Form
+abbrev pub pieces_of : Flow → ℕ → List Bool → List ℕ → List PacketFields
 pieces_of flow number w ks = map (piece_packet flow number w) (filter (came ks) (places (piece_count w)))
 
 -- of the message with this body the pieces at these places are held, and no others, and a slot is there for it

@@ -5,7 +5,7 @@ use Rattle.std.specs.Prelude.{◌≡◌, ℕ, ◌+◌, ◌≤◌, ◌<◌, Bool,
 use Rattle.std.specs.List.{find, list_any, flat_map}
 use Rattle.leader1822.specs.Mailboxes.{same_flow}
 use Rattle.leader1822.specs.declared.address.Flow.{Flow}
-use Rattle.packetiser.specs.Form.{Form, flow_of}
+use Rattle.packetiser.specs.PacketFields.{PacketFields, flow_of}
 use Rattle.packetiser.specs.declared.format.TheConstants.{SLOTS}
 use Rattle.packetiser.specs.declared.packet.PacketKind.TheVariants as kind
 use Rattle.packetiser.specs.declared.reassembly.Outcome.{Outcome}
@@ -19,7 +19,7 @@ use Rattle.packetiser.specs.declared.reassembly.Added.TheVariants as answer
 pub record SlotState : Type 0 where
   pub flow : Flow
   pub number : ℕ
-  pub pieces : List Form
+  pub pieces : List PacketFields
 
 -- the numbers that a flow goes by
 abbrev pub numbers_of : Flow → List ℕ
@@ -35,7 +35,7 @@ abbrev pub comes_before : Flow → Flow → Bool
 comes_before f g = is_below (numbers_of f) (numbers_of g)
 
 -- a piece of the message of this flow and number
-pub record IsPieceFor (f : Flow) (number : ℕ) (p : Form) : Type 0 where
+pub record IsPieceFor (f : Flow) (number : ℕ) (p : PacketFields) : Type 0 where
   pub data_kind : p.kind ≡ kind.Data
   pub flow : flow_of p ≡ f
   pub same_number : p.number ≡ number
@@ -62,44 +62,44 @@ abbrev pub slot_of : List SlotState → Flow → Option SlotState
 slot_of slots f = find (λ s. same_flow f s.flow) slots
 
 -- what a slot holds of the message with this number
-abbrev pub pieces_at : Option SlotState → ℕ → List Form
+abbrev pub pieces_at : Option SlotState → ℕ → List PacketFields
 pieces_at None number = []
 pieces_at (Some s) number = if s.number == number then s.pieces else []
 
 -- the pieces of a packet's message that are held
-abbrev pub kept_for : List SlotState → Form → List Form
+abbrev pub kept_for : List SlotState → PacketFields → List PacketFields
 kept_for slots p = pieces_at (slot_of slots (flow_of p)) p.number
 
 -- all packets in the slots
-abbrev pub packets_in : List SlotState → List Form
+abbrev pub packets_in : List SlotState → List PacketFields
 packets_in slots = flat_map (λ s. s.pieces) slots
 
 -- ---- one packet
 
 -- a piece that is held leaves no place for a packet: it has the same place, or it is a last one below it, or the packet is
 -- a last one below the piece
-abbrev pub rules_out : Form → Form → Bool
+abbrev pub rules_out : PacketFields → PacketFields → Bool
 rules_out p q = q.place == p.place || q.last && nat_lt q.place p.place || p.last && nat_lt p.place q.place
 
-abbrev pub is_old : List Form → Form → Bool
+abbrev pub is_old : List PacketFields → PacketFields → Bool
 is_old pieces p = list_any (rules_out p) pieces
 
 -- the pieces with one more, in order of their places
-abbrev pub with_piece : Form → List Form → List Form
+abbrev pub with_piece : PacketFields → List PacketFields → List PacketFields
 with_piece p [] = p ∷ []
 with_piece p (q ∷ qs) = if nat_lt q.place p.place then q ∷ with_piece p qs else p ∷ q ∷ qs
 
 -- the pieces have the places from this one on, one after another, up to a last one, behind which there is none
-abbrev pub is_whole_from : ℕ → List Form → Bool
+abbrev pub is_whole_from : ℕ → List PacketFields → Bool
 is_whole_from place [] = false
 is_whole_from place (q ∷ qs) = q.place == place && (if q.last then length qs == 0 else is_whole_from (place + 1) qs)
 
 -- the bits of pieces, one after another
-abbrev pub joined : List Form → List Bool
+abbrev pub joined : List PacketFields → List Bool
 joined pieces = flat_map (λ q. q.bits) pieces
 
 -- the pieces of a packet's message, the packet among them
-abbrev pub gathered : List SlotState → Form → List Form
+abbrev pub gathered : List SlotState → PacketFields → List PacketFields
 gathered slots p = with_piece p (kept_for slots p)
 
 -- ---- the calls
@@ -120,34 +120,34 @@ abbrev pub has_room : List SlotState → Flow → Bool
 has_room slots f = list_any (λ s. same_flow f s.flow) slots || nat_lt (length slots) SLOTS
 
 -- what becomes of a packet. Pieces of another number than the packet's aren't looked at: they go
-abbrev pub outcome_of : List SlotState → Form → Outcome
+abbrev pub outcome_of : List SlotState → PacketFields → Outcome
 outcome_of slots p =
     if is_old (kept_for slots p) p then outcome.Old
     else (if is_whole_from 0 (gathered slots p) then outcome.Whole
     else (if has_room slots (flow_of p) then outcome.Kept
     else outcome.Full))
 
-abbrev pub answer_by : Outcome → List SlotState → Form → Added
+abbrev pub answer_by : Outcome → List SlotState → PacketFields → Added
 answer_by outcome.Kept slots p = answer.Kept
 answer_by outcome.Whole slots p = answer.Whole (joined (gathered slots p))
 answer_by outcome.Old slots p = answer.Old
 answer_by outcome.Full slots p = answer.Full
 
-abbrev pub answer_of : List SlotState → Form → Added
+abbrev pub answer_of : List SlotState → PacketFields → Added
 answer_of slots p = answer_by (outcome_of slots p) slots p
 
 -- the slots with a packet that is kept
-abbrev pub kept : List SlotState → Form → List SlotState
+abbrev pub kept : List SlotState → PacketFields → List SlotState
 kept slots p = put (record { flow = flow_of p; number = p.number; pieces = gathered slots p }) slots
 
-abbrev pub added_by : Outcome → List SlotState → Form → List SlotState
+abbrev pub added_by : Outcome → List SlotState → PacketFields → List SlotState
 added_by outcome.Kept slots p = kept slots p
 added_by outcome.Whole slots p = without slots (flow_of p)
 added_by outcome.Old slots p = slots
 added_by outcome.Full slots p = slots
 
 -- the slots after a packet
-abbrev pub added : List SlotState → Form → List SlotState
+abbrev pub added : List SlotState → PacketFields → List SlotState
 added slots p = added_by (outcome_of slots p) slots p
 
 -- an order of the slots, which isn't said: callers rely on each slot standing in it once

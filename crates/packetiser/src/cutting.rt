@@ -2,8 +2,8 @@
 
 ghost use Rattle.std.specs.Prelude.{◌≡◌, ◌+◌, ◌*◌, ◌<◌, ◌≤◌, length};
 ghost use Rattle.bit_messages.specs.Body.{body};
-ghost use Rattle.packetiser.specs.Faults.{Makes};
-ghost use Rattle.packetiser.specs.Form.{IsPacketHost};
+ghost use Rattle.packetiser.specs.Faults.{GivesIfMemory};
+ghost use Rattle.packetiser.specs.PacketFields.{IsPacketHost};
 ghost use Rattle.packetiser.specs.Pieces.{piece_count, piece, piece_packet, packets_of, IsBodySize};
 
 use crate::format::{MAX_PACKETS, PACKET_BITS};
@@ -18,7 +18,7 @@ use std::alloc::Global;
 pub fn cut(alloc: Global, message: &HostMessage, number: u8) -> Result<Vec<Packet>, PacketFault>
     requires source { IsPacketHost message.now.flow.source }
     requires destination { IsPacketHost message.now.flow.destination }
-    ensures { Makes (λ packets. packets.items ≡ packets_of message.now.flow number (body message.now.text)) result }
+    ensures { GivesIfMemory (λ packets. packets.items ≡ packets_of message.now.flow number (body message.now.text)) result }
 {
     let Ok(body) = message.text.bits().pad16(alloc) else {
         return Err(PacketFault::OutOfMemory);
@@ -50,7 +50,7 @@ fn piece_packet(
     requires destination { IsPacketHost flow.destination }
     requires size { IsBodySize (length body.now) }
     requires there { place < piece_count body.now }
-    ensures { Makes (λ packet. packet ≡ piece_packet flow number body.now place) result }
+    ensures { GivesIfMemory (λ packet. packet ≡ piece_packet flow number body.now place) result }
 {
     let last = place + 1 == piece_count(body);
     let bits = piece(alloc, body, place)?;
@@ -61,7 +61,7 @@ fn piece_packet(
 fn piece(alloc: Global, body: &Bits, place: usize) -> Result<Bits, PacketFault>
     requires few { place < MAX_PACKETS }
     requires there { place < piece_count body.now }
-    ensures { Makes (λ bits. bits ≡ piece body.now place) result }
+    ensures { GivesIfMemory (λ bits. bits ≡ piece body.now place) result }
 {
     let from = PACKET_BITS * place;
     let to = (from + PACKET_BITS).min(body.len());

@@ -5,7 +5,7 @@ ghost use Rattle.std.specs.Prelude.{◌≡◌, ℕ, ◌+◌, ◌*◌, ◌<◌, �
 ghost use Rattle.bit_messages.specs.Body.{body, most_text_bits};
 ghost use Rattle.leader1822.specs.Mailboxes.{same_flow};
 ghost use Rattle.leader1822.specs.declared.address.Flow.{Flow};
-ghost use Rattle.packetiser.specs.Form.{Form, IsForm, flow_of};
+ghost use Rattle.packetiser.specs.PacketFields.{PacketFields, IsPacket, flow_of};
 ghost use Rattle.packetiser.specs.Format.{spelling, read_of};
 ghost use Rattle.packetiser.specs.Pieces.{piece_count, piece_packet, places, packets_of, IsBodySize, IsPieceOf};
 ghost use Rattle.packetiser.specs.Slots.{SlotState, IsTable, IsPieceFor, slot_of, kept_for, gathered, joined, is_whole_from, outcome_of, answer_of, added, without, packets_in, in_some_order, pieces_at, has_room};
@@ -17,13 +17,13 @@ ghost use Rattle.packetiser.specs.declared.reassembly.Added.TheVariants as answe
 /// Each packet has one spelling, and only spellings are read.
 pub fn spellings()
     // what is written is read again
-    ensures again { (p : Form) → IsForm p → read_of (spelling p) ≡ Ok p }
+    ensures again { (p : PacketFields) → IsPacket p → read_of (spelling p) ≡ Ok p }
 
     // what is read is a packet, and was its spelling: nothing stands after its end
-    ensures read { (octets : List ℕ) (p : Form) → All (λ n. n < 256) octets → read_of octets ≡ Ok p → IsForm p × (octets ≡ spelling p) }
+    ensures read { (octets : List ℕ) (p : PacketFields) → All (λ n. n < 256) octets → read_of octets ≡ Ok p → IsPacket p × (octets ≡ spelling p) }
 
     // two packets are spelled differently
-    ensures one { (p q : Form) → IsForm p → IsForm q → spelling p ≡ spelling q → p ≡ q }
+    ensures one { (p q : PacketFields) → IsPacket p → IsPacket q → spelling p ≡ spelling q → p ≡ q }
 {}
 
 /// A message is cut into pieces that are its body.
@@ -43,10 +43,10 @@ pub fn cutting()
 /// Pieces of one body, one for each of its places, are the body, whatever packets they came in.
 pub fn joining()
     // pieces at the places from 0 on, one after another, up to a marked one
-    ensures up_to_last { (w : List Bool) (ps : List Form) → All (IsPieceOf w) ps → is_whole_from 0 ps ≡ true → joined ps ≡ w }
+    ensures up_to_last { (w : List Bool) (ps : List PacketFields) → All (IsPieceOf w) ps → is_whole_from 0 ps ≡ true → joined ps ≡ w }
 
     // pieces at all places
-    ensures all_places { (w : List Bool) (ps : List Form) → All (IsPieceOf w) ps → map (λ q. q.place) ps ≡ places (piece_count w) → joined ps ≡ w }
+    ensures all_places { (w : List Bool) (ps : List PacketFields) → All (IsPieceOf w) ps → map (λ q. q.place) ps ≡ places (piece_count w) → joined ps ≡ w }
 {}
 
 /// The pieces of one message rejoin to its body, in whatever order and however often they come.
@@ -59,30 +59,30 @@ pub fn rejoining()
     // and that packets and discards of other flows don't touch it
     ensures answered { (flow : Flow) (number : ℕ) (w : List Bool) (slots : List SlotState) (ks : List ℕ) (k : ℕ) → Holds flow number w ks slots → k < piece_count w → answer_of slots (piece_packet flow number w k) ≡ answer_to w ks k }
     ensures held { (flow : Flow) (number : ℕ) (w : List Bool) (slots : List SlotState) (ks : List ℕ) (k : ℕ) → Holds flow number w ks slots → k < piece_count w → all_came w (k ∷ ks) ≡ false → Holds flow number w (k ∷ ks) (added slots (piece_packet flow number w k)) }
-    ensures other_packets { (slots : List SlotState) (p : Form) (f : Flow) → same_flow f (flow_of p) ≡ false → slot_of (added slots p) f ≡ slot_of slots f }
+    ensures other_packets { (slots : List SlotState) (p : PacketFields) (f : Flow) → same_flow f (flow_of p) ≡ false → slot_of (added slots p) f ≡ slot_of slots f }
     ensures other_discards { (slots : List SlotState) (f g : Flow) → same_flow f g ≡ false → slot_of (without slots g) f ≡ slot_of slots f }
     ensures discarded { (slots : List SlotState) (f : Flow) → slot_of (without slots f) f ≡ None }
 {}
 
 /// A message of one packet needs no slot, and empties that of an older message of its flow.
 pub fn single()
-    ensures whole { (slots : List SlotState) (p : Form) → p.place ≡ 0 → p.last ≡ true → kept_for slots p ≡ [] → answer_of slots p ≡ answer.Whole p.bits }
-    ensures emptied { (slots : List SlotState) (p : Form) → p.place ≡ 0 → p.last ≡ true → kept_for slots p ≡ [] → added slots p ≡ without slots (flow_of p) }
+    ensures whole { (slots : List SlotState) (p : PacketFields) → p.place ≡ 0 → p.last ≡ true → kept_for slots p ≡ [] → answer_of slots p ≡ answer.Whole p.bits }
+    ensures emptied { (slots : List SlotState) (p : PacketFields) → p.place ≡ 0 → p.last ≡ true → kept_for slots p ≡ [] → added slots p ≡ without slots (flow_of p) }
     ensures none_taken { (slots : List SlotState) (f : Flow) → slot_of slots f ≡ None → without slots f ≡ slots }
-    ensures old { (slots : List SlotState) (p : Form) → p.place ≡ 0 → p.last ≡ true → 0 < length (kept_for slots p) → (answer_of slots p ≡ answer.Old) × (added slots p ≡ slots) }
+    ensures old { (slots : List SlotState) (p : PacketFields) → p.place ≡ 0 → p.last ≡ true → 0 < length (kept_for slots p) → (answer_of slots p ≡ answer.Old) × (added slots p ≡ slots) }
 {}
 
 /// What slots hold came in packets, and nothing is made of pieces of two messages.
 pub fn holding()
     // what is held was held, or is the packet that came
-    ensures added_only { (slots : List SlotState) (p : Form) → AreAmong (packets_in (added slots p)) (packets_in slots ++ p ∷ []) }
+    ensures added_only { (slots : List SlotState) (p : PacketFields) → AreAmong (packets_in (added slots p)) (packets_in slots ++ p ∷ []) }
     ensures discarded_only { (slots : List SlotState) (f : Flow) → AreAmong (packets_in (without slots f)) (packets_in slots) }
 
     // a whole body is joined of pieces of one message
-    ensures whole { (slots : List SlotState) (p : Form) → IsTable slots → p.kind ≡ kind.Data → outcome_of slots p ≡ outcome.Whole → IsGathered slots p (gathered slots p) × (answer_of slots p ≡ answer.Whole (joined (gathered slots p))) }
+    ensures whole { (slots : List SlotState) (p : PacketFields) → IsTable slots → p.kind ≡ kind.Data → outcome_of slots p ≡ outcome.Whole → IsGathered slots p (gathered slots p) × (answer_of slots p ≡ answer.Whole (joined (gathered slots p))) }
 
     // there stay at most eight slots, one for each flow, with pieces of one message each
-    ensures table { (slots : List SlotState) (p : Form) → IsTable slots → p.kind ≡ kind.Data → IsTable (added slots p) }
+    ensures table { (slots : List SlotState) (p : PacketFields) → IsTable slots → p.kind ≡ kind.Data → IsTable (added slots p) }
 
     // the order in which slots are named has each of them once
     ensures named { (slots : List SlotState) → IsPermutation (in_some_order slots) slots }

@@ -2,8 +2,8 @@
 
 ghost use Rattle.std.specs.Prelude.{◌≡◌, ℕ, ◌<◌, ◌≤◌, Bool, List, ◌∷◌, length, nat_lt, nat_le, Option, Some, None, Result, Ok, Err, IfOk, true};
 ghost use Rattle.std.specs.Bool.{OnFalse};
-ghost use Rattle.packetiser.specs.Form.{Form, flow_of, IsForm, IsPacketHost, Carries};
-ghost use Rattle.packetiser.specs.Faults.{Gives, Makes};
+ghost use Rattle.packetiser.specs.PacketFields.{PacketFields, flow_of, IsPacket, IsPacketHost, Carries};
+ghost use Rattle.packetiser.specs.Faults.{Gives, GivesIfMemory};
 ghost use Rattle.packetiser.specs.Format.{spelling, read_of, kind_octet, kind_of, host_of, is_address, is_short, is_not_canonical, is_bad_length, bit_count, octet_count, is_last, place_of, place_octet};
 
 use crate::PacketFault;
@@ -42,13 +42,13 @@ pub struct Packet {
 }
 
 impl Model for Packet {
-    ghost use Rattle.packetiser.specs.Form.{Form, IsForm};
+    ghost use Rattle.packetiser.specs.PacketFields.{PacketFields, IsPacket};
 
-    ghost Value = { Form };
+    ghost Value = { PacketFields };
 
     ghost view = { λ p. record { kind = p.kind; source = p.source; destination = p.destination; link = p.link.0; number = p.number; place = p.place; last = p.last; bits = p.bits } };
 
-    ghost invariant = { λ p. IsForm (record { kind = p.kind; source = p.source; destination = p.destination; link = p.link.0; number = p.number; place = p.place; last = p.last; bits = p.bits }) };
+    ghost invariant = { λ p. IsPacket (record { kind = p.kind; source = p.source; destination = p.destination; link = p.link.0; number = p.number; place = p.place; last = p.last; bits = p.bits }) };
 }
 
 impl Packet {
@@ -89,7 +89,7 @@ impl Packet {
     /// What it is.
     pub fn kind(&self) -> PacketKind
         ensures same { result ≡ self.now.kind }
-        ensures format { IsForm self.now }
+        ensures format { IsPacket self.now }
     {
         self.kind
     }
@@ -172,7 +172,7 @@ impl Packet {
 
     /// Its octets.
     pub fn write(&self, alloc: Global) -> Result<Vec<u8>, PacketFault>
-        ensures spelled { Makes (λ octets. octets.items ≡ spelling self.now) result }
+        ensures spelled { GivesIfMemory (λ octets. octets.items ≡ spelling self.now) result }
         ensures again { IfOk result (λ octets. read_of octets.items ≡ Ok self.now) }
     {
         let Ok(bits) = self.bits.to_octets(alloc) else {

@@ -4,8 +4,8 @@ ghost use Rattle.std.specs.Prelude.{◌≡◌, ℕ, ◌<◌, ◌≤◌, ◌++◌
 ghost use Rattle.std.specs.List.{position, position_or_len, list_any};
 ghost use Rattle.std.specs.Option.{option_copied};
 ghost use Rattle.leader1822.specs.Mailboxes.{same_flow};
-ghost use Rattle.packetiser.specs.Faults.{Makes};
-ghost use Rattle.packetiser.specs.Form.{Form, flow_of};
+ghost use Rattle.packetiser.specs.Faults.{GivesIfMemory};
+ghost use Rattle.packetiser.specs.PacketFields.{PacketFields, flow_of};
 ghost use Rattle.packetiser.specs.Slots.{SlotState, comes_before, pieces_at, kept_for, is_old, with_piece, is_whole_from, joined, gathered, without, put, has_room, outcome_of, answer_of, added, kept, in_some_order, slot_of, IsTable, IsInOrder};
 
 use crate::format::SLOTS;
@@ -94,7 +94,7 @@ impl Slot {
 
     /// Takes one more piece; pieces of another number go.
     fn take(&mut self, alloc: Global, packet: Packet) -> Result<(), PacketFault>
-        ensures taken { Makes (λ _. self.new ≡ record { flow = self.old.flow; number = packet.number; pieces = with_piece packet (pieces_at (Some self.old) packet.number) }) result }
+        ensures taken { GivesIfMemory (λ _. self.new ≡ record { flow = self.old.flow; number = packet.number; pieces = with_piece packet (pieces_at (Some self.old) packet.number) }) result }
         ensures err { OnErr result (self.new ≡ self.old) }
     {
         let number = packet.number();
@@ -162,7 +162,7 @@ impl Reassembly {
     /// piece is Full. Without memory nothing changes.
     pub fn add(&mut self, alloc: Global, packet: Packet) -> Result<Added, PacketFault>
         requires { packet.kind ≡ PacketKind.Data }
-        ensures exact { Makes (λ answer. (answer ≡ answer_of self.old packet) × (self.new ≡ added self.old packet)) result }
+        ensures exact { GivesIfMemory (λ answer. (answer ≡ answer_of self.old packet) × (self.new ≡ added self.old packet)) result }
         ensures err { OnErr result (self.new ≡ self.old) }
     {
         match self.outcome(&packet) {
@@ -208,7 +208,7 @@ impl Reassembly {
     fn keep(&mut self, alloc: Global, packet: Packet) -> Result<(), PacketFault>
         requires piece { packet.kind ≡ PacketKind.Data }
         requires room { outcome_of self.old packet ≡ Outcome.Kept }
-        ensures kept { Makes (λ _. self.new ≡ kept self.old packet) result }
+        ensures kept { GivesIfMemory (λ _. self.new ≡ kept self.old packet) result }
         ensures err { OnErr result (self.new ≡ self.old) }
     {
         match place_of(&self.slots, &packet.flow()) {
@@ -227,7 +227,7 @@ fn fill_slot(
 ) -> Result<(), PacketFault>
     requires order { IsInOrder slots.old.items }
     requires place { position (λ s. same_flow (flow_of packet) s.flow) slots.old.items ≡ Some at }
-    ensures kept { Makes (λ _. slots.new.items ≡ kept slots.old.items packet) result }
+    ensures kept { GivesIfMemory (λ _. slots.new.items ≡ kept slots.old.items packet) result }
     ensures err { OnErr result (slots.new.items ≡ slots.old.items) }
 {
     slots[at].take(alloc, packet)
@@ -236,7 +236,7 @@ fn fill_slot(
 /// Holds a piece whose flow has no slot.
 fn open_slot(slots: &mut Vec<Slot>, alloc: Global, packet: Packet) -> Result<(), PacketFault>
     requires { position (λ s. same_flow (flow_of packet) s.flow) slots.old.items ≡ None }
-    ensures kept { Makes (λ _. slots.new.items ≡ kept slots.old.items packet) result }
+    ensures kept { GivesIfMemory (λ _. slots.new.items ≡ kept slots.old.items packet) result }
     ensures err { OnErr result (slots.new.items ≡ slots.old.items) }
 {
     let flow = packet.flow();
@@ -382,7 +382,7 @@ fn completes(place: usize, pieces: &[Packet], packet: &Packet) -> bool
 
 /// Puts a piece among others, which are in order of their places.
 fn insert_piece(pieces: &mut Vec<Packet>, packet: Packet) -> Result<(), PacketFault>
-    ensures inserted { Makes (λ _. pieces.new.items ≡ with_piece packet pieces.old.items) result }
+    ensures inserted { GivesIfMemory (λ _. pieces.new.items ≡ with_piece packet pieces.old.items) result }
     ensures err { OnErr result (pieces.new.items ≡ pieces.old.items) }
 {
     let at = place_among(pieces, &packet);
@@ -392,7 +392,7 @@ fn insert_piece(pieces: &mut Vec<Packet>, packet: Packet) -> Result<(), PacketFa
 
 /// A list of one piece.
 fn one_piece(alloc: Global, packet: Packet) -> Result<Vec<Packet>, PacketFault>
-    ensures { Makes (λ pieces. pieces.items ≡ packet ∷ []) result }
+    ensures { GivesIfMemory (λ pieces. pieces.items ≡ packet ∷ []) result }
 {
     let mut pieces = Vec::new(alloc);
     pieces.push(packet)?;
@@ -401,7 +401,7 @@ fn one_piece(alloc: Global, packet: Packet) -> Result<Vec<Packet>, PacketFault>
 
 /// The bits of pieces and a packet, in order of their places.
 fn join(alloc: Global, pieces: &[Packet], packet: &Packet) -> Result<Bits, PacketFault>
-    ensures { Makes (λ bits. bits ≡ joined (with_piece packet.now pieces.now)) result }
+    ensures { GivesIfMemory (λ bits. bits ≡ joined (with_piece packet.now pieces.now)) result }
 {
     let (front, back) = pieces.split_at(place_among(pieces, packet));
     let mut bits = Bits::new(alloc);
@@ -413,7 +413,7 @@ fn join(alloc: Global, pieces: &[Packet], packet: &Packet) -> Result<Bits, Packe
 
 /// Puts the bits of pieces at the end.
 fn append_pieces(bits: &mut Bits, pieces: &[Packet]) -> Result<(), PacketFault>
-    ensures { Makes (λ _. bits.new ≡ bits.old ++ joined pieces.now) result }
+    ensures { GivesIfMemory (λ _. bits.new ≡ bits.old ++ joined pieces.now) result }
 {
     for piece in pieces {
         append_bits(bits, piece.bits())?;
@@ -423,7 +423,7 @@ fn append_pieces(bits: &mut Bits, pieces: &[Packet]) -> Result<(), PacketFault>
 
 /// Puts bits at the end.
 fn append_bits(bits: &mut Bits, more: &Bits) -> Result<(), PacketFault>
-    ensures { Makes (λ _. bits.new ≡ bits.old ++ more.now) result }
+    ensures { GivesIfMemory (λ _. bits.new ≡ bits.old ++ more.now) result }
 {
     if bits.append(more).is_err() {
         return Err(PacketFault::OutOfMemory);

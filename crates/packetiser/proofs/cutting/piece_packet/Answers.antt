@@ -1,5 +1,5 @@
 use Rattle.std.proofs.Common.{arith, length, ◌==◌, ◌+◌, ◌≤◌}
-use Rattle.packetiser.specs.Form.{IsPiece}
+use Rattle.packetiser.specs.PacketFields.{IsPiece}
 use Rattle.packetiser.specs.Pieces.{piece, piece_count}
 use Rattle.packetiser.proofs.Pieces.{piece_fits, few_pieces}
 use Rattle.packetiser.proofs.cutting.piece_packet.Goals as goal

@@ -8,7 +8,7 @@ use Rattle.packetiser.specs.declared.packet.PacketKind.TheVariants as kind
 
 -- a packet: what it is, its message's source, destination, link and number, which piece of the message it carries,
 -- whether that is the message's last, and the piece's bits
-pub record Form : Type 0 where
+pub record PacketFields : Type 0 where
   pub kind : PacketKind
   pub source : Host
   pub destination : Host
@@ -19,7 +19,7 @@ pub record Form : Type 0 where
   pub bits : List Bool
 
 -- the flow of the packet's message
-abbrev pub flow_of : Form → Flow
+abbrev pub flow_of : PacketFields → Flow
 flow_of p = record { source = p.source; destination = p.destination; link = record { 0 = p.link } }
 
 -- a host that packets name: its IMP is one of the subnet's
@@ -50,7 +50,7 @@ Carries kind.Rfnm place last size = IsAnswer place last size
 Carries kind.Dead place last size = IsAnswer place last size
 
 -- the format of packets
-pub record IsForm (p : Form) : Type 0 where
+pub record IsPacket (p : PacketFields) : Type 0 where
   pub source : IsPacketHost p.source
   pub destination : IsPacketHost p.destination
   pub link : p.link < 256
