@@ -2,10 +2,10 @@
 
 use crate::values::alike;
 use bit_messages::{BitFault, Bits};
-use std::alloc::Global;
+use std::alloc::{AllocError, Global};
 use std::test::Fail;
 
-/// A one, and behind it the first three bits of an octet: 1011.
+/// A 1, and behind it the first three bits of an octet: 1011.
 fn four(alloc: Global) -> Result<Bits, BitFault> {
     let mut bits = Bits::new(alloc);
     bits.push(true)?;
@@ -24,19 +24,55 @@ fn bits_are_a_list(rt: HostRuntime) -> Result<(), Fail> {
     Ok(())
 }
 
-/// Whether the four bits are those of an octet, whether they are those and one more, and whether they are
-/// their own copy.
-fn likeness(alloc: Global) -> Result<[bool; 3], BitFault> {
+/// The bits of an octet.
+fn eight(alloc: Global, octet: u8) -> Result<[Option<bool>; 8], BitFault> {
+    let bits = Bits::from_octets(alloc, &[octet], 8)?;
+    Ok([0usize, 1, 2, 3, 4, 5, 6, 7].map(|place| bits.get(place)))
+}
+
+#[test]
+fn the_most_significant_bit_comes_first(rt: HostRuntime) -> Result<(), Fail> {
+    let expected = [true, false, false, true, true, false, true, false].map(Some);
+    assert_eq!(rt; eight(rt.alloc(), 0x9A)?, expected);
+    Ok(())
+}
+
+/// Whether the four bits are those of an octet, those and one more, those with another last bit, and their
+/// own copy; and whether the empty list is its own copy.
+fn likeness(alloc: Global) -> Result<[bool; 5], BitFault> {
     let bits = four(alloc)?;
     let same = bits == Bits::from_octets(alloc, &[0xB0], 4)?;
     let longer = bits == Bits::from_octets(alloc, &[0xB0], 5)?;
+    let other = bits == Bits::from_octets(alloc, &[0xA0], 4)?;
     let copied = bits.clone()? == bits;
-    Ok([same, longer, copied])
+    let empty = Bits::new(alloc);
+    Ok([same, longer, other, copied, empty.clone()? == empty])
 }
 
 #[test]
 fn lists_are_equal_bit_by_bit(rt: HostRuntime) -> Result<(), Fail> {
-    assert_eq!(rt; likeness(rt.alloc())?, [true, false, true]);
+    assert_eq!(rt; likeness(rt.alloc())?, [true, false, false, true, true]);
+    Ok(())
+}
+
+/// The texts of the faults, in the order in which they are looked for.
+fn fault_texts(alloc: Global) -> Result<String, AllocError> {
+    format!(in alloc;
+        "{}, {}, {}, {}",
+        BitFault::NoMark,
+        BitFault::TooLong,
+        BitFault::Range,
+        BitFault::OutOfMemory
+    )
+}
+
+#[test]
+fn each_fault_has_its_text(rt: HostRuntime) -> Result<(), Fail> {
+    let texts = fault_texts(rt.alloc())?;
+    assert_eq!(rt;
+        texts.as_str(),
+        "no mark, text too long, out of range, out of memory"
+    );
     Ok(())
 }
 
@@ -78,11 +114,17 @@ fn bad_bounds_are_out_of_range(rt: HostRuntime) {
     for (from, to, length) in [
         (5, 4, Err(BitFault::Range)),
         (4, 9, Err(BitFault::Range)),
+        (9, 9, Err(BitFault::Range)),
         (8, 8, Ok(0)),
+        (0, 8, Ok(8)),
     ] {
         assert_eq!(rt; between(alloc, from, to), length, "from {from} to {to}");
     }
-    for (octets, count, length) in [(&[0u8] as &[u8], 9, Err(BitFault::Range)), (&[], 0, Ok(0))] {
+    for (octets, count, length) in [
+        (&[0u8] as &[u8], 9, Err(BitFault::Range)),
+        (&[0], 8, Ok(8)),
+        (&[], 0, Ok(0)),
+    ] {
         assert_eq!(rt; read(alloc, octets, count), length, "{count} bits");
     }
 }
@@ -123,8 +165,10 @@ fn what_is_no_body_is_refused_by_name(rt: HostRuntime) -> Result<(), Fail> {
     for (before, octets, count, fault) in [
         (0, &[0u8, 0] as &[u8], 16, BitFault::NoMark),
         (0, &[], 0, BitFault::NoMark),
+        (0, &[0], 8, BitFault::NoMark),
         (0, &[0x80], 8, BitFault::Range),
         (8064, &[0x80], 1, BitFault::TooLong),
+        (8064, &[0x80, 0], 16, BitFault::TooLong),
     ] {
         let found = refusal(rt.alloc(), before, octets, count)?;
         assert_eq!(rt; found, Some(fault), "{before} zeros and {octets:?}");
@@ -133,12 +177,14 @@ fn what_is_no_body_is_refused_by_name(rt: HostRuntime) -> Result<(), Fail> {
 }
 
 /// Whether a text of so many zeros has a body of this length with the mark behind the text, which gives the
-/// text back.
+/// text back, with sixteen more zeros too.
 fn is_filled(alloc: Global, text: usize, body: usize) -> Result<bool, BitFault> {
     let bits = alike(alloc, false, text)?;
-    let padded = bits.pad16(alloc)?;
-    let marked = padded.get(text) == Some(true);
-    Ok(padded.len() == body && marked && padded.strip(alloc)? == bits)
+    let mut padded = bits.pad16(alloc)?;
+    let filled = padded.len() == body && padded.get(text) == Some(true);
+    let given_back = padded.strip(alloc)? == bits;
+    padded.append(&alike(alloc, false, 16)?)?;
+    Ok(filled && given_back && padded.strip(alloc)? == bits)
 }
 
 #[test]
