@@ -9,7 +9,7 @@ use thiserror::Error;
 /// Why a call on bits is refused. Where several apply, the first one here is given.
 #[derive(Clone, Copy, Debug, Drop, PartialEq, Eq, Error)]
 pub enum BitFault {
-    /// There is no one in the list, so no mark of a text's end.
+    /// No bit of the list is a 1, so nothing marks where a text ends.
     #[error("no mark")]
     NoMark,
     /// The text has more than 8063 bits.
