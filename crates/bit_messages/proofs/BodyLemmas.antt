@@ -1,7 +1,7 @@
 -- A text and its body.
 use Rattle.std.proofs.Common.{◌≡◌, ℕ, ◌+◌, ◌-◌, ◌%◌, ◌<◌, ◌≤◌, Bool, true, false, not, List, [], ◌∷◌, ◌++◌, length, get_or, take, drop, replicate, refl, ap, sym, subst, ◌∙◌, arith, suc, zero}
 use Rattle.std.specs.List.{suffix_len}
-use Rattle.std.proofs.lemmas.List.{take_at, length-append, length-replicate}
+use Rattle.std.proofs.lemmas.List.{take_at, length-append, length-replicate, replicate-append-replicate}
 use Rattle.std.proofs.lemmas.List.Folds.{list_any_at}
 use Rattle.std.proofs.lemmas.List.Sums.{suffix_len_is}
 use Rattle.std.proofs.Common.{◌⊎◌, inl, inr, None, Some, eq-eqb, drop-cons, nat_lt, ◌==◌, if◌then◌else◌}
@@ -97,6 +97,16 @@ pub split_text : (bits : List Bool) → has_mark bits ≡ true → IsSplit bits
 split_text bits marked = elim (find_mark bits) [
   | inl none ↦ (let unmarked : has_mark bits ≡ false = marked_none bits none in absurd (cc))
   | inr (mark, lt, one, after) ↦ split_at_mark mark bits lt one after
+]
+
+-- zeros behind a list without a mark make none
+all_zeros : (bits : List Bool) (zeros : ℕ) → HasZerosFrom 0 bits → HasZerosFrom 0 (bits ++ replicate zeros false)
+all_zeros bits zeros h = rw (only_zeros bits h) (rw (replicate-append-replicate (length bits) zeros false) (record { within = omega arith; zeros = λ k from to. get_or-replicate (length bits + zeros) k false false (omega (arith, to, length-replicate (length bits + zeros) false)) }))
+
+pub unmarked_behind : (bits : List Bool) (zeros : ℕ) → has_mark bits ≡ false → has_mark (bits ++ replicate zeros false) ≡ false
+unmarked_behind bits zeros none = elim (find_mark bits) [
+  | inl all ↦ marked_none (bits ++ replicate zeros false) (all_zeros bits zeros all)
+  | inr (mark, lt, one, after) ↦ (let m : IsMarkedAt mark bits = marked_at mark bits lt one after in let yes : has_mark bits ≡ true = m.marked in absurd (cc))
 ]
 
 -- the zeros behind a mark

@@ -1,2 +1,4 @@
 pub mod BodyLemmas
 pub mod OctetLemmas
+pub mod PackedLemmas
+pub mod ShiftLemmas

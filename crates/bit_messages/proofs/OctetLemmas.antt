@@ -74,7 +74,7 @@ bit_at_most : (b : Bool) → bit_value b ≤ 1
 bit_at_most true = omega arith
 bit_at_most false = omega arith
 
-bit_again : (n : ℕ) → bit_value (n % 2 == 1) ≡ n % 2
+pub bit_again : (n : ℕ) → bit_value (n % 2 == 1) ≡ n % 2
 bit_again n = elim (cases_eq (n % 2) 1) [
   | inl e ↦ rw (eq-eqb (n % 2) 1 e) (sym e)
   | inr ne ↦ rw (ne_eqb (n % 2) 1 ne) (omega arith)

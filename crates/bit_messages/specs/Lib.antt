@@ -1,3 +1,4 @@
 pub mod Body
 pub mod Faults
 pub mod Octets
+pub mod Packed

@@ -42,3 +42,7 @@ octets_fault octets count = if nat_lt (8 * length octets) count then Some fault.
 -- how many bits of the last octet such a list leaves
 abbrev pub spare_bits : ℕ → ℕ
 spare_bits count = (8 - count % 8) % 8
+
+-- why there are no `count` octets of bits from a place on: they pass the end
+abbrev pub octets_at_fault : ℕ → ℕ → List Bool → Option BitFault
+octets_at_fault from count bits = if nat_lt (length bits) (from + 8 * count) then Some fault.Range else None

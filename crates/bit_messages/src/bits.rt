@@ -1,12 +1,14 @@
-//! A list of bits.
+//! A list of bits, kept eight an octet.
 
-ghost use Rattle.std.specs.Prelude.{◌≡◌, ℕ, ◌+◌, ◌-◌, ◌*◌, ◌≤◌, ◌<◌, ◌≢◌, Bool, List, [], ◌∷◌, ◌++◌, length, take, drop, slice_get, slice_index_or, true, false, if◌then◌else◌, nat_le, nat_lt, ◌||◌, ◌==◌, IfOk, IfSome, OnOk, OnErr, None, Some, Err};
+ghost use Rattle.std.specs.Prelude.{◌≡◌, ℕ, ◌+◌, ◌-◌, ◌*◌, ◌≤◌, ◌<◌, Bool, List, [], ◌∷◌, ◌++◌, length, take, drop, slice_get, true, false, ◌==◌, IfOk, IfSome, OnErr, None, Err};
 ghost use Rattle.bit_messages.specs.Body.{body, has_mark, text_of, strip_fault, pad_fault, slice_fault};
 ghost use Rattle.bit_messages.specs.Faults.{Decided};
-ghost use Rattle.bit_messages.specs.Octets.{bits_of, octet_bits, octets_of, octets_fault, bit_value};
+ghost use Rattle.bit_messages.specs.Octets.{bits_of, octets_of, octets_fault, octets_at_fault};
+ghost use Rattle.bit_messages.specs.Packed.{IsPacked};
 ghost use Rattle.bit_messages.specs.declared.fault.BitFault.TheVariants as fault;
 
 use crate::BitFault;
+use crate::octets::{are_octets, bit_in, copied, last_one, part, put, put_bit};
 use std::alloc::{AllocError, Global};
 use std::marker::Model;
 
@@ -17,15 +19,21 @@ pub const MAX_TEXT_BITS: usize = 8063;
 pub const BODY_UNIT: usize = 16;
 
 /// A list of bits, of any length.
+///
+/// It is kept as octets, the first bit of the list the most significant bit of the first octet. Bits of the
+/// last octet that the list doesn't use are zero.
 #[derive(Debug, Drop)]
 pub struct Bits {
-    bits: Vec<bool>,
+    octets: Vec<u8>,
+    len: usize,
 }
 
 impl Model for Bits {
     ghost Value = { List Bool };
 
-    ghost view = { λ b. b.bits.items };
+    ghost view = { λ b. take b.len (bits_of b.octets.items) };
+
+    ghost invariant = { λ b. IsPacked b.octets.items b.len };
 }
 
 impl Bits {
@@ -34,7 +42,8 @@ impl Bits {
         ensures { result ≡ [] }
     {
         Bits {
-            bits: Vec::new(alloc),
+            octets: Vec::new(alloc),
+            len: 0,
         }
     }
 
@@ -42,21 +51,24 @@ impl Bits {
     pub fn len(&self) -> usize
         ensures { result ≡ length self.now }
     {
-        self.bits.len()
+        self.len
     }
 
     /// Whether there are no bits.
     pub fn is_empty(&self) -> bool
         ensures { result ≡ (length self.now == 0) }
     {
-        self.bits.is_empty()
+        self.len == 0
     }
 
     /// The bit at place `i`, counted from 0; `None` past the end.
     pub fn get(&self, i: usize) -> Option<bool>
         ensures { result ≡ slice_get self.now i }
     {
-        self.bits.get(i).copied()
+        if i >= self.len {
+            return None;
+        }
+        Some(bit_in(&self.octets, i))
     }
 
     /// Puts a bit at the end.
@@ -66,7 +78,11 @@ impl Bits {
         ensures decided { Decided None (λ _. self.new ≡ self.old ++ bit ∷ []) result }
         ensures err { OnErr result (self.new ≡ self.old) }
     {
-        self.bits.push(bit)?;
+        let Some(len) = self.len.checked_add(1) else {
+            return Err(BitFault::OutOfMemory);
+        };
+        put_bit(&mut self.octets, self.len, bit)?;
+        self.len = len;
         Ok(())
     }
 
@@ -78,7 +94,11 @@ impl Bits {
         ensures memory { result ≡ Err fault.OutOfMemory → 0 < length other.now }
         ensures err { OnErr result (self.new ≡ self.old) }
     {
-        self.bits.extend_from_slice(&other.bits)?;
+        let Some(len) = self.len.checked_add(other.len) else {
+            return Err(BitFault::OutOfMemory);
+        };
+        put(&mut self.octets, self.len, &other.octets, other.len)?;
+        self.len = len;
         Ok(())
     }
 
@@ -89,12 +109,13 @@ impl Bits {
         ensures decided { Decided (slice_fault from to self.now) (λ part. part ≡ drop from (take to self.now)) result }
         ensures memory { result ≡ Err fault.OutOfMemory → from < to }
     {
-        if from > to || to > self.bits.len() {
+        if from > to || to > self.len() {
             return Err(BitFault::Range);
         }
-        let (front, _) = self.bits.split_at(to);
-        let (_, part) = front.split_at(from);
-        Ok(copied(alloc, part)?)
+        Ok(Bits {
+            octets: part(alloc, &self.octets, from, to - from)?,
+            len: to - from,
+        })
     }
 
     /// The first `count` bits of the octets, the most significant bit of each octet first.
@@ -104,17 +125,13 @@ impl Bits {
         ensures decided { Decided (octets_fault octets.now count) (λ bits. bits ≡ take count (bits_of octets.now)) result }
         ensures memory { result ≡ Err fault.OutOfMemory → 0 < count }
     {
-        let whole = count.div_ceil(8);
-        if whole > octets.len() {
+        if count.div_ceil(8) > octets.len() {
             return Err(BitFault::Range);
         }
-        let (octets, _) = octets.split_at(whole);
-        let mut bits = Vec::new(alloc);
-        for octet in octets {
-            push_octet(&mut bits, *octet)?;
-        }
-        bits.truncate(count);
-        Ok(Bits { bits })
+        Ok(Bits {
+            octets: part(alloc, octets, 0, count)?,
+            len: count,
+        })
     }
 
     /// The bits in octets, the last octet filled with zeros.
@@ -124,13 +141,22 @@ impl Bits {
         ensures decided { Decided None (λ octets. octets.items ≡ octets_of self.now) result }
         ensures memory { result ≡ Err fault.OutOfMemory → 0 < length self.now }
     {
-        let mut octets = Vec::new(alloc);
-        let mut rest = self.bits.as_slice();
-        'octets: while !rest.is_empty() {
-            let (front, back) = rest.split_at(rest.len().min(8));
-            octets.push(octet_at(front))?;
-            rest = back;
+        are_octets(&self.octets);
+        Ok(copied(alloc, &self.octets)?)
+    }
+
+    /// The `8 * n` bits from place `from` on, as octets.
+    ///
+    /// Errors: `Range` where they pass the end; `OutOfMemory` only where `n` isn't 0.
+    pub fn octets_at(&self, alloc: Global, from: usize, n: usize) -> Result<Vec<u8>, BitFault>
+        ensures decided { Decided (octets_at_fault from n self.now) (λ octets. octets.items ≡ octets_of (take (8 * n) (drop from self.now))) result }
+        ensures memory { result ≡ Err fault.OutOfMemory → 0 < n }
+    {
+        if from > self.len() || n > (self.len() - from) / 8 {
+            return Err(BitFault::Range);
         }
+        let octets = part(alloc, &self.octets, from, 8 * n)?;
+        are_octets(&octets);
         Ok(octets)
     }
 
@@ -140,14 +166,18 @@ impl Bits {
     pub fn pad16(&self, alloc: Global) -> Result<Bits, BitFault>
         ensures decided { Decided (pad_fault self.now) (λ padded. padded ≡ body self.now) result }
     {
-        if self.bits.len() > MAX_TEXT_BITS {
+        let len = self.len();
+        if len > MAX_TEXT_BITS {
             return Err(BitFault::TooLong);
         }
-        let mut bits = Vec::from_slice(alloc, &self.bits)?;
-        bits.push(true)?;
-        let zeros = (BODY_UNIT - bits.len() % BODY_UNIT) % BODY_UNIT;
-        bits.resize(bits.len() + zeros, false)?;
-        Ok(Bits { bits })
+        let mut octets = copied(alloc, &self.octets)?;
+        put_bit(&mut octets, self.len, true)?;
+        let units = (len + 1).div_ceil(BODY_UNIT);
+        octets.resize(BODY_UNIT / 8 * units, 0)?;
+        Ok(Bits {
+            octets,
+            len: BODY_UNIT * units,
+        })
     }
 
     /// The text of this body: what stands before its last 1.
@@ -158,17 +188,24 @@ impl Bits {
         ensures decided { Decided (strip_fault self.now) (λ text. text ≡ text_of self.now) result }
         ensures memory { result ≡ Err fault.OutOfMemory → 0 < length (text_of self.now) }
     {
-        let Some(mark) = last_one(&self.bits) else {
+        let Some(mark) = self.mark() else {
             return Err(BitFault::NoMark);
         };
         if mark > MAX_TEXT_BITS {
             return Err(BitFault::TooLong);
         }
-        if self.bits.len() % BODY_UNIT != 0 {
+        if self.len() % BODY_UNIT != 0 {
             return Err(BitFault::Range);
         }
-        let (text, _) = self.bits.split_at(mark);
-        Ok(copied(alloc, text)?)
+        self.slice(alloc, 0, mark)
+    }
+
+    /// The place of the last 1.
+    fn mark(&self) -> Option<usize>
+        ensures none { result ≡ None → has_mark self.now ≡ false }
+        ensures some { IfSome result (λ mark. (has_mark self.now ≡ true) × (mark < length self.now) × (text_of self.now ≡ take mark self.now)) }
+    {
+        last_one(&self.octets, self.len)
     }
 }
 
@@ -179,7 +216,10 @@ impl Clone for Bits {
     ghost is_infallible = { λ x. x ≡ [] };
 
     fn clone(&self) -> Result<Bits, AllocError> {
-        copied(*self.bits.allocator(), &self.bits)
+        Ok(Bits {
+            octets: copied(*self.octets.allocator(), &self.octets)?,
+            len: self.len,
+        })
     }
 }
 
@@ -195,75 +235,13 @@ impl PartialEq for Bits {
     ghost laws = { Prim.search (comparing, rules) };
 
     fn eq(&self, other: &Bits) -> bool {
-        self.bits.as_slice() == other.bits.as_slice()
-    }
-}
-
-/// A list of these bits.
-fn copied(alloc: Global, part: &[bool]) -> Result<Bits, AllocError>
-    ensures same { IfOk result (λ bits. bits ≡ part.now) }
-    ensures memory { OnErr result (0 < length part.now) }
-{
-    let mut bits = Vec::new(alloc);
-    bits.extend_from_slice(part)?;
-    Ok(Bits { bits })
-}
-
-/// The place of the last 1.
-fn last_one(bits: &[bool]) -> Option<usize>
-    ensures none { result ≡ None → has_mark bits.now ≡ false }
-    ensures some { IfSome result (λ mark. (has_mark bits.now ≡ true) × (mark < length bits.now) × (text_of bits.now ≡ take mark bits.now)) }
-{
-    let mut end = bits.len();
-    'places: while end > 0 {
-        end -= 1;
-        if bits[end] {
-            return Some(end);
+        if self.len != other.len {
+            return false;
         }
-    }
-    None
-}
-
-/// Puts the eight bits of an octet at the end.
-fn push_octet(bits: &mut Vec<bool>, octet: u8) -> Result<(), AllocError>
-    ensures { OnOk result (bits.new.items ≡ bits.old.items ++ octet_bits octet) }
-{
-    bits.extend_from_slice(&[
-        octet / 128 % 2 == 1,
-        octet / 64 % 2 == 1,
-        octet / 32 % 2 == 1,
-        octet / 16 % 2 == 1,
-        octet / 8 % 2 == 1,
-        octet / 4 % 2 == 1,
-        octet / 2 % 2 == 1,
-        octet % 2 == 1,
-    ])?;
-    Ok(())
-}
-
-/// The octet that these bits begin; a bit that isn't there is a zero.
-fn octet_at(bits: &[bool]) -> u8
-    requires some { 0 < length bits.now }
-    requires few { length bits.now ≤ 8 }
-    ensures { octets_of bits.now ≡ result ∷ [] }
-{
-    value_at(bits, 0, 128)
-        + value_at(bits, 1, 64)
-        + value_at(bits, 2, 32)
-        + value_at(bits, 3, 16)
-        + value_at(bits, 4, 8)
-        + value_at(bits, 5, 4)
-        + value_at(bits, 6, 2)
-        + value_at(bits, 7, 1)
-}
-
-/// What the bit at a place adds to its octet: its weight where it is a one.
-fn value_at(bits: &[bool], place: usize, weight: u8) -> u8
-    ensures value { result ≡ weight * bit_value (slice_index_or bits.now place false) }
-    ensures most { result ≤ weight }
-{
-    match bits.get(place) {
-        Some(true) => weight,
-        _ => 0,
+        let ours = self.octets.as_slice();
+        let theirs = other.octets.as_slice();
+        are_octets(ours);
+        are_octets(theirs);
+        ours == theirs
     }
 }

@@ -12,6 +12,7 @@
 mod bits;
 mod fault;
 pub mod law;
+mod octets;
 
 pub use bits::{BODY_UNIT, Bits, MAX_TEXT_BITS};
 pub use fault::BitFault;
