@@ -212,3 +212,54 @@ fn the_empty_text_has_a_body_of_sixteen_bits(rt: HostRuntime) -> Result<(), Fail
     );
     Ok(())
 }
+
+/// So many octets of `41 42 43` from a place on.
+fn octets_from(alloc: Global, from: usize, count: usize) -> Result<Vec<u8>, BitFault> {
+    Bits::from_octets(alloc, &[0x41, 0x42, 0x43], 24)?.octets_at(alloc, from, count)
+}
+
+#[test]
+fn octets_are_read_across_borders(rt: HostRuntime) -> Result<(), Fail> {
+    assert_eq!(rt; octets_from(rt.alloc(), 4, 2)?.as_slice(), [0x14, 0x24].as_slice());
+    let others = [
+        octets_from(rt.alloc(), 4, 3).err(),
+        octets_from(rt.alloc(), 24, 0).err(),
+        octets_from(rt.alloc(), 25, 0).err(),
+    ];
+    assert_eq!(rt; others, [Some(BitFault::Range), None, Some(BitFault::Range)]);
+    Ok(())
+}
+
+/// Whether a slice, and the same bits put behind others, are what single bits give.
+fn agrees(alloc: Global, from: usize, length: usize) -> Result<bool, BitFault> {
+    let octets = [0xA5u8, 0x3C, 0x96, 0xF0, 0x0F, 0x5A, 0xC3, 0x69];
+    let bits = Bits::from_octets(alloc, &octets, 64)?;
+    let mut singly = Bits::new(alloc);
+    let mut joined = bits.slice(alloc, 0, from)?;
+    for place in 0..from + length {
+        let bit = bits.get(place).unwrap_or(false);
+        singly.push(bit)?;
+    }
+    let part = bits.slice(alloc, from, from + length)?;
+    joined.append(&part)?;
+    Ok(part.len() == length && joined == singly)
+}
+
+/// How many starts and lengths agree with single bits.
+fn agreements(alloc: Global) -> Result<usize, BitFault> {
+    let mut found = 0;
+    for from in 0..16usize {
+        for length in 0..41usize {
+            if agrees(alloc, from, length)? && found < 9999 {
+                found += 1;
+            }
+        }
+    }
+    Ok(found)
+}
+
+#[test]
+fn slices_and_appends_agree_with_single_bits(rt: HostRuntime) -> Result<(), Fail> {
+    assert_eq!(rt; agreements(rt.alloc())?, 16 * 41);
+    Ok(())
+}
