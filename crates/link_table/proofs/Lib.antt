@@ -1,4 +1,5 @@
 pub mod FlowLemmas
 pub mod KeyLemmas
+pub mod EntryLemmas
 pub mod WindowLemmas
 pub mod NumberLemmas

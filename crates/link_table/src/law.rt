@@ -4,9 +4,10 @@
 ghost use Rattle.std.specs.Prelude.{◌≡◌, ◌≢◌, ℕ, ◌+◌, ◌*◌, ◌<◌, ◌≤◌, false, true, Option, Some, None, ◌↔◌, IsSome, if◌then◌else◌};
 ghost use Rattle.std.specs.Option.{option_map};
 ghost use Rattle.std.specs.FinMap as map;
+ghost use Rattle.leader1822.specs.Host.{Host, same_host};
 ghost use Rattle.leader1822.specs.Mailboxes.{same_flow};
 ghost use Rattle.leader1822.specs.declared.address.Flow.{Flow};
-ghost use Rattle.link_table.specs.Flows.{Sources, Destinations, begun, answered, given_up, handed, number_in, last_in, outstanding_in, answered_in, given_up_in, handed_in, release_in};
+ghost use Rattle.link_table.specs.Flows.{Sources, Destinations, begun, answered, given_up, handed, number_in, last_in, outstanding_in, answered_in, given_up_in, handed_in, release_in, has_outstanding};
 ghost use Rattle.link_table.specs.Keys.{is_from, drop_from, has_from};
 ghost use Rattle.link_table.specs.declared.source.Standing.{Standing};
 ghost use Rattle.link_table.specs.declared.source.Standing.TheVariants as standing;
@@ -74,6 +75,10 @@ pub fn source_flows()
 
     // what is begun is a number
     ensures number { (s : Option Standing) → number_in s < modulus }
+
+    // a host has a message without an answer exactly if one of its flows has one outstanding
+    ensures outstanding_none { (m : Sources) (h : Host) → has_outstanding h m ≡ false → (g : Flow) → same_host g.source h ≡ true → outstanding_in (map.get m g) ≡ None }
+    ensures outstanding_one { (m : Sources) (h : Host) → has_outstanding h m ≡ true → (g : Flow) × (same_host g.source h ≡ true) × IsSome (outstanding_in (map.get m g)) }
 
     // an answer frees a flow only with the outstanding number, and always with it
     ensures freed { (s : Option Standing) (n : ℕ) → (release_in n s ≡ release.Freed) ↔ (outstanding_in s ≡ Some n) }

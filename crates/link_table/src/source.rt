@@ -1,13 +1,13 @@
 //! The flows of a source.
 
-ghost use Rattle.std.specs.Prelude.{◌≡◌, OnErr, Err, None};
+ghost use Rattle.std.specs.Prelude.{◌≡◌, OnErr, Err, None, Some, is_some};
 ghost use Rattle.std.specs.FinMap as map;
-ghost use Rattle.link_table.specs.Flows.{FlowDecided, begin_fault, begun, answered, given_up, handed, number_in, last_of, last_in, outstanding_in, is_idle_in, answered_in, given_up_in, handed_in, release_in};
+ghost use Rattle.link_table.specs.Flows.{FlowDecided, begin_fault, begun, answered, given_up, handed, number_in, last_of, last_in, outstanding_in, is_idle_in, answered_in, given_up_in, handed_in, release_in, has_outstanding};
 
 use crate::FlowFault;
 use crate::flow_map::FlowMap;
 use crate::numbers::{Number, next};
-use leader1822::Flow;
+use leader1822::{Flow, HostAddr};
 use std::alloc::Global;
 use std::marker::Model;
 
@@ -39,6 +39,13 @@ impl Standing {
         match self {
             Standing::Idle(last) | Standing::Outstanding(last) | Standing::Answered(last) => last,
         }
+    }
+
+    /// Whether that message has no answer yet.
+    fn is_outstanding(self) -> bool
+        ensures { result ≡ is_some (outstanding_in (Some self)) }
+    {
+        matches!(self, Standing::Outstanding(_))
     }
 
     /// The standing after an answer to the message of this number: only the outstanding message is
@@ -169,6 +176,14 @@ impl SourceFlows {
         ensures { result ≡ is_idle_in (map.get self.now flow.now) }
     {
         matches!(self.flows.get(flow), None | Some(Standing::Idle(_)))
+    }
+
+    /// Whether any message of this host has no answer yet. A host that was down comes up only when none
+    /// has.
+    pub fn has_outstanding(&self, host: HostAddr) -> bool
+        ensures { result ≡ has_outstanding host self.now }
+    {
+        self.flows.iter().any(|(flow, standing)| flow.source == host && standing.is_outstanding())
     }
 
     /// The number of the outstanding message of a flow.
