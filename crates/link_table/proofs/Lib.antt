@@ -1,4 +1,5 @@
 pub mod FlowLemmas
+pub mod AnswerLemmas
 pub mod KeyLemmas
 pub mod EntryLemmas
 pub mod WindowLemmas

@@ -27,14 +27,12 @@ pub struct DestFlows {
 }
 
 impl Model for DestFlows {
-    ghost use Rattle.std.specs.FinMap as map;
-    ghost use Rattle.std.specs.Coded.{coded_ℕ};
     ghost use Rattle.link_table.specs.Flows.{Destinations};
-    ghost use Rattle.link_table.specs.Keys.{coded_flow};
+    ghost use Rattle.link_table.specs.Codes.{coded_destinations};
 
     ghost Value = { Destinations };
 
-    ghost coded = { map.code coded_flow coded_ℕ };
+    ghost coded = { coded_destinations };
 
     ghost view = { λ a. a.flows };
 }

@@ -90,14 +90,12 @@ pub struct SourceFlows {
 }
 
 impl Model for SourceFlows {
-    ghost use Rattle.std.specs.FinMap as map;
     ghost use Rattle.link_table.specs.Flows.{Sources};
-    ghost use Rattle.link_table.specs.Keys.{coded_flow};
-    ghost use Rattle.link_table.specs.Codes.{coded_standing};
+    ghost use Rattle.link_table.specs.Codes.{coded_sources};
 
     ghost Value = { Sources };
 
-    ghost coded = { map.code coded_flow coded_standing };
+    ghost coded = { coded_sources };
 
     ghost view = { λ a. a.flows };
 }
