@@ -1,10 +1,15 @@
 -- What the calls of an end need of its definitions.
-use Rattle.std.proofs.Common.{◌≡◌, ℕ, ◌+◌, ◌<◌, List, ◌∷◌, ◌++◌, length, get_or, set, drop, Some, refl, sym, ap, ◌∙◌, position}
+use Rattle.std.proofs.Common.{◌≡◌, ℕ, ◌+◌, ◌<◌, List, ◌∷◌, ◌++◌, length, get_or, set, drop, true, is_none, Option, None, Some, refl, sym, ap, ◌∙◌, position}
 use Rattle.std.proofs.lemmas.List.{append_assoc, drop_more, get_or_read}
 use Rattle.packetiser.specs.PacketFields.{PacketFields}
 use Rattle.imp_channel.specs.declared.channel.Channel.{Channel}
 use Rattle.imp_channel.specs.declared.frame.Frame.{Frame}
 use Rattle.imp_channel.specs.Line.{End, opening_channel, is_free, submitted, frame_on, frames_of, frames_from}
+
+-- a channel that is free holds nothing
+pub none_from : (o : Option PacketFields) → is_none o ≡ true → o ≡ None
+none_from None e = refl
+none_from (Some p) e = cc
 
 -- one channel more
 pub frames_more : (e : End) (chs : List Channel) (i : ℕ) (x : Channel) (done : List Frame) → i < length chs → x ≡ get_or chs i x

@@ -13,6 +13,7 @@ use Rattle.imp_channel.specs.declared.frame.Frame.{Frame}
 use Rattle.imp_channel.specs.declared.frame.TheConstants.{ACKS}
 use Rattle.imp_channel.specs.Line.{End, opening, opening_channel, channel_at, expected_at, is_free, holding, frame_on, submitted, submitted_on, resent, acknowledgement, routes_frame, acknowledged, all_acknowledged, is_foreign, expected_after, brought}
 use Rattle.imp_channel.specs.Schedule.{Side, opening_side, Act, Submit, Resend, Acknowledge, Tell, Take, on_channel, given_on, freed_by, writes, puts_in, takes, takes_at, acted, Event, Left, Right, Sides, opening_sides, after, run, InOrder}
+use Rattle.imp_channel.proofs.Calls.{none_from}
 use Rattle.imp_channel.proofs.Alternating.{Passing, Kept, Carries, AllAre, expected_by, given_by, kept_drop, kept_wrote, kept_told, kept_submit, kept_acked, kept_came, kept_given, kept_freed}
 use Rattle.imp_channel.proofs.OneChannel.{way_in, ack_in, AllAre-frames, Carries-frames, Carries-frame_on, get_or-all_acknowledged, length-expected_after, IsOnChannel, tells_channel}
 
@@ -86,10 +87,6 @@ put_elsewhere c at p me you other k =
     let R : List PacketFields → Type 0 = λ l. Kept (channel_at me.state c) (expected_at you.state c) (way c me) (returning c you) l (you.given c) (me.freed c) in
     subst P (sym (get_or-set_other me.state.sending at c full opening_channel (λ (same : c ≡ at). other (sym same))))
     (subst Q (sym (ne_eqb at c other)) (subst R (sym (append-nil (me.put c))) k))
-
-none_from : (o : Option PacketFields) → is_none o ≡ true → o ≡ None
-none_from None e = refl
-none_from (Some p) e = cc
 
 put : (c at : ℕ) (p : PacketFields) (me you : Side) → at < length me.state.sending → (channel_at me.state at).packet ≡ None
     → KeptFrom c me you → KeptFrom c (holds at p me) you

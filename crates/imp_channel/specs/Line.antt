@@ -145,14 +145,3 @@ is_fresh_answer (Ok received.AckOnly) = false
 is_fresh_answer (Ok (received.Routes distances)) = false
 is_fresh_answer (Ok received.Repeat) = false
 is_fresh_answer (Err e) = false
-
--- Resetting.
-
--- the packets of the busy channels, in channel order
-abbrev pub packets_in : List Channel → List PacketFields
-packets_in [] = []
-packets_in (channel ∷ rest) = packets_of channel.packet ++ packets_in rest
-  where
-    packets_of : Option PacketFields → List PacketFields
-    packets_of None = []
-    packets_of (Some packet) = packet ∷ []

@@ -112,6 +112,11 @@ abbrev pub run : List Event → Sides → Sides
 run [] s = s
 run (event ∷ rest) s = run rest (after event s)
 
+-- one packet: it is put in, its frame is taken twice, and the acknowledgement is taken
+abbrev pub one_packet : PacketFields → List Event
+one_packet packet =
+    Left (Submit packet) ∷ Right (Take 0) ∷ Right (Take 0) ∷ Right Acknowledge ∷ Left (Take 0) ∷ []
+
 -- one list begins another
 pub record Begins {X : Type 0} (front whole : List X) : Type 0 where
   pub rest : List X

@@ -1,7 +1,8 @@
 //! One channel of a line.
 
 ghost use Rattle.std.specs.Prelude.{◌≡◌, ◌≤◌, ◌++◌, length, map, vec_len, vec_capacity, ◌+◌};
-ghost use Rattle.imp_channel.specs.Line.{all_acknowledged, acknowledged, opening_channel, packets_in};
+ghost use Rattle.imp_channel.specs.Holding.{packets_in};
+ghost use Rattle.imp_channel.specs.Line.{all_acknowledged, acknowledged, opening_channel};
 
 use packetiser::Packet;
 

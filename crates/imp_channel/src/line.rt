@@ -2,7 +2,8 @@
 
 ghost use Rattle.std.specs.Prelude.{◌≡◌, ◌<◌, ◌++◌, IfOk, IfErr, OnOk, OnErr, Some, None, position};
 ghost use Rattle.std.specs.Option.{option_copied};
-ghost use Rattle.imp_channel.specs.Line.{IsRefusal, is_free, frames_of, opening, frame_of, submitted, resent, acknowledgement, routes_frame, channel_at, packets_in, is_foreign, has_expected_bit, expected_after, brought, state_after, answer_to, is_fresh_answer};
+ghost use Rattle.imp_channel.specs.Holding.{packets_in};
+ghost use Rattle.imp_channel.specs.Line.{IsRefusal, is_free, frames_of, opening, frame_of, submitted, resent, acknowledgement, routes_frame, channel_at, is_foreign, has_expected_bit, expected_after, brought, state_after, answer_to, is_fresh_answer};
 
 use crate::channel::{acknowledge_all, reset_all};
 use crate::{ACKS, CHANNELS, Carried, Channel, ChannelFault, Content, Frame, SubmitFault};

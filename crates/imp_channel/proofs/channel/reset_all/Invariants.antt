@@ -1,5 +1,6 @@
 use Rattle.std.proofs.Common.{◌≡◌, ◌++◌, ◌+◌, ◌-◌, ◌≤◌, take, drop, map, length, vec_len, vec_capacity}
-use Rattle.imp_channel.specs.Line.{opening_channel, packets_in}
+use Rattle.imp_channel.specs.Holding.{packets_in}
+use Rattle.imp_channel.specs.Line.{opening_channel}
 use Rattle.imp_channel.proofs.channel.reset_all.Given as goal
 
 abbrev pub invariant-loop-channel : goal.invariant-loop-channel
