@@ -1,22 +1,19 @@
 -- What an end holds and sends, and what it gives: a property of all packets that come in holds of all of them.
-use Rattle.std.proofs.Common.{◌≡◌, ℕ, zero, suc, ◌+◌, ◌<◌, Bool, true, false, not, List, [], ◌∷◌, ◌++◌, length, get_or, set, Option, Some, None, Result, Ok, Err, refl, sym, ap, subst, cond, leb, arith, All, Contains, IfSome, IsPermutation, position, replicate}
+use Rattle.std.proofs.Common.{◌≡◌, ℕ, zero, suc, ◌+◌, ◌<◌, Bool, true, false, not, List, [], ◌∷◌, ◌++◌, length, get_or, set, Option, Some, None, Ok, Err, refl, sym, ap, subst, cond, leb, arith, All, Contains, IfSome, IsPermutation, position, replicate}
 use Rattle.std.proofs.lemmas.List.Elements.{All-nil, All-cons, All-head, All-tail, All-append, All-set, All-replicate, All-weaker, All-contains_itself, Contains-append_left, Contains-push}
 use Rattle.std.proofs.lemmas.List.Quantifiers.{position-Some}
 use Rattle.std.proofs.lemmas.List.Sorted.{IsPermutation-refl, IsPermutation-trans, IsPermutation-append_right, IsPermutation-middle}
 use Rattle.packetiser.specs.PacketFields.{PacketFields}
 use Rattle.packetiser.specs.Rejoining.{AreAmong}
-use Rattle.imp_channel.specs.Carriage.{Carriage}
 use Rattle.imp_channel.specs.Holding.{packet_of, packets_in, carried_by, carried_by_all}
-use Rattle.imp_channel.specs.Line.{End, opening, opening_channel, is_free, submitted, submitted_on, holding, frames_of, frames_from, resent, differs, acknowledged, all_acknowledged, is_foreign, has_expected_bit, expected_after, brought, answer_to, state_after}
+use Rattle.imp_channel.specs.Line.{End, opening, opening_channel, is_free, submitted, submitted_on, frames_of, frames_from, resent, differs, acknowledged, all_acknowledged, is_foreign, has_expected_bit, expected_after, brought, answer_to, state_after}
 use Rattle.imp_channel.proofs.Calls.{none_from}
 use Rattle.imp_channel.specs.declared.channel.Channel.{Channel}
 use Rattle.imp_channel.specs.declared.channel.TheConstants.{CHANNELS}
-use Rattle.imp_channel.specs.declared.fault.ChannelFault.{ChannelFault}
 use Rattle.imp_channel.specs.declared.fault.ChannelFault.TheVariants as fault
 use Rattle.imp_channel.specs.declared.frame.Content.{Content}
 use Rattle.imp_channel.specs.declared.frame.Content.TheVariants as content
 use Rattle.imp_channel.specs.declared.frame.Frame.{Frame}
-use Rattle.imp_channel.specs.declared.line.Received.{Received}
 use Rattle.imp_channel.specs.declared.line.Received.TheVariants as received
 
 -- the packet that a channel holds, if any, has this property
@@ -174,7 +171,7 @@ pub put_among : (e end : End) (p : PacketFields) (f : Frame) → submitted e p �
 put_among e end p f is =
     let P : PacketFields → Type 0 = Contains (packets_in e.sending ++ p ∷ []) in
     let itself : LineHas P e =
-        have_packets P e.sending (All-weaker (Contains (packets_in e.sending)) P (λ x here. Contains-append_left (packets_in e.sending) (p ∷ []) x here) (packets_in e.sending) (All-contains_itself (packets_in e.sending))) in
+    have_packets P e.sending (All-weaker (Contains (packets_in e.sending)) P (λ x here. Contains-append_left (packets_in e.sending) (p ∷ []) x here) (packets_in e.sending) (All-contains_itself (packets_in e.sending))) in
     packets_have P end.sending (subst (PutHas P) is (submitted_has P e p itself (Contains-push (packets_in e.sending) p))).0
 
 pub received_packets : (e : End) (f : Frame) → AreAmong (packets_in (state_after e f).sending) (packets_in e.sending)

@@ -1,5 +1,5 @@
 -- Every schedule keeps every channel, in both directions.
-use Rattle.std.proofs.Common.{◌≡◌, ℕ, ◌+◌, ◌-◌, ◌≤◌, ◌<◌, Bool, true, false, List, [], ◌∷◌, ◌++◌, length, get_or, drop, map, Option, Some, None, Err, refl, sym, ap, ◌∙◌, subst, inl, inr, cond, leb, arith, position, slice_get, is_none, zero, suc, Ok, replicate}
+use Rattle.std.proofs.Common.{◌≡◌, ℕ, ◌+◌, ◌-◌, ◌≤◌, ◌<◌, Bool, true, false, List, [], ◌∷◌, ◌++◌, length, get_or, drop, map, Option, Some, None, Err, refl, sym, ap, ◌∙◌, subst, inl, inr, cond, leb, arith, position, slice_get, zero, suc, Ok, replicate}
 use Rattle.std.proofs.lemmas.Bool.{cases_eq, cases_Bool, eq-eqb, ne_eqb, leb-true}
 use Rattle.std.proofs.lemmas.List.{append-nil, get_or-set_same, get_or-set_other, length-append, map-append, drop-append-le, drop-drop, length-replicate}
 use Rattle.std.specs.List.{drop-map}

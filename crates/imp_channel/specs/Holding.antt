@@ -1,5 +1,5 @@
 -- Which packets an end holds, and which a frame carries.
-use Rattle.std.specs.Prelude.{ℕ, List, [], ◌∷◌, ◌++◌, Option, None, Some}
+use Rattle.std.specs.Prelude.{List, [], ◌∷◌, ◌++◌, Option, None, Some}
 use Rattle.packetiser.specs.PacketFields.{PacketFields}
 use Rattle.imp_channel.specs.declared.channel.Channel.{Channel}
 use Rattle.imp_channel.specs.declared.frame.Content.{Content}

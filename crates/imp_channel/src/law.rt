@@ -16,8 +16,8 @@ ghost use Rattle.imp_channel.specs.declared.line.Received.TheVariants as receive
 /// packets in, sends the frames of its busy channels again, acknowledges, tells its distances, and takes
 /// frames that the other end wrote. The frames taken never go back in the list of those written: one may be
 /// passed over, as lost, and one may be taken again before a later one. Then on every channel, in both
-/// directions, the packets given are the first of those put in, in their order and each once, and every
-/// packet whose channel became free was given.
+/// directions, the packets that `receive` answered as `Fresh` are the first of those that were handed to
+/// `submit`, in their order and each once, and every packet whose channel became free was given.
 pub fn in_order()
     ensures rightward { (events : List Event) (c : ℕ) → InOrder c (run events opening_sides).left (run events opening_sides).right }
     ensures leftward { (events : List Event) (c : ℕ) → InOrder c (run events opening_sides).right (run events opening_sides).left }
