@@ -10,4 +10,5 @@
 //! tied to the moves here. There is no code: the laws are the contracts of functions that do nothing.
 #![tactic(auto)]
 
+pub mod counterexamples;
 pub mod law;

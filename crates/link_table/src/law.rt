@@ -1,7 +1,7 @@
 //! What the window and the two tables promise, as laws over their definitions. The functions here do
 //! nothing: each clause is the law.
 
-ghost use Rattle.std.specs.Prelude.{◌≡◌, ◌≢◌, ℕ, ◌+◌, ◌*◌, ◌<◌, ◌≤◌, false, true, Option, Some, None, ◌↔◌, IsSome, if◌then◌else◌};
+ghost use Rattle.std.specs.Prelude.{◌≡◌, ◌≢◌, ℕ, ◌+◌, ◌-◌, ◌*◌, ◌<◌, ◌≤◌, false, true, Option, Some, None, ◌↔◌, IsSome, if◌then◌else◌};
 ghost use Rattle.std.specs.Option.{option_map};
 ghost use Rattle.std.specs.FinMap as map;
 ghost use Rattle.leader1822.specs.Host.{Host, same_host};
@@ -32,6 +32,12 @@ pub fn any_window()
 
     // of two numbers or more, the next one does not lie within the window behind the last
     ensures not_next { (m w l : ℕ) → 2 * w + 1 ≤ m → 1 < m → NearOf m w l (next_of m l) → ⊥ }
+
+    // the next number is new against the last one
+    ensures next_new { (m w l : ℕ) → 2 * w + 1 ≤ m → 1 ≤ w → l < m → is_new_of m w (Some l) (next_of m l) ≡ true }
+
+    // number 0 is new again against the number from which `w` steps lead round to it: so it must not outlive the window
+    ensures new_again { (m w : ℕ) → 2 * w + 1 ≤ m → 1 ≤ w → is_new_of m w (Some (m - w)) 0 ≡ true }
 {}
 
 /// The window of this network.
@@ -54,6 +60,9 @@ pub fn window_holds()
 
     // the next number does not lie within the window behind the last one
     ensures not_next { (l : ℕ) → Near l (next l) → ⊥ }
+
+    // and is new against it
+    ensures next_new { (l : ℕ) → l < modulus → is_new (Some l) (next l) ≡ true }
 {}
 
 /// What the calls of a source do to each flow: the named one changes, and no other.

@@ -1,5 +1,5 @@
-use Rattle.flow_law.proofs.MachineLemmas.{starts_alive_breaks, starts_queued_breaks, returns_alive_breaks, forgets_alive_breaks, gives_up_nothing_breaks, gives_up_alive_breaks, gives_up_queued_breaks}
-use Rattle.flow_law.proofs.law.needs_of_imps.Goals as goal
+use Rattle.flow_law.proofs.CounterexampleLemmas.{starts_alive_breaks, starts_queued_breaks, returns_alive_breaks, forgets_alive_breaks, gives_up_nothing_breaks, gives_up_alive_breaks, gives_up_queued_breaks}
+use Rattle.flow_law.proofs.counterexamples.needs_of_imps.Goals as goal
 
 pub returns-clause-starts_alive : goal.returns-clause-starts_alive
 returns-clause-starts_alive c = starts_alive_breaks

@@ -1,6 +1,6 @@
 use Rattle.flow_law.proofs.RoundLemmas.{any_number_breaks}
-use Rattle.flow_law.proofs.MachineLemmas.{offers_down_breaks, not_idle_breaks, not_answered_breaks}
-use Rattle.flow_law.proofs.law.needs_of_offers.Goals as goal
+use Rattle.flow_law.proofs.CounterexampleLemmas.{offers_down_breaks, not_idle_breaks, not_answered_breaks}
+use Rattle.flow_law.proofs.counterexamples.needs_of_offers.Goals as goal
 
 pub returns-clause-offers_down : goal.returns-clause-offers_down
 returns-clause-offers_down c = offers_down_breaks

@@ -6,7 +6,7 @@ use Rattle.link_table.specs.Numbers.{modulus, window, oldest, is_new}
 use Rattle.flow_law.specs.View.{Packet, Kind}
 use Rattle.flow_law.specs.Moves.{NoData, next_number}
 use Rattle.flow_law.specs.Example.{first_text}
-use Rattle.flow_law.specs.Machines.{Breaks, second_text, data_of, rfnm_of, dead_of, OffersDown, offers_down, NotIdle, not_idle, NotAnswered, not_answered, NotesNothing, notes_nothing, NotesAway, notes_away, NotesAnswers, notes_answers, NotesOld, notes_old, QueuesOld, queues_old, JoinsAny, joins_any, FreedByNothing, freed_by_nothing, FreedByAny, freed_by_any, FreedByData, freed_by_data, TakesNothing, takes_nothing, ToldNothing, told_nothing, TakesDown, takes_down, SourceStopsTwice, source_stops_twice, DestinationStopsTwice, destination_stops_twice, SourceStartsTwice, source_starts_twice, DestinationStartsTwice, destination_starts_twice, StartsAway, starts_away, StartsUnsettled, starts_unsettled, StartsAlive, starts_alive, StartsQueued, starts_queued, ReturnsAlive, returns_alive, ForgetsAlive, forgets_alive, GivesUpNothing, gives_up_nothing, GivesUpAlive, gives_up_alive, GivesUpQueued, gives_up_queued}
+use Rattle.flow_law.specs.Counterexamples.{Breaks, second_text, data_of, rfnm_of, dead_of, OffersDown, offers_down, NotIdle, not_idle, NotAnswered, not_answered, NotesNothing, notes_nothing, NotesAway, notes_away, NotesAnswers, notes_answers, NotesOld, notes_old, QueuesOld, queues_old, JoinsAny, joins_any, FreedByNothing, freed_by_nothing, FreedByAny, freed_by_any, FreedByData, freed_by_data, TakesNothing, takes_nothing, ToldNothing, told_nothing, TakesDown, takes_down, SourceStopsTwice, source_stops_twice, DestinationStopsTwice, destination_stops_twice, SourceStartsTwice, source_starts_twice, DestinationStartsTwice, destination_starts_twice, StartsAway, starts_away, StartsUnsettled, starts_unsettled, StartsAlive, starts_alive, StartsQueued, starts_queued, ReturnsAlive, returns_alive, ForgetsAlive, forgets_alive, GivesUpNothing, gives_up_nothing, GivesUpAlive, gives_up_alive, GivesUpQueued, gives_up_queued}
 use Rattle.flow_law.proofs.Clauses.{none_there}
 use Rattle.flow_law.proofs.Left.{only, first_there, left_none, left_old, left_made}
 use Rattle.flow_law.proofs.ExampleLemmas.{new_at_first}

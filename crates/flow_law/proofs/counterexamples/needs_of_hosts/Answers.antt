@@ -1,5 +1,5 @@
-use Rattle.flow_law.proofs.MachineLemmas.{takes_nothing_breaks, takes_down_breaks, told_nothing_breaks, source_stops_twice_breaks, destination_stops_twice_breaks, source_starts_twice_breaks, destination_starts_twice_breaks, starts_away_breaks, starts_unsettled_breaks}
-use Rattle.flow_law.proofs.law.needs_of_hosts.Goals as goal
+use Rattle.flow_law.proofs.CounterexampleLemmas.{takes_nothing_breaks, takes_down_breaks, told_nothing_breaks, source_stops_twice_breaks, destination_stops_twice_breaks, source_starts_twice_breaks, destination_starts_twice_breaks, starts_away_breaks, starts_unsettled_breaks}
+use Rattle.flow_law.proofs.counterexamples.needs_of_hosts.Goals as goal
 
 pub returns-clause-takes_nothing : goal.returns-clause-takes_nothing
 returns-clause-takes_nothing c = takes_nothing_breaks

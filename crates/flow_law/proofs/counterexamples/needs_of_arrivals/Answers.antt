@@ -1,5 +1,5 @@
-use Rattle.flow_law.proofs.MachineLemmas.{notes_nothing_breaks, notes_away_breaks, notes_answers_breaks, notes_old_breaks, queues_old_breaks, joins_any_breaks, freed_by_nothing_breaks, freed_by_any_breaks, freed_by_data_breaks}
-use Rattle.flow_law.proofs.law.needs_of_arrivals.Goals as goal
+use Rattle.flow_law.proofs.CounterexampleLemmas.{notes_nothing_breaks, notes_away_breaks, notes_answers_breaks, notes_old_breaks, queues_old_breaks, joins_any_breaks, freed_by_nothing_breaks, freed_by_any_breaks, freed_by_data_breaks}
+use Rattle.flow_law.proofs.counterexamples.needs_of_arrivals.Goals as goal
 
 pub returns-clause-notes_nothing : goal.returns-clause-notes_nothing
 returns-clause-notes_nothing c = notes_nothing_breaks

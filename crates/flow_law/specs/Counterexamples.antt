@@ -1,9 +1,10 @@
--- Machines that lack one need of one move each, and for each a history that is no run of the mailbox.
-use Rattle.std.specs.Prelude.{◌≡◌, ℕ, zero, suc, Bool, true, false, List, [], ◌∷◌, Some, None}
+-- Counterexamples: machines that lack one need of one move each, and for each a history that is no run of the mailbox.
+-- The law of a flow does not rest on them. They show that it asks for no more than it wants.
+use Rattle.std.specs.Prelude.{◌≡◌, ℕ, zero, suc, ◌-◌, Bool, true, false, List, [], ◌∷◌, Some, None}
 use Rattle.std.specs.List.{Contains}
 use Rattle.leader1822.specs.declared.crossing.Answer.TheVariants as answer
 use Rattle.leader1822.specs.Mailboxes.{IsFlowRun}
-use Rattle.link_table.specs.Numbers.{is_new}
+use Rattle.link_table.specs.Numbers.{modulus, window, is_new}
 use Rattle.flow_law.specs.View.{View, Packet, Queued, Kind, mail_now}
 use Rattle.flow_law.specs.Moves.{Move, Needs, New, CanOffer, CanNote, Brings, NumberFree, Joined, queued}
 use Rattle.flow_law.specs.Runs.{Turn, IsHistoryBy, seen_in}
@@ -97,14 +98,21 @@ rounds (suc n) =
     ∷ turn (Move.Begin 0 second_text) (data_of (suc n) second_text ∷ data_of 0 first_text ∷ [])
     ∷ rounds n
 
--- at number 129 the copy is new again, and its text is taken in the place of the new one
-abbrev pub any_number : List Turn
-any_number =
+-- when the number after n was noted the copy is made whole, and its text is taken in the place of the new one
+abbrev pub outlived : ℕ → List Turn
+outlived n =
     taken []
     ∷ turn (Move.Whole (data_of 0 first_text) first_text) []
-    ∷ turn (Move.NoteGone (data_of 129 second_text)) (data_of 0 first_text ∷ [])
-    ∷ turn (Move.Begin 0 second_text) (data_of 129 second_text ∷ data_of 0 first_text ∷ [])
-    ∷ rounds 128
+    ∷ turn (Move.NoteGone (data_of (suc n) second_text)) (data_of 0 first_text ∷ [])
+    ∷ turn (Move.Begin 0 second_text) (data_of (suc n) second_text ∷ data_of 0 first_text ∷ [])
+    ∷ rounds n
+
+-- the copy is new again as soon as it lies a window's width ahead: there the number after this one is noted
+abbrev pub before_new_again : ℕ
+before_new_again = modulus - window - 1
+
+abbrev pub any_number : List Turn
+any_number = outlived before_new_again
 
 -- ---- arrivals
 
