@@ -16,7 +16,7 @@ mod boxes;
 #[cfg(test)]
 mod control;
 #[cfg(test)]
-mod flags;
+mod options;
 #[cfg(test)]
 mod lines;
 #[cfg(test)]

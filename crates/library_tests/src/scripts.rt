@@ -1,6 +1,6 @@
 //! Whole runs over inputs in memory, and bad inputs.
 
-use replay::{ScriptFault, run_script};
+use command_line::{ScriptFault, run_script};
 use std::alloc::{AllocError, Global};
 use std::io;
 use std::io::{Cursor, Read, Write};

@@ -21,7 +21,7 @@ pub fn split_input(input: &[u8]) -> Option<(&[u8], &[u8])>
     let mut rest = Some(input);
     'lines: while let Some(left) = rest {
         let (line, more) = first_line(left);
-        if is_mark(line) {
+        if is_marker(line) {
             return Some((&input[..passed], text_behind(more)));
         }
         passed += line.len() + 1;
@@ -40,8 +40,8 @@ fn text_behind(more: Option<&[u8]>) -> &[u8]
     }
 }
 
-/// Whether a line is the mark between topology and script.
-fn is_mark(line: &[u8]) -> bool
+/// Whether a line is the marker between topology and script.
+fn is_marker(line: &[u8]) -> bool
     ensures { IsTrue result ↔ (line.now ≡ codes "%") }
 {
     line.len() == 1 && line[0] == b'%'

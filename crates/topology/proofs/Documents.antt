@@ -5,7 +5,7 @@ use Rattle.toml.specs.Data.{Data}
 use Rattle.toml.specs.View.{view, items_view, members_view}
 use Rattle.toml.specs.declared.value.Value.{Value}
 use Rattle.toml.proofs.Views.{items_view-drop}
-use Rattle.topology.specs.Network.{each_of, joined, member_count}
+use Rattle.topology.specs.Topology.{each_of, joined, member_count}
 
 -- these values, and those that follow, where there are any
 abbrev pub behind : {X : Type 0} → List X → Option (List X) → Option (List X)

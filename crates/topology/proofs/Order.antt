@@ -9,7 +9,7 @@ use Rattle.leader1822.specs.Host.{Host}
 use Rattle.leader1822.specs.Host.{host_before, InOrder}
 use Rattle.leader1822.proofs.Order.{before_from_numbers}
 use Rattle.topology.specs.declared.network.ImpHosts.{ImpHosts}
-use Rattle.topology.specs.Network.{hosts_below, host_if, has_host, numbered_below, imp_of_number, IsRising}
+use Rattle.topology.specs.Topology.{hosts_below, host_if, has_host, numbered_below, imp_of_number, IsRising}
 
 ordered_more : (hosts : List Host) (h : Host) → InOrder hosts → All (λ g. host_before g h ≡ true) hosts → InOrder (hosts ++ h ∷ [])
 ordered_more [] h o b = tt

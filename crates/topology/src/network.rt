@@ -5,7 +5,7 @@ ghost use Rattle.std.specs.List.{list_any, list_all, cons_option};
 ghost use Rattle.toml.specs.View.{view, items_view};
 ghost use Rattle.toml.specs.Data.{get};
 ghost use Rattle.leader1822.specs.Calls.{InOrder};
-ghost use Rattle.topology.specs.Network.{Network, hosts_of, has_host, network_in, network_of, size, has, one_if, known_members, carrier_of, raw_of, number_at, host_if, is_imp, is_line, each_of, imp_of, line_of, imps_of, lines_of, are_imps, is_there, are_lines, are_apart, joins_same, has_ports, line_count, by_number, imp_of_number};
+ghost use Rattle.topology.specs.Topology.{TopologyFields, hosts_of, has_host, topology_in, topology_of, size, has, one_if, known_members, carrier_of, raw_of, number_at, host_if, is_imp, is_line, each_of, imp_of, line_of, imps_of, lines_of, are_imps, is_there, are_lines, are_apart, joins_same, has_ports, line_count, by_number, imp_of_number};
 ghost use Rattle.topology.specs.Reading.{Described, DescribedIn};
 
 use leader1822::HostAddr;
@@ -57,13 +57,13 @@ pub struct Topology {
 }
 
 impl Model for Topology {
-    ghost use Rattle.topology.specs.Network.{Network, IsNetwork};
+    ghost use Rattle.topology.specs.Topology.{TopologyFields, IsTopology};
 
-    ghost Value = { Network };
+    ghost Value = { TopologyFields };
 
     ghost view = { λ t. record { carrier = t.carrier; raw = t.raw; imps = t.imps.items; lines = t.lines.items } };
 
-    ghost invariant = { λ t. IsNetwork (record { carrier = t.carrier; raw = t.raw; imps = t.imps.items; lines = t.lines.items }) };
+    ghost invariant = { λ t. IsTopology (record { carrier = t.carrier; raw = t.raw; imps = t.imps.items; lines = t.lines.items }) };
 }
 
 /// Why there is no topology.
@@ -102,7 +102,7 @@ impl Topology {
     ///
     /// Errors: `BadTopology` where the text is no such document, `OutOfMemory`.
     pub fn read(alloc: Global, text: &str) -> Result<Topology, TopologyFault>
-        ensures { Described (network_in text.now) result }
+        ensures { Described (topology_in text.now) result }
     {
         match toml::table_from_str(alloc, text) {
             Ok(table) => Topology::from_document(alloc, &Value::Table(table)),
@@ -113,7 +113,7 @@ impl Topology {
 
     /// The topology that a document describes.
     fn from_document(alloc: Global, document: &Value) -> Result<Topology, TopologyFault>
-        ensures { Described (network_of (view document.now)) result }
+        ensures { Described (topology_of (view document.now)) result }
     {
         if size(document) != known_members(document) {
             return Err(TopologyFault::BadTopology);

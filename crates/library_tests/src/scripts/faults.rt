@@ -92,6 +92,6 @@ fn run_failing_writes(alloc: Global, room: usize) -> Ended {
 fn each_write_may_fail(rt: HostRuntime) {
     for room in 0..OFFERED_AND_TAKEN.len() {
         let ended = run_failing_writes(rt.alloc(), room);
-        assert_eq!(rt; ended, (Err(ScriptFault::Stopped), true), "at {room}");
+        assert_eq!(rt; ended, (Err(ScriptFault::CannotWrite), true), "at {room}");
     }
 }

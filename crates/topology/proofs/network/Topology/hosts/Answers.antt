@@ -1,7 +1,7 @@
 use Rattle.std.proofs.Common.{sym, ap, ◌∙◌, subst, ◌++◌, ◌+◌, ◌/◌, ◌%◌}
 use Rattle.leader1822.specs.Host.{Host}
 use Rattle.leader1822.specs.Calls.{InOrder}
-use Rattle.topology.specs.Network.{Network, hosts_below, host_if, has_host}
+use Rattle.topology.specs.Topology.{TopologyFields, hosts_below, host_if, has_host}
 use Rattle.topology.proofs.Order.{hosts_ordered, hosts_next, hosts_none}
 use Rattle.topology.proofs.network.Topology.hosts.Goals as goal
 
@@ -17,5 +17,5 @@ loop-place-preserved c =
     let there : Host = record { imp = place / 4 + 1; host = place % 4 } in
     c.in_ok-push_host.ensures
     ∙ ap (λ xs. xs ++ host_if (has_host c.deref.result.now (place / 4 + 1) (place % 4)) there) c.loop-place.invariant
-    ∙ ap (λ imps. hosts_below c.args.self.now.imps place ++ host_if (has_host imps (place / 4 + 1) (place % 4)) there) (c.deref.ensures.value ∙ ap (λ (n : Network). n.imps) c.self.view_is)
+    ∙ ap (λ imps. hosts_below c.args.self.now.imps place ++ host_if (has_host imps (place / 4 + 1) (place % 4)) there) (c.deref.ensures.value ∙ ap (λ (n : TopologyFields). n.imps) c.self.view_is)
     ∙ sym (hosts_next c.args.self.now.imps c.loop-place.place)
