@@ -159,10 +159,11 @@ plain_first hosts events before part whole h k =
     in_two (opening_boxes hosts) h.done h.left k.shows.last k.shown (subst (λ (es : List Event). Replays plain_calls (opening_boxes hosts) es k.shows.last k.shown) h.parts k.shows.replayed) in
     let one : OneHappens h.shows.last two.mid h.shown two.front = replays_once (opening_boxes hosts) h.shows.last two.mid h.done h.shown two.front h.shows.replayed two.first in
     let lines : output k.shown ≡ output h.shown ++ output two.back =
-    ap output (two.parts ∙ ap (λ xs. xs ++ two.back) (sym one.lines)) ∙ output-append h.shown two.back in
-    (output two.back ++ codes "end\n",
+    ap output (two.parts ∙ ap (λ xs. xs ++ two.back) (sym one.lines)) ∙ output-append h.shown two.back in (
+      output two.back ++ codes "end\n",
       k.written ∙ ap (λ xs. before ++ (xs ++ codes "end\n")) lines ∙ ap (λ xs. before ++ xs) (append_assoc (output h.shown) (output two.back) (codes "end\n"))
-      ∙ sym (append_assoc before (output h.shown) (output two.back ++ codes "end\n")) ∙ ap (λ xs. xs ++ (output two.back ++ codes "end\n")) (sym h.written))
+          ∙ sym (append_assoc before (output h.shown) (output two.back ++ codes "end\n")) ∙ ap (λ xs. xs ++ (output two.back ++ codes "end\n")) (sym h.written),
+    )
 
 pub first_part : (input before part whole : List ℕ) → StopsInput input (Some before) (Some part) → ReplaysInput input (Some before) (Some whole) → (rest : List ℕ) × (whole ≡ part ++ rest)
 first_part input before part whole h k =

@@ -1,5 +1,5 @@
 -- A replay over plain mailboxes goes on, and ends.
-use Rattle.std.proofs.Common.{◌≡◌, ◌||◌, ◌⊎◌, inl, inr, false, true, ℕ, List, [], ◌∷◌, ◌++◌, Option, Result, Ok, Err, reverse, codes, sym, ap, subst, ◌∙◌}
+use Rattle.std.proofs.Common.{◌≡◌, ◌||◌, inl, inr, true, ℕ, List, [], ◌∷◌, Option, Result, Ok, Err, reverse, codes, ap, subst, ◌∙◌}
 use Rattle.std.proofs.lemmas.Bool.{false≢true}
 use Rattle.std.proofs.lemmas.List.{append-nil}
 use Rattle.std.specs.Io.KnownBytes.{Appends}

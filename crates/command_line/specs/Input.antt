@@ -1,5 +1,5 @@
 -- What an input is, and why octets are none.
-use Rattle.std.specs.Prelude.{◌≡◌, ◌≢◌, ℕ, ◌<◌, ◌≤◌, List, length, codes, ◌⊎◌, IsUtf8}
+use Rattle.std.specs.Prelude.{◌≢◌, ℕ, ◌<◌, ◌≤◌, List, length, codes, ◌⊎◌, IsUtf8}
 use Rattle.std.specs.List.{All}
 use Rattle.leader1822.specs.Host.{Host}
 use Rattle.script.specs.Input.{IsParted}

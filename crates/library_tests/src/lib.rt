@@ -16,11 +16,11 @@ mod boxes;
 #[cfg(test)]
 mod control;
 #[cfg(test)]
-mod options;
-#[cfg(test)]
 mod lines;
 #[cfg(test)]
 mod numbers;
+#[cfg(test)]
+mod options;
 #[cfg(test)]
 mod packets;
 #[cfg(test)]

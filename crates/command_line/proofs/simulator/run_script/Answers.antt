@@ -1,4 +1,4 @@
-use Rattle.std.proofs.Common.{rules, sym, subst}
+use Rattle.std.proofs.Common.{subst}
 use Rattle.command_line.specs.Input.{IsInput}
 use Rattle.command_line.proofs.Faults.{known_read, write_fault}
 use Rattle.command_line.proofs.Plain.{nothing_ran}
