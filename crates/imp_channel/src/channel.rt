@@ -1,6 +1,6 @@
 //! One channel of a line.
 
-ghost use Rattle.std.specs.Prelude.{◌≡◌, ◌≤◌, ◌++◌, length, map, vec_len, vec_capacity, ◌+◌};
+ghost use Rattle.std.specs.Prelude.{◌≡◌, ◌≤◌, ◌++◌, length, count_by, is_some, map, vec_len, vec_capacity, ◌+◌};
 ghost use Rattle.imp_channel.specs.Holding.{packets_in};
 ghost use Rattle.imp_channel.specs.Line.{all_acknowledged, acknowledged, opening_channel};
 
@@ -51,9 +51,19 @@ pub(crate) fn acknowledge_all(channels: &mut [Channel], acks: &[bool])
     }
 }
 
+/// How many packets wait in these channels.
+pub(crate) fn count_packets(channels: &[Channel]) -> usize
+    ensures { result ≡ count_by (λ channel. is_some channel.packet) channels.now }
+{
+    channels
+        .iter()
+        .filter(|channel| channel.packet.is_some())
+        .count()
+}
+
 /// Resets the channels, and puts the packets that waited there at the end of a list with room for them.
 pub(crate) fn reset_all(channels: &mut [Channel], packets: &mut Vec<Packet>)
-    requires { vec_len packets.old + length channels.old ≤ vec_capacity packets.old }
+    requires { vec_len packets.old + length (packets_in channels.old) ≤ vec_capacity packets.old }
     ensures packets { packets.new.items ≡ packets.old.items ++ packets_in channels.old }
     ensures channels { channels.new ≡ map (λ _. opening_channel) channels.old }
 {

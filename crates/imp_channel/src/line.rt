@@ -1,11 +1,11 @@
 //! One end of a line.
 
-ghost use Rattle.std.specs.Prelude.{◌≡◌, ◌<◌, ◌++◌, IfOk, IfErr, OnOk, OnErr, Some, None, position};
+ghost use Rattle.std.specs.Prelude.{◌≡◌, ◌<◌, ◌++◌, length, IfOk, IfErr, IsSome, OnOk, OnErr, Some, None, position};
 ghost use Rattle.std.specs.Option.{option_copied};
 ghost use Rattle.imp_channel.specs.Holding.{packets_in};
 ghost use Rattle.imp_channel.specs.Line.{IsRefusal, is_free, frames_of, opening, frame_of, submitted, resent, acknowledgement, routes_frame, channel_at, is_foreign, has_expected_bit, expected_after, brought, state_after, answer_to, is_fresh_answer};
 
-use crate::channel::{acknowledge_all, reset_all};
+use crate::channel::{acknowledge_all, count_packets, reset_all};
 use crate::{ACKS, CHANNELS, Carried, Channel, ChannelFault, Content, Frame, SubmitFault};
 use packetiser::Packet;
 use routing::Vector;
@@ -111,10 +111,12 @@ impl Line {
         }
     }
 
-    /// The frames of all busy channels once more, in channel order.
+    /// The frames of all busy channels once more, in channel order. Only a packet's copy needs memory, so a
+    /// line without a busy channel always answers.
     #[tactic(auto, using(crate::proofs::Calls::frames_more))]
     pub fn resend(&self, alloc: Global) -> Result<Vec<Frame>, AllocError>
-        ensures { IfOk result (λ frames. frames.items ≡ resent self.now) }
+        ensures ok { IfOk result (λ frames. frames.items ≡ resent self.now) }
+        ensures memory { OnErr result (0 < length (packets_in self.now.sending)) }
     {
         let mut frames = Vec::new(alloc);
         for (c, channel) in self.channels.iter().enumerate() {
@@ -124,13 +126,15 @@ impl Line {
     }
 
     /// Starts anew, as the line's other end must too, and gives back the packets of the busy channels in
-    /// channel order. Without memory nothing has changed.
+    /// channel order. Memory is needed only where a channel is busy, and without it nothing has changed.
+    #[tactic(auto, using(crate::proofs::Calls::packets_counted))]
     pub fn reset(&mut self, alloc: Global) -> Result<Vec<Packet>, AllocError>
         ensures packets { IfOk result (λ packets. packets.items ≡ packets_in self.old.sending) }
         ensures state { IfOk result (λ _. self.new ≡ opening) }
         ensures err { OnErr result (self.new ≡ self.old) }
+        ensures memory { OnErr result (0 < length (packets_in self.old.sending)) }
     {
-        let mut packets = Vec::with_capacity(alloc, CHANNELS)?;
+        let mut packets = Vec::with_capacity(alloc, count_packets(&self.channels))?;
         reset_all(&mut self.channels, &mut packets);
         self.expected = [false; ACKS];
         Ok(packets)
@@ -165,7 +169,8 @@ impl Line {
         channel: &Channel,
     ) -> Result<(), AllocError>
         requires { c < ACKS }
-        ensures { OnOk result (frames.new.items ≡ frames.old.items ++ frames_of self.now c channel.now.bit channel.now.packet) }
+        ensures ok { OnOk result (frames.new.items ≡ frames.old.items ++ frames_of self.now c channel.now.bit channel.now.packet) }
+        ensures memory { OnErr result (IsSome channel.now.packet) }
     {
         if let Some(packet) = &channel.packet {
             let carried = Carried::new(c, channel.bit, packet.clone()?);

@@ -1,6 +1,6 @@
-use Rattle.std.proofs.Common.{◌∙◌, arith, ap, sym}
+use Rattle.std.proofs.Common.{◌∙◌, ap, sym}
 use Rattle.std.proofs.lemmas.List.{length-set}
-use Rattle.imp_channel.specs.Format.{bits_of, octet_of}
+use Rattle.imp_channel.specs.Format.{octet_of}
 use Rattle.imp_channel.proofs.FrameLemmas.{bits_of-more, bits_of-all, octet_of-bits_of}
 use Rattle.imp_channel.proofs.frame.bits_of.Goals as goal
 
