@@ -1,5 +1,5 @@
 -- Which packets an end holds, and which a frame carries.
-use Rattle.std.specs.Prelude.{List, [], ◌∷◌, ◌++◌, Option, None, Some}
+use Rattle.std.specs.Prelude.{Bool, List, [], ◌∷◌, ◌++◌, Option, None, Some}
 use Rattle.packetiser.specs.PacketFields.{PacketFields}
 use Rattle.imp_channel.specs.declared.channel.Channel.{Channel}
 use Rattle.imp_channel.specs.declared.frame.Content.{Content}
@@ -26,3 +26,9 @@ carried_by (content.Routes distances) = []
 abbrev pub carried_by_all : List Frame → List PacketFields
 carried_by_all [] = []
 carried_by_all (frame ∷ rest) = carried_by frame.content ++ carried_by_all rest
+
+-- the bits of the packet that a frame with this content carries: only these need memory where a frame is copied
+abbrev pub bits_carried : Content → List Bool
+bits_carried (content.Packet carried) = carried.packet.bits
+bits_carried content.Nothing = []
+bits_carried (content.Routes distances) = []

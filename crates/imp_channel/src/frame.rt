@@ -1,8 +1,8 @@
 //! What goes over a line.
 
-ghost use Rattle.std.specs.Prelude.{◌≡◌, ◌++◌, [], Ok, Err, IfOk, IfErr, OnOk, slice_index};
-ghost use Rattle.imp_channel.specs.Holding.{carried_by};
-ghost use Rattle.imp_channel.specs.Format.{Gives, read_of, spelling, content_of, kind_octet, rest_of, packet_in, routes_in, channel_octet, octet_of, bits_of, bit_value};
+ghost use Rattle.std.specs.Prelude.{◌≡◌, ◌<◌, ◌++◌, [], Ok, IfOk, IfErr, OnOk};
+ghost use Rattle.imp_channel.specs.Holding.{bits_carried};
+ghost use Rattle.imp_channel.specs.Format.{Gives, read_of, packet_bits, bits_in, spelling, content_of, kind_octet, rest_of, packet_in, routes_in, channel_octet, octet_of, bits_of, bit_value};
 
 use crate::ChannelFault;
 use packetiser::Packet;
@@ -119,7 +119,7 @@ impl Frame {
     pub fn read(alloc: Global, octets: &[u8]) -> Result<Frame, ChannelFault>
         ensures exact { Gives (read_of octets.now) result }
         ensures found { IfOk result (λ frame. octets.now ≡ spelling frame) }
-        ensures memory { IfErr result (λ fault. fault ≡ ChannelFault.OutOfMemory → slice_index octets.now 0 ≡ 0) }
+        ensures memory { IfErr result (λ fault. fault ≡ ChannelFault.OutOfMemory → 0 < packet_bits octets.now) }
     {
         let [kind, acks, rest @ ..] = octets else {
             return Err(ChannelFault::Short);
@@ -146,11 +146,11 @@ impl Frame {
     }
 }
 
-/// A copy of a frame is the same frame. Only the copy of a packet needs memory.
+/// A copy of a frame is the same frame. Only the bits of its packet need memory.
 impl Clone for Frame {
     ghost is_clone = { λ x y. y ≡ x };
 
-    ghost is_infallible = { λ x. carried_by x.content ≡ [] };
+    ghost is_infallible = { λ x. bits_carried x.content ≡ [] };
 
     fn clone(&self) -> Result<Frame, AllocError> {
         Ok(Frame {
@@ -163,7 +163,7 @@ impl Clone for Frame {
 impl Clone for Content {
     ghost is_clone = { λ x y. y ≡ x };
 
-    ghost is_infallible = { λ x. carried_by x ≡ [] };
+    ghost is_infallible = { λ x. bits_carried x ≡ [] };
 
     fn clone(&self) -> Result<Content, AllocError> {
         Ok(match self {
@@ -176,6 +176,8 @@ impl Clone for Content {
 
 impl Clone for Carried {
     ghost is_clone = { λ x y. y ≡ x };
+
+    ghost is_infallible = { λ x. x.packet.bits ≡ [] };
 
     fn clone(&self) -> Result<Carried, AllocError> {
         Ok(Carried {
@@ -191,7 +193,7 @@ fn read_content(alloc: Global, kind: u8, rest: &[u8]) -> Result<Content, Channel
     ensures exact { Gives (content_of kind rest.now) result }
     ensures kind { IfOk result (λ content. kind ≡ kind_octet content) }
     ensures rest { IfOk result (λ content. rest.now ≡ rest_of content) }
-    ensures memory { IfErr result (λ fault. fault ≡ ChannelFault.OutOfMemory → kind ≡ 0) }
+    ensures memory { IfErr result (λ fault. fault ≡ ChannelFault.OutOfMemory → 0 < bits_in kind rest.now) }
 {
     match kind {
         0 => read_packet(alloc, rest),
@@ -204,6 +206,7 @@ fn read_content(alloc: Global, kind: u8, rest: &[u8]) -> Result<Content, Channel
 /// Reads a packet, with its channel and bit before it.
 fn read_packet(alloc: Global, rest: &[u8]) -> Result<Content, ChannelFault>
     ensures exact { Gives (packet_in rest.now) result }
+    ensures memory { IfErr result (λ fault. fault ≡ ChannelFault.OutOfMemory → 0 < bits_in 0 rest.now) }
     ensures kind { IfOk result (λ content. kind_octet content ≡ 0) }
     ensures rest { IfOk result (λ content. rest.now ≡ rest_of content) }
 {

@@ -64,7 +64,7 @@ impl Line {
     /// it is acknowledged.
     ///
     /// Errors: `AllBusy` where no channel is free, `OutOfMemory` without memory for the frame's copy of the
-    /// packet. Both hand the packet back, and nothing has changed.
+    /// packet's bits. Both hand the packet back, and nothing has changed.
     #[tactic(auto, using(crate::proofs::Calls::submitted_at), unfolding(crate::specs::Line::submitted))]
     pub fn submit(&mut self, packet: Packet) -> Result<Frame, SubmitFault>
         ensures ok { IfOk result (λ frame. submitted self.old packet ≡ Some (self.new, frame)) }
