@@ -1,8 +1,8 @@
 -- An input leaves a replay no choice.
-use Rattle.std.proofs.Common.{◌≡◌, ◌||◌, false, List, [], ◌∷◌, ◌++◌, Option, Some, None, Result, Ok, Err, reverse, codes, refl, sym, ap, ap₂, subst, ◌∙◌, ℕ}
+use Rattle.std.proofs.Common.{◌≡◌, ◌||◌, Bool, true, false, List, [], ◌∷◌, ◌++◌, Option, Some, None, Result, Ok, Err, reverse, codes, refl, sym, ap, ap₂, subst, ◌∙◌, ℕ}
 use Rattle.std.proofs.lemmas.Bool.{false≢true}
 use Rattle.std.proofs.lemmas.List.{append_assoc, append_cancel_right, reverse-reverse}
-use Rattle.leader1822.specs.Boxes.{Boxes, BoxesDecided, host_refusal, next_for, offer_refusal, offered, opening_boxes, step_refusal, stepped, taken}
+use Rattle.leader1822.specs.Boxes.{Boxes, BoxesDecided, host_refusal, next_for, offer_refusal, offered, opening_boxes, step_grows, step_refusal, stepped, take_grows, taken}
 use Rattle.leader1822.specs.Calls.{is_halt, is_memory}
 use Rattle.leader1822.specs.Host.{Host}
 use Rattle.leader1822.specs.declared.carrier.CarrierFault.{CarrierFault}
@@ -27,18 +27,18 @@ abbrev Settled : {T : Type 0} → Option CarrierFault → (T → Type 0) → Box
 Settled refusal Gives old (Ok x) new = (refusal ≡ None) × Gives x
 Settled refusal Gives old (Err f) new = (refusal ≡ Some f) × (new ≡ old)
 
-settled : {T : Type 0} (refusal : Option CarrierFault) (Gives : T → Type 0) (old : Boxes) (r : Result T CarrierFault) (new : Boxes) → BoxesDecided refusal Gives old r new → Goes r → Settled refusal Gives old r new
-settled refusal Gives old (Ok x) new h goes = h
-settled refusal Gives old (Err fault.NoSuch) new h goes = h
-settled refusal Gives old (Err fault.StillAlive) new h goes = h
-settled refusal Gives old (Err fault.IsDown) new h goes = h
-settled refusal Gives old (Err fault.IsUp) new h goes = h
-settled refusal Gives old (Err fault.Unsettled) new h goes = h
-settled refusal Gives old (Err fault.NotOutstanding) new h goes = h
-settled refusal Gives old (Err fault.Blocked) new h goes = h
-settled refusal Gives old (Err fault.NoRoom) new h goes = h
-settled refusal Gives old (Err fault.Stopped) new h goes = absurd (false≢true (sym goes))
-settled refusal Gives old (Err fault.OutOfMemory) new h goes = absurd (false≢true (sym goes))
+settled : {T : Type 0} (refusal : Option CarrierFault) (grows : Bool) (Gives : T → Type 0) (old : Boxes) (r : Result T CarrierFault) (new : Boxes) → BoxesDecided refusal grows Gives old r new → Goes r → Settled refusal Gives old r new
+settled refusal grows Gives old (Ok x) new h goes = h
+settled refusal grows Gives old (Err fault.NoSuch) new h goes = h
+settled refusal grows Gives old (Err fault.StillAlive) new h goes = h
+settled refusal grows Gives old (Err fault.IsDown) new h goes = h
+settled refusal grows Gives old (Err fault.IsUp) new h goes = h
+settled refusal grows Gives old (Err fault.Unsettled) new h goes = h
+settled refusal grows Gives old (Err fault.NotOutstanding) new h goes = h
+settled refusal grows Gives old (Err fault.Blocked) new h goes = h
+settled refusal grows Gives old (Err fault.NoRoom) new h goes = h
+settled refusal grows Gives old (Err fault.Stopped) new h goes = absurd (false≢true (sym goes))
+settled refusal grows Gives old (Err fault.OutOfMemory) new h goes = absurd (false≢true (sym goes))
 
 record Same {T : Type 0} (r q : Result T CarrierFault) (new other : Boxes) : Type 0 where
   outcome : r ≡ q
@@ -63,11 +63,11 @@ goes_back r (Err f) e goes = subst GoesOn e goes
 
 -- ---- one event
 
-one_step : (refusal : Option CarrierFault) (left old : Boxes) (r q : Result (Unit {0}) CarrierFault) (new other : Boxes)
-    → BoxesDecided refusal (λ done. new ≡ left) old r new → GoesOn r → BoxesDecided refusal (λ done. other ≡ left) old q other → GoesOn q → Same r q new other
-one_step refusal left old r q new other h goes k on =
+one_step : (refusal : Option CarrierFault) (grows : Bool) (left old : Boxes) (r q : Result (Unit {0}) CarrierFault) (new other : Boxes)
+    → BoxesDecided refusal grows (λ done. new ≡ left) old r new → GoesOn r → BoxesDecided refusal grows (λ done. other ≡ left) old q other → GoesOn q → Same r q new other
+one_step refusal grows left old r q new other h goes k on =
     same_answer refusal (λ done. new ≡ left) (λ done. other ≡ left) old r q new other (λ x y a b. (refl, a ∙ sym b))
-    (settled refusal (λ done. new ≡ left) old r new h (same_goes r goes)) (settled refusal (λ done. other ≡ left) old q other k (same_goes q on))
+    (settled refusal grows (λ done. new ≡ left) old r new h (same_goes r goes)) (settled refusal grows (λ done. other ≡ left) old q other k (same_goes q on))
   where
     same_goes : (s : Result (Unit {0}) CarrierFault) → GoesOn s → Goes s
     same_goes (Ok x) g = tt
@@ -91,20 +91,20 @@ taken_once : (old : Boxes) (g : Host) (new other : Boxes) (shown more : List Sho
 taken_once old g new other shown more h k =
     let P : Option Inbound → Type 0 = λ o. (o ≡ next_for old.answers old.queue g) × (new ≡ taken old g o) in
     let Q : Option Inbound → Type 0 = λ o. (o ≡ next_for old.answers old.queue g) × (other ≡ taken old g o) in
-    let refusal : Option CarrierFault = host_refusal old.stopped old.hosts old.down g in
+    let refusal : Option CarrierFault = host_refusal old g in
     let answers : Same h.gives.0 k.gives.0 new other =
     same_answer refusal P Q old h.gives.0 k.gives.0 new other
     (λ x y a b. (a.0 ∙ sym b.0, a.1 ∙ ap (taken old g) (a.0 ∙ sym b.0) ∙ sym b.1))
-    (settled refusal P old h.gives.0 new h.gives.1 (goes_back h.outcome h.gives.0 h.gives.2 h.goes_on))
-    (settled refusal Q old k.gives.0 other k.gives.1 (goes_back k.outcome k.gives.0 k.gives.2 k.goes_on)) in
+    (settled refusal (take_grows old g) P old h.gives.0 new h.gives.1 (goes_back h.outcome h.gives.0 h.gives.2 h.goes_on))
+    (settled refusal (take_grows old g) Q old k.gives.0 other k.gives.1 (goes_back k.outcome k.gives.0 k.gives.2 k.goes_on)) in
     record { outcome = h.gives.2 ∙ ap outcome_of answers.outcome ∙ sym k.gives.2; boxes = answers.boxes }
 
 event_once : (old : Boxes) (e : Event) (new other : Boxes) (shown more : List Shown) → Happens plain_calls old e new shown → Happens plain_calls old e other more → OneHappens new other shown more
 event_once old (event.Out m) new other shown more h k = shows_once old (event.Out m) new other shown more h k
-    (one_step (offer_refusal old.stopped old.hosts old.down old.queue old.answers m.flow) (offered old m) old h.outcome k.outcome new other h.gives h.goes_on k.gives k.goes_on)
+    (one_step (offer_refusal old m.flow) true (offered old m) old h.outcome k.outcome new other h.gives h.goes_on k.gives k.goes_on)
 event_once old (event.Take g) new other shown more h k = shows_once old (event.Take g) new other shown more h k (taken_once old g new other shown more h k)
 event_once old (event.Net n) new other shown more h k = shows_once old (event.Net n) new other shown more h k
-    (one_step (step_refusal old n) (stepped old n) old h.outcome k.outcome new other h.gives h.goes_on k.gives k.goes_on)
+    (one_step (step_refusal old n) (step_grows old n) (stepped old n) old h.outcome k.outcome new other h.gives h.goes_on k.gives k.goes_on)
 
 -- ---- a replay
 

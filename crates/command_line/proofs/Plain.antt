@@ -1,9 +1,9 @@
 -- A replay over plain mailboxes goes on, and ends.
-use Rattle.std.proofs.Common.{◌≡◌, ◌||◌, inl, inr, true, ℕ, List, [], ◌∷◌, Option, Result, Ok, Err, reverse, codes, ap, subst, ◌∙◌}
+use Rattle.std.proofs.Common.{◌≡◌, ◌||◌, inl, inr, Bool, true, ℕ, List, [], ◌∷◌, Option, Result, Ok, Err, reverse, codes, ap, subst, ◌∙◌}
 use Rattle.std.proofs.lemmas.Bool.{false≢true}
 use Rattle.std.proofs.lemmas.List.{append-nil}
 use Rattle.std.specs.Io.KnownBytes.{Appends}
-use Rattle.leader1822.specs.Boxes.{Boxes, BoxesDecided, host_refusal, next_for, offer_refusal, offered, opening_boxes, step_refusal, stepped, taken}
+use Rattle.leader1822.specs.Boxes.{Boxes, BoxesDecided, host_refusal, next_for, offer_refusal, offered, opening_boxes, step_grows, step_refusal, stepped, take_grows, taken}
 use Rattle.leader1822.specs.Calls.{is_halt, is_memory}
 use Rattle.leader1822.specs.Host.{Host}
 use Rattle.leader1822.specs.Messages.{SafeMessages}
@@ -43,18 +43,18 @@ Halted (Ok x) = ⊥
 Halted (Err f) = (is_halt f || is_memory f) ≡ true
 
 -- a call in which the boxes stop, or find that they have stopped, leaves the log
-same_log : {T : Type 0} (refusal : Option CarrierFault) (Gives : T → Type 0) (old : Boxes) (r : Result T CarrierFault) (new : Boxes) → BoxesDecided refusal Gives old r new → Halted r → new.log ≡ old.log
-same_log refusal Gives old (Ok x) new h halts = absurd halts
-same_log refusal Gives old (Err fault.NoSuch) new h halts = absurd (false≢true halts)
-same_log refusal Gives old (Err fault.StillAlive) new h halts = absurd (false≢true halts)
-same_log refusal Gives old (Err fault.IsDown) new h halts = absurd (false≢true halts)
-same_log refusal Gives old (Err fault.IsUp) new h halts = absurd (false≢true halts)
-same_log refusal Gives old (Err fault.Unsettled) new h halts = absurd (false≢true halts)
-same_log refusal Gives old (Err fault.NotOutstanding) new h halts = absurd (false≢true halts)
-same_log refusal Gives old (Err fault.Blocked) new h halts = absurd (false≢true halts)
-same_log refusal Gives old (Err fault.NoRoom) new h halts = absurd (false≢true halts)
-same_log refusal Gives old (Err fault.Stopped) new h halts = ap (λ (b : Boxes). b.log) h.1
-same_log refusal Gives old (Err fault.OutOfMemory) new h halts = h.1.log
+same_log : {T : Type 0} (refusal : Option CarrierFault) (grows : Bool) (Gives : T → Type 0) (old : Boxes) (r : Result T CarrierFault) (new : Boxes) → BoxesDecided refusal grows Gives old r new → Halted r → new.log ≡ old.log
+same_log refusal grows Gives old (Ok x) new h halts = absurd halts
+same_log refusal grows Gives old (Err fault.NoSuch) new h halts = absurd (false≢true halts)
+same_log refusal grows Gives old (Err fault.StillAlive) new h halts = absurd (false≢true halts)
+same_log refusal grows Gives old (Err fault.IsDown) new h halts = absurd (false≢true halts)
+same_log refusal grows Gives old (Err fault.IsUp) new h halts = absurd (false≢true halts)
+same_log refusal grows Gives old (Err fault.Unsettled) new h halts = absurd (false≢true halts)
+same_log refusal grows Gives old (Err fault.NotOutstanding) new h halts = absurd (false≢true halts)
+same_log refusal grows Gives old (Err fault.Blocked) new h halts = absurd (false≢true halts)
+same_log refusal grows Gives old (Err fault.NoRoom) new h halts = absurd (false≢true halts)
+same_log refusal grows Gives old (Err fault.Stopped) new h halts = ap (λ (b : Boxes). b.log) h.1
+same_log refusal grows Gives old (Err fault.OutOfMemory) new h halts = h.2.log
 
 halted : (r : Result (Unit {0}) CarrierFault) → Halts r → Halted r
 halted (Ok done) h = h
@@ -65,10 +65,10 @@ halted_back r (Ok x) e h = subst Halts e h
 halted_back r (Err f) e h = subst Halts e h
 
 halted_log : (old : Boxes) (e : Event) (r : Result (Unit {0}) CarrierFault) (new : Boxes) → EventGives plain_calls old e r new → Halts r → new.log ≡ old.log
-halted_log old (event.Out m) r new gives halts = same_log (offer_refusal old.stopped old.hosts old.down old.queue old.answers m.flow) (λ done. new ≡ offered old m) old r new gives (halted r halts)
+halted_log old (event.Out m) r new gives halts = same_log (offer_refusal old m.flow) true (λ done. new ≡ offered old m) old r new gives (halted r halts)
 halted_log old (event.Take g) r new gives halts =
-    same_log (host_refusal old.stopped old.hosts old.down g) (λ o. (o ≡ next_for old.answers old.queue g) × (new ≡ taken old g o)) old gives.0 new gives.1 (halted_back r gives.0 gives.2 halts)
-halted_log old (event.Net n) r new gives halts = same_log (step_refusal old n) (λ done. new ≡ stepped old n) old r new gives (halted r halts)
+    same_log (host_refusal old g) (take_grows old g) (λ o. (o ≡ next_for old.answers old.queue g) × (new ≡ taken old g o)) old gives.0 new gives.1 (halted_back r gives.0 gives.2 halts)
+halted_log old (event.Net n) r new gives halts = same_log (step_refusal old n) (step_grows old n) (λ done. new ≡ stepped old n) old r new gives (halted r halts)
 
 stopped_log : (old : Boxes) (e : Event) (new : Boxes) → StopsIn plain_calls old e new → new.log ≡ old.log
 stopped_log old e new (inl copied) = ap (λ (b : Boxes). b.log) copied.1

@@ -1,6 +1,6 @@
 use Rattle.std.proofs.Common.{◌≡◌, ◌++◌, drop, filter}
 use Rattle.leader1822.specs.Boxes.{dead_to, is_to}
-use Rattle.leader1822.proofs.plain_boxes.tell_dead.Given as goal
+use Rattle.leader1822.proofs.contents.push_dead.Given as goal
 
 -- what waits, and the Deads of the messages still to come, are all that will wait
 abbrev pub invariant-loop-message : goal.invariant-loop-message
