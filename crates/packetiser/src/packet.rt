@@ -186,6 +186,7 @@ impl Packet {
         ensures again { IfOk result (λ octets. read_of octets.items ≡ Ok self.now) }
     {
         let bits = self.bits.to_octets(alloc).map_err(out_of_memory)?;
+        let number = self.number;
         let count = self.bits.len();
         let mut octets = Vec::from_slice(
             alloc,
@@ -194,7 +195,7 @@ impl Packet {
                 self.source.octet(),
                 self.destination.octet(),
                 self.link.0,
-                self.number,
+                number,
                 place_octet(self.place, self.last),
                 (count / 256) as u8,
                 (count % 256) as u8,
