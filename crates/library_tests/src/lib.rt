@@ -16,16 +16,6 @@ mod boxes;
 #[cfg(test)]
 mod control;
 #[cfg(test)]
-mod lines;
+mod flags;
 #[cfg(test)]
-mod numbers;
-#[cfg(test)]
-mod options;
-#[cfg(test)]
-mod packets;
-#[cfg(test)]
-mod scripts;
-#[cfg(test)]
-mod values;
-#[cfg(test)]
-mod vectors;
+mod flow_tables;
