@@ -16,6 +16,18 @@ mod boxes;
 #[cfg(test)]
 mod control;
 #[cfg(test)]
-mod flags;
-#[cfg(test)]
 mod flow_tables;
+#[cfg(test)]
+mod lines;
+#[cfg(test)]
+mod numbers;
+#[cfg(test)]
+mod options;
+#[cfg(test)]
+mod packets;
+#[cfg(test)]
+mod scripts;
+#[cfg(test)]
+mod values;
+#[cfg(test)]
+mod vectors;
