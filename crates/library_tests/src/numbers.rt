@@ -282,27 +282,28 @@ fn kept_from(rt: &impl Abort, flows: &DestFlows) -> [bool; 3] {
 
 #[test]
 fn forgetting_one_imp_keeps_the_numbers_of_another(rt: HostRuntime) {
-    let near = flow_from(&rt, 1);
-    let far = flow_from(&rt, 3);
+    let flows_from = [flow_from(&rt, 1), flow_from(&rt, 3), flow_from(&rt, 4)];
     let mut flows = DestFlows::new(rt.alloc());
-    let noted = [flows.note(&near, 7).is_ok(), flows.note(&far, 9).is_ok()];
+    let noted = [
+        flows.note(&flows_from[0], 7).is_ok(),
+        flows.note(&flows_from[1], 9).is_ok(),
+        flows.note(&flows_from[2], 8).is_ok(),
+    ];
     let before = kept_from(&rt, &flows);
-    flows.forget(ImpNumber::new(1).expect(&rt, "an IMP"));
+    flows.forget(ImpNumber::new(3).expect(&rt, "an IMP"));
     flows.forget(ImpNumber::new(2).expect(&rt, "an IMP"));
+    let kept = [
+        flows.kept(&flows_from[0]),
+        flows.kept(&flows_from[1]),
+        flows.kept(&flows_from[2]),
+    ];
     assert_eq!(rt;
+        (noted, before, kept_from(&rt, &flows), kept),
         (
-            noted,
-            before,
-            kept_from(&rt, &flows),
-            flows.kept(&near),
-            flows.kept(&far)
-        ),
-        (
-            [true, true],
+            [true; 3],
             [true, false, true],
-            [false, false, true],
-            None,
-            Some(9)
+            [true, false, false],
+            [Some(7), None, Some(8)]
         )
     );
 }

@@ -20,7 +20,7 @@ pub fn next(number: Number) -> Number
     ((number as u32 + 1) % MESSAGE_NUMBERS) as Number
 }
 
-/// The number `WINDOW` before this one: the last that the window reaches back to.
+/// The number that lies `WINDOW` steps before this one: the last one that the window reaches back to.
 #[tactic(auto, unfolding(crate::specs::Numbers::oldest, crate::specs::Numbers::modulus, crate::specs::Numbers::window))]
 pub fn oldest(number: Number) -> Number
     ensures { result ≡ oldest number }
@@ -28,8 +28,8 @@ pub fn oldest(number: Number) -> Number
     ((number as u32 + MESSAGE_NUMBERS - WINDOW) % MESSAGE_NUMBERS) as Number
 }
 
-/// Whether a destination that kept this last number, or none, takes `number` for new: where it kept none,
-/// and where `number` lies 1 to `WINDOW` ahead of the last one.
+/// Whether a destination that keeps this last number, or none, takes `number` for new: it does if it keeps
+/// none, or if `number` lies 1 to `WINDOW` steps ahead of the kept one.
 #[tactic(auto, unfolding(crate::specs::Numbers::is_new, crate::specs::Numbers::modulus, crate::specs::Numbers::window))]
 pub fn is_new(kept: Option<Number>, number: Number) -> bool
     ensures { result ≡ is_new kept number }

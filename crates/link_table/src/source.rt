@@ -22,7 +22,7 @@ pub enum Standing {
     Answered(Number),
 }
 
-/// What an answer to a message comes to.
+/// What an answer to a message does.
 #[derive(Clone, Copy, Debug, PartialEq, Eq)]
 pub enum Release {
     /// It answers the outstanding message, and the flow is answered.
@@ -130,8 +130,8 @@ impl SourceFlows {
         Ok(number)
     }
 
-    /// Takes the answer to a message of this number: the flow is answered where that message is the
-    /// outstanding one, and else nothing changes.
+    /// Takes the answer to the message of this number. If that message is the outstanding one, the flow is
+    /// answered; otherwise nothing changes.
     #[tactic(auto, unfolding(crate::specs::Flows::answered))]
     pub fn answer(&mut self, flow: &Flow, number: Number) -> Release
         ensures state { self.new ≡ answered self.old flow.now number }
@@ -147,7 +147,7 @@ impl SourceFlows {
         }
     }
 
-    /// Gives up the outstanding message of a flow: the flow is answered. Where none is outstanding nothing
+    /// Gives up the outstanding message of a flow: the flow is answered. If none is outstanding, nothing
     /// changes.
     #[tactic(auto, unfolding(crate::specs::Flows::given_up))]
     pub fn give_up(&mut self, flow: &Flow)
@@ -158,8 +158,8 @@ impl SourceFlows {
         }
     }
 
-    /// The host took the answer of a flow, or is down and takes none: the flow is idle. Where no answer
-    /// waits nothing changes.
+    /// Makes an answered flow idle: its host took the answer, or is down and takes none. If no answer
+    /// waits, nothing changes.
     #[tactic(auto, unfolding(crate::specs::Flows::handed))]
     pub fn handed(&mut self, flow: &Flow)
         ensures { self.new ≡ handed self.old flow.now }
@@ -169,15 +169,15 @@ impl SourceFlows {
         }
     }
 
-    /// Whether `begin` isn't blocked: nothing of the flow is outstanding and no answer waits.
+    /// Whether a message of the flow may begin: none is outstanding and no answer waits.
     pub fn is_idle(&self, flow: &Flow) -> bool
         ensures { result ≡ is_idle_in (map.get self.now flow.now) }
     {
         matches!(self.flows.get(flow), None | Some(Standing::Idle(_)))
     }
 
-    /// Whether any message of this host has no answer yet. A host that was down comes up only when none
-    /// has.
+    /// Whether any message of this host has no answer yet. A host that was down comes up only when this is
+    /// false.
     pub fn has_outstanding(&self, host: HostAddr) -> bool
         ensures { result ≡ has_outstanding host self.now }
     {
