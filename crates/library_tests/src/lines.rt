@@ -5,7 +5,7 @@
 use imp_channel::{ACKS, ChannelFault, Content, Frame, Line, Received, SubmitFault};
 use packetiser::Packet;
 use routing::Vector;
-use std::alloc::Global;
+use std::alloc::{AllocError, Global};
 use std::process::Abort;
 use std::test::Fail;
 
@@ -28,18 +28,30 @@ const ROUTES: [u8; 18] = [
 fn octets_that_are_no_frame_are_refused(rt: HostRuntime) {
     let mut far = ROUTES;
     far[4] = 17;
-    let wrong_packet: &[u8] = &[0, 0, 0, 1, 0x01, 0x42, 5, 0, 0x80, 0, 16, 0, 0];
+    let behind_routes: &[u8] = &[
+        2, 1, 1, 0, 1, 16, 16, 16, 16, 16, 16, 16, 16, 16, 16, 16, 16, 16, 0,
+    ];
+    let cut_packet = &READY_FRAME[..10];
+    let packet_of_kind_3: &[u8] = &[0, 0, 0, 3, 0x01, 0x42, 5, 0, 0x80, 0, 0];
+    let answer_with_bits: &[u8] = &[0, 0, 0, 1, 0x01, 0x42, 5, 0, 0x80, 0, 16, 0, 0];
+    let channel_16: &[u8] = &[0, 0, 16, 1, 0x01, 0x42, 5, 0, 0x80, 0, 0];
     for (octets, fault) in [
         (&[] as &[u8], ChannelFault::Short),
         (&[1], ChannelFault::Short),
+        (&[3], ChannelFault::Short),
         (&[0, 0], ChannelFault::Short),
         (&[0, 0, 0], ChannelFault::Short),
         (&ROUTES[..17], ChannelFault::Short),
+        (&far[..17], ChannelFault::Short),
+        (cut_packet, ChannelFault::Short),
         (&[3, 0], ChannelFault::NotCanonical),
         (&[1, 0, 0], ChannelFault::NotCanonical),
         (&[0, 0, 16], ChannelFault::NotCanonical),
+        (channel_16, ChannelFault::NotCanonical),
         (&far, ChannelFault::NotCanonical),
-        (wrong_packet, ChannelFault::BadLength),
+        (behind_routes, ChannelFault::NotCanonical),
+        (packet_of_kind_3, ChannelFault::NotCanonical),
+        (answer_with_bits, ChannelFault::BadLength),
     ] {
         assert_eq!(rt;
             Frame::read(rt.alloc(), octets).err(),
@@ -60,6 +72,67 @@ fn a_frame_is_written_as_it_was_read(rt: HostRuntime) -> Result<(), Fail> {
     for octets in [packet, &[1, 0xFF], &ROUTES] {
         assert_eq!(rt; rewritten(rt.alloc(), octets)?.as_slice(), octets);
     }
+    Ok(())
+}
+
+/// The octets of a copy of the frame that these octets spell, of the frame with a copy of its content, and
+/// of the frame with a copy of its packet.
+fn copied(alloc: Global, octets: &[u8]) -> Result<[Vec<u8>; 3], ChannelFault> {
+    let frame = Frame::read(alloc, octets)?;
+    let copy = frame.clone()?.write(alloc)?;
+    let Frame { acks, content } = frame;
+    let second = Frame {
+        acks,
+        content: content.clone()?,
+    };
+    let third = Frame {
+        acks,
+        content: match content {
+            Content::Packet(carried) => Content::Packet(carried.clone()?),
+            other => other,
+        },
+    };
+    Ok([copy, second.write(alloc)?, third.write(alloc)?])
+}
+
+#[test]
+fn a_copy_of_a_frame_is_the_same_frame(rt: HostRuntime) -> Result<(), Fail> {
+    let packet: &[u8] = &[0, 0xA5, 0x0F, 0, 0x01, 0x42, 5, 1, 0x80, 0, 16, 0xAB, 0xCD];
+    for octets in [packet, &[1, 0xFF], &ROUTES] {
+        for copy in copied(rt.alloc(), octets)? {
+            assert!(rt; copy.as_slice() == octets, "{octets:?}");
+        }
+    }
+    Ok(())
+}
+
+/// The texts of the faults, in the order in which they are looked for.
+fn fault_texts(alloc: Global) -> Result<String, AllocError> {
+    format!(in alloc;
+        "{}, {}, {}, {}",
+        ChannelFault::Short,
+        ChannelFault::NotCanonical,
+        ChannelFault::BadLength,
+        ChannelFault::OutOfMemory
+    )
+}
+
+#[test]
+fn each_fault_has_its_text_and_equals_itself_alone(rt: HostRuntime) -> Result<(), Fail> {
+    let texts = fault_texts(rt.alloc())?;
+    let equal = [
+        ChannelFault::Short == ChannelFault::Short,
+        ChannelFault::Short == ChannelFault::NotCanonical,
+        ChannelFault::BadLength == ChannelFault::BadLength,
+        ChannelFault::BadLength == ChannelFault::OutOfMemory,
+    ];
+    assert_eq!(rt;
+        (texts.as_str(), equal),
+        (
+            "short, not canonical, bad length, out of memory",
+            [true, false, true, false],
+        )
+    );
     Ok(())
 }
 
@@ -151,14 +224,25 @@ fn submit(alloc: Global, line: &mut Line, octets: &[u8], frame: &[u8]) -> Came {
     }
 }
 
-/// What comes of a frame of these octets that an end takes.
+/// The octets of a packet frame's packet.
+fn body(frame: &[u8]) -> &[u8] {
+    match frame {
+        [_, _, _, packet @ ..] => packet,
+        _ => frame,
+    }
+}
+
+/// What comes of a frame of these octets that an end takes. A packet that is fresh has to be the frame's.
 fn hear(alloc: Global, line: &mut Line, octets: &[u8]) -> Came {
     let Ok(frame) = Frame::read(alloc, octets) else {
         return Came::Failed;
     };
     let called_fresh = line.is_fresh(&frame);
     match line.receive(frame) {
-        Ok(Received::Fresh(_)) if called_fresh => Came::Fresh,
+        Ok(Received::Fresh(packet)) if called_fresh => match back(alloc, &packet, body(octets)) {
+            Came::Back => Came::Fresh,
+            other => other,
+        },
         _ if called_fresh => Came::Misjudged,
         Ok(Received::Fresh(_)) => Came::Misjudged,
         Ok(Received::Repeat) => Came::Repeat,
@@ -169,11 +253,14 @@ fn hear(alloc: Global, line: &mut Line, octets: &[u8]) -> Came {
     }
 }
 
-/// Whether a packet waits in a channel of an end.
-fn waits(line: &Line, channel: u8) -> Came {
-    match line.packet(channel) {
-        Some(_) => Came::Waits,
-        None => Came::Nothing,
+/// Whether a packet waits in a channel of an end. It has to have these octets.
+fn waits(alloc: Global, line: &Line, channel: u8, octets: &[u8]) -> Came {
+    let Some(packet) = line.packet(channel) else {
+        return Came::Nothing;
+    };
+    match back(alloc, packet, octets) {
+        Came::Back => Came::Waits,
+        other => other,
     }
 }
 
@@ -212,7 +299,7 @@ fn a_busy_line_takes_no_packet_and_sends_its_own_again(rt: HostRuntime) -> Resul
         (submit(alloc, &mut line, &READY, &READY_FRAME), Came::Sent),
         (submit(alloc, &mut line, &PIECE, &PIECE_FRAME), Came::Back),
         (hear(alloc, &mut line, &[1, 1]), Came::Acknowledgements),
-        (waits(&line, 0), Came::Nothing),
+        (waits(alloc, &line, 0, &READY), Came::Nothing),
         (submit(alloc, &mut line, &PIECE, &PIECE_FRAME), Came::Sent),
         (resend(alloc, &line, &PIECE_FRAME), Came::Sent),
     ];
@@ -228,10 +315,10 @@ fn a_packet_on_another_channel_changes_nothing(rt: HostRuntime) -> Result<(), Fa
     let steps = [
         (submit(alloc, &mut line, &READY, &READY_FRAME), Came::Sent),
         (hear(alloc, &mut line, foreign), Came::NotCanonical),
-        (waits(&line, 0), Came::Waits),
+        (waits(alloc, &line, 0, &READY), Came::Waits),
         (hear(alloc, &mut line, &[1, 0xFE]), Came::Acknowledgements),
-        (waits(&line, 0), Came::Waits),
-        (waits(&line, 1), Came::Nothing),
+        (waits(alloc, &line, 0, &READY), Came::Waits),
+        (waits(alloc, &line, 1, &READY), Came::Nothing),
     ];
     all_as_expected(&rt, &steps);
     Ok(())
@@ -249,14 +336,65 @@ fn reset(alloc: Global, line: &mut Line, octets: &[u8]) -> Came {
 #[test]
 fn a_reset_line_gives_its_packets_back_and_begins_anew(rt: HostRuntime) -> Result<(), Fail> {
     let alloc = rt.alloc();
-    let mine: &[u8] = &[0, 0, 0, 0, 0x01, 0x42, 5, 1, 0x80, 0, 16, 0xAB, 0xCD];
+    let under_1: &[u8] = &[0, 1, 8, 0, 0x01, 0x42, 5, 1, 0x80, 0, 16, 0xAB, 0xCD];
     let mut line = Line::new(alloc)?;
     let steps = [
-        (submit(alloc, &mut line, &PIECE, mine), Came::Sent),
-        (hear(alloc, &mut line, mine), Came::Fresh),
+        (submit(alloc, &mut line, &READY, &READY_FRAME), Came::Sent),
+        (hear(alloc, &mut line, &READY_FRAME), Came::Fresh),
+        (hear(alloc, &mut line, &[1, 1]), Came::Acknowledgements),
+        (submit(alloc, &mut line, &PIECE, under_1), Came::Sent),
         (reset(alloc, &mut line, &PIECE), Came::Back),
+        (waits(alloc, &line, 0, &PIECE), Came::Nothing),
         (sent(alloc, &line.ack_frame(), &[1, 0]), Came::Sent),
         (submit(alloc, &mut line, &READY, &READY_FRAME), Came::Sent),
+        (hear(alloc, &mut line, &READY_FRAME), Came::Fresh),
+    ];
+    all_as_expected(&rt, &steps);
+    Ok(())
+}
+
+/// What comes of telling distances, which has to give a frame of these octets.
+fn tell(alloc: Global, line: &Line, octets: &[u8]) -> Came {
+    let Some(vector) = Vector::from_slice(distances_in(octets)) else {
+        return Came::Failed;
+    };
+    sent(alloc, &line.routes_frame(vector), octets)
+}
+
+/// The distances in a routes frame.
+fn distances_in(frame: &[u8]) -> &[u8] {
+    match frame {
+        [_, _, distances @ ..] => distances,
+        _ => frame,
+    }
+}
+
+#[test]
+fn every_frame_brings_acknowledgements(rt: HostRuntime) -> Result<(), Fail> {
+    let alloc = rt.alloc();
+    let acknowledging: &[u8] = &[0, 1, 0, 1, 0x01, 0x42, 5, 0, 0x80, 0, 0];
+    let under_1: &[u8] = &[0, 1, 8, 0, 0x01, 0x42, 5, 1, 0x80, 0, 16, 0xAB, 0xCD];
+    let mut line = Line::new(alloc)?;
+    let steps = [
+        // a routes frame frees the channel
+        (submit(alloc, &mut line, &READY, &READY_FRAME), Came::Sent),
+        (hear(alloc, &mut line, &ROUTES), Came::Distances),
+        (waits(alloc, &line, 0, &READY), Came::Nothing),
+        // a packet frame does, here by a zero, since the packet that waits has the bit one
+        (submit(alloc, &mut line, &PIECE, &PIECE_FRAME), Came::Sent),
+        (hear(alloc, &mut line, &READY_FRAME), Came::Fresh),
+        (waits(alloc, &line, 0, &PIECE), Came::Nothing),
+        // so does a packet frame that came before; a packet frame acknowledges
+        (submit(alloc, &mut line, &READY, acknowledging), Came::Sent),
+        (hear(alloc, &mut line, acknowledging), Came::Repeat),
+        (waits(alloc, &line, 0, &READY), Came::Nothing),
+        // a frame sent again and a routes frame acknowledge
+        (submit(alloc, &mut line, &PIECE, under_1), Came::Sent),
+        (resend(alloc, &line, under_1), Came::Sent),
+        (tell(alloc, &line, &ROUTES), Came::Sent),
+        // the packet's own bit frees nothing
+        (hear(alloc, &mut line, &[1, 1]), Came::Acknowledgements),
+        (waits(alloc, &line, 0, &PIECE), Came::Waits),
     ];
     all_as_expected(&rt, &steps);
     Ok(())
