@@ -59,6 +59,6 @@ impl<T: Drop> From<AllocFailed<T>> for ChannelFault {
 pub enum SubmitFault {
     /// All channels are busy.
     AllBusy(Packet),
-    /// No memory was left.
+    /// No memory was left for a copy of its bits.
     OutOfMemory(Packet),
 }

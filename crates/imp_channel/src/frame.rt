@@ -59,7 +59,7 @@ impl Model for Carried {
 impl Carried {
     ghost use Rattle.std.specs.Prelude.{◌<◌};
 
-    /// A packet on a channel of at most 7, under this bit.
+    /// Puts a packet on a channel, at most 7, under this bit.
     pub fn new(channel: u8, bit: bool, packet: Packet) -> Self
         requires { channel < ACKS }
         ensures { result ≡ record { channel = channel; bit = bit; packet = packet } }
@@ -102,7 +102,7 @@ impl Carried {
         bit + self.channel
     }
 
-    /// The packet, taken out.
+    /// The packet by value.
     pub fn into_packet(self) -> Packet
         ensures { result ≡ self.packet }
     {
@@ -115,7 +115,8 @@ impl Frame {
     ///
     /// Errors: `Short` for fewer than two octets, a packet frame without a channel, a routes frame with
     /// fewer than sixteen distances; `NotCanonical` for a kind above 2, a bit above the channel and its bit,
-    /// octets after the end, a distance above 16; then those of the packet.
+    /// octets after the end, a distance above 16; then those of the packet. `OutOfMemory` is given only for
+    /// a packet with bits.
     pub fn read(alloc: Global, octets: &[u8]) -> Result<Frame, ChannelFault>
         ensures exact { Gives (read_of octets.now) result }
         ensures found { IfOk result (λ frame. octets.now ≡ spelling frame) }
@@ -131,7 +132,7 @@ impl Frame {
         })
     }
 
-    /// Its octets.
+    /// The octets that spell it.
     ///
     /// Errors: `OutOfMemory` alone.
     pub fn write(&self, alloc: Global) -> Result<Vec<u8>, ChannelFault>

@@ -23,8 +23,8 @@ pub fn in_order()
     ensures leftward { (events : List Event) (c : ℕ) → InOrder c (run events opening_sides).right (run events opening_sides).left }
 {}
 
-/// The law of the line is about something: one packet that is put in is given once, and its channel becomes
-/// free.
+/// An example of the law of the line: a packet is put in, its frame is taken twice, and the acknowledgement
+/// is taken. The packet is given once, and its channel is free.
 pub fn one_packet()
     ensures put { (packet : PacketFields) → (run (one_packet packet) opening_sides).left.put 0 ≡ packet ∷ [] }
     ensures given { (packet : PacketFields) → (run (one_packet packet) opening_sides).right.given 0 ≡ packet ∷ [] }
