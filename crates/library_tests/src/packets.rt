@@ -3,7 +3,7 @@
 use crate::values::{alike, flow};
 use bit_messages::{BitFault, Bits};
 use leader1822::{Flow, HostAddr, HostMessage, Link, Text};
-use packetiser::{Added, Outcome, Packet, PacketFault, PacketKind, Reassembly, cut};
+use packetiser::{Added, Held, Outcome, Packet, PacketFault, PacketKind, Reassembly, cut};
 use std::alloc::{AllocError, Global};
 use std::process::Abort;
 use std::test::Fail;
@@ -719,15 +719,22 @@ fn each_fault_has_its_text(rt: HostRuntime) -> Result<(), Fail> {
     Ok(())
 }
 
-/// Whether faults, kinds and outcomes are equal to their copies, and to others.
-fn likeness() -> Result<[bool; 6], AllocError> {
+/// Whether faults, kinds, outcomes and held messages are equal to their copies, and the first three to
+/// others.
+fn likeness() -> Result<[bool; 7], AllocError> {
     let fault = PacketFault::BadLength;
     let kind = PacketKind::Dead;
     let outcome = Outcome::Old;
+    let held = Held {
+        flow: flow(5),
+        number: 7,
+    };
+    let copy = held.clone()?;
     Ok([
         fault.clone()? == fault,
         kind.clone()? == kind,
         outcome.clone()? == outcome,
+        copy.flow == held.flow && copy.number == held.number,
         fault == PacketFault::NotCanonical,
         kind == PacketKind::Rfnm,
         outcome == Outcome::Full,
@@ -735,6 +742,9 @@ fn likeness() -> Result<[bool; 6], AllocError> {
 }
 
 #[test]
-fn faults_kinds_and_outcomes_are_equal_to_their_copies(rt: HostRuntime) {
-    assert_eq!(rt; likeness(), Ok([true, true, true, false, false, false]));
+fn values_are_equal_to_their_copies(rt: HostRuntime) {
+    assert_eq!(rt;
+        likeness(),
+        Ok([true, true, true, true, false, false, false])
+    );
 }
