@@ -44,14 +44,8 @@ fn leaders_from_an_imp(rt: HostRuntime) {
         (&[0x07, 0x42, 0x05, 0x00], Ok(answer(Answer::Dead))),
         (&[0x09, 0x42, 0x05, 0x00], Ok(answer(Answer::Incomplete))),
         (&[0x00, 0x42, 0x05, 0x00], Ok(regular())),
-        (
-            &[0x02, 0x42, 0x05, 0x00],
-            Err(LeaderFault::UnknownType(2)),
-        ),
-        (
-            &[0x02, 0x00, 0x05, 0x00],
-            Err(LeaderFault::UnknownType(2)),
-        ),
+        (&[0x02, 0x42, 0x05, 0x00], Err(LeaderFault::UnknownType(2))),
+        (&[0x02, 0x00, 0x05, 0x00], Err(LeaderFault::UnknownType(2))),
         (&[0x00, 0x40, 0x05, 0x00], Err(LeaderFault::BadImp)),
         (&[0x05, 0x40, 0x05, 0x00], Err(LeaderFault::BadImp)),
         (&[0x02, 0x00, 0x05], Err(LeaderFault::ShortLeader)),
@@ -226,10 +220,7 @@ fn a_message_is_taken_and_answered(rt: HostRuntime) -> Result<(), Fail> {
     let acts = [
         (Act::Look, Outcome::Seen(2, 0)),
         (Act::Offer(flow), Outcome::Done),
-        (
-            Act::Offer(flow),
-            Outcome::Refused(CarrierFault::Blocked),
-        ),
+        (Act::Offer(flow), Outcome::Refused(CarrierFault::Blocked)),
         (Act::Take(flow.source), Outcome::Nothing),
         (Act::Take(flow.destination), Outcome::Message(flow, 8)),
         (
@@ -376,7 +367,10 @@ fn answers_wait_in_their_order(rt: HostRuntime) -> Result<(), Fail> {
             CarrierFault::NotOutstanding,
         ),
         came(other),
-        (Act::Take(one.destination), Outcome::Answered(Answer::Rfnm, other)),
+        (
+            Act::Take(one.destination),
+            Outcome::Answered(Answer::Rfnm, other),
+        ),
         (Act::Take(one.destination), Outcome::Nothing),
     ];
     assert_eq!(rt; first_other(&rt, rt.alloc(), &acts)?, None);
@@ -398,7 +392,10 @@ fn a_host_that_stops_is_cleared(rt: HostRuntime) -> Result<(), Fail> {
         well(down),
         refused(Act::Offer(one), CarrierFault::IsDown),
         refused(up, CarrierFault::Unsettled),
-        (Act::Take(other.source), Outcome::Answered(Answer::Dead, other)),
+        (
+            Act::Take(other.source),
+            Outcome::Answered(Answer::Dead, other),
+        ),
         came(one),
         well(up),
         (Act::Take(here), Outcome::Nothing),
