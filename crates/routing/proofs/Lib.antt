@@ -1,1 +1,4 @@
 pub mod VectorLemmas
+pub mod Tables
+pub mod Joining
+pub mod Walking

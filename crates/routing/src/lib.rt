@@ -8,6 +8,8 @@
 //! of the IMPs' numbers, of which the first is 1. Nothing here says that a distance is right.
 #![tactic(auto)]
 
+mod route_table;
 mod vector;
 
+pub use route_table::RouteTable;
 pub use vector::{IMPS, INFINITE, Vector};
