@@ -26,6 +26,8 @@ mod options;
 #[cfg(test)]
 mod packets;
 #[cfg(test)]
+mod routes;
+#[cfg(test)]
 mod scripts;
 #[cfg(test)]
 mod values;

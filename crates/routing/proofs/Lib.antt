@@ -2,3 +2,5 @@ pub mod VectorLemmas
 pub mod Tables
 pub mod Joining
 pub mod Walking
+pub mod Nexts
+pub mod Settling

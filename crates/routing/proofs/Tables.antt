@@ -1,8 +1,8 @@
 -- What a route table concludes.
-use Rattle.std.proofs.Common.{◌≡◌, ℕ, zero, suc, ◌+◌, ◌<◌, ◌≤◌, List, [], ◌∷◌, length, get_or, min, Option, Some, None, refl, sym, ◌∙◌, arith, inl, inr}
+use Rattle.std.proofs.Common.{◌≡◌, ℕ, zero, suc, ◌<◌, ◌≤◌, List, [], ◌∷◌, length, get_or, Option, None, sym, ◌∙◌, arith, inl, inr}
 use Rattle.std.proofs.lemmas.Bool.{cases_lt}
-use Rattle.routing.specs.Vector.{imps, infinite}
-use Rattle.routing.specs.RouteTable.{Table, heard_distance, least_heard}
+use Rattle.routing.specs.Vector.{infinite}
+use Rattle.routing.specs.RouteTable.{heard_distance, least_heard}
 
 pub least_heard-le : (ports : List (Option (List ℕ))) (imp : ℕ) → least_heard ports imp ≤ infinite
 least_heard-le [] imp = omega arith

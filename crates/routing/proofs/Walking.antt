@@ -1,8 +1,7 @@
 -- Walks without an IMP twice.
-use Rattle.std.proofs.Common.{◌≡◌, ℕ, zero, suc, ◌+◌, ◌<◌, ◌≤◌, ◌==◌, Bool, true, false, List, [], ◌∷◌, length, get_or, refl, sym, ◌∙◌, ap, arith, inl, inr, subst, All, eqb, ◌||◌}
-use Rattle.std.specs.Prelude.{◌⊎◌, Contains}
+use Rattle.std.proofs.Common.{◌≡◌, ℕ, suc, ◌<◌, ◌≤◌, Bool, true, false, List, [], ◌∷◌, length, get_or, refl, sym, arith, inl, inr, subst, All, eqb, ◌||◌}
 use Rattle.std.specs.List.{IsDistinct, AllByRecursion, list_any}
-use Rattle.std.proofs.lemmas.Bool.{eq-eqb, eqb-true}
+use Rattle.std.proofs.lemmas.Bool.{eqb-true}
 use Rattle.std.proofs.lemmas.Map.Steps.{length-le_from_distinct_below}
 use Rattle.routing.specs.Walks.{AreJoined, IsWalk}
 use Rattle.routing.specs.Settle.{IsImp}
@@ -92,6 +91,6 @@ simple_length count graph from to named there s =
     let imps : List ℕ = from ∷ s.walk in
     let are : (imp : ℕ) → list_any (eqb imp) imps ≡ true → IsImp count imp = on_walk count graph from s.walk to named there s.is_walk in
     let most : length (0 ∷ imps) ≤ suc count =
-        length-le_from_distinct_below (0 ∷ imps) (suc count) (none_pass 0 imps (zero_is_none count imps are), s.distinct)
-        (λ imp any. below_by (eqb imp 0) count imp imps are refl any) in
+    length-le_from_distinct_below (0 ∷ imps) (suc count) (none_pass 0 imps (zero_is_none count imps are), s.distinct)
+    (λ imp any. below_by (eqb imp 0) count imp imps are refl any) in
     omega (arith, most)

@@ -1,5 +1,5 @@
 -- What an IMP knows of routes, and what it concludes (Heart et al., SJCC 1970, routing).
-use Rattle.std.specs.Prelude.{ℕ, ◌+◌, ◌-◌, ◌==◌, ◌||◌, Bool, min, map, position, if◌then◌else◌, List, [], ◌∷◌, slice_index_or, slice_set, Option, Some, None, replicate}
+use Rattle.std.specs.Prelude.{◌≡◌, ℕ, ◌+◌, ◌-◌, ◌<◌, ◌==◌, ◌||◌, min, map, position, if◌then◌else◌, List, [], ◌∷◌, slice_index_or, slice_set, length, Option, Some, None, IsSome, replicate}
 use Rattle.std.specs.List.{range_with_len}
 use Rattle.routing.specs.Vector.{imps, infinite}
 
@@ -48,3 +48,10 @@ next_of t imp =
     if imp == t.own || distance_to t imp == infinite
     then None
     else position (λ heard. heard_distance heard imp + 1 == distance_to t imp) t.heard
+
+-- a next line: its neighbour was heard and is one nearer, and no lower port was heard as near
+pub record IsNext (t : Table) (imp port : ℕ) : Type 0 where
+  pub there : port < length t.heard
+  pub live : IsSome (slice_index_or t.heard port None)
+  pub attains : heard_distance (slice_index_or t.heard port None) imp + 1 ≡ distance_to t imp
+  pub lowest : (lower : ℕ) → lower < port → distance_to t imp < heard_distance (slice_index_or t.heard lower None) imp + 1

@@ -1,8 +1,8 @@
 -- Tables that hear one another in rounds.
-use Rattle.std.specs.Prelude.{◌≡◌, ℕ, zero, suc, ◌+◌, ◌-◌, ◌<◌, ◌≤◌, ◌==◌, map, if◌then◌else◌, List, [], ◌∷◌, length, All, slice_index_or, Option, Some, None, IfSome}
+use Rattle.std.specs.Prelude.{◌≡◌, ℕ, zero, suc, ◌-◌, ◌<◌, ◌≤◌, ◌==◌, map, if◌then◌else◌, List, [], length, All, slice_index_or, Option, Some, None}
 use Rattle.std.specs.List.{filter_map}
 use Rattle.routing.specs.Vector.{imps, infinite}
-use Rattle.routing.specs.RouteTable.{Table, vector_of, distance_in, next_of}
+use Rattle.routing.specs.RouteTable.{Table, vector_of, distance_to, next_of}
 use Rattle.routing.specs.Walks.{IsDistance}
 
 -- the other end of a line that has the IMP at one of its ends
@@ -50,10 +50,11 @@ abbrev pub IsNearer : List (ℕ × ℕ) → ℕ → ℕ → ℕ → ℕ → Type
 IsNearer graph from to distance port =
     (port < length (neighbours graph from)) × IsDistance graph (slice_index_or (neighbours graph from) port 0) to (distance - 1)
 
--- what an IMP's table says is right: each distance, and each next line
+-- what an IMP's table says is right: each distance is the length of a shortest walk, or infinite where there is no walk;
+-- the next line towards an IMP at a distance in between leads nearer; and there is no next line to any other IMP
 pub record IsRight (graph : List (ℕ × ℕ)) (t : Table) : Type 0 where
-  pub distances : (to : ℕ) → IsImp imps to → IsDistance graph t.own to (distance_in (vector_of t) to)
-  pub next : (to : ℕ) → 0 < distance_in (vector_of t) to → distance_in (vector_of t) to < infinite
-      → (port : ℕ) × (next_of t to ≡ Some port) × IsNearer graph t.own to (distance_in (vector_of t) to) port
-  pub no_next : (to : ℕ) → (distance_in (vector_of t) to ≡ 0) → next_of t to ≡ None
-  pub nowhere : (to : ℕ) → (distance_in (vector_of t) to ≡ infinite) → next_of t to ≡ None
+  pub distances : (to : ℕ) → IsImp imps to → IsDistance graph t.own to (distance_to t to)
+  pub next : (to : ℕ) → IsImp imps to → 0 < distance_to t to → distance_to t to < infinite
+      → (port : ℕ) × (next_of t to ≡ Some port) × IsNearer graph t.own to (distance_to t to) port
+  pub itself : (to : ℕ) → distance_to t to ≡ 0 → next_of t to ≡ None
+  pub nowhere : (to : ℕ) → distance_to t to ≡ infinite → next_of t to ≡ None

@@ -8,6 +8,7 @@
 //! of the IMPs' numbers, of which the first is 1. Nothing here says that a distance is right.
 #![tactic(auto)]
 
+pub mod law;
 mod route_table;
 mod vector;
 

@@ -135,8 +135,5 @@ fn distance_in(distances: &[u8], imp: u8) -> u8
     if imp == 0 {
         return INFINITE;
     }
-    distances
-        .get(imp as usize - 1)
-        .copied()
-        .unwrap_or(INFINITE)
+    distances.get(imp as usize - 1).copied().unwrap_or(INFINITE)
 }
