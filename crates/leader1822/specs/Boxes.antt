@@ -123,7 +123,7 @@ answer_first None None = None
 abbrev pub next_for : List WaitingAnswer → List HostMessage → Host → Option Inbound
 next_for answers queue h = answer_first (find (is_told_to h) answers) (find (is_to h) queue)
 
--- what is left when a host took this; for a message an RFNM waits for its source, if that is up
+-- what is left after a host took this. After a message, an RFNM waits for its source, if that is up
 abbrev pub taken : Boxes → Host → Option Inbound → Boxes
 taken b h None = b
 taken b h (Some (inbound.Answer kind f)) = record b {
@@ -138,8 +138,8 @@ taken b h (Some (inbound.Message m)) = record b {
 
 -- ---- events
 
--- giving up looks for the source alone, and whether its flow has something outstanding: a message that waits, or, while
--- the source is up, an RFNM that waits; a flow that is told Dead or Incomplete already has nothing
+-- Giving up asks for a source that is a host of the network, and for something outstanding: a message of the flow or its
+-- RFNM waits. A flow whose Dead or Incomplete waits has nothing outstanding any more
 abbrev pub give_up_refusal : Boxes → Flow → Option CarrierFault
 give_up_refusal b f =
     if b.stopped then Some fault.Stopped
@@ -154,11 +154,12 @@ given_up b f = record b {
   answers = filter (λ a. not (is_rfnm_about f a)) b.answers ++ one_if (not (is_host b.down f.source)) (answer.Incomplete, f);
 }
 
--- what waits for the host is cleared, and each of its messages gives its source Dead, if that is up; the host itself is
--- down by then
+-- a Dead for each of these messages whose source is up
 abbrev pub dead_to : List Host → List Host → List HostMessage → List WaitingAnswer
 dead_to hosts down messages = map (λ m. (answer.Dead, m.flow)) (filter (λ m. is_running hosts down m.flow.source) messages)
 
+-- The answers for the host are cleared. Each message that waits for it gives its source Dead, if that is up. The host
+-- itself counts as down by then
 abbrev pub host_stopped : Boxes → Host → Boxes
 host_stopped b h = record b {
   down = b.down ++ h ∷ [];
@@ -167,7 +168,7 @@ host_stopped b h = record b {
   log = crossing.Down h ∷ b.log;
 }
 
--- a host comes up once no message of its own waits for another
+-- a host comes up only when no message of its own waits any more
 abbrev pub host_up_refusal : Boxes → Host → Option CarrierFault
 host_up_refusal b h =
     if b.stopped then Some fault.Stopped
@@ -245,7 +246,7 @@ step_grows b (event.Abandon f) = false
 
 -- ---- the calls
 
--- after want of memory hosts and log stand; of what waits nothing is said, since nothing is ever taken again
+-- After want of memory hosts and log are as before. Nothing is said of what waits, since nothing is ever taken again
 pub record HasHalted (old new : Boxes) : Type 0 where
   pub hosts : new.hosts ≡ old.hosts
   pub log : new.log ≡ old.log
