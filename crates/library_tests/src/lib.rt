@@ -28,6 +28,8 @@ mod packets;
 #[cfg(test)]
 mod scripts;
 #[cfg(test)]
+mod topologies;
+#[cfg(test)]
 mod values;
 #[cfg(test)]
 mod vectors;
