@@ -1,5 +1,5 @@
 -- Topologies: a network's IMPs, hosts and lines, and the documents that describe them.
-use Rattle.std.specs.Prelude.{◌≡◌, ℕ, zero, suc, ◌+◌, ◌/◌, ◌%◌, ◌<◌, ◌==◌, ◌&&◌, ◌||◌, nat_le, nat_lt, not, Bool, true, false, List, [], ◌∷◌, ◌++◌, length, codes, Option, Some, None, option_and_then, is_some, if◌then◌else◌, ℤ, pos, negsuc, count_by, nat_eq}
+use Rattle.std.specs.Prelude.{◌≡◌, ℕ, zero, suc, ◌+◌, ◌*◌, ◌/◌, ◌%◌, ◌<◌, ◌==◌, ◌&&◌, ◌||◌, nat_le, nat_lt, not, Bool, true, false, List, [], ◌∷◌, ◌++◌, length, codes, Option, Some, None, option_and_then, is_some, if◌then◌else◌, ℤ, pos, negsuc, count_by, nat_eq}
 use Rattle.std.specs.Cmp.Lexicographic.{pointwise}
 use Rattle.std.specs.List.{list_any, list_all, find, cons_option}
 use Rattle.toml.specs.Data.{Data, Items, no_items, item, Members, no_members, member, table, get, as_integer, as_str, as_bool, as_array, as_table}
@@ -10,30 +10,46 @@ use Rattle.topology.specs.declared.network.CarrierKind.TheVariants as kind
 use Rattle.topology.specs.declared.network.ImpHosts.{ImpHosts}
 use Rattle.topology.specs.declared.network.Ends.{Ends}
 
--- what it is run on, the IMPs by rising number, and the lines in their order
+-- a topology: what carries the messages, whether there are no host programs, the IMPs by rising number, and the lines in order
 pub record TopologyFields : Type 0 where
   pub carrier : CarrierKind
   pub raw : Bool
   pub imps : List ImpHosts
   pub lines : List Ends
 
+-- ---- the limits
+
+abbrev pub most_imps : ℕ
+most_imps = 16
+
+-- hosts of one IMP
+abbrev pub most_hosts : ℕ
+most_hosts = 4
+
+-- lines of one IMP
+abbrev pub most_lines : ℕ
+most_lines = 5
+
 -- ---- the rules
+
+-- whether an IMP has this number
 
 abbrev pub is_there : List ImpHosts → ℕ → Bool
 is_there imps number = list_any (λ i. i.imp == number) imps
 
 -- an IMP is numbered 1 to 16 and has at most 4 hosts
 abbrev pub is_imp : ImpHosts → Bool
-is_imp i = nat_le 1 i.imp && (nat_le i.imp 16 && nat_le i.hosts 4)
+is_imp i = nat_le 1 i.imp && (nat_le i.imp most_imps && nat_le i.hosts most_hosts)
 
 -- 1 to 16 IMPs
 abbrev pub are_imps : List ImpHosts → Bool
-are_imps imps = nat_le 1 (length imps) && (nat_le (length imps) 16 && list_all is_imp imps)
+are_imps imps = nat_le 1 (length imps) && (nat_le (length imps) most_imps && list_all is_imp imps)
 
 -- a line joins two IMPs that are there
 abbrev pub is_line : List ImpHosts → Ends → Bool
 is_line imps line = not (line.a == line.b) && (is_there imps line.a && is_there imps line.b)
 
+-- two lines join the same IMPs, in either direction
 abbrev pub joins_same : Ends → Ends → Bool
 joins_same line other = (other.a == line.a && other.b == line.b) || (other.a == line.b && other.b == line.a)
 
@@ -48,13 +64,15 @@ line_count lines number = count_by (λ line. line.a == number || line.b == numbe
 
 -- no IMP has more than five lines
 abbrev pub has_ports : List ImpHosts → List Ends → Bool
-has_ports imps lines = list_all (λ i. nat_le (line_count lines i.imp) 5) imps
+has_ports imps lines = list_all (λ i. nat_le (line_count lines i.imp) most_lines) imps
 
+-- the rules of lines
 abbrev pub are_lines : List ImpHosts → List Ends → Bool
 are_lines imps lines = (list_all (is_line imps) lines && are_apart lines) && has_ports imps lines
 
 -- ---- order
 
+-- the IMP with this number
 abbrev pub imp_of_number : List ImpHosts → ℕ → Option ImpHosts
 imp_of_number imps number = find (λ i. i.imp == number) imps
 
@@ -63,15 +81,17 @@ unfoldable pub numbered_below : List ImpHosts → ℕ → List ImpHosts
 numbered_below imps zero = []
 numbered_below imps (suc number) = numbered_below imps number ++ cons_option (imp_of_number imps number) []
 
+-- all IMPs by rising number
 abbrev pub by_number : List ImpHosts → List ImpHosts
-by_number imps = numbered_below imps 17
+by_number imps = numbered_below imps (most_imps + 1)
 
+-- IMPs by rising number, each number once
 abbrev pub IsRising : List ImpHosts → Type 0
 IsRising [] = Unit {0}
 IsRising (i ∷ []) = Unit {0}
 IsRising (i ∷ j ∷ imps) = (i.imp < j.imp) × IsRising (j ∷ imps)
 
--- what a network keeps
+-- the rules that a topology keeps
 pub record IsTopology (n : TopologyFields) : Type 0 where
   pub imps : are_imps n.imps ≡ true
   pub rising : IsRising n.imps
@@ -91,6 +111,7 @@ size_of (Some members) = member_count members
 abbrev pub size : Data → ℕ
 size d = size_of (as_table d)
 
+-- whether a table has a member with this key
 abbrev pub has : List ℕ → Data → Bool
 has key d = is_some (get key d)
 
@@ -102,6 +123,7 @@ one_if false = 0
 abbrev pub known_members : Data → ℕ
 known_members d = one_if (has (codes "carrier") d) + one_if (has (codes "raw") d) + one_if (has (codes "imp") d) + one_if (has (codes "line") d)
 
+-- a number from 0 to 255
 abbrev pub octet_of : ℤ → Option ℕ
 octet_of (pos n) = if nat_lt n 256 then Some n else None
 octet_of (negsuc n) = None
@@ -133,7 +155,7 @@ joined {X} None xs = None
 joined {X} (Some x) None = None
 joined {X} (Some x) (Some xs) = Some (x ∷ xs)
 
--- what each item of an array describes, in order
+-- what the items of an array describe, in order; none where one of them describes nothing
 abbrev pub each_of : {X : Type 0} → (Data → Option X) → Items → Option (List X)
 each_of {X} describes no_items = Some []
 each_of {X} describes (item d items) = joined (describes d) (each_of describes items)
@@ -154,7 +176,7 @@ abbrev pub kind_named : Option (List ℕ) → Option CarrierKind
 kind_named None = None
 kind_named (Some name) = if pointwise nat_eq name (codes "plain") then Some kind.Plain else (if pointwise nat_eq name (codes "subnet") then Some kind.Subnet else None)
 
--- without the key a network is run on IMPs and lines
+-- without the key the carrier is a subnet
 abbrev pub carrier_of : Option Data → Option CarrierKind
 carrier_of None = Some kind.Subnet
 carrier_of (Some d) = kind_named (as_str d)
@@ -164,7 +186,7 @@ abbrev pub raw_of : Option Data → Option Bool
 raw_of None = Some false
 raw_of (Some d) = as_bool d
 
--- every IMP has a place of its own by its number: no number stands twice, and none passes 16
+-- no number stands twice, and none passes 16: the IMPs by rising number are as many as the document's
 abbrev pub all_placed : List ImpHosts → Bool
 all_placed imps = length (by_number imps) == length imps
 
@@ -172,7 +194,7 @@ abbrev pub topology_if : Bool → TopologyFields → Option TopologyFields
 topology_if true n = Some n
 topology_if false n = None
 
--- the network of these IMPs and lines, where they keep the rules
+-- the topology of these IMPs and lines, where they keep the rules
 abbrev pub topology_by : CarrierKind → Bool → List ImpHosts → List Ends → Option TopologyFields
 topology_by carrier raw imps lines =
     topology_if (all_placed imps && (are_imps (by_number imps) && are_lines (by_number imps) lines))
@@ -185,7 +207,7 @@ topology_from (Some carrier) (Some raw) None lines = None
 topology_from (Some carrier) (Some raw) (Some imps) None = None
 topology_from (Some carrier) (Some raw) (Some imps) (Some lines) = topology_by carrier raw imps lines
 
--- the network that a document describes
+-- the topology that a document's value describes
 abbrev pub topology_of : Data → Option TopologyFields
 topology_of d =
     if size d == known_members d
@@ -196,13 +218,13 @@ abbrev pub topology_if_read : Option Members → Option TopologyFields
 topology_if_read None = None
 topology_if_read (Some members) = topology_of (table members)
 
--- the network that a text describes, where it is a document at all
+-- the topology that a text describes: the text is a TOML document, and the document describes one
 abbrev pub topology_in : List ℕ → Option TopologyFields
 topology_in text = topology_if_read (parse_document text)
 
 -- ---- hosts
 
--- the hosts at places below this one: four places an IMP, from IMP 1 on
+-- whether an IMP has a host of this number
 abbrev pub has_host : List ImpHosts → ℕ → ℕ → Bool
 has_host imps imp host = list_any (λ i. i.imp == imp && nat_lt host i.hosts) imps
 
@@ -210,10 +232,11 @@ abbrev pub host_if : Bool → Host → List Host
 host_if true h = h ∷ []
 host_if false h = []
 
+-- the hosts at places below this one: four places for each IMP, from IMP 1 on
 unfoldable pub hosts_below : List ImpHosts → ℕ → List Host
 hosts_below imps zero = []
 hosts_below imps (suc place) = hosts_below imps place ++ host_if (has_host imps (place / 4 + 1) (place % 4)) (record { imp = place / 4 + 1; host = place % 4 })
 
--- all hosts of a network of 16 IMPs
+-- all hosts of a topology, in order: four places for each of sixteen IMPs
 abbrev pub hosts_of : TopologyFields → List Host
-hosts_of n = hosts_below n.imps 64
+hosts_of t = hosts_below t.imps (most_imps * most_hosts)
