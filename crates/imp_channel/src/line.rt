@@ -99,6 +99,7 @@ impl Line {
     pub fn is_fresh(&self, frame: &Frame) -> bool
         ensures { result ≡ is_fresh_answer (answer_to self.now frame.now) }
     {
+        channel_in_use(&frame.content);
         match &frame.content {
             Content::Packet(carried) => has_expected_bit(&self.expected, carried),
             _ => false,
