@@ -403,11 +403,12 @@ fn the_lowest_free_channel_is_taken_and_frames_go_again_in_channel_order(
         *came = submit_answer(alloc, &mut line, number as u8, number as u8);
     }
     let then = [
-        // channels 2 and 5 are acknowledged: their next packets have bit 1
-        hear(alloc, &mut line, &[1, 0x24]),
-        submit_answer(alloc, &mut line, 0x0A, 8),
-        submit_answer(alloc, &mut line, 0x0D, 9),
-        submit_answer(alloc, &mut line, 0, 10),
+        // channels 0, 2 and 5 are acknowledged: their next packets have bit 1
+        hear(alloc, &mut line, &[1, 0x25]),
+        submit_answer(alloc, &mut line, 0x08, 8),
+        submit_answer(alloc, &mut line, 0x0A, 9),
+        submit_answer(alloc, &mut line, 0x0D, 10),
+        submit_answer(alloc, &mut line, 0, 11),
     ];
     let again = sent_again(alloc, &line)?;
     let back = given_back(alloc, &mut line)?;
@@ -415,19 +416,25 @@ fn the_lowest_free_channel_is_taken_and_frames_go_again_in_channel_order(
         (first, then, again.as_slice(), back.as_slice()),
         (
             [Came::Sent; 8],
-            [Came::Acknowledgements, Came::Sent, Came::Sent, Came::Back],
             [
-                (0u8, false, 0u8),
+                Came::Acknowledgements,
+                Came::Sent,
+                Came::Sent,
+                Came::Sent,
+                Came::Back,
+            ],
+            [
+                (0u8, true, 8u8),
                 (1, false, 1),
-                (2, true, 8),
+                (2, true, 9),
                 (3, false, 3),
                 (4, false, 4),
-                (5, true, 9),
+                (5, true, 10),
                 (6, false, 6),
                 (7, false, 7),
             ]
             .as_slice(),
-            [0u8, 1, 8, 3, 4, 9, 6, 7].as_slice(),
+            [8u8, 1, 9, 3, 4, 10, 6, 7].as_slice(),
         )
     );
     Ok(())
