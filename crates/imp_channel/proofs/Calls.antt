@@ -24,7 +24,7 @@ packets_counted (ch ∷ chs) =
     sum_by-cons (λ (other : Channel). cond (is_some other.packet) 1 0) ch chs ∙ packet_counted ch.packet (count_by (λ other. is_some other.packet) chs) (packets_in chs) (packets_counted chs)
 
 some_counted : (packet : Option PacketFields) (ps : List PacketFields) → IsSome packet → 0 < length (packet_of packet ++ ps)
-some_counted None ps some = absurd some
+some_counted None ps some = cc
 some_counted (Some p) ps some = omega arith
 
 -- where a channel is busy a packet waits
