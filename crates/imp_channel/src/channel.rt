@@ -6,8 +6,8 @@ ghost use Rattle.imp_channel.specs.Line.{all_acknowledged, acknowledged, opening
 
 use packetiser::Packet;
 
-/// How many channels of a line are in use.
-pub const CHANNELS: usize = 1;
+/// How many channels a line has in each direction: all that a frame can name.
+pub const CHANNELS: usize = 8;
 
 /// A sending channel: it holds at most one packet, until the other end has acknowledged it.
 #[derive(Debug, Drop)]

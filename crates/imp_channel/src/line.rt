@@ -1,12 +1,12 @@
 //! One end of a line.
 
-ghost use Rattle.std.specs.Prelude.{◌≡◌, ◌<◌, ◌++◌, length, IfOk, IfErr, IsSome, OnOk, OnErr, Some, None, position};
+ghost use Rattle.std.specs.Prelude.{◌≡◌, ◌<◌, ◌++◌, length, IfOk, IfErr, IsSome, OnOk, OnErr, Ok, Some, None, false, position};
 ghost use Rattle.std.specs.Option.{option_copied};
 ghost use Rattle.imp_channel.specs.Holding.{packets_in};
 ghost use Rattle.imp_channel.specs.Line.{IsRefusal, is_free, frames_of, opening, frame_of, submitted, resent, acknowledgement, routes_frame, channel_at, is_foreign, has_expected_bit, expected_after, brought, state_after, answer_to, is_fresh_answer};
 
 use crate::channel::{acknowledge_all, count_packets, reset_all};
-use crate::{ACKS, CHANNELS, Carried, Channel, ChannelFault, Content, Frame, SubmitFault};
+use crate::{ACKS, CHANNELS, Carried, Channel, Content, Frame, SubmitFault};
 use packetiser::Packet;
 use routing::Vector;
 use std::alloc::{AllocError, Global};
@@ -84,29 +84,24 @@ impl Line {
     }
 
     /// Takes a frame: its acknowledgement bits free channels, and a packet with the bit that is expected on
-    /// its channel is given.
-    ///
-    /// Errors: `NotCanonical` for a packet on a channel that isn't in use; nothing has changed then.
-    pub fn receive(&mut self, frame: Frame) -> Result<Received, ChannelFault>
+    /// its channel is given. No frame is refused, since a line uses every channel that a frame can name.
+    pub fn receive(&mut self, frame: Frame) -> Received
         ensures state { self.new ≡ state_after self.old frame }
-        ensures answer { result ≡ answer_to self.old frame }
+        ensures answer { answer_to self.old frame ≡ Ok result }
     {
-        if is_foreign(&frame.content) {
-            return Err(ChannelFault::NotCanonical);
-        }
+        channel_in_use(&frame.content);
         let Frame { acks, content } = frame;
         acknowledge_all(&mut self.channels, &acks);
-        Ok(take_content(&mut self.expected, content))
+        take_content(&mut self.expected, content)
     }
 
     /// Whether `receive` would answer `Fresh`. Nothing changes.
     pub fn is_fresh(&self, frame: &Frame) -> bool
         ensures { result ≡ is_fresh_answer (answer_to self.now frame.now) }
     {
+        channel_in_use(&frame.content);
         match &frame.content {
-            Content::Packet(carried) => {
-                (carried.channel() as usize) < CHANNELS && has_expected_bit(&self.expected, carried)
-            }
+            Content::Packet(carried) => has_expected_bit(&self.expected, carried),
             _ => false,
         }
     }
@@ -197,13 +192,12 @@ fn lowest_free(channels: &[Channel]) -> Option<usize>
     channels.iter().position(|channel| channel.packet.is_none())
 }
 
-/// Whether this is a packet on a channel that isn't in use.
-fn is_foreign(content: &Content) -> bool
-    ensures { result ≡ is_foreign content.now }
+/// A frame's packet is on a channel that is in use.
+fn channel_in_use(content: &Content)
+    ensures { is_foreign content.now ≡ false }
 {
-    match content {
-        Content::Packet(carried) => carried.channel() as usize >= CHANNELS,
-        _ => false,
+    if let Content::Packet(carried) = content {
+        let _ = carried.channel();
     }
 }
 
