@@ -376,11 +376,7 @@ fn sent_again(alloc: Global, line: &Line) -> Result<Vec<(u8, bool, u8)>, AllocEr
     let mut found = Vec::new(alloc);
     for frame in line.resend(alloc)? {
         if let Content::Packet(carried) = frame.content {
-            found.push((
-                carried.channel(),
-                carried.bit(),
-                carried.packet().number(),
-            ))?;
+            found.push((carried.channel(), carried.bit(), carried.packet().number()))?;
         }
     }
     Ok(found)

@@ -118,10 +118,8 @@ fn is_printed<T: Display>(alloc: Global, value: &T, expected: &str) -> bool {
 fn are_apart<T: Copy + PartialEq>(values: &[T]) -> bool {
     values.iter().enumerate().all(|(place, value)| {
         let copy = *value;
-        values
-            .iter()
-            .enumerate()
-            .all(|(other_place, other)| (copy == *other) == (place == other_place))
+        values.iter().enumerate().all(|(other_place, other)| (copy == *other)
+            == (place == other_place))
     })
 }
 
@@ -158,7 +156,11 @@ fn copies_equal_and_other_values_do_not(rt: HostRuntime) {
         are_apart(&options.map(|(book, check)| Options { book, check })),
         are_apart(&[OptionsFault::BadOptions, OptionsFault::OutOfMemory]),
         are_apart(&[TopologyFault::BadTopology, TopologyFault::OutOfMemory]),
-        are_apart(&[LineFault::BadLine(1), LineFault::BadLine(2), LineFault::OutOfMemory]),
+        are_apart(&[
+            LineFault::BadLine(1),
+            LineFault::BadLine(2),
+            LineFault::OutOfMemory,
+        ]),
         are_apart(&[ReplayFault::OutOfMemory, ReplayFault::CannotWrite]),
         are_apart(&[CarrierKind::Plain, CarrierKind::Subnet]),
         are_apart(&[(1, 2), (2, 1), (2, 2)].map(|(imp, hosts)| ImpHosts { imp, hosts })),
