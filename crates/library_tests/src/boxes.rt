@@ -7,7 +7,6 @@ use leader1822::{
     LeaderFault, Link, NetEvent, PlainBoxes, Text,
 };
 use std::alloc::{AllocError, Global};
-use std::fmt::Write;
 use std::process::Abort;
 use std::test::Fail;
 
@@ -443,46 +442,6 @@ fn the_first_refusal_is_given(rt: HostRuntime) -> Result<(), Fail> {
         came(one),
     ];
     assert_eq!(rt; first_other(&rt, rt.alloc(), &acts)?, None);
-    Ok(())
-}
-
-/// The log of some acts, each crossing with a semicolon behind it.
-fn log_text(rt: &impl Abort, alloc: Global, acts: &[Act]) -> Result<String, Fail> {
-    let mut boxes = two_hosts(rt, alloc)?;
-    for act in acts {
-        let _ = outcome_of(rt, alloc, &mut boxes, *act)?;
-    }
-    let mut text = String::new(alloc);
-    for crossing in boxes.log() {
-        write!(text, "{crossing};")?;
-    }
-    Ok(text)
-}
-
-#[test]
-fn a_log_is_printed_oldest_first(rt: HostRuntime) -> Result<(), Fail> {
-    let (one, two, three) = (flow(1), flow(2), back(255));
-    let down = Act::Step(NetEvent::HostDown(two.destination));
-    let up = Act::Step(NetEvent::HostUp(two.destination));
-    let take = Act::Take(one.source);
-    let acts = [
-        Act::Offer(one),
-        Act::Take(one.destination),
-        Act::Offer(two),
-        Act::Offer(three),
-        Act::Step(NetEvent::GiveUp(three)),
-        Act::Take(three.source),
-        down,
-        take,
-        take,
-        take,
-        up,
-    ];
-    let text = log_text(&rt, rt.alloc(), &acts)?;
-    assert_eq!(rt;
-        text.as_str(),
-        "out 0/1 0/2 1 8;in 0/1 0/2 1 8;out 0/1 0/2 2 8;out 0/2 0/1 255 8;answer incomplete 0/2 0/1 255;down 0/2;answer rfnm 0/1 0/2 1;answer dead 0/1 0/2 2;up 0/2;"
-    );
     Ok(())
 }
 
