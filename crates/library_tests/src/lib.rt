@@ -30,6 +30,8 @@ mod routes;
 #[cfg(test)]
 mod scripts;
 #[cfg(test)]
+mod settled;
+#[cfg(test)]
 mod topologies;
 #[cfg(test)]
 mod values;

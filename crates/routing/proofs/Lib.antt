@@ -3,4 +3,4 @@ pub mod Tables
 pub mod Joining
 pub mod Walking
 pub mod Nexts
-pub mod Settling
+pub mod RoundsLemmas

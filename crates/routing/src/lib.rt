@@ -10,7 +10,9 @@
 
 pub mod law;
 mod route_table;
+mod settling;
 mod vector;
 
 pub use route_table::RouteTable;
+pub use settling::settle;
 pub use vector::{IMPS, INFINITE, Vector};

@@ -1,8 +1,9 @@
 //! What an IMP knows of routes.
 
-ghost use Rattle.std.specs.Prelude.{◌≡◌, ◌+◌, ◌<◌, ◌≤◌, ◌==◌, IfOk, OnErr, length, position};
+ghost use Rattle.std.specs.Prelude.{◌≡◌, ◌+◌, ◌<◌, ◌≤◌, ◌==◌, IfOk, OnErr, length, position, ◌-◌, All, Some, map, [], slice_index_or};
 ghost use Rattle.routing.specs.RouteTable.{opening, hears, loses, distance_in, heard_distance, least_heard, distance_to, vector_of, next_of};
 ghost use Rattle.routing.specs.Vector.{infinite, IsVector};
+ghost use Rattle.routing.specs.Settle.{IsImp, after_round, neighbours, other_end};
 
 use crate::vector::{IMPS, INFINITE, Vector};
 use std::alloc::{AllocError, Global};
@@ -81,6 +82,15 @@ impl RouteTable {
         first_port(&self.heard, imp, distance)
     }
 
+    /// Hears on each port what the neighbour there told.
+    pub(crate) fn hear_neighbours(&mut self, graph: &[(u8, u8)], told: &[Vector])
+        requires ports { length self.old.heard ≡ length (neighbours graph.now self.old.own) }
+        requires named { All (λ line. IsImp (length told.now) line.0 × IsImp (length told.now) line.1) graph.now }
+        ensures { self.new ≡ after_round graph.now told.now self.old }
+    {
+        hear_lines(self.own, graph, told, &mut self.heard);
+    }
+
     /// The distance to one IMP.
     #[tactic(auto, unfolding(crate::specs::RouteTable::distance_to))]
     fn distance_to(&self, imp: u8) -> u8
@@ -91,6 +101,34 @@ impl RouteTable {
             return 0;
         }
         (least_heard(&self.heard, imp) + 1).min(INFINITE)
+    }
+}
+
+/// The IMP at the other end of a line; `None` for a line of other IMPs.
+fn other_end(imp: u8, line: (u8, u8)) -> Option<u8>
+    ensures { result ≡ other_end imp line }
+{
+    if line.0 == imp {
+        Some(line.1)
+    } else if line.1 == imp {
+        Some(line.0)
+    } else {
+        None
+    }
+}
+
+/// Writes what an IMP's neighbours told over what its ports had heard.
+fn hear_lines(own: u8, graph: &[(u8, u8)], told: &[Vector], heard: &mut [Option<Vector>])
+    requires ports { length heard.old ≡ length (neighbours graph.now own) }
+    requires named { All (λ line. IsImp (length told.now) line.0 × IsImp (length told.now) line.1) graph.now }
+    ensures { heard.new ≡ map (λ imp. Some (slice_index_or told.now (imp - 1) [])) (neighbours graph.now own) }
+{
+    let mut port = 0;
+    for line in graph {
+        if let Some(imp) = other_end(own, *line) {
+            heard[port] = Some(told[imp as usize - 1].copy());
+            port += 1;
+        }
     }
 }
 

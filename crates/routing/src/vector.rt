@@ -42,9 +42,7 @@ impl Clone for Vector {
 
     /// The same distances. This takes no memory.
     fn clone(&self) -> Result<Self, AllocError> {
-        Ok(Vector {
-            distances: self.distances,
-        })
+        Ok(self.copy())
     }
 }
 
@@ -68,6 +66,15 @@ impl Vector {
         let mut copy = [0; IMPS];
         copy.copy_from_slice(distances);
         Some(Vector { distances: copy })
+    }
+
+    /// The same vector.
+    pub(crate) fn copy(&self) -> Self
+        ensures { result ≡ self.now }
+    {
+        Vector {
+            distances: self.distances,
+        }
     }
 
     /// The distances, that to IMP 1 first.

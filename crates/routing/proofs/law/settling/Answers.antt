@@ -1,4 +1,4 @@
-use Rattle.routing.proofs.Settling.{settled_keeps, right}
+use Rattle.routing.proofs.RoundsLemmas.{settled_keeps, right}
 use Rattle.routing.proofs.law.settling.Goals as goal
 
 pub returns-clause-kept : goal.returns-clause-kept

@@ -1,5 +1,5 @@
 -- Tables that hear one another in rounds come to tell the lengths of shortest walks.
-use Rattle.std.proofs.Common.{◌≡◌, ℕ, zero, suc, ◌+◌, ◌-◌, ◌<◌, ◌≤◌, List, [], ◌∷◌, length, get_or, map, Option, Some, None, refl, sym, ◌∙◌, ap, arith, inl, inr, subst, All}
+use Rattle.std.proofs.Common.{◌≡◌, ℕ, zero, suc, ◌+◌, ◌-◌, ◌<◌, ◌≤◌, List, [], ◌∷◌, length, get_or, map, Option, Some, None, refl, sym, ◌∙◌, ap, arith, inl, inr, subst, All, add-one}
 use Rattle.std.proofs.lemmas.Bool.{cases_lt}
 use Rattle.std.proofs.lemmas.List.{get_or-map, length-map}
 use Rattle.routing.specs.Vector.{imps, infinite}
@@ -47,6 +47,10 @@ pub settled-length : (graph : List (ℕ × ℕ)) (tables : List Table) (rounds :
 unfolding settled
 settled-length graph tables zero = refl
 settled-length graph tables (suc rounds) = one_round-length graph (settled graph tables rounds) ∙ settled-length graph tables rounds
+
+pub settled-more : (graph : List (ℕ × ℕ)) (tables : List Table) (rounds : ℕ) → one_round graph (settled graph tables rounds) ≡ settled graph tables (rounds + 1)
+unfolding settled
+settled-more graph tables rounds = rw add-one refl
 
 -- what a port of an IMP heard in a round is what its neighbour had
 ports_after : (graph : List (ℕ × ℕ)) (tables : List Table) (imp : ℕ) → AreTablesOf graph tables → IsImp (length tables) imp
