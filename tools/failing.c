@@ -1,6 +1,6 @@
-/* Put before the C library of a program (LD_PRELOAD), for check-failures. Of the environment:
+/* check-failures loads this before the C library of a program (LD_PRELOAD). It reads these environment variables:
    FAIL_ALLOCATION=N, FAIL_READ=N, FAIL_WRITE=N: the Nth allocation, the Nth read of standard input or the Nth
-   write of standard output fails, and the file FIRED is made.
+   write of standard output fails, and the file that FIRED names is made.
    SHORT=1: each such read and write moves one octet. */
 #define _GNU_SOURCE
 #include <dlfcn.h>

@@ -5,8 +5,7 @@
 //! on standard error and the exit status.
 #![tactic(auto)]
 
-use command_line::run;
-use replay::ScriptFault;
+use command_line::{ScriptFault, run};
 use std::io::{BufWriter, ErrorKind, Write};
 use std::process::ExitCode;
 use std::rt::Env;
@@ -27,18 +26,18 @@ fn from_command_line<R: Env + Input + Print + AllocGlobal>(rt: &R) -> Result<(),
     let words = words_of(rt)?;
     let mut reader = rt.reader();
     let buffered = BufWriter::new(rt.alloc(), io::writer(rt));
-    let mut writer = buffered.map_err(|_| ScriptFault::Stopped)?;
+    let mut writer = buffered.map_err(|_| ScriptFault::OutOfMemory)?;
     let outcome = run(rt.alloc(), &words, &mut reader, &mut writer);
     let flushed = writer.flush();
     outcome?;
-    flushed.map_err(|_| ScriptFault::Stopped)
+    flushed.map_err(|_| ScriptFault::CannotWrite)
 }
 
 /// The words of the command line behind the program's name.
 fn words_of<R: Env + AllocGlobal>(rt: &R) -> Result<Vec<String>, ScriptFault> {
     match env::args(rt) {
         Ok(words) => Ok(words.skip(1).collect(rt.alloc())?),
-        Err(error) if error.kind() == ErrorKind::OutOfMemory => Err(ScriptFault::Stopped),
-        Err(_) => Err(ScriptFault::BadArguments),
+        Err(error) if error.kind() == ErrorKind::OutOfMemory => Err(ScriptFault::OutOfMemory),
+        Err(_) => Err(ScriptFault::BadOptions),
     }
 }

@@ -9,7 +9,7 @@ use Rattle.clap.specs.declared.builder.arg.Arg.{Arg}
 use Rattle.clap.specs.declared.builder.command.Command.{Command}
 use Rattle.clap.specs.declared.builder.command.Command.TheOpen.{Command-F}
 use Rattle.clap.specs.declared.builder.command.Command.TheViews.{out-Command}
-use Rattle.command_line.specs.Arguments.{bare, flag}
+use Rattle.command_line.specs.Parser.{bare, flag}
 
 -- an argument that is a flag of this name
 pub record IsFlag (name : Text) (a : Arg) : Type 0 where

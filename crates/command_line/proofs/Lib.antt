@@ -1,3 +1,8 @@
 mod CommandLine
-mod Flags
-mod Marks
+mod Faults
+mod Hyphens
+mod Once
+mod OneInput
+mod Plain
+mod Taken
+mod Words

@@ -1,1 +1,7 @@
-pub mod Arguments
+pub mod Faults
+pub mod Input
+pub mod Options
+pub mod Parser
+pub mod Replayable
+pub mod Replayed
+pub mod Steps

@@ -1,13 +1,22 @@
-//! The program behind its command line: which words it takes, and what it does with its input.
+//! The simulator behind its command line: which options it takes, what it reads, and what it writes.
 //!
-//! Words are read as [`Options`] exactly where each is one of the two flags and none stands twice; [`run`]
-//! then reads the input and runs it, or only reads it, as they ask.
+//! Words are read as [`Options`] where each of them is one of the two options and none stands twice. [`run`]
+//! then reads an input and replays its script, or only reads it, as the options ask. [`run_script`] does the
+//! same for options that were read already.
 //!
-//! Nothing here knows where words and input come from, nor what becomes of a fault.
+//! An input is a topology, the marker line `%` and a script. A caller may rely on three things. Every input is
+//! replayed or refused by name, with the first fault of the list. What is written is what the replay shows.
+//! After want of memory the output is the first part of that.
+//!
+//! Nothing here knows where words and octets come from, nor what becomes of a fault.
 #![tactic(auto)]
 
+mod fault;
+mod input;
+pub mod law;
 mod options;
-mod program;
+mod simulator;
 
-pub use options::{ArgumentFault, Options};
-pub use program::run;
+pub use fault::ScriptFault;
+pub use options::{Options, OptionsFault};
+pub use simulator::{run, run_script};

@@ -1,17 +1,18 @@
-//! The program's arguments.
+//! The options of the command line.
 
 ghost use Rattle.std.specs.Prelude.{◌≡◌, codes, map, IfOk, string_bytes};
 ghost use Rattle.std.specs.List.{list_any};
 ghost use Rattle.std.specs.Str.{bytes_eq};
 ghost use Rattle.clap.specs.Words.{app_of};
-ghost use Rattle.command_line.specs.Arguments.{Asked, options_of, command_line};
+ghost use Rattle.command_line.specs.Options.{Asked, options_of};
+ghost use Rattle.command_line.specs.Parser.{command_line};
 
 use clap::error::ErrorKind;
 use clap::{Arg, ArgAction, Command};
 use std::alloc::{AllocError, Global};
 use thiserror::Error;
 
-/// What the arguments ask for.
+/// What the command line asks for.
 #[derive(Clone, Copy, Debug, PartialEq, Eq)]
 pub struct Options {
     /// Whether the book of connections is printed before the end.
@@ -20,24 +21,24 @@ pub struct Options {
     pub check: bool,
 }
 
-/// Why words are no arguments of the program.
+/// Why words are no options.
 #[derive(Clone, Copy, Debug, Drop, PartialEq, Eq, Error)]
-pub enum ArgumentFault {
-    /// A word that is no flag, or a flag given twice.
-    #[error("bad arguments")]
-    BadArguments,
+pub enum OptionsFault {
+    /// A word that is no option, or an option given twice.
+    #[error("bad options")]
+    BadOptions,
     /// No memory was left.
     #[error("out of memory")]
     OutOfMemory,
 }
 
-impl From<AllocError> for ArgumentFault {
-    ghost use Rattle.command_line.specs.declared.options.ArgumentFault.TheVariants.{OutOfMemory};
+impl From<AllocError> for OptionsFault {
+    ghost use Rattle.command_line.specs.declared.options.OptionsFault.TheVariants.{OutOfMemory};
 
     ghost from_gives = { λ _ e. e ≡ OutOfMemory };
 
-    fn from(_error: AllocError) -> ArgumentFault {
-        ArgumentFault::OutOfMemory
+    fn from(_error: AllocError) -> OptionsFault {
+        OptionsFault::OutOfMemory
     }
 }
 
@@ -45,8 +46,9 @@ impl Options {
     /// The options that the words behind the program's name ask for: `--book` and `--check`, in any
     /// order, each at most once.
     ///
-    /// Errors: `BadArguments` for anything else, `OutOfMemory`.
-    pub fn read(alloc: Global, words: &[String]) -> Result<Options, ArgumentFault>
+    /// Errors: `BadOptions` for anything else. `OutOfMemory` may come for any words, since the parser of words
+    /// is built in memory.
+    pub fn read(alloc: Global, words: &[String]) -> Result<Options, OptionsFault>
         ensures { Asked (options_of (map string_bytes words.now)) result }
     {
         let words: Vec<&str> = words.iter().map(|word| word.as_str()).collect(alloc)?;
@@ -54,31 +56,31 @@ impl Options {
     }
 
     /// The options that these words ask for.
-    fn read_texts(alloc: Global, words: &[&str]) -> Result<Options, ArgumentFault>
+    fn read_texts(alloc: Global, words: &[&str]) -> Result<Options, OptionsFault>
         ensures { Asked (options_of (map (λ word. word.now) words.now)) result }
     {
-        if has_mark(words) {
-            return Err(ArgumentFault::BadArguments);
+        if has_double_hyphen(words) {
+            return Err(OptionsFault::BadOptions);
         }
         match command(alloc)?.try_get_matches_from(words) {
             Ok(matches) => Ok(Options {
                 book: matches.get_flag("book"),
                 check: matches.get_flag("check"),
             }),
-            Err(error) if error.kind() == ErrorKind::OutOfMemory => Err(ArgumentFault::OutOfMemory),
-            Err(_) => Err(ArgumentFault::BadArguments),
+            Err(error) if error.kind() == ErrorKind::OutOfMemory => Err(OptionsFault::OutOfMemory),
+            Err(_) => Err(OptionsFault::BadOptions),
         }
     }
 }
 
 /// Whether `--` is one of the words.
-fn has_mark(words: &[&str]) -> bool
+fn has_double_hyphen(words: &[&str]) -> bool
     ensures { result ≡ list_any (λ word. bytes_eq word.now (codes "--")) words.now }
 {
     words.contains(&"--")
 }
 
-/// The program's command line: two flags, no help and no version.
+/// The command line as the parser of words knows it: two options, no help and no version.
 fn command<'a>(alloc: Global) -> Result<Command<'a>, AllocError>
     ensures { IfOk result (λ command. app_of command ≡ command_line) }
 {

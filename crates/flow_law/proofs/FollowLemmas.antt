@@ -33,6 +33,14 @@ makes_one m old new before later needs same from = record { needs = (needs, tt);
 pub passed_over-one : (f : Flow) (c : Crossing) (log : List Crossing) → passed_over f (c ∷ []) log ≡ passings (length log) f c
 passed_over-one f c log = append-nil (passings (length log) f c)
 
+-- what a flow sees of two lists of crossings, one upon the other
+pub passed_over-append : (f : Flow) (entries others log : List Crossing) → passed_over f (entries ++ others) log ≡ passed_over f entries (others ++ log) ++ passed_over f others log
+passed_over-append f [] others log = refl
+passed_over-append f (c ∷ entries) others log =
+    ap (λ (ps : List Passing). passings (length ((entries ++ others) ++ log)) f c ++ ps) (passed_over-append f entries others log)
+    ∙ ap (λ (cs : List Crossing). passings (length cs) f c ++ (passed_over f entries (others ++ log) ++ passed_over f others log)) (append_assoc entries others log)
+    ∙ sym (append_assoc (passings (length (entries ++ (others ++ log))) f c) (passed_over f entries (others ++ log)) (passed_over f others log))
+
 passed-append : (f : Flow) (entries log : List Crossing) → passed f (entries ++ log) ≡ passed_over f entries log ++ passed f log
 passed-append f [] log = refl
 passed-append f (c ∷ entries) log =

@@ -8,6 +8,6 @@ pub mod FollowLemmas
 pub mod LocalLemmas
 pub mod Left
 pub mod ExampleLemmas
-pub mod MachineLemmas
+pub mod CounterexampleLemmas
 pub mod RoundLemmas
 pub mod StepLemmas

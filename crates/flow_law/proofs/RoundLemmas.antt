@@ -1,28 +1,23 @@
--- A machine that begins any number: 130 messages, and a copy of the first one's packet that outlives them.
-use Rattle.std.proofs.Common.{◌≡◌, ℕ, zero, suc, ◌<◌, true, List, [], ◌∷◌, Some, inl, refl, ap, sym, ◌∙◌, subst, arith}
+-- A machine that begins any number: so many messages that a copy of the first one's packet, which outlives them, is new
+-- again. Nothing is used of the modulus and the window but that the modulus is more than twice the window.
+use Rattle.std.proofs.Common.{◌≡◌, ℕ, zero, suc, ◌-◌, ◌<◌, true, List, [], ◌∷◌, Some, inl, refl, ap, sym, ◌∙◌, subst, arith}
 use Rattle.std.specs.List.{Contains}
-use Rattle.std.proofs.lemmas.Bool.Decides.{nat_tests}
 use Rattle.leader1822.specs.declared.crossing.Answer.TheVariants as answer
 use Rattle.link_table.specs.Numbers.{modulus, window, next, is_new}
+use Rattle.link_table.proofs.NumberLemmas.{wide, some_ahead, next_below, next_new, new_again}
 use Rattle.flow_law.specs.View.{View, Packet, Kind}
 use Rattle.flow_law.specs.Moves.{Move, Either, IsTold, queued, after}
 use Rattle.flow_law.specs.Runs.{IsTurn, IsHistoryBy, view_after, left_by}
 use Rattle.flow_law.specs.Example.{at_first, first_text, InOnePacket}
-use Rattle.flow_law.specs.Machines.{Breaks, AnyNumber, any_number, rounds, turn, second_text, data_of, dead_of}
+use Rattle.flow_law.specs.Counterexamples.{Breaks, AnyNumber, any_number, outlived, rounds, turn, second_text, data_of, dead_of}
 use Rattle.flow_law.proofs.Left.{first_there, second_there, left_none, left_old, left_made, left_both}
 use Rattle.flow_law.proofs.ExampleLemmas.{new_at_first}
 
-next_is : (n : ℕ) → n < 200 → next n ≡ suc n
-unfolding next modulus
-next_is n small = omega arith
+next_is : (n : ℕ) → suc n < modulus → next n ≡ suc n
+next_is n small = next_below n (omega (arith, small)) ∙ omega arith
 
-next_is_new : (n : ℕ) → n < 200 → is_new (Some n) (suc n) ≡ true
-unfolding is_new modulus window
-next_is_new n small = grind (arith, nat_tests)
-
-copy_is_new : is_new (Some 129) 0 ≡ true
-unfolding is_new modulus window
-copy_is_new = refl
+next_is_new : (n : ℕ) → suc n < modulus → is_new (Some n) (suc n) ≡ true
+next_is_new n small = ap (λ (k : ℕ). is_new (Some n) k) (sym (next_is n small)) ∙ next_new n (omega (arith, small))
 
 abbrev copy : Packet
 copy = data_of 0 first_text
@@ -37,11 +32,11 @@ begin_next = Move.Begin 0 second_text
 abbrev note_next : ℕ → Move
 note_next n = Move.NoteGone (data_of (suc n) second_text)
 
-view_rounds : (n : ℕ) → n < 200 → view_after (rounds n) at_first ≡ settled_at n
+view_rounds : (n : ℕ) → suc n < modulus → view_after (rounds n) at_first ≡ settled_at n
 unfolding rounds
 view_rounds zero small = refl
 view_rounds (suc n) small =
-    let below : n < 200 = omega arith in
+    let below : suc n < modulus = omega (arith, small) in
     let F : View → View = λ v. after (Move.TakeAnswer answer.Dead []) (after (Move.Freed (dead_of (suc n)) answer.Dead) (after (note_next n) (after begin_next v))) in
     let G : ℕ → View = λ last. record at_first { last = Some last; kept = Some (suc n) } in
     ap F (view_rounds n below) ∙ ap G (next_is n below)
@@ -52,7 +47,7 @@ left_rounds zero = refl
 left_rounds (suc n) = refl
 
 -- the turns of a message
-begins : (n : ℕ) → n < 200 → (v : View) (alive : List Packet) → v ≡ settled_at n → alive ≡ copy ∷ []
+begins : (n : ℕ) → suc n < modulus → (v : View) (alive : List Packet) → v ≡ settled_at n → alive ≡ copy ∷ []
     → IsTurn AnyNumber InOnePacket v alive (turn begin_next (data_of (suc n) second_text ∷ copy ∷ []))
 begins n small v alive at left =
     let V : View → Type 0 = λ w. IsTurn AnyNumber InOnePacket w alive (turn begin_next (data_of (suc n) second_text ∷ copy ∷ [])) in
@@ -62,7 +57,7 @@ begins n small v alive at left =
       left = left_both _ _ (data_of (suc n) second_text) copy (record { data_packet = refl; number = sym (next_is n small); piece = refl }) (first_there copy []);
     }))
 
-notes : (n : ℕ) → n < 200 → (v : View) → v ≡ settled_at n → (left : List Packet)
+notes : (n : ℕ) → suc n < modulus → (v : View) → v ≡ settled_at n → (left : List Packet)
     → ((x : Packet) → Contains left x → Either (Contains (data_of (suc n) second_text ∷ copy ∷ [])) (IsTold Kind.Dead (suc n)) x)
     → IsTurn AnyNumber InOnePacket (after begin_next v) (data_of (suc n) second_text ∷ copy ∷ []) (turn (note_next n) left)
 notes n small v at left from =
@@ -75,7 +70,7 @@ notes n small v at left from =
       left = from;
     })
 
-frees : (n : ℕ) → n < 200 → (v : View) → v ≡ settled_at n
+frees : (n : ℕ) → suc n < modulus → (v : View) → v ≡ settled_at n
     → IsTurn AnyNumber InOnePacket (after (note_next n) (after begin_next v)) (dead_of (suc n) ∷ copy ∷ []) (turn (Move.Freed (dead_of (suc n)) answer.Dead) (copy ∷ []))
 frees n small v at =
     let V : View → Type 0 = λ w. IsTurn AnyNumber InOnePacket (after (note_next n) (after begin_next w)) (dead_of (suc n) ∷ copy ∷ []) (turn (Move.Freed (dead_of (suc n)) answer.Dead) (copy ∷ [])) in
@@ -90,7 +85,7 @@ answers n v at =
     let V : View → Type 0 = λ w. IsTurn AnyNumber InOnePacket (after (Move.Freed (dead_of (suc n)) answer.Dead) (after (note_next n) (after begin_next w))) (copy ∷ []) (turn (Move.TakeAnswer answer.Dead []) (copy ∷ [])) in
     subst V (sym at) (record { needs = refl; left = λ x there. inl there })
 
-history_rounds : (n : ℕ) → n < 200 → IsHistoryBy AnyNumber InOnePacket at_first (rounds n)
+history_rounds : (n : ℕ) → suc n < modulus → IsHistoryBy AnyNumber InOnePacket at_first (rounds n)
 unfolding rounds
 history_rounds zero small = (
   record { needs = refl; left = λ x there. inl there },
@@ -115,7 +110,7 @@ history_rounds zero small = (
   ),
 )
 history_rounds (suc n) small =
-    let below : n < 200 = omega arith in
+    let below : suc n < modulus = omega (arith, small) in
     let v : View = view_after (rounds n) at_first in
     let at : v ≡ settled_at n = view_rounds n below in (
       answers n v at,
@@ -132,42 +127,47 @@ history_rounds (suc n) small =
     )
 
 -- the copy is made whole, and taken
-queues : (v : View) → v ≡ settled_at 128
-    → IsTurn AnyNumber InOnePacket (after (note_next 128) (after begin_next v)) (copy ∷ []) (turn (Move.Whole copy first_text) [])
-queues v at =
-    let V : View → Type 0 = λ w. IsTurn AnyNumber InOnePacket (after (note_next 128) (after begin_next w)) (copy ∷ []) (turn (Move.Whole copy first_text) []) in
+queues : (n : ℕ) → is_new (Some (suc n)) 0 ≡ true → (v : View) → v ≡ settled_at n
+    → IsTurn AnyNumber InOnePacket (after (note_next n) (after begin_next v)) (copy ∷ []) (turn (Move.Whole copy first_text) [])
+queues n again v at =
+    let V : View → Type 0 = λ w. IsTurn AnyNumber InOnePacket (after (note_next n) (after begin_next w)) (copy ∷ []) (turn (Move.Whole copy first_text) []) in
     subst V (sym at) (record {
       needs = record {
-        note = record { there = first_there copy []; new = record { up = refl; data_packet = refl; new = copy_is_new } };
+        note = record { there = first_there copy []; new = record { up = refl; data_packet = refl; new = again } };
         joined = λ whole all. all copy (first_there copy []) refl refl;
       };
       left = left_none _ _;
     })
 
-takes : (v : View) → v ≡ settled_at 128
-    → IsTurn AnyNumber InOnePacket (after (Move.Whole copy first_text) (after (note_next 128) (after begin_next v))) [] (turn (Move.TakeMessage (queued 0 first_text) []) [])
-takes v at =
-    let V : View → Type 0 = λ w. IsTurn AnyNumber InOnePacket (after (Move.Whole copy first_text) (after (note_next 128) (after begin_next w))) [] (turn (Move.TakeMessage (queued 0 first_text) []) []) in
+takes : (n : ℕ) (v : View) → v ≡ settled_at n
+    → IsTurn AnyNumber InOnePacket (after (Move.Whole copy first_text) (after (note_next n) (after begin_next v))) [] (turn (Move.TakeMessage (queued 0 first_text) []) [])
+takes n v at =
+    let V : View → Type 0 = λ w. IsTurn AnyNumber InOnePacket (after (Move.Whole copy first_text) (after (note_next n) (after begin_next w))) [] (turn (Move.TakeMessage (queued 0 first_text) []) []) in
     subst V (sym at) (record { needs = record { destination = refl; waits = refl }; left = left_none _ _ })
 
-pub any_number_breaks : Breaks AnyNumber any_number
-any_number_breaks =
-    let small : 128 < 200 = omega arith in
-    let v : View = view_after (rounds 128) at_first in
-    let at : v ≡ settled_at 128 = view_rounds 128 small in
+-- whatever the modulus and the window: once the copy is new against a number, it is taken
+outlived_breaks : (n : ℕ) → suc n < modulus → is_new (Some (suc n)) 0 ≡ true → Breaks AnyNumber (outlived n)
+outlived_breaks n small again =
+    let v : View = view_after (rounds n) at_first in
+    let at : v ≡ settled_at n = view_rounds n small in
     record {
       history = (
-        takes v at,
+        takes n v at,
         (
-          queues v at,
+          queues n again v at,
           (
-            notes 128 small v at (copy ∷ []) (left_old _ _ copy (second_there (data_of 129 second_text) copy [])),
+            notes n small v at (copy ∷ []) (left_old _ _ copy (second_there (data_of (suc n) second_text) copy [])),
             (
-              begins 128 small v (left_by (rounds 128)) at (left_rounds 128),
-              history_rounds 128 small,
+              begins n small v (left_by (rounds n)) at (left_rounds n),
+              history_rounds n small,
             ),
           ),
         ),
       );
       broken = λ run. (let same : second_text ≡ first_text = run.0.1 in absurd (cc));
     }
+
+pub any_number_breaks : Breaks AnyNumber any_number
+any_number_breaks =
+    let at : suc (modulus - window - 1) ≡ modulus - window = omega (arith, wide) in
+    outlived_breaks (modulus - window - 1) (omega (arith, wide, some_ahead)) (ap (λ (k : ℕ). is_new (Some k) 0) at ∙ new_again)

@@ -43,6 +43,16 @@ pub one_follows : {Piece : List Bool → Packet → Type 0} (hosts : List Host) 
 one_follows hosts entries log g moves old new before later ups o h =
     all_follow hosts entries log (moves_of g moves) old new before later (one_all hosts entries log g moves old new before later ups o) h
 
+-- a step that is silent for every flow: nothing of any flow changes, and nothing new is alive
+pub silent_follows : {Piece : List Bool → Packet → Type 0} (hosts : List Host) (log : List Crossing) (old new : Flow → View) (before later : Flow → Packet → Type 0)
+    → ((f : Flow) → new f ≡ old f) → ((f : Flow) (x : Packet) → later f x → before f x) → AllSound Piece hosts log old before → AllSound Piece hosts log new later
+silent_follows hosts log old new before later same less h =
+    all_follow hosts [] log (λ f. []) old new before later (record {
+      follows = λ f. stays (old f) (new f) (before f) (later f) (same f) (less f);
+      shown = λ f. refl;
+      ups = tt;
+    }) h
+
 -- ---- what flows see of a crossing of one flow
 
 only_if : (test : Bool) (p : Passing) → test ≡ true → first_if test p [] ++ [] ≡ p ∷ []

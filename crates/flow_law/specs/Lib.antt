@@ -5,4 +5,4 @@ pub mod Runs
 pub mod Follows
 pub mod Local
 pub mod Example
-pub mod Machines
+pub mod Counterexamples

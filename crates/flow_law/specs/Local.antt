@@ -2,15 +2,15 @@
 --
 -- Such a flow has no packets on lines. Its message is queued as it is begun (`BeginLocal`), and its answer is given in the
 -- same step: seen as moves, the answer's packet is made, heard and gone.
-use Rattle.std.specs.Prelude.{ℕ, Bool, false, List, [], ◌∷◌, ◌++◌, None, if◌then◌else◌}
+use Rattle.std.specs.Prelude.{ℕ, Bool, true, false, List, [], ◌∷◌, ◌++◌, None, if◌then◌else◌}
 use Rattle.leader1822.specs.declared.crossing.Answer.TheVariants as answer
-use Rattle.leader1822.specs.Mailboxes.{fetched}
+use Rattle.leader1822.specs.Mailboxes.{Box, fetched}
 use Rattle.flow_law.specs.View.{View, Packet, Queued, Kind}
 use Rattle.flow_law.specs.Moves.{Move, with_answer}
 
--- the packet that tells the source what became of the message with this number
+-- the packet that tells the source what became of the message with this number: one packet without bits, and so the last
 abbrev pub answer_packet : Kind → ℕ → Packet
-answer_packet kind number = record { kind = kind; number = number; place = 0; last = false; bits = [] }
+answer_packet kind number = record { kind = kind; number = number; place = 0; last = true; bits = [] }
 
 -- the destination takes its oldest message, and the source gets RFNM
 abbrev pub taken_here : Queued → List Queued → List Move
@@ -19,43 +19,31 @@ taken_here oldest others = Move.Freed (answer_packet Kind.Rfnm oldest.number) an
 abbrev pub view_taken_here : List Queued → View → View
 view_taken_here others v = record v { queue = others; box = fetched v.box; outstanding = None; answers = with_answer v.source answer.Rfnm v.answers }
 
--- the destination goes down, and the source of this queued message gets Dead
-abbrev pub stopped_here : Queued → List Move
-stopped_here message = Move.Freed (answer_packet Kind.Dead message.number) answer.Dead ∷ Move.StopDestination ∷ []
-
-abbrev pub view_stopped_here : View → View
-view_stopped_here v = record v { destination = false; queue = []; outstanding = None; answers = with_answer v.source answer.Dead v.answers }
-
--- a host that writes to itself goes down: as the source first, so that no answer waits for it
-abbrev pub stopped_itself : List Move
-stopped_itself = Move.StopDestination ∷ Move.StopSource ∷ []
-
--- the same while this message to itself is queued
-abbrev pub stopped_itself_queued : Queued → List Move
-stopped_itself_queued message = Move.Freed (answer_packet Kind.Dead message.number) answer.Dead ∷ stopped_itself
-
-abbrev pub view_stopped_itself : View → View
-view_stopped_itself v = record v { source = false; destination = false; queue = []; outstanding = None; answers = [] }
-
--- a host that writes to itself comes up
-abbrev pub started_itself : List Move
-started_itself = Move.StartDestination ∷ Move.StartSource ∷ []
-
--- the one IMP goes down: the hosts in their order, here the source first, or the two are one
-abbrev pub imp_stopped : List Move
-imp_stopped = Move.StopTo ∷ Move.StopFrom ∷ []
-
--- .. and here the destination first
-abbrev pub imp_stopped_back : List Move
-imp_stopped_back = Move.StopFrom ∷ Move.StopTo ∷ []
-
--- the one IMP comes up
-abbrev pub imp_started : List Move
-imp_started = Move.StartTo ∷ Move.StartFrom ∷ []
-
--- a host goes down, or comes up, that is the source of a flow or not, and the destination or not
+-- a host goes down that is the source of a flow or not, and its destination or not: as the source first, so that no answer
+-- waits for it
 abbrev pub stopped_host : Bool → Bool → List Move
 stopped_host source destination = (if destination then Move.StopDestination ∷ [] else []) ++ (if source then Move.StopSource ∷ [] else [])
 
+-- a host comes up that is the source of a flow or not, and its destination or not
 abbrev pub started_host : Bool → Bool → List Move
 started_host source destination = (if destination then Move.StartDestination ∷ [] else []) ++ (if source then Move.StartSource ∷ [] else [])
+
+-- the same, and the source of this queued message gets Dead at once
+abbrev pub stopped_host_queued : Bool → Queued → List Move
+stopped_host_queued source message = Move.Freed (answer_packet Kind.Dead message.number) answer.Dead ∷ stopped_host source true
+
+-- the destination of a queued message went down, and its source is another host
+abbrev pub view_stopped_here : View → View
+view_stopped_here v = record v { destination = false; queue = []; outstanding = None; answers = with_answer v.source answer.Dead v.answers }
+
+-- a host that writes to itself went down while a message to itself was queued
+abbrev pub view_stopped_itself : View → View
+view_stopped_itself v = record v { source = false; destination = false; queue = []; outstanding = None; answers = [] }
+
+-- a host that writes to itself went down while no message was queued
+abbrev pub view_stopped_unread : View → View
+view_stopped_unread v = record v { source = false; destination = false; queue = []; answers = [] }
+
+-- a host that writes to itself came up
+abbrev pub view_started_itself : View → View
+view_started_itself v = record v { source = true; destination = true; box = Box.Empty }

@@ -8,6 +8,9 @@
 //! The layer above shows of each of its steps that each flow makes a list of moves, and gets that its log
 //! is a run for each flow. Nothing is said of room, routes, lines or the cutting of messages, and no IMP is
 //! tied to the moves here. There is no code: the laws are the contracts of functions that do nothing.
+//!
+//! The module `counterexamples` shows that no need of a move can be dropped. The law does not rest on it.
 #![tactic(auto)]
 
+pub mod counterexamples;
 pub mod law;

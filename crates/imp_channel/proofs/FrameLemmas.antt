@@ -1,8 +1,8 @@
 -- Frames and their octets, both ways.
-use Rattle.std.proofs.Common.{◌≡◌, ℕ, zero, suc, ◌+◌, ◌-◌, ◌*◌, ◌/◌, ◌%◌, ◌^◌, ◌<◌, ◌≤◌, Bool, true, false, List, [], ◌∷◌, length, get_or, take, drop, Ok, Err, Result, refl, sym, ap, ◌∙◌, arith, eqb, leb, ltb, subst, inl, inr}
+use Rattle.std.proofs.Common.{◌≡◌, ℕ, zero, suc, ◌+◌, ◌-◌, ◌*◌, ◌/◌, ◌%◌, ◌^◌, ◌<◌, ◌≤◌, Bool, true, false, List, [], ◌∷◌, length, ◌++◌, get_or, set, take, drop, Ok, Err, Result, refl, sym, ap, ◌∙◌, arith, eqb, leb, ltb, subst, inl, inr}
 use Rattle.std.proofs.lemmas.Bool.{cases_eq, eq-eqb, ne_eqb, le-leb, lt-leb, le-ltb}
 use Rattle.std.proofs.Math.Nat.{pow-suc}
-use Rattle.std.proofs.lemmas.List.{nil_from_length, take_rest}
+use Rattle.std.proofs.lemmas.List.{append_assoc, append-nil, drop_more, length-drop, nil_from_length, take_more_set, take_all, take_rest}
 use Rattle.packetiser.specs.Format as packets
 use Rattle.routing.specs.Vector.{is_vector, IsVector}
 use Rattle.routing.specs.declared.vector.TheConstants.{IMPS}
@@ -15,23 +15,51 @@ use Rattle.imp_channel.specs.declared.frame.Frame.{Frame}
 use Rattle.imp_channel.specs.declared.frame.TheConstants.{ACKS}
 use Rattle.imp_channel.specs.Format.{octet_of, bits_of, bit_value, channel_octet, kind_octet, rest_of, content_of, read_of, framed, Gives}
 
--- the octet of eight bits
-pub octet_of-eight : (bits : List Bool) → length bits ≡ 8
-    → octet_of bits
-    ≡ bit_value (get_or bits 0 false) + 2 * bit_value (get_or bits 1 false) + 4 * bit_value (get_or bits 2 false) + 8 * bit_value (get_or bits 3 false)
-    + 16 * bit_value (get_or bits 4 false) + 32 * bit_value (get_or bits 5 false) + 64 * bit_value (get_or bits 6 false) + 128 * bit_value (get_or bits 7 false)
+-- so many bits make a number below that power of two
+octet_of-below : (bits : List Bool) (n : ℕ) → length bits ≤ n → octet_of bits < 2 ^ n
 unfolding octet_of
-octet_of-eight [] eight = omega arith
-octet_of-eight (a ∷ []) eight = omega arith
-octet_of-eight (a ∷ b ∷ []) eight = omega arith
-octet_of-eight (a ∷ b ∷ c ∷ []) eight = omega arith
-octet_of-eight (a ∷ b ∷ c ∷ d ∷ []) eight = omega arith
-octet_of-eight (a ∷ b ∷ c ∷ d ∷ e ∷ []) eight = omega arith
-octet_of-eight (a ∷ b ∷ c ∷ d ∷ e ∷ f ∷ []) eight = omega arith
-octet_of-eight (a ∷ b ∷ c ∷ d ∷ e ∷ f ∷ g ∷ []) eight = omega arith
-octet_of-eight (a ∷ b ∷ c ∷ d ∷ e ∷ f ∷ g ∷ h ∷ rest) eight =
-    let none : rest ≡ [] = nil_from_length rest (omega arith) in
-    rw none (omega arith)
+octet_of-below [] zero le = omega arith
+octet_of-below [] (suc n) le = let more : 2 ^ suc n ≡ 2 ^ n * 2 = pow-suc 2 n in let some : 0 < 2 ^ n = octet_of-below [] n (omega arith) in omega (arith, more, some)
+octet_of-below (bit ∷ bits) zero le = absurd (omega arith)
+octet_of-below (true ∷ bits) (suc n) le = let more : 2 ^ suc n ≡ 2 ^ n * 2 = pow-suc 2 n in let rest : octet_of bits < 2 ^ n = octet_of-below bits n (omega arith) in omega (arith, more, rest)
+octet_of-below (false ∷ bits) (suc n) le = let more : 2 ^ suc n ≡ 2 ^ n * 2 = pow-suc 2 n in let rest : octet_of bits < 2 ^ n = octet_of-below bits n (omega arith) in omega (arith, more, rest)
+
+-- one bit more in the lowest place
+octet_of-from : (bits : List Bool) (c : ℕ) → c < length bits → octet_of (drop c bits) ≡ 2 * octet_of (drop (c + 1) bits) + bit_value (get_or bits c false)
+unfolding octet_of
+octet_of-from bits c within = let next : drop c bits ≡ get_or bits c false ∷ drop (c + 1) bits = drop_more bits c false within in rw next (omega arith)
+
+pub octet_of-before : (bits : List Bool) (c : ℕ) → 0 < c → c ≤ length bits → octet_of (drop (c - 1) bits) ≡ 2 * octet_of (drop c bits) + bit_value (get_or bits (c - 1) false)
+octet_of-before bits c some within =
+    let at : c - 1 + 1 ≡ c = omega arith in
+    let P : ℕ → Type 0 = λ k. octet_of (drop (c - 1) bits) ≡ 2 * octet_of (drop k bits) + bit_value (get_or bits (c - 1) false) in
+    subst P at (octet_of-from bits (c - 1) (omega arith))
+
+-- eight bits fit an octet
+pub octet_of-fits : (bits : List Bool) (c : ℕ) → 0 < c → c ≤ 8 → length bits ≡ 8 → 2 * octet_of (drop c bits) + bit_value (get_or bits (c - 1) false) < 256
+octet_of-fits bits c some within eight =
+    let whole : octet_of (drop (c - 1) bits) < 2 ^ 8 = octet_of-below (drop (c - 1) bits) 8 (omega (arith, length-drop (c - 1) bits, eight)) in
+    omega (arith, whole, octet_of-before bits c some (omega (arith, eight)))
+
+-- no bit is left
+pub octet_of-none : (bits : List Bool) (c : ℕ) → length bits ≤ c → octet_of (drop c bits) ≡ 0
+unfolding octet_of
+octet_of-none bits c le = let none : drop c bits ≡ [] = nil_from_length (drop c bits) (omega (arith, length-drop c bits)) in rw none refl
+
+-- one bit more from the lowest place
+pub bits_of-more : (n i rest : ℕ) (bits : List Bool) → i < n → length bits ≡ n
+    → take (i + 1) (set bits i (eqb (rest % 2) 1)) ++ bits_of (n - (i + 1)) (rest / 2) ≡ take i bits ++ bits_of (n - i) rest
+unfolding bits_of
+bits_of-more n i rest bits below long =
+    let more : n - i ≡ suc (n - (i + 1)) = omega arith in
+    rw (more, take_more_set bits i (eqb (rest % 2) 1) (omega arith)) (append_assoc (take i bits) (eqb (rest % 2) 1 ∷ []) (bits_of (n - (i + 1)) (rest / 2)))
+
+-- all bits are there
+pub bits_of-all : (n i rest : ℕ) (bits : List Bool) → n ≤ i → length bits ≡ n → take i bits ++ bits_of (n - i) rest ≡ bits
+unfolding bits_of
+bits_of-all n i rest bits le long =
+    let none : n - i ≡ 0 = omega arith in
+    rw none (append-nil (take i bits) ∙ take_all i bits (omega arith))
 
 -- the bits of an octet of bits
 pub bits_of-octet_of : (bits : List Bool) → bits_of (length bits) (octet_of bits) ≡ bits

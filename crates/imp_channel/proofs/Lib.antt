@@ -1,5 +1,6 @@
 pub mod Alternating
 pub mod Calls
 pub mod FrameLemmas
+pub mod Holding
 pub mod OneChannel
 pub mod Runs

@@ -12,7 +12,7 @@ use Rattle.imp_channel.specs.declared.frame.Frame.{Frame}
 use Rattle.imp_channel.specs.declared.frame.TheConstants.{ACKS}
 use Rattle.imp_channel.specs.declared.line.Received.TheVariants as received
 use Rattle.imp_channel.specs.Line.{End, opening_channel, expected_at, differs, frame_on, frames_of, frames_from, acknowledged, all_acknowledged, is_foreign, has_expected_bit, expected_after, brought}
-use Rattle.imp_channel.specs.Schedule.{packet_on, given_on}
+use Rattle.imp_channel.specs.Schedule.{on_channel, given_on}
 use Rattle.imp_channel.proofs.Alternating.{Passing, Carries, AllAre, expected_by, given_by}
 
 -- what a frame has for this channel: a packet under its bit, and an acknowledgement bit
@@ -115,7 +115,7 @@ other_bit true expected k c v other = get_or-set_other expected k c v false (λ 
 other_bit false expected k c v other = refl
 
 given_when : (c : ℕ) (carried : Carriage) (h : Bool)
-    → given_on c (content.Packet carried) (Ok (cond h (received.Fresh carried.packet) received.Repeat)) ≡ cond h (packet_on c (content.Packet carried)) []
+    → given_on c (content.Packet carried) (Ok (cond h (received.Fresh carried.packet) received.Repeat)) ≡ cond h (on_channel c (content.Packet carried) carried.packet) []
 given_when c carried true = refl
 given_when c carried false = refl
 
@@ -154,13 +154,13 @@ carried_elsewhere c expected carried other =
           ∙ ap (λ (t : Bool). given_by (cond t (Some (carried.bit, carried.packet)) None) (get_or expected c false)) (sym elsewhere)));
     }
 
-pub on_channel : (c : ℕ) (expected : List Bool) (brings : Content) → length expected ≡ ACKS → is_foreign brings ≡ false → IsOnChannel c expected brings
-on_channel c expected (content.Packet carried) whole used =
+pub tells_channel : (c : ℕ) (expected : List Bool) (brings : Content) → length expected ≡ ACKS → is_foreign brings ≡ false → IsOnChannel c expected brings
+tells_channel c expected (content.Packet carried) whole used =
     let below : carried.channel < CHANNELS = leb-false CHANNELS carried.channel used in
     let P : ℕ → Type 0 = λ k. IsOnChannel k expected (content.Packet carried) in
     elim (cases_eq carried.channel c) [
       | inl same ↦ subst P same (carried_here expected carried (omega arith))
       | inr other ↦ carried_elsewhere c expected carried other
     ]
-on_channel c expected content.Nothing whole used = record { expects = refl; gives = refl }
-on_channel c expected (content.Routes distances) whole used = record { expects = refl; gives = refl }
+tells_channel c expected content.Nothing whole used = record { expects = refl; gives = refl }
+tells_channel c expected (content.Routes distances) whole used = record { expects = refl; gives = refl }

@@ -1,5 +1,5 @@
 -- Every schedule keeps every channel, in both directions.
-use Rattle.std.proofs.Common.{◌≡◌, ℕ, ◌+◌, ◌-◌, ◌≤◌, ◌<◌, Bool, true, false, List, [], ◌∷◌, ◌++◌, length, get_or, drop, map, Option, Some, None, Err, refl, sym, ap, ◌∙◌, subst, inl, inr, cond, leb, arith, position, slice_get, is_none, zero, suc, Ok, replicate}
+use Rattle.std.proofs.Common.{◌≡◌, ℕ, ◌+◌, ◌-◌, ◌≤◌, ◌<◌, Bool, true, false, List, [], ◌∷◌, ◌++◌, length, get_or, drop, map, Option, Some, None, Err, refl, sym, ap, ◌∙◌, subst, inl, inr, cond, leb, arith, position, slice_get, zero, suc, Ok, replicate}
 use Rattle.std.proofs.lemmas.Bool.{cases_eq, cases_Bool, eq-eqb, ne_eqb, leb-true}
 use Rattle.std.proofs.lemmas.List.{append-nil, get_or-set_same, get_or-set_other, length-append, map-append, drop-append-le, drop-drop, length-replicate}
 use Rattle.std.specs.List.{drop-map}
@@ -12,9 +12,10 @@ use Rattle.imp_channel.specs.declared.fault.ChannelFault.TheVariants as fault
 use Rattle.imp_channel.specs.declared.frame.Frame.{Frame}
 use Rattle.imp_channel.specs.declared.frame.TheConstants.{ACKS}
 use Rattle.imp_channel.specs.Line.{End, opening, opening_channel, channel_at, expected_at, is_free, holding, frame_on, submitted, submitted_on, resent, acknowledgement, routes_frame, acknowledged, all_acknowledged, is_foreign, expected_after, brought}
-use Rattle.imp_channel.specs.Schedule.{Side, opening_side, Act, Submit, Resend, Acknowledge, Tell, Take, packet_on, given_on, freed_by, writes, puts_in, takes, takes_at, acted, Event, Left, Right, Sides, opening_sides, after, run, InOrder}
+use Rattle.imp_channel.specs.Schedule.{Side, opening_side, Act, Submit, Resend, Acknowledge, Tell, Take, on_channel, given_on, freed_by, writes, puts_in, takes, takes_at, acted, Event, Left, Right, Sides, opening_sides, after, run, InOrder}
+use Rattle.imp_channel.proofs.Calls.{none_from}
 use Rattle.imp_channel.proofs.Alternating.{Passing, Kept, Carries, AllAre, expected_by, given_by, kept_drop, kept_wrote, kept_told, kept_submit, kept_acked, kept_came, kept_given, kept_freed}
-use Rattle.imp_channel.proofs.OneChannel.{way_in, ack_in, AllAre-frames, Carries-frames, Carries-frame_on, get_or-all_acknowledged, length-expected_after, IsOnChannel, on_channel}
+use Rattle.imp_channel.proofs.OneChannel.{way_in, ack_in, AllAre-frames, Carries-frames, Carries-frame_on, get_or-all_acknowledged, length-expected_after, IsOnChannel, tells_channel}
 
 -- the packets still on the way from this side on a channel, and the acknowledgement bits
 abbrev pub way : ℕ → Side → List Passing
@@ -65,13 +66,13 @@ kept_writes c me you frames carries tells k = record {
 
 -- the side whose channel `at` holds the packet, with no frame written yet
 abbrev pub holds : ℕ → PacketFields → Side → Side
-holds at p s = record s { state = holding s.state at p; put = λ c. s.put c ++ packet_on c (frame_on s.state at (channel_at s.state at).bit p).content }
+holds at p s = record s { state = holding s.state at p; put = λ c. s.put c ++ on_channel c (frame_on s.state at (channel_at s.state at).bit p).content p }
 
 put_here : (at : ℕ) (p : PacketFields) (me you : Side) → at < length me.state.sending → (channel_at me.state at).packet ≡ None
     → KeptFrom at me you → KeptFrom at (holds at p me) you
 put_here at p me you within free k =
     let full : Channel = record { bit = (channel_at me.state at).bit; packet = Some p } in
-    let P : Channel → Type 0 = λ ch. Kept ch (expected_at you.state at) (way at me) (returning at you) (me.put at ++ packet_on at (frame_on me.state at (channel_at me.state at).bit p).content) (you.given at) (me.freed at) in
+    let P : Channel → Type 0 = λ ch. Kept ch (expected_at you.state at) (way at me) (returning at you) (me.put at ++ on_channel at (frame_on me.state at (channel_at me.state at).bit p).content p) (you.given at) (me.freed at) in
     let Q : Bool → Type 0 = λ t. Kept full (expected_at you.state at) (way at me) (returning at you) (me.put at ++ cond t (p ∷ []) []) (you.given at) (me.freed at) in
     subst P (sym (get_or-set_same me.state.sending at full opening_channel within))
     (subst Q (sym (eq-eqb at at refl))
@@ -81,15 +82,11 @@ put_elsewhere : (c at : ℕ) (p : PacketFields) (me you : Side) → (at ≡ c �
     → KeptFrom c me you → KeptFrom c (holds at p me) you
 put_elsewhere c at p me you other k =
     let full : Channel = record { bit = (channel_at me.state at).bit; packet = Some p } in
-    let P : Channel → Type 0 = λ ch. Kept ch (expected_at you.state c) (way c me) (returning c you) (me.put c ++ packet_on c (frame_on me.state at (channel_at me.state at).bit p).content) (you.given c) (me.freed c) in
+    let P : Channel → Type 0 = λ ch. Kept ch (expected_at you.state c) (way c me) (returning c you) (me.put c ++ on_channel c (frame_on me.state at (channel_at me.state at).bit p).content p) (you.given c) (me.freed c) in
     let Q : Bool → Type 0 = λ t. Kept (channel_at me.state c) (expected_at you.state c) (way c me) (returning c you) (me.put c ++ cond t (p ∷ []) []) (you.given c) (me.freed c) in
     let R : List PacketFields → Type 0 = λ l. Kept (channel_at me.state c) (expected_at you.state c) (way c me) (returning c you) l (you.given c) (me.freed c) in
     subst P (sym (get_or-set_other me.state.sending at c full opening_channel (λ (same : c ≡ at). other (sym same))))
     (subst Q (sym (ne_eqb at c other)) (subst R (sym (append-nil (me.put c))) k))
-
-none_from : (o : Option PacketFields) → is_none o ≡ true → o ≡ None
-none_from None e = refl
-none_from (Some p) e = cc
 
 put : (c at : ℕ) (p : PacketFields) (me you : Side) → at < length me.state.sending → (channel_at me.state at).packet ≡ None
     → KeptFrom c me you → KeptFrom c (holds at p me) you
@@ -109,7 +106,7 @@ held_at e at c p within same =
     ap (λ (x : ℕ). channel_at (holding e at p) x) (sym same) ∙ get_or-set_same e.sending at (record { bit = (channel_at e at).bit; packet = Some p }) opening_channel within
 
 kept_puts_in : (c : ℕ) (p : PacketFields) (me you : Side) (free : Option ℕ) → position is_free me.state.sending ≡ free
-    → BothKept c me you → BothKept c (puts_in (submitted_on me.state p free) me) you
+    → BothKept c me you → BothKept c (puts_in p (submitted_on me.state p free) me) you
 kept_puts_in c p me you None is k = k
 kept_puts_in c p me you (Some at) is k =
     let found = position-Some is_free me.state.sending at opening_channel is in
@@ -185,7 +182,7 @@ kept_refuses c me you f k = record {
 kept_accepts : (c : ℕ) (me you : Side) (f : Frame) (rest : List Frame) → drop you.reached you.written ≡ f ∷ rest → is_foreign f.content ≡ false
     → BothKept c me you → BothKept c (takes_when false f me) you
 kept_accepts c me you f rest at used k =
-    let here : IsOnChannel c me.state.expected f.content = on_channel c me.state.expected f.content k.mine.bits used in
+    let here : IsOnChannel c me.state.expected f.content = tells_channel c me.state.expected f.content k.mine.bits used in
     let ch : Channel = channel_at me.state c in
     let acks_at : returning c you ≡ ack_in c f ∷ map (ack_in c) rest = ap (λ (l : List Frame). map (ack_in c) l) at in
     let way_at : way c you ≡ way_in c f ∷ map (way_in c) rest = ap (λ (l : List Frame). map (way_in c) l) at in

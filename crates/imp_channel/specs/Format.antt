@@ -8,15 +8,13 @@ use Rattle.packetiser.specs.PacketFields.{PacketFields}
 use Rattle.packetiser.specs.Format as packets
 use Rattle.packetiser.specs.declared.fault.PacketFault.{PacketFault}
 use Rattle.packetiser.specs.declared.fault.PacketFault.TheVariants as packet_fault
-use Rattle.routing.specs.Vector.{is_vector}
-use Rattle.routing.specs.declared.vector.TheConstants.{IMPS}
+use Rattle.routing.specs.Vector.{imps, is_vector}
 use Rattle.imp_channel.specs.Carriage.{Carriage}
 use Rattle.imp_channel.specs.declared.fault.ChannelFault.{ChannelFault}
 use Rattle.imp_channel.specs.declared.fault.ChannelFault.TheVariants as fault
 use Rattle.imp_channel.specs.declared.frame.Content.{Content}
 use Rattle.imp_channel.specs.declared.frame.Content.TheVariants as content
 use Rattle.imp_channel.specs.declared.frame.Frame.{Frame}
-use Rattle.imp_channel.specs.declared.frame.TheConstants.{ACKS}
 
 -- ---- writing
 
@@ -34,9 +32,9 @@ kind_octet (content.Packet carried) = 0
 kind_octet content.Nothing = 1
 kind_octet (content.Routes distances) = 2
 
--- a packet's channel and its bit
+-- a packet's channel in the three lowest places, and its bit in the next
 abbrev pub channel_octet : Carriage → ℕ
-channel_octet carried = if carried.bit then carried.channel + ACKS else carried.channel
+channel_octet carried = if carried.bit then carried.channel + 8 else carried.channel
 
 -- what follows the acknowledgement bits
 abbrev pub rest_of : Content → List ℕ
@@ -63,13 +61,13 @@ fault_of packet_fault.BadLength = fault.BadLength
 fault_of packet_fault.OutOfMemory = fault.OutOfMemory
 
 abbrev pub carried_as : ℕ → Result PacketFields PacketFault → Result Content ChannelFault
-carried_as octet (Ok packet) = Ok (content.Packet (record { channel = octet % ACKS; bit = nat_le ACKS octet; packet = packet }))
+carried_as octet (Ok packet) = Ok (content.Packet (record { channel = octet % 8; bit = nat_le 8 octet; packet = packet }))
 carried_as octet (Err e) = Err (fault_of e)
 
 -- a packet frame: its channel and bit, with nothing above them, and the packet to the end
 abbrev pub packet_in : List ℕ → Result Content ChannelFault
 packet_in [] = Err fault.Short
-packet_in (octet ∷ body) = if nat_le (2 * ACKS) octet then Err fault.NotCanonical else carried_as octet (packets.read_of body)
+packet_in (octet ∷ body) = if nat_le 16 octet then Err fault.NotCanonical else carried_as octet (packets.read_of body)
 
 -- an acknowledgement frame: nothing more
 abbrev pub nothing_in : List ℕ → Result Content ChannelFault
@@ -79,7 +77,7 @@ nothing_in (octet ∷ rest) = Err fault.NotCanonical
 -- a routes frame: a vector's distances, and nothing after them
 abbrev pub routes_in : List ℕ → Result Content ChannelFault
 routes_in rest =
-    if nat_lt (length rest) IMPS
+    if nat_lt (length rest) imps
     then Err fault.Short
     else (if is_vector rest then Ok (content.Routes rest) else Err fault.NotCanonical)
 
@@ -99,9 +97,19 @@ framed acks (Err e) = Err e
 abbrev pub read_of : List ℕ → Result Frame ChannelFault
 read_of [] = Err fault.Short
 read_of (kind ∷ []) = Err fault.Short
-read_of (kind ∷ acks ∷ rest) = framed (bits_of ACKS acks) (content_of kind rest)
+read_of (kind ∷ acks ∷ rest) = framed (bits_of 8 acks) (content_of kind rest)
 
--- a call that answers `said`; want of memory comes last, where nothing else is refused
+-- how many bits the packet of a packet frame says that it has; any other frame has none
+abbrev pub bits_in : ℕ → List ℕ → ℕ
+bits_in kind [] = 0
+bits_in kind (octet ∷ body) = if kind == 0 then packets.bit_count body else 0
+
+abbrev pub packet_bits : List ℕ → ℕ
+packet_bits [] = 0
+packet_bits (kind ∷ []) = 0
+packet_bits (kind ∷ acks ∷ rest) = bits_in kind rest
+
+-- a call that answers `said`; it can find no memory only where nothing else refuses it
 abbrev pub Gives : {T : Type 0} → Result T ChannelFault → Result T ChannelFault → Type 0
 Gives said (Ok x) = said ≡ Ok x
 Gives said (Err fault.OutOfMemory) = IsOk said

@@ -1,4 +1,5 @@
 pub mod Carriage
 pub mod Format
+pub mod Holding
 pub mod Line
 pub mod Schedule

@@ -1,5 +1,5 @@
 -- One end of a line: what each call makes of it and answers.
-use Rattle.std.specs.Prelude.{◌≡◌, ℕ, ◌+◌, Bool, true, false, not, List, [], ◌∷◌, ◌++◌, replicate, slice_index_or, slice_set, is_some, is_none, IsSome, position, Option, Some, None, Result, Ok, Err, nat_le, if◌then◌else◌}
+use Rattle.std.specs.Prelude.{◌≡◌, ℕ, ◌+◌, ◌<◌, length, Bool, true, false, not, List, [], ◌∷◌, ◌++◌, replicate, slice_index_or, slice_set, is_some, is_none, IsSome, position, Option, Some, None, Result, Ok, Err, nat_le, if◌then◌else◌}
 use Rattle.packetiser.specs.PacketFields.{PacketFields}
 use Rattle.imp_channel.specs.Carriage.{Carriage}
 use Rattle.imp_channel.specs.declared.fault.ChannelFault.{ChannelFault}
@@ -63,10 +63,11 @@ submitted_on e packet (Some c) = Some (holding e c packet, frame_on e c (channel
 unfoldable pub submitted : End → PacketFields → Option (End × Frame)
 submitted e packet = submitted_on e packet (position is_free e.sending)
 
--- a packet that isn't put in is handed back: all channels are busy, or one is free and memory ran out
+-- a packet that isn't put in is handed back: all channels are busy, or one is free and no memory is left for a copy of the
+-- packet's bits
 abbrev pub IsRefusal : End → PacketFields → SubmitFault → Type 0
 IsRefusal e packet (refusal.AllBusy back) = (back ≡ packet) × (submitted e packet ≡ None)
-IsRefusal e packet (refusal.OutOfMemory back) = (back ≡ packet) × IsSome (submitted e packet)
+IsRefusal e packet (refusal.OutOfMemory back) = (back ≡ packet) × IsSome (submitted e packet) × (0 < length packet.bits)
 
 -- Frames again, acknowledgements and routes.
 
@@ -145,14 +146,3 @@ is_fresh_answer (Ok received.AckOnly) = false
 is_fresh_answer (Ok (received.Routes distances)) = false
 is_fresh_answer (Ok received.Repeat) = false
 is_fresh_answer (Err e) = false
-
--- Resetting.
-
--- the packets of the busy channels, in channel order
-abbrev pub packets_in : List Channel → List PacketFields
-packets_in [] = []
-packets_in (channel ∷ rest) = packets_of channel.packet ++ packets_in rest
-  where
-    packets_of : Option PacketFields → List PacketFields
-    packets_of None = []
-    packets_of (Some packet) = packet ∷ []

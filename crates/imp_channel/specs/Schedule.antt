@@ -1,5 +1,5 @@
 -- Two ends of a line under any schedule, and what it means that packets come out in order and once.
-use Rattle.std.specs.Prelude.{◌≡◌, ℕ, List, [], ◌∷◌, ◌++◌, slice_get, Option, Some, None, Result, Ok, Err, nat_le, ◌==◌, if◌then◌else◌}
+use Rattle.std.specs.Prelude.{◌≡◌, ℕ, Bool, false, List, [], ◌∷◌, ◌++◌, slice_get, Option, Some, None, Result, Ok, Err, nat_le, ◌==◌, if◌then◌else◌}
 use Rattle.packetiser.specs.PacketFields.{PacketFields}
 use Rattle.imp_channel.specs.declared.fault.ChannelFault.{ChannelFault}
 use Rattle.imp_channel.specs.declared.frame.Content.{Content}
@@ -17,11 +17,11 @@ pub record Side : Type 0 where
   pub written : List Frame
   -- the place, in that list, of the frame that the other end took last; it never goes back
   pub reached : ℕ
-  -- the packets put in here, by channel, oldest first
+  -- the packets that were handed to `submit` here and put in, by the channel of their frame, oldest first
   pub put : ℕ → List PacketFields
-  -- the other end's packets that were given here as fresh, by channel
+  -- the packets that `receive` answered as fresh here, by the channel of their frame, oldest first
   pub given : ℕ → List PacketFields
-  -- the packets whose channel was busy before a frame was taken here, and free after it
+  -- the packets whose channel was busy before a frame was taken here and free after it, by that channel, oldest first
   pub freed : ℕ → List PacketFields
 
 -- a side that was just reset
@@ -37,15 +37,19 @@ pub data Act : Type 0 where
   Tell : (distances : List ℕ) → Act
   Take : (place : ℕ) → Act
 
--- the packet that a frame carries on this channel
-abbrev pub packet_on : ℕ → Content → List PacketFields
-packet_on c (content.Packet carried) = if carried.channel == c then carried.packet ∷ [] else []
-packet_on c content.Nothing = []
-packet_on c (content.Routes distances) = []
+-- a frame brings a packet on this channel
+abbrev pub is_on : ℕ → Content → Bool
+is_on c (content.Packet carried) = carried.channel == c
+is_on c content.Nothing = false
+is_on c (content.Routes distances) = false
 
--- the packet that a frame with this answer gave on this channel
+-- a packet that was handed in or given together with a frame, where that frame is on this channel
+abbrev pub on_channel : ℕ → Content → PacketFields → List PacketFields
+on_channel c content packet = if is_on c content then packet ∷ [] else []
+
+-- the packet that `receive` answered as fresh to a frame on this channel
 abbrev pub given_on : ℕ → Content → Result Received ChannelFault → List PacketFields
-given_on c content (Ok (received.Fresh packet)) = packet_on c content
+given_on c content (Ok (received.Fresh packet)) = on_channel c content packet
 given_on c content (Ok received.AckOnly) = []
 given_on c content (Ok (received.Routes distances)) = []
 given_on c content (Ok received.Repeat) = []
@@ -60,11 +64,11 @@ freed_by (Some packet) (Some other) = []
 abbrev pub writes : List Frame → Side → Side
 writes frames s = record s { written = s.written ++ frames }
 
--- where all channels are busy nothing happens
-abbrev pub puts_in : Option (End × Frame) → Side → Side
-puts_in None s = s
-puts_in (Some (e, f)) s =
-    record s { state = e; written = s.written ++ f ∷ []; put = λ c. s.put c ++ packet_on c f.content }
+-- this packet was handed to `submit`; where all channels are busy nothing happens
+abbrev pub puts_in : PacketFields → Option (End × Frame) → Side → Side
+puts_in packet None s = s
+puts_in packet (Some (e, f)) s =
+    record s { state = e; written = s.written ++ f ∷ []; put = λ c. s.put c ++ on_channel c f.content packet }
 
 abbrev pub takes : Frame → Side → Side
 takes f s = record s {
@@ -79,7 +83,7 @@ takes_at place (Some f) me you = (takes f me, record you { reached = place })
 
 -- both sides after one act of the first; a frame before the one that was taken last isn't taken any more
 abbrev pub acted : Act → Side → Side → Side × Side
-acted (Submit packet) me you = (puts_in (submitted me.state packet) me, you)
+acted (Submit packet) me you = (puts_in packet (submitted me.state packet) me, you)
 acted Resend me you = (writes (resent me.state) me, you)
 acted Acknowledge me you = (writes (acknowledgement me.state ∷ []) me, you)
 acted (Tell distances) me you = (writes (routes_frame me.state distances ∷ []) me, you)
@@ -107,6 +111,11 @@ after (Right act) s = let both = acted act s.right s.left in record { left = bot
 abbrev pub run : List Event → Sides → Sides
 run [] s = s
 run (event ∷ rest) s = run rest (after event s)
+
+-- one packet: it is put in, its frame is taken twice, and the acknowledgement is taken
+abbrev pub one_packet : PacketFields → List Event
+one_packet packet =
+    Left (Submit packet) ∷ Right (Take 0) ∷ Right (Take 0) ∷ Right Acknowledge ∷ Left (Take 0) ∷ []
 
 -- one list begins another
 pub record Begins {X : Type 0} (front whole : List X) : Type 0 where

@@ -1,12 +1,13 @@
 //! One channel of a line.
 
-ghost use Rattle.std.specs.Prelude.{◌≡◌, ◌≤◌, ◌++◌, length, map, vec_len, vec_capacity, ◌+◌};
-ghost use Rattle.imp_channel.specs.Line.{all_acknowledged, acknowledged, opening_channel, packets_in};
+ghost use Rattle.std.specs.Prelude.{◌≡◌, ◌≤◌, ◌++◌, length, count_by, is_some, map, vec_len, vec_capacity, ◌+◌};
+ghost use Rattle.imp_channel.specs.Holding.{packets_in};
+ghost use Rattle.imp_channel.specs.Line.{all_acknowledged, acknowledged, opening_channel};
 
 use packetiser::Packet;
 
-/// How many channels of a line are in use.
-pub const CHANNELS: usize = 1;
+/// How many channels a line has in each direction: all that a frame can name.
+pub const CHANNELS: usize = 8;
 
 /// A sending channel: it holds at most one packet, until the other end has acknowledged it.
 #[derive(Debug, Drop)]
@@ -50,9 +51,19 @@ pub(crate) fn acknowledge_all(channels: &mut [Channel], acks: &[bool])
     }
 }
 
+/// How many packets wait in these channels.
+pub(crate) fn count_packets(channels: &[Channel]) -> usize
+    ensures { result ≡ count_by (λ channel. is_some channel.packet) channels.now }
+{
+    channels
+        .iter()
+        .filter(|channel| channel.packet.is_some())
+        .count()
+}
+
 /// Resets the channels, and puts the packets that waited there at the end of a list with room for them.
 pub(crate) fn reset_all(channels: &mut [Channel], packets: &mut Vec<Packet>)
-    requires { vec_len packets.old + length channels.old ≤ vec_capacity packets.old }
+    requires { vec_len packets.old + length (packets_in channels.old) ≤ vec_capacity packets.old }
     ensures packets { packets.new.items ≡ packets.old.items ++ packets_in channels.old }
     ensures channels { channels.new ≡ map (λ _. opening_channel) channels.old }
 {

@@ -8,13 +8,13 @@ use packetiser::{Packet, PacketFault};
 use std::alloc::{AllocError, AllocFailed};
 use thiserror::Error;
 
-/// Why octets are no frame, or a line doesn't take one. Where several apply, the first one here is given.
+/// Why octets are no frame. Where several apply, the first one here is given.
 #[derive(Clone, Copy, Debug, Drop, PartialEq, Eq, Error)]
 pub enum ChannelFault {
     /// Fewer octets than the frame needs.
     #[error("short")]
     Short,
-    /// A spelling that no frame has, or a packet on a channel that isn't in use.
+    /// A spelling that no frame has.
     #[error("not canonical")]
     NotCanonical,
     /// A packet whose number of bits isn't one that it can have.
@@ -59,6 +59,6 @@ impl<T: Drop> From<AllocFailed<T>> for ChannelFault {
 pub enum SubmitFault {
     /// All channels are busy.
     AllBusy(Packet),
-    /// No memory was left.
+    /// No memory was left for a copy of its bits.
     OutOfMemory(Packet),
 }

@@ -1,12 +1,13 @@
 //! What goes over a line.
 
-ghost use Rattle.std.specs.Prelude.{◌≡◌, ◌≤◌, ◌++◌, Ok, IfOk, IfErr, OnOk};
-ghost use Rattle.imp_channel.specs.Format.{Gives, read_of, spelling, content_of, kind_octet, rest_of, packet_in, routes_in, channel_octet, octet_of, bits_of, bit_value};
+ghost use Rattle.std.specs.Prelude.{◌≡◌, ◌<◌, ◌++◌, [], Ok, IfOk, IfErr, OnOk};
+ghost use Rattle.imp_channel.specs.Holding.{bits_carried};
+ghost use Rattle.imp_channel.specs.Format.{Gives, read_of, packet_bits, bits_in, spelling, content_of, kind_octet, rest_of, packet_in, routes_in, channel_octet, octet_of, bits_of, bit_value};
 
 use crate::ChannelFault;
 use packetiser::Packet;
 use routing::{IMPS, Vector};
-use std::alloc::Global;
+use std::alloc::{AllocError, Global};
 use std::marker::Model;
 
 /// How many channels a frame can name, and acknowledge.
@@ -16,7 +17,7 @@ pub const ACKS: usize = 8;
 const BIT_VALUE: u8 = 8;
 
 /// A frame between two neighbouring IMPs.
-#[derive(Clone, Debug, Drop)]
+#[derive(Debug, Drop)]
 pub struct Frame {
     /// The acknowledgement bits, that of channel 0 of the other direction first.
     pub acks: [bool; ACKS],
@@ -25,7 +26,7 @@ pub struct Frame {
 }
 
 /// What a frame brings beside acknowledgements.
-#[derive(Clone, Debug, Drop)]
+#[derive(Debug, Drop)]
 pub enum Content {
     /// A packet on a channel.
     Packet(Carried),
@@ -36,7 +37,7 @@ pub enum Content {
 }
 
 /// A packet with the channel that it is on, at most 7, and its bit there.
-#[derive(Clone, Debug, Drop)]
+#[derive(Debug, Drop)]
 pub struct Carried {
     channel: u8,
     bit: bool,
@@ -58,7 +59,7 @@ impl Model for Carried {
 impl Carried {
     ghost use Rattle.std.specs.Prelude.{◌<◌};
 
-    /// A packet on a channel of at most 7, under this bit.
+    /// Puts a packet on a channel, at most 7, under this bit.
     pub fn new(channel: u8, bit: bool, packet: Packet) -> Self
         requires { channel < ACKS }
         ensures { result ≡ record { channel = channel; bit = bit; packet = packet } }
@@ -101,7 +102,7 @@ impl Carried {
         bit + self.channel
     }
 
-    /// The packet, taken out.
+    /// The packet by value.
     pub fn into_packet(self) -> Packet
         ensures { result ≡ self.packet }
     {
@@ -114,10 +115,12 @@ impl Frame {
     ///
     /// Errors: `Short` for fewer than two octets, a packet frame without a channel, a routes frame with
     /// fewer than sixteen distances; `NotCanonical` for a kind above 2, a bit above the channel and its bit,
-    /// octets after the end, a distance above 16; then those of the packet.
+    /// octets after the end, a distance above 16; then those of the packet. `OutOfMemory` is given only for
+    /// a packet with bits.
     pub fn read(alloc: Global, octets: &[u8]) -> Result<Frame, ChannelFault>
         ensures exact { Gives (read_of octets.now) result }
         ensures found { IfOk result (λ frame. octets.now ≡ spelling frame) }
+        ensures memory { IfErr result (λ fault. fault ≡ ChannelFault.OutOfMemory → 0 < packet_bits octets.now) }
     {
         let [kind, acks, rest @ ..] = octets else {
             return Err(ChannelFault::Short);
@@ -129,7 +132,7 @@ impl Frame {
         })
     }
 
-    /// Its octets.
+    /// The octets that spell it.
     ///
     /// Errors: `OutOfMemory` alone.
     pub fn write(&self, alloc: Global) -> Result<Vec<u8>, ChannelFault>
@@ -144,11 +147,54 @@ impl Frame {
     }
 }
 
+/// A copy of a frame is the same frame. Only the bits of its packet need memory.
+impl Clone for Frame {
+    ghost is_clone = { λ x y. y ≡ x };
+
+    ghost is_infallible = { λ x. bits_carried x.content ≡ [] };
+
+    fn clone(&self) -> Result<Frame, AllocError> {
+        Ok(Frame {
+            acks: self.acks,
+            content: self.content.clone()?,
+        })
+    }
+}
+
+impl Clone for Content {
+    ghost is_clone = { λ x y. y ≡ x };
+
+    ghost is_infallible = { λ x. bits_carried x ≡ [] };
+
+    fn clone(&self) -> Result<Content, AllocError> {
+        Ok(match self {
+            Content::Packet(carried) => Content::Packet(carried.clone()?),
+            Content::Nothing => Content::Nothing,
+            Content::Routes(vector) => Content::Routes(vector.clone()?),
+        })
+    }
+}
+
+impl Clone for Carried {
+    ghost is_clone = { λ x y. y ≡ x };
+
+    ghost is_infallible = { λ x. x.packet.bits ≡ [] };
+
+    fn clone(&self) -> Result<Carried, AllocError> {
+        Ok(Carried {
+            channel: self.channel,
+            bit: self.bit,
+            packet: self.packet.clone()?,
+        })
+    }
+}
+
 /// Reads what follows the acknowledgement bits in a frame of this kind.
 fn read_content(alloc: Global, kind: u8, rest: &[u8]) -> Result<Content, ChannelFault>
     ensures exact { Gives (content_of kind rest.now) result }
     ensures kind { IfOk result (λ content. kind ≡ kind_octet content) }
     ensures rest { IfOk result (λ content. rest.now ≡ rest_of content) }
+    ensures memory { IfErr result (λ fault. fault ≡ ChannelFault.OutOfMemory → 0 < bits_in kind rest.now) }
 {
     match kind {
         0 => read_packet(alloc, rest),
@@ -161,6 +207,7 @@ fn read_content(alloc: Global, kind: u8, rest: &[u8]) -> Result<Content, Channel
 /// Reads a packet, with its channel and bit before it.
 fn read_packet(alloc: Global, rest: &[u8]) -> Result<Content, ChannelFault>
     ensures exact { Gives (packet_in rest.now) result }
+    ensures memory { IfErr result (λ fault. fault ≡ ChannelFault.OutOfMemory → 0 < bits_in 0 rest.now) }
     ensures kind { IfOk result (λ content. kind_octet content ≡ 0) }
     ensures rest { IfOk result (λ content. rest.now ≡ rest_of content) }
 {
@@ -226,20 +273,16 @@ fn octet_of(acks: &[bool; ACKS]) -> u8
     ensures octet { result ≡ octet_of acks.now }
     ensures again { bits_of ACKS result ≡ acks.now }
 {
-    bit_value(acks[0])
-        + 2 * bit_value(acks[1])
-        + 4 * bit_value(acks[2])
-        + 8 * bit_value(acks[3])
-        + 16 * bit_value(acks[4])
-        + 32 * bit_value(acks[5])
-        + 64 * bit_value(acks[6])
-        + 128 * bit_value(acks[7])
+    let mut octet = 0;
+    for c in (0..ACKS).rev() {
+        octet = 2 * octet + bit_value(acks[c]);
+    }
+    octet
 }
 
 /// A bit as a number.
 fn bit_value(bit: bool) -> u8
-    ensures value { result ≡ bit_value bit }
-    ensures most { result ≤ 1 }
+    ensures { result ≡ bit_value bit }
 {
     u8::from(bit)
 }
@@ -249,21 +292,11 @@ fn bits_of(octet: u8) -> [bool; ACKS]
     ensures bits { result ≡ bits_of ACKS octet }
     ensures again { octet_of result ≡ octet }
 {
-    let from_1 = octet / 2;
-    let from_2 = from_1 / 2;
-    let from_3 = from_2 / 2;
-    let from_4 = from_3 / 2;
-    let from_5 = from_4 / 2;
-    let from_6 = from_5 / 2;
-    let from_7 = from_6 / 2;
-    [
-        octet % 2 == 1,
-        from_1 % 2 == 1,
-        from_2 % 2 == 1,
-        from_3 % 2 == 1,
-        from_4 % 2 == 1,
-        from_5 % 2 == 1,
-        from_6 % 2 == 1,
-        from_7 % 2 == 1,
-    ]
+    let mut acks = [false; ACKS];
+    let mut rest = octet;
+    for ack in acks.iter_mut() {
+        *ack = rest % 2 == 1;
+        rest /= 2;
+    }
+    acks
 }

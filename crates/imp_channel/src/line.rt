@@ -1,11 +1,12 @@
 //! One end of a line.
 
-ghost use Rattle.std.specs.Prelude.{◌≡◌, ◌<◌, ◌++◌, IfOk, IfErr, OnOk, OnErr, Some, None, position};
+ghost use Rattle.std.specs.Prelude.{◌≡◌, ◌<◌, ◌++◌, length, IfOk, IfErr, IsSome, OnOk, OnErr, Ok, Some, None, false, position};
 ghost use Rattle.std.specs.Option.{option_copied};
-ghost use Rattle.imp_channel.specs.Line.{IsRefusal, is_free, frames_of, opening, frame_of, submitted, resent, acknowledgement, routes_frame, channel_at, packets_in, is_foreign, has_expected_bit, expected_after, brought, state_after, answer_to, is_fresh_answer};
+ghost use Rattle.imp_channel.specs.Holding.{packets_in};
+ghost use Rattle.imp_channel.specs.Line.{IsRefusal, is_free, frames_of, opening, frame_of, submitted, resent, acknowledgement, routes_frame, channel_at, is_foreign, has_expected_bit, expected_after, brought, state_after, answer_to, is_fresh_answer};
 
-use crate::channel::{acknowledge_all, reset_all};
-use crate::{ACKS, CHANNELS, Carried, Channel, ChannelFault, Content, Frame, SubmitFault};
+use crate::channel::{acknowledge_all, count_packets, reset_all};
+use crate::{ACKS, CHANNELS, Carried, Channel, Content, Frame, SubmitFault};
 use packetiser::Packet;
 use routing::Vector;
 use std::alloc::{AllocError, Global};
@@ -63,7 +64,7 @@ impl Line {
     /// it is acknowledged.
     ///
     /// Errors: `AllBusy` where no channel is free, `OutOfMemory` without memory for the frame's copy of the
-    /// packet. Both hand the packet back, and nothing has changed.
+    /// packet's bits. Both hand the packet back, and nothing has changed.
     #[tactic(auto, using(crate::proofs::Calls::submitted_at), unfolding(crate::specs::Line::submitted))]
     pub fn submit(&mut self, packet: Packet) -> Result<Frame, SubmitFault>
         ensures ok { IfOk result (λ frame. submitted self.old packet ≡ Some (self.new, frame)) }
@@ -83,37 +84,34 @@ impl Line {
     }
 
     /// Takes a frame: its acknowledgement bits free channels, and a packet with the bit that is expected on
-    /// its channel is given.
-    ///
-    /// Errors: `NotCanonical` for a packet on a channel that isn't in use; nothing has changed then.
-    pub fn receive(&mut self, frame: Frame) -> Result<Received, ChannelFault>
+    /// its channel is given. No frame is refused, since a line uses every channel that a frame can name.
+    pub fn receive(&mut self, frame: Frame) -> Received
         ensures state { self.new ≡ state_after self.old frame }
-        ensures answer { result ≡ answer_to self.old frame }
+        ensures answer { answer_to self.old frame ≡ Ok result }
     {
-        if is_foreign(&frame.content) {
-            return Err(ChannelFault::NotCanonical);
-        }
+        channel_in_use(&frame.content);
         let Frame { acks, content } = frame;
         acknowledge_all(&mut self.channels, &acks);
-        Ok(take_content(&mut self.expected, content))
+        take_content(&mut self.expected, content)
     }
 
     /// Whether `receive` would answer `Fresh`. Nothing changes.
     pub fn is_fresh(&self, frame: &Frame) -> bool
         ensures { result ≡ is_fresh_answer (answer_to self.now frame.now) }
     {
+        channel_in_use(&frame.content);
         match &frame.content {
-            Content::Packet(carried) => {
-                (carried.channel() as usize) < CHANNELS && has_expected_bit(&self.expected, carried)
-            }
+            Content::Packet(carried) => has_expected_bit(&self.expected, carried),
             _ => false,
         }
     }
 
-    /// The frames of all busy channels once more, in channel order.
+    /// The frames of all busy channels once more, in channel order. Only a packet's copy needs memory, so a
+    /// line without a busy channel always answers.
     #[tactic(auto, using(crate::proofs::Calls::frames_more))]
     pub fn resend(&self, alloc: Global) -> Result<Vec<Frame>, AllocError>
-        ensures { IfOk result (λ frames. frames.items ≡ resent self.now) }
+        ensures ok { IfOk result (λ frames. frames.items ≡ resent self.now) }
+        ensures memory { OnErr result (0 < length (packets_in self.now.sending)) }
     {
         let mut frames = Vec::new(alloc);
         for (c, channel) in self.channels.iter().enumerate() {
@@ -123,13 +121,15 @@ impl Line {
     }
 
     /// Starts anew, as the line's other end must too, and gives back the packets of the busy channels in
-    /// channel order. Without memory nothing has changed.
+    /// channel order. Memory is needed only where a channel is busy, and without it nothing has changed.
+    #[tactic(auto, using(crate::proofs::Calls::packets_counted))]
     pub fn reset(&mut self, alloc: Global) -> Result<Vec<Packet>, AllocError>
         ensures packets { IfOk result (λ packets. packets.items ≡ packets_in self.old.sending) }
         ensures state { IfOk result (λ _. self.new ≡ opening) }
         ensures err { OnErr result (self.new ≡ self.old) }
+        ensures memory { OnErr result (0 < length (packets_in self.old.sending)) }
     {
-        let mut packets = Vec::with_capacity(alloc, CHANNELS)?;
+        let mut packets = Vec::with_capacity(alloc, count_packets(&self.channels))?;
         reset_all(&mut self.channels, &mut packets);
         self.expected = [false; ACKS];
         Ok(packets)
@@ -164,7 +164,8 @@ impl Line {
         channel: &Channel,
     ) -> Result<(), AllocError>
         requires { c < ACKS }
-        ensures { OnOk result (frames.new.items ≡ frames.old.items ++ frames_of self.now c channel.now.bit channel.now.packet) }
+        ensures ok { OnOk result (frames.new.items ≡ frames.old.items ++ frames_of self.now c channel.now.bit channel.now.packet) }
+        ensures memory { OnErr result (IsSome channel.now.packet) }
     {
         if let Some(packet) = &channel.packet {
             let carried = Carried::new(c, channel.bit, packet.clone()?);
@@ -191,13 +192,12 @@ fn lowest_free(channels: &[Channel]) -> Option<usize>
     channels.iter().position(|channel| channel.packet.is_none())
 }
 
-/// Whether this is a packet on a channel that isn't in use.
-fn is_foreign(content: &Content) -> bool
-    ensures { result ≡ is_foreign content.now }
+/// A frame's packet is on a channel that is in use.
+fn channel_in_use(content: &Content)
+    ensures { is_foreign content.now ≡ false }
 {
-    match content {
-        Content::Packet(carried) => carried.channel() as usize >= CHANNELS,
-        _ => false,
+    if let Content::Packet(carried) = content {
+        let _ = carried.channel();
     }
 }
 

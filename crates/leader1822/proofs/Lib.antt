@@ -7,3 +7,4 @@ pub mod Waiting
 pub mod Sound
 pub mod SoundEvents
 pub mod SoundCalls
+pub mod WorkedBoxes

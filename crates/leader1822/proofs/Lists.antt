@@ -1,7 +1,7 @@
 -- Tests, lists and the ends of lists, as the mailboxes want them.
-use Rattle.std.proofs.Common.{◌≡◌, ℕ, Bool, true, false, not, ◌&&◌, ◌||◌, List, [], ◌∷◌, ◌++◌, reverse, Option, Some, None, refl, ap, sym, subst, ◌∙◌, inl, inr, ◌⊎◌, ◌==◌, if◌then◌else◌, eq-eqb}
-use Rattle.std.specs.List.{find}
-use Rattle.std.proofs.lemmas.List.{reverse-append}
+use Rattle.std.proofs.Common.{◌≡◌, ◌<◌, ◌≤◌, arith, length, ℕ, Bool, true, false, not, ◌&&◌, ◌||◌, List, [], ◌∷◌, ◌++◌, Option, Some, None, refl, ap, sym, subst, ◌∙◌, inl, inr, ◌⊎◌, ◌==◌, if◌then◌else◌, eq-eqb}
+use Rattle.std.specs.List.{find, list_any, filter}
+use Rattle.std.proofs.lemmas.Bool.{cases_Bool}
 use Rattle.std.proofs.lemmas.Bool.{eqb-true}
 use Rattle.leader1822.specs.Host.{Host, same_host}
 use Rattle.leader1822.specs.Mailboxes.{same_flow, Box, Empty, Waiting, Taken, WaitsWith}
@@ -77,9 +77,6 @@ same_flow-sym f g = both_ways (same_flow f g) (same_flow g f)
 
 -- ---- lists
 
-pub reverse_push : {A : Type 0} (xs : List A) (x : A) → reverse (xs ++ x ∷ []) ≡ x ∷ reverse xs
-reverse_push xs x = reverse-append xs (x ∷ [])
-
 -- a list apart at its first element that passes
 pub record Apart {A : Type 0} (test : A → Bool) (xs : List A) (x : A) : Type 0 where
   pub front : List A
@@ -127,6 +124,21 @@ pub record Alone {A : Type 0} (front : List A) (x : A) (back : List A) (y : A) :
 pub alone : {A : Type 0} (front : List A) (x : A) (back : List A) (y : A) → front ++ x ∷ back ≡ y ∷ [] → Alone front x back y
 alone [] x back y e = record { nothing_before = refl; same = cc; nothing_behind = cc }
 alone (z ∷ zs) x back y e = absurd (never_empty zs x back (cc))
+
+-- a list without the elements that pass is no longer, and shorter where there is one
+filter_shortens : {A : Type 0} (p : A → Bool) (xs : List A) → length (filter (λ x. not (p x)) xs) ≤ length xs
+filter_shortens p [] = omega arith
+filter_shortens {A} p (x ∷ xs) = elim (cases_Bool (p x)) [
+  | inl e ↦ (let rest : length (filter (λ y. not (p y)) xs) ≤ length xs = filter_shortens p xs in rw e (omega (arith, rest)))
+  | inr e ↦ (let rest : length (filter (λ y. not (p y)) xs) ≤ length xs = filter_shortens p xs in rw e (omega (arith, rest)))
+]
+
+pub filter_shorter : {A : Type 0} (p : A → Bool) (xs : List A) → list_any p xs ≡ true → length (filter (λ x. not (p x)) xs) < length xs
+filter_shorter p [] any = absurd (cc)
+filter_shorter {A} p (x ∷ xs) any = elim (cases_Bool (p x)) [
+  | inl e ↦ (let rest : length (filter (λ y. not (p y)) xs) ≤ length xs = filter_shortens p xs in rw e (omega (arith, rest)))
+  | inr e ↦ (let rest : length (filter (λ y. not (p y)) xs) < length xs = filter_shorter p xs (rw e at any) in rw e (omega (arith, rest)))
+]
 
 -- ---- boxes
 

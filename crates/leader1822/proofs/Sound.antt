@@ -49,7 +49,7 @@ record Offerable (b : Boxes) (f : Flow) : Type 0 where
   pub no_text : texts_of f b.queue ≡ []
   pub no_kind : kinds_of f b.answers ≡ []
 
-offerable : (b : Boxes) (f : Flow) → offer_refusal b.stopped b.hosts b.down b.queue b.answers f ≡ None → Offerable b f
+offerable : (b : Boxes) (f : Flow) → offer_refusal b f ≡ None → Offerable b f
 offerable b f e =
     let g1 = guard b.stopped fault.Stopped _ e in
     let g2 = guard (not (is_host b.hosts f.source)) fault.NoSuch _ g1.1 in
@@ -99,7 +99,7 @@ empty_box b f h o = elim (h.told o.source o.no_text) [
   | inr (k, one, fit) ↦ absurd (let e : k ∷ [] ≡ [] = sym one ∙ o.no_kind in cc)
 ]
 
-pub offered_sound : (b : Boxes) (m : HostMessage) → IsSound b → offer_refusal b.stopped b.hosts b.down b.queue b.answers m.flow ≡ None → IsSound (offered b m)
+pub offered_sound : (b : Boxes) (m : HostMessage) → IsSound b → offer_refusal b m.flow ≡ None → IsSound (offered b m)
 offered_sound b m h e =
     let o : Offerable b m.flow = offerable b m.flow e in
     let k : Matches b = h.matches o.running in
@@ -115,7 +115,7 @@ pub record Runs (b : Boxes) (h : Host) : Type 0 where
   pub running : b.stopped ≡ false
   pub host : is_running b.hosts b.down h ≡ true
 
-pub runs_here : (b : Boxes) (h : Host) → host_refusal b.stopped b.hosts b.down h ≡ None → Runs b h
+pub runs_here : (b : Boxes) (h : Host) → host_refusal b h ≡ None → Runs b h
 runs_here b h e =
     let g1 = guard b.stopped fault.Stopped _ e in
     let g2 = guard (not (is_host b.hosts h)) fault.NoSuch _ g1.1 in
@@ -169,7 +169,7 @@ answer_flow b h a front back left whole k t g false e =
     let box : box_of g (crossing.Answer a.0 a.1 ∷ b.log) ≡ box_of g b.log = rw e refl in
     same_fits refl refl refl kinds box (k.flows g)
 
-pub answer_sound : (b : Boxes) (h : Host) (a : WaitingAnswer) → IsSound b → host_refusal b.stopped b.hosts b.down h ≡ None → find (is_told_to h) b.answers ≡ Some a
+pub answer_sound : (b : Boxes) (h : Host) (a : WaitingAnswer) → IsSound b → host_refusal b h ≡ None → find (is_told_to h) b.answers ≡ Some a
     → IsSound (taken b h (Some (inbound_of a)))
 answer_sound b h a s e found =
     let r : Runs b h = runs_here b h e in
@@ -235,7 +235,7 @@ message_flow b h m front back left whole k t g false e =
     let box : box_of g (crossing.In m ∷ b.log) ≡ box_of g b.log = rw e refl in
     same_fits refl refl texts kinds box (k.flows g)
 
-pub message_sound : (b : Boxes) (h : Host) (m : HostMessage) → IsSound b → host_refusal b.stopped b.hosts b.down h ≡ None → find (is_to h) b.queue ≡ Some m
+pub message_sound : (b : Boxes) (h : Host) (m : HostMessage) → IsSound b → host_refusal b h ≡ None → find (is_to h) b.queue ≡ Some m
     → IsSound (taken b h (Some (inbound.Message m)))
 message_sound b h m s e found =
     let r : Runs b h = runs_here b h e in

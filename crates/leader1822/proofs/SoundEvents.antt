@@ -75,7 +75,7 @@ record Outstanding (b : Boxes) (f : Flow) : Type 0 where
   pub there : is_host b.hosts f.source ≡ true
   pub busy : (has_any (texts_of f b.queue) || list_any is_rfnm (kinds_of f b.answers)) ≡ true
 
-outstanding : (b : Boxes) (f : Flow) → give_up_refusal b.stopped b.hosts b.queue b.answers f ≡ None → Outstanding b f
+outstanding : (b : Boxes) (f : Flow) → give_up_refusal b f ≡ None → Outstanding b f
 outstanding b f e =
     let g1 = guard b.stopped fault.Stopped _ e in
     let g2 = guard (not (is_host b.hosts f.source)) fault.NoSuch _ g1.1 in
@@ -124,7 +124,7 @@ given_flow b f k o g true e =
     subst P (sym (same_flow-true g f e)) (given_here b f k o)
 given_flow b f k o g false e = given_there b f g e (k.flows g)
 
-pub given_sound : (b : Boxes) (f : Flow) → IsSound b → give_up_refusal b.stopped b.hosts b.queue b.answers f ≡ None → IsSound (given_up b f)
+pub given_sound : (b : Boxes) (f : Flow) → IsSound b → give_up_refusal b f ≡ None → IsSound (given_up b f)
 given_sound b f s e =
     let o : Outstanding b f = outstanding b f e in
     let k : Matches b = s.matches o.running in
@@ -209,7 +209,7 @@ down_flow b h g k =
       if_not xs true = refl
       if_not xs false = refl
 
-pub stopped_sound : (b : Boxes) (h : Host) → IsSound b → host_refusal b.stopped b.hosts b.down h ≡ None → IsSound (host_stopped b h)
+pub stopped_sound : (b : Boxes) (h : Host) → IsSound b → host_refusal b h ≡ None → IsSound (host_stopped b h)
 stopped_sound b h s e =
     let r : Runs b h = runs_here b h e in
     let k : Matches b = s.matches r.running in
@@ -230,7 +230,7 @@ record Rises (b : Boxes) (h : Host) : Type 0 where
   pub down : is_host b.down h ≡ true
   pub settled : list_any (is_from h) b.queue ≡ false
 
-rises : (b : Boxes) (h : Host) → host_up_refusal b.stopped b.hosts b.down b.queue h ≡ None → Rises b h
+rises : (b : Boxes) (h : Host) → host_up_refusal b h ≡ None → Rises b h
 rises b h e =
     let g1 = guard b.stopped fault.Stopped _ e in
     let g2 = guard (not (is_host b.hosts h)) fault.NoSuch _ g1.1 in
@@ -307,7 +307,7 @@ up_flow b h g r k =
     (fits_up x y (is_running b.hosts b.down g.source) (is_running b.hosts b.down g.destination) (texts_of g b.queue) (kinds_of g b.answers) (box_of g b.log) k from
     (λ e. down_stands b h g.destination r.down e))
 
-pub started_sound : (b : Boxes) (h : Host) → IsSound b → host_up_refusal b.stopped b.hosts b.down b.queue h ≡ None → IsSound (host_started b h)
+pub started_sound : (b : Boxes) (h : Host) → IsSound b → host_up_refusal b h ≡ None → IsSound (host_started b h)
 started_sound b h s e =
     let r : Rises b h = rises b h e in
     let k : Matches b = s.matches r.running in

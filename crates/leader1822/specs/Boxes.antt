@@ -1,5 +1,5 @@
 -- The plainest carrier: each host's messages wait in one queue, and answers wait for their sources. Nothing is ever lost.
-use Rattle.std.specs.Prelude.{◌≡◌, Bool, true, false, not, List, [], ◌∷◌, ◌++◌, Option, Some, None, Result, Ok, Err, if◌then◌else◌, ◌&&◌, ◌||◌, filter, map, find}
+use Rattle.std.specs.Prelude.{◌≡◌, Bool, true, false, not, List, [], ◌∷◌, ◌++◌, Option, Some, None, Result, Ok, Err, if◌then◌else◌, ◌&&◌, ◌||◌, filter, map, find, is_some}
 use Rattle.std.specs.List.{list_any}
 use Rattle.leader1822.specs.Host.{Host, same_host, is_host}
 use Rattle.leader1822.specs.Mailboxes.{same_flow}
@@ -80,12 +80,12 @@ one_if test x = if test then x ∷ [] else []
 
 -- ---- offering
 
-abbrev pub offer_refusal : Bool → List Host → List Host → List HostMessage → List WaitingAnswer → Flow → Option CarrierFault
-offer_refusal stopped hosts down queue answers f =
-    if stopped then Some fault.Stopped
-    else (if not (is_host hosts f.source) then Some fault.NoSuch
-    else (if is_host down f.source then Some fault.IsDown
-    else (if is_busy queue answers f then Some fault.Blocked
+abbrev pub offer_refusal : Boxes → Flow → Option CarrierFault
+offer_refusal b f =
+    if b.stopped then Some fault.Stopped
+    else (if not (is_host b.hosts f.source) then Some fault.NoSuch
+    else (if is_host b.down f.source then Some fault.IsDown
+    else (if is_busy b.queue b.answers f then Some fault.Blocked
     else None)))
 
 -- the message waits for its destination; where that is down or not there, Dead waits for the source at once
@@ -98,11 +98,12 @@ offered b m = record b {
 
 -- ---- taking
 
-abbrev pub host_refusal : Bool → List Host → List Host → Host → Option CarrierFault
-host_refusal stopped hosts down h =
-    if stopped then Some fault.Stopped
-    else (if not (is_host hosts h) then Some fault.NoSuch
-    else (if is_host down h then Some fault.IsDown
+-- taking, and going down, ask for a host that is up
+abbrev pub host_refusal : Boxes → Host → Option CarrierFault
+host_refusal b h =
+    if b.stopped then Some fault.Stopped
+    else (if not (is_host b.hosts h) then Some fault.NoSuch
+    else (if is_host b.down h then Some fault.IsDown
     else None))
 
 -- the list without its first element that passes
@@ -122,7 +123,7 @@ answer_first None None = None
 abbrev pub next_for : List WaitingAnswer → List HostMessage → Host → Option Inbound
 next_for answers queue h = answer_first (find (is_told_to h) answers) (find (is_to h) queue)
 
--- what is left when a host took this; for a message an RFNM waits for its source, if that is up
+-- what is left after a host took this. After a message, an RFNM waits for its source, if that is up
 abbrev pub taken : Boxes → Host → Option Inbound → Boxes
 taken b h None = b
 taken b h (Some (inbound.Answer kind f)) = record b {
@@ -137,13 +138,13 @@ taken b h (Some (inbound.Message m)) = record b {
 
 -- ---- events
 
--- giving up looks for the source alone, and whether its flow has something outstanding: a message that waits, or, while
--- the source is up, an RFNM that waits; a flow that is told Dead or Incomplete already has nothing
-abbrev pub give_up_refusal : Bool → List Host → List HostMessage → List WaitingAnswer → Flow → Option CarrierFault
-give_up_refusal stopped hosts queue answers f =
-    if stopped then Some fault.Stopped
-    else (if not (is_host hosts f.source) then Some fault.NoSuch
-    else (if not (is_outstanding queue answers f) then Some fault.NotOutstanding
+-- Giving up asks for a source that is a host of the network, and for something outstanding: a message of the flow or its
+-- RFNM waits. A flow whose Dead or Incomplete waits has nothing outstanding any more
+abbrev pub give_up_refusal : Boxes → Flow → Option CarrierFault
+give_up_refusal b f =
+    if b.stopped then Some fault.Stopped
+    else (if not (is_host b.hosts f.source) then Some fault.NoSuch
+    else (if not (is_outstanding b.queue b.answers f) then Some fault.NotOutstanding
     else None))
 
 -- the message leaves the queue, its RFNM is withdrawn, and Incomplete waits for the source, if that is up
@@ -153,11 +154,12 @@ given_up b f = record b {
   answers = filter (λ a. not (is_rfnm_about f a)) b.answers ++ one_if (not (is_host b.down f.source)) (answer.Incomplete, f);
 }
 
--- what waits for the host is cleared, and each of its messages gives its source Dead, if that is up; the host itself is
--- down by then
+-- a Dead for each of these messages whose source is up
 abbrev pub dead_to : List Host → List Host → List HostMessage → List WaitingAnswer
 dead_to hosts down messages = map (λ m. (answer.Dead, m.flow)) (filter (λ m. is_running hosts down m.flow.source) messages)
 
+-- The answers for the host are cleared. Each message that waits for it gives its source Dead, if that is up. The host
+-- itself counts as down by then
 abbrev pub host_stopped : Boxes → Host → Boxes
 host_stopped b h = record b {
   down = b.down ++ h ∷ [];
@@ -166,13 +168,13 @@ host_stopped b h = record b {
   log = crossing.Down h ∷ b.log;
 }
 
--- a host comes up once no message of its own waits for another
-abbrev pub host_up_refusal : Bool → List Host → List Host → List HostMessage → Host → Option CarrierFault
-host_up_refusal stopped hosts down queue h =
-    if stopped then Some fault.Stopped
-    else (if not (is_host hosts h) then Some fault.NoSuch
-    else (if not (is_host down h) then Some fault.IsUp
-    else (if list_any (is_from h) queue then Some fault.Unsettled
+-- a host comes up only when no message of its own waits any more
+abbrev pub host_up_refusal : Boxes → Host → Option CarrierFault
+host_up_refusal b h =
+    if b.stopped then Some fault.Stopped
+    else (if not (is_host b.hosts h) then Some fault.NoSuch
+    else (if not (is_host b.down h) then Some fault.IsUp
+    else (if list_any (is_from h) b.queue then Some fault.Unsettled
     else None)))
 
 abbrev pub host_started : Boxes → Host → Boxes
@@ -186,9 +188,9 @@ no_event_refusal stopped = if stopped then Some fault.Stopped else Some fault.No
 
 -- the first refusal of an event
 abbrev pub step_refusal : Boxes → NetEvent → Option CarrierFault
-step_refusal b (event.GiveUp f) = give_up_refusal b.stopped b.hosts b.queue b.answers f
-step_refusal b (event.HostDown h) = host_refusal b.stopped b.hosts b.down h
-step_refusal b (event.HostUp h) = host_up_refusal b.stopped b.hosts b.down b.queue h
+step_refusal b (event.GiveUp f) = give_up_refusal b f
+step_refusal b (event.HostDown h) = host_refusal b h
+step_refusal b (event.HostUp h) = host_up_refusal b h
 step_refusal b (event.Deliver line direction frame) = no_event_refusal b.stopped
 step_refusal b (event.Drop line direction frame) = no_event_refusal b.stopped
 step_refusal b (event.Resend imp) = no_event_refusal b.stopped
@@ -216,30 +218,56 @@ stepped b (event.ImpUp imp) = b
 stepped b (event.Forget at from) = b
 stepped b (event.Abandon f) = b
 
+-- ---- memory
+
+-- a taking that gives something puts it on the log
+abbrev pub take_grows : Boxes → Host → Bool
+take_grows b h = is_some (next_for b.answers b.queue h)
+
+-- giving up puts Incomplete beside the answers that wait, unless the source is down or an RFNM gives way to it
+abbrev pub give_up_grows : Boxes → Flow → Bool
+give_up_grows b f = not (is_host b.down f.source) && not (list_any (is_rfnm_about f) b.answers)
+
+-- whether an event, where it is not refused, makes what is kept longer: a host that stops or starts is put on the log
+abbrev pub step_grows : Boxes → NetEvent → Bool
+step_grows b (event.GiveUp f) = give_up_grows b f
+step_grows b (event.HostDown h) = true
+step_grows b (event.HostUp h) = true
+step_grows b (event.Deliver line direction frame) = false
+step_grows b (event.Drop line direction frame) = false
+step_grows b (event.Resend imp) = false
+step_grows b (event.Route imp) = false
+step_grows b (event.EndDown imp line) = false
+step_grows b (event.EndUp imp line) = false
+step_grows b (event.ImpDown imp) = false
+step_grows b (event.ImpUp imp) = false
+step_grows b (event.Forget at from) = false
+step_grows b (event.Abandon f) = false
+
 -- ---- the calls
 
--- after want of memory hosts and log stand; of what waits nothing is said, since nothing is ever taken again
+-- After want of memory hosts and log are as before. Nothing is said of what waits, since nothing is ever taken again
 pub record HasHalted (old new : Boxes) : Type 0 where
   pub hosts : new.hosts ≡ old.hosts
   pub log : new.log ≡ old.log
   pub stopped : new.stopped ≡ true
 
--- a call that is refused for `refusal`, and else gives a value with this property; want of memory comes last
-abbrev pub BoxesDecided : {T : Type 0} → Option CarrierFault → (T → Type 0) → Boxes → Result T CarrierFault → Boxes → Type 0
-BoxesDecided refusal Gives old (Ok x) new = (refusal ≡ None) × Gives x
-BoxesDecided refusal Gives old (Err fault.OutOfMemory) new = (refusal ≡ None) × HasHalted old new
-BoxesDecided refusal Gives old (Err e) new = (refusal ≡ Some e) × (new ≡ old)
+-- a call that is refused for `refusal`, and else gives a value with this property; it may want memory only where it is not
+-- refused and `grows` is true
+abbrev pub BoxesDecided : {T : Type 0} → Option CarrierFault → Bool → (T → Type 0) → Boxes → Result T CarrierFault → Boxes → Type 0
+BoxesDecided refusal grows Gives old (Ok x) new = (refusal ≡ None) × Gives x
+BoxesDecided refusal grows Gives old (Err fault.OutOfMemory) new = (refusal ≡ None) × (grows ≡ true) × HasHalted old new
+BoxesDecided refusal grows Gives old (Err e) new = (refusal ≡ Some e) × (new ≡ old)
 
+-- an offer that is not refused always grows: the message is put on the log
 abbrev pub BoxesOffer : Boxes → HostMessage → Result (Unit {0}) CarrierFault → Boxes → Type 0
-BoxesOffer old m r new =
-    BoxesDecided (offer_refusal old.stopped old.hosts old.down old.queue old.answers m.flow) (λ done. new ≡ offered old m) old r new
+BoxesOffer old m r new = BoxesDecided (offer_refusal old m.flow) true (λ done. new ≡ offered old m) old r new
 
 abbrev pub BoxesTake : Boxes → Host → Result (Option Inbound) CarrierFault → Boxes → Type 0
-BoxesTake old h r new =
-    BoxesDecided (host_refusal old.stopped old.hosts old.down h) (λ o. (o ≡ next_for old.answers old.queue h) × (new ≡ taken old h o)) old r new
+BoxesTake old h r new = BoxesDecided (host_refusal old h) (take_grows old h) (λ o. (o ≡ next_for old.answers old.queue h) × (new ≡ taken old h o)) old r new
 
 abbrev pub BoxesStep : Boxes → NetEvent → Result (Unit {0}) CarrierFault → Boxes → Type 0
-BoxesStep old e r new = BoxesDecided (step_refusal old e) (λ done. new ≡ stepped old e) old r new
+BoxesStep old e r new = BoxesDecided (step_refusal old e) (step_grows old e) (λ done. new ≡ stepped old e) old r new
 
 -- nothing is on its way, so a quiet round changes nothing
 abbrev pub BoxesRound : Boxes → Result (Unit {0}) CarrierFault → Boxes → Type 0

@@ -13,8 +13,8 @@ use Rattle.leader1822.specs.declared.crossing.Crossing.TheVariants as crossing
 
 -- ---- one box
 
--- what is known of a flow's message: there is none outstanding, it waits to be taken, or it was taken and its answer waits.
--- A message goes by its place in the log and its text
+-- what is known of a flow's message: none is outstanding, or it waits to be taken, or it was taken and has no answer yet.
+-- A message is told by its place in the log and its text
 pub data Box : Type 0 where
   Empty : Box
   Waiting : (place : ℕ) → (text : List Bool) → Box
@@ -26,14 +26,13 @@ WaitsWith Empty text = ⊥
 WaitsWith (Waiting place kept) text = kept ≡ text
 WaitsWith (Taken place kept) text = ⊥
 
--- the box when its message was taken
+-- the box after its message is taken
 abbrev pub fetched : Box → Box
 fetched Empty = Empty
 fetched (Waiting place text) = Taken place text
 fetched (Taken place text) = Taken place text
 
--- what became of a message, and what its box must be for it: RFNM for a message that was taken, Dead for one that waits,
--- Incomplete for either
+-- an answer fits a box: RFNM a box whose message was taken, Dead one whose message waits, Incomplete either of them
 abbrev pub Fits : Answer → Box → Type 0
 Fits answer.Rfnm Empty = ⊥
 Fits answer.Rfnm (Waiting place text) = ⊥
@@ -68,7 +67,7 @@ turned h (crossing.Answer kind g) up = up
 turned h (crossing.Down g) up = if same_host h g then false else up
 turned h (crossing.Up g) up = if same_host h g then true else up
 
--- whether a host is up: at first the hosts of the network are
+-- whether a host is up: at first, every host of the network is
 abbrev pub is_up : List Host → Host → List Crossing → Bool
 is_up hosts h [] = is_host hosts h
 is_up hosts h (c ∷ log) = turned h c (is_up hosts h log)
@@ -100,11 +99,11 @@ pub data Passing : Type 0 where
   DestinationDown : Passing
   DestinationUp : Passing
 
--- this where the test holds, before the others
+-- the list with this passing in front, if the test holds
 abbrev pub first_if : Bool → Passing → List Passing → List Passing
 first_if test p ps = if test then p ∷ ps else ps
 
--- a host that goes down or comes up may be both ends of a flow: then the source goes first, and stands below
+-- A host may be both ends of a flow. Then it passes as the source first, and as the destination after that
 abbrev pub passings : ℕ → Flow → Crossing → List Passing
 passings place f (crossing.Out m) = first_if (same_flow f m.flow) (Put place m.text) []
 passings place f (crossing.In m) = first_if (same_flow f m.flow) (Fetched m.text) []

@@ -97,7 +97,8 @@ impl HostAddr {
         ensures value { result ≡ address_octet self.now }
         ensures again { host_of_octet result ≡ Some self.now }
     {
-        64 * self.host + self.imp
+        let HostAddr { imp, host } = *self;
+        64 * host + imp
     }
 
     /// The host that an address octet names; `None` where its IMP is 0.
@@ -115,8 +116,7 @@ impl fmt::Display for HostAddr {
     ghost output = { λ h. Some (host_text h) };
 
     fn fmt<W: fmt::Write>(&self, f: &mut fmt::Formatter<W>) -> fmt::Result {
-        let host = self.host;
-        let imp = self.imp;
+        let HostAddr { imp, host } = *self;
         write!(f, "{host}/{imp}")
     }
 }

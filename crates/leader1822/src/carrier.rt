@@ -12,8 +12,8 @@ ghost use Rattle.leader1822.specs.declared.message.HostMessage.{HostMessage};
 use crate::{Crossing, HostAddr, HostMessage, Inbound, NetEvent};
 use thiserror::Error;
 
-/// Why a carrier refuses a call. Where several apply, the first one here is given, save that `Stopped`
-/// comes before all others.
+/// Why a carrier refuses a call. They stand in the order in which a carrier looks for them, save that it
+/// looks for `Stopped` before all others.
 #[derive(Clone, Copy, Debug, Drop, PartialEq, Eq, Error)]
 pub enum CarrierFault {
     /// There is no such host, IMP, line or frame, or the carrier has no such event.
@@ -51,8 +51,13 @@ pub enum CarrierFault {
 /// A network as its hosts see it: it takes their messages, gives them what came for them, and keeps the
 /// log of all crossings, which is a run of the mailboxes.
 ///
-/// After `OutOfMemory` the log stands as before the call, and every later call that can refuse answers
-/// `Stopped`. Any other refusal changes nothing.
+/// A carrier has hosts, a log, and whether want of memory has stopped it. A call that succeeds comes
+/// before a stop, and adds the crossings named at the call and no others. An error adds none. `OutOfMemory`
+/// stops the carrier, and any other error leaves hosts, log and stop as they were. Where the carrier has
+/// stopped, a call that can fail answers `Stopped`, and nowhere else.
+///
+/// When each of the other errors comes, and what the carrier keeps beside its log, each carrier says by
+/// its own relations.
 pub trait Carrier: Drop {
     /// What every carrier shows: its hosts, its log newest first, and whether it has stopped.
     ghost seen: { Self → Seen };
@@ -69,33 +74,25 @@ pub trait Carrier: Drop {
     /// How a quiet round may go.
     ghost rounds: { Self → Result Unit CarrierFault → Self → Type 0 };
 
-    /// A message goes from its source to the network.
-    ///
-    /// Errors: `NoSuch` where the source isn't a host of the network, `IsDown` where it is down,
-    /// `Blocked` where the flow isn't idle, and what the carrier adds.
+    /// A message goes from its source to the network. Its `Out` is put on the log.
     fn offer_out(&mut self, message: HostMessage) -> Result<(), CarrierFault>
         ensures relation { offers self.old message result self.new }
         ensures shown { ShowsOffer (seen self.old) message result (seen self.new) };
 
-    /// A host takes the oldest answer that waits for it, else the oldest message; `None` where nothing
-    /// waits.
-    ///
-    /// Errors: `NoSuch` where it isn't a host of the network, `IsDown` where it is down, and what the
-    /// carrier adds.
+    /// A host takes what came for it: a message whose destination it is, an answer about a flow whose
+    /// source it is, or `None`. The message's `In`, or the `Answer`, is put on the log.
     fn take_in(&mut self, host: HostAddr) -> Result<Option<Inbound>, CarrierFault>
         ensures relation { takes self.old host result self.new }
         ensures shown { ShowsTake (seen self.old) host result (seen self.new) };
 
-    /// Something happens inside the network.
-    ///
-    /// Errors: as the carrier says of each event; `NoSuch` for an event that it has no part for.
+    /// Something happens inside the network. `HostDown` and `HostUp` put the host's `Down` or `Up` on the
+    /// log, `ImpDown` the `Down` of each host of the IMP that was up, in their order, and every other
+    /// event nothing.
     fn step(&mut self, event: NetEvent) -> Result<(), CarrierFault>
         ensures relation { steps self.old event result self.new }
         ensures shown { ShowsStep (seen self.old) event result (seen self.new) };
 
-    /// Each IMP tells its routes and sends again, and what is on the lines arrives.
-    ///
-    /// Errors: `Stopped` and `OutOfMemory` alone.
+    /// A round in which what is inside the network may move on. Nothing is put on the log.
     fn quiet_round(&mut self) -> Result<(), CarrierFault>
         ensures relation { rounds self.old result self.new }
         ensures shown { ShowsRound (seen self.old) result (seen self.new) };

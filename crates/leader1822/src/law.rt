@@ -4,12 +4,16 @@
 ghost use Rattle.std.specs.Prelude.{◌≡◌, ℕ, ◌+◌, ◌*◌, ◌<◌, ◌≤◌, Bool, List, [], ◌∷◌, ◌++◌, Ok, Some, slice_get};
 ghost use Rattle.leader1822.specs.Host.{Host, IsAddress, InOrder};
 ghost use Rattle.leader1822.specs.Leader.{read_from_host, read_from_imp, spelling, IsWritten, IsFromHost};
-ghost use Rattle.leader1822.specs.Mailboxes.{IsRun, EachIsRun, Box, Waiting, WaitsWith, Mail, opening_mail, mail_of, passed, is_up, box_of};
+ghost use Rattle.leader1822.specs.Mailboxes.{IsRun, EachIsRun, Box, Empty, Waiting, Taken, WaitsWith, Mail, opening_mail, mail_of, passed, is_up, box_of};
 ghost use Rattle.leader1822.specs.Messages.{SafeMessages};
 ghost use Rattle.leader1822.specs.declared.address.Flow.{Flow};
+ghost use Rattle.leader1822.specs.declared.crossing.Answer.{Answer};
+ghost use Rattle.leader1822.specs.declared.crossing.Answer.TheVariants as answer;
 ghost use Rattle.leader1822.specs.declared.crossing.Crossing.{Crossing};
+ghost use Rattle.leader1822.specs.declared.crossing.Crossing.TheVariants as crossing;
 ghost use Rattle.leader1822.specs.declared.leader.Leader.{Leader};
 ghost use Rattle.leader1822.specs.declared.leader.Leader.TheVariants as leader;
+ghost use Rattle.leader1822.specs.declared.message.HostMessage.{HostMessage};
 
 /// What a leader says is read again, and only its type, address and link are looked at (BBN Report 1822,
 /// message leaders).
@@ -42,6 +46,29 @@ pub fn mailboxes()
 
     // a flow's own part of a log tells its hosts and its box
     ensures own_story { (hosts : List Host) (f : Flow) (log : List Crossing) → mail_of (opening_mail hosts f) (passed f log) ≡ record { source = is_up hosts f.source log; destination = is_up hosts f.destination log; box = box_of f log } }
+{}
+
+/// Logs that are no run, and boxes after a few crossings: the rules of the mailboxes one by one.
+pub fn worked_boxes()
+    // a message waits in the box once it is out, with its place and its text, and no longer once it is taken
+    ensures waits { (m : HostMessage) → box_of m.flow (crossing.Out m ∷ []) ≡ Waiting 0 m.text }
+    ensures taken { (m : HostMessage) → box_of m.flow (crossing.In m ∷ crossing.Out m ∷ []) ≡ Taken 0 m.text }
+
+    // a host that comes up finds the boxes of its flows empty
+    ensures emptied { (m : HostMessage) → box_of m.flow (crossing.Up m.flow.source ∷ crossing.Out m ∷ []) ≡ Empty }
+
+    // no message goes out while the flow's last one is outstanding, and none is taken twice
+    ensures one_outstanding { (hosts : List Host) (m : HostMessage) → IsRun hosts (crossing.Out m ∷ crossing.Out m ∷ []) → ⊥ }
+    ensures taken_once { (hosts : List Host) (m : HostMessage) → IsRun hosts (crossing.In m ∷ crossing.In m ∷ crossing.Out m ∷ []) → ⊥ }
+
+    // RFNM needs a message that was taken, Dead one that waits, and Incomplete one of either
+    ensures early_rfnm { (hosts : List Host) (m : HostMessage) → IsRun hosts (crossing.Answer answer.Rfnm m.flow ∷ crossing.Out m ∷ []) → ⊥ }
+    ensures late_dead { (hosts : List Host) (m : HostMessage) → IsRun hosts (crossing.Answer answer.Dead m.flow ∷ crossing.In m ∷ crossing.Out m ∷ []) → ⊥ }
+    ensures answered_once { (hosts : List Host) (m : HostMessage) (kind : Answer) → IsRun hosts (crossing.Answer kind m.flow ∷ crossing.Answer answer.Incomplete m.flow ∷ crossing.Out m ∷ []) → ⊥ }
+
+    // a host that is up does not come up, and one that is down does not go down
+    ensures up_twice { (hosts : List Host) (h : Host) → IsRun hosts (crossing.Up h ∷ []) → ⊥ }
+    ensures down_twice { (hosts : List Host) (h : Host) → IsRun hosts (crossing.Down h ∷ crossing.Down h ∷ []) → ⊥ }
 {}
 
 /// What every host may rely on, from the mailboxes alone.

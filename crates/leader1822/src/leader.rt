@@ -57,10 +57,11 @@ impl Leader {
         let [first, address, link, _, ..] = *octets else {
             return Err(LeaderFault::ShortLeader);
         };
-        match first % 16 {
+        let kind = first % 16;
+        match kind {
             0 => regular(address, link),
             4 => Ok(Leader::Nop),
-            other => Err(LeaderFault::UnknownType(other)),
+            _ => Err(LeaderFault::UnknownType(kind)),
         }
     }
 

@@ -11,6 +11,7 @@
 
 mod address;
 mod carrier;
+mod contents;
 mod crossing;
 mod event;
 pub mod law;

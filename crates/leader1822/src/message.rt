@@ -4,10 +4,11 @@ ghost use Rattle.std.specs.Prelude.{◌≡◌, ◌≤◌, Bool, List, length, na
 
 use crate::Flow;
 use bit_messages::{Bits, MAX_TEXT_BITS};
+use std::alloc::AllocError;
 use std::marker::Model;
 
 /// The text of a message: 0 to 8063 bits (BBN Report 1822, the length of a message).
-#[derive(Clone, Debug, Drop)]
+#[derive(Debug, Drop)]
 pub struct Text {
     bits: Bits,
 }
@@ -45,11 +46,42 @@ impl Text {
     }
 }
 
+/// A clone has the same bits. An empty text is cloned without memory.
+impl Clone for Text {
+    ghost use Rattle.std.specs.Prelude.{[]};
+
+    ghost is_clone = { λ t copy. copy ≡ t };
+
+    ghost is_infallible = { λ t. t ≡ [] };
+
+    fn clone(&self) -> Result<Text, AllocError> {
+        Ok(Text {
+            bits: self.bits.clone()?,
+        })
+    }
+}
+
 /// A message: a text from one host to another, on a link.
-#[derive(Clone, Debug, Drop)]
+#[derive(Debug, Drop)]
 pub struct HostMessage {
     /// Who sends it to whom, and on which link.
     pub flow: Flow,
     /// What it says.
     pub text: Text,
+}
+
+/// A clone has the same flow and text. A message of no bits is cloned without memory.
+impl Clone for HostMessage {
+    ghost use Rattle.std.specs.Prelude.{[]};
+
+    ghost is_clone = { λ m copy. copy ≡ m };
+
+    ghost is_infallible = { λ m. m.text ≡ [] };
+
+    fn clone(&self) -> Result<HostMessage, AllocError> {
+        Ok(HostMessage {
+            flow: self.flow,
+            text: self.text.clone()?,
+        })
+    }
 }

@@ -6,7 +6,7 @@ use leader1822::{
     Answer, Carrier, CarrierFault, Flow, HostAddr, HostMessage, ImpNumber, Inbound, Leader,
     LeaderFault, Link, NetEvent, PlainBoxes, Text,
 };
-use std::alloc::Global;
+use std::alloc::{AllocError, Global};
 use std::process::Abort;
 use std::test::Fail;
 
@@ -15,10 +15,10 @@ fn there() -> HostAddr {
     HostAddr::new(1, 2).unwrap()
 }
 
-/// The RFNM from host 1 at IMP 2 about link 5.
-fn rfnm() -> Leader {
+/// This answer from host 1 at IMP 2 about link 5.
+fn answer(kind: Answer) -> Leader {
     Leader::Answer {
-        kind: Answer::Rfnm,
+        kind,
         address: there(),
         link: Link(5),
     }
@@ -34,16 +34,20 @@ fn regular() -> Leader {
 
 #[test]
 fn leaders_from_an_imp(rt: HostRuntime) {
-    for octets in [[0x05, 0x42, 0x05, 0x00], [0xF5, 0x42, 0x05, 0xFF]] {
-        assert_eq!(rt; Leader::read_from_imp(&octets), Ok(rfnm()), "{octets:?}");
-    }
     for (octets, leader) in [
         (
-            &[0x02u8, 0x42, 0x05, 0x00] as &[u8],
-            Err(LeaderFault::UnknownType(2)),
+            &[0x05u8, 0x42, 0x05, 0x00] as &[u8],
+            Ok(answer(Answer::Rfnm)),
         ),
+        (&[0xF5, 0x42, 0x05, 0xFF], Ok(answer(Answer::Rfnm))),
+        (&[0x07, 0x42, 0x05, 0x00], Ok(answer(Answer::Dead))),
+        (&[0x09, 0x42, 0x05, 0x00], Ok(answer(Answer::Incomplete))),
+        (&[0x00, 0x42, 0x05, 0x00], Ok(regular())),
+        (&[0x02, 0x42, 0x05, 0x00], Err(LeaderFault::UnknownType(2))),
+        (&[0x02, 0x00, 0x05, 0x00], Err(LeaderFault::UnknownType(2))),
         (&[0x00, 0x40, 0x05, 0x00], Err(LeaderFault::BadImp)),
-        (&[0x00, 0x42, 0x05], Err(LeaderFault::ShortLeader)),
+        (&[0x05, 0x40, 0x05, 0x00], Err(LeaderFault::BadImp)),
+        (&[0x02, 0x00, 0x05], Err(LeaderFault::ShortLeader)),
         (&[0x14, 0x00, 0x05, 0x07], Ok(Leader::Nop)),
     ] {
         assert_eq!(rt; Leader::read_from_imp(octets), leader, "{octets:?}");
@@ -55,6 +59,9 @@ fn leaders_from_a_host(rt: HostRuntime) {
     for (octets, leader) in [
         (&[0x70u8, 0x42, 0x05, 0x01, 0x99] as &[u8], Ok(regular())),
         (&[0x04, 0x00, 0x00, 0x00], Ok(Leader::Nop)),
+        (&[0x00, 0xC0, 0x05, 0x00], Err(LeaderFault::BadImp)),
+        (&[0x02, 0x00, 0x05, 0x00], Err(LeaderFault::UnknownType(2))),
+        (&[0x02, 0x00, 0x05], Err(LeaderFault::ShortLeader)),
         (&[0x05, 0x42, 0x05, 0x00], Err(LeaderFault::UnknownType(5))),
         (&[0x07, 0x42, 0x05, 0x00], Err(LeaderFault::UnknownType(7))),
         (&[0x09, 0x42, 0x05, 0x00], Err(LeaderFault::UnknownType(9))),
@@ -68,7 +75,9 @@ fn leaders_from_a_host(rt: HostRuntime) {
 #[test]
 fn leaders_are_written(rt: HostRuntime) {
     for (leader, octets) in [
-        (rfnm(), [0x05, 0x42, 0x05, 0x00]),
+        (answer(Answer::Rfnm), [0x05, 0x42, 0x05, 0x00]),
+        (answer(Answer::Dead), [0x07, 0x42, 0x05, 0x00]),
+        (answer(Answer::Incomplete), [0x09, 0x42, 0x05, 0x00]),
         (regular(), [0x00, 0x42, 0x05, 0x00]),
         (Leader::Nop, [0x04, 0x00, 0x00, 0x00]),
     ] {
@@ -104,8 +113,8 @@ fn addresses_have_their_ranges(rt: HostRuntime) {
 /// Something done to plain boxes.
 #[derive(Clone, Copy)]
 enum Act {
-    /// 0/1 offers a message of eight ones on link 5 to this host.
-    Offer(HostAddr),
+    /// The flow's source offers a message of eight ones on it.
+    Offer(Flow),
     /// This host takes what waits for it.
     Take(HostAddr),
     /// This happens in the network.
@@ -153,14 +162,11 @@ fn taken(answer: Result<Option<Inbound>, CarrierFault>) -> Outcome {
     }
 }
 
-/// The message that 0/1 offers to this host.
-fn message(rt: &impl Abort, alloc: Global, destination: HostAddr) -> Result<HostMessage, BitFault> {
+/// A message of eight ones on this flow.
+fn message(rt: &impl Abort, alloc: Global, flow: Flow) -> Result<HostMessage, BitFault> {
     let bits = Bits::from_octets(alloc, &[0xFF], 8)?;
     Ok(HostMessage {
-        flow: Flow {
-            destination,
-            ..flow(5)
-        },
+        flow,
         text: Text::new(bits).expect(rt, "a short text"),
     })
 }
@@ -184,7 +190,7 @@ fn outcome_of(
     what: Act,
 ) -> Result<Outcome, BitFault> {
     Ok(match what {
-        Act::Offer(destination) => done(boxes.offer_out(message(rt, alloc, destination)?)),
+        Act::Offer(flow) => done(boxes.offer_out(message(rt, alloc, flow)?)),
         Act::Take(host) => taken(boxes.take_in(host)),
         Act::Step(event) => done(boxes.step(event)),
         Act::Quiet => done(boxes.quiet_round()),
@@ -212,11 +218,8 @@ fn a_message_is_taken_and_answered(rt: HostRuntime) -> Result<(), Fail> {
     let flow = flow(5);
     let acts = [
         (Act::Look, Outcome::Seen(2, 0)),
-        (Act::Offer(flow.destination), Outcome::Done),
-        (
-            Act::Offer(flow.destination),
-            Outcome::Refused(CarrierFault::Blocked),
-        ),
+        (Act::Offer(flow), Outcome::Done),
+        (Act::Offer(flow), Outcome::Refused(CarrierFault::Blocked)),
         (Act::Take(flow.source), Outcome::Nothing),
         (Act::Take(flow.destination), Outcome::Message(flow, 8)),
         (
@@ -236,7 +239,7 @@ fn a_host_that_stops_gives_dead(rt: HostRuntime) -> Result<(), Fail> {
     let down = Act::Step(NetEvent::HostDown(flow.destination));
     let up = Act::Step(NetEvent::HostUp(flow.destination));
     let acts = [
-        (Act::Offer(flow.destination), Outcome::Done),
+        (Act::Offer(flow), Outcome::Done),
         (down, Outcome::Done),
         (down, Outcome::Refused(CarrierFault::IsDown)),
         (
@@ -263,12 +266,12 @@ fn a_message_is_given_up(rt: HostRuntime) -> Result<(), Fail> {
     let none = Outcome::Refused(CarrierFault::NotOutstanding);
     let acts = [
         (given_up, none),
-        (Act::Offer(flow.destination), Outcome::Done),
+        (Act::Offer(flow), Outcome::Done),
         (Act::Step(NetEvent::HostDown(flow.source)), Outcome::Done),
         (up, Outcome::Refused(CarrierFault::Unsettled)),
         (given_up, Outcome::Done),
         (up, Outcome::Done),
-        (Act::Offer(flow.destination), Outcome::Done),
+        (Act::Offer(flow), Outcome::Done),
         (given_up, Outcome::Done),
         (given_up, none),
         (
@@ -291,7 +294,7 @@ fn a_host_that_is_not_there(rt: HostRuntime) -> Result<(), Fail> {
     let imp = ImpNumber::new(1).unwrap();
     let nothing_such = Outcome::Refused(CarrierFault::NoSuch);
     let acts = [
-        (Act::Offer(nobody), Outcome::Done),
+        (Act::Offer(lost), Outcome::Done),
         (Act::Step(NetEvent::ImpUp(imp)), nothing_such),
         (Act::Take(nobody), nothing_such),
         (
@@ -300,5 +303,219 @@ fn a_host_that_is_not_there(rt: HostRuntime) -> Result<(), Fail> {
         ),
     ];
     assert_eq!(rt; first_other(&rt, rt.alloc(), &acts)?, None);
+    Ok(())
+}
+
+/// The flow back on this link.
+fn back(link: u8) -> Flow {
+    let flow = flow(link);
+    Flow {
+        source: flow.destination,
+        destination: flow.source,
+        link: flow.link,
+    }
+}
+
+/// The flow on this link from 0/1 to itself.
+fn inward(link: u8) -> Flow {
+    let flow = flow(link);
+    Flow {
+        destination: flow.source,
+        ..flow
+    }
+}
+
+/// The host takes this answer.
+fn told(kind: Answer, flow: Flow) -> (Act, Outcome) {
+    (Act::Take(flow.source), Outcome::Answered(kind, flow))
+}
+
+/// The destination takes the flow's message.
+fn came(flow: Flow) -> (Act, Outcome) {
+    (Act::Take(flow.destination), Outcome::Message(flow, 8))
+}
+
+/// The act is done.
+fn well(act: Act) -> (Act, Outcome) {
+    (act, Outcome::Done)
+}
+
+/// The act is refused.
+fn refused(act: Act, fault: CarrierFault) -> (Act, Outcome) {
+    (act, Outcome::Refused(fault))
+}
+
+#[test]
+fn answers_wait_in_their_order(rt: HostRuntime) -> Result<(), Fail> {
+    let (one, two, three, other) = (flow(1), flow(2), flow(3), back(1));
+    let acts = [
+        well(Act::Offer(one)),
+        well(Act::Offer(two)),
+        well(Act::Offer(three)),
+        well(Act::Offer(other)),
+        came(one),
+        came(two),
+        refused(Act::Offer(one), CarrierFault::Blocked),
+        well(Act::Step(NetEvent::GiveUp(three))),
+        told(Answer::Rfnm, one),
+        well(Act::Step(NetEvent::GiveUp(two))),
+        told(Answer::Incomplete, three),
+        told(Answer::Incomplete, two),
+        refused(
+            Act::Step(NetEvent::GiveUp(two)),
+            CarrierFault::NotOutstanding,
+        ),
+        came(other),
+        (
+            Act::Take(one.destination),
+            Outcome::Answered(Answer::Rfnm, other),
+        ),
+        (Act::Take(one.destination), Outcome::Nothing),
+    ];
+    assert_eq!(rt; first_other(&rt, rt.alloc(), &acts)?, None);
+    Ok(())
+}
+
+#[test]
+fn a_host_that_stops_is_cleared(rt: HostRuntime) -> Result<(), Fail> {
+    let (one, two, own, other) = (flow(1), flow(2), inward(7), back(1));
+    let here = one.source;
+    let down = Act::Step(NetEvent::HostDown(here));
+    let up = Act::Step(NetEvent::HostUp(here));
+    let acts = [
+        well(Act::Offer(two)),
+        came(two),
+        well(Act::Offer(one)),
+        well(Act::Offer(own)),
+        well(Act::Offer(other)),
+        well(down),
+        refused(Act::Offer(one), CarrierFault::IsDown),
+        refused(up, CarrierFault::Unsettled),
+        (
+            Act::Take(other.source),
+            Outcome::Answered(Answer::Dead, other),
+        ),
+        came(one),
+        well(up),
+        (Act::Take(here), Outcome::Nothing),
+        well(Act::Offer(one)),
+        well(Act::Offer(two)),
+        well(Act::Offer(own)),
+        well(Act::Step(NetEvent::HostDown(one.destination))),
+        told(Answer::Dead, one),
+        told(Answer::Dead, two),
+        came(own),
+        told(Answer::Rfnm, own),
+        well(Act::Offer(two)),
+        told(Answer::Dead, two),
+        (Act::Look, Outcome::Seen(2, 19)),
+    ];
+    assert_eq!(rt; first_other(&rt, rt.alloc(), &acts)?, None);
+    Ok(())
+}
+
+#[test]
+fn the_first_refusal_is_given(rt: HostRuntime) -> Result<(), Fail> {
+    let one = flow(1);
+    let nobody = HostAddr::new(0, 9).unwrap();
+    let lost = Flow {
+        source: nobody,
+        ..one
+    };
+    let nowhere = Flow {
+        destination: nobody,
+        ..one
+    };
+    let acts = [
+        refused(Act::Offer(lost), CarrierFault::NoSuch),
+        refused(Act::Step(NetEvent::GiveUp(lost)), CarrierFault::NoSuch),
+        refused(
+            Act::Step(NetEvent::GiveUp(nowhere)),
+            CarrierFault::NotOutstanding,
+        ),
+        refused(Act::Step(NetEvent::HostDown(nobody)), CarrierFault::NoSuch),
+        refused(Act::Step(NetEvent::HostUp(nobody)), CarrierFault::NoSuch),
+        refused(Act::Step(NetEvent::HostUp(one.source)), CarrierFault::IsUp),
+        well(Act::Offer(one)),
+        refused(Act::Step(NetEvent::HostUp(one.source)), CarrierFault::IsUp),
+        refused(Act::Step(NetEvent::Abandon(one)), CarrierFault::NoSuch),
+        came(one),
+    ];
+    assert_eq!(rt; first_other(&rt, rt.alloc(), &acts)?, None);
+    Ok(())
+}
+
+/// Whether copies are equal to what they were made of; whether hosts and flows are equal, and stand in
+/// order, as they should.
+fn likeness() -> Result<[bool; 12], AllocError> {
+    let (low, high) = (HostAddr::new(3, 1).unwrap(), HostAddr::new(0, 2).unwrap());
+    let (one, two) = (flow(1), flow(2));
+    let event = NetEvent::HostUp(low);
+    let leader = answer(Answer::Dead);
+    Ok([
+        low.clone()? == low,
+        low < high,
+        high < low,
+        ImpNumber::new(9) < ImpNumber::new(10),
+        one.clone()? == one,
+        one < two,
+        back(1) < two,
+        inward(9) < one,
+        event.clone()? == event,
+        event == NetEvent::HostDown(low),
+        leader.clone()? == leader,
+        answer(Answer::Rfnm) == leader,
+    ])
+}
+
+#[test]
+fn values_are_copied_and_compared(rt: HostRuntime) -> Result<(), Fail> {
+    let expected = [
+        true, true, false, true, true, true, false, true, true, false, true, false,
+    ];
+    assert_eq!(rt; likeness()?, expected);
+    Ok(())
+}
+
+/// The flow and the bits of a message's copy.
+fn copied(rt: &impl Abort, alloc: Global) -> Result<(Flow, bool), BitFault> {
+    let message = message(rt, alloc, flow(5))?;
+    let copy = message.clone()?;
+    Ok((copy.flow, copy.text.bits() == message.text.bits()))
+}
+
+#[test]
+fn a_message_is_copied_whole(rt: HostRuntime) -> Result<(), Fail> {
+    assert_eq!(rt; copied(&rt, rt.alloc())?, (flow(5), true));
+    Ok(())
+}
+
+/// The texts of the faults, in the order in which they are looked for.
+fn fault_texts(alloc: Global) -> Result<String, AllocError> {
+    format!(in alloc;
+        "{} {} {} {} {} {} {} {} {} {}, {}, {}, {}",
+        CarrierFault::NoSuch,
+        CarrierFault::StillAlive,
+        CarrierFault::IsDown,
+        CarrierFault::IsUp,
+        CarrierFault::Unsettled,
+        CarrierFault::NotOutstanding,
+        CarrierFault::Blocked,
+        CarrierFault::NoRoom,
+        CarrierFault::Stopped,
+        CarrierFault::OutOfMemory,
+        LeaderFault::ShortLeader,
+        LeaderFault::UnknownType(10),
+        LeaderFault::BadImp
+    )
+}
+
+#[test]
+fn each_fault_has_its_text(rt: HostRuntime) -> Result<(), Fail> {
+    let texts = fault_texts(rt.alloc())?;
+    assert_eq!(rt;
+        texts.as_str(),
+        "NoSuch StillAlive IsDown IsUp Unsettled NotOutstanding Blocked NoRoom Stopped OutOfMemory, short leader, unknown type 10, bad IMP number"
+    );
     Ok(())
 }

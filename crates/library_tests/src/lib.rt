@@ -16,15 +16,23 @@ mod boxes;
 #[cfg(test)]
 mod control;
 #[cfg(test)]
-mod flags;
+mod flow_tables;
 #[cfg(test)]
 mod lines;
 #[cfg(test)]
 mod numbers;
 #[cfg(test)]
+mod options;
+#[cfg(test)]
 mod packets;
 #[cfg(test)]
+mod routes;
+#[cfg(test)]
 mod scripts;
+#[cfg(test)]
+mod settled;
+#[cfg(test)]
+mod topologies;
 #[cfg(test)]
 mod values;
 #[cfg(test)]

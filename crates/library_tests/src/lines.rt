@@ -5,7 +5,7 @@
 use imp_channel::{ACKS, ChannelFault, Content, Frame, Line, Received, SubmitFault};
 use packetiser::Packet;
 use routing::Vector;
-use std::alloc::Global;
+use std::alloc::{AllocError, Global};
 use std::process::Abort;
 use std::test::Fail;
 
@@ -28,18 +28,30 @@ const ROUTES: [u8; 18] = [
 fn octets_that_are_no_frame_are_refused(rt: HostRuntime) {
     let mut far = ROUTES;
     far[4] = 17;
-    let wrong_packet: &[u8] = &[0, 0, 0, 1, 0x01, 0x42, 5, 0, 0x80, 0, 16, 0, 0];
+    let behind_routes: &[u8] = &[
+        2, 1, 1, 0, 1, 16, 16, 16, 16, 16, 16, 16, 16, 16, 16, 16, 16, 16, 0,
+    ];
+    let cut_packet = &READY_FRAME[..10];
+    let packet_of_kind_3: &[u8] = &[0, 0, 0, 3, 0x01, 0x42, 5, 0, 0x80, 0, 0];
+    let answer_with_bits: &[u8] = &[0, 0, 0, 1, 0x01, 0x42, 5, 0, 0x80, 0, 16, 0, 0];
+    let channel_16: &[u8] = &[0, 0, 16, 1, 0x01, 0x42, 5, 0, 0x80, 0, 0];
     for (octets, fault) in [
         (&[] as &[u8], ChannelFault::Short),
         (&[1], ChannelFault::Short),
+        (&[3], ChannelFault::Short),
         (&[0, 0], ChannelFault::Short),
         (&[0, 0, 0], ChannelFault::Short),
         (&ROUTES[..17], ChannelFault::Short),
+        (&far[..17], ChannelFault::Short),
+        (cut_packet, ChannelFault::Short),
         (&[3, 0], ChannelFault::NotCanonical),
         (&[1, 0, 0], ChannelFault::NotCanonical),
         (&[0, 0, 16], ChannelFault::NotCanonical),
+        (channel_16, ChannelFault::NotCanonical),
         (&far, ChannelFault::NotCanonical),
-        (wrong_packet, ChannelFault::BadLength),
+        (behind_routes, ChannelFault::NotCanonical),
+        (packet_of_kind_3, ChannelFault::NotCanonical),
+        (answer_with_bits, ChannelFault::BadLength),
     ] {
         assert_eq!(rt;
             Frame::read(rt.alloc(), octets).err(),
@@ -60,6 +72,67 @@ fn a_frame_is_written_as_it_was_read(rt: HostRuntime) -> Result<(), Fail> {
     for octets in [packet, &[1, 0xFF], &ROUTES] {
         assert_eq!(rt; rewritten(rt.alloc(), octets)?.as_slice(), octets);
     }
+    Ok(())
+}
+
+/// The octets of a copy of the frame that these octets spell, of the frame with a copy of its content, and
+/// of the frame with a copy of its packet.
+fn copied(alloc: Global, octets: &[u8]) -> Result<[Vec<u8>; 3], ChannelFault> {
+    let frame = Frame::read(alloc, octets)?;
+    let copy = frame.clone()?.write(alloc)?;
+    let Frame { acks, content } = frame;
+    let second = Frame {
+        acks,
+        content: content.clone()?,
+    };
+    let third = Frame {
+        acks,
+        content: match content {
+            Content::Packet(carried) => Content::Packet(carried.clone()?),
+            other => other,
+        },
+    };
+    Ok([copy, second.write(alloc)?, third.write(alloc)?])
+}
+
+#[test]
+fn a_copy_of_a_frame_is_the_same_frame(rt: HostRuntime) -> Result<(), Fail> {
+    let packet: &[u8] = &[0, 0xA5, 0x0F, 0, 0x01, 0x42, 5, 1, 0x80, 0, 16, 0xAB, 0xCD];
+    for octets in [packet, &[1, 0xFF], &ROUTES] {
+        for copy in copied(rt.alloc(), octets)? {
+            assert!(rt; copy.as_slice() == octets, "{octets:?}");
+        }
+    }
+    Ok(())
+}
+
+/// The texts of the faults, in the order in which they are looked for.
+fn fault_texts(alloc: Global) -> Result<String, AllocError> {
+    format!(in alloc;
+        "{}, {}, {}, {}",
+        ChannelFault::Short,
+        ChannelFault::NotCanonical,
+        ChannelFault::BadLength,
+        ChannelFault::OutOfMemory
+    )
+}
+
+#[test]
+fn each_fault_has_its_text_and_equals_itself_alone(rt: HostRuntime) -> Result<(), Fail> {
+    let texts = fault_texts(rt.alloc())?;
+    let equal = [
+        ChannelFault::Short == ChannelFault::Short,
+        ChannelFault::Short == ChannelFault::NotCanonical,
+        ChannelFault::BadLength == ChannelFault::BadLength,
+        ChannelFault::BadLength == ChannelFault::OutOfMemory,
+    ];
+    assert_eq!(rt;
+        (texts.as_str(), equal),
+        (
+            "short, not canonical, bad length, out of memory",
+            [true, false, true, false],
+        )
+    );
     Ok(())
 }
 
@@ -100,8 +173,6 @@ enum Came {
     Acknowledgements,
     /// A frame brought distances.
     Distances,
-    /// A frame was refused as not canonical.
-    NotCanonical,
     /// A packet is in the channel.
     Waits,
     /// No packet is in the channel.
@@ -151,29 +222,41 @@ fn submit(alloc: Global, line: &mut Line, octets: &[u8], frame: &[u8]) -> Came {
     }
 }
 
-/// What comes of a frame of these octets that an end takes.
+/// The octets of a packet frame's packet.
+fn body(frame: &[u8]) -> &[u8] {
+    match frame {
+        [_, _, _, packet @ ..] => packet,
+        _ => frame,
+    }
+}
+
+/// What comes of a frame of these octets that an end takes. A packet that is fresh has to be the frame's.
 fn hear(alloc: Global, line: &mut Line, octets: &[u8]) -> Came {
     let Ok(frame) = Frame::read(alloc, octets) else {
         return Came::Failed;
     };
     let called_fresh = line.is_fresh(&frame);
     match line.receive(frame) {
-        Ok(Received::Fresh(_)) if called_fresh => Came::Fresh,
+        Received::Fresh(packet) if called_fresh => match back(alloc, &packet, body(octets)) {
+            Came::Back => Came::Fresh,
+            other => other,
+        },
         _ if called_fresh => Came::Misjudged,
-        Ok(Received::Fresh(_)) => Came::Misjudged,
-        Ok(Received::Repeat) => Came::Repeat,
-        Ok(Received::AckOnly) => Came::Acknowledgements,
-        Ok(Received::Routes(_)) => Came::Distances,
-        Err(ChannelFault::NotCanonical) => Came::NotCanonical,
-        Err(_) => Came::Failed,
+        Received::Fresh(_) => Came::Misjudged,
+        Received::Repeat => Came::Repeat,
+        Received::AckOnly => Came::Acknowledgements,
+        Received::Routes(_) => Came::Distances,
     }
 }
 
-/// Whether a packet waits in a channel of an end.
-fn waits(line: &Line, channel: u8) -> Came {
-    match line.packet(channel) {
-        Some(_) => Came::Waits,
-        None => Came::Nothing,
+/// Whether a packet waits in a channel of an end. It has to have these octets.
+fn waits(alloc: Global, line: &Line, channel: u8, octets: &[u8]) -> Came {
+    let Some(packet) = line.packet(channel) else {
+        return Came::Nothing;
+    };
+    match back(alloc, packet, octets) {
+        Came::Back => Came::Waits,
+        other => other,
     }
 }
 
@@ -205,14 +288,18 @@ fn resend(alloc: Global, line: &Line, octets: &[u8]) -> Came {
 }
 
 #[test]
-fn a_busy_line_takes_no_packet_and_sends_its_own_again(rt: HostRuntime) -> Result<(), Fail> {
+fn a_busy_channel_sends_its_packet_again(rt: HostRuntime) -> Result<(), Fail> {
     let alloc = rt.alloc();
     let mut line = Line::new(alloc)?;
     let steps = [
         (submit(alloc, &mut line, &READY, &READY_FRAME), Came::Sent),
-        (submit(alloc, &mut line, &PIECE, &PIECE_FRAME), Came::Back),
+        (resend(alloc, &line, &READY_FRAME), Came::Sent),
+        (hear(alloc, &mut line, &[1, 0xFE]), Came::Acknowledgements),
+        (waits(alloc, &line, 0, &READY), Came::Waits),
+        (waits(alloc, &line, 1, &READY), Came::Nothing),
+        (waits(alloc, &line, 8, &READY), Came::Nothing),
         (hear(alloc, &mut line, &[1, 1]), Came::Acknowledgements),
-        (waits(&line, 0), Came::Nothing),
+        (waits(alloc, &line, 0, &READY), Came::Nothing),
         (submit(alloc, &mut line, &PIECE, &PIECE_FRAME), Came::Sent),
         (resend(alloc, &line, &PIECE_FRAME), Came::Sent),
     ];
@@ -220,18 +307,147 @@ fn a_busy_line_takes_no_packet_and_sends_its_own_again(rt: HostRuntime) -> Resul
     Ok(())
 }
 
+/// The frame of the piece at this place of a message of eight pieces of 1008 bits each, on the channel of
+/// the same number under bit 0.
+fn piece_frame(place: u8) -> [u8; 137] {
+    let last = if place == 7 { 0x80 } else { 0 };
+    let mut frame = [0; 137];
+    frame[2] = place;
+    frame[4] = 0x01;
+    frame[5] = 0x42;
+    frame[6] = 5;
+    frame[7] = 9;
+    frame[8] = last | place;
+    frame[9] = 0x03;
+    frame[10] = 0xF0;
+    frame[11] = place;
+    frame
+}
+
+/// What comes of the eight pieces: each is submitted, and its frame is heard at the other end.
+fn eight_pieces(alloc: Global, from: &mut Line, to: &mut Line) -> [(Came, Came); 8] {
+    let mut came = [(Came::Failed, Came::Failed); 8];
+    for (place, both) in came.iter_mut().enumerate() {
+        let frame = piece_frame(place as u8);
+        *both = (
+            submit(alloc, from, body(&frame), &frame),
+            hear(alloc, to, &frame),
+        );
+    }
+    came
+}
+
 #[test]
-fn a_packet_on_another_channel_changes_nothing(rt: HostRuntime) -> Result<(), Fail> {
+fn eight_packets_go_out_on_eight_channels(rt: HostRuntime) -> Result<(), Fail> {
     let alloc = rt.alloc();
-    let foreign: &[u8] = &[0, 1, 1, 1, 0x01, 0x42, 5, 0, 0x80, 0, 0];
+    let next: &[u8] = &[0, 0, 8, 1, 0x01, 0x42, 5, 0, 0x80, 0, 0];
+    let mut left = Line::new(alloc)?;
+    let mut right = Line::new(alloc)?;
+    let came = eight_pieces(alloc, &mut left, &mut right);
+    let then = [
+        submit(alloc, &mut left, &READY, &[]),
+        sent(alloc, &right.ack_frame(), &[1, 0xFF]),
+        hear(alloc, &mut left, &[1, 0xFF]),
+        submit(alloc, &mut left, &READY, next),
+    ];
+    assert_eq!(rt;
+        (came, then),
+        (
+            [(Came::Sent, Came::Fresh); 8],
+            [Came::Back, Came::Sent, Came::Acknowledgements, Came::Sent],
+        )
+    );
+    Ok(())
+}
+
+/// An answer with this number, in a frame with this octet 2.
+fn answer_frame(octet: u8, number: u8) -> [u8; 11] {
+    [0, 0, octet, 1, 0x01, 0x42, 5, number, 0x80, 0, 0]
+}
+
+/// What comes of an answer with this number that has to go out in a frame with this octet 2.
+fn submit_answer(alloc: Global, line: &mut Line, octet: u8, number: u8) -> Came {
+    let frame = answer_frame(octet, number);
+    submit(alloc, line, body(&frame), &frame)
+}
+
+/// The channels, bits and numbers of the packets that are sent again.
+fn sent_again(alloc: Global, line: &Line) -> Result<Vec<(u8, bool, u8)>, AllocError> {
+    let mut found = Vec::new(alloc);
+    for frame in line.resend(alloc)? {
+        if let Content::Packet(carried) = frame.content {
+            found.push((carried.channel(), carried.bit(), carried.packet().number()))?;
+        }
+    }
+    Ok(found)
+}
+
+/// The numbers of the packets that a reset gives back.
+fn given_back(alloc: Global, line: &mut Line) -> Result<Vec<u8>, AllocError> {
+    let packets = line.reset(alloc)?;
+    packets.iter().map(|packet| packet.number()).collect(alloc)
+}
+
+#[test]
+fn the_lowest_free_channel_is_taken_and_frames_go_again_in_channel_order(
+    rt: HostRuntime,
+) -> Result<(), Fail> {
+    let alloc = rt.alloc();
+    let mut line = Line::new(alloc)?;
+    let mut first = [Came::Failed; 8];
+    for (number, came) in first.iter_mut().enumerate() {
+        *came = submit_answer(alloc, &mut line, number as u8, number as u8);
+    }
+    let then = [
+        // channels 0, 2 and 5 are acknowledged: their next packets have bit 1
+        hear(alloc, &mut line, &[1, 0x25]),
+        submit_answer(alloc, &mut line, 0x08, 8),
+        submit_answer(alloc, &mut line, 0x0A, 9),
+        submit_answer(alloc, &mut line, 0x0D, 10),
+        submit_answer(alloc, &mut line, 0, 11),
+    ];
+    let again = sent_again(alloc, &line)?;
+    let back = given_back(alloc, &mut line)?;
+    assert_eq!(rt;
+        (first, then, again.as_slice(), back.as_slice()),
+        (
+            [Came::Sent; 8],
+            [
+                Came::Acknowledgements,
+                Came::Sent,
+                Came::Sent,
+                Came::Sent,
+                Came::Back,
+            ],
+            [
+                (0u8, true, 8u8),
+                (1, false, 1),
+                (2, true, 9),
+                (3, false, 3),
+                (4, false, 4),
+                (5, true, 10),
+                (6, false, 6),
+                (7, false, 7),
+            ]
+            .as_slice(),
+            [8u8, 1, 9, 3, 4, 10, 6, 7].as_slice(),
+        )
+    );
+    Ok(())
+}
+
+#[test]
+fn each_channel_expects_its_own_bit(rt: HostRuntime) -> Result<(), Fail> {
+    let alloc = rt.alloc();
     let mut line = Line::new(alloc)?;
     let steps = [
-        (submit(alloc, &mut line, &READY, &READY_FRAME), Came::Sent),
-        (hear(alloc, &mut line, foreign), Came::NotCanonical),
-        (waits(&line, 0), Came::Waits),
-        (hear(alloc, &mut line, &[1, 0xFE]), Came::Acknowledgements),
-        (waits(&line, 0), Came::Waits),
-        (waits(&line, 1), Came::Nothing),
+        (hear(alloc, &mut line, &answer_frame(5, 1)), Came::Fresh),
+        (sent(alloc, &line.ack_frame(), &[1, 0x20]), Came::Sent),
+        (hear(alloc, &mut line, &answer_frame(5, 1)), Came::Repeat),
+        (hear(alloc, &mut line, &answer_frame(4, 1)), Came::Fresh),
+        (hear(alloc, &mut line, &answer_frame(13, 2)), Came::Fresh),
+        (hear(alloc, &mut line, &answer_frame(15, 2)), Came::Repeat),
+        (sent(alloc, &line.ack_frame(), &[1, 0x10]), Came::Sent),
     ];
     all_as_expected(&rt, &steps);
     Ok(())
@@ -249,14 +465,65 @@ fn reset(alloc: Global, line: &mut Line, octets: &[u8]) -> Came {
 #[test]
 fn a_reset_line_gives_its_packets_back_and_begins_anew(rt: HostRuntime) -> Result<(), Fail> {
     let alloc = rt.alloc();
-    let mine: &[u8] = &[0, 0, 0, 0, 0x01, 0x42, 5, 1, 0x80, 0, 16, 0xAB, 0xCD];
+    let under_1: &[u8] = &[0, 1, 8, 0, 0x01, 0x42, 5, 1, 0x80, 0, 16, 0xAB, 0xCD];
     let mut line = Line::new(alloc)?;
     let steps = [
-        (submit(alloc, &mut line, &PIECE, mine), Came::Sent),
-        (hear(alloc, &mut line, mine), Came::Fresh),
+        (submit(alloc, &mut line, &READY, &READY_FRAME), Came::Sent),
+        (hear(alloc, &mut line, &READY_FRAME), Came::Fresh),
+        (hear(alloc, &mut line, &[1, 1]), Came::Acknowledgements),
+        (submit(alloc, &mut line, &PIECE, under_1), Came::Sent),
         (reset(alloc, &mut line, &PIECE), Came::Back),
+        (waits(alloc, &line, 0, &PIECE), Came::Nothing),
         (sent(alloc, &line.ack_frame(), &[1, 0]), Came::Sent),
         (submit(alloc, &mut line, &READY, &READY_FRAME), Came::Sent),
+        (hear(alloc, &mut line, &READY_FRAME), Came::Fresh),
+    ];
+    all_as_expected(&rt, &steps);
+    Ok(())
+}
+
+/// What comes of telling distances, which has to give a frame of these octets.
+fn tell(alloc: Global, line: &Line, octets: &[u8]) -> Came {
+    let Some(vector) = Vector::from_slice(distances_in(octets)) else {
+        return Came::Failed;
+    };
+    sent(alloc, &line.routes_frame(vector), octets)
+}
+
+/// The distances in a routes frame.
+fn distances_in(frame: &[u8]) -> &[u8] {
+    match frame {
+        [_, _, distances @ ..] => distances,
+        _ => frame,
+    }
+}
+
+#[test]
+fn every_frame_brings_acknowledgements(rt: HostRuntime) -> Result<(), Fail> {
+    let alloc = rt.alloc();
+    let acknowledging: &[u8] = &[0, 1, 0, 1, 0x01, 0x42, 5, 0, 0x80, 0, 0];
+    let under_1: &[u8] = &[0, 1, 8, 0, 0x01, 0x42, 5, 1, 0x80, 0, 16, 0xAB, 0xCD];
+    let mut line = Line::new(alloc)?;
+    let steps = [
+        // a routes frame frees the channel
+        (submit(alloc, &mut line, &READY, &READY_FRAME), Came::Sent),
+        (hear(alloc, &mut line, &ROUTES), Came::Distances),
+        (waits(alloc, &line, 0, &READY), Came::Nothing),
+        // a packet frame does, here by a zero, since the packet that waits has the bit one
+        (submit(alloc, &mut line, &PIECE, &PIECE_FRAME), Came::Sent),
+        (hear(alloc, &mut line, &READY_FRAME), Came::Fresh),
+        (waits(alloc, &line, 0, &PIECE), Came::Nothing),
+        // so does a packet frame that came before; a packet frame acknowledges
+        (submit(alloc, &mut line, &READY, acknowledging), Came::Sent),
+        (hear(alloc, &mut line, acknowledging), Came::Repeat),
+        (waits(alloc, &line, 0, &READY), Came::Nothing),
+        // a frame sent again and a routes frame acknowledge
+        (submit(alloc, &mut line, &PIECE, under_1), Came::Sent),
+        (resend(alloc, &line, under_1), Came::Sent),
+        (tell(alloc, &line, &ROUTES), Came::Sent),
+        // the packet's own bit frees nothing
+        (hear(alloc, &mut line, &[1, 1]), Came::Acknowledgements),
+        (waits(alloc, &line, 0, &PIECE), Came::Waits),
     ];
     all_as_expected(&rt, &steps);
     Ok(())
@@ -265,7 +532,7 @@ fn a_reset_line_gives_its_packets_back_and_begins_anew(rt: HostRuntime) -> Resul
 /// The distances that a frame of these octets brings to an end.
 fn distances(alloc: Global, line: &mut Line, octets: &[u8]) -> Option<Vector> {
     let frame = Frame::read(alloc, octets).ok()?;
-    match line.receive(frame).ok()? {
+    match line.receive(frame) {
         Received::Routes(vector) => Some(vector),
         Received::Fresh(_packet) => None,
         Received::AckOnly | Received::Repeat => None,

@@ -1,16 +1,30 @@
 //! Worked examples of packets, cutting and reassembly.
 
 use crate::values::{alike, flow};
-use bit_messages::Bits;
-use leader1822::{HostMessage, Link, Text};
-use packetiser::{Added, Outcome, Packet, PacketFault, PacketKind, Reassembly, cut};
-use std::alloc::Global;
+use bit_messages::{BitFault, Bits};
+use leader1822::{Flow, HostAddr, HostMessage, Link, Text};
+use packetiser::{Added, Held, Outcome, Packet, PacketFault, PacketKind, Reassembly, cut};
+use std::alloc::{AllocError, Global};
 use std::process::Abort;
 use std::test::Fail;
 
 /// A list of so many bits, all alike.
 fn bits_alike(alloc: Global, bit: bool, count: usize) -> Result<Bits, PacketFault> {
     alike(alloc, bit, count).map_err(|_| PacketFault::OutOfMemory)
+}
+
+/// So many bits: zeros where an even piece of the body has them, ones where an odd one has.
+fn striped(alloc: Global, count: usize) -> Result<Bits, BitFault> {
+    let mut bits = Bits::new(alloc);
+    for k in 0..count {
+        bits.push(k / 1008 % 2 == 1)?;
+    }
+    Ok(bits)
+}
+
+/// The bits of the rows' messages.
+fn stripes(alloc: Global, count: usize) -> Result<Bits, PacketFault> {
+    striped(alloc, count).map_err(|_| PacketFault::OutOfMemory)
 }
 
 /// The packets of the message with this number and these bits from 0/1 to 0/2.
@@ -22,9 +36,9 @@ fn packets_of(alloc: Global, link: u8, number: u8, bits: Bits) -> Result<Vec<Pac
     cut(alloc, &HostMessage { flow, text }, number)
 }
 
-/// The packets of a message of so many ones from 0/1 to 0/2.
+/// The packets of a striped message of so many bits from 0/1 to 0/2.
 fn pieces(alloc: Global, link: u8, number: u8, count: usize) -> Result<Vec<Packet>, PacketFault> {
-    packets_of(alloc, link, number, bits_alike(alloc, true, count)?)
+    packets_of(alloc, link, number, stripes(alloc, count)?)
 }
 
 /// The packet of such a message at a place where there is one.
@@ -68,7 +82,7 @@ fn named(added: &Added) -> Outcome {
     }
 }
 
-/// A piece that comes: its link, its message's number and how many ones that is, its place, and what
+/// A piece that comes: its link, its message's number and how many bits that has, its place, and what
 /// becomes of it.
 type Row = (u8, u8, usize, usize, Outcome);
 
@@ -88,22 +102,23 @@ fn check_rows(rt: &impl Abort, alloc: Global, slots: &mut Reassembly, rows: &[Ro
     }
 }
 
-/// Whether a piece of 3000 ones makes them whole, as reassembly said before, and whether nothing is held
-/// then.
+/// Whether a piece of a message of so many bits makes it whole, as reassembly said before, and whether
+/// nothing is held then.
 fn completes(
     alloc: Global,
     slots: &mut Reassembly,
+    count: usize,
     place: usize,
 ) -> Result<[bool; 2], PacketFault> {
-    let packet = piece(alloc, 5, 0, 3000, place)?;
+    let packet = piece(alloc, 5, 0, count, place)?;
     let (said, added) = give(alloc, slots, packet)?;
-    let is_whole = said == Outcome::Whole && has_body(alloc, &added, 3000)?;
+    let is_whole = said == Outcome::Whole && has_body(alloc, &added, count)?;
     Ok([is_whole, slots.held(0).is_none()])
 }
 
-/// Whether a message is whole, with the body of so many ones.
+/// Whether a message is whole, with the body of so many bits.
 fn has_body(alloc: Global, added: &Added, count: usize) -> Result<bool, PacketFault> {
-    let Ok(body) = bits_alike(alloc, true, count)?.pad16(alloc) else {
+    let Ok(body) = stripes(alloc, count)?.pad16(alloc) else {
         return Err(PacketFault::OutOfMemory);
     };
     match added {
@@ -344,19 +359,117 @@ fn a_full_packet_is_read_and_refused_octet_by_octet(rt: HostRuntime) -> Result<(
     Ok(())
 }
 
+/// A packet with the last flag that says that it has so many bits, all of them zeros, with their octets.
+fn zeros(alloc: Global, count: u16) -> Result<Vec<u8>, PacketFault> {
+    let high = (count / 256) as u8;
+    let low = (count % 256) as u8;
+    let mut octets = Vec::from_slice(alloc, &[0, 1, 2, 5, 0, 0x80, high, low])?;
+    for _ in 0..count.div_ceil(8) {
+        octets.push(0)?;
+    }
+    Ok(octets)
+}
+
+/// The verdict on such a packet.
+fn verdict_zeros(alloc: Global, count: u16) -> Result<bool, PacketFault> {
+    let octets = zeros(alloc, count)?;
+    verdict(alloc, &octets)
+}
+
 #[test]
 fn octets_that_spell_no_packet_are_refused_by_name(rt: HostRuntime) {
-    let behind = [0, 1, 2, 5, 0, 0x80, 0, 0x10, 0x80, 0, 0];
-    let unfinished = [0, 1, 2, 5, 0, 0x07, 0, 0x10, 0x80, 0];
-    let octet = [0, 1, 2, 5, 0, 0x80, 0, 8, 0x80];
-    let dead = [2, 1, 2, 5, 0, 0x80, 0, 0];
     for (octets, want, what) in [
-        (behind.as_slice(), NOT, "an octet behind the end"),
-        (unfinished.as_slice(), NOT, "place 7, not the last"),
-        (octet.as_slice(), LENGTH, "half a unit"),
-        (dead.as_slice(), READ, "an answer"),
+        ([9].as_slice(), SHORT, "one octet"),
+        ([9, 0, 0, 0, 0, 0, 0].as_slice(), SHORT, "seven octets"),
+        (
+            [0, 1, 2, 5, 0, 0x80, 0, 9, 0x80].as_slice(),
+            SHORT,
+            "nine bits",
+        ),
+        (
+            [0, 1, 2, 5, 0, 0x80, 0, 9, 0x80, 0].as_slice(),
+            LENGTH,
+            "no unit",
+        ),
+        (
+            [0, 1, 2, 5, 0, 0x80, 0, 8, 0x80].as_slice(),
+            LENGTH,
+            "half a unit",
+        ),
+        ([0, 1, 2, 5, 0, 0x80, 0, 0].as_slice(), LENGTH, "no bits"),
+        (
+            [0, 1, 2, 5, 0, 1, 0, 0x10, 0x80, 0].as_slice(),
+            LENGTH,
+            "not full",
+        ),
+        (
+            [1, 1, 2, 5, 0, 0x80, 0, 0x10, 0x80, 0].as_slice(),
+            LENGTH,
+            "RFNM",
+        ),
+        (
+            [2, 1, 2, 5, 0, 0x80, 0, 0x10, 0x80, 0].as_slice(),
+            LENGTH,
+            "Dead",
+        ),
+        (
+            [0, 1, 2, 5, 0, 0x80, 0, 0x10, 0x80, 0, 0].as_slice(),
+            NOT,
+            "after the end",
+        ),
+        (
+            [0, 1, 2, 5, 0, 0x07, 0, 0x10, 0x80, 0].as_slice(),
+            NOT,
+            "place 7, not the last",
+        ),
+        (
+            [0, 1, 2, 5, 0, 0x87, 0, 0x10, 0x80, 0].as_slice(),
+            READ,
+            "place 7, the last",
+        ),
+        (
+            [0, 1, 2, 5, 0, 0x88, 0, 0x10, 0x80, 0].as_slice(),
+            NOT,
+            "bit 3",
+        ),
+        (
+            [0, 1, 2, 5, 0, 0xC0, 0, 0x10, 0x80, 0].as_slice(),
+            NOT,
+            "bit 6",
+        ),
+        ([3, 1, 2, 5, 0, 0x80, 0, 0].as_slice(), NOT, "kind 3"),
+        ([2, 1, 2, 5, 0, 0x80, 0, 0].as_slice(), READ, "an answer"),
+        (
+            [1, 1, 2, 5, 0, 0x81, 0, 0].as_slice(),
+            NOT,
+            "an answer at place 1",
+        ),
+        (
+            [2, 1, 2, 5, 0, 0, 0, 0].as_slice(),
+            NOT,
+            "an answer, not the last",
+        ),
     ] {
         assert_eq!(rt; verdict(rt.alloc(), octets), want, "{what}");
+    }
+    for (count, want) in [(1008, READ), (1016, LENGTH), (1024, LENGTH)] {
+        assert_eq!(rt; verdict_zeros(rt.alloc(), count), want, "{count} bits");
+    }
+}
+
+#[test]
+fn packets_name_the_imps_from_1_to_16(rt: HostRuntime) {
+    for (source, destination, want) in [
+        (0x10, 2, READ),
+        (0x11, 2, NOT),
+        (1, 0x10, READ),
+        (1, 0x11, NOT),
+        (0xD0, 0xC1, READ),
+        (0xC0, 2, NOT),
+        (1, 0x40, NOT),
+    ] {
+        let octets = [2, source, destination, 5, 0, 0x80, 0, 0];
+        assert_eq!(rt; verdict(rt.alloc(), &octets), want, "{octets:?}");
     }
 }
 
@@ -436,9 +549,27 @@ fn pieces_rejoin_in_any_order(rt: HostRuntime) {
             (5, 0, 3000, second, Outcome::Old),
         ];
         check_rows(&rt, alloc, &mut slots, &rows);
-        let done = completes(alloc, &mut slots, third);
+        let done = completes(alloc, &mut slots, 3000, third);
         assert_eq!(rt; done, Ok([true, true]), "in order {order:?}");
     }
+}
+
+/// Gives the eight pieces of the longest message, the last one first: whether all but the first are held
+/// as they come, and whether the first makes the message whole and empties its slot.
+fn longest_rejoined(alloc: Global) -> Result<(bool, [bool; 2]), PacketFault> {
+    let mut slots = Reassembly::new(alloc);
+    let mut are_held = true;
+    for place in [7, 6, 5, 4, 3, 2, 1usize] {
+        let packet = piece(alloc, 5, 0, 8063, place)?;
+        let (_, added) = give(alloc, &mut slots, packet)?;
+        are_held = are_held && named(&added) == Outcome::Kept;
+    }
+    Ok((are_held, completes(alloc, &mut slots, 8063, 0)?))
+}
+
+#[test]
+fn the_longest_message_rejoins(rt: HostRuntime) {
+    assert_eq!(rt; longest_rejoined(rt.alloc()), Ok((true, [true, true])));
 }
 
 #[test]
@@ -447,7 +578,7 @@ fn eight_messages_are_held_at_once(rt: HostRuntime) {
     let mut slots = Reassembly::new(alloc);
     let rows = [
         (2, 0, 1008, 0, Outcome::Kept),
-        (3, 0, 1008, 0, Outcome::Kept),
+        (3, 0, 3000, 0, Outcome::Kept),
         (4, 0, 1008, 0, Outcome::Kept),
         (5, 0, 1008, 0, Outcome::Kept),
         (6, 0, 1008, 0, Outcome::Kept),
@@ -455,11 +586,69 @@ fn eight_messages_are_held_at_once(rt: HostRuntime) {
         (8, 0, 1008, 0, Outcome::Kept),
         (9, 0, 1008, 0, Outcome::Kept),
         (10, 0, 1008, 0, Outcome::Full),
+        (3, 0, 3000, 1, Outcome::Kept),
+        (4, 1, 1008, 1, Outcome::Kept),
         (10, 0, 7, 0, Outcome::Whole),
+        (10, 0, 1008, 0, Outcome::Full),
     ];
     check_rows(&rt, alloc, &mut slots, &rows);
     slots.discard(flow(5));
-    check_rows(&rt, alloc, &mut slots, &[(10, 0, 1008, 0, Outcome::Kept)]);
+    let rows = [
+        (10, 0, 1008, 0, Outcome::Kept),
+        (5, 0, 1008, 1, Outcome::Full),
+        (3, 0, 3000, 2, Outcome::Whole),
+        (5, 0, 1008, 1, Outcome::Kept),
+    ];
+    check_rows(&rt, alloc, &mut slots, &rows);
+}
+
+/// The flows from 0/1 to 0/2, from 0/2 to 0/1, and from 0/1 to 1/2, on link 5.
+fn three_flows() -> [Flow; 3] {
+    let forth = flow(5);
+    let back = Flow {
+        source: HostAddr::new(0, 2).unwrap(),
+        destination: HostAddr::new(0, 1).unwrap(),
+        link: Link(5),
+    };
+    let aside = Flow {
+        source: HostAddr::new(0, 1).unwrap(),
+        destination: HostAddr::new(1, 2).unwrap(),
+        link: Link(5),
+    };
+    [forth, back, aside]
+}
+
+/// What becomes of the piece at a place of a message of two pieces that comes on this flow.
+fn outcome_on(
+    alloc: Global,
+    slots: &mut Reassembly,
+    flow: Flow,
+    place: usize,
+) -> Result<Outcome, PacketFault> {
+    let octets = piece(alloc, 5, 0, 1008, place)?.write(alloc)?;
+    let octets = changed(alloc, &octets, 1, flow.source.octet())?;
+    let octets = changed(alloc, &octets, 2, flow.destination.octet())?;
+    let (_, added) = give(alloc, slots, Packet::read(alloc, &octets)?)?;
+    Ok(named(&added))
+}
+
+/// Gives the first piece of a message to 0/2, the second pieces of messages of two other flows, and the
+/// second piece of the message to 0/2: what becomes of each.
+fn outcomes_on_flows(alloc: Global) -> Result<[Outcome; 4], PacketFault> {
+    let mut slots = Reassembly::new(alloc);
+    let [forth, back, aside] = three_flows();
+    Ok([
+        outcome_on(alloc, &mut slots, forth, 0)?,
+        outcome_on(alloc, &mut slots, back, 1)?,
+        outcome_on(alloc, &mut slots, aside, 1)?,
+        outcome_on(alloc, &mut slots, forth, 1)?,
+    ])
+}
+
+#[test]
+fn messages_of_different_flows_are_held_apart(rt: HostRuntime) {
+    let want = [Outcome::Kept, Outcome::Kept, Outcome::Kept, Outcome::Whole];
+    assert_eq!(rt; outcomes_on_flows(rt.alloc()), Ok(want));
 }
 
 #[test]
@@ -507,4 +696,55 @@ fn a_slot_begins_again_with_another_number(rt: HostRuntime) {
         (5, 2, 1008, 1, Outcome::Kept),
     ];
     check_rows(&rt, rt.alloc(), &mut slots, &rows);
+}
+
+/// The texts of the faults, in the order in which they are looked for.
+fn fault_texts(alloc: Global) -> Result<String, AllocError> {
+    format!(in alloc;
+        "{}, {}, {}, {}",
+        PacketFault::Short,
+        PacketFault::NotCanonical,
+        PacketFault::BadLength,
+        PacketFault::OutOfMemory
+    )
+}
+
+#[test]
+fn each_fault_has_its_text(rt: HostRuntime) -> Result<(), Fail> {
+    let texts = fault_texts(rt.alloc())?;
+    assert_eq!(rt;
+        texts.as_str(),
+        "short packet, packet not canonical, bad packet length, out of memory"
+    );
+    Ok(())
+}
+
+/// Whether faults, kinds, outcomes and held messages are equal to their copies, and the first three to
+/// others.
+fn likeness() -> Result<[bool; 7], AllocError> {
+    let fault = PacketFault::BadLength;
+    let kind = PacketKind::Dead;
+    let outcome = Outcome::Old;
+    let held = Held {
+        flow: flow(5),
+        number: 7,
+    };
+    let copy = held.clone()?;
+    Ok([
+        fault.clone()? == fault,
+        kind.clone()? == kind,
+        outcome.clone()? == outcome,
+        copy.flow == held.flow && copy.number == held.number,
+        fault == PacketFault::NotCanonical,
+        kind == PacketKind::Rfnm,
+        outcome == Outcome::Full,
+    ])
+}
+
+#[test]
+fn values_are_equal_to_their_copies(rt: HostRuntime) {
+    assert_eq!(rt;
+        likeness(),
+        Ok([true, true, true, true, false, false, false])
+    );
 }

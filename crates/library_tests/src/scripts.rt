@@ -1,6 +1,6 @@
-//! Whole runs over inputs in memory, and bad inputs.
+//! Whole inputs in memory that are replayed, and bad ones.
 
-use replay::{ScriptFault, run_script};
+use command_line::{ScriptFault, run_script};
 use std::alloc::{AllocError, Global};
 use std::io;
 use std::io::{Cursor, Read, Write};
@@ -9,11 +9,12 @@ mod bad;
 mod faults;
 mod runs;
 
-/// Two IMPs with a host each, and the mark.
+/// Two IMPs with a host each, and the marker.
 const TWO_IMPS: &str =
     "carrier = \"plain\"\nraw = true\n[[imp]]\nid = 1\nhosts = 1\n[[imp]]\nid = 2\nhosts = 1\n%\n";
 
-/// An input: a topology with the mark, and behind it some octets, so many that are all alike, and some more.
+/// An input: a topology with the marker, and after it some octets, so many that are all alike, and some
+/// more.
 #[derive(Clone, Copy)]
 struct Input<'a> {
     topology: &'a [u8],
@@ -34,10 +35,10 @@ fn over_two_imps(script: &[u8]) -> Input<'_> {
     }
 }
 
-/// How a run ends, and whether it wrote what it should.
+/// How a replay ends, and whether it wrote what it should.
 type Ended = (Result<(), ScriptFault>, bool);
 
-/// How a run of this input ends, and whether it wrote this.
+/// How the replay of this input ends, and whether it wrote this.
 fn run(alloc: Global, input: &[u8], check: bool, printed: &[u8]) -> Ended {
     let mut reader = Cursor::new(input);
     let mut writer = Vec::new(alloc);

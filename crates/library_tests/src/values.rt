@@ -1,6 +1,6 @@
 //! Values that the rows share.
 
-ghost use Rattle.packetiser.specs.PacketFields.{IsPacketHost};
+ghost use Rattle.std.specs.Prelude.{◌≤◌};
 
 use bit_messages::{BitFault, Bits};
 use leader1822::{Flow, HostAddr, Link};
@@ -8,8 +8,8 @@ use std::alloc::Global;
 
 /// The flow on this link from 0/1 to 0/2.
 pub(crate) fn flow(link: u8) -> Flow
-    ensures source { IsPacketHost result.source }
-    ensures destination { IsPacketHost result.destination }
+    ensures source { result.source.imp ≤ 16 }
+    ensures destination { result.destination.imp ≤ 16 }
 {
     Flow {
         source: HostAddr::new(0, 1).unwrap(),

@@ -1,30 +1,56 @@
-use routing::{INFINITE, Vector};
+//! Distances between IMPs.
 
-#[test]
-fn a_vector_is_sixteen_distances_of_at_most_sixteen(rt: HostRuntime) {
-    let near: &[u8] = &[1, 0, 1, 16, 16, 16, 16, 16, 16, 16, 16, 16, 16, 16, 16, 16];
-    let far: &[u8] = &[1, 0, 17, 16, 16, 16, 16, 16, 16, 16, 16, 16, 16, 16, 16, 16];
-    let long: &[u8] = &[
-        16, 16, 16, 16, 16, 16, 16, 16, 16, 16, 16, 16, 16, 16, 16, 16, 16,
-    ];
-    for (distances, is_one) in [
-        (near, true),
-        (far, false),
-        (&near[..15], false),
-        (long, false),
-        (&near[..0], false),
-    ] {
-        let read = Vector::from_slice(distances);
-        assert_eq!(rt; read.is_some(), is_one);
-        if let Some(vector) = read {
-            assert_eq!(rt; vector.distances(), distances);
-        }
-    }
+use routing::Vector;
+use std::alloc::AllocError;
+
+/// A vector's distances as they are read from a slice, or nothing.
+fn read(distances: &[u8]) -> Option<[u8; 16]> {
+    let vector = Vector::from_slice(distances)?;
+    let mut found = [0; 16];
+    found.copy_from_slice(vector.distances());
+    Some(found)
 }
 
 #[test]
-fn an_array_in_range_is_a_vector(rt: HostRuntime) {
-    let vector = Vector::new([INFINITE; 16]);
-    assert_eq!(rt; vector.distances(), [16u8; 16].as_slice());
-    assert_eq!(rt; Vector::from_slice(&[16; 16]), Some(vector));
+fn a_vector_is_sixteen_distances_of_at_most_sixteen(rt: HostRuntime) {
+    let near = [1, 0, 1, 16, 15, 16, 16, 16, 16, 16, 16, 16, 16, 16, 16, 16];
+    let far = [1, 0, 17, 16, 16, 16, 16, 16, 16, 16, 16, 16, 16, 16, 16, 16];
+    let last_is_far = [1, 0, 1, 16, 16, 16, 16, 16, 16, 16, 16, 16, 16, 16, 16, 17];
+    let found = [
+        read(&near),
+        read(&[16; 16]),
+        read(&far),
+        read(&last_is_far),
+        read(&near[..15]),
+        read(&far[..15]),
+        read(&near[..0]),
+        read(&[16; 17]),
+    ];
+    let wanted = [
+        Some(near),
+        Some([16; 16]),
+        None,
+        None,
+        None,
+        None,
+        None,
+        None,
+    ];
+    assert_eq!(rt; found, wanted);
+}
+
+#[test]
+fn vectors_are_compared_and_copied_by_their_distances(rt: HostRuntime) -> Result<(), AllocError> {
+    let vector = Vector::new([1, 0, 1, 2, 3, 4, 5, 6, 7, 8, 9, 10, 11, 12, 13, 16]);
+    let other = Vector::new([1, 0, 1, 2, 3, 4, 5, 6, 7, 8, 9, 10, 11, 12, 13, 15]);
+    let copy = vector.clone()?;
+    let found = [copy == vector, copy == other, vector == other];
+    assert_eq!(rt;
+        (found, copy.distances()),
+        (
+            [true, false, false],
+            [1u8, 0, 1, 2, 3, 4, 5, 6, 7, 8, 9, 10, 11, 12, 13, 16].as_slice(),
+        )
+    );
+    Ok(())
 }

@@ -7,14 +7,14 @@ use Rattle.std.specs.declared.cmp.Ordering.TheVariants.{Less, Equal, Greater}
 use Rattle.std.specs.Ordering.{nat_cmp, ordering_then, eq_by_cmp, is_eq}
 use Rattle.std.specs.Cmp.{eq_by_cmp_equiv}
 use Rattle.std.specs.FinMap.{FinMap, get, insert, keys, get-insert, get-retain_keys, contains_key-keys}
-use Rattle.leader1822.specs.Host.{Host, same_host}
+use Rattle.leader1822.specs.Host.{Host, same_host, host_cmp}
 use Rattle.leader1822.specs.Mailboxes.{same_flow}
 use Rattle.leader1822.specs.declared.address.Flow.{Flow}
 use Rattle.link_table.specs.Flows.{Sources, changed, changed_from, begun, answered, given_up, handed, number_in, answered_in, given_up_in, handed_in}
-use Rattle.link_table.specs.Keys.{host_cmp, flow_cmp, is_from, drop_from, has_from}
+use Rattle.link_table.specs.Keys.{flow_cmp, is_from, drop_from, has_from}
 use Rattle.link_table.specs.declared.source.Standing.{Standing}
 use Rattle.link_table.specs.declared.source.Standing.TheVariants as standing
-use Rattle.link_table.proofs.KeyLemmas.{flows_total, exact_flows}
+use Rattle.leader1822.proofs.Order.{flows_total, exact_flows}
 use Rattle.link_table.specs.Flows.{last_of}
 use Rattle.link_table.specs.Numbers.{modulus}
 use Rattle.link_table.proofs.NumberLemmas.{next_in, some_number}
@@ -69,7 +69,7 @@ equal_from Equal e = refl
 equal_from Greater e = absurd (cc)
 
 -- what a map has at a flow goes for the same flow by another name
-get_same : (m : Sources) (f g : Flow) → same_flow g f ≡ true → get m g ≡ get m f
+pub get_same : (m : Sources) (f g : Flow) → same_flow g f ≡ true → get m g ≡ get m f
 get_same m f g e = ap (get m) (exact_flows g f (equal_from (flow_cmp g f) (tied_flows g f ∙ e)))
 
 -- after one flow's standing was changed

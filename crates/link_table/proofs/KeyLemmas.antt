@@ -5,35 +5,14 @@ use Rattle.std.specs.Map.{lookup}
 use Rattle.std.specs.BTreeMap.{is_at}
 use Rattle.std.specs.declared.cmp.Ordering.{Ordering}
 use Rattle.std.specs.declared.cmp.Ordering.TheVariants.{Less, Equal, Greater}
-use Rattle.std.specs.Ordering.{nat_cmp, ordering_then}
-use Rattle.std.specs.Cmp.{IsTotalOrder, nat_cmp_total, eq_by_cmp_equiv}
+use Rattle.std.specs.Cmp.{eq_by_cmp_equiv}
 use Rattle.std.specs.FinMap.{find, from_entries, get, insert, same_map, get-from_entries, get-insert}
-use Rattle.std.proofs.lemmas.Cmp.{on_total, then_total}
-use Rattle.std.proofs.lemmas.Map.Lookups.{CmpEqualImpliesEq, exact_pairs, exact_unsigned}
-use Rattle.leader1822.specs.Host.{Host}
 use Rattle.leader1822.specs.declared.address.Flow.{Flow}
 use Rattle.std.specs.FinMap.Entries.{find-where_key, put, by_order}
 use Rattle.std.specs.FinMap.{entries, entries-insert, get-retain_keys, empty, len-entries, len-empty}
 use Rattle.std.specs.Map.{keys_of}
-use Rattle.link_table.specs.Keys.{host_cmp, flow_cmp, is_from, drop_from, has_from}
-
-pub hosts_total : IsTotalOrder host_cmp
-hosts_total = then_total (on_total (λ h. h.imp) nat_cmp_total) (on_total (λ h. h.host) nat_cmp_total)
-
-pub flows_total : IsTotalOrder flow_cmp
-flows_total = then_total (on_total (λ f. f.source) hosts_total) (then_total (on_total (λ f. f.destination) hosts_total) (on_total (λ f. f.link.0) nat_cmp_total))
-
--- hosts that compare alike are one, and so are flows
-pub exact_hosts : CmpEqualImpliesEq host_cmp
-exact_hosts g h e = ap (λ (p : ℕ × ℕ). record { imp = p.0; host = p.1 }) (exact_pairs nat_cmp nat_cmp exact_unsigned exact_unsigned (g.imp, g.host) (h.imp, h.host) e)
-
-ends_cmp : Host × ℕ → Host × ℕ → Ordering
-ends_cmp a b = ordering_then (host_cmp a.0 b.0) (nat_cmp a.1 b.1)
-
-pub exact_flows : CmpEqualImpliesEq flow_cmp
-exact_flows f g e = ap (λ (p : Host × (Host × ℕ)). record { source = p.0; destination = p.1.0; link = record { 0 = p.1.1 } })
-    (exact_pairs host_cmp (λ (a b : Host × ℕ). ordering_then (host_cmp a.0 b.0) (nat_cmp a.1 b.1)) exact_hosts (exact_pairs host_cmp nat_cmp exact_hosts exact_unsigned)
-    (f.source, (f.destination, f.link.0)) (g.source, (g.destination, g.link.0)) e)
+use Rattle.leader1822.proofs.Order.{flows_total, exact_flows}
+use Rattle.link_table.specs.Keys.{flow_cmp, is_from, drop_from, has_from}
 
 -- what a list of entries has at a flow
 abbrev pub value_at : {V : Type 0} → List (Flow × V) → Flow → Option V

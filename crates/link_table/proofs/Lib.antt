@@ -1,4 +1,6 @@
 pub mod FlowLemmas
+pub mod AnswerLemmas
 pub mod KeyLemmas
+pub mod EntryLemmas
 pub mod WindowLemmas
 pub mod NumberLemmas

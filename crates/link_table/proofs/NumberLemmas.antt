@@ -1,5 +1,5 @@
 -- The window of this network. Here alone its two numbers are looked at.
-use Rattle.std.proofs.Common.{◌≡◌, ◌≢◌, ℕ, ◌+◌, ◌*◌, ◌<◌, ◌≤◌, false, Some, arith}
+use Rattle.std.proofs.Common.{◌≡◌, ◌≢◌, ℕ, ◌+◌, ◌-◌, ◌*◌, ◌<◌, ◌≤◌, true, false, Some, arith}
 use Rattle.link_table.specs.Window.{NearOf}
 use Rattle.link_table.specs.Numbers.{modulus, window, next, ahead, oldest, is_new, Near}
 use Rattle.link_table.proofs.WindowLemmas as any
@@ -11,6 +11,10 @@ wide = omega arith
 pub two : 1 < modulus
 unfolding modulus
 two = omega arith
+
+pub some_ahead : 1 ≤ window
+unfolding window
+some_ahead = omega arith
 
 pub some_number : 0 < modulus
 some_number = omega (arith, two)
@@ -42,3 +46,15 @@ near_next l n h other = near_from (next l) n (any.near_next modulus window l n w
 pub not_next : (l : ℕ) → Near l (next l) → ⊥
 unfolding next
 not_next l h = any.not_next modulus window l wide two (near_of l (next l) h)
+
+pub next_below : (n : ℕ) → n + 1 < modulus → next n ≡ n + 1
+unfolding next
+next_below n below = any.next_below modulus n below
+
+pub next_new : (l : ℕ) → l < modulus → is_new (Some l) (next l) ≡ true
+unfolding next is_new
+next_new l lm = any.next_new modulus window l wide some_ahead lm
+
+pub new_again : is_new (Some (modulus - window)) 0 ≡ true
+unfolding is_new
+new_again = any.new_again modulus window wide some_ahead

@@ -1,5 +1,5 @@
 -- The laws of a window, for any modulus and any width that is less than half of it.
-use Rattle.std.proofs.Common.{◌≡◌, ◌≢◌, ℕ, ◌+◌, ◌-◌, ◌*◌, ◌%◌, ◌<◌, ◌≤◌, false, Some, inl, inr, ap, ◌∙◌, arith}
+use Rattle.std.proofs.Common.{◌≡◌, ◌≢◌, ℕ, ◌+◌, ◌-◌, ◌*◌, ◌%◌, ◌<◌, ◌≤◌, true, false, Some, inl, inr, ap, ◌∙◌, arith}
 use Rattle.std.proofs.Math.Nat.{mod-eq_of_lt, add-mod_left, mod_self}
 use Rattle.std.proofs.lemmas.Nat.{mod_below}
 use Rattle.std.proofs.lemmas.Bool.{cases_lt}
@@ -51,6 +51,26 @@ after m l lm = elim (cases_lt (l + 1) m) [
   | inl lt ↦ After.Up (mod-eq_of_lt lt)
   | inr le ↦ (let e : l + 1 ≡ m = omega (arith, le, lm) in After.Round e (ap (λ (y : ℕ). y % m) e ∙ mod_self m))
 ]
+
+pub next_below : (m n : ℕ) → n + 1 < m → next_of m n ≡ n + 1
+next_below m n below = mod-eq_of_lt below
+
+pub next_new : (m w l : ℕ) → 2 * w + 1 ≤ m → 1 ≤ w → l < m → is_new_of m w (Some l) (next_of m l) ≡ true
+next_new m w l wide some lm = by (after m l lm) (way m l (next_of m l) lm (next_in m w l wide)) where
+  by : After m l (next_of m l) → Way m l (next_of m l) (ahead_of m l (next_of m l)) → is_new_of m w (Some l) (next_of m l) ≡ true
+  by (Up e) (Up f) = grind (arith, nat_tests, some, e, f)
+  by (Up e) (Round lt f) = absurd (omega (arith, e, lt))
+  by (Round last e) (Up f) = absurd (omega (arith, last, e, f, wide, some))
+  by (Round last e) (Round lt f) = grind (arith, nat_tests, some, last, e, f)
+
+pub new_again : (m w : ℕ) → 2 * w + 1 ≤ m → 1 ≤ w → is_new_of m w (Some (m - w)) 0 ≡ true
+new_again m w wide some =
+    let last : m - w < m = omega (arith, wide, some) in
+    let first : 0 < m = omega (arith, wide) in
+    by (way m (m - w) 0 last first) where
+      by : Way m (m - w) 0 (ahead_of m (m - w) 0) → is_new_of m w (Some (m - w)) 0 ≡ true
+      by (Up e) = absurd (omega (arith, e, wide))
+      by (Round lt e) = (let steps : ahead_of m (m - w) 0 ≡ w = omega (arith, e, wide) in grind (arith, nat_tests, some, steps))
 
 -- a number that lies a window behind l is the oldest one
 far_end : (m w l n : ℕ) → NearOf m w l n → w < m → ahead_of m n l ≡ w → n ≡ oldest_of m w l

@@ -1,9 +1,14 @@
--- Standings as numbers, so that a map of them can be a model's value.
+-- The codes of the two tables. A model whose value is a record that holds them wants these: its `coded` is
+-- `Prim.hlevel (codes, coded_sources, coded_destinations)`, with `codes` of std.
 use Rattle.std.specs.Prelude.{◌≡◌, ℕ, zero, suc, refl}
 use Rattle.std.specs.Coded.{Coded, code_by, coded×, coded_ℕ}
+use Rattle.std.specs.FinMap as map
+use Rattle.link_table.specs.Keys.{coded_flow}
+use Rattle.link_table.specs.Flows.{Sources, Destinations}
 use Rattle.link_table.specs.declared.source.Standing.{Standing}
 use Rattle.link_table.specs.declared.source.Standing.TheVariants as standing
 
+-- a standing as two numbers
 abbrev pub number_of : Standing → ℕ × ℕ
 number_of (standing.Idle l) = (0, l)
 number_of (standing.Outstanding l) = (1, l)
@@ -21,3 +26,9 @@ standing_again (standing.Answered l) = refl
 
 abbrev pub coded_standing : Coded Standing
 coded_standing = code_by (ℕ × ℕ) (coded× coded_ℕ coded_ℕ) number_of (λ p. standing_by p.0 p.1) standing_again
+
+abbrev pub coded_sources : Coded Sources
+coded_sources = map.code coded_flow coded_standing
+
+abbrev pub coded_destinations : Coded Destinations
+coded_destinations = map.code coded_flow coded_ℕ

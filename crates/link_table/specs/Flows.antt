@@ -1,6 +1,8 @@
 -- A flow at its source and at its destination.
-use Rattle.std.specs.Prelude.{◌≡◌, ℕ, Bool, true, false, Option, Some, None, Result, Ok, Err, ◌==◌, if◌then◌else◌}
+use Rattle.std.specs.Prelude.{◌≡◌, ℕ, Bool, true, false, Option, Some, None, Result, Ok, Err, ◌==◌, ◌&&◌, is_some, if◌then◌else◌}
 use Rattle.std.specs.FinMap as map
+use Rattle.std.specs.List.{list_any}
+use Rattle.leader1822.specs.Host.{Host, same_host}
 use Rattle.leader1822.specs.declared.address.Flow.{Flow}
 use Rattle.link_table.specs.Keys.{flow_cmp}
 use Rattle.link_table.specs.Numbers.{next, is_new}
@@ -93,6 +95,14 @@ given_up m f = changed given_up_in m f
 -- the host took the answer of a flow
 unfoldable pub handed : Sources → Flow → Sources
 handed m f = changed handed_in m f
+
+-- whether this flow is from the host and a message of it has no answer yet
+abbrev pub is_outstanding_from : Host → Flow × Standing → Bool
+is_outstanding_from h entry = same_host entry.0.source h && is_some (outstanding_in (Some entry.1))
+
+-- whether a message of this host has no answer yet
+unfoldable pub has_outstanding : Host → Sources → Bool
+has_outstanding h m = list_any (is_outstanding_from h) (map.entries m)
 
 -- ---- all flows of a destination: the number that was taken last, where one is kept
 

@@ -1,20 +1,11 @@
 -- Flows as the keys of a map.
 use Rattle.std.specs.Prelude.{ℕ, Bool, ◌==◌, not, refl}
 use Rattle.std.specs.List.{list_any}
-use Rattle.std.specs.declared.cmp.Ordering.{Ordering}
-use Rattle.std.specs.Ordering.{nat_cmp, ordering_then}
 use Rattle.std.specs.Coded.{Coded, code_by, coded×, coded_ℕ}
 use Rattle.std.specs.FinMap as map
 use Rattle.leader1822.specs.Host.{Host}
+pub use Rattle.leader1822.specs.Flow.{flow_cmp}
 use Rattle.leader1822.specs.declared.address.Flow.{Flow}
-
--- hosts in the order of their IMPs, and at one IMP of their numbers
-abbrev pub host_cmp : Host → Host → Ordering
-host_cmp g h = ordering_then (nat_cmp g.imp h.imp) (nat_cmp g.host h.host)
-
--- flows in the order of their sources, then of their destinations, then of their links
-abbrev pub flow_cmp : Flow → Flow → Ordering
-flow_cmp f g = ordering_then (host_cmp f.source g.source) (ordering_then (host_cmp f.destination g.destination) (nat_cmp f.link.0 g.link.0))
 
 -- a flow as five numbers
 abbrev pub coded_host : Coded Host

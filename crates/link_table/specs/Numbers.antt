@@ -1,15 +1,15 @@
 -- The numbers of a flow's messages, and what its destination takes for new.
 use Rattle.std.specs.Prelude.{ℕ, ◌≤◌, ◌<◌, Bool, Option}
 use Rattle.link_table.specs.Window.{next_of, ahead_of, oldest_of, is_new_of}
-use Rattle.link_table.specs.declared.numbers.TheConstants.{MODULUS, WINDOW}
+use Rattle.leader1822.specs.Flow.{message_numbers}
 
--- how many numbers there are
+-- how many numbers there are: 256
 unfoldable pub modulus : ℕ
-modulus = MODULUS
+modulus = message_numbers
 
 -- how far ahead of the last one a number is new
 unfoldable pub window : ℕ
-window = WINDOW
+window = 127
 
 -- the number after n
 unfoldable pub next : ℕ → ℕ

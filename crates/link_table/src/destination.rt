@@ -11,7 +11,7 @@ use leader1822::{Flow, ImpNumber};
 use std::alloc::{AllocError, Global};
 use std::marker::Model;
 
-/// What a message is by its number.
+/// Whether a message was taken before, judged by its number.
 #[derive(Clone, Copy, Debug, PartialEq, Eq)]
 pub enum Age {
     /// It was not taken yet.
@@ -20,21 +20,19 @@ pub enum Age {
     Old,
 }
 
-/// The flows of a destination: of each the number taken last, where one is kept.
+/// The flows of a destination, with the number that was taken last of each, where one is kept.
 #[derive(Drop)]
 pub struct DestFlows {
     flows: FlowMap<Number>,
 }
 
 impl Model for DestFlows {
-    ghost use Rattle.std.specs.FinMap as map;
-    ghost use Rattle.std.specs.Coded.{coded_ℕ};
     ghost use Rattle.link_table.specs.Flows.{Destinations};
-    ghost use Rattle.link_table.specs.Keys.{coded_flow};
+    ghost use Rattle.link_table.specs.Codes.{coded_destinations};
 
     ghost Value = { Destinations };
 
-    ghost coded = { map.code coded_flow coded_ℕ };
+    ghost coded = { coded_destinations };
 
     ghost view = { λ a. a.flows };
 }
@@ -49,8 +47,8 @@ impl DestFlows {
         }
     }
 
-    /// What a number of a flow is: new where none is kept, and where it lies within the window ahead of
-    /// the one that is.
+    /// Judges a number of a flow: it is new if none is kept, or if it lies within the window ahead of the
+    /// kept one.
     pub fn judge(&self, flow: &Flow, number: Number) -> Age
         ensures { result ≡ age_of (map.get self.now flow.now) number }
     {
@@ -61,8 +59,9 @@ impl DestFlows {
         }
     }
 
-    /// Keeps this number as the flow's last. Without memory nothing changes; memory is wanted only where
-    /// the flow had none.
+    /// Keeps this number as the flow's last.
+    ///
+    /// Errors: memory is wanted only for a flow of which no number is kept. Without memory nothing changes.
     pub fn note(&mut self, flow: &Flow, number: Number) -> Result<(), AllocError>
         ensures ok { OnOk result (self.new ≡ map.insert self.old flow.now number) }
         ensures err { OnErr result (self.new ≡ self.old) }

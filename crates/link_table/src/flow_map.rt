@@ -7,7 +7,7 @@ ghost use Rattle.link_table.specs.Keys.{flow_cmp, is_from, drop_from, has_from};
 
 use leader1822::{Flow, ImpNumber};
 use std::alloc::{AllocError, Global};
-use std::collections::BTreeMap;
+use std::collections::btree_map::{self, BTreeMap};
 use std::marker::Model;
 
 /// A value for each flow of which something is known.
@@ -42,6 +42,13 @@ impl<V: Copy> FlowMap<V> {
         ensures { result ≡ map.get self.now flow.now }
     {
         self.flows.get(flow).copied()
+    }
+
+    /// What is known of each flow, in the order of the flows.
+    pub fn iter(&self) -> btree_map::Iter<'_, Flow, V>
+        ensures { result ≡ map.entries self.now }
+    {
+        self.flows.iter()
     }
 
     /// Puts a flow's value in the place of what was known of it. Without memory nothing changes; memory is

@@ -1,12 +1,13 @@
 //! What the window and the two tables promise, as laws over their definitions. The functions here do
 //! nothing: each clause is the law.
 
-ghost use Rattle.std.specs.Prelude.{◌≡◌, ◌≢◌, ℕ, ◌+◌, ◌*◌, ◌<◌, ◌≤◌, false, true, Option, Some, None, ◌↔◌, IsSome, if◌then◌else◌};
+ghost use Rattle.std.specs.Prelude.{◌≡◌, ◌≢◌, ℕ, ◌+◌, ◌-◌, ◌*◌, ◌<◌, ◌≤◌, false, true, Option, Some, None, ◌↔◌, IsSome, if◌then◌else◌};
 ghost use Rattle.std.specs.Option.{option_map};
 ghost use Rattle.std.specs.FinMap as map;
+ghost use Rattle.leader1822.specs.Host.{Host, same_host};
 ghost use Rattle.leader1822.specs.Mailboxes.{same_flow};
 ghost use Rattle.leader1822.specs.declared.address.Flow.{Flow};
-ghost use Rattle.link_table.specs.Flows.{Sources, Destinations, begun, answered, given_up, handed, number_in, last_in, outstanding_in, answered_in, given_up_in, handed_in, release_in};
+ghost use Rattle.link_table.specs.Flows.{Sources, Destinations, begun, answered, given_up, handed, number_in, last_in, outstanding_in, is_idle_in, answered_in, given_up_in, handed_in, release_in, has_outstanding};
 ghost use Rattle.link_table.specs.Keys.{is_from, drop_from, has_from};
 ghost use Rattle.link_table.specs.declared.source.Standing.{Standing};
 ghost use Rattle.link_table.specs.declared.source.Standing.TheVariants as standing;
@@ -31,6 +32,12 @@ pub fn any_window()
 
     // of two numbers or more, the next one does not lie within the window behind the last
     ensures not_next { (m w l : ℕ) → 2 * w + 1 ≤ m → 1 < m → NearOf m w l (next_of m l) → ⊥ }
+
+    // the next number is new against the last one
+    ensures next_new { (m w l : ℕ) → 2 * w + 1 ≤ m → 1 ≤ w → l < m → is_new_of m w (Some l) (next_of m l) ≡ true }
+
+    // number 0 is new again against the number from which `w` steps lead round to it: so it must not outlive the window
+    ensures new_again { (m w : ℕ) → 2 * w + 1 ≤ m → 1 ≤ w → is_new_of m w (Some (m - w)) 0 ≡ true }
 {}
 
 /// The window of this network.
@@ -53,6 +60,9 @@ pub fn window_holds()
 
     // the next number does not lie within the window behind the last one
     ensures not_next { (l : ℕ) → Near l (next l) → ⊥ }
+
+    // and is new against it
+    ensures next_new { (l : ℕ) → l < modulus → is_new (Some l) (next l) ≡ true }
 {}
 
 /// What the calls of a source do to each flow: the named one changes, and no other.
@@ -75,8 +85,35 @@ pub fn source_flows()
     // what is begun is a number
     ensures number { (s : Option Standing) → number_in s < modulus }
 
+    // a host has a message without an answer exactly if one of its flows has one outstanding
+    ensures outstanding_none { (m : Sources) (h : Host) → has_outstanding h m ≡ false → (g : Flow) → same_host g.source h ≡ true → outstanding_in (map.get m g) ≡ None }
+    ensures outstanding_one { (m : Sources) (h : Host) → has_outstanding h m ≡ true → (g : Flow) × (same_host g.source h ≡ true) × IsSome (outstanding_in (map.get m g)) }
+
     // an answer frees a flow only with the outstanding number, and always with it
     ensures freed { (s : Option Standing) (n : ℕ) → (release_in n s ≡ release.Freed) ↔ (outstanding_in s ≡ Some n) }
+{}
+
+/// What an answer, a giving up and a taking leave of the numbers of each flow.
+pub fn numbers_of_sources()
+    // none of them changes the number that was begun last
+    ensures answered_last { (m : Sources) (f g : Flow) (n : ℕ) → last_in (map.get (answered m f n) g) ≡ last_in (map.get m g) }
+    ensures given_up_last { (m : Sources) (f g : Flow) → last_in (map.get (given_up m f) g) ≡ last_in (map.get m g) }
+    ensures handed_last { (m : Sources) (f g : Flow) → last_in (map.get (handed m f) g) ≡ last_in (map.get m g) }
+
+    // an answer to the outstanding message ends it, and every other answer changes nothing
+    ensures answered_frees { (m : Sources) (f : Flow) (n : ℕ) → outstanding_in (map.get m f) ≡ Some n → outstanding_in (map.get (answered m f n) f) ≡ None }
+    ensures answered_stale { (m : Sources) (f g : Flow) (n : ℕ) → release_in n (map.get m f) ≡ release.Stale → map.get (answered m f n) g ≡ map.get m g }
+
+    // nothing of a flow is outstanding after its message was given up
+    ensures given_up_frees { (m : Sources) (f : Flow) → outstanding_in (map.get (given_up m f) f) ≡ None }
+
+    // the host may send no sooner for an answer or for a giving up
+    ensures answered_idle { (m : Sources) (f g : Flow) (n : ℕ) → is_idle_in (map.get (answered m f n) g) ≡ is_idle_in (map.get m g) }
+    ensures given_up_idle { (m : Sources) (f g : Flow) → is_idle_in (map.get (given_up m f) g) ≡ is_idle_in (map.get m g) }
+
+    // it may when it took the answer, and a message that is outstanding stays so
+    ensures handed_idle { (m : Sources) (f : Flow) → outstanding_in (map.get m f) ≡ None → is_idle_in (map.get (handed m f) f) ≡ true }
+    ensures handed_outstanding { (m : Sources) (f g : Flow) → outstanding_in (map.get (handed m f) g) ≡ outstanding_in (map.get m g) }
 {}
 
 /// What the calls of a destination do to each flow.

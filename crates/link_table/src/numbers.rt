@@ -3,11 +3,11 @@
 ghost use Rattle.std.specs.Prelude.{◌≡◌};
 ghost use Rattle.link_table.specs.Numbers.{next, oldest, is_new};
 
-/// The number of a message among those of its flow. They start at 0 and go round at [`MODULUS`].
-pub type Number = u8;
+use leader1822::MESSAGE_NUMBERS;
 
-/// How many numbers there are: after `MODULUS - 1` comes 0.
-pub const MODULUS: u32 = 256;
+/// The number of a message among those of its flow, of which there are [`MESSAGE_NUMBERS`]: 0 to 255. A
+/// flow's first message has the number 0, and 0 follows 255.
+pub type Number = u8;
 
 /// How far ahead of the last number a number counts as new.
 pub const WINDOW: u32 = 127;
@@ -17,19 +17,19 @@ pub const WINDOW: u32 = 127;
 pub fn next(number: Number) -> Number
     ensures { result ≡ next number }
 {
-    ((number as u32 + 1) % MODULUS) as Number
+    ((number as u32 + 1) % MESSAGE_NUMBERS) as Number
 }
 
-/// The number `WINDOW` before this one: the last that the window reaches back to.
+/// The number that lies `WINDOW` steps before this one: the last one that the window reaches back to.
 #[tactic(auto, unfolding(crate::specs::Numbers::oldest, crate::specs::Numbers::modulus, crate::specs::Numbers::window))]
 pub fn oldest(number: Number) -> Number
     ensures { result ≡ oldest number }
 {
-    ((number as u32 + MODULUS - WINDOW) % MODULUS) as Number
+    ((number as u32 + MESSAGE_NUMBERS - WINDOW) % MESSAGE_NUMBERS) as Number
 }
 
-/// Whether a destination that kept this last number, or none, takes `number` for new: where it kept none,
-/// and where `number` lies 1 to `WINDOW` ahead of the last one.
+/// Whether a destination that keeps this last number, or none, takes `number` for new: it does if it keeps
+/// none, or if `number` lies 1 to `WINDOW` steps ahead of the kept one.
 #[tactic(auto, unfolding(crate::specs::Numbers::is_new, crate::specs::Numbers::modulus, crate::specs::Numbers::window))]
 pub fn is_new(kept: Option<Number>, number: Number) -> bool
     ensures { result ≡ is_new kept number }
@@ -37,7 +37,7 @@ pub fn is_new(kept: Option<Number>, number: Number) -> bool
     match kept {
         None => true,
         Some(last) => {
-            let ahead = (number as u32 + MODULUS - last as u32) % MODULUS;
+            let ahead = (number as u32 + MESSAGE_NUMBERS - last as u32) % MESSAGE_NUMBERS;
             1 <= ahead && ahead <= WINDOW
         }
     }

@@ -1,13 +1,13 @@
 //! The flows of a source.
 
-ghost use Rattle.std.specs.Prelude.{◌≡◌, OnErr, Err, None};
+ghost use Rattle.std.specs.Prelude.{◌≡◌, OnErr, Err, None, Some, is_some};
 ghost use Rattle.std.specs.FinMap as map;
-ghost use Rattle.link_table.specs.Flows.{FlowDecided, begin_fault, begun, answered, given_up, handed, number_in, last_of, last_in, outstanding_in, is_idle_in, answered_in, given_up_in, handed_in, release_in};
+ghost use Rattle.link_table.specs.Flows.{FlowDecided, begin_fault, begun, answered, given_up, handed, number_in, last_of, last_in, outstanding_in, is_idle_in, answered_in, given_up_in, handed_in, release_in, has_outstanding};
 
 use crate::FlowFault;
 use crate::flow_map::FlowMap;
 use crate::numbers::{Number, next};
-use leader1822::Flow;
+use leader1822::{Flow, HostAddr};
 use std::alloc::Global;
 use std::marker::Model;
 
@@ -22,7 +22,7 @@ pub enum Standing {
     Answered(Number),
 }
 
-/// What an answer to a message comes to.
+/// What an answer to a message does.
 #[derive(Clone, Copy, Debug, PartialEq, Eq)]
 pub enum Release {
     /// It answers the outstanding message, and the flow is answered.
@@ -39,6 +39,13 @@ impl Standing {
         match self {
             Standing::Idle(last) | Standing::Outstanding(last) | Standing::Answered(last) => last,
         }
+    }
+
+    /// Whether that message has no answer yet.
+    fn is_outstanding(self) -> bool
+        ensures { result ≡ is_some (outstanding_in (Some self)) }
+    {
+        matches!(self, Standing::Outstanding(_))
     }
 
     /// The standing after an answer to the message of this number: only the outstanding message is
@@ -83,14 +90,12 @@ pub struct SourceFlows {
 }
 
 impl Model for SourceFlows {
-    ghost use Rattle.std.specs.FinMap as map;
     ghost use Rattle.link_table.specs.Flows.{Sources};
-    ghost use Rattle.link_table.specs.Keys.{coded_flow};
-    ghost use Rattle.link_table.specs.Codes.{coded_standing};
+    ghost use Rattle.link_table.specs.Codes.{coded_sources};
 
     ghost Value = { Sources };
 
-    ghost coded = { map.code coded_flow coded_standing };
+    ghost coded = { coded_sources };
 
     ghost view = { λ a. a.flows };
 }
@@ -125,8 +130,8 @@ impl SourceFlows {
         Ok(number)
     }
 
-    /// Takes the answer to a message of this number: the flow is answered where that message is the
-    /// outstanding one, and else nothing changes.
+    /// Takes the answer to the message of this number. If that message is the outstanding one, the flow is
+    /// answered; otherwise nothing changes.
     #[tactic(auto, unfolding(crate::specs::Flows::answered))]
     pub fn answer(&mut self, flow: &Flow, number: Number) -> Release
         ensures state { self.new ≡ answered self.old flow.now number }
@@ -142,7 +147,7 @@ impl SourceFlows {
         }
     }
 
-    /// Gives up the outstanding message of a flow: the flow is answered. Where none is outstanding nothing
+    /// Gives up the outstanding message of a flow: the flow is answered. If none is outstanding, nothing
     /// changes.
     #[tactic(auto, unfolding(crate::specs::Flows::given_up))]
     pub fn give_up(&mut self, flow: &Flow)
@@ -153,8 +158,8 @@ impl SourceFlows {
         }
     }
 
-    /// The host took the answer of a flow, or is down and takes none: the flow is idle. Where no answer
-    /// waits nothing changes.
+    /// Makes an answered flow idle: its host took the answer, or is down and takes none. If no answer
+    /// waits, nothing changes.
     #[tactic(auto, unfolding(crate::specs::Flows::handed))]
     pub fn handed(&mut self, flow: &Flow)
         ensures { self.new ≡ handed self.old flow.now }
@@ -164,11 +169,19 @@ impl SourceFlows {
         }
     }
 
-    /// Whether `begin` isn't blocked: nothing of the flow is outstanding and no answer waits.
+    /// Whether a message of the flow may begin: none is outstanding and no answer waits.
     pub fn is_idle(&self, flow: &Flow) -> bool
         ensures { result ≡ is_idle_in (map.get self.now flow.now) }
     {
         matches!(self.flows.get(flow), None | Some(Standing::Idle(_)))
+    }
+
+    /// Whether any message of this host has no answer yet. A host that was down comes up only when this is
+    /// false.
+    pub fn has_outstanding(&self, host: HostAddr) -> bool
+        ensures { result ≡ has_outstanding host self.now }
+    {
+        self.flows.iter().any(|(flow, standing)| flow.source == host && standing.is_outstanding())
     }
 
     /// The number of the outstanding message of a flow.

@@ -3,3 +3,4 @@ pub mod Fronts
 pub mod Readings
 pub mod Headers
 pub mod Details
+pub mod PackedLemmas

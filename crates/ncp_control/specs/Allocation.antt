@@ -1,27 +1,27 @@
--- The counters of a connection's allocation, and what may become of them.
-use Rattle.std.specs.Prelude.{ℕ, ◌+◌, ◌-◌, ◌*◌, ◌/◌, ◌^◌, ◌<◌, ◌≤◌, ◌==◌, min, if◌then◌else◌, List, [], ◌∷◌}
+-- The counters of a connection's allocation, and the runs of acts on them.
+use Rattle.std.specs.Prelude.{ℕ, ◌+◌, ◌-◌, ◌*◌, ◌/◌, ◌<◌, ◌≤◌, ◌==◌, min, if◌then◌else◌, List, [], ◌∷◌}
 use Rattle.ncp_control.specs.declared.allocation.Allocation.{Allocation}
-use Rattle.ncp_control.specs.declared.allocation.TheConstants.{MAX_DATA_BITS, WHOLE}
 
 -- the opening
 abbrev pub nothing : Allocation
 nothing = record { messages = 0; bits = 0 }
 
--- a grant adds, and a counter stays at the greatest number that it can hold
+-- a grant adds, and a counter stays at the greatest number that its field can hold: 65535 messages, 4294967295 bits
 abbrev pub granted : Allocation → ℕ → ℕ → Allocation
-granted a messages bits = record { messages = min (a.messages + messages) (2 ^ 16 - 1); bits = min (a.bits + bits) (2 ^ 32 - 1) }
+granted a messages bits = record { messages = min (a.messages + messages) 65535; bits = min (a.bits + bits) 4294967295 }
 
--- the least of the queued bytes, of those that the bits granted allow and of those that a message holds; none without a message
+-- the least of three: the queued bytes, those that the granted bits allow, and those that one message holds in its 8023
+-- bits of data; none without a message
 abbrev pub may_send : Allocation → ℕ → ℕ → ℕ
-may_send a size bytes = if a.messages == 0 then 0 else min bytes (min (a.bits / size) (MAX_DATA_BITS / size))
+may_send a size bytes = if a.messages == 0 then 0 else min bytes (min (a.bits / size) (8023 / size))
 
 -- a message takes itself and its bits of data
 abbrev pub spent : Allocation → ℕ → Allocation
 spent a bits = record { messages = a.messages - 1; bits = a.bits - bits }
 
--- so many 128ths of a counter, rounded down, the whole at most
+-- so many 128ths of a counter, rounded down; a fraction above 128 counts as the whole
 abbrev pub share : ℕ → ℕ → ℕ
-share counter fraction = counter * min fraction WHOLE / WHOLE
+share counter fraction = counter * min fraction 128 / 128
 
 -- each counter loses its own fraction
 abbrev pub given_back : Allocation → ℕ → ℕ → Allocation
@@ -45,7 +45,7 @@ abbrev pub counters : List Act → Allocation
 counters [] = nothing
 counters (act ∷ earlier) = after (counters earlier) act
 
--- to spend, a message and the bits must be there
+-- a spend takes no more than there is
 abbrev pub CanBe : Allocation → Act → Type 0
 CanBe a (Grant messages bits) = Unit {0}
 CanBe a (Spend bits) = (0 < a.messages) × (bits ≤ a.bits)
@@ -56,7 +56,7 @@ abbrev pub IsRun : List Act → Type 0
 IsRun [] = Unit {0}
 IsRun (act ∷ earlier) = CanBe (counters earlier) act × IsRun earlier
 
--- so many messages and bits more
+-- counters with this many messages and bits more
 abbrev pub added : Allocation → ℕ → ℕ → Allocation
 added a messages bits = record { messages = a.messages + messages; bits = a.bits + bits }
 
@@ -82,7 +82,7 @@ all_returned (Spend bits ∷ earlier) = all_returned earlier
 all_returned (GiveBack message_fraction bit_fraction ∷ earlier) =
     added (all_returned earlier) (share (counters earlier).messages message_fraction) (share (counters earlier).bits bit_fraction)
 
--- what was spent, what was given back and what is left were granted
+-- what was spent, what was given back and what is left are together at most what was granted
 pub record IsWithinGranted (acts : List Act) : Type 0 where
   pub in_messages : (all_spent acts).messages + (all_returned acts).messages + (counters acts).messages ≤ (all_granted acts).messages
   pub in_bits : (all_spent acts).bits + (all_returned acts).bits + (counters acts).bits ≤ (all_granted acts).bits

@@ -3,7 +3,6 @@ use Rattle.std.specs.Prelude.{◌≡◌, ℕ, ◌<◌, ◌^◌, Bool, true, fals
 use Rattle.std.specs.Int.{w16, w32, to_be_bytes}
 use Rattle.ncp_control.specs.declared.command.Command.{Command}
 use Rattle.ncp_control.specs.declared.command.Command.TheVariants as command
-use Rattle.ncp_control.specs.declared.command.TheConstants.{MAX_QUOTED}
 use Rattle.ncp_control.specs.Numbers.{is_receive_socket, is_send_socket, is_connection_link, is_byte_size}
 
 -- the code octet, and the fields behind it
@@ -45,7 +44,7 @@ IsCommand (command.Inr link) = IsOctet link
 IsCommand (command.Ins link) = IsOctet link
 IsCommand (command.Eco octet) = IsOctet octet
 IsCommand (command.Erp octet) = IsOctet octet
-IsCommand (command.Err code detail) = IsOctet code × (length detail ≡ MAX_QUOTED) × All IsOctet detail
+IsCommand (command.Err code detail) = IsOctet code × (length detail ≡ 10) × All IsOctet detail
 IsCommand command.Nop = Unit {0}
 IsCommand command.Rst = Unit {0}
 IsCommand command.Rrp = Unit {0}
@@ -58,4 +57,4 @@ is_alone _ = false
 
 -- what an ERR quotes of these octets: the first ten, filled with zeros
 abbrev pub detail_of : List ℕ → List ℕ
-detail_of octets = take MAX_QUOTED (octets ++ replicate MAX_QUOTED 0)
+detail_of octets = take 10 (octets ++ replicate 10 0)

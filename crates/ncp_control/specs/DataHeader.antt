@@ -3,7 +3,6 @@ use Rattle.std.specs.Prelude.{ℕ, ◌+◌, ◌*◌, ◌<◌, ◌^◌, Bool, fal
 use Rattle.std.specs.Int.{w16, to_be_bytes, from_be_bytes}
 use Rattle.bit_messages.specs.Octets.{bits_of, octet}
 use Rattle.ncp_control.specs.declared.data_header.DataHeader.{DataHeader}
-use Rattle.ncp_control.specs.declared.data_header.TheConstants.{HEADER_BITS}
 
 -- the octet of the eight bits from a place on
 abbrev pub octet_at : List Bool → ℕ → ℕ
@@ -19,10 +18,10 @@ fields_of text = record { size = octet_at text 8; count = from_be_bytes w16 (oct
 abbrev pub data_bits : DataHeader → ℕ
 data_bits h = h.size * h.count
 
--- the header of a text; a text is malformed that ends before the header does, or before the data
+-- the header of a text. A text is malformed where it ends within the 40 bits of the header, or before the data does
 abbrev pub header_of : List Bool → Option DataHeader
 header_of text =
-    if nat_lt (length text) HEADER_BITS || nat_lt (length text) (HEADER_BITS + data_bits (fields_of text))
+    if nat_lt (length text) 40 || nat_lt (length text) (40 + data_bits (fields_of text))
     then None
     else Some (fields_of text)
 

@@ -1,4 +1,4 @@
--- The numbers in commands that have a range of their own.
+-- The numbers in commands that have a range of their own (NIC 8246; links 2 to 31 are this network's choice).
 use Rattle.std.specs.Prelude.{ℕ, Bool, ◌%◌, ◌==◌, ◌&&◌, nat_lt, nat_le}
 
 -- receiving ends have even sockets

@@ -3,15 +3,13 @@ use Rattle.std.specs.Prelude.{ℕ, ◌<◌, ◌≤◌, ◌==◌, ◌&&◌, nat_l
 use Rattle.std.specs.Int.{Width, w16, w32, byte_len, from_be_bytes}
 use Rattle.ncp_control.specs.declared.command.Command.{Command}
 use Rattle.ncp_control.specs.declared.command.Command.TheVariants as command
-use Rattle.ncp_control.specs.declared.command.TheConstants.{MAX_QUOTED}
 use Rattle.ncp_control.specs.declared.fault.ControlFault.{ControlFault}
 use Rattle.ncp_control.specs.declared.fault.ControlFault.TheVariants as fault
-use Rattle.ncp_control.specs.declared.reading.TheConstants.{LENGTHS}
 use Rattle.ncp_control.specs.Numbers.{is_receive_socket, is_send_socket, is_connection_link, is_byte_size}
 
 -- how many octets a command of this code has
 abbrev pub length_of : ℕ → ℕ
-length_of code = slice_index LENGTHS code
+length_of code = slice_index (1 ∷ 10 ∷ 10 ∷ 9 ∷ 8 ∷ 4 ∷ 8 ∷ 2 ∷ 2 ∷ 2 ∷ 2 ∷ 12 ∷ 1 ∷ 1 ∷ []) code
 
 -- the number in the octets from a place on
 abbrev pub number_at : Width → List ℕ → ℕ → ℕ
@@ -35,9 +33,9 @@ str_of octets = str_from (number_at w32 octets 1) (number_at w32 octets 5) (slic
 
 -- an ERR: the kind of the error, and the ten octets that it quotes
 abbrev pub err_of : List ℕ → Command
-err_of octets = command.Err (slice_index octets 1) (take MAX_QUOTED (drop 2 octets))
+err_of octets = command.Err (slice_index octets 1) (take 10 (drop 2 octets))
 
--- the command of a legal code with the fields that stand behind it; none where a field is outside its range
+-- the command of a legal code with the fields that follow it; none where a field is outside its range
 unfoldable pub command_of : ℕ → List ℕ → Option Command
 command_of code octets =
     if code == 0 then Some command.Nop
@@ -55,16 +53,16 @@ command_of code octets =
     else (if code == 12 then Some command.Rst
     else Some command.Rrp))))))))))))
 
--- an ERR about an illegal or a short command quotes all that is left, at most ten octets
+-- an ERR about an illegal or a short command quotes all octets that are left, at most ten
 abbrev pub quoted_of : List ℕ → ℕ
-quoted_of octets = min (length octets) MAX_QUOTED
+quoted_of octets = min (length octets) 10
 
--- a command that was looked for in so many octets
+-- what reading gives where the fields of that many octets were looked at
 abbrev pub read_as : Option Command → ℕ → Result (Command × ℕ) ControlFault
 read_as (Some c) count = Ok (c, count)
 read_as None count = Err (fault.Erroneous count)
 
--- the first command, from its code octet on: its code is legal, its octets are all there, its fields are within their ranges
+-- the first command: its code is legal, its octets are all there, its fields are within their ranges
 unfoldable pub read_of : List ℕ → Result (Command × ℕ) ControlFault
 read_of [] = Err (fault.Short 0)
 read_of (code ∷ fields) =
@@ -74,10 +72,11 @@ read_of (code ∷ fields) =
     then Err (fault.Short (quoted_of (code ∷ fields)))
     else read_as (command_of code (code ∷ fields)) (length_of code))
 
--- what is used or quoted lies within the octets, an ERR has room for what is quoted, and reading always goes on; memory is never wanted
+-- a command uses at least one octet, and no more than there are. An ERR has room for the octets that are quoted, and there
+-- are that many. Reading takes no memory
 abbrev pub ReachesWithin : List ℕ → Result (Command × ℕ) ControlFault → Type 0
 ReachesWithin octets (Ok read) = (0 < read.1) × (read.1 ≤ length octets)
-ReachesWithin octets (Err (fault.IllegalCode quoted)) = (quoted ≤ length octets) × (quoted ≤ MAX_QUOTED)
-ReachesWithin octets (Err (fault.Short quoted)) = (quoted ≤ length octets) × (quoted ≤ MAX_QUOTED)
-ReachesWithin octets (Err (fault.Erroneous quoted)) = (0 < quoted) × (quoted ≤ length octets) × (quoted ≤ MAX_QUOTED)
+ReachesWithin octets (Err (fault.IllegalCode quoted)) = (quoted ≤ length octets) × (quoted ≤ 10)
+ReachesWithin octets (Err (fault.Short quoted)) = (quoted ≤ length octets) × (quoted ≤ 10)
+ReachesWithin octets (Err (fault.Erroneous quoted)) = (0 < quoted) × (quoted ≤ length octets) × (quoted ≤ 10)
 ReachesWithin octets (Err fault.OutOfMemory) = ⊥

@@ -6,17 +6,26 @@ ghost use Rattle.ncp_control.specs.Allocation.{nothing, granted, spent, share, m
 /// The most bits that a message carries: a text of 8063 bits without the 40 in front of the data.
 pub const MAX_DATA_BITS: u32 = 8023;
 
-/// A fraction of this many 128ths is the whole.
+/// The fraction of a GVB that asks for a whole counter, in 128ths.
 pub const WHOLE: u8 = 128;
 
 /// What a receiver has granted and a sender may still use: messages, and bits of data (NIC 8246, ALL,
 /// GVB and RET). Both ends count in the same way.
-#[derive(Clone, Copy, Debug, Default, PartialEq, Eq)]
+#[derive(Clone, Copy, Debug, PartialEq, Eq)]
 pub struct Allocation {
     /// Messages that may still be sent.
     pub messages: u16,
     /// Bits of data that may still be sent.
     pub bits: u32,
+}
+
+/// Nothing is granted yet, as in [`Allocation::new`].
+impl Default for Allocation {
+    ghost is_default = { λ a. a ≡ nothing };
+
+    fn default() -> Allocation {
+        Allocation::new()
+    }
 }
 
 impl Allocation {
@@ -38,7 +47,8 @@ impl Allocation {
         self.bits = self.bits.saturating_add(bits);
     }
 
-    /// How many of the queued bytes of this size one message may carry now.
+    /// How many of the queued bytes of this size one message may carry now: none without a message, else
+    /// as many as the granted bits allow and as fit into [`MAX_DATA_BITS`].
     pub fn may_send(&self, size: u8, bytes: usize) -> u16
         requires { 0 < size }
         ensures { result ≡ may_send self.now size bytes }
@@ -61,8 +71,8 @@ impl Allocation {
         self.bits -= bits;
     }
 
-    /// Takes what a GVB asks back: of each counter its own fraction in 128ths, rounded down, the whole at
-    /// most. Answers the messages and the bits for the RET.
+    /// Takes back what a GVB asks for: from each counter its own fraction in 128ths, rounded down. A
+    /// fraction above 128 counts as the whole. Returns the messages and the bits that the RET tells.
     pub fn give_back(&mut self, message_fraction: u8, bit_fraction: u8) -> (u16, u32)
         ensures messages { result.0 ≡ share self.old.messages message_fraction }
         ensures bits { result.1 ≡ share self.old.bits bit_fraction }
@@ -78,7 +88,7 @@ impl Allocation {
     }
 }
 
-/// So many 128ths of a counter, rounded down; the whole at most.
+/// This many 128ths of a counter, rounded down. A fraction above 128 counts as the whole.
 fn share_of(counter: u32, fraction: u8) -> u32
     ensures value { result ≡ share counter fraction }
     ensures most { result ≤ counter }

@@ -22,7 +22,7 @@ impl Model for ByteSize {
 }
 
 impl ByteSize {
-    /// The size of so many bits; `None` for 0.
+    /// The size of this many bits; `None` for 0.
     pub fn new(bits: u8) -> Option<Self>
         ensures { result ≡ (if is_byte_size bits then Some bits else None) }
     {

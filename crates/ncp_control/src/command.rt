@@ -59,22 +59,22 @@ pub enum Command {
     Ins {
         link: u8,
     },
-    /// Asks for an echo of this octet.
+    /// Asks the other host to send this octet back.
     Eco {
         octet: u8,
     },
-    /// The echo.
+    /// Sends the octet of an ECO back.
     Erp {
         octet: u8,
     },
-    /// Tells of an error in what came: its kind, and the octets that it was found in.
+    /// Reports an error in what the other host sent: the kind of the error, and the octets with it.
     Err {
         code: u8,
         detail: [u8; MAX_QUOTED],
     },
-    /// Forget all connections of the two hosts.
+    /// Asks the other host to forget all connections of the two hosts.
     Rst,
-    /// They are forgotten.
+    /// Answers an RST: the connections are forgotten.
     Rrp,
 }
 
@@ -91,25 +91,13 @@ impl Command {
     }
 
     /// The ERR that tells of an error in these octets: the first ten, filled with zeros.
-    #[tactic(auto, using(crate::proofs::Details::detail_cells))]
     pub fn error(code: u8, octets: &[u8]) -> Command
         ensures { result ≡ command.Err code (detail_of octets.now) }
     {
-        Command::Err {
-            code,
-            detail: [
-                octet_or_zero(octets, 0),
-                octet_or_zero(octets, 1),
-                octet_or_zero(octets, 2),
-                octet_or_zero(octets, 3),
-                octet_or_zero(octets, 4),
-                octet_or_zero(octets, 5),
-                octet_or_zero(octets, 6),
-                octet_or_zero(octets, 7),
-                octet_or_zero(octets, 8),
-                octet_or_zero(octets, 9),
-            ],
-        }
+        let (quoted, _) = octets.split_at(octets.len().min(MAX_QUOTED));
+        let mut detail = [0; MAX_QUOTED];
+        detail[..quoted.len()].copy_from_slice(quoted);
+        Command::Err { code, detail }
     }
 
     /// Its octets.
@@ -186,11 +174,4 @@ impl Command {
             Command::Rrp => octets.extend_from_slice(&[13]),
         }
     }
-}
-
-/// The octet at a place, or 0 past the end.
-fn octet_or_zero(octets: &[u8], place: usize) -> u8
-    ensures { result ≡ slice_index octets.now place }
-{
-    octets.get(place).copied().unwrap_or(0)
 }

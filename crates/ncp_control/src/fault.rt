@@ -6,18 +6,19 @@ ghost use Rattle.ncp_control.specs.declared.fault.ControlFault.TheVariants.{OutO
 use std::alloc::{AllocError, AllocFailed};
 use thiserror::Error;
 
-/// Why octets are no command, or a command could not be written. Where several apply, the first one
-/// here is given. `quoted` is how many octets, counted from the code octet, an ERR about it quotes.
+/// Why octets are no command, or why a command could not be written. Where several faults apply, the
+/// first one of this list is given. `quoted` is how many octets an ERR about the fault quotes, counted
+/// from the code octet.
 #[derive(Clone, Copy, Debug, Drop, PartialEq, Eq, Error)]
 pub enum ControlFault {
-    /// The code octet is above 13. All octets that are left are quoted, at most 10.
+    /// The code octet is above 13. The ERR quotes all octets that are left, at most 10.
     #[error("illegal code")]
     IllegalCode { quoted: usize },
-    /// The octets end before the command does. All octets that are left are quoted, at most 10.
+    /// The octets end before the command does. The ERR quotes all octets that are left, at most 10.
     #[error("short")]
     Short { quoted: usize },
-    /// A field of an RTS or an STR is outside its range. The command's own octets are quoted, and
-    /// reading may go on behind them.
+    /// A field of an RTS or an STR is outside its range. The ERR quotes the command's own octets, and
+    /// reading may go on after them.
     #[error("erroneous")]
     Erroneous { quoted: usize },
     /// No memory was left.

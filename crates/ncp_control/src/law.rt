@@ -1,5 +1,5 @@
-//! What commands and counters promise, as laws over their definitions. The functions here do nothing:
-//! each clause is the law.
+//! The laws of commands and counters, stated over their definitions. The functions here do nothing: each
+//! clause is a law.
 
 ghost use Rattle.std.specs.Prelude.{◌≡◌, ℕ, ◌+◌, ◌*◌, ◌<◌, ◌≤◌, ◌^◌, Bool, List, ◌++◌, length, take, drop, All, Ok, Err, Some, min};
 ghost use Rattle.ncp_control.specs.declared.command.Command.{Command};
@@ -7,8 +7,7 @@ ghost use Rattle.ncp_control.specs.declared.data_header.DataHeader.{DataHeader};
 ghost use Rattle.ncp_control.specs.Allocation.{Act, IsRun, IsWithinGranted};
 ghost use Rattle.ncp_control.specs.Command.{spelling, IsCommand};
 ghost use Rattle.ncp_control.specs.DataHeader.{header_of, header_bits, data_bits, IsHeader};
-ghost use Rattle.ncp_control.specs.Packing.{packed_count, IsLongestFront};
-ghost use Rattle.ncp_control.specs.declared.command.TheConstants.{MAX_QUOTED};
+ghost use Rattle.ncp_control.specs.Packing.{packed_count, spellings, AreRead, IsLongestFront};
 ghost use Rattle.ncp_control.specs.declared.fault.ControlFault.TheVariants as fault;
 ghost use Rattle.ncp_control.specs.Reading.{read_of};
 
@@ -17,8 +16,12 @@ pub fn commands()
     // what was written is read again, whatever follows it
     ensures again { (c : Command) (rest : List ℕ) → IsCommand c → read_of (spelling c ++ rest) ≡ Ok (c, length (spelling c)) }
 
-    // and each shorter front of it is short
-    ensures short { (c : Command) (front rest : List ℕ) → IsCommand c → spelling c ≡ front ++ rest → 0 < length rest → read_of front ≡ Err (fault.Short (min (length front) MAX_QUOTED)) }
+    // a spelling is never empty, and has octets only
+    ensures some { (c : Command) → 0 < length (spelling c) }
+    ensures octets { (c : Command) → IsCommand c → All (λ n. n < 2 ^ 8) (spelling c) }
+
+    // every shorter front of a spelling is too short
+    ensures short { (c : Command) (front rest : List ℕ) → IsCommand c → spelling c ≡ front ++ rest → 0 < length rest → read_of front ≡ Err (fault.Short (min (length front) 10)) }
 
     // what was read is a command, and the octets used are its own
     ensures spelled { (octets : List ℕ) (c : Command) (used : ℕ) → All (λ n. n < 2 ^ 8) octets → read_of octets ≡ Ok (c, used) → take used octets ≡ spelling c }
@@ -29,6 +32,9 @@ pub fn commands()
 pub fn packing()
     ensures front { (commands : List Command) → IsLongestFront commands (packed_count commands) }
 
+    // what is packed is read again as these commands
+    ensures again { (commands : List Command) → All IsCommand commands → AreRead (spellings commands) commands }
+
     // and there is no other such front
     ensures only { (commands : List Command) (count : ℕ) → IsLongestFront commands count → count ≡ packed_count commands }
 {}
@@ -37,12 +43,12 @@ pub fn packing()
 pub fn headers()
     ensures again { (h : DataHeader) (behind : List Bool) → IsHeader h → data_bits h ≤ length behind → header_of (header_bits h ++ behind) ≡ Some h }
 
-    // and the bits that it was read from, without the zeros around them, are those that it is written with
+    // the fields are written with the bits that they were read from
     ensures spelled { (text : List Bool) (h : DataHeader) → header_of text ≡ Some h → take 24 (drop 8 (header_bits h)) ≡ take 24 (drop 8 text) }
 {}
 
-/// Over any run of grants, spends and give-backs from an opening with nothing granted, what was spent,
-/// what was given back and what is left were granted.
+/// Take any run of grants, spends and give-backs that begins with nothing granted. What was spent, what
+/// was given back and what is left are together at most what was granted.
 pub fn allocation()
     ensures { (acts : List Act) → IsRun acts → IsWithinGranted acts }
 {}

@@ -1,9 +1,9 @@
 //! Commands packed into one control message.
 
-ghost use Rattle.std.specs.Prelude.{◌≡◌, MatchResult, IsTrue, not, take, length, ◌≤◌};
+ghost use Rattle.std.specs.Prelude.{◌≡◌, IfOk, IfErr, IsTrue, not, take, length, ◌<◌, ◌≤◌};
 ghost use Rattle.std.specs.List.{list_all};
 ghost use Rattle.ncp_control.specs.Command.{is_alone};
-ghost use Rattle.ncp_control.specs.Packing.{packed_count, spellings};
+ghost use Rattle.ncp_control.specs.Packing.{packed_count, spellings, AreRead};
 ghost use Rattle.ncp_control.specs.declared.fault.ControlFault.TheVariants.{OutOfMemory};
 
 use crate::{Command, ControlFault};
@@ -29,13 +29,22 @@ pub fn packed_count(commands: &[Command]) -> usize
     commands.len()
 }
 
-/// The octets of the longest front of whole commands that has room in one control message, and how many
-/// commands these are.
+/// Packs the longest front of whole commands that has room in one control message. Returns the octets,
+/// and how many commands they spell.
 ///
 /// RST and RRP are never packed: each is a message of its own.
+///
+/// Errors: `OutOfMemory`, and only if there is a command to pack.
 pub fn pack(alloc: Global, commands: &[Command]) -> Result<(Vec<u8>, usize), ControlFault>
     requires { IsTrue (list_all (λ c. not (is_alone c)) commands.now) }
-    ensures { MatchResult result (λ packed. (packed.1 ≡ packed_count commands.now) × (packed.0.items ≡ spellings (take packed.1 commands.now))) (λ fault. fault ≡ OutOfMemory) }
+    ensures count { IfOk result (λ packed. packed.1 ≡ packed_count commands.now) }
+    ensures spelled { IfOk result (λ packed. packed.0.items ≡ spellings (take packed.1 commands.now)) }
+
+    // a reader finds these commands again, and nothing behind them
+    ensures again { IfOk result (λ packed. AreRead packed.0.items (take packed.1 commands.now)) }
+
+    // no octets take no memory
+    ensures memory { IfErr result (λ fault. (fault ≡ OutOfMemory) × (0 < packed_count commands.now)) }
 {
     let count = packed_count(commands);
     let (front, _) = commands.split_at(count);

@@ -9,12 +9,13 @@ use crate::{
     ByteSize, Command, ConnectionLink, ControlFault, MAX_QUOTED, ReceiveSocket, SendSocket,
 };
 
-/// How many octets a command of each code has, its code octet among them (NIC 8246, the control commands).
+/// How many octets a command of each code has, with its code octet (NIC 8246, the control commands).
 const LENGTHS: [usize; 14] = [1, 10, 10, 9, 8, 4, 8, 2, 2, 2, 2, 12, 1, 1];
 
-/// The command that the octets begin with, and how many octets it has. What follows it isn't looked at.
+/// Reads the command that the octets begin with, and says how many octets it has. What follows the
+/// command isn't looked at.
 ///
-/// Errors: `IllegalCode` for a code above 13, `Short` where octets are wanting, `Erroneous` for an RTS or
+/// Errors: `IllegalCode` for a code above 13, `Short` where octets are missing, `Erroneous` for an RTS or
 /// STR whose sockets have the wrong parity, an RTS whose link isn't 2 to 31, and an STR of size 0.
 #[tactic(auto, unfolding(crate::specs::Reading::read_of))]
 pub fn read_one(octets: &[u8]) -> Result<(Command, usize), ControlFault>
@@ -110,13 +111,13 @@ fn err_of(octets: &[u8]) -> Command
     requires { 12 ≤ length octets.now }
     ensures { result ≡ err_of octets.now }
 {
-    let (_, detail) = octets.split_at(2);
+    let (_, fields) = octets.split_at(2);
+    let (quoted, _) = fields.split_at(MAX_QUOTED);
+    let mut detail = [0; MAX_QUOTED];
+    detail.copy_from_slice(quoted);
     Command::Err {
         code: octets[1],
-        detail: [
-            detail[0], detail[1], detail[2], detail[3], detail[4], detail[5], detail[6], detail[7],
-            detail[8], detail[9],
-        ],
+        detail,
     }
 }
 

@@ -1,22 +1,28 @@
 -- What slots hold.
-use Rattle.std.proofs.Common.{◌≡◌, ℕ, ◌+◌, ◌<◌, Bool, true, false, not, List, [], ◌∷◌, ◌++◌, length, refl, ap, sym, ◌∙◌, subst, arith, All, Contains, None, filter, map, IsPermutation}
-use Rattle.std.proofs.Common.{nat_lt, ◌==◌, ◌||◌, ◌&&◌, eqb-true, inl, inr, if◌then◌else◌}
+use Rattle.std.proofs.Common.{◌≡◌, ℕ, ◌+◌, ◌*◌, ◌%◌, ◌<◌, ◌≤◌, Bool, true, false, not, List, [], ◌∷◌, ◌++◌, length, refl, ap, sym, ◌∙◌, subst, arith, All, Contains, None, Some, filter, map, IsPermutation, length-append, replicate}
+use Rattle.std.proofs.Common.{nat_lt, ◌==◌, ◌||◌, ◌&&◌, eqb-true, eq-eqb, le-ltb, inl, inr, if◌then◌else◌}
 use Rattle.std.specs.List.{range_with_len}
 use Rattle.std.proofs.lemmas.Bool.{cases_Bool}
 use Rattle.std.proofs.lemmas.Bool.Decides.{nat_tests}
 use Rattle.std.proofs.lemmas.List.{nil_from_length}
 use Rattle.std.proofs.lemmas.List.Elements.{All-cons, All-nil, All-head, All-tail, All-weaker, All-append, All-contains_itself, Contains-append_left, Contains-push}
 use Rattle.std.proofs.lemmas.List.Sorted.{IsPermutation-refl}
-use Rattle.leader1822.specs.Mailboxes.{same_flow}
+use Rattle.bit_messages.specs.Body.{has_mark, text_of, strip_fault}
+use Rattle.bit_messages.specs.declared.fault.BitFault.TheVariants as bit_fault
+use Rattle.bit_messages.proofs.BodyLemmas.{IsSplit, split_text}
+use Rattle.leader1822.specs.Flow.{same_flow, flow_before}
 use Rattle.leader1822.specs.declared.address.Flow.{Flow}
-use Rattle.packetiser.specs.PacketFields.{PacketFields, flow_of}
-use Rattle.packetiser.specs.Slots.{SlotState, IsTable, IsPieceFor, slot_of, pieces_at, kept_for, gathered, put, without, outcome_of, answer_of, answer_by, added, added_by, has_room, is_old, rules_out, is_whole_from, joined, comes_before, packets_in, in_some_order}
-use Rattle.packetiser.specs.Rejoining.{AreAmong, IsGathered}
+use Rattle.packetiser.specs.PacketFields.{PacketFields, IsPacket, IsPiece, Carries, flow_of}
+use Rattle.packetiser.specs.Pieces.{IsBodySize}
+use Rattle.packetiser.specs.Slots.{SlotState, IsTable, IsPieceFor, slot_of, pieces_at, kept_for, gathered, put, without, outcome_of, answer_of, answer_by, added, added_by, has_room, is_old, rules_out, is_whole_from, joined, packets_in, in_some_order}
+use Rattle.packetiser.specs.Rejoining.{AreAmong, IsGathered, IsRejoined, HasBodySize}
+use Rattle.packetiser.specs.declared.packet.PacketKind.{PacketKind}
 use Rattle.packetiser.specs.declared.packet.PacketKind.TheVariants as kind
 use Rattle.packetiser.specs.declared.reassembly.Outcome.{Outcome}
 use Rattle.packetiser.specs.declared.reassembly.Outcome.TheVariants as outcome
+use Rattle.packetiser.specs.declared.reassembly.Added.{Added}
 use Rattle.packetiser.specs.declared.reassembly.Added.TheVariants as answer
-use Rattle.packetiser.proofs.Slots.{All_with_piece, kept_sound, kept_table, without_table, and_first, and_second, none_some}
+use Rattle.packetiser.proofs.Slots.{All_with_piece, kept_sound, kept_packets, kept_table, without_table, and_first, and_second, none_some}
 
 -- ---- a property of all that is held
 
@@ -32,7 +38,7 @@ All_put : (P : PacketFields → Type 0) (s : SlotState) (slots : List SlotState)
 All_put P s [] here all = All-append P s.pieces [] here (All-nil P)
 All_put P s (t ∷ ts) here all = elim (cases_Bool (same_flow s.flow t.flow)) [
   | inl e ↦ rw e (All-append P s.pieces (packets_in ts) here (All_right P t.pieces (packets_in ts) all))
-  | inr e ↦ elim (cases_Bool (comes_before t.flow s.flow)) [
+  | inr e ↦ elim (cases_Bool (flow_before t.flow s.flow)) [
     | inl b ↦ rw (e, b) (All-append P t.pieces (packets_in (put s ts)) (All_left P t.pieces (packets_in ts) all) (All_put P s ts here (All_right P t.pieces (packets_in ts) all)))
     | inr b ↦ rw (e, b) (All-append P s.pieces (t.pieces ++ packets_in ts) here all)
   ]
@@ -108,14 +114,94 @@ whole_gathered slots p h piece out =
       ap (λ (o : Outcome). answer_by o slots p) out,
     )
 
-table_by : (o : Outcome) (slots : List SlotState) (p : PacketFields) → outcome_of slots p ≡ o → IsTable slots → p.kind ≡ kind.Data → IsTable (added_by o slots p)
-table_by outcome.Kept slots p out h piece = kept_table slots p h piece out
-table_by outcome.Whole slots p out h piece = without_table slots (flow_of p) h
-table_by outcome.Old slots p out h piece = h
-table_by outcome.Full slots p out h piece = h
+-- ---- the size of a whole body
 
-pub added_table : (slots : List SlotState) (p : PacketFields) → IsTable slots → p.kind ≡ kind.Data → IsTable (added slots p)
-added_table slots p h piece = table_by (outcome_of slots p) slots p refl h piece
+-- so many bits from a place on, up to the end of the last piece
+record FitsFrom (place size : ℕ) : Type 0 where
+  pub some : 0 < size
+  pub units : size % 16 ≡ 0
+  pub most : 1008 * place + size ≤ 8064
+
+piece_of : (q : PacketFields) → IsPacket q → q.kind ≡ kind.Data → IsPiece q.place q.last (length q.bits)
+piece_of q h piece = let P : PacketKind → Type 0 = λ k. Carries k q.place q.last (length q.bits) in subst P piece h.body
+
+size_from : (f : Flow) (number place : ℕ) (ps : List PacketFields) → All (IsPieceFor f number) ps → All IsPacket ps → is_whole_from place ps ≡ true → FitsFrom place (length (joined ps))
+size_from f number place [] pieces packets whole = absurd (cc)
+size_from f number place (q ∷ qs) pieces packets whole =
+    let here : IsPieceFor f number q = All-head (IsPieceFor f number) q qs pieces in
+    let packet : IsPacket q = All-head IsPacket q qs packets in
+    let piece : IsPiece q.place q.last (length q.bits) = piece_of q packet here.data_kind in
+    let low : q.place < 8 = packet.place in
+    let at : q.place ≡ place = eqb-true q.place place (and_first (q.place == place) (if q.last then length qs == 0 else is_whole_from (place + 1) qs) whole) in
+    let behind : (if q.last then length qs == 0 else is_whole_from (place + 1) qs) ≡ true = and_second (q.place == place) (if q.last then length qs == 0 else is_whole_from (place + 1) qs) whole in
+    let all : length (joined (q ∷ qs)) ≡ length q.bits + length (joined qs) = length-append q.bits (joined qs) in
+    elim (cases_Bool q.last) [
+      | inl e ↦ (
+          let none : (length qs == 0) ≡ true = rw e at behind in
+          let rest : length (joined qs) ≡ 0 = ap (λ (rs : List PacketFields). length (joined rs)) (nil_from_length qs (eqb-true (length qs) 0 none)) in
+          record { some = omega (arith, all, piece.some); units = omega (arith, all, rest, piece.units); most = omega (arith, all, rest, piece.most) })
+      | inr e ↦ (
+          let rest : FitsFrom (place + 1) (length (joined qs)) = size_from f number (place + 1) qs (All-tail (IsPieceFor f number) q qs pieces) (All-tail IsPacket q qs packets) (rw e at behind) in
+          let full : length q.bits ≡ 1008 = piece.full e in
+          record { some = omega (arith, all, full); units = omega (arith, all, full, rest.units); most = omega (arith, all, full, rest.most) })
+    ]
+
+-- the answer tells what became of a packet
+outcome_from : (o : Outcome) (slots : List SlotState) (p : PacketFields) (w : List Bool) → answer_by o slots p ≡ answer.Whole w → o ≡ outcome.Whole
+outcome_from outcome.Kept slots p w said = absurd (cc)
+outcome_from outcome.Whole slots p w said = refl
+outcome_from outcome.Old slots p w said = absurd (cc)
+outcome_from outcome.Full slots p w said = absurd (cc)
+
+same_body : (v w : List Bool) → answer.Whole v ≡ answer.Whole w → v ≡ w
+same_body v w e = cc
+
+pub rejoined : (slots : List SlotState) (p : PacketFields) (w : List Bool) → IsTable slots → IsPacket p → p.kind ≡ kind.Data → answer_of slots p ≡ answer.Whole w → IsRejoined slots p w
+rejoined slots p w h format piece said =
+    let out : outcome_of slots p ≡ outcome.Whole = outcome_from (outcome_of slots p) slots p w said in
+    let both : IsGathered slots p (gathered slots p) × (answer_of slots p ≡ answer.Whole (joined (gathered slots p))) = whole_gathered slots p h piece out in
+    let bits : joined (gathered slots p) ≡ w = same_body (joined (gathered slots p)) w (sym both.1 ∙ said) in
+    let packets : All IsPacket (gathered slots p) = All_with_piece IsPacket p (kept_for slots p) format (kept_packets slots (flow_of p) p.number h.sound) in
+    let fits : FitsFrom 0 (length (joined (gathered slots p))) = size_from (flow_of p) p.number 0 (gathered slots p) both.0.of_message packets both.0.whole in
+    let size : length w ≡ length (joined (gathered slots p)) = ap length (sym bits) in
+    record {
+      one_message = both.0;
+      bits = sym bits;
+      size = record { some = omega (arith, size, fits.some); units = omega (arith, size, fits.units); most = omega (arith, size, fits.most) };
+    }
+
+sized_by : (a : Added) (slots : List SlotState) (p : PacketFields) → IsTable slots → IsPacket p → p.kind ≡ kind.Data → answer_of slots p ≡ a → HasBodySize a
+sized_by answer.Kept slots p h format piece said = tt
+sized_by (answer.Whole w) slots p h format piece said = (rejoined slots p w h format piece said).size
+sized_by answer.Old slots p h format piece said = tt
+sized_by answer.Full slots p h format piece said = tt
+
+pub answer_sized : (a : Added) (slots : List SlotState) (p : PacketFields) → IsTable slots → IsPacket p → p.kind ≡ kind.Data → a ≡ answer_of slots p → HasBodySize a
+answer_sized a slots p h format piece said = sized_by a slots p h format piece (sym said)
+
+stripped_by : (w : List Bool) (marked : Bool) → IsBodySize (length w) → has_mark w ≡ marked → strip_fault w ≡ (if marked then None else Some bit_fault.NoMark)
+stripped_by w false h e = rw e refl
+stripped_by w true h e =
+    let split : IsSplit w = split_text w e in
+    let longer : length w ≡ length (text_of w) + length (true ∷ replicate split.zeros false) = ap length split.padded ∙ length-append (text_of w) (true ∷ replicate split.zeros false) in
+    let within : length (text_of w) ≤ 8063 = omega (arith, longer, h.most) in
+    let short : nat_lt 8063 (length (text_of w)) ≡ false = le-ltb 8063 (length (text_of w)) within in
+    let units : (length w % 16 == 0) ≡ true = eq-eqb (length w % 16) 0 h.units in
+    rw (e, short, units) refl
+
+pub stripped : (w : List Bool) → IsBodySize (length w) → strip_fault w ≡ (if has_mark w then None else Some bit_fault.NoMark)
+stripped w h = stripped_by w (has_mark w) h refl
+
+-- ---- the table
+
+table_by : (o : Outcome) (slots : List SlotState) (p : PacketFields) → outcome_of slots p ≡ o → IsTable slots → IsPacket p → p.kind ≡ kind.Data → IsTable (added_by o slots p)
+table_by outcome.Kept slots p out h format piece = kept_table slots p h format piece out
+table_by outcome.Whole slots p out h format piece = without_table slots (flow_of p) h
+table_by outcome.Old slots p out h format piece = h
+table_by outcome.Full slots p out h format piece = h
+
+pub added_table : (slots : List SlotState) (p : PacketFields) → IsTable slots → IsPacket p → p.kind ≡ kind.Data → IsTable (added slots p)
+added_table slots p h format piece = table_by (outcome_of slots p) slots p refl h format piece
 
 pub named_once : (slots : List SlotState) → IsPermutation (in_some_order slots) slots
 unfolding in_some_order

@@ -1,21 +1,22 @@
 -- Pieces rejoin.
-use Rattle.std.proofs.Common.{◌≡◌, ℕ, ◌+◌, ◌*◌, ◌<◌, ◌≤◌, Bool, true, false, List, [], ◌∷◌, ◌++◌, length, drop, refl, ap, sym, ◌∙◌, subst, arith, All, suc, zero, Option, Some, None, filter, map, zero-add}
+use Rattle.std.proofs.Common.{◌≡◌, ℕ, ◌+◌, ◌*◌, ◌<◌, ◌≤◌, Bool, true, false, List, [], ◌∷◌, ◌++◌, length, drop, refl, ap, sym, ◌∙◌, subst, arith, All, suc, zero, Option, Some, None, filter, map, zero-add, is_some}
 use Rattle.std.proofs.Common.{nat_lt, ◌==◌, ◌||◌, ◌&&◌, eq-eqb, ne_eqb, eqb-true, inl, inr, if◌then◌else◌}
 use Rattle.std.specs.List.{list_any, list_all, range_with_len}
 use Rattle.std.proofs.lemmas.Bool.{cases_Bool, cases_eq}
 use Rattle.std.proofs.lemmas.Bool.Decides.{nat_tests}
 use Rattle.std.proofs.lemmas.List.{take-append-drop, drop-drop, drop_all, length-map, nil_from_length}
 use Rattle.std.proofs.lemmas.List.Elements.{All-cons, All-nil, All-head, All-tail, All-weaker, All-filter, All-map}
-use Rattle.leader1822.specs.Mailboxes.{same_flow}
+use Rattle.leader1822.specs.Flow.{same_flow, flow_before}
+use Rattle.leader1822.proofs.Lists.{same_flow-true, same_flow-refl}
 use Rattle.leader1822.specs.declared.address.Flow.{Flow}
 use Rattle.packetiser.specs.PacketFields.{PacketFields, flow_of}
-use Rattle.packetiser.specs.Pieces.{piece_count, piece, piece_packet, places, packets_of, IsPieceOf}
-use Rattle.packetiser.specs.Slots.{SlotState, IsPieceFor, slot_of, pieces_at, kept_for, gathered, with_piece, put, without, outcome_of, answer_of, answer_by, added, added_by, has_room, is_old, rules_out, is_whole_from, joined, comes_before}
-use Rattle.packetiser.specs.Rejoining.{came, all_came, pieces_of, Holds, answer_to, after}
+use Rattle.packetiser.specs.Pieces.{piece_count, piece, piece_packet, places, packets_of, CarriesPieceOf}
+use Rattle.packetiser.specs.Slots.{SlotState, IsPieceFor, slot_of, pieces_at, kept_for, gathered, with_piece, put, without, outcome_of, answer_of, answer_by, added, added_by, has_room, is_old, rules_out, is_whole_from, joined}
+use Rattle.packetiser.specs.Rejoining.{came, all_came, pieces_of, Holds, answer_to, after, Event, Piece, Other, Emptied, IsAmongOthers, places_in, after_events}
 use Rattle.packetiser.specs.declared.reassembly.Outcome.{Outcome}
 use Rattle.packetiser.specs.declared.reassembly.Outcome.TheVariants as outcome
 use Rattle.packetiser.specs.declared.reassembly.Added.TheVariants as answer
-use Rattle.packetiser.proofs.Slots.{same_flow_is, same_flow_refl, and_first, and_second}
+use Rattle.packetiser.proofs.Slots.{and_first, and_second}
 
 -- ---- pieces of one body, joined
 
@@ -33,39 +34,39 @@ piece_and_rest w place =
 nothing_behind : (w : List Bool) (place : ℕ) → place ≡ piece_count w → from_piece w place ≡ []
 nothing_behind w place end = drop_all (1008 * place) w (omega (arith, end))
 
-joined_from : (w : List Bool) (place : ℕ) (ps : List PacketFields) → All (IsPieceOf w) ps → is_whole_from place ps ≡ true → joined ps ≡ from_piece w place
+joined_from : (w : List Bool) (place : ℕ) (ps : List PacketFields) → All (CarriesPieceOf w) ps → is_whole_from place ps ≡ true → joined ps ≡ from_piece w place
 joined_from w place [] all whole = absurd (cc)
 joined_from w place (q ∷ qs) all whole =
-    let here : IsPieceOf w q = All-head (IsPieceOf w) q qs all in
+    let here : CarriesPieceOf w q = All-head (CarriesPieceOf w) q qs all in
     let at : q.place ≡ place = eqb-true q.place place (and_first (q.place == place) (if q.last then length qs == 0 else is_whole_from (place + 1) qs) whole) in
     let behind : (if q.last then length qs == 0 else is_whole_from (place + 1) qs) ≡ true = and_second (q.place == place) (if q.last then length qs == 0 else is_whole_from (place + 1) qs) whole in
     let rest : joined qs ≡ from_piece w (place + 1) = elim (cases_Bool q.last) [
       | inl e ↦ (
           let none : (length qs == 0) ≡ true = rw e at behind in
-          let last : q.place + 1 ≡ piece_count w = eqb-true (q.place + 1) (piece_count w) (sym here.last ∙ e) in
+          let last : q.place + 1 ≡ piece_count w = eqb-true (q.place + 1) (piece_count w) (sym here.flag ∙ e) in
           ap joined (nil_from_length qs (eqb-true (length qs) 0 none)) ∙ sym (nothing_behind w (place + 1) (omega (arith, at, last))))
-      | inr e ↦ joined_from w (place + 1) qs (All-tail (IsPieceOf w) q qs all) (rw e at behind)
+      | inr e ↦ joined_from w (place + 1) qs (All-tail (CarriesPieceOf w) q qs all) (rw e at behind)
     ] in
-    ap (λ (b : List Bool). b ++ joined qs) (here.bits ∙ ap (piece w) at) ∙ ap (λ (b : List Bool). piece w place ++ b) rest ∙ piece_and_rest w place
+    ap (λ (b : List Bool). b ++ joined qs) (here.same ∙ ap (piece w) at) ∙ ap (λ (b : List Bool). piece w place ++ b) rest ∙ piece_and_rest w place
 
-pub joined_whole : (w : List Bool) (ps : List PacketFields) → All (IsPieceOf w) ps → is_whole_from 0 ps ≡ true → joined ps ≡ w
+pub joined_whole : (w : List Bool) (ps : List PacketFields) → All (CarriesPieceOf w) ps → is_whole_from 0 ps ≡ true → joined ps ≡ w
 joined_whole w ps all whole = joined_from w 0 ps all whole
 
 -- pieces at all places from one on
-places_from : (w : List Bool) (place count : ℕ) (ps : List PacketFields) → All (IsPieceOf w) ps → map (λ q. q.place) ps ≡ range_with_len place count → place + count ≡ piece_count w
+places_from : (w : List Bool) (place count : ℕ) (ps : List PacketFields) → All (CarriesPieceOf w) ps → map (λ q. q.place) ps ≡ range_with_len place count → place + count ≡ piece_count w
     → joined ps ≡ from_piece w place
 places_from w place zero ps all same end =
     let none : length ps ≡ 0 = sym (length-map ps (λ q. q.place)) ∙ ap length same in
     ap joined (nil_from_length ps none) ∙ sym (nothing_behind w place (omega (arith, end)))
 places_from w place (suc count) [] all same end = absurd (cc)
 places_from w place (suc count) (q ∷ qs) all same end =
-    let here : IsPieceOf w q = All-head (IsPieceOf w) q qs all in
+    let here : CarriesPieceOf w q = All-head (CarriesPieceOf w) q qs all in
     let at : q.place ≡ place = cc in
     let others : map (λ (r : PacketFields). r.place) qs ≡ range_with_len (place + 1) count = cc in
-    let rest : joined qs ≡ from_piece w (place + 1) = places_from w (place + 1) count qs (All-tail (IsPieceOf w) q qs all) others (omega (arith, end)) in
-    ap (λ (b : List Bool). b ++ joined qs) (here.bits ∙ ap (piece w) at) ∙ ap (λ (b : List Bool). piece w place ++ b) rest ∙ piece_and_rest w place
+    let rest : joined qs ≡ from_piece w (place + 1) = places_from w (place + 1) count qs (All-tail (CarriesPieceOf w) q qs all) others (omega (arith, end)) in
+    ap (λ (b : List Bool). b ++ joined qs) (here.same ∙ ap (piece w) at) ∙ ap (λ (b : List Bool). piece w place ++ b) rest ∙ piece_and_rest w place
 
-pub joined_places : (w : List Bool) (ps : List PacketFields) → All (IsPieceOf w) ps → map (λ q. q.place) ps ≡ places (piece_count w) → joined ps ≡ w
+pub joined_places : (w : List Bool) (ps : List PacketFields) → All (CarriesPieceOf w) ps → map (λ q. q.place) ps ≡ places (piece_count w) → joined ps ≡ w
 joined_places w ps all same = places_from w 0 (piece_count w) ps all same (zero-add (piece_count w))
 
 -- ---- the packets of a body
@@ -75,11 +76,11 @@ range_within a zero = All-nil (λ k. (a ≤ k) × (k < a + zero))
 range_within a (suc count) = All-cons (λ k. (a ≤ k) × (k < a + suc count)) a (range_with_len (a + 1) count) (omega arith, omega arith)
     (All-weaker (λ k. (a + 1 ≤ k) × (k < a + 1 + count)) (λ k. (a ≤ k) × (k < a + suc count)) (λ k h. (let low : a + 1 ≤ k = h.0 in omega arith, let high : k < a + 1 + count = h.1 in omega arith)) (range_with_len (a + 1) count) (range_within (a + 1) count))
 
-pub packets_are : (flow : Flow) (number : ℕ) (w : List Bool) → All (IsPieceFor flow number) (packets_of flow number w) × All (IsPieceOf w) (packets_of flow number w)
+pub packets_are : (flow : Flow) (number : ℕ) (w : List Bool) → All (IsPieceFor flow number) (packets_of flow number w) × All (CarriesPieceOf w) (packets_of flow number w)
 packets_are flow number w = (
   All-map (IsPieceFor flow number) (piece_packet flow number w) (places (piece_count w)) (λ k d lt. record { data_kind = refl; flow = refl; same_number = refl }),
-  All-map (IsPieceOf w) (piece_packet flow number w) (places (piece_count w))
-      (All-weaker (λ k. (0 ≤ k) × (k < 0 + piece_count w)) (λ k. IsPieceOf w (piece_packet flow number w k)) (λ k h. record { place = (let high : k < 0 + piece_count w = h.1 in omega arith); last = refl; bits = refl }) (places (piece_count w)) (range_within 0 (piece_count w))),
+  All-map (CarriesPieceOf w) (piece_packet flow number w) (places (piece_count w))
+      (All-weaker (λ k. (0 ≤ k) × (k < 0 + piece_count w)) (λ k. CarriesPieceOf w (piece_packet flow number w k)) (λ k h. record { there = (let high : k < 0 + piece_count w = h.1 in omega arith); flag = refl; same = refl }) (places (piece_count w)) (range_within 0 (piece_count w))),
 )
 
 places_whole : (flow : Flow) (number : ℕ) (w : List Bool) (a count : ℕ) → a + count ≡ piece_count w → 0 < count
@@ -245,12 +246,12 @@ with_range flow number w ks a (suc count) k low high fresh = elim (cases_eq a k)
 -- ---- the slot of a flow
 
 slot_put_same : (s : SlotState) (slots : List SlotState) → slot_of (put s slots) s.flow ≡ Some s
-slot_put_same s [] = rw (same_flow_refl s.flow) refl
+slot_put_same s [] = rw (same_flow-refl s.flow) refl
 slot_put_same s (t ∷ ts) = elim (cases_Bool (same_flow s.flow t.flow)) [
-  | inl e ↦ rw (e, same_flow_refl s.flow) refl
-  | inr e ↦ elim (cases_Bool (comes_before t.flow s.flow)) [
+  | inl e ↦ rw (e, same_flow-refl s.flow) refl
+  | inr e ↦ elim (cases_Bool (flow_before t.flow s.flow)) [
     | inl b ↦ rw (e, b, e) (slot_put_same s ts)
-    | inr b ↦ rw (e, b, same_flow_refl s.flow) refl
+    | inr b ↦ rw (e, b, same_flow-refl s.flow) refl
   ]
 ]
 
@@ -258,9 +259,9 @@ slot_put_other : (s : SlotState) (slots : List SlotState) (f : Flow) → same_fl
 slot_put_other s [] f other = rw other refl
 slot_put_other s (t ∷ ts) f other = elim (cases_Bool (same_flow s.flow t.flow)) [
   | inl e ↦ (
-      let unlike : same_flow f t.flow ≡ false = ap (same_flow f) (sym (same_flow_is s.flow t.flow e)) ∙ other in
+      let unlike : same_flow f t.flow ≡ false = ap (same_flow f) (sym (same_flow-true s.flow t.flow e)) ∙ other in
       rw (e, other, unlike) refl)
-  | inr e ↦ elim (cases_Bool (comes_before t.flow s.flow)) [
+  | inr e ↦ elim (cases_Bool (flow_before t.flow s.flow)) [
     | inl b ↦ elim (cases_Bool (same_flow f t.flow)) [
       | inl g ↦ rw (e, b, g) refl
       | inr g ↦ rw (e, b, g) (slot_put_other s ts f other)
@@ -270,12 +271,12 @@ slot_put_other s (t ∷ ts) f other = elim (cases_Bool (same_flow s.flow t.flow)
 ]
 
 has_put : (s : SlotState) (slots : List SlotState) → list_any (λ t. same_flow s.flow t.flow) (put s slots) ≡ true
-has_put s [] = rw (same_flow_refl s.flow) refl
+has_put s [] = rw (same_flow-refl s.flow) refl
 has_put s (t ∷ ts) = elim (cases_Bool (same_flow s.flow t.flow)) [
-  | inl e ↦ rw (e, same_flow_refl s.flow) refl
-  | inr e ↦ elim (cases_Bool (comes_before t.flow s.flow)) [
+  | inl e ↦ rw (e, same_flow-refl s.flow) refl
+  | inr e ↦ elim (cases_Bool (flow_before t.flow s.flow)) [
     | inl b ↦ rw (e, b, e) (has_put s ts)
-    | inr b ↦ rw (e, b, same_flow_refl s.flow) refl
+    | inr b ↦ rw (e, b, same_flow-refl s.flow) refl
   ]
 ]
 
@@ -290,7 +291,7 @@ pub slot_without_other : (slots : List SlotState) (f g : Flow) → same_flow f g
 slot_without_other [] f g other = refl
 slot_without_other (t ∷ ts) f g other = elim (cases_Bool (same_flow g t.flow)) [
   | inl e ↦ (
-      let unlike : same_flow f t.flow ≡ false = ap (same_flow f) (sym (same_flow_is g t.flow e)) ∙ other in
+      let unlike : same_flow f t.flow ≡ false = ap (same_flow f) (sym (same_flow-true g t.flow e)) ∙ other in
       rw (e, unlike) (slot_without_other ts f g other))
   | inr e ↦ elim (cases_Bool (same_flow f t.flow)) [
     | inl h ↦ rw (e, h) refl
@@ -339,10 +340,10 @@ comes flow number w ks k slots h lt =
     }
 
 -- the pieces that came are pieces of the body
-pieces_are : (flow : Flow) (number : ℕ) (w : List Bool) (ks : List ℕ) → All (IsPieceOf w) (pieces_of flow number w ks)
-pieces_are flow number w ks = All-map (IsPieceOf w) (piece_packet flow number w) (filter (came ks) (places (piece_count w)))
-    (All-filter (came ks) (λ k. IsPieceOf w (piece_packet flow number w k)) (places (piece_count w))
-    (All-weaker (λ k. (0 ≤ k) × (k < 0 + piece_count w)) (λ k. IsPieceOf w (piece_packet flow number w k)) (λ k h. record { place = (let high : k < 0 + piece_count w = h.1 in omega arith); last = refl; bits = refl }) (places (piece_count w)) (range_within 0 (piece_count w))))
+pieces_are : (flow : Flow) (number : ℕ) (w : List Bool) (ks : List ℕ) → All (CarriesPieceOf w) (pieces_of flow number w ks)
+pieces_are flow number w ks = All-map (CarriesPieceOf w) (piece_packet flow number w) (filter (came ks) (places (piece_count w)))
+    (All-filter (came ks) (λ k. CarriesPieceOf w (piece_packet flow number w k)) (places (piece_count w))
+    (All-weaker (λ k. (0 ≤ k) × (k < 0 + piece_count w)) (λ k. CarriesPieceOf w (piece_packet flow number w k)) (λ k h. record { there = (let high : k < 0 + piece_count w = h.1 in omega arith); flag = refl; same = refl }) (places (piece_count w)) (range_within 0 (piece_count w))))
 
 pub answered : (flow : Flow) (number : ℕ) (w : List Bool) (slots : List SlotState) (ks : List ℕ) (k : ℕ) → Holds flow number w ks slots → k < piece_count w
     → answer_of slots (piece_packet flow number w k) ≡ answer_to w ks k
@@ -413,3 +414,87 @@ pub any_order : (flow : Flow) (number : ℕ) (w : List Bool) (slots : List SlotS
 any_order flow number w slots ks k h all missing =
     answered flow number w (after flow number w slots ks) ks k
     (held_after flow number w slots ks h (All-tail (λ j. j < piece_count w) k ks all) missing) (All-head (λ j. j < piece_count w) k ks all)
+
+-- ---- a message among others
+
+any_slot : (slots : List SlotState) (f : Flow) → is_some (slot_of slots f) ≡ true → list_any (λ s. same_flow f s.flow) slots ≡ true
+any_slot [] f h = absurd (cc)
+any_slot (t ∷ ts) f h = elim (cases_Bool (same_flow f t.flow)) [
+  | inl e ↦ rw e refl
+  | inr e ↦ rw e (any_slot ts f (rw e at h))
+]
+
+room_there : (slots : List SlotState) (f : Flow) → is_some (slot_of slots f) ≡ true → has_room slots f ≡ true
+room_there slots f h = rw (any_slot slots f h) refl
+
+pub room_of : (slots : List SlotState) (f : Flow) (s : SlotState) → slot_of slots f ≡ Some s → has_room slots f ≡ true
+room_of slots f s h = room_there slots f (ap is_some h)
+
+-- where pieces are held there is a slot
+slot_there : (o : Option SlotState) (number : ℕ) → 0 < length (pieces_at o number) → is_some o ≡ true
+slot_there None number some = absurd (omega arith)
+slot_there (Some s) number some = refl
+
+any_some : {X : Type 0} (p : X → Bool) (xs : List X) → list_any p xs ≡ true → 0 < length xs
+any_some p [] any = absurd (cc)
+any_some p (x ∷ xs) any = omega arith
+
+-- where one place of a body came, some of its pieces are there
+some_came : (flow : Flow) (number : ℕ) (w : List Bool) (ks : List ℕ) (j : ℕ) → j < piece_count w → came ks j ≡ true → 0 < length (pieces_of flow number w ks)
+some_came flow number w ks j lt here =
+    let any : list_any (λ (i : ℕ). i == j) (filter (came ks) (places (piece_count w))) ≡ true = any_in_range (came ks) 0 (piece_count w) j (omega arith) (omega (arith, lt)) ∙ here in
+    let some : 0 < length (filter (came ks) (places (piece_count w))) = any_some (λ (i : ℕ). i == j) (filter (came ks) (places (piece_count w))) any in
+    omega (arith, some, length-map (filter (came ks) (places (piece_count w))) (piece_packet flow number w))
+
+-- what leaves the flow's slot alone leaves the message held
+untouched : (flow : Flow) (number : ℕ) (w : List Bool) (old new : List SlotState) (ks : List ℕ) (j : ℕ) → Holds flow number w ks old → j < piece_count w → came ks j ≡ true
+    → slot_of new flow ≡ slot_of old flow → Holds flow number w ks new
+untouched flow number w old new ks j h lt here same =
+    let some : 0 < length (pieces_at (slot_of old flow) number) = omega (arith, ap length h.pieces, some_came flow number w ks j lt here) in
+    record {
+      pieces = ap (λ (o : Option SlotState). pieces_at o number) same ∙ h.pieces;
+      room = room_there new flow (ap is_some same ∙ slot_there (slot_of old flow) number some);
+    }
+
+first_came : (ks : List ℕ) (j : ℕ) → came (j ∷ ks) j ≡ true
+first_came ks j = let here : (j == j) ≡ true = eq-eqb j j refl in rw here refl
+
+pub undisturbed : (flow : Flow) (number : ℕ) (w : List Bool) (slots : List SlotState) (ks : List ℕ) (j : ℕ) (p : PacketFields) → Holds flow number w (j ∷ ks) slots → j < piece_count w
+    → same_flow flow (flow_of p) ≡ false → Holds flow number w (j ∷ ks) (added slots p)
+undisturbed flow number w slots ks j p h lt other = untouched flow number w slots (added slots p) (j ∷ ks) j h lt (first_came ks j) (slot_added_other slots p flow other)
+
+pub still_there : (flow : Flow) (number : ℕ) (w : List Bool) (slots : List SlotState) (ks : List ℕ) (j : ℕ) (g : Flow) → Holds flow number w (j ∷ ks) slots → j < piece_count w
+    → same_flow flow g ≡ false → Holds flow number w (j ∷ ks) (without slots g)
+still_there flow number w slots ks j g h lt other = untouched flow number w slots (without slots g) (j ∷ ks) j h lt (first_came ks j) (slot_without_other slots flow g other)
+
+came_before : (events : List Event) (ks : List ℕ) (j : ℕ) → came ks j ≡ true → came (places_in events ks) j ≡ true
+came_before [] ks j here = here
+came_before (Piece k ∷ events) ks j here = or_second (k == j) (came (places_in events ks) j) (came_before events ks j here)
+came_before (Other p ∷ events) ks j here = came_before events ks j here
+came_before (Emptied g ∷ events) ks j here = came_before events ks j here
+
+held_among : (flow : Flow) (number : ℕ) (w : List Bool) (slots : List SlotState) (ks : List ℕ) (j : ℕ) (events : List Event) → Holds flow number w ks slots → j < piece_count w
+    → came ks j ≡ true → All (IsAmongOthers flow w) events → all_came w (places_in events ks) ≡ false
+    → Holds flow number w (places_in events ks) (after_events flow number w slots events)
+held_among flow number w slots ks j [] h lt here all missing = h
+held_among flow number w slots ks j (Piece k ∷ events) h lt here all missing =
+    still_held flow number w (after_events flow number w slots events) (places_in events ks) k
+    (held_among flow number w slots ks j events h lt here (All-tail (IsAmongOthers flow w) (Piece k) events all) (before_all w (places_in events ks) k missing))
+    (All-head (IsAmongOthers flow w) (Piece k) events all) missing
+held_among flow number w slots ks j (Other p ∷ events) h lt here all missing =
+    let before : List SlotState = after_events flow number w slots events in
+    untouched flow number w before (added before p) (places_in events ks) j
+    (held_among flow number w slots ks j events h lt here (All-tail (IsAmongOthers flow w) (Other p) events all) missing) lt (came_before events ks j here)
+    (slot_added_other before p flow (All-head (IsAmongOthers flow w) (Other p) events all))
+held_among flow number w slots ks j (Emptied g ∷ events) h lt here all missing =
+    let before : List SlotState = after_events flow number w slots events in
+    untouched flow number w before (without before g) (places_in events ks) j
+    (held_among flow number w slots ks j events h lt here (All-tail (IsAmongOthers flow w) (Emptied g) events all) missing) lt (came_before events ks j here)
+    (slot_without_other before flow g (All-head (IsAmongOthers flow w) (Emptied g) events all))
+
+pub interleaved : (flow : Flow) (number : ℕ) (w : List Bool) (slots : List SlotState) (ks : List ℕ) (j k : ℕ) (events : List Event) → Holds flow number w (j ∷ ks) slots → j < piece_count w
+    → k < piece_count w → All (IsAmongOthers flow w) events → all_came w (places_in events (j ∷ ks)) ≡ false
+    → answer_of (after_events flow number w slots events) (piece_packet flow number w k) ≡ answer_to w (places_in events (j ∷ ks)) k
+interleaved flow number w slots ks j k events h here there all missing =
+    answered flow number w (after_events flow number w slots events) (places_in events (j ∷ ks)) k
+    (held_among flow number w slots (j ∷ ks) j events h here (first_came ks j) all missing) there

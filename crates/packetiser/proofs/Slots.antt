@@ -1,6 +1,6 @@
 -- Slots and the pieces in them.
-use Rattle.std.proofs.Common.{◌≡◌, ◌≢◌, ℕ, ◌+◌, ◌<◌, ◌≤◌, Bool, true, false, not, List, [], ◌∷◌, ◌++◌, length, get_or, set, take, drop, refl, ap, sym, ◌∙◌, subst, arith, All, suc, Option, Some, None, insert, filter, unwrap_or}
-use Rattle.std.proofs.Common.{nat_lt, ◌==◌, ◌||◌, ◌&&◌, eq-eqb, eqb-true, inl, inr, ◌⊎◌, if◌then◌else◌}
+use Rattle.std.proofs.Common.{◌≡◌, ℕ, ◌+◌, ◌<◌, ◌≤◌, Bool, true, false, not, List, [], ◌∷◌, ◌++◌, length, get_or, set, take, drop, refl, ap, sym, ◌∙◌, subst, arith, All, suc, Option, Some, None, insert, filter, unwrap_or}
+use Rattle.std.proofs.Common.{nat_lt, ◌==◌, ◌||◌, ◌&&◌, eqb-true, inl, inr, if◌then◌else◌}
 use Rattle.std.specs.List.{position, position_or_len, list_any, find}
 use Rattle.std.proofs.lemmas.Bool.{cases_Bool}
 use Rattle.std.proofs.lemmas.Bool.Decides.{nat_tests}
@@ -12,11 +12,12 @@ use Rattle.std.proofs.lemmas.List.Folds.{find_at}
 use Rattle.std.proofs.lemmas.List.Sums.{passes_at_first}
 use Rattle.std.proofs.lemmas.Option.{slice_get_read, same_Some}
 use Rattle.std.specs.List.{slice_get}
-use Rattle.leader1822.specs.Mailboxes.{same_flow}
-use Rattle.leader1822.specs.Host.{same_host}
+use Rattle.leader1822.specs.Flow.{same_flow, flow_before}
+use Rattle.leader1822.proofs.Lists.{same_flow-true}
+use Rattle.leader1822.proofs.Order.{flow_before_trans, flow_before_else}
 use Rattle.leader1822.specs.declared.address.Flow.{Flow}
-use Rattle.packetiser.specs.PacketFields.{PacketFields, flow_of}
-use Rattle.packetiser.specs.Slots.{SlotState, IsSlot, IsInOrder, IsTable, IsPieceFor, numbers_of, is_below, comes_before, slot_of, pieces_at, kept_for, gathered, with_piece, put, without, kept, outcome_of, has_room, is_old, is_whole_from, joined}
+use Rattle.packetiser.specs.PacketFields.{PacketFields, IsPacket, flow_of}
+use Rattle.packetiser.specs.Slots.{SlotState, IsSlot, IsInOrder, IsTable, IsPieceFor, PlacesRise, slot_of, pieces_at, kept_for, gathered, with_piece, put, without, kept, outcome_of, has_room, is_old, rules_out, is_whole_from, joined}
 use Rattle.packetiser.specs.declared.packet.PacketKind.TheVariants as kind
 use Rattle.packetiser.specs.declared.reassembly.Outcome.TheVariants as outcome
 
@@ -73,59 +74,7 @@ find_none p (x ∷ xs) h = elim (cases_Bool (p x)) [
   | inr e ↦ rw e (find_none p xs (rw e at h))
 ]
 
--- ---- order
-
-below_cases : (x y : ℕ) (b : Bool) → (nat_lt x y || x == y && b) ≡ true → (x < y) ⊎ ((x ≡ y) × (b ≡ true))
-below_cases x y true h = elim (cases_Bool (nat_lt x y)) [
-  | inl lt ↦ inl (grind (arith, nat_tests, lt))
-  | inr ge ↦ (let same : x ≡ y = grind (arith, nat_tests, h, ge) in inr (same, refl))
-]
-below_cases x y false h = inl (grind (arith, nat_tests, h))
-
-below_first : (x y : ℕ) (b : Bool) → x < y → (nat_lt x y || x == y && b) ≡ true
-below_first x y b lt = grind (arith, nat_tests)
-
-below_later : (x y : ℕ) (b : Bool) → x ≡ y → b ≡ true → (nat_lt x y || x == y && b) ≡ true
-below_later x y true e b = grind (arith, nat_tests)
-below_later x y false e b = absurd (cc)
-
-pub below_trans : (xs ys zs : List ℕ) → is_below xs ys ≡ true → is_below ys zs ≡ true → is_below xs zs ≡ true
-below_trans [] ys zs h k = absurd (cc)
-below_trans (x ∷ xs) [] zs h k = absurd (cc)
-below_trans (x ∷ xs) (y ∷ ys) [] h k = absurd (cc)
-below_trans (x ∷ xs) (y ∷ ys) (z ∷ zs) h k = elim (below_cases x y (is_below xs ys) h) [
-  | inl lt ↦ elim (below_cases y z (is_below ys zs) k) [
-    | inl more ↦ below_first x z (is_below xs zs) (omega arith)
-    | inr same ↦ (let e : y ≡ z = same.0 in below_first x z (is_below xs zs) (omega arith))
-  ]
-  | inr same ↦ (let d : x ≡ y = same.0 in elim (below_cases y z (is_below ys zs) k) [
-    | inl more ↦ below_first x z (is_below xs zs) (omega arith)
-    | inr again ↦ (let e : y ≡ z = again.0 in below_later x z (is_below xs zs) (d ∙ e) (below_trans xs ys zs same.1 again.1))
-  ])
-]
-
-pub below_never : (xs : List ℕ) → is_below xs xs ≡ false
-below_never [] = refl
-below_never (x ∷ xs) = (let rest : is_below xs xs ≡ false = below_never xs in rw rest (grind (arith, nat_tests)))
-
-both_false : (x y : ℕ) (b : Bool) → (nat_lt x y || x == y && b) ≡ false → x ≡ y → b ≡ false
-both_false x y true h same = grind (arith, nat_tests, h, same)
-both_false x y false h same = refl
-
-below_head : (x y : ℕ) (b c : Bool) → (nat_lt x y || x == y && b) ≡ false → (x ≡ y → b ≡ false → c ≡ true) → (nat_lt y x || y == x && c) ≡ true
-below_head x y b c h rest = elim (cases_Bool (nat_lt y x)) [
-  | inl lt ↦ rw lt refl
-  | inr ge ↦ (let same : x ≡ y = grind (arith, nat_tests, h, ge) in below_later y x c (sym same) (rest same (both_false x y b h same)))
-]
-
-pub below_else : (xs ys : List ℕ) → length xs ≡ length ys → is_below xs ys ≡ false → xs ≢ ys → is_below ys xs ≡ true
-below_else [] [] l h ne = absurd (ne refl)
-below_else [] (y ∷ ys) l h ne = absurd (omega arith)
-below_else (x ∷ xs) [] l h ne = absurd (omega arith)
-below_else (x ∷ xs) (y ∷ ys) l h ne =
-    below_head x y (is_below xs ys) (is_below ys xs) h (λ same rest. below_else xs ys (omega arith) rest (λ e. ne (cc)))
-
--- ---- flows
+-- ---- tests
 
 pub and_first : (a b : Bool) → (a && b) ≡ true → a ≡ true
 and_first true b h = refl
@@ -134,51 +83,6 @@ and_first false b h = absurd (cc)
 pub and_second : (a b : Bool) → (a && b) ≡ true → b ≡ true
 and_second true b h = h
 and_second false b h = absurd (cc)
-
--- a flow by its numbers
-flow_with : ℕ → ℕ → ℕ → ℕ → ℕ → Flow
-flow_with i h j k l = record { source = record { imp = i; host = h }; destination = record { imp = j; host = k }; link = record { 0 = l } }
-
-same_with : {i i' h h' j j' k k' l l' : ℕ} → i ≡ i' → h ≡ h' → j ≡ j' → k ≡ k' → l ≡ l' → flow_with i h j k l ≡ flow_with i' h' j' k' l'
-same_with ei eh ej ek el = cc
-
-same_numbers : (f g : Flow) → f.source.imp ≡ g.source.imp → f.source.host ≡ g.source.host → f.destination.imp ≡ g.destination.imp
-    → f.destination.host ≡ g.destination.host → f.link.0 ≡ g.link.0 → f ≡ g
-unfolding flow_with
-same_numbers f g ei eh ej ek el = same_with ei eh ej ek el
-
-pub same_flow_is : (f g : Flow) → same_flow f g ≡ true → f ≡ g
-same_flow_is f g h =
-    let hosts = and_first (same_host f.source g.source && same_host f.destination g.destination) (f.link.0 == g.link.0) h in
-    let link = and_second (same_host f.source g.source && same_host f.destination g.destination) (f.link.0 == g.link.0) h in
-    let source = and_first (same_host f.source g.source) (same_host f.destination g.destination) hosts in
-    let destination = and_second (same_host f.source g.source) (same_host f.destination g.destination) hosts in
-    same_numbers f g
-    (eqb-true f.source.imp g.source.imp (and_first (f.source.imp == g.source.imp) (f.source.host == g.source.host) source))
-    (eqb-true f.source.host g.source.host (and_second (f.source.imp == g.source.imp) (f.source.host == g.source.host) source))
-    (eqb-true f.destination.imp g.destination.imp (and_first (f.destination.imp == g.destination.imp) (f.destination.host == g.destination.host) destination))
-    (eqb-true f.destination.host g.destination.host (and_second (f.destination.imp == g.destination.imp) (f.destination.host == g.destination.host) destination))
-    (eqb-true f.link.0 g.link.0 link)
-
-and_both : (a b : Bool) → a ≡ true → b ≡ true → (a && b) ≡ true
-and_both a b ea eb = rw (ea, eb) refl
-
-pub same_flow_of : (f g : Flow) → f.source.imp ≡ g.source.imp → f.source.host ≡ g.source.host → f.destination.imp ≡ g.destination.imp
-    → f.destination.host ≡ g.destination.host → f.link.0 ≡ g.link.0 → same_flow f g ≡ true
-same_flow_of f g ei eh ej ek el =
-    and_both (same_host f.source g.source && same_host f.destination g.destination) (f.link.0 == g.link.0)
-    (and_both (same_host f.source g.source) (same_host f.destination g.destination)
-    (and_both (f.source.imp == g.source.imp) (f.source.host == g.source.host) (eq-eqb f.source.imp g.source.imp ei) (eq-eqb f.source.host g.source.host eh))
-    (and_both (f.destination.imp == g.destination.imp) (f.destination.host == g.destination.host) (eq-eqb f.destination.imp g.destination.imp ej) (eq-eqb f.destination.host g.destination.host ek)))
-    (eq-eqb f.link.0 g.link.0 el)
-
-pub same_flow_refl : (f : Flow) → same_flow f f ≡ true
-same_flow_refl f = same_flow_of f f refl refl refl refl refl
-
-pub before_else : (f g : Flow) → same_flow g f ≡ false → comes_before f g ≡ false → comes_before g f ≡ true
-before_else f g h k =
-    below_else (numbers_of f) (numbers_of g) refl k
-    (λ e. let same : same_flow g f ≡ true = same_flow_of g f (cc) (cc) (cc) (cc) (cc) in absurd (cc))
 
 -- ---- pieces
 
@@ -202,6 +106,30 @@ All_with_piece P p (q ∷ qs) here all = elim (cases_Bool (nat_lt q.place p.plac
   | inr e ↦ rw e (All-cons P p (q ∷ qs) here all)
 ]
 
+or_first : (a b : Bool) → (a || b) ≡ false → a ≡ false
+or_first true b e = absurd (cc)
+or_first false b e = refl
+
+or_rest : (a b : Bool) → (a || b) ≡ false → b ≡ false
+or_rest true b e = absurd (cc)
+or_rest false b e = e
+
+-- a piece that isn't old stands at a place of its own
+pub rise_with_piece : (p : PacketFields) (ps : List PacketFields) → is_old ps p ≡ false → PlacesRise ps → PlacesRise (with_piece p ps)
+rise_with_piece p [] new rise = (All-nil (λ r. p.place < r.place), tt)
+rise_with_piece p (q ∷ qs) new rise =
+    let apart : (q.place == p.place) ≡ false = or_first (q.place == p.place) (q.last && nat_lt q.place p.place)
+    (or_first (q.place == p.place || q.last && nat_lt q.place p.place) (p.last && nat_lt p.place q.place) (or_first (rules_out p q) (is_old qs p) new)) in
+    elim (cases_Bool (nat_lt q.place p.place)) [
+      | inl e ↦ (
+          let below : q.place < p.place = grind (arith, nat_tests, e) in
+          rw e (All_with_piece (λ r. q.place < r.place) p qs below rise.0, rise_with_piece p qs (or_rest (rules_out p q) (is_old qs p) new) rise.1))
+      | inr e ↦ (
+          let above : p.place < q.place = grind (arith, nat_tests, e, apart) in
+          let behind : All (λ (r : PacketFields). p.place < r.place) qs = All-weaker (λ r. q.place < r.place) (λ r. p.place < r.place) (λ r more. omega (arith, above, more)) qs rise.0 in
+          rw e (All-cons (λ r. p.place < r.place) q qs above behind, rise))
+    ]
+
 pub length-with_piece : (p : PacketFields) (ps : List PacketFields) → length (with_piece p ps) ≡ length ps + 1
 length-with_piece p [] = refl
 length-with_piece p (q ∷ qs) = elim (cases_Bool (nat_lt q.place p.place)) [
@@ -223,19 +151,19 @@ pub All_put : (P : SlotState → Type 0) (s : SlotState) (slots : List SlotState
 All_put P s [] here all = All-cons P s [] here (All-nil P)
 All_put P s (t ∷ ts) here all = elim (cases_Bool (same_flow s.flow t.flow)) [
   | inl e ↦ rw e (All-cons P s ts here (All-tail P t ts all))
-  | inr e ↦ elim (cases_Bool (comes_before t.flow s.flow)) [
+  | inr e ↦ elim (cases_Bool (flow_before t.flow s.flow)) [
     | inl b ↦ rw (e, b) (All-cons P t (put s ts) (All-head P t ts all) (All_put P s ts here (All-tail P t ts all)))
     | inr b ↦ rw (e, b) (All-cons P s (t ∷ ts) here all)
   ]
 ]
 
 pub put_new : (s : SlotState) (slots : List SlotState) → list_any (λ t. same_flow s.flow t.flow) slots ≡ false
-    → put s slots ≡ insert slots (position_or_len (λ t. not (comes_before t.flow s.flow)) slots) s
+    → put s slots ≡ insert slots (position_or_len (λ t. not (flow_before t.flow s.flow)) slots) s
 put_new s [] none = refl
 put_new s (t ∷ ts) none = elim (cases_Bool (same_flow s.flow t.flow)) [
   | inl e ↦ absurd (let no : (same_flow s.flow t.flow || list_any (λ (u : SlotState). same_flow s.flow u.flow) ts) ≡ true = rw e refl in cc)
-  | inr e ↦ elim (cases_Bool (comes_before t.flow s.flow)) [
-    | inl b ↦ rw (e, b) (ap (λ (us : List SlotState). t ∷ us) (put_new s ts (rw e at none)) ∙ sym (insert_later t ts (position_or_len (λ (u : SlotState). not (comes_before u.flow s.flow)) ts) s))
+  | inr e ↦ elim (cases_Bool (flow_before t.flow s.flow)) [
+    | inl b ↦ rw (e, b) (ap (λ (us : List SlotState). t ∷ us) (put_new s ts (rw e at none)) ∙ sym (insert_later t ts (position_or_len (λ (u : SlotState). not (flow_before u.flow s.flow)) ts) s))
     | inr b ↦ rw (e, b) refl
   ]
 ]
@@ -247,23 +175,23 @@ put_held s (t ∷ ts) order any = elim (cases_Bool (same_flow s.flow t.flow)) [
   | inl e ↦ rw e refl
   | inr e ↦ (
       let later : list_any (λ (u : SlotState). same_flow s.flow u.flow) ts ≡ true = rw e at any in
-      let before : comes_before t.flow s.flow ≡ true =
-      found (λ (u : SlotState). comes_before t.flow u.flow ≡ true) (λ (u : SlotState). same_flow s.flow u.flow) (comes_before t.flow s.flow ≡ true) ts order.0 later
-      (λ u q same. let P : Flow → Type 0 = λ f. comes_before t.flow f ≡ true in subst P (sym (same_flow_is s.flow u.flow same)) q) in
+      let before : flow_before t.flow s.flow ≡ true =
+      found (λ (u : SlotState). flow_before t.flow u.flow ≡ true) (λ (u : SlotState). same_flow s.flow u.flow) (flow_before t.flow s.flow ≡ true) ts order.0 later
+      (λ u q same. let P : Flow → Type 0 = λ f. flow_before t.flow f ≡ true in subst P (sym (same_flow-true s.flow u.flow same)) q) in
       rw (e, before) (ap (λ (us : List SlotState). t ∷ us) (put_held s ts order.1 later) ∙ sym (set_later t ts (position_or_len (λ (u : SlotState). same_flow s.flow u.flow) ts) s)))
 ]
 
 pub order_put : (s : SlotState) (slots : List SlotState) → IsInOrder slots → IsInOrder (put s slots)
-order_put s [] order = (All-nil (λ t. comes_before s.flow t.flow ≡ true), tt)
+order_put s [] order = (All-nil (λ t. flow_before s.flow t.flow ≡ true), tt)
 order_put s (t ∷ ts) order = elim (cases_Bool (same_flow s.flow t.flow)) [
-  | inl e ↦ (let P : Flow → Type 0 = λ f. All (λ u. comes_before f u.flow ≡ true) ts in rw e (subst P (sym (same_flow_is s.flow t.flow e)) order.0, order.1))
-  | inr e ↦ elim (cases_Bool (comes_before t.flow s.flow)) [
-    | inl b ↦ rw (e, b) (All_put (λ u. comes_before t.flow u.flow ≡ true) s ts b order.0, order_put s ts order.1)
+  | inl e ↦ (let P : Flow → Type 0 = λ f. All (λ u. flow_before f u.flow ≡ true) ts in rw e (subst P (sym (same_flow-true s.flow t.flow e)) order.0, order.1))
+  | inr e ↦ elim (cases_Bool (flow_before t.flow s.flow)) [
+    | inl b ↦ rw (e, b) (All_put (λ u. flow_before t.flow u.flow ≡ true) s ts b order.0, order_put s ts order.1)
     | inr b ↦ (
-        let first : comes_before s.flow t.flow ≡ true = before_else t.flow s.flow e b in
+        let first : flow_before s.flow t.flow ≡ true = flow_before_else t.flow s.flow e b in
         rw (e, b) (
-          All-cons (λ u. comes_before s.flow u.flow ≡ true) t ts first
-              (All-weaker (λ u. comes_before t.flow u.flow ≡ true) (λ u. comes_before s.flow u.flow ≡ true) (λ u q. below_trans (numbers_of s.flow) (numbers_of t.flow) (numbers_of u.flow) first q) ts order.0),
+          All-cons (λ u. flow_before s.flow u.flow ≡ true) t ts first
+              (All-weaker (λ u. flow_before t.flow u.flow ≡ true) (λ u. flow_before s.flow u.flow ≡ true) (λ u q. flow_before_trans s.flow t.flow u.flow first q) ts order.0),
           order,
         ))
   ]
@@ -272,7 +200,7 @@ order_put s (t ∷ ts) order = elim (cases_Bool (same_flow s.flow t.flow)) [
 pub order_filter : (p : SlotState → Bool) (slots : List SlotState) → IsInOrder slots → IsInOrder (filter p slots)
 order_filter p [] order = tt
 order_filter p (t ∷ ts) order = elim (cases_Bool (p t)) [
-  | inl e ↦ rw e (All-filter p (λ u. comes_before t.flow u.flow ≡ true) ts order.0, order_filter p ts order.1)
+  | inl e ↦ rw e (All-filter p (λ u. flow_before t.flow u.flow ≡ true) ts order.0, order_filter p ts order.1)
   | inr e ↦ rw e (order_filter p ts order.1)
 ]
 
@@ -280,7 +208,7 @@ length-put : (s : SlotState) (slots : List SlotState) → length (put s slots) �
 length-put s [] = omega arith
 length-put s (t ∷ ts) = elim (cases_Bool (same_flow s.flow t.flow)) [
   | inl e ↦ rw e (omega arith)
-  | inr e ↦ elim (cases_Bool (comes_before t.flow s.flow)) [
+  | inr e ↦ elim (cases_Bool (flow_before t.flow s.flow)) [
     | inl b ↦ rw (e, b) (omega (arith, length-put s ts))
     | inr b ↦ rw (e, b) (omega arith)
   ]
@@ -292,13 +220,35 @@ kept_sound (s ∷ slots) f number all = elim (cases_Bool (same_flow f s.flow)) [
   | inl e ↦ elim (cases_Bool (s.number == number)) [
     | inl n ↦ (
         let here : IsSlot s = All-head IsSlot s slots all in
-        let same : f ≡ s.flow = same_flow_is f s.flow e in
+        let same : f ≡ s.flow = same_flow-true f s.flow e in
         let number_is : s.number ≡ number = eqb-true s.number number n in
         rw (e, n) (All-weaker (IsPieceFor s.flow s.number) (IsPieceFor f number) (λ q h. record { data_kind = h.data_kind; flow = h.flow ∙ sym same; same_number = h.same_number ∙ number_is }) s.pieces here.pieces))
     | inr n ↦ rw (e, n) (All-nil (IsPieceFor f number))
   ]
   | inr e ↦ rw e (kept_sound slots f number (All-tail IsSlot s slots all))
 ]
+
+-- what is held of a message has what each slot's pieces have
+pub held_of : (P : List PacketFields → Type 0) (slots : List SlotState) (f : Flow) (number : ℕ) → P [] → All (λ s. P s.pieces) slots → P (pieces_at (slot_of slots f) number)
+held_of P [] f number none all = none
+held_of P (s ∷ slots) f number none all = elim (cases_Bool (same_flow f s.flow)) [
+  | inl e ↦ elim (cases_Bool (s.number == number)) [
+    | inl n ↦ rw (e, n) (All-head (λ (t : SlotState). P t.pieces) s slots all)
+    | inr n ↦ rw (e, n) none
+  ]
+  | inr e ↦ rw e (held_of P slots f number none (All-tail (λ (t : SlotState). P t.pieces) s slots all))
+]
+
+pub kept_packets : (slots : List SlotState) (f : Flow) (number : ℕ) → All IsSlot slots → All IsPacket (pieces_at (slot_of slots f) number)
+kept_packets slots f number all = held_of (All IsPacket) slots f number (All-nil IsPacket) (All-weaker IsSlot (λ s. All IsPacket s.pieces) (λ s h. h.packets) slots all)
+
+kept_places : (slots : List SlotState) (f : Flow) (number : ℕ) → All IsSlot slots → PlacesRise (pieces_at (slot_of slots f) number)
+kept_places slots f number all = held_of PlacesRise slots f number tt (All-weaker IsSlot (λ s. PlacesRise s.pieces) (λ s h. h.places) slots all)
+
+-- a packet that is kept isn't old
+new_from : (old whole room : Bool) → (if old then outcome.Old else (if whole then outcome.Whole else (if room then outcome.Kept else outcome.Full))) ≡ outcome.Kept → old ≡ false
+new_from true whole room h = absurd (cc)
+new_from false whole room h = refl
 
 -- there is room where a packet is kept
 room_from : (old whole room : Bool) → (if old then outcome.Old else (if whole then outcome.Whole else (if room then outcome.Kept else outcome.Full))) ≡ outcome.Kept → room ≡ true
@@ -307,8 +257,8 @@ room_from false true room h = absurd (cc)
 room_from false false true h = refl
 room_from false false false h = absurd (cc)
 
-pub kept_table : (slots : List SlotState) (p : PacketFields) → IsTable slots → p.kind ≡ kind.Data → outcome_of slots p ≡ outcome.Kept → IsTable (kept slots p)
-kept_table slots p h piece kept_is =
+pub kept_table : (slots : List SlotState) (p : PacketFields) → IsTable slots → IsPacket p → p.kind ≡ kind.Data → outcome_of slots p ≡ outcome.Kept → IsTable (kept slots p)
+kept_table slots p h format piece kept_is =
     let s : SlotState = record { flow = flow_of p; number = p.number; pieces = gathered slots p } in
     let room : has_room slots (flow_of p) ≡ true = room_from (is_old (kept_for slots p) p) (is_whole_from 0 (gathered slots p)) (has_room slots (flow_of p)) kept_is in
     let at_most : length slots ≤ 8 = h.few in
@@ -321,6 +271,8 @@ kept_table slots p h piece kept_is =
       sound = All_put IsSlot s slots (record {
         some = omega (arith, length-with_piece p (kept_for slots p));
         pieces = All_with_piece (IsPieceFor (flow_of p) p.number) p (kept_for slots p) (record { data_kind = piece; flow = refl; same_number = refl }) (kept_sound slots (flow_of p) p.number h.sound);
+        packets = All_with_piece IsPacket p (kept_for slots p) format (kept_packets slots (flow_of p) p.number h.sound);
+        places = rise_with_piece p (kept_for slots p) (new_from (is_old (kept_for slots p) p) (is_whole_from 0 (gathered slots p)) (has_room slots (flow_of p)) kept_is) (kept_places slots (flow_of p) p.number h.sound);
       }) h.sound;
     }
 
@@ -367,7 +319,7 @@ kept_at slots p at old new order place read is =
     let test : SlotState → Bool = λ s. same_flow (flow_of p) s.flow in
     let i : IsAt test slots at = position_some test slots at place in
     let passes : test old ≡ true = ap test read ∙ ap (λ (k : ℕ). test (get_or slots k old)) (sym i.first) ∙ passes_at_first test slots old (omega (arith, i.first, i.within)) in
-    let flow : flow_of p ≡ old.flow = same_flow_is (flow_of p) old.flow passes in
+    let flow : flow_of p ≡ old.flow = same_flow-true (flow_of p) old.flow passes in
     let found_is : slot_of slots (flow_of p) ≡ Some old = find_at test slots ∙ ap (λ (k : ℕ). slice_get slots k) i.first ∙ slice_get_read slots (length slots) at old refl i.within read in
     let s : SlotState = record { flow = flow_of p; number = p.number; pieces = gathered slots p } in
     let same : new ≡ s = is ∙ same_slot old.flow (flow_of p) p.number p.number (with_piece p (pieces_at (Some old) p.number)) (gathered slots p) (sym flow) refl
@@ -375,7 +327,7 @@ kept_at slots p at old new order place read is =
     ap (λ (t : SlotState). set slots at t) same ∙ ap (λ (k : ℕ). set slots k s) (sym i.first) ∙ sym (put_held s slots order i.any)
 
 pub kept_new : (slots : List SlotState) (p : PacketFields) (at number : ℕ) (f : Flow) (pieces : List PacketFields) → position (λ s. same_flow (flow_of p) s.flow) slots ≡ None
-    → f ≡ flow_of p → number ≡ p.number → pieces ≡ p ∷ [] → at ≡ position_or_len (λ s. not (comes_before s.flow f)) slots
+    → f ≡ flow_of p → number ≡ p.number → pieces ≡ p ∷ [] → at ≡ position_or_len (λ s. not (flow_before s.flow f)) slots
     → insert slots at (record { flow = f; number = number; pieces = pieces }) ≡ kept slots p
 kept_new slots p at number f pieces none flow numbers one place =
     let test : SlotState → Bool = λ s. same_flow (flow_of p) s.flow in
@@ -385,5 +337,5 @@ kept_new slots p at number f pieces none flow numbers one place =
     let t : SlotState = record { flow = f; number = number; pieces = pieces } in
     let same : t ≡ s = same_slot f (flow_of p) number p.number pieces (gathered slots p) flow numbers
     (one ∙ ap (λ (o : Option SlotState). with_piece p (pieces_at o p.number)) (sym no_slot)) in
-    let at_is : at ≡ position_or_len (λ (u : SlotState). not (comes_before u.flow s.flow)) slots = place ∙ ap (λ (g : Flow). position_or_len (λ (u : SlotState). not (comes_before u.flow g)) slots) flow in
+    let at_is : at ≡ position_or_len (λ (u : SlotState). not (flow_before u.flow s.flow)) slots = place ∙ ap (λ (g : Flow). position_or_len (λ (u : SlotState). not (flow_before u.flow g)) slots) flow in
     ap (λ (u : SlotState). insert slots at u) same ∙ ap (λ (k : ℕ). insert slots k s) at_is ∙ sym (put_new s slots unheld)

@@ -6,7 +6,7 @@ use Rattle.std.specs.Prelude.{ℕ, ◌+◌, ◌*◌, ◌/◌, ◌%◌, Bool, not
 use Rattle.bit_messages.specs.Octets.{bits_of, octets_of}
 use Rattle.leader1822.specs.Host.{Host, address_octet}
 use Rattle.packetiser.specs.PacketFields.{PacketFields}
-use Rattle.packetiser.specs.declared.format.TheConstants.{MAX_IMP, HEADER_OCTETS, PACKET_BITS, MAX_PACKETS}
+use Rattle.packetiser.specs.Limits.{greatest_imp, header_octets, piece_bits, most_pieces}
 use Rattle.packetiser.specs.declared.packet.PacketKind.{PacketKind}
 use Rattle.packetiser.specs.declared.packet.PacketKind.TheVariants as kind
 use Rattle.packetiser.specs.declared.fault.PacketFault.{PacketFault}
@@ -14,15 +14,17 @@ use Rattle.packetiser.specs.declared.fault.PacketFault.TheVariants as fault
 
 -- ---- writing
 
+-- the octet of a kind
 abbrev pub kind_octet : PacketKind → ℕ
 kind_octet kind.Data = 0
 kind_octet kind.Rfnm = 1
 kind_octet kind.Dead = 2
 
+-- the octet of a place and a last flag
 abbrev pub place_octet : ℕ → Bool → ℕ
 place_octet place last = if last then place + 128 else place
 
--- how a packet is written
+-- the octets of a packet
 abbrev pub spelling : PacketFields → List ℕ
 spelling p =
     kind_octet p.kind ∷ address_octet p.source ∷ address_octet p.destination ∷ p.link ∷ p.number ∷ place_octet p.place p.last
@@ -30,59 +32,63 @@ spelling p =
 
 -- ---- reading
 
--- what the octets say of themselves
+-- the kind with this octet
 abbrev pub kind_of : ℕ → PacketKind
 kind_of octet = if octet == 0 then kind.Data else (if octet == 1 then kind.Rfnm else kind.Dead)
 
+-- the host that an address octet names
 abbrev pub host_of : ℕ → Host
 host_of octet = record { imp = octet % 64; host = octet / 64 }
 
--- how many bits a packet says that it has
+-- the number of bits that octets 6 and 7 say
 abbrev pub bit_count : List ℕ → ℕ
 bit_count octets = 256 * slice_index octets 6 + slice_index octets 7
 
 -- how many octets a packet with so many bits has
 abbrev pub octet_count : ℕ → ℕ
-octet_count bits = HEADER_OCTETS + (bits + 7) / 8
+octet_count bits = header_octets + (bits + 7) / 8
 
+-- whether octet 0 says that this is a piece
 abbrev pub is_data : List ℕ → Bool
 is_data octets = slice_index octets 0 == 0
 
+-- the upper bit of octet 5
 abbrev pub is_last : List ℕ → Bool
 is_last octets = nat_le 128 (slice_index octets 5)
 
+-- the lower three bits of octet 5
 abbrev pub place_of : List ℕ → ℕ
 place_of octets = slice_index octets 5 % 8
 
 -- an address octet with the number of an IMP of the subnet
 abbrev pub is_address : ℕ → Bool
-is_address octet = nat_le 1 (octet % 64) && nat_le (octet % 64) MAX_IMP
+is_address octet = nat_le 1 (octet % 64) && nat_le (octet % 64) greatest_imp
 
 -- fewer octets than a header has, or than the number of bits asks for
 unfoldable pub is_short : List ℕ → Bool
-is_short octets = nat_lt (length octets) HEADER_OCTETS || nat_lt (length octets) (octet_count (bit_count octets))
+is_short octets = nat_lt (length octets) header_octets || nat_lt (length octets) (octet_count (bit_count octets))
 
--- an unknown kind, an address outside the subnet, a bit set between place and last flag, a place after which there is no
--- other without the last flag, an answer that isn't one whole packet, or octets after the end
+-- an unknown kind, an IMP outside 1 to 16, a bit set between place and last flag, place 7 without the last flag, an answer
+-- whose octet 5 isn't 128, or octets after the end
 unfoldable pub is_not_canonical : List ℕ → Bool
 is_not_canonical octets =
     nat_lt 2 (slice_index octets 0)
     || not (is_address (slice_index octets 1))
     || not (is_address (slice_index octets 2))
     || not (slice_index octets 5 / 8 % 16 == 0)
-    || not (is_last octets) && place_of octets + 1 == MAX_PACKETS
+    || not (is_last octets) && place_of octets + 1 == most_pieces
     || not (is_data octets) && not (slice_index octets 5 == 128)
     || nat_lt (octet_count (bit_count octets)) (length octets)
 
--- an answer with bits; a piece with none, with more than a packet full or with part of a unit; a piece that isn't the last
--- and not a packet full
+-- a piece with no bits, with more than 1008, or with part of a unit of sixteen; a piece that isn't the last and hasn't 1008;
+-- an answer with bits
 unfoldable pub is_bad_length : List ℕ → Bool
 is_bad_length octets =
     if is_data octets
-    then bit_count octets == 0 || nat_lt PACKET_BITS (bit_count octets) || not (bit_count octets % 16 == 0) || not (is_last octets) && not (bit_count octets == PACKET_BITS)
+    then bit_count octets == 0 || nat_lt piece_bits (bit_count octets) || not (bit_count octets % 16 == 0) || not (is_last octets) && not (bit_count octets == piece_bits)
     else not (bit_count octets == 0)
 
--- what the octets say, where they spell a packet
+-- what the octets of a packet say
 abbrev pub fields_of : List ℕ → PacketFields
 fields_of octets = record {
   kind = kind_of (slice_index octets 0);
@@ -92,7 +98,7 @@ fields_of octets = record {
   number = slice_index octets 4;
   place = place_of octets;
   last = is_last octets;
-  bits = take (bit_count octets) (bits_of (drop HEADER_OCTETS octets));
+  bits = take (bit_count octets) (bits_of (drop header_octets octets));
 }
 
 -- the packet that the octets spell, or the first reason why they spell none

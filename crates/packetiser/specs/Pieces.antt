@@ -1,25 +1,24 @@
 -- The pieces of a body (Heart et al., SJCC 1970: the source IMP breaks a message into packets).
 use Rattle.std.specs.Prelude.{◌≡◌, ℕ, ◌+◌, ◌-◌, ◌*◌, ◌/◌, ◌%◌, ◌<◌, ◌≤◌, Bool, List, length, take, drop, map, ◌==◌}
 use Rattle.std.specs.List.{range_with_len}
-use Rattle.bit_messages.specs.declared.bits.TheConstants.{BODY_UNIT}
 use Rattle.leader1822.specs.declared.address.Flow.{Flow}
 use Rattle.packetiser.specs.PacketFields.{PacketFields}
-use Rattle.packetiser.specs.declared.format.TheConstants.{PACKET_BITS, MAX_PACKETS}
+use Rattle.packetiser.specs.Limits.{piece_bits, most_pieces}
 use Rattle.packetiser.specs.declared.packet.PacketKind.TheVariants as kind
 
--- how many pieces a body has: as many packets full as hold it
+-- how many pieces a body has: its length divided by 1008, rounded up
 abbrev pub piece_count : List Bool → ℕ
-piece_count body = (length body + (PACKET_BITS - 1)) / PACKET_BITS
+piece_count body = (length body + (piece_bits - 1)) / piece_bits
 
 -- the piece at a place, counted from 0: the bits from 1008 times the place on, at most 1008
 abbrev pub piece : List Bool → ℕ → List Bool
-piece body place = take PACKET_BITS (drop (PACKET_BITS * place) body)
+piece body place = take piece_bits (drop (piece_bits * place) body)
 
--- the size of a body: full units of sixteen bits, at least one and at most eight packets full
+-- the size of a body: 16 to 8064 bits in units of sixteen
 pub record IsBodySize (size : ℕ) : Type 0 where
   pub some : 0 < size
-  pub units : size % BODY_UNIT ≡ 0
-  pub most : size ≤ MAX_PACKETS * PACKET_BITS
+  pub units : size % 16 ≡ 0
+  pub most : size ≤ most_pieces * piece_bits
 
 -- the places 0, 1, .. of so many pieces
 abbrev pub places : ℕ → List ℕ
@@ -42,8 +41,12 @@ piece_packet flow number body place = record {
 abbrev pub packets_of : Flow → ℕ → List Bool → List PacketFields
 packets_of flow number body = map (piece_packet flow number body) (places (piece_count body))
 
+-- these are the bits and the last flag of the piece of a body at a place
+pub record IsPieceOf (body : List Bool) (place : ℕ) (last : Bool) (bits : List Bool) : Type 0 where
+  pub there : place < piece_count body
+  pub flag : last ≡ (place + 1 == piece_count body)
+  pub same : bits ≡ piece body place
+
 -- a packet carries a piece of this body
-pub record IsPieceOf (body : List Bool) (p : PacketFields) : Type 0 where
-  pub place : p.place < piece_count body
-  pub last : p.last ≡ (p.place + 1 == piece_count body)
-  pub bits : p.bits ≡ piece body p.place
+abbrev pub CarriesPieceOf : List Bool → PacketFields → Type 0
+CarriesPieceOf body p = IsPieceOf body p.place p.last p.bits

@@ -1,10 +1,11 @@
 -- What reassembly promises: words for the laws over its calls.
-use Rattle.std.specs.Prelude.{◌≡◌, ℕ, Bool, true, List, [], ◌∷◌, ◌++◌, length, map, filter, All, Contains, ◌==◌, if◌then◌else◌}
+use Rattle.std.specs.Prelude.{◌≡◌, ℕ, ◌<◌, Bool, true, false, List, [], ◌∷◌, ◌++◌, length, map, filter, All, Contains, ◌==◌, if◌then◌else◌}
 use Rattle.std.specs.List.{list_any, list_all}
+use Rattle.leader1822.specs.Flow.{same_flow}
 use Rattle.leader1822.specs.declared.address.Flow.{Flow}
 use Rattle.packetiser.specs.PacketFields.{PacketFields, flow_of}
-use Rattle.packetiser.specs.Pieces.{piece_count, piece_packet, places}
-use Rattle.packetiser.specs.Slots.{SlotState, IsPieceFor, slot_of, pieces_at, has_room, is_whole_from, added, packets_in}
+use Rattle.packetiser.specs.Pieces.{IsBodySize, piece_count, piece_packet, places}
+use Rattle.packetiser.specs.Slots.{SlotState, IsPieceFor, slot_of, pieces_at, has_room, is_whole_from, gathered, joined, added, without, packets_in}
 use Rattle.packetiser.specs.declared.reassembly.Added.{Added}
 use Rattle.packetiser.specs.declared.reassembly.Added.TheVariants as answer
 
@@ -18,6 +19,19 @@ pub record IsGathered (slots : List SlotState) (p : PacketFields) (ps : List Pac
   pub among : AreAmong ps (packets_in slots ++ p ∷ [])
   pub in_places : map (λ q. q.place) ps ≡ places (length ps)
   pub whole : is_whole_from 0 ps ≡ true
+
+-- a packet makes its message whole: the body is its pieces, one after another, and has a body's size
+pub record IsRejoined (slots : List SlotState) (p : PacketFields) (w : List Bool) : Type 0 where
+  pub one_message : IsGathered slots p (gathered slots p)
+  pub bits : w ≡ joined (gathered slots p)
+  pub size : IsBodySize (length w)
+
+-- an answer that gives a body gives one of a body's size
+abbrev pub HasBodySize : Added → Type 0
+HasBodySize answer.Kept = Unit {0}
+HasBodySize (answer.Whole w) = IsBodySize (length w)
+HasBodySize answer.Old = Unit {0}
+HasBodySize answer.Full = Unit {0}
 
 -- ---- the pieces of one message
 
@@ -49,3 +63,36 @@ answer_to w ks place =
 abbrev pub after : Flow → ℕ → List Bool → List SlotState → List ℕ → List SlotState
 after flow number w slots [] = slots
 after flow number w slots (k ∷ ks) = added (after flow number w slots ks) (piece_packet flow number w k)
+
+-- ---- a message among others
+
+-- what can come while a message's pieces are held: a piece of it, a packet of another flow, or that the slot of another flow
+-- is emptied
+pub data Event : Type 0 where
+  Piece : (place : ℕ) → Event
+  Other : (packet : PacketFields) → Event
+  Emptied : (flow : Flow) → Event
+
+-- a piece of the message is one of the body, and all else is of other flows
+abbrev pub IsAmongOthers : Flow → List Bool → Event → Type 0
+IsAmongOthers flow w (Piece k) = k < piece_count w
+IsAmongOthers flow w (Other p) = same_flow flow (flow_of p) ≡ false
+IsAmongOthers flow w (Emptied g) = same_flow flow g ≡ false
+
+-- the places of the pieces that came, the newest first, after those that came before
+abbrev pub places_in : List Event → List ℕ → List ℕ
+places_in [] ks = ks
+places_in (Piece k ∷ events) ks = k ∷ places_in events ks
+places_in (Other p ∷ events) ks = places_in events ks
+places_in (Emptied g ∷ events) ks = places_in events ks
+
+-- the slots after one event
+abbrev pub after_event : Flow → ℕ → List Bool → Event → List SlotState → List SlotState
+after_event flow number w (Piece k) slots = added slots (piece_packet flow number w k)
+after_event flow number w (Other p) slots = added slots p
+after_event flow number w (Emptied g) slots = without slots g
+
+-- the slots after events, the newest first
+abbrev pub after_events : Flow → ℕ → List Bool → List SlotState → List Event → List SlotState
+after_events flow number w slots [] = slots
+after_events flow number w slots (e ∷ events) = after_event flow number w e (after_events flow number w slots events)

@@ -1,12 +1,12 @@
 -- Messages in reassembly (Heart et al., SJCC 1970: the destination IMP collects a message's packets).
 --
--- The slots are a list in order of their flows. Callers rely on no order: nothing that they are told names a slot's place.
+-- The slots are a list in order of their flows. Callers can't rely on that order: nothing that they are told names a slot's place.
 use Rattle.std.specs.Prelude.{◌≡◌, ℕ, ◌+◌, ◌≤◌, ◌<◌, Bool, true, false, not, List, [], ◌∷◌, length, Option, Some, None, nat_lt, ◌==◌, ◌||◌, ◌&&◌, if◌then◌else◌, filter, All}
 use Rattle.std.specs.List.{find, list_any, flat_map}
-use Rattle.leader1822.specs.Mailboxes.{same_flow}
+use Rattle.leader1822.specs.Flow.{same_flow, flow_before}
 use Rattle.leader1822.specs.declared.address.Flow.{Flow}
-use Rattle.packetiser.specs.PacketFields.{PacketFields, flow_of}
-use Rattle.packetiser.specs.declared.format.TheConstants.{SLOTS}
+use Rattle.packetiser.specs.Limits.{slot_count}
+use Rattle.packetiser.specs.PacketFields.{PacketFields, IsPacket, flow_of}
 use Rattle.packetiser.specs.declared.packet.PacketKind.TheVariants as kind
 use Rattle.packetiser.specs.declared.reassembly.Outcome.{Outcome}
 use Rattle.packetiser.specs.declared.reassembly.Outcome.TheVariants as outcome
@@ -15,24 +15,11 @@ use Rattle.packetiser.specs.declared.reassembly.Added.TheVariants as answer
 
 -- ---- the state
 
--- a slot: the flow and number of a message, and its pieces that came, in order of their places
+-- a slot: the flow and number of a message, and those of its pieces that came, in order of their places
 pub record SlotState : Type 0 where
   pub flow : Flow
   pub number : ℕ
   pub pieces : List PacketFields
-
--- the numbers that a flow goes by
-abbrev pub numbers_of : Flow → List ℕ
-numbers_of f = f.source.imp ∷ f.source.host ∷ f.destination.imp ∷ f.destination.host ∷ f.link.0 ∷ []
-
--- one list of numbers is below another: it is so where they first differ
-abbrev pub is_below : List ℕ → List ℕ → Bool
-is_below [] ys = false
-is_below (x ∷ xs) [] = false
-is_below (x ∷ xs) (y ∷ ys) = nat_lt x y || x == y && is_below xs ys
-
-abbrev pub comes_before : Flow → Flow → Bool
-comes_before f g = is_below (numbers_of f) (numbers_of g)
 
 -- a piece of the message of this flow and number
 pub record IsPieceFor (f : Flow) (number : ℕ) (p : PacketFields) : Type 0 where
@@ -40,18 +27,26 @@ pub record IsPieceFor (f : Flow) (number : ℕ) (p : PacketFields) : Type 0 wher
   pub flow : flow_of p ≡ f
   pub same_number : p.number ≡ number
 
--- a slot holds pieces of its message, at least one
+-- the places of pieces rise, so each place stands there at most once
+abbrev pub PlacesRise : List PacketFields → Type 0
+PlacesRise [] = Unit {0}
+PlacesRise (q ∷ qs) = All (λ r. q.place < r.place) qs × PlacesRise qs
+
+-- a slot holds pieces of its message, at least one; each is a packet by the format, and each has a place of its own
 pub record IsSlot (s : SlotState) : Type 0 where
   pub some : 0 < length s.pieces
   pub pieces : All (IsPieceFor s.flow s.number) s.pieces
+  pub packets : All IsPacket s.pieces
+  pub places : PlacesRise s.pieces
 
 -- the slots stand in order of their flows, so that there is at most one for each
 abbrev pub IsInOrder : List SlotState → Type 0
 IsInOrder [] = Unit {0}
-IsInOrder (s ∷ slots) = All (λ t. comes_before s.flow t.flow ≡ true) slots × IsInOrder slots
+IsInOrder (s ∷ slots) = All (λ t. flow_before s.flow t.flow ≡ true) slots × IsInOrder slots
 
+-- the slots of an IMP: at most eight, and at most one for each flow
 pub record IsTable (slots : List SlotState) : Type 0 where
-  pub few : length slots ≤ SLOTS
+  pub few : length slots ≤ slot_count
   pub in_order : IsInOrder slots
   pub sound : All IsSlot slots
 
@@ -76,11 +71,12 @@ packets_in slots = flat_map (λ s. s.pieces) slots
 
 -- ---- one packet
 
--- a piece that is held leaves no place for a packet: it has the same place, or it is a last one below it, or the packet is
--- a last one below the piece
+-- a packet contradicts a piece that is held, or repeats it: the two have the same place, or one of them is the last of its
+-- message and lies below the other
 abbrev pub rules_out : PacketFields → PacketFields → Bool
 rules_out p q = q.place == p.place || q.last && nat_lt q.place p.place || p.last && nat_lt p.place q.place
 
+-- whether a packet contradicts or repeats one of the pieces
 abbrev pub is_old : List PacketFields → PacketFields → Bool
 is_old pieces p = list_any (rules_out p) pieces
 
@@ -89,7 +85,7 @@ abbrev pub with_piece : PacketFields → List PacketFields → List PacketFields
 with_piece p [] = p ∷ []
 with_piece p (q ∷ qs) = if nat_lt q.place p.place then q ∷ with_piece p qs else p ∷ q ∷ qs
 
--- the pieces have the places from this one on, one after another, up to a last one, behind which there is none
+-- the places of the pieces go up by one from this place on; the final piece is marked as the last, and no other is
 abbrev pub is_whole_from : ℕ → List PacketFields → Bool
 is_whole_from place [] = false
 is_whole_from place (q ∷ qs) = q.place == place && (if q.last then length qs == 0 else is_whole_from (place + 1) qs)
@@ -113,13 +109,13 @@ abbrev pub put : SlotState → List SlotState → List SlotState
 put s [] = s ∷ []
 put s (t ∷ ts) =
     if same_flow s.flow t.flow then s ∷ ts
-    else (if comes_before t.flow s.flow then t ∷ put s ts else s ∷ t ∷ ts)
+    else (if flow_before t.flow s.flow then t ∷ put s ts else s ∷ t ∷ ts)
 
 -- a packet's flow has a slot, or one is free
 abbrev pub has_room : List SlotState → Flow → Bool
-has_room slots f = list_any (λ s. same_flow f s.flow) slots || nat_lt (length slots) SLOTS
+has_room slots f = list_any (λ s. same_flow f s.flow) slots || nat_lt (length slots) slot_count
 
--- what becomes of a packet. Pieces of another number than the packet's aren't looked at: they go
+-- what becomes of a packet; pieces of another number on its flow count as not held
 abbrev pub outcome_of : List SlotState → PacketFields → Outcome
 outcome_of slots p =
     if is_old (kept_for slots p) p then outcome.Old
@@ -133,6 +129,7 @@ answer_by outcome.Whole slots p = answer.Whole (joined (gathered slots p))
 answer_by outcome.Old slots p = answer.Old
 answer_by outcome.Full slots p = answer.Full
 
+-- what a packet is answered
 abbrev pub answer_of : List SlotState → PacketFields → Added
 answer_of slots p = answer_by (outcome_of slots p) slots p
 
@@ -150,6 +147,18 @@ added_by outcome.Full slots p = slots
 abbrev pub added : List SlotState → PacketFields → List SlotState
 added slots p = added_by (outcome_of slots p) slots p
 
--- an order of the slots, which isn't said: callers rely on each slot standing in it once
+-- whether a packet with this outcome takes memory, where these pieces of its message are held: a piece that is kept does, and
+-- so does joining several pieces; the one piece of a message is its body already
+abbrev pub grows_by : Outcome → List PacketFields → Bool
+grows_by outcome.Kept held = true
+grows_by outcome.Whole held = nat_lt 0 (length held)
+grows_by outcome.Old held = false
+grows_by outcome.Full held = false
+
+-- whether taking a packet takes memory
+abbrev pub grows : List SlotState → PacketFields → Bool
+grows slots p = grows_by (outcome_of slots p) (kept_for slots p)
+
+-- an order of the slots that isn't told: callers rely only on each slot standing in it once
 unfoldable pub in_some_order : List SlotState → List SlotState
 in_some_order slots = slots

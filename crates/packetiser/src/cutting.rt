@@ -1,11 +1,11 @@
 //! Cutting a message into packets.
 
-ghost use Rattle.std.specs.Prelude.{◌≡◌, ◌+◌, ◌*◌, ◌<◌, ◌≤◌, length};
+ghost use Rattle.std.specs.Prelude.{◌≡◌, ◌+◌, ◌*◌, ◌<◌, ◌≤◌, length, IfOk};
 ghost use Rattle.bit_messages.specs.Body.{body};
 ghost use Rattle.packetiser.specs.Faults.{GivesIfMemory};
-ghost use Rattle.packetiser.specs.PacketFields.{IsPacketHost};
 ghost use Rattle.packetiser.specs.Pieces.{piece_count, piece, piece_packet, packets_of, IsBodySize};
 
+use crate::fault::out_of_memory;
 use crate::format::{MAX_PACKETS, PACKET_BITS};
 use crate::{Packet, PacketFault, PacketKind};
 use bit_messages::Bits;
@@ -14,21 +14,30 @@ use std::alloc::Global;
 
 /// The packets of a message with this number: the pieces of its body in order, the last one marked
 /// (Heart et al., SJCC 1970). There are one to eight. The flow's IMPs are numbered from 1 to 16.
+///
+/// Errors: `OutOfMemory` alone.
 #[tactic(auto, using(crate::proofs::Pieces::packets_more))]
 pub fn cut(alloc: Global, message: &HostMessage, number: u8) -> Result<Vec<Packet>, PacketFault>
-    requires source { IsPacketHost message.now.flow.source }
-    requires destination { IsPacketHost message.now.flow.destination }
+    requires source { message.now.flow.source.imp ≤ 16 }
+    requires destination { message.now.flow.destination.imp ≤ 16 }
     ensures { GivesIfMemory (λ packets. packets.items ≡ packets_of message.now.flow number (body message.now.text)) result }
 {
-    let Ok(body) = message.text.bits().pad16(alloc) else {
-        return Err(PacketFault::OutOfMemory);
-    };
+    let body = body_of(alloc, message)?;
     let count = piece_count(&body);
     let mut packets = Vec::with_capacity(alloc, count)?;
     for place in 0..count {
         packets.push(piece_packet(alloc, message.flow, number, &body, place)?)?;
     }
     Ok(packets)
+}
+
+/// The body of a message.
+#[tactic(auto, using(crate::proofs::Pieces::body_sized))]
+fn body_of(alloc: Global, message: &HostMessage) -> Result<Bits, PacketFault>
+    ensures body { GivesIfMemory (λ bits. bits ≡ body message.now.text) result }
+    ensures size { IfOk result (λ bits. IsBodySize (length bits)) }
+{
+    message.text.bits().pad16(alloc).map_err(out_of_memory)
 }
 
 /// How many pieces a body has.
@@ -46,8 +55,8 @@ fn piece_packet(
     body: &Bits,
     place: usize,
 ) -> Result<Packet, PacketFault>
-    requires source { IsPacketHost flow.source }
-    requires destination { IsPacketHost flow.destination }
+    requires source { flow.source.imp ≤ 16 }
+    requires destination { flow.destination.imp ≤ 16 }
     requires size { IsBodySize (length body.now) }
     requires there { place < piece_count body.now }
     ensures { GivesIfMemory (λ packet. packet ≡ piece_packet flow number body.now place) result }
@@ -65,8 +74,5 @@ fn piece(alloc: Global, body: &Bits, place: usize) -> Result<Bits, PacketFault>
 {
     let from = PACKET_BITS * place;
     let to = (from + PACKET_BITS).min(body.len());
-    let Ok(bits) = body.slice(alloc, from, to) else {
-        return Err(PacketFault::OutOfMemory);
-    };
-    Ok(bits)
+    body.slice(alloc, from, to).map_err(out_of_memory)
 }

@@ -3,9 +3,6 @@
 /// The greatest number of an IMP that a packet names.
 pub const MAX_IMP: u8 = 16;
 
-/// How many numbers messages have: a number is one octet.
-pub const NUMBERS: usize = 256;
-
 /// How many octets stand in front of a packet's bits.
 pub const HEADER_OCTETS: usize = 8;
 

@@ -1,15 +1,19 @@
 //! What packets, cutting and reassembly promise, as laws over the definitions that their calls cite. The
-//! functions here do nothing: each clause is the law.
+//! functions here do nothing: each clause is a law.
 
-ghost use Rattle.std.specs.Prelude.{◌≡◌, ℕ, ◌+◌, ◌*◌, ◌<◌, ◌≤◌, Bool, true, false, List, [], ◌∷◌, ◌++◌, length, map, Option, None, Some, Ok, All, IsPermutation};
-ghost use Rattle.bit_messages.specs.Body.{body, most_text_bits};
-ghost use Rattle.leader1822.specs.Mailboxes.{same_flow};
+ghost use Rattle.std.specs.Prelude.{◌≡◌, ℕ, ◌+◌, ◌*◌, ◌<◌, ◌≤◌, Bool, true, false, List, [], ◌∷◌, ◌++◌, length, map};
+ghost use Rattle.std.specs.Prelude.{Option, None, Some, Ok, All, IsPermutation, if◌then◌else◌};
+ghost use Rattle.bit_messages.specs.Body.{body, most_text_bits, has_mark, strip_fault};
+ghost use Rattle.bit_messages.specs.declared.fault.BitFault.TheVariants as bit_fault;
+ghost use Rattle.leader1822.specs.Flow.{same_flow};
 ghost use Rattle.leader1822.specs.declared.address.Flow.{Flow};
 ghost use Rattle.packetiser.specs.PacketFields.{PacketFields, IsPacket, flow_of};
 ghost use Rattle.packetiser.specs.Format.{spelling, read_of};
-ghost use Rattle.packetiser.specs.Pieces.{piece_count, piece_packet, places, packets_of, IsBodySize, IsPieceOf};
-ghost use Rattle.packetiser.specs.Slots.{SlotState, IsTable, IsPieceFor, slot_of, kept_for, gathered, joined, is_whole_from, outcome_of, answer_of, added, without, packets_in, in_some_order, pieces_at, has_room};
-ghost use Rattle.packetiser.specs.Rejoining.{AreAmong, IsGathered, Holds, answer_to, all_came, after};
+ghost use Rattle.packetiser.specs.Pieces.{piece_count, piece_packet, places, packets_of, IsBodySize, CarriesPieceOf};
+ghost use Rattle.packetiser.specs.Slots.{SlotState, IsTable, IsPieceFor, slot_of, kept_for, gathered, joined, is_whole_from};
+ghost use Rattle.packetiser.specs.Slots.{outcome_of, answer_of, added, without, packets_in, in_some_order, pieces_at, has_room};
+ghost use Rattle.packetiser.specs.Rejoining.{AreAmong, IsGathered, IsRejoined, Holds, answer_to, all_came, after};
+ghost use Rattle.packetiser.specs.Rejoining.{Event, IsAmongOthers, places_in, after_events};
 ghost use Rattle.packetiser.specs.declared.packet.PacketKind.TheVariants as kind;
 ghost use Rattle.packetiser.specs.declared.reassembly.Outcome.TheVariants as outcome;
 ghost use Rattle.packetiser.specs.declared.reassembly.Added.TheVariants as answer;
@@ -29,7 +33,7 @@ pub fn spellings()
 /// A message is cut into pieces that are its body.
 pub fn cutting()
     // each packet is a piece of its body, with its flow and number
-    ensures pieces { (flow : Flow) (number : ℕ) (w : List Bool) → All (IsPieceFor flow number) (packets_of flow number w) × All (IsPieceOf w) (packets_of flow number w) }
+    ensures pieces { (flow : Flow) (number : ℕ) (w : List Bool) → All (IsPieceFor flow number) (packets_of flow number w) × All (CarriesPieceOf w) (packets_of flow number w) }
 
     // they are the whole of it, in order
     ensures whole { (flow : Flow) (number : ℕ) (w : List Bool) → 0 < length w → is_whole_from 0 (packets_of flow number w) ≡ true }
@@ -43,22 +47,33 @@ pub fn cutting()
 /// Pieces of one body, one for each of its places, are the body, whatever packets they came in.
 pub fn joining()
     // pieces at the places from 0 on, one after another, up to a marked one
-    ensures up_to_last { (w : List Bool) (ps : List PacketFields) → All (IsPieceOf w) ps → is_whole_from 0 ps ≡ true → joined ps ≡ w }
+    ensures up_to_last { (w : List Bool) (ps : List PacketFields) → All (CarriesPieceOf w) ps → is_whole_from 0 ps ≡ true → joined ps ≡ w }
 
     // pieces at all places
-    ensures all_places { (w : List Bool) (ps : List PacketFields) → All (IsPieceOf w) ps → map (λ q. q.place) ps ≡ places (piece_count w) → joined ps ≡ w }
+    ensures all_places { (w : List Bool) (ps : List PacketFields) → All (CarriesPieceOf w) ps → map (λ q. q.place) ps ≡ places (piece_count w) → joined ps ≡ w }
 {}
 
 /// The pieces of one message rejoin to its body, in whatever order and however often they come.
 pub fn rejoining()
-    // where nothing of the message is held and a slot is there, a piece that came is Old, the last missing one gives Whole
-    // of the body, any other is Kept
+    // where nothing of the message is held and there is room for it, a piece that came already is Old, the last missing one
+    // is Whole with the body, and any other is Kept
     ensures any_order { (flow : Flow) (number : ℕ) (w : List Bool) (slots : List SlotState) (ks : List ℕ) (k : ℕ) → Holds flow number w [] slots → All (λ j. j < piece_count w) (k ∷ ks) → all_came w ks ≡ false → answer_of (after flow number w slots ks) (piece_packet flow number w k) ≡ answer_to w ks k }
 
-    // the same one piece at a time, whatever came between of other flows: what the piece is answered, what is held then,
-    // and that packets and discards of other flows don't touch it
+    // the same one piece at a time: what the piece is answered, and what is held then
     ensures answered { (flow : Flow) (number : ℕ) (w : List Bool) (slots : List SlotState) (ks : List ℕ) (k : ℕ) → Holds flow number w ks slots → k < piece_count w → answer_of slots (piece_packet flow number w k) ≡ answer_to w ks k }
     ensures held { (flow : Flow) (number : ℕ) (w : List Bool) (slots : List SlotState) (ks : List ℕ) (k : ℕ) → Holds flow number w ks slots → k < piece_count w → all_came w (k ∷ ks) ≡ false → Holds flow number w (k ∷ ks) (added slots (piece_packet flow number w k)) }
+
+    // a flow that has a slot has room
+    ensures room { (slots : List SlotState) (f : Flow) (s : SlotState) → slot_of slots f ≡ Some s → has_room slots f ≡ true }
+
+    // once a piece of the message is held, packets of other flows and emptied slots of other flows change nothing of it
+    ensures undisturbed { (flow : Flow) (number : ℕ) (w : List Bool) (slots : List SlotState) (ks : List ℕ) (j : ℕ) (p : PacketFields) → Holds flow number w (j ∷ ks) slots → j < piece_count w → same_flow flow (flow_of p) ≡ false → Holds flow number w (j ∷ ks) (added slots p) }
+    ensures still_there { (flow : Flow) (number : ℕ) (w : List Bool) (slots : List SlotState) (ks : List ℕ) (j : ℕ) (g : Flow) → Holds flow number w (j ∷ ks) slots → j < piece_count w → same_flow flow g ≡ false → Holds flow number w (j ∷ ks) (without slots g) }
+
+    // so the message is rejoined whatever comes of other flows in between
+    ensures interleaved { (flow : Flow) (number : ℕ) (w : List Bool) (slots : List SlotState) (ks : List ℕ) (j k : ℕ) (events : List Event) → Holds flow number w (j ∷ ks) slots → j < piece_count w → k < piece_count w → All (IsAmongOthers flow w) events → all_came w (places_in events (j ∷ ks)) ≡ false → answer_of (after_events flow number w slots events) (piece_packet flow number w k) ≡ answer_to w (places_in events (j ∷ ks)) k }
+
+    // a packet and an emptied slot touch their own flow's slot alone
     ensures other_packets { (slots : List SlotState) (p : PacketFields) (f : Flow) → same_flow f (flow_of p) ≡ false → slot_of (added slots p) f ≡ slot_of slots f }
     ensures other_discards { (slots : List SlotState) (f g : Flow) → same_flow f g ≡ false → slot_of (without slots g) f ≡ slot_of slots f }
     ensures discarded { (slots : List SlotState) (f : Flow) → slot_of (without slots f) f ≡ None }
@@ -81,8 +96,15 @@ pub fn holding()
     // a whole body is joined of pieces of one message
     ensures whole { (slots : List SlotState) (p : PacketFields) → IsTable slots → p.kind ≡ kind.Data → outcome_of slots p ≡ outcome.Whole → IsGathered slots p (gathered slots p) × (answer_of slots p ≡ answer.Whole (joined (gathered slots p))) }
 
+    // the same from the answer, and such a body has 16 to 8064 bits in units of sixteen
+    ensures body { (slots : List SlotState) (p : PacketFields) (w : List Bool) → IsTable slots → IsPacket p → p.kind ≡ kind.Data → answer_of slots p ≡ answer.Whole w → IsRejoined slots p w }
+
+    // a list of bits of that size is stripped to a text unless it has no mark
+    ensures stripped { (w : List Bool) → IsBodySize (length w) → strip_fault w ≡ (if has_mark w then None else Some bit_fault.NoMark) }
+
     // there stay at most eight slots, one for each flow, with pieces of one message each
-    ensures table { (slots : List SlotState) (p : PacketFields) → IsTable slots → p.kind ≡ kind.Data → IsTable (added slots p) }
+    ensures table { (slots : List SlotState) (p : PacketFields) → IsTable slots → IsPacket p → p.kind ≡ kind.Data → IsTable (added slots p) }
+    ensures emptied { (slots : List SlotState) (f : Flow) → IsTable slots → IsTable (without slots f) }
 
     // the order in which slots are named has each of them once
     ensures named { (slots : List SlotState) → IsPermutation (in_some_order slots) slots }

@@ -1,12 +1,15 @@
 //! Packets and their octets.
 
-ghost use Rattle.std.specs.Prelude.{◌≡◌, ℕ, ◌<◌, ◌≤◌, Bool, List, ◌∷◌, length, nat_lt, nat_le, Option, Some, None, Result, Ok, Err, IfOk, true};
+ghost use Rattle.std.specs.Prelude.{◌≡◌, ℕ, ◌<◌, ◌≤◌, Bool, List, [], length, Result, Ok, Err, IfOk, true};
 ghost use Rattle.std.specs.Bool.{OnFalse};
-ghost use Rattle.packetiser.specs.PacketFields.{PacketFields, flow_of, IsPacket, IsPacketHost, Carries};
+ghost use Rattle.packetiser.specs.PacketFields.{PacketFields, flow_of, IsPacket, Carries};
 ghost use Rattle.packetiser.specs.Faults.{Gives, GivesIfMemory};
-ghost use Rattle.packetiser.specs.Format.{spelling, read_of, kind_octet, kind_of, host_of, is_address, is_short, is_not_canonical, is_bad_length, bit_count, octet_count, is_last, place_of, place_octet};
+ghost use Rattle.packetiser.specs.Format.{spelling, read_of, kind_octet, kind_of, host_of, is_address};
+ghost use Rattle.packetiser.specs.Format.{is_short, is_not_canonical, is_bad_length, bit_count, octet_count, place_octet};
+ghost use Rattle.packetiser.specs.declared.fault.PacketFault.TheVariants as fault;
 
 use crate::PacketFault;
+use crate::fault::out_of_memory;
 use crate::format::{HEADER_OCTETS, MAX_IMP, MAX_PACKETS, PACKET_BITS};
 use bit_messages::Bits;
 use leader1822::{Flow, HostAddr, Link};
@@ -24,11 +27,12 @@ pub enum PacketKind {
     Dead,
 }
 
-/// A packet: a piece of a message, or what became of one (Heart et al., SJCC 1970).
+/// A packet: a piece of a message, or an answer that tells what became of one (Heart et al., SJCC 1970).
 ///
-/// An answer names its message's source and destination like a piece of it does, and travels to the
-/// source. IMPs are numbered from 1 to 16 here. A piece has a place of 0 to 7, 16 to 1008 bits in units of
-/// sixteen, and all pieces of a message but its last have 1008.
+/// An answer names its message's source and destination as a piece of the message does, and travels to
+/// the source. IMPs are numbered from 1 to 16 here. A piece has a place from 0 to 7 and 16 to 1008 bits in
+/// units of sixteen; each piece of a message but the last has 1008. No value of this type is outside the
+/// format.
 #[derive(Debug, Drop)]
 pub struct Packet {
     kind: PacketKind,
@@ -52,9 +56,9 @@ impl Model for Packet {
 }
 
 impl Packet {
-    /// The packet that says this. The flow's IMPs are numbered from 1 to 16, the place is 0 to 7; a piece
-    /// has 16 to 1008 bits in units of sixteen, 1008 if it isn't the last, and the one at place 7 is the
-    /// last; an answer has place 0, the last flag and no bits.
+    /// The packet with these fields. The flow's IMPs are numbered from 1 to 16, and the place is 0 to 7. A
+    /// piece has 16 to 1008 bits in units of sixteen, 1008 if it isn't the last, and the one at place 7 is
+    /// the last. An answer has place 0, the last flag and no bits.
     pub fn new(
         kind: PacketKind,
         flow: Flow,
@@ -63,9 +67,9 @@ impl Packet {
         last: bool,
         bits: Bits,
     ) -> Packet
-        requires source { IsPacketHost flow.source }
-        requires destination { IsPacketHost flow.destination }
-        requires place { place < MAX_PACKETS }
+        requires source { flow.source.imp ≤ 16 }
+        requires destination { flow.destination.imp ≤ 16 }
+        requires place { place < 8 }
         requires body { Carries kind place last (length bits) }
         ensures { result ≡ record { kind = kind; source = flow.source; destination = flow.destination; link = flow.link.0; number = number; place = place; last = last; bits = bits } }
     {
@@ -86,7 +90,7 @@ impl Packet {
         }
     }
 
-    /// What it is.
+    /// Whether it is a piece or an answer, and which answer.
     pub fn kind(&self) -> PacketKind
         ensures same { result ≡ self.now.kind }
         ensures format { IsPacket self.now }
@@ -134,15 +138,23 @@ impl Packet {
         &self.bits
     }
 
+    /// Its bits, where the packet isn't wanted any more.
+    pub fn into_bits(self) -> Bits
+        ensures { result ≡ self.bits }
+    {
+        self.bits
+    }
+
     /// The packet that these octets spell.
     ///
     /// Errors: `Short` for fewer than 8 octets, or fewer than the number of bits asks for; `NotCanonical`
     /// for an octet 0 above 2, an IMP outside 1 to 16, a bit between place and last flag, place 7 without
     /// the last flag, an answer whose octet 5 isn't 128, and octets after the end; `BadLength` for an
     /// answer with bits, a piece with none, above 1008 or no multiple of 16, and a piece other than the
-    /// last that hasn't 1008.
+    /// last that hasn't 1008; `OutOfMemory` only for a packet with bits.
     pub fn read(alloc: Global, octets: &[u8]) -> Result<Packet, PacketFault>
         ensures exact { Gives (read_of octets.now) result }
+        ensures memory { result ≡ Err fault.OutOfMemory → 0 < bit_count octets.now }
         ensures found { IfOk result (λ packet. octets.now ≡ spelling packet) }
     {
         if is_short(octets) {
@@ -155,9 +167,7 @@ impl Packet {
             return Err(PacketFault::BadLength);
         }
         let (_, body) = octets.split_at(HEADER_OCTETS);
-        let Ok(bits) = Bits::from_octets(alloc, body, bit_count(octets)) else {
-            return Err(PacketFault::OutOfMemory);
-        };
+        let bits = Bits::from_octets(alloc, body, bit_count(octets)).map_err(out_of_memory)?;
         Ok(Packet {
             kind: kind_of(octets[0]),
             source: host_of(octets[1]),
@@ -175,9 +185,8 @@ impl Packet {
         ensures spelled { GivesIfMemory (λ octets. octets.items ≡ spelling self.now) result }
         ensures again { IfOk result (λ octets. read_of octets.items ≡ Ok self.now) }
     {
-        let Ok(bits) = self.bits.to_octets(alloc) else {
-            return Err(PacketFault::OutOfMemory);
-        };
+        let bits = self.bits.to_octets(alloc).map_err(out_of_memory)?;
+        let number = self.number;
         let count = self.bits.len();
         let mut octets = Vec::from_slice(
             alloc,
@@ -186,7 +195,7 @@ impl Packet {
                 self.source.octet(),
                 self.destination.octet(),
                 self.link.0,
-                self.number,
+                number,
                 place_octet(self.place, self.last),
                 (count / 256) as u8,
                 (count % 256) as u8,
@@ -197,11 +206,15 @@ impl Packet {
     }
 }
 
+/// A clone is the same packet. A packet with no bits is cloned without memory.
 impl Clone for Packet {
-    /// The same packet once more.
-    fn clone(&self) -> Result<Packet, AllocError>
-        ensures { IfOk result (λ packet. packet ≡ self.now) }
-    {
+    ghost use Rattle.std.specs.Prelude.{[]};
+
+    ghost is_clone = { λ p q. q ≡ p };
+
+    ghost is_infallible = { λ p. p.bits ≡ [] };
+
+    fn clone(&self) -> Result<Packet, AllocError> {
         Ok(Packet {
             kind: self.kind,
             source: self.source,
@@ -268,7 +281,7 @@ fn bit_count(octets: &[u8]) -> usize
     256 * octets[6] as usize + octets[7] as usize
 }
 
-/// Fewer octets than a header has, or than the number of bits asks for.
+/// Whether there are fewer octets than a header has, or than the number of bits asks for.
 #[tactic(auto, unfolding(crate::specs::Format::is_short))]
 fn is_short(octets: &[u8]) -> bool
     ensures same { result ≡ is_short octets.now }
@@ -285,8 +298,7 @@ fn octet_count(bits: usize) -> usize
     HEADER_OCTETS + bits.div_ceil(8)
 }
 
-/// An unknown kind, an address outside the subnet, a bit set between place and last flag, the greatest
-/// place without the last flag, an answer that isn't one whole packet, or octets after the end.
+/// Whether octets with a header are refused as `NotCanonical`.
 #[tactic(auto, unfolding(crate::specs::Format::is_not_canonical))]
 fn is_not_canonical(octets: &[u8]) -> bool
     requires { HEADER_OCTETS ≤ length octets.now }
@@ -302,7 +314,7 @@ fn is_not_canonical(octets: &[u8]) -> bool
         || octets.len() > octet_count(bit_count(octets))
 }
 
-/// A number of bits that such a packet cannot have.
+/// Whether octets with a header are refused as `BadLength`.
 #[tactic(auto, unfolding(crate::specs::Format::is_bad_length))]
 fn is_bad_length(octets: &[u8]) -> bool
     requires { HEADER_OCTETS ≤ length octets.now }

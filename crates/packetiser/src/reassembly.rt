@@ -1,13 +1,18 @@
 //! Reassembly: pieces of messages that aren't whole yet.
 
-ghost use Rattle.std.specs.Prelude.{◌≡◌, ℕ, ◌<◌, ◌≤◌, ◌++◌, ◌∷◌, [], Bool, true, false, not, List, length, nat_lt, Option, Some, None, IsSome, OnErr, option_map, slice_get, slice_set, slice_index_or, filter, insert, unwrap_or};
+ghost use Rattle.std.specs.Prelude.{◌≡◌, ℕ, ◌<◌, ◌≤◌, ◌++◌, ◌∷◌, [], Bool, true, false, not, List, length, nat_lt};
+ghost use Rattle.std.specs.Prelude.{Option, Some, None, Err, OnErr, IfOk, option_map, slice_get, slice_set, slice_index_or, filter, insert, unwrap_or};
 ghost use Rattle.std.specs.List.{position, position_or_len, list_any};
 ghost use Rattle.std.specs.Option.{option_copied};
-ghost use Rattle.leader1822.specs.Mailboxes.{same_flow};
+ghost use Rattle.leader1822.specs.Flow.{same_flow, flow_before};
 ghost use Rattle.packetiser.specs.Faults.{GivesIfMemory};
-ghost use Rattle.packetiser.specs.PacketFields.{PacketFields, flow_of};
-ghost use Rattle.packetiser.specs.Slots.{SlotState, comes_before, pieces_at, kept_for, is_old, with_piece, is_whole_from, joined, gathered, without, put, has_room, outcome_of, answer_of, added, kept, in_some_order, slot_of, IsTable, IsInOrder};
+ghost use Rattle.packetiser.specs.PacketFields.{PacketFields, IsPacket, flow_of};
+ghost use Rattle.packetiser.specs.Slots.{SlotState, slot_of, pieces_at, kept_for, is_old, with_piece, is_whole_from, joined, gathered};
+ghost use Rattle.packetiser.specs.Slots.{without, put, has_room, outcome_of, answer_of, added, kept, grows, in_some_order, IsTable, IsInOrder};
+ghost use Rattle.packetiser.specs.Rejoining.{HasBodySize};
+ghost use Rattle.packetiser.specs.declared.fault.PacketFault.TheVariants as fault;
 
+use crate::fault::out_of_memory;
 use crate::format::SLOTS;
 use crate::{Packet, PacketFault, PacketKind};
 use bit_messages::Bits;
@@ -15,29 +20,29 @@ use leader1822::Flow;
 use std::alloc::Global;
 use std::marker::Model;
 
-/// What becomes of a packet.
+/// What becomes of a piece.
 #[derive(Clone, Copy, Debug, Drop, PartialEq, Eq)]
 pub enum Outcome {
     /// It is held until its message is whole.
     Kept,
     /// Its message is whole.
     Whole,
-    /// It is dropped: its place is held already, or it contradicts what is held.
+    /// It is dropped, since its place is held already or it contradicts what is held.
     Old,
-    /// It is dropped: there is no slot for its message.
+    /// It is dropped, since there is no slot for its message.
     Full,
 }
 
-/// What became of a packet.
+/// What became of a piece.
 #[derive(Debug, Drop)]
 pub enum Added {
     /// It is held until its message is whole.
     Kept,
-    /// Its message is whole: this is the body.
+    /// Its message is whole, and this is the body.
     Whole(Bits),
-    /// It was dropped: its place was held already, or it contradicted what was held.
+    /// It was dropped, since its place was held already or it contradicted what was held.
     Old,
-    /// It was dropped: there was no slot for its message.
+    /// It was dropped, since there was no slot for its message.
     Full,
 }
 
@@ -76,7 +81,7 @@ impl Slot {
 
     /// Whether its flow comes before this one.
     fn is_before(&self, flow: &Flow) -> bool
-        ensures { result ≡ comes_before self.now.flow flow.now }
+        ensures { result ≡ flow_before self.now.flow flow.now }
     {
         self.flow < *flow
     }
@@ -92,7 +97,7 @@ impl Slot {
         }
     }
 
-    /// Takes one more piece; pieces of another number go.
+    /// Takes one more piece, and drops pieces of another number.
     fn take(&mut self, alloc: Global, packet: Packet) -> Result<(), PacketFault>
         ensures taken { GivesIfMemory (λ _. self.new ≡ record { flow = self.old.flow; number = packet.number; pieces = with_piece packet (pieces_at (Some self.old) packet.number) }) result }
         ensures err { OnErr result (self.new ≡ self.old) }
@@ -110,7 +115,7 @@ impl Slot {
 
 /// The messages in reassembly at an IMP: at most eight, one for each flow.
 ///
-/// A piece is held until all of its message came. A message of one packet needs no slot.
+/// A piece is held until all pieces of its message came. A message of one packet needs no slot.
 #[derive(Debug, Drop)]
 pub struct Reassembly {
     slots: Vec<Slot>,
@@ -157,13 +162,18 @@ impl Reassembly {
     /// Takes a piece of a message.
     ///
     /// A piece is Old where its place is held, where it lies above a last piece, and where it is a last
-    /// piece below one that is held; nothing changes then. Pieces of an earlier number on its flow go. The
-    /// message is Whole with its last missing piece, and its slot is free again. Without a slot for it a
-    /// piece is Full. Without memory nothing changes.
+    /// piece below one that is held; then nothing changes. A piece of another number than its flow's slot
+    /// drops the pieces there. A message is Whole with its last missing piece, and its slot is free again.
+    /// A piece that finds no slot is Full.
+    ///
+    /// Errors: `OutOfMemory` only for a piece that would be Kept, or would make a message of several pieces
+    /// Whole; then nothing changes.
     pub fn add(&mut self, alloc: Global, packet: Packet) -> Result<Added, PacketFault>
         requires { packet.kind ≡ PacketKind.Data }
         ensures exact { GivesIfMemory (λ answer. (answer ≡ answer_of self.old packet) × (self.new ≡ added self.old packet)) result }
+        ensures memory { result ≡ Err fault.OutOfMemory → grows self.old packet ≡ true }
         ensures err { OnErr result (self.new ≡ self.old) }
+        ensures size { IfOk result HasBodySize }
     {
         match self.outcome(&packet) {
             Outcome::Kept => {
@@ -171,8 +181,9 @@ impl Reassembly {
                 Ok(Added::Kept)
             }
             Outcome::Whole => {
-                let body = join(alloc, kept_for(&self.slots, &packet), &packet)?;
-                self.discard(packet.flow());
+                let flow = packet.flow();
+                let body = join(alloc, kept_for(&self.slots, &packet), packet)?;
+                self.discard(flow);
                 Ok(Added::Whole(body))
             }
             Outcome::Old => Ok(Added::Old),
@@ -187,8 +198,8 @@ impl Reassembly {
         clear(&mut self.slots, &flow);
     }
 
-    /// A message in reassembly, by a number below how many there are; each stands at one number, in an
-    /// order that isn't said. `None` past the last.
+    /// The `k`th message in reassembly, counted from 0; `None` past the last. Each message stands at one
+    /// `k`, in an order that isn't told.
     #[tactic(auto, unfolding(crate::specs::Slots::in_some_order))]
     pub fn held(&self, k: usize) -> Option<Held>
         ensures message { result ≡ option_map (λ s. record { flow = s.flow; number = s.number }) (slice_get (in_some_order self.now) k) }
@@ -207,6 +218,7 @@ impl Reassembly {
     /// Holds a piece for which there is a slot.
     fn keep(&mut self, alloc: Global, packet: Packet) -> Result<(), PacketFault>
         requires piece { packet.kind ≡ PacketKind.Data }
+        requires format { IsPacket packet }
         requires room { outcome_of self.old packet ≡ Outcome.Kept }
         ensures kept { GivesIfMemory (λ _. self.new ≡ kept self.old packet) result }
         ensures err { OnErr result (self.new ≡ self.old) }
@@ -264,7 +276,7 @@ fn place_of(slots: &[Slot], flow: &Flow) -> Option<usize>
 /// Where a slot of a flow belongs.
 #[tactic(auto, using(crate::proofs::Slots::position_given))]
 fn place_for(slots: &[Slot], flow: &Flow) -> usize
-    ensures place { result ≡ position_or_len (λ s. not (comes_before s.flow flow.now)) slots.now }
+    ensures place { result ≡ position_or_len (λ s. not (flow_before s.flow flow.now)) slots.now }
     ensures within { result ≤ length slots.now }
 {
     first_after(slots, flow).unwrap_or(slots.len())
@@ -272,7 +284,7 @@ fn place_for(slots: &[Slot], flow: &Flow) -> usize
 
 /// Where the first slot is that doesn't come before a flow's.
 fn first_after(slots: &[Slot], flow: &Flow) -> Option<usize>
-    ensures { result ≡ position (λ s. not (comes_before s.flow flow.now)) slots.now }
+    ensures { result ≡ position (λ s. not (flow_before s.flow flow.now)) slots.now }
 {
     slots.iter().position(|slot| !slot.is_before(flow))
 }
@@ -399,11 +411,15 @@ fn one_piece(alloc: Global, packet: Packet) -> Result<Vec<Packet>, PacketFault>
     Ok(pieces)
 }
 
-/// The bits of pieces and a packet, in order of their places.
-fn join(alloc: Global, pieces: &[Packet], packet: &Packet) -> Result<Bits, PacketFault>
-    ensures { GivesIfMemory (λ bits. bits ≡ joined (with_piece packet.now pieces.now)) result }
+/// The bits of pieces and a packet, in order of their places. A packet alone gives its own bits.
+fn join(alloc: Global, pieces: &[Packet], packet: Packet) -> Result<Bits, PacketFault>
+    ensures joined { GivesIfMemory (λ bits. bits ≡ joined (with_piece packet pieces.now)) result }
+    ensures memory { result ≡ Err fault.OutOfMemory → 0 < length pieces.now }
 {
-    let (front, back) = pieces.split_at(place_among(pieces, packet));
+    if pieces.is_empty() {
+        return Ok(packet.into_bits());
+    }
+    let (front, back) = pieces.split_at(place_among(pieces, &packet));
     let mut bits = Bits::new(alloc);
     append_pieces(&mut bits, front)?;
     append_bits(&mut bits, packet.bits())?;
@@ -425,8 +441,5 @@ fn append_pieces(bits: &mut Bits, pieces: &[Packet]) -> Result<(), PacketFault>
 fn append_bits(bits: &mut Bits, more: &Bits) -> Result<(), PacketFault>
     ensures { GivesIfMemory (λ _. bits.new ≡ bits.old ++ more.now) result }
 {
-    if bits.append(more).is_err() {
-        return Err(PacketFault::OutOfMemory);
-    }
-    Ok(())
+    bits.append(more).map_err(out_of_memory)
 }

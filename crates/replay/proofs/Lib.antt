@@ -1,6 +1,2 @@
-mod Once
-mod OneProgram
-mod Runs
-mod Shown
-mod Taken
-mod Whole
+pub mod Replays
+pub mod Shown

@@ -1,4 +1,4 @@
--- What a run shows, call by call.
+-- What a replay shows, call by call.
 use Rattle.std.proofs.Common.{◌≡◌, ℕ, ◌<◌, ◌+◌, Bool, true, false, List, [], ◌∷◌, ◌++◌, length, get_or, take, drop, reverse, Option, Some, None, Result, Ok, Err, if◌then◌else◌, refl, sym, ap, ◌∙◌, subst, arith, IfErr, OnOk, IsOk}
 use Rattle.std.proofs.lemmas.List.{append_assoc, append-nil, take_more, drop_all, drop_at, reverse-append, reverse-reverse}
 use Rattle.std.proofs.lemmas.Bool.{false≢true}
@@ -13,8 +13,9 @@ use Rattle.leader1822.specs.declared.crossing.Crossing.TheVariants as crossing
 use Rattle.leader1822.specs.declared.crossing.Inbound.{Inbound}
 use Rattle.leader1822.specs.declared.message.HostMessage.{HostMessage}
 use Rattle.script.specs.Input.{ended}
-use Rattle.replay.specs.Output.{Grew, Shown, Writes, Crossed, Refused, shown_text, output, crossings_of, shown_crossings, shown_refusal}
-use Rattle.replay.specs.Run.{Calls, EventGives, GoesOn, Halts, Happens}
+use Rattle.replay.specs.Output.{Shown, Writes, Crossed, Refused, shown_text, output, crossings_of, shown_crossings, shown_refusal}
+use Rattle.replay.specs.Steps.{Grew}
+use Rattle.replay.specs.Replay.{Calls, EventGives, GoesOn, Halts, Happens}
 use Rattle.script.specs.declared.event.Event.{Event}
 
 same_log : (b : Bool) (s : Seen) → (if b then halted s else s).log ≡ s.log

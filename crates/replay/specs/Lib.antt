@@ -1,5 +1,3 @@
-pub mod Faults
 pub mod Output
-pub mod Run
-pub mod Runnable
-pub mod Whole
+pub mod Replay
+pub mod Steps

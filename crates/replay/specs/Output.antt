@@ -1,8 +1,7 @@
--- What a run prints.
-use Rattle.std.specs.Prelude.{◌≡◌, ℕ, List, [], ◌∷◌, ◌++◌, Option, Result, Ok, Err, reverse, codes}
+-- What a replay prints.
+use Rattle.std.specs.Prelude.{ℕ, List, [], ◌∷◌, ◌++◌, Option, Result, Ok, Err, codes}
 use Rattle.std.specs.List.{flat_map}
 use Rattle.std.specs.Io.KnownBytes.{Appends}
-use Rattle.leader1822.specs.Messages.{SafeMessages}
 use Rattle.leader1822.specs.Printed.{crossing_text}
 use Rattle.leader1822.specs.declared.carrier.CarrierFault.{CarrierFault}
 use Rattle.leader1822.specs.declared.carrier.CarrierFault.TheVariants as fault
@@ -22,15 +21,17 @@ fault_name fault.NoRoom = codes "NoRoom"
 fault_name fault.Stopped = codes "Stopped"
 fault_name fault.OutOfMemory = codes "OutOfMemory"
 
--- what is shown, a line each: what crossed, and what was refused
+-- one line that a replay prints: a crossing or a refusal
 pub data Shown : Type 0 where
   Crossed : Crossing → Shown
   Refused : CarrierFault → Shown
 
+-- one line, without its end
 abbrev pub shown_text : Shown → List ℕ
 shown_text (Crossed c) = crossing_text c
 shown_text (Refused f) = codes "refused " ++ fault_name f
 
+-- all lines, each with its end
 abbrev pub output : List Shown → List ℕ
 output shown = flat_map (λ s. ended (shown_text s)) shown
 
@@ -40,27 +41,18 @@ crossings_of [] = []
 crossings_of (Crossed c ∷ shown) = c ∷ crossings_of shown
 crossings_of (Refused f ∷ shown) = crossings_of shown
 
--- what is shown was written, whatever is to be said of it
+-- some lines were written, and this holds of them
 pub record Writes (IsShown : List Shown → Type 0) (before after : Option (List ℕ)) : Type 0 where
   pub shown : List Shown
   pub is_shown : IsShown shown
   pub written : Appends before after (output shown)
 
--- a log that only grew
-pub record Grew (old_log new_log : List Crossing) : Type 0 where
-  pub crossings : List Crossing
-  pub grown : new_log ≡ crossings ++ old_log
-
+-- an event that was refused shows its refusal
 abbrev pub shown_refusal : Result (Unit {0}) CarrierFault → List Shown
 shown_refusal (Ok done) = []
 shown_refusal (Err f) = Refused f ∷ []
 
+-- each crossing is shown
 abbrev pub shown_crossings : List Crossing → List Shown
 shown_crossings [] = []
 shown_crossings (c ∷ crossings) = Crossed c ∷ shown_crossings crossings
-
--- a whole run: what crossed is a log that every host may rely on, and the last line is `end`
-pub record Ran (before after : Option (List ℕ)) : Type 0 where
-  pub shown : List Shown
-  pub written : Appends before after (output shown ++ codes "end\n")
-  pub messages : SafeMessages (reverse (crossings_of shown))

@@ -1,17 +1,15 @@
-//! Replaying a script over a network: what is read, what is run, and what is written.
+//! Replaying a script's events over a carrier.
 //!
-//! An input is a topology, a line `%` and a script. Its events are run in order over a carrier, and every
-//! crossing of the interface between a host and its IMP is written as one line, and so is every refusal.
+//! [`replay_events`] hands each event to the carrier in turn. It writes one line for each crossing of the
+//! interface between a host and its IMP, and one line for each refusal.
 //!
-//! A reader may rely on every input being run or refused by name, and on what is written being what the run
-//! shows. Nothing here knows what a carrier is made of, nor where octets come from and go to.
+//! A caller may rely on three things. Each event goes as the carrier says that its calls may go. What is
+//! written is what the events showed. Where memory runs out, the output ends after the last event that was
+//! replayed whole.
+//!
+//! Nothing here knows what a carrier is made of, where the events come from, or who reads the output.
 #![tactic(auto)]
 
-mod fault;
-pub mod law;
-mod program;
-mod run;
+mod events;
 
-pub use fault::ScriptFault;
-pub use program::run_script;
-pub use run::{RunFault, run_events};
+pub use events::{ReplayFault, replay_events};

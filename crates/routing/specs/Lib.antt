@@ -1,1 +1,4 @@
 pub mod Vector
+pub mod RouteTable
+pub mod Walks
+pub mod Settle

@@ -1,13 +1,20 @@
 -- What an IMP tells its neighbours of its distances (Heart et al., SJCC 1970, routing).
 use Rattle.std.specs.Prelude.{◌≡◌, ℕ, ◌≤◌, Bool, List, length, All, nat_le, ◌==◌, ◌&&◌}
 use Rattle.std.specs.List.{list_all}
-use Rattle.routing.specs.declared.vector.TheConstants.{IMPS, INFINITE}
+
+-- how many IMPs a network can have
+abbrev pub imps : ℕ
+imps = 16
+
+-- the distance of an IMP that no path leads to
+abbrev pub infinite : ℕ
+infinite = 16
 
 -- one distance for each IMP that there can be, none above the infinite one
 pub record IsVector (distances : List ℕ) : Type 0 where
-  pub one_each : length distances ≡ IMPS
-  pub in_range : All (λ d. d ≤ INFINITE) distances
+  pub one_each : length distances ≡ imps
+  pub in_range : All (λ d. d ≤ infinite) distances
 
 -- the same as a test
 abbrev pub is_vector : List ℕ → Bool
-is_vector distances = (length distances == IMPS) && list_all (λ d. nat_le d INFINITE) distances
+is_vector distances = (length distances == imps) && list_all (λ d. nat_le d infinite) distances

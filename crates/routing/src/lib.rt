@@ -8,6 +8,11 @@
 //! of the IMPs' numbers, of which the first is 1. Nothing here says that a distance is right.
 #![tactic(auto)]
 
+pub mod law;
+mod route_table;
+mod settling;
 mod vector;
 
+pub use route_table::RouteTable;
+pub use settling::settle;
 pub use vector::{IMPS, INFINITE, Vector};

@@ -2,8 +2,9 @@
 
 ghost use Rattle.std.specs.Prelude.{◌≡◌, ◌≤◌, ◌↔◌, All, IsTrue, nat_le, Some, None, if◌then◌else◌};
 ghost use Rattle.std.specs.List.{list_all};
-ghost use Rattle.routing.specs.Vector.{IsVector, is_vector};
+ghost use Rattle.routing.specs.Vector.{IsVector, is_vector, infinite};
 
+use std::alloc::AllocError;
 use std::marker::Model;
 
 /// How many IMPs a network can have. They are numbered from 1.
@@ -14,7 +15,7 @@ pub const INFINITE: u8 = 16;
 
 /// The distances of an IMP to IMP 1, IMP 2 and so on to the last: [`IMPS`] of them, each at most
 /// [`INFINITE`].
-#[derive(Clone, Debug, Drop, PartialEq, Eq)]
+#[derive(Debug, Drop, PartialEq, Eq)]
 pub struct Vector {
     distances: [u8; IMPS],
 }
@@ -32,10 +33,23 @@ impl Model for Vector {
     ghost inverse = { λ distances. record { distances = distances } };
 }
 
+impl Clone for Vector {
+    ghost use Rattle.std.specs.Prelude.{◌≡◌, ⊤};
+
+    ghost is_clone = { λ vector copy. copy ≡ vector };
+
+    ghost is_infallible = { λ _. ⊤ };
+
+    /// The same distances. This takes no memory.
+    fn clone(&self) -> Result<Self, AllocError> {
+        Ok(self.copy())
+    }
+}
+
 impl Vector {
     /// The vector with these distances, on the condition that none is above [`INFINITE`].
     pub fn new(distances: [u8; IMPS]) -> Self
-        requires { All (λ d. d ≤ INFINITE) distances }
+        requires { All (λ d. d ≤ infinite) distances }
         ensures { result ≡ distances }
     {
         Vector { distances }
@@ -54,6 +68,15 @@ impl Vector {
         Some(Vector { distances: copy })
     }
 
+    /// The same vector.
+    pub(crate) fn copy(&self) -> Self
+        ensures { result ≡ self.now }
+    {
+        Vector {
+            distances: self.distances,
+        }
+    }
+
     /// The distances, that to IMP 1 first.
     pub fn distances(&self) -> &[u8]
         ensures value { result.now ≡ self.now }
@@ -66,8 +89,8 @@ impl Vector {
 
 /// Whether no distance is above the infinite one.
 fn all_in_range(distances: &[u8]) -> bool
-    ensures test { result ≡ list_all (λ d. nat_le d INFINITE) distances.now }
-    ensures fact { IsTrue result ↔ All (λ d. d ≤ INFINITE) distances.now }
+    ensures test { result ≡ list_all (λ d. nat_le d infinite) distances.now }
+    ensures fact { IsTrue result ↔ All (λ d. d ≤ infinite) distances.now }
 {
     distances.iter().all(|distance| *distance <= INFINITE)
 }

@@ -7,7 +7,8 @@ use Rattle.std.specs.Fmt.{decimal}
 use Rattle.leader1822.specs.Host.{Host, host_at, is_imp}
 use Rattle.leader1822.specs.Printed.{host_text, flow_text}
 use Rattle.leader1822.specs.declared.address.Flow.{Flow}
-use Rattle.script.specs.Spelling.{ReadsAs, ReadsFlow, IsHost, IsFlow, Unmarked}
+use Rattle.script.specs.Spelling.{ReadsAs, IsHost, IsFlow}
+use Rattle.script.specs.Steps.{ReadsFlow, Lacks}
 use Rattle.script.proofs.Numbers.{All-unmarked_decimal}
 use Rattle.script.proofs.Words.{SameCut, SameThree, same_three, same_cut, not_cut, not_front, not_back}
 
@@ -18,7 +19,7 @@ pub record HostRange (h : Host) : Type 0 where
 pub host_range : (h : Host) → IsHost h → HostRange h
 host_range h is = record { host = grind (arith, nat_tests); imp = grind (arith, nat_tests) }
 
-pub host_unmarked : (mark : ℕ) (h : Host) → mark < 47 → IsHost h → Unmarked mark (host_text h)
+pub host_unmarked : (mark : ℕ) (h : Host) → mark < 47 → IsHost h → Lacks mark (host_text h)
 host_unmarked mark h low is =
     let range = host_range h is in
     let small : h.host ≤ 3 = range.host in
@@ -28,20 +29,20 @@ host_unmarked mark h low is =
     All-append P (decimal h.host) (47 ∷ decimal h.imp) (All-unmarked_decimal mark h.host (omega arith) (omega arith)) (All-cons P 47 (decimal h.imp) slash (All-unmarked_decimal mark h.imp (omega arith) (omega arith)))
 
 -- a word without a slash, or with another number on either side of it, is no host
-pub no_slash : (word : List ℕ) → Unmarked 47 word → (h : Host) → IsHost h → word ≢ host_text h
+pub no_slash : (word : List ℕ) → Lacks 47 word → (h : Host) → IsHost h → word ≢ host_text h
 no_slash word unmarked = not_cut 47 word (λ h. decimal h.host) (λ h. decimal h.imp) IsHost unmarked
 
-pub front_unmarked : (h : Host) → IsHost h → Unmarked 47 (decimal h.host)
+pub front_unmarked : (h : Host) → IsHost h → Lacks 47 (decimal h.host)
 front_unmarked h is =
     let small : h.host ≤ 3 = (host_range h is).host in
     All-unmarked_decimal 47 h.host (omega arith) (omega arith)
 
-pub no_number : (word a b : List ℕ) → word ≡ a ++ 47 ∷ b → Unmarked 47 a → ReadsAs decimal (λ n. n < 256) a None → (h : Host) → IsHost h → word ≢ host_text h
+pub no_number : (word a b : List ℕ) → word ≡ a ++ 47 ∷ b → Lacks 47 a → ReadsAs decimal (λ n. n < 256) a None → (h : Host) → IsHost h → word ≢ host_text h
 no_number word a b is unmarked none =
     not_front 47 word a b (λ h. decimal h.host) (λ h. decimal h.imp) IsHost is unmarked front_unmarked
     (λ h meant e. let small : h.host ≤ 3 = (host_range h meant).host in none h.host (omega arith) e)
 
-pub no_imp_number : (word a b : List ℕ) → word ≡ a ++ 47 ∷ b → Unmarked 47 a → ReadsAs decimal (λ n. n < 256) b None → (h : Host) → IsHost h → word ≢ host_text h
+pub no_imp_number : (word a b : List ℕ) → word ≡ a ++ 47 ∷ b → Lacks 47 a → ReadsAs decimal (λ n. n < 256) b None → (h : Host) → IsHost h → word ≢ host_text h
 no_imp_number word a b is unmarked none =
     not_back 47 word a b (λ h. decimal h.host) (λ h. decimal h.imp) IsHost is unmarked front_unmarked
     (λ h meant e. let small : h.imp ≤ 63 = (host_range h meant).imp in none h.imp (omega arith) e)
@@ -54,7 +55,7 @@ made_is true x y h e = sym (some_same e)
 made_is false x y h e = cc
 
 -- two numbers with a slash between name the host that they make
-pub host_read : (word a b : List ℕ) (x y : ℕ) (o : Option Host) → word ≡ a ++ 47 ∷ b → Unmarked 47 a → a ≡ decimal x → b ≡ decimal y → x < 256 → y < 256 → o ≡ host_at x y → ReadsAs host_text IsHost word o
+pub host_read : (word a b : List ℕ) (x y : ℕ) (o : Option Host) → word ≡ a ++ 47 ∷ b → Lacks 47 a → a ≡ decimal x → b ≡ decimal y → x < 256 → y < 256 → o ≡ host_at x y → ReadsAs host_text IsHost word o
 host_read word a b x y (Some h) is unmarked isa isb xl yl made =
     let same : record { imp = y; host = x } ≡ h = made_is (nat_le x 3 && is_imp y) x y h made in
     let text : word ≡ host_text (record { imp = y; host = x }) = is ∙ ap (λ v. v ++ 47 ∷ b) isa ∙ ap (λ v. decimal x ++ 47 ∷ v) isb in
@@ -78,7 +79,7 @@ same_words f R = append_assoc (host_text f.source) (32 ∷ (host_text f.destinat
 pub no_three_words : (words : List ℕ) → ((a b c : List ℕ) → words ≢ a ++ 32 ∷ (b ++ 32 ∷ c)) → (f : Flow) → IsFlow f → words ≢ flow_text f
 no_three_words words none f meant e = none (host_text f.source) (host_text f.destination) (decimal f.link.0) e
 
-pub flow_read : (words a b c : List ℕ) (r : Option Flow) → words ≡ a ++ 32 ∷ (b ++ 32 ∷ c) → Unmarked 32 a → Unmarked 32 b → ReadsFlow a b c r → ReadsAs flow_text IsFlow words r
+pub flow_read : (words a b c : List ℕ) (r : Option Flow) → words ≡ a ++ 32 ∷ (b ++ 32 ∷ c) → Lacks 32 a → Lacks 32 b → ReadsFlow a b c r → ReadsAs flow_text IsFlow words r
 flow_read words a b c (Some f) is ha hb (s, d, l, meant) =
     (is ∙ ap (λ v. v ++ 32 ∷ (b ++ 32 ∷ c)) s ∙ ap (λ v. host_text f.source ++ 32 ∷ (v ++ 32 ∷ c)) d ∙ ap (λ v. host_text f.source ++ 32 ∷ (host_text f.destination ++ 32 ∷ v)) l, meant)
 flow_read words a b c None is ha hb none = λ f meant e.

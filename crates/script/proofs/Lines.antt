@@ -5,8 +5,8 @@ use Rattle.std.proofs.lemmas.List.Sums.{count_by-le-length}
 use Rattle.std.proofs.lemmas.List.Splits.{length-slice_split, slice_split_at, slice_split_none}
 use Rattle.std.proofs.lemmas.List.Elements.{All-append, All-cons, All-nil, filter-append}
 use Rattle.std.specs.List.{All}
-use Rattle.script.specs.Script.{lines_of, is_passed_over, asks, AskFor, IsFirstBad}
-use Rattle.script.specs.Spelling.{spelling, IsEvent}
+use Rattle.script.specs.Script.{lines_of, is_passed_over, asks, AskFor, IsFirstBad, IsReached, RanOut}
+use Rattle.script.specs.Spelling.{spelling, IsEvent, WantsMemory}
 use Rattle.script.specs.declared.event.Event.{Event}
 
 -- the first line is what stands before the first octet 10
@@ -71,16 +71,22 @@ ask_next events lines line e asked_for is meant asked =
 pub ask_none : (events : List Event) → events ≡ [] → AskFor events []
 ask_none events none = record { spelled = ap (map spelling) none; meant = subst (All IsEvent) (sym none) (All-nil IsEvent) }
 
--- the line behind those that were read is the first that is bad
-pub first_bad : (text : List ℕ) (n : ℕ) (line : List ℕ) (rest : List (List ℕ)) (events : List Event) → drop n (lines_of text) ≡ line ∷ rest → is_passed_over line ≡ false → ((e : Event) → IsEvent e → line ≢ spelling e) → AskFor events (take n (lines_of text)) → IsFirstBad text (n + 1)
-first_bad text n line rest events here asking bad asked =
+-- the line after those that were read is reached
+reached : (text : List ℕ) (n : ℕ) (line : List ℕ) (rest : List (List ℕ)) (events : List Event) → drop n (lines_of text) ≡ line ∷ rest → is_passed_over line ≡ false → AskFor events (take n (lines_of text)) → IsReached text (n + 1) line
+reached text n line rest events here asking asked =
     let back : n + 1 - 1 ≡ n = omega arith in
     record {
       counted = omega arith;
-      line = line;
       there = ap (slice_get (lines_of text)) back ∙ get_next n (lines_of text) rest line here;
       asks = ap not asking;
-      bad = bad;
       events = events;
       before = subst (λ k. AskFor events (take k (lines_of text))) (sym back) asked;
     }
+
+-- it is the first that is bad
+pub first_bad : (text : List ℕ) (n : ℕ) (line : List ℕ) (rest : List (List ℕ)) (events : List Event) → drop n (lines_of text) ≡ line ∷ rest → is_passed_over line ≡ false → ((e : Event) → IsEvent e → line ≢ spelling e) → AskFor events (take n (lines_of text)) → IsFirstBad text (n + 1)
+first_bad text n line rest events here asking bad asked = record { line = line; reached = reached text n line rest events here asking asked; bad = bad }
+
+-- memory ran out at it
+pub ran_out : (text : List ℕ) (n : ℕ) (line : List ℕ) (rest : List (List ℕ)) (events : List Event) → drop n (lines_of text) ≡ line ∷ rest → is_passed_over line ≡ false → WantsMemory line → AskFor events (take n (lines_of text)) → RanOut text
+ran_out text n line rest events here asking wants asked = record { number = n + 1; line = line; reached = reached text n line rest events here asking asked; wants = wants }

@@ -1,10 +1,12 @@
 -- Messages as words.
-use Rattle.std.proofs.Common.{◌≡◌, ◌≢◌, ℕ, ◌<◌, ◌≤◌, List, ◌∷◌, ◌++◌, length, None, sym, ◌∙◌, arith, lit<}
+use Rattle.std.proofs.Common.{◌≡◌, ◌≢◌, ℕ, ◌<◌, ◌≤◌, List, ◌∷◌, ◌++◌, length, Some, None, refl, sym, ap, ◌∙◌, arith, lit<}
 use Rattle.std.proofs.lemmas.Fmt.{decimal_injective}
 use Rattle.std.specs.Fmt.{decimal}
 use Rattle.leader1822.specs.Printed.{host_text}
 use Rattle.leader1822.specs.declared.message.HostMessage.{HostMessage}
-use Rattle.script.specs.Spelling.{ReadsAs, ReadsFlow, IsMessage, message_text, octets_text, Unmarked}
+use Rattle.leader1822.specs.declared.address.Flow.{Flow}
+use Rattle.script.specs.Spelling.{ReadsAs, IsHex, IsMessage, IsTextRead, message_text, octets_text}
+use Rattle.script.specs.Steps.{ReadsFlow, Lacks}
 use Rattle.script.proofs.Numbers.{All-unmarked_decimal}
 use Rattle.script.proofs.Words.{SameThree, same_three}
 use Rattle.script.proofs.Hosts.{host_unmarked, same_words}
@@ -14,12 +16,12 @@ pub message_words : (m : HostMessage) → message_text m ≡ host_text m.flow.so
 message_words m = same_words m.flow (decimal (length m.text) ++ 32 ∷ octets_text m.text)
 
 -- words that are cut twice, and the two words that a message begins with
-begins_alike : (words s d rest : List ℕ) (m : HostMessage) → IsMessage m → words ≡ s ++ 32 ∷ (d ++ 32 ∷ rest) → Unmarked 32 s → Unmarked 32 d → words ≡ message_text m → SameThree s d rest (host_text m.flow.source) (host_text m.flow.destination) (decimal m.flow.link.0 ++ 32 ∷ (decimal (length m.text) ++ 32 ∷ octets_text m.text))
+begins_alike : (words s d rest : List ℕ) (m : HostMessage) → IsMessage m → words ≡ s ++ 32 ∷ (d ++ 32 ∷ rest) → Lacks 32 s → Lacks 32 d → words ≡ message_text m → SameThree s d rest (host_text m.flow.source) (host_text m.flow.destination) (decimal m.flow.link.0 ++ 32 ∷ (decimal (length m.text) ++ 32 ∷ octets_text m.text))
 begins_alike words s d rest m meant is hs hd e =
     same_three 32 s d rest (host_text m.flow.source) (host_text m.flow.destination) (decimal m.flow.link.0 ++ 32 ∷ (decimal (length m.text) ++ 32 ∷ octets_text m.text)) hs hd
     (host_unmarked 32 m.flow.source (lit< tt) meant.0.0) (host_unmarked 32 m.flow.destination (lit< tt) meant.0.1) (sym is ∙ e ∙ message_words m)
 
-pub too_few_words : (words s d rest : List ℕ) → words ≡ s ++ 32 ∷ (d ++ 32 ∷ rest) → Unmarked 32 s → Unmarked 32 d → ((a b c : List ℕ) → rest ≢ a ++ 32 ∷ (b ++ 32 ∷ c)) → (m : HostMessage) → IsMessage m → words ≢ message_text m
+pub too_few_words : (words s d rest : List ℕ) → words ≡ s ++ 32 ∷ (d ++ 32 ∷ rest) → Lacks 32 s → Lacks 32 d → ((a b c : List ℕ) → rest ≢ a ++ 32 ∷ (b ++ 32 ∷ c)) → (m : HostMessage) → IsMessage m → words ≢ message_text m
 too_few_words words s d rest is hs hd none m meant e =
     let same = begins_alike words s d rest m meant is hs hd e in
     none (decimal m.flow.link.0) (decimal (length m.text)) (octets_text m.text) same.third
@@ -29,10 +31,10 @@ pub record CutInFive (words s d l n h : List ℕ) : Type 0 where
   pub rest : List ℕ
   pub front : words ≡ s ++ 32 ∷ (d ++ 32 ∷ rest)
   pub back : rest ≡ l ++ 32 ∷ (n ++ 32 ∷ h)
-  pub source : Unmarked 32 s
-  pub destination : Unmarked 32 d
-  pub link : Unmarked 32 l
-  pub count : Unmarked 32 n
+  pub source : Lacks 32 s
+  pub destination : Lacks 32 d
+  pub link : Lacks 32 l
+  pub count : Lacks 32 n
 
 record SameFive (s d l n h : List ℕ) (m : HostMessage) : Type 0 where
   source : s ≡ host_text m.flow.source
@@ -65,3 +67,16 @@ no_text words s d l n h count cut is few none m meant e =
     let short : length m.text ≤ 8063 = meant.1 in
     let counted : count ≡ length m.text = decimal_injective count (length m.text) (omega arith) (omega arith) (sym is ∙ same.count) in
     none m.text (sym counted) same.octets
+
+-- five words of which the first four are good
+pub text_read : (words s d l n h : List ℕ) (f : Flow) (count : ℕ) → CutInFive words s d l n h → ReadsFlow s d l (Some f) → n ≡ decimal count → count ≤ 8063 → IsHex h → IsTextRead words
+text_read words s d l n h f count cut (source, destination, link, meant) is few hex = record {
+  flow = f;
+  count = count;
+  word = h;
+  spelled = cut.front ∙ ap (λ rest. s ++ 32 ∷ (d ++ 32 ∷ rest)) cut.back
+      ∙ rw (source, destination, link, is) refl ∙ sym (same_words f (decimal count ++ 32 ∷ h));
+  meant = meant;
+  few = few;
+  hex = hex;
+}

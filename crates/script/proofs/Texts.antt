@@ -1,15 +1,16 @@
 -- Texts of messages as words.
-use Rattle.std.proofs.Common.{◌≡◌, ◌≢◌, ℕ, ◌<◌, ◌≤◌, ◌+◌, ◌*◌, Bool, false, List, [], ◌∷◌, length, take, replicate, Result, Ok, Err, refl, sym, ap, ◌∙◌, arith, length-append, lit<, zero, suc, Option, Some, None, IsSome, IfSome}
+use Rattle.std.proofs.Common.{◌≡◌, ◌≢◌, ℕ, ◌<◌, ◌≤◌, ◌+◌, ◌*◌, ◌%◌, Bool, true, false, List, [], ◌∷◌, length, take, replicate, Result, Ok, refl, sym, ap, ◌∙◌, arith, length-append, lit<, zero, suc, Option, Some, None, IsSome, IfSome}
 use Rattle.std.proofs.lemmas.List.{take_at, length-take-le}
 use Rattle.std.proofs.lemmas.List.Elements.{All-head, All-tail}
 use Rattle.std.proofs.lemmas.Bool.{false≢true}
 use Rattle.std.specs.List.{All}
-use Rattle.hex.specs.Hex.{encode_upper, decode_of, IsBytes}
-use Rattle.hex.proofs.HexLemmas.{decode_of-encode_upper}
+use Rattle.hex.specs.Hex.{encode_upper, decode_of, is_hex_digit, IsBytes}
+use Rattle.hex.proofs.HexLemmas.{decode_of-digits, decode_of-encode_upper, decode_of-ok}
 use Rattle.bit_messages.specs.Octets.{octets_of, bits_of, spare_bits}
 use Rattle.bit_messages.proofs.OctetLemmas.{bits_again, octets_below, length-bits_of}
-use Rattle.script.specs.Spelling.{octets_text, ReadsAs}
-use Rattle.hex.specs.declared.error.FromHexError.{FromHexError}
+use Rattle.script.specs.Spelling.{octets_text, IsHex, ReadsAs}
+use Rattle.std.specs.List.{list_all}
+use Rattle.std.proofs.lemmas.List.Sums.{AllPass-from_list_all, list_all-from_AllPass}
 
 -- the first bits of a text's octets are the text
 pub text_again : (text : List Bool) → take (length text) (bits_of (octets_of text)) ≡ text
@@ -35,12 +36,6 @@ bytes_from (x ∷ xs) h (suc i) = bytes_from xs (All-tail (λ n. n < 256) x xs h
 
 pub are_bytes : (x : List Bool) → IsBytes (octets_of x)
 are_bytes x = bytes_from (octets_of x) (octets_below x)
-
--- hexadecimal that is refused is none that was written
-pub undecoded : (word : List ℕ) (fault : FromHexError) → decode_of word ≡ Err fault → (e : List ℕ) → IsBytes e → word ≢ encode_upper e
-undecoded word fault read e bytes is =
-    let again : decode_of word ≡ Ok e = ap decode_of is ∙ decode_of-encode_upper e bytes in
-    cc
 
 -- a word that is no hexadecimal is no text's
 pub no_octets : (word : List ℕ) (count : ℕ) → 0 < count → ((e : List ℕ) → IsBytes e → word ≢ encode_upper e) → (x : List Bool) → length x ≡ count → word ≢ octets_text x
@@ -83,3 +78,17 @@ text_made word count bits None few spelled short same =
     absurd (false≢true (short few_bits))
 text_made word count bits (Some t) few spelled short same =
     (spelled.text ∙ ap octets_text (sym same), ap length same ∙ spelled.long)
+
+-- a word that doesn't decode is none that was written
+pub no_digits : (word : List ℕ) → (IsHex word → ⊥) → (e : List ℕ) → IsBytes e → word ≢ encode_upper e
+no_digits word none e bytes is = none (e, ap decode_of is ∙ decode_of-encode_upper e bytes)
+
+pub hex_digits : (word : List ℕ) → length word % 2 ≡ 0 → list_all is_hex_digit word ≡ true → IsHex word
+hex_digits word even digits = decode_of-digits word even (AllPass-from_list_all is_hex_digit word digits)
+
+-- a word of an odd length, or with another octet, doesn't decode
+pub odd_length : (word : List ℕ) → (length word % 2 ≡ 0 → ⊥) → IsHex word → ⊥
+odd_length word odd h = odd (decode_of-ok word h.0 h.1).0
+
+pub other_octet : (word : List ℕ) → list_all is_hex_digit word ≡ false → IsHex word → ⊥
+other_octet word other h = false≢true (sym other ∙ list_all-from_AllPass is_hex_digit word (decode_of-ok word h.0 h.1).1)

@@ -1,4 +1,4 @@
 pub mod Input
-pub mod Numbers
 pub mod Script
 pub mod Spelling
+pub mod Steps

@@ -1,10 +1,8 @@
 -- How events are spelled in a script: words with single spaces between.
-use Rattle.std.specs.Prelude.{◌≡◌, ◌≢◌, ℕ, ◌<◌, ◌≤◌, Bool, List, [], ◌∷◌, ◌++◌, length, codes, Option, Some, None, ◌==◌, false}
-use Rattle.std.specs.List.{All}
+use Rattle.std.specs.Prelude.{◌≡◌, ◌≢◌, ℕ, ◌<◌, ◌≤◌, Bool, List, [], ◌∷◌, ◌++◌, ◌⊎◌, length, codes, Option, Some, None, Ok}
 use Rattle.std.specs.Fmt.{decimal}
-use Rattle.hex.specs.Hex.{encode_upper}
+use Rattle.hex.specs.Hex.{decode_of, encode_upper}
 use Rattle.bit_messages.specs.Octets.{octets_of}
-use Rattle.bit_messages.specs.Body.{most_text_bits}
 use Rattle.leader1822.specs.Host.{Host, host_at}
 use Rattle.leader1822.specs.Printed.{host_text, flow_text}
 use Rattle.leader1822.specs.declared.address.Flow.{Flow}
@@ -16,28 +14,20 @@ use Rattle.leader1822.specs.declared.message.HostMessage.{HostMessage}
 use Rattle.script.specs.declared.event.Event.{Event}
 use Rattle.script.specs.declared.event.Event.TheVariants as event
 
--- a word spells one of these values, or none of those that are meant
+-- a word spells this value, which is valid; `None` where it spells no valid value
 abbrev pub ReadsAs : {X : Type 0} → (X → List ℕ) → (X → Type 0) → List ℕ → Option X → Type 0
 ReadsAs {X} spelled IsMeant word (Some x) = (word ≡ spelled x) × IsMeant x
 ReadsAs {X} spelled IsMeant word None = (x : X) → IsMeant x → word ≢ spelled x
 
--- a list of octets in which this one doesn't stand
-abbrev pub Unmarked : ℕ → List ℕ → Type 0
-Unmarked mark xs = All (λ x. (x == mark) ≡ false) xs
-
--- a host that can be: number 0 to 3 at IMP 1 to 63
+-- a valid host: number 0 to 3 at IMP 1 to 63
 abbrev pub IsHost : Host → Type 0
 IsHost h = host_at h.host h.imp ≡ Some h
 
+-- a valid flow: two valid hosts and a link of 8 bits
 abbrev pub IsFlow : Flow → Type 0
 IsFlow f = IsHost f.source × IsHost f.destination × (f.link.0 < 256)
 
--- three words spell this flow, or none that can be
-abbrev pub ReadsFlow : List ℕ → List ℕ → List ℕ → Option Flow → Type 0
-ReadsFlow source destination link (Some f) = (source ≡ host_text f.source) × (destination ≡ host_text f.destination) × (link ≡ decimal f.link.0) × IsFlow f
-ReadsFlow source destination link None = (f : Flow) → IsFlow f → source ≡ host_text f.source → destination ≡ host_text f.destination → link ≡ decimal f.link.0 → ⊥
-
--- the octets of a text in upper case hexadecimal, the last filled with zeros; a hyphen for no bits
+-- a text's octets in upper case hexadecimal, the last octet filled with zeros; a hyphen for no bits
 abbrev pub octets_text : List Bool → List ℕ
 octets_text [] = codes "-"
 octets_text (b ∷ bits) = encode_upper (octets_of (b ∷ bits))
@@ -50,8 +40,9 @@ direction_text direction.Back = codes "-"
 abbrev pub message_text : HostMessage → List ℕ
 message_text m = flow_text m.flow ++ (codes " " ++ (decimal (length m.text) ++ (codes " " ++ octets_text m.text)))
 
+-- a valid message: at most 8063 bits on a valid flow
 abbrev pub IsMessage : HostMessage → Type 0
-IsMessage m = IsFlow m.flow × (length m.text ≤ most_text_bits)
+IsMessage m = IsFlow m.flow × (length m.text ≤ 8063)
 
 -- what happens inside a network
 abbrev pub net_spelling : NetEvent → List ℕ
@@ -75,14 +66,35 @@ spelling (event.Out m) = codes "out " ++ message_text m
 spelling (event.Take h) = codes "take " ++ host_text h
 spelling (event.Net e) = net_spelling e
 
--- the events that a script may ask for: of those inside a network giving up, and hosts that stop and start
+-- of the events inside a network a script may ask for these: a message is given up, a host stops, a host starts
 abbrev pub IsNetEvent : NetEvent → Type 0
 IsNetEvent (net.HostDown h) = IsHost h
 IsNetEvent (net.HostUp h) = IsHost h
 IsNetEvent (net.GiveUp f) = IsFlow f
 IsNetEvent e = ⊥
 
+-- the events that a script may ask for
 abbrev pub IsEvent : Event → Type 0
 IsEvent (event.Out m) = IsMessage m
 IsEvent (event.Take h) = IsHost h
 IsEvent (event.Net e) = IsNetEvent e
+
+-- ---- memory
+
+-- these octets in hexadecimal, two digits each, in either case
+abbrev pub IsHex : List ℕ → Type 0
+IsHex word = (octets : List ℕ) × (decode_of word ≡ Ok octets)
+
+-- a message's words are all good but for the last, of which it is known only that it is hexadecimal
+pub record IsTextRead (words : List ℕ) : Type 0 where
+  pub flow : Flow
+  pub count : ℕ
+  pub word : List ℕ
+  pub spelled : words ≡ flow_text flow ++ (codes " " ++ (decimal count ++ (codes " " ++ word)))
+  pub meant : IsFlow flow
+  pub few : count ≤ 8063
+  pub hex : IsHex word
+
+-- memory is wanted to read a message's octets, and to keep an event
+abbrev pub WantsMemory : List ℕ → Type 0
+WantsMemory line = ((words : List ℕ) × (line ≡ codes "out " ++ words) × IsTextRead words) ⊎ ((e : Event) × (line ≡ spelling e) × IsEvent e)

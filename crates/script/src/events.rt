@@ -1,9 +1,10 @@
 //! Scripts: one event a line.
 
-ghost use Rattle.std.specs.Prelude.{◌≡◌, ◌≢◌, ℕ, ◌==◌, ◌≤◌, false, List, ◌∷◌, ◌++◌, length, codes, MatchOption, MatchResult, IfOk};
+ghost use Rattle.std.specs.Prelude.{◌≡◌, ◌≢◌, ℕ, ◌==◌, ◌≤◌, false, List, ◌∷◌, ◌++◌, length, codes, MatchOption, MatchResult, IfOk, IfErr};
 ghost use Rattle.leader1822.specs.Printed.{flow_text};
 ghost use Rattle.script.specs.Script.{lines_of, is_passed_over, AskFor, IsLineFault};
-ghost use Rattle.script.specs.Spelling.{ReadsAs, ReadsFlow, Unmarked, IsFlow, IsMessage, IsEvent, message_text, spelling};
+ghost use Rattle.script.specs.Spelling.{ReadsAs, IsFlow, IsMessage, IsEvent, IsTextRead, WantsMemory, message_text, spelling};
+ghost use Rattle.script.specs.Steps.{ReadsFlow, Lacks};
 
 use crate::event::Event;
 use crate::fault::LineFault;
@@ -12,10 +13,12 @@ use crate::word::{cut, read_count, read_host, read_octet, read_text};
 use leader1822::{Flow, HostMessage, Link, NetEvent};
 use std::alloc::{AllocError, Global};
 
-/// The events of a script, in order. Empty lines and lines that begin with `#` are passed over but
+/// The events of a script, in order. Empty lines and lines that begin with `#` are passed over, but they are
 /// counted.
 ///
-/// Errors: `BadLine` with the number of the first line, counted from 1, that is no event; `OutOfMemory`.
+/// Errors: `BadLine` with the number of the first line, counted from 1, that is no event. `OutOfMemory` only
+/// at a line that wants memory, an event or a message whose octets are hexadecimal, with no bad line before
+/// it.
 pub fn read_script(alloc: Global, text: &[u8]) -> Result<Vec<Event>, LineFault>
     requires { length text.now ≤ MAX_INPUT }
     ensures { MatchResult result (λ events. AskFor events.items (lines_of text.now)) (IsLineFault text.now) }
@@ -47,9 +50,12 @@ fn is_passed_over(line: &[u8]) -> bool
     }
 }
 
-/// The event that a line asks for; `None` where it is spelled in no such way.
+/// The event that a line asks for. `None` if the line is not a valid event.
+///
+/// Errors: `AllocError`, only for a message.
 fn read_event(alloc: Global, line: &[u8]) -> Result<Option<Event>, AllocError>
-    ensures { IfOk result (ReadsAs spelling IsEvent line.now) }
+    ensures read { IfOk result (ReadsAs spelling IsEvent line.now) }
+    ensures memory { IfErr result (λ _. WantsMemory line.now) }
 {
     let Some((word, rest)) = cut(line, b' ') else {
         return Ok(None);
@@ -60,9 +66,9 @@ fn read_event(alloc: Global, line: &[u8]) -> Result<Option<Event>, AllocError>
     Ok(read_plain(word, rest))
 }
 
-/// The event of a line without a text, from its first word and the rest.
+/// The event of a line without a text, from its first word and what follows it.
 fn read_plain(word: &[u8], rest: &[u8]) -> Option<Event>
-    requires word { Unmarked 32 word.now }
+    requires word { Lacks 32 word.now }
     requires not_out { word.now ≢ codes "out" }
     ensures { ReadsAs spelling IsEvent (word.now ++ 32 ∷ rest.now) result }
 {
@@ -79,16 +85,16 @@ fn read_plain(word: &[u8], rest: &[u8]) -> Option<Event>
     }
 }
 
-/// The first two words, and what stands behind them.
+/// The first two words, and what stands after them.
 fn cut_twice(words: &[u8]) -> Option<(&[u8], &[u8], &[u8])>
-    ensures { MatchOption result ((a b c : List ℕ) → words.now ≢ a ++ 32 ∷ (b ++ 32 ∷ c)) (λ parts. (words.now ≡ parts.0.now ++ 32 ∷ (parts.1.now ++ 32 ∷ parts.2.now)) × Unmarked 32 parts.0.now × Unmarked 32 parts.1.now) }
+    ensures { MatchOption result ((a b c : List ℕ) → words.now ≢ a ++ 32 ∷ (b ++ 32 ∷ c)) (λ parts. (words.now ≡ parts.0.now ++ 32 ∷ (parts.1.now ++ 32 ∷ parts.2.now)) × Lacks 32 parts.0.now × Lacks 32 parts.1.now) }
 {
     let (first, rest) = cut(words, b' ')?;
     let (second, rest) = cut(rest, b' ')?;
     Some((first, second, rest))
 }
 
-/// The flow of these three words.
+/// The flow that three words spell.
 fn read_flow(source: &[u8], destination: &[u8], link: &[u8]) -> Option<Flow>
     ensures { ReadsFlow source.now destination.now link.now result }
 {
@@ -107,9 +113,12 @@ fn read_three(words: &[u8]) -> Option<Flow>
     read_flow(source, destination, link)
 }
 
-/// The message of words that are spelled `source destination link bits octets`.
+/// The message that is spelled `source destination link bits octets`.
+///
+/// Errors: `AllocError`, only where all words but the last are good and the last one is hexadecimal.
 fn read_message(alloc: Global, words: &[u8]) -> Result<Option<HostMessage>, AllocError>
-    ensures { IfOk result (ReadsAs message_text IsMessage words.now) }
+    ensures read { IfOk result (ReadsAs message_text IsMessage words.now) }
+    ensures memory { IfErr result (λ _. IsTextRead words.now) }
 {
     let Some((source, destination, rest)) = cut_twice(words) else {
         return Ok(None);

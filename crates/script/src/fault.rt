@@ -11,7 +11,7 @@ pub enum LineFault {
     /// This line of the script, counted from 1, is no event.
     #[error("bad script line {0}")]
     BadLine(usize),
-    /// No memory was left.
+    /// No memory was left to read a line.
     #[error("out of memory")]
     OutOfMemory,
 }

@@ -1,17 +1,18 @@
-//! The two parts of the input, and the lines of a text.
+//! The two parts of an input, and the lines of a text.
 
 ghost use Rattle.std.specs.Prelude.{◌≡◌, ◌≢◌, ◌≤◌, ◌++◌, ◌∷◌, [], length, codes, MatchOption, IfSome, IsTrue, ◌↔◌};
 ghost use Rattle.std.specs.List.{All};
-ghost use Rattle.script.specs.Script.{lines_of, lines_after};
+ghost use Rattle.script.specs.Script.{lines_of};
+ghost use Rattle.script.specs.Steps.{lines_after};
 ghost use Rattle.script.specs.Input.{IsParted};
 
 use crate::word::cut;
 
-/// The most octets that an input has.
+/// The most octets that an input may have.
 pub const MAX_INPUT: usize = 1_048_576;
 
-/// The topology and the script of an input: what stands before its first line that is exactly `%`, and
-/// what stands behind that line. `None` where there is no such line.
+/// The topology and the script of an input: what stands before its first marker, the line that is exactly
+/// `%`, and what stands after that line. `None` where there is no marker.
 pub fn split_input(input: &[u8]) -> Option<(&[u8], &[u8])>
     requires { length input.now ≤ MAX_INPUT }
     ensures short { IfSome result (λ parts. length parts.1.now ≤ length input.now) }
@@ -21,7 +22,7 @@ pub fn split_input(input: &[u8]) -> Option<(&[u8], &[u8])>
     let mut rest = Some(input);
     'lines: while let Some(left) = rest {
         let (line, more) = first_line(left);
-        if is_mark(line) {
+        if is_marker(line) {
             return Some((&input[..passed], text_behind(more)));
         }
         passed += line.len() + 1;
@@ -30,7 +31,7 @@ pub fn split_input(input: &[u8]) -> Option<(&[u8], &[u8])>
     None
 }
 
-/// The text behind a line; nothing where there is no further line.
+/// The text after a line. It is empty where there is no further line.
 fn text_behind(more: Option<&[u8]>) -> &[u8]
     ensures { MatchOption more.entry (result.now ≡ []) (λ text. result.now ≡ text.now) }
 {
@@ -40,14 +41,14 @@ fn text_behind(more: Option<&[u8]>) -> &[u8]
     }
 }
 
-/// Whether a line is the mark between topology and script.
-fn is_mark(line: &[u8]) -> bool
+/// Whether a line is the marker between topology and script.
+fn is_marker(line: &[u8]) -> bool
     ensures { IsTrue result ↔ (line.now ≡ codes "%") }
 {
     line.len() == 1 && line[0] == b'%'
 }
 
-/// The first line of a text, and the text behind it where there is a further line.
+/// The first line of a text, and the text after it where there is a further line.
 pub(crate) fn first_line(text: &[u8]) -> (&[u8], Option<&[u8]>)
     ensures lines { lines_of text.now ≡ result.0.now ∷ lines_after result.1 }
     ensures whole { MatchOption result.1 (text.now ≡ result.0.now) (λ more. text.now ≡ result.0.now ++ 10 ∷ more.now) }

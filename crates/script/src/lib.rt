@@ -1,9 +1,9 @@
-//! Scripts: an input's topology and script are told apart, and a script's lines are read as events.
+//! Scripts: an input is parted into its topology and its script, and a script's lines are read as events.
 //!
-//! A line is read as an event exactly where the event is spelled so, and no two events are spelled alike.
+//! A line is read as an event exactly if it is that event's spelling, and no two events are spelled alike.
 //! So a script asks for one list of events, or is refused with its first bad line.
 //!
-//! Nothing here runs an event.
+//! Nothing here replays an event.
 #![tactic(auto)]
 
 mod event;

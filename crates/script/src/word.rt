@@ -1,29 +1,28 @@
 //! The words of a line: numbers, hosts and bits.
 
-ghost use Rattle.std.specs.Prelude.{◌≡◌, ◌≢◌, ℕ, ◌<◌, ◌≤◌, ◌==◌, ◌^◌, false, List, ◌∷◌, ◌++◌, length, ◌*◌, take, Ok, MatchOption, IfOk, IsTrue, ◌↔◌};
-ghost use Rattle.std.specs.List.{All};
+ghost use Rattle.std.specs.Prelude.{◌≡◌, ◌≢◌, ℕ, ◌<◌, ◌≤◌, ◌==◌, ◌^◌, false, List, ◌∷◌, ◌++◌, length, ◌*◌, take, Ok, MatchOption, IfOk, IfErr, IsTrue, ◌↔◌};
+ghost use Rattle.std.specs.List.{All, list_all};
 ghost use Rattle.std.specs.Fmt.{decimal};
-ghost use Rattle.hex.specs.Hex.{encode_upper, decode_of, IsBytes};
+ghost use Rattle.hex.specs.Hex.{encode_upper, decode_of, is_hex_digit, IsBytes};
 ghost use Rattle.bit_messages.specs.Octets.{octets_of, bits_of};
 ghost use Rattle.leader1822.specs.Printed.{host_text};
-ghost use Rattle.script.specs.Numbers.{begins_wrong};
-ghost use Rattle.script.specs.Spelling.{ReadsAs, IsHost, octets_text};
+ghost use Rattle.script.specs.Steps.{begins_wrong};
+ghost use Rattle.script.specs.Spelling.{ReadsAs, IsHost, IsHex, octets_text};
 
-use bit_messages::{BitFault, Bits};
-use hex::FromHexError;
+use bit_messages::{BitFault, Bits, MAX_TEXT_BITS};
 use leader1822::{HostAddr, Text};
 use std::alloc::{AllocError, Global};
 use std::str;
 
-/// What stands before the first `mark`, and what stands behind it; `None` where there is no `mark`.
-pub(crate) fn cut(text: &[u8], mark: u8) -> Option<(&[u8], &[u8])>
-    ensures { MatchOption result (All (λ x. (x == mark) ≡ false) text.now) (λ parts. (text.now ≡ parts.0.now ++ mark ∷ parts.1.now) × All (λ x. (x == mark) ≡ false) parts.0.now) }
+/// What stands before the first separator, and what stands after it. `None` where there is no separator.
+pub(crate) fn cut(text: &[u8], separator: u8) -> Option<(&[u8], &[u8])>
+    ensures { MatchOption result (All (λ x. (x == separator) ≡ false) text.now) (λ parts. (text.now ≡ parts.0.now ++ separator ∷ parts.1.now) × All (λ x. (x == separator) ≡ false) parts.0.now) }
 {
-    let at = text.iter().position(|octet| *octet == mark)?;
+    let at = text.iter().position(|octet| *octet == separator)?;
     Some((&text[..at], &text[at + 1..]))
 }
 
-/// The number up to `most` that is written so, without sign and leading zeros.
+/// The number up to `most` that a word spells, without sign and leading zeros.
 pub(crate) fn read_number(word: &[u8], most: u32) -> Option<u32>
     ensures { ReadsAs decimal (λ n. n ≤ most) word.now result }
 {
@@ -31,7 +30,7 @@ pub(crate) fn read_number(word: &[u8], most: u32) -> Option<u32>
     if number <= most { Some(number) } else { None }
 }
 
-/// The number of 32 bits that is written so.
+/// The number of 32 bits that a word spells.
 fn plain_number(word: &[u8]) -> Option<u32>
     ensures { ReadsAs decimal (λ n. n < 2 ^ 32) word.now result }
 {
@@ -44,7 +43,7 @@ fn plain_number(word: &[u8]) -> Option<u32>
     }
 }
 
-/// Whether a word is no number by its first octet.
+/// Whether the first octet shows that a word is no number.
 fn begins_wrong(word: &[u8]) -> bool
     ensures { result ≡ begins_wrong word.now }
 {
@@ -54,7 +53,7 @@ fn begins_wrong(word: &[u8]) -> bool
     }
 }
 
-/// The number within an octet that is written so.
+/// The number from 0 to 255 that a word spells.
 pub(crate) fn read_octet(word: &[u8]) -> Option<u8>
     ensures { ReadsAs decimal (λ n. n < 256) word.now result }
 {
@@ -62,7 +61,7 @@ pub(crate) fn read_octet(word: &[u8]) -> Option<u8>
     u8::try_from(number).ok()
 }
 
-/// The host that is written so, as `host/imp`.
+/// The host that a word spells as `host/imp`.
 pub(crate) fn read_host(word: &[u8]) -> Option<HostAddr>
     ensures { ReadsAs host_text IsHost word.now result }
 {
@@ -70,15 +69,18 @@ pub(crate) fn read_host(word: &[u8]) -> Option<HostAddr>
     HostAddr::new(read_octet(host)?, read_octet(imp)?)
 }
 
-/// The text of `count` bits whose octets are written so: upper case hexadecimal with unused bits zero, or
-/// `-` for no bits.
+/// The text of `count` bits whose octets a word spells: in upper case hexadecimal with unused bits zero, or
+/// as `-` for no bits.
+///
+/// Errors: `AllocError`, only for a word of hexadecimal octets.
 pub(crate) fn read_text(
     alloc: Global,
     count: usize,
     word: &[u8],
 ) -> Result<Option<Text>, AllocError>
     requires { count ≤ 8063 }
-    ensures { IfOk result (ReadsAs octets_text (λ bits. length bits ≡ count) word.now) }
+    ensures read { IfOk result (ReadsAs octets_text (λ bits. length bits ≡ count) word.now) }
+    ensures memory { IfErr result (λ _. IsHex word.now) }
 {
     if count == 0 {
         return Ok(if word == b"-".as_slice() {
@@ -100,22 +102,45 @@ pub(crate) fn read_text(
     }
 }
 
-/// The octets that are written so in hexadecimal.
+/// The octets that a word spells in hexadecimal. A word that spells none is refused before memory is taken.
+///
+/// Errors: `AllocError`, only for a word of hexadecimal octets.
 fn read_octets(alloc: Global, word: &[u8]) -> Result<Option<Vec<u8>>, AllocError>
-    ensures { IfOk result (λ read. MatchOption read ((e : List ℕ) → IsBytes e → word.now ≢ encode_upper e) (λ octets. decode_of word.now ≡ Ok octets.items)) }
+    ensures read { IfOk result (λ read. MatchOption read ((e : List ℕ) → IsBytes e → word.now ≢ encode_upper e) (λ octets. decode_of word.now ≡ Ok octets.items)) }
+    ensures memory { IfErr result (λ _. IsHex word.now) }
 {
+    if word.len() % 2 != 0 || !has_digits(word) {
+        return Ok(None);
+    }
     match hex::decode(alloc, word) {
         Ok(octets) => Ok(Some(octets)),
-        Err(FromHexError::OutOfMemory) => Err(AllocError),
-        Err(FromHexError::InvalidHexCharacter { c: _, index: _ }) => Ok(None),
-        Err(FromHexError::OddLength) => Ok(None),
-        Err(FromHexError::InvalidStringLength) => Ok(None),
+        Err(_) => Err(AllocError),
     }
 }
 
-/// The first bits of these octets; `None` where they have fewer.
+/// Whether each octet of a word is a hexadecimal digit.
+fn has_digits(word: &[u8]) -> bool
+    ensures { result ≡ list_all is_hex_digit word.now }
+{
+    word.iter().all(is_digit)
+}
+
+/// Whether an octet is a hexadecimal digit, in either case.
+fn is_digit(octet: &u8) -> bool
+    ensures { result ≡ is_hex_digit octet.now }
+{
+    match *octet {
+        b'A'..=b'F' | b'a'..=b'f' | b'0'..=b'9' => true,
+        _ => false,
+    }
+}
+
+/// The first `count` bits of these octets. `None` where they have fewer.
+///
+/// Errors: `AllocError`, only where there are so many.
 fn first_bits(alloc: Global, octets: &[u8], count: usize) -> Result<Option<Bits>, AllocError>
-    ensures { IfOk result (λ read. MatchOption read (8 * length octets.now < count) (λ bits. (count ≤ 8 * length octets.now) × (bits ≡ take count (bits_of octets.now)))) }
+    ensures read { IfOk result (λ read. MatchOption read (8 * length octets.now < count) (λ bits. (count ≤ 8 * length octets.now) × (bits ≡ take count (bits_of octets.now)))) }
+    ensures memory { IfErr result (λ _. (0 < count) × (count ≤ 8 * length octets.now)) }
 {
     match Bits::from_octets(alloc, octets, count) {
         Ok(bits) => Ok(Some(bits)),
@@ -124,7 +149,7 @@ fn first_bits(alloc: Global, octets: &[u8], count: usize) -> Result<Option<Bits>
     }
 }
 
-/// Whether the octets of these bits are written so.
+/// Whether a word spells the octets of these bits.
 fn is_hex_of(alloc: Global, bits: &Bits, word: &[u8]) -> Result<bool, AllocError>
     ensures { IfOk result (λ same. IsTrue same ↔ (encode_upper (octets_of bits.now) ≡ word.now)) }
 {
@@ -133,10 +158,10 @@ fn is_hex_of(alloc: Global, bits: &Bits, word: &[u8]) -> Result<bool, AllocError
     Ok(spelled.as_bytes() == word)
 }
 
-/// How many bits a text of a message has, as written.
+/// The number of bits of a message's text that a word spells.
 pub(crate) fn read_count(word: &[u8]) -> Option<usize>
     ensures { ReadsAs decimal (λ n. n ≤ 8063) word.now result }
 {
-    let number = read_number(word, 8063)?;
+    let number = read_number(word, MAX_TEXT_BITS as u32)?;
     Some(number as usize)
 }

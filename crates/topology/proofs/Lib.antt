@@ -1,2 +1,3 @@
 mod Documents
+mod Hosts
 mod Order

@@ -1,5 +1,5 @@
 -- IMPs and hosts in order.
-use Rattle.std.proofs.Common.{◌≡◌, ℕ, zero, suc, ◌<◌, ◌≤◌, ◌+◌, ◌*◌, ◌/◌, ◌%◌, ◌==◌, ◌&&◌, ◌||◌, nat_lt, Bool, true, false, List, [], ◌∷◌, ◌++◌, Option, Some, None, refl, sym, ap, ◌∙◌, subst, arith, lit<, inl, inr, add-one, append-nil, cond, eqb-true}
+use Rattle.std.proofs.Common.{◌≡◌, ℕ, zero, suc, ◌<◌, ◌≤◌, ◌+◌, ◌*◌, ◌/◌, ◌%◌, ◌==◌, Bool, true, false, List, [], ◌∷◌, ◌++◌, Option, Some, None, refl, sym, ap, ◌∙◌, subst, arith, lit<, inl, inr, add-one, append-nil, cond, eqb-true}
 use Rattle.std.proofs.Math.Nat.{div-add-mod}
 use Rattle.std.proofs.lemmas.Nat.{mod_below}
 use Rattle.std.proofs.lemmas.Bool.{cases_lt}
@@ -9,7 +9,7 @@ use Rattle.leader1822.specs.Host.{Host}
 use Rattle.leader1822.specs.Host.{host_before, InOrder}
 use Rattle.leader1822.proofs.Order.{before_from_numbers}
 use Rattle.topology.specs.declared.network.ImpHosts.{ImpHosts}
-use Rattle.topology.specs.Network.{hosts_below, host_if, has_host, numbered_below, imp_of_number, IsRising}
+use Rattle.topology.specs.Topology.{hosts_below, host_if, has_host, numbered_below, imp_of_number, IsRising}
 
 ordered_more : (hosts : List Host) (h : Host) → InOrder hosts → All (λ g. host_before g h ≡ true) hosts → InOrder (hosts ++ h ∷ [])
 ordered_more [] h o b = tt

@@ -1,2 +1,2 @@
-pub mod Network
+pub mod Topology
 pub mod Reading

@@ -7,6 +7,9 @@
 //! Nothing here knows how messages are carried.
 #![tactic(auto)]
 
+pub mod law;
 mod network;
 
-pub use network::{CarrierKind, Ends, ImpHosts, MOST_IMPS, MOST_LINES, Topology, TopologyFault};
+pub use network::{
+    CarrierKind, Ends, ImpHosts, MOST_HOSTS, MOST_IMPS, MOST_LINES, Topology, TopologyFault,
+};

@@ -1,11 +1,12 @@
 //! Which IMPs, hosts and lines a network has.
 
-ghost use Rattle.std.specs.Prelude.{◌≡◌, ◌==◌, ◌*◌, ◌≤◌, not, Some, None, ◌/◌, ◌%◌, ◌+◌, ◌<◌, ◌++◌, [], IfOk, OnOk, codes};
+ghost use Rattle.std.specs.Prelude.{◌≡◌, ◌≢◌, ◌↔◌, ◌==◌, ◌*◌, ◌≤◌, not, true, Some, None, Err, ◌/◌, ◌%◌, ◌+◌, ◌<◌, ◌++◌, [], IfOk, IfErr, OnOk, codes};
 ghost use Rattle.std.specs.List.{list_any, list_all, cons_option};
 ghost use Rattle.toml.specs.View.{view, items_view};
 ghost use Rattle.toml.specs.Data.{get};
+ghost use Rattle.toml.specs.Errors.{IsBlank, IsMemory};
 ghost use Rattle.leader1822.specs.Calls.{InOrder};
-ghost use Rattle.topology.specs.Network.{Network, hosts_of, has_host, network_in, network_of, size, has, one_if, known_members, carrier_of, raw_of, number_at, host_if, is_imp, is_line, each_of, imp_of, line_of, imps_of, lines_of, are_imps, is_there, are_lines, are_apart, joins_same, has_ports, line_count, by_number, imp_of_number};
+ghost use Rattle.topology.specs.Topology.{TopologyFields, hosts_of, has_host, topology_in, topology_of, size, has, one_if, known_members, carrier_of, raw_of, number_at, host_if, is_imp, is_line, each_of, imp_of, line_of, imps_of, lines_of, are_imps, is_there, are_lines, are_apart, joins_same, has_ports, line_count, by_number, imp_of_number};
 ghost use Rattle.topology.specs.Reading.{Described, DescribedIn};
 
 use leader1822::HostAddr;
@@ -14,8 +15,11 @@ use std::marker::Model;
 use thiserror::Error;
 use toml::Value;
 
-/// The most IMPs that a network has.
+/// The most IMPs that a network has. They are numbered from 1.
 pub const MOST_IMPS: usize = 16;
+
+/// The most hosts that an IMP has (Heart et al. 1970: an IMP has up to four hosts).
+pub const MOST_HOSTS: u8 = 4;
 
 /// The most lines that an IMP has (Heart et al. 1970: an IMP has up to five lines).
 pub const MOST_LINES: usize = 5;
@@ -47,7 +51,8 @@ pub struct Ends {
     pub b: u8,
 }
 
-/// A network's IMPs by rising number, its lines in their order, and what it is run on.
+/// A network's IMPs by rising number, its lines in order, and what carries its messages. The rules of a
+/// network hold of every value.
 #[derive(Debug, Drop)]
 pub struct Topology {
     carrier: CarrierKind,
@@ -57,19 +62,19 @@ pub struct Topology {
 }
 
 impl Model for Topology {
-    ghost use Rattle.topology.specs.Network.{Network, IsNetwork};
+    ghost use Rattle.topology.specs.Topology.{TopologyFields, IsTopology};
 
-    ghost Value = { Network };
+    ghost Value = { TopologyFields };
 
     ghost view = { λ t. record { carrier = t.carrier; raw = t.raw; imps = t.imps.items; lines = t.lines.items } };
 
-    ghost invariant = { λ t. IsNetwork (record { carrier = t.carrier; raw = t.raw; imps = t.imps.items; lines = t.lines.items }) };
+    ghost invariant = { λ t. IsTopology (record { carrier = t.carrier; raw = t.raw; imps = t.imps.items; lines = t.lines.items }) };
 }
 
 /// Why there is no topology.
 #[derive(Clone, Copy, Debug, Drop, PartialEq, Eq, Error)]
 pub enum TopologyFault {
-    /// The text is no topology.
+    /// The document describes no topology, or is no TOML document.
     #[error("bad topology")]
     BadTopology,
     /// No memory was left.
@@ -100,20 +105,24 @@ impl<T: Drop> From<AllocFailed<T>> for TopologyFault {
 impl Topology {
     /// The topology that this TOML document describes.
     ///
-    /// Errors: `BadTopology` where the text is no such document, `OutOfMemory`.
+    /// Errors: `BadTopology` where the text is no TOML 1.1 document or describes no topology. `OutOfMemory` may
+    /// come for any text that isn't blank, since its values are put in memory.
     pub fn read(alloc: Global, text: &str) -> Result<Topology, TopologyFault>
-        ensures { Described (network_in text.now) result }
+        ensures described { Described (topology_in text.now) result }
+        ensures memory { result ≡ Err TopologyFault.OutOfMemory → ¬ IsBlank text.now }
     {
         match toml::table_from_str(alloc, text) {
             Ok(table) => Topology::from_document(alloc, &Value::Table(table)),
-            Err(error) if error.is_memory() => Err(TopologyFault::OutOfMemory),
-            Err(_) => Err(TopologyFault::BadTopology),
+            Err(error) => Err(fault_of(&error)),
         }
     }
 
-    /// The topology that a document describes.
+    /// The topology that a document's value describes.
+    ///
+    /// Errors: `BadTopology`; `OutOfMemory`, only for a document that lists an IMP.
     fn from_document(alloc: Global, document: &Value) -> Result<Topology, TopologyFault>
-        ensures { Described (network_of (view document.now)) result }
+        ensures described { Described (topology_of (view document.now)) result }
+        ensures memory { result ≡ Err TopologyFault.OutOfMemory → has (codes "imp") (view document.now) ≡ true }
     {
         if size(document) != known_members(document) {
             return Err(TopologyFault::BadTopology);
@@ -157,12 +166,15 @@ impl Topology {
     }
 
     /// All hosts, by IMP and then by number.
+    ///
+    /// Errors: `AllocError`, only where there is a host.
     pub fn hosts(&self, alloc: Global) -> Result<Vec<HostAddr>, AllocError>
         ensures all { IfOk result (λ hosts. hosts.items ≡ hosts_of self.now) }
         ensures ordered { IfOk result (λ hosts. InOrder hosts.items) }
+        ensures memory { IfErr result (λ _. hosts_of self.now ≢ []) }
     {
         let mut hosts = Vec::new(alloc);
-        for place in 0..64u8 {
+        for place in 0..MOST_IMPS as u8 * MOST_HOSTS {
             push_host(&mut hosts, &self.imps, place)?;
         }
         Ok(hosts)
@@ -176,7 +188,18 @@ impl Topology {
     }
 }
 
-/// How many members a table has; 0 for any other value.
+/// Why a text is no document, as a fault of a topology: only want of memory is told as such.
+fn fault_of(error: &toml::de::Error) -> TopologyFault
+    ensures memory { (result ≡ TopologyFault.OutOfMemory) ↔ IsMemory error.now }
+{
+    if error.is_memory() {
+        TopologyFault::OutOfMemory
+    } else {
+        TopologyFault::BadTopology
+    }
+}
+
+/// How many members a table has. Any other value has 0.
 fn size(value: &Value) -> usize
     ensures { result ≡ size (view value.now) }
 {
@@ -203,7 +226,8 @@ fn known_members(document: &Value) -> usize
         + usize::from(has(document, "line"))
 }
 
-/// The carrier that a document names; a subnet where it names none.
+/// The carrier that a document names. It is a subnet where the document names none. `None` for any other
+/// name.
 fn carrier_of(document: &Value) -> Option<CarrierKind>
     ensures { result ≡ carrier_of (get (codes "carrier") (view document.now)) }
 {
@@ -220,7 +244,8 @@ fn carrier_of(document: &Value) -> Option<CarrierKind>
     }
 }
 
-/// Whether a document says raw; false where it doesn't say.
+/// Whether a document asks for no host programs; false where it doesn't say. `None` where it says no truth
+/// value.
 fn raw_of(document: &Value) -> Option<bool>
     ensures { result ≡ raw_of (get (codes "raw") (view document.now)) }
 {
@@ -230,7 +255,7 @@ fn raw_of(document: &Value) -> Option<bool>
     }
 }
 
-/// The number from 0 to 255 that a table has at a key.
+/// The number from 0 to 255 that a table has at a key. `None` for anything else.
 fn number_at(table: &Value, key: &str) -> Option<u8>
     ensures { result ≡ number_at key.now (view table.now) }
 {
@@ -267,7 +292,8 @@ fn line_of(value: &Value) -> Option<Ends>
 
 /// The IMPs of a document, in its order.
 fn imps_of(alloc: Global, document: &Value) -> Result<Vec<ImpHosts>, TopologyFault>
-    ensures { DescribedIn (imps_of (get (codes "imp") (view document.now))) result }
+    ensures described { DescribedIn (imps_of (get (codes "imp") (view document.now))) result }
+    ensures memory { result ≡ Err TopologyFault.OutOfMemory → has (codes "imp") (view document.now) ≡ true }
 {
     let Some(listed) = document.get("imp") else {
         return Err(TopologyFault::BadTopology);
@@ -292,7 +318,7 @@ fn each_imp(alloc: Global, values: &[Value]) -> Result<Vec<ImpHosts>, TopologyFa
     Ok(imps)
 }
 
-/// The lines of a document, in its order; none where it has no key for them.
+/// The lines of a document, in its order. There are none where it has no key for them.
 fn lines_of(alloc: Global, document: &Value) -> Result<Vec<Ends>, TopologyFault>
     ensures { DescribedIn (lines_of (get (codes "line") (view document.now))) result }
 {
@@ -337,7 +363,7 @@ fn all_imps(imps: &[ImpHosts]) -> bool
 fn is_imp(imp: &ImpHosts) -> bool
     ensures { result ≡ is_imp imp.now }
 {
-    1 <= imp.imp && imp.imp <= 16 && imp.hosts <= 4
+    1 <= imp.imp && usize::from(imp.imp) <= MOST_IMPS && imp.hosts <= MOST_HOSTS
 }
 
 /// Whether there is an IMP with this number.
@@ -409,7 +435,7 @@ fn by_number(alloc: Global, imps: &[ImpHosts]) -> Result<Vec<ImpHosts>, AllocErr
     ensures { IfOk result (λ sorted. sorted.items ≡ by_number imps.now) }
 {
     let mut sorted = Vec::new(alloc);
-    for number in 0..17u8 {
+    for number in 0..=MOST_IMPS as u8 {
         push_found(&mut sorted, imp_of_number(imps, number))?;
     }
     Ok(sorted)
@@ -439,13 +465,17 @@ fn has_host(imps: &[ImpHosts], number: u8, host: u8) -> bool
     imps.iter().any(|imp| imp.imp == number && host < imp.hosts)
 }
 
-/// Puts the host at a place at the end, where it is there: four places an IMP, from IMP 1 on.
+/// Puts the host of a place at the end, where there is one. Each IMP has four places, from IMP 1 on.
+///
+/// Errors: `AllocError`, only where it is there.
 fn push_host(hosts: &mut Vec<HostAddr>, imps: &[ImpHosts], place: u8) -> Result<(), AllocError>
     requires { place < 64 }
-    ensures { OnOk result (hosts.new.items ≡ hosts.old.items ++ host_if (has_host imps.now (place / 4 + 1) (place % 4)) (record { imp = place / 4 + 1; host = place % 4 })) }
+    ensures pushed { OnOk result (hosts.new.items ≡ hosts.old.items ++ host_if (has_host imps.now (place / 4 + 1) (place % 4)) (record { imp = place / 4 + 1; host = place % 4 })) }
+    ensures memory { IfErr result (λ _. has_host imps.now (place / 4 + 1) (place % 4) ≡ true) }
 {
-    if has_host(imps, place / 4 + 1, place % 4) {
-        if let Some(host) = HostAddr::new(place % 4, place / 4 + 1) {
+    let (imp, number) = (place / MOST_HOSTS + 1, place % MOST_HOSTS);
+    if has_host(imps, imp, number) {
+        if let Some(host) = HostAddr::new(number, imp) {
             hosts.push(host)?;
         }
     }

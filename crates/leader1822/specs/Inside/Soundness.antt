@@ -40,3 +40,8 @@ pub record IsSound (b : Boxes) : Type 0 where
   pub ordered : InOrder b.hosts
   pub run : IsRun b.hosts b.log
   pub matches : b.stopped ≡ false → Matches b
+
+-- where memory was wanted, what waits may be anything, and hosts and log stand
+pub record KeepsLog (old new : Boxes) : Type 0 where
+  pub hosts : new.hosts ≡ old.hosts
+  pub log : new.log ≡ old.log

@@ -250,3 +250,35 @@ fn octets_are_read_as_a_command_or_a_fault(rt: HostRuntime) {
         assert!(rt; found == read, "{octets:?}: {found:?}");
     }
 }
+
+/// Whether an RTS with this link is read, and written again with the same octets.
+fn has_link(alloc: Global, link: u8) -> Result<bool, ControlFault> {
+    Ok(letter(alloc, &[1, 0, 0, 0, 0x10, 0, 0, 0, 0x21, link])? == b'C')
+}
+
+#[test]
+fn the_links_of_connections_are_2_to_31(rt: HostRuntime) -> Result<(), ControlFault> {
+    let mut found = [false; 5];
+    for (is_read, link) in found.iter_mut().zip([1, 2, 31, 32, 255]) {
+        *is_read = has_link(rt.alloc(), link)?;
+    }
+    assert_eq!(rt; found, [false, true, true, false, false]);
+    Ok(())
+}
+
+#[test]
+fn rst_and_rrp_go_alone(rt: HostRuntime) {
+    let mut alone = [false; 17];
+    for (place, command) in commands(&rt).iter().enumerate() {
+        if let Some(is_alone) = alone.get_mut(place) {
+            *is_alone = command.is_alone();
+        }
+    }
+    assert_eq!(rt;
+        alone,
+        [
+            false, false, false, false, false, false, false, false, false, false, false, false,
+            true, true, false, false, false,
+        ]
+    );
+}

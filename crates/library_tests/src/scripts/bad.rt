@@ -2,8 +2,8 @@
 
 use super::*;
 
-/// Inputs whose topology is none, or can't be run.
-const NO_TOPOLOGIES: [&[u8]; 15] = [
+/// Inputs whose topology is none, or can't be replayed.
+const NO_TOPOLOGIES: [&[u8]; 17] = [
     b"",
     b"%",
     b"%\n",
@@ -18,6 +18,8 @@ const NO_TOPOLOGIES: [&[u8]; 15] = [
     b"carrier = \"plain\"\nraw = true\n[[imp]]\nid = 1\nhosts = 1\nname = 2\n%\n",
     b"carrier = \"plain\"\nraw = true\n[[imp]]\nid = 17\nhosts = 1\n%\n",
     b"carrier = \"plain\"\nraw = true\n[[imp]]\nid = 1\nhosts = true\n%\n",
+    b"carrier = \"plain\nraw = true\n[[imp]]\nid = 1\nhosts = 1\n%\n",
+    b"carrier = \"plain\"\nraw = true\n[[imp]\nid = 1\nhosts = 1\n%\n",
     b"carrier = \"plain\"\r\nraw = true\r\n[[imp]]\r\nid = 1\r\nhosts = 1\r\n%\r\n",
 ];
 
@@ -29,8 +31,8 @@ fn bad_topologies(rt: HostRuntime) {
     }
 }
 
-/// Lines that are no events.
-const NO_EVENTS: [&str; 24] = [
+/// Lines that are no events. The marker line is one too, after the first that parts the input.
+const NO_EVENTS: [&str; 30] = [
     " ",
     "jump",
     "take",
@@ -49,11 +51,17 @@ const NO_EVENTS: [&str; 24] = [
     "out 0/1 0/2 5 8 ff",
     "out 0/1 0/2 5 7 FF",
     "out 0/1 0/2 5 8 FFFF",
+    "out 0/1 0/2 5 16 FF",
+    "out 0/1 0/2 5 8 F",
+    "out 0/1 0/2 5 8 FG",
     "out 0/1 0/2 5 0 00",
     "out 0/1 0/2 5 8 -",
     "out 0/1 0/2 5 8",
     "out 0/1 0/2 5 08 FF",
     "giveup 0/1 0/2",
+    "giveup 0/1 0/2 256",
+    "impdown 1",
+    "%",
     "calm 1",
 ];
 

@@ -1,7 +1,6 @@
 //! Sizes, and reads and writes that fail.
 
 use super::*;
-use script::MAX_INPUT;
 
 /// An input of so many octets, of which the script is one comment.
 fn of_size(size: usize) -> Input<'static> {
@@ -14,8 +13,8 @@ fn of_size(size: usize) -> Input<'static> {
 
 #[test]
 fn the_longest_input(rt: HostRuntime) {
-    let longest = run_input(rt.alloc(), of_size(MAX_INPUT), false, b"end\n");
-    let longer = run_input(rt.alloc(), of_size(MAX_INPUT + 1), false, b"");
+    let longest = run_input(rt.alloc(), of_size(1_048_576), false, b"end\n");
+    let longer = run_input(rt.alloc(), of_size(1_048_577), false, b"");
     assert_eq!(rt;
         (longest, longer),
         (
@@ -92,6 +91,54 @@ fn run_failing_writes(alloc: Global, room: usize) -> Ended {
 fn each_write_may_fail(rt: HostRuntime) {
     for room in 0..OFFERED_AND_TAKEN.len() {
         let ended = run_failing_writes(rt.alloc(), room);
-        assert_eq!(rt; ended, (Err(ScriptFault::Stopped), true), "at {room}");
+        assert_eq!(rt; ended, (Err(ScriptFault::CannotWrite), true), "at {room}");
     }
+}
+
+/// Gives as many octets as it is asked for, and never ends.
+#[derive(Drop)]
+struct EndlessReader {
+    given: usize,
+}
+
+impl Read for EndlessReader {
+    fn read(&mut self, buf: &mut [u8]) -> io::Result<usize> {
+        buf.fill(b'#');
+        self.given = self.given.saturating_add(buf.len());
+        Ok(buf.len())
+    }
+}
+
+#[test]
+fn of_an_endless_input_one_octet_too_many_is_read(rt: HostRuntime) {
+    let mut reader = EndlessReader { given: 0 };
+    let mut writer = Vec::new(rt.alloc());
+    let result = run_script(rt.alloc(), &mut reader, &mut writer, false, false);
+    assert_eq!(rt;
+        (result, reader.given, writer.is_empty()),
+        (Err(ScriptFault::BadTopology), 1_048_577, true)
+    );
+}
+
+/// Takes all octets, and fails to hand them on.
+#[derive(Drop)]
+struct FailingFlush;
+
+impl Write for FailingFlush {
+    fn write(&mut self, buf: &[u8]) -> io::Result<usize> {
+        Ok(buf.len())
+    }
+
+    fn flush(&mut self) -> io::Result<()> {
+        Err(io::Error::from(io::ErrorKind::Other))
+    }
+}
+
+#[test]
+fn the_last_flush_may_fail(rt: HostRuntime) {
+    let ended = [false, true].map(|check| {
+        let mut reader = Cursor::new(OFFER_AND_TAKE);
+        run_script(rt.alloc(), &mut reader, &mut FailingFlush, false, check)
+    });
+    assert_eq!(rt; ended, [Err(ScriptFault::CannotWrite); 2]);
 }

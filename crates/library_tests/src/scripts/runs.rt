@@ -35,7 +35,7 @@ fn check_reads_only(rt: HostRuntime) {
 }
 
 #[test]
-fn an_input_may_end_with_the_mark(rt: HostRuntime) {
+fn an_input_may_end_with_the_marker(rt: HostRuntime) {
     let input = TWO_IMPS.trim_end().as_bytes();
     assert_eq!(rt; run(rt.alloc(), input, false, b"end\n"), (Ok(()), true));
 }

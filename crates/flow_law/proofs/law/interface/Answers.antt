@@ -1,8 +1,8 @@
 use Rattle.std.proofs.Common.{[]}
 use Rattle.std.specs.List.{Contains}
 use Rattle.flow_law.proofs.Clauses.{none_there}
-use Rattle.flow_law.proofs.FollowLemmas.{all_follow, all_open, sound_log, sound_run}
-use Rattle.flow_law.proofs.StepLemmas.{one_follows}
+use Rattle.flow_law.proofs.FollowLemmas.{all_follow, all_open, sound_log, sound_run, passed_over-append}
+use Rattle.flow_law.proofs.StepLemmas.{one_follows, silent_follows}
 use Rattle.flow_law.proofs.law.interface.Goals as goal
 
 pub returns-clause-opening : goal.returns-clause-opening
@@ -21,3 +21,9 @@ returns-clause-sound c = λ test hosts log view alive h. sound_log hosts log vie
 
 pub returns-clause-run : goal.returns-clause-run
 returns-clause-run c = λ test hosts log view alive h. sound_run hosts log view (λ f. Contains (alive f)) h
+
+pub returns-clause-silent : goal.returns-clause-silent
+returns-clause-silent c = λ test hosts log old new before left same less h. silent_follows hosts log old new (λ f. Contains (before f)) (λ f. Contains (left f)) same less h
+
+pub returns-clause-appended : goal.returns-clause-appended
+returns-clause-appended c = passed_over-append

@@ -1,4 +1,5 @@
 use Rattle.link_table.proofs.FlowLemmas.{get_begun, get_answered, get_given_up, get_handed, number_begun}
+use Rattle.link_table.proofs.EntryLemmas.{outstanding_none, outstanding_one}
 use Rattle.link_table.proofs.law.source_flows.Goals as goal
 
 pub returns-clause-begun : goal.returns-clause-begun
@@ -15,3 +16,9 @@ returns-clause-handed c = get_handed
 
 pub returns-clause-number : goal.returns-clause-number
 returns-clause-number c = number_begun
+
+pub returns-clause-outstanding_none : goal.returns-clause-outstanding_none
+returns-clause-outstanding_none c = outstanding_none
+
+pub returns-clause-outstanding_one : goal.returns-clause-outstanding_one
+returns-clause-outstanding_one c = outstanding_one

@@ -1,4 +1,4 @@
-use Rattle.link_table.proofs.NumberLemmas.{wide, two, next_in, near_same, near_old, near_next, not_next}
+use Rattle.link_table.proofs.NumberLemmas.{wide, two, next_in, near_same, near_old, near_next, not_next, next_new}
 use Rattle.link_table.proofs.law.window_holds.Goals as goal
 
 pub returns-clause-wide : goal.returns-clause-wide
@@ -18,3 +18,6 @@ returns-clause-near_next c = near_next
 
 pub returns-clause-not_next : goal.returns-clause-not_next
 returns-clause-not_next c = not_next
+
+pub returns-clause-next_new : goal.returns-clause-next_new
+returns-clause-next_new c = next_new

@@ -1,6 +1,6 @@
 use Rattle.std.proofs.Common.{not, rules}
 use Rattle.std.proofs.lemmas.Fn.{filter_same}
-use Rattle.leader1822.specs.Mailboxes.{same_flow}
+use Rattle.leader1822.specs.Flow.{same_flow}
 use Rattle.packetiser.specs.Slots.{SlotState}
 use Rattle.packetiser.proofs.reassembly.clear.Goals as goal
 

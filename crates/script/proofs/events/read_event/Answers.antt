@@ -1,5 +1,5 @@
 use Rattle.script.proofs.Keywords.{no_space}
 use Rattle.script.proofs.events.read_event.Goals as goal
 
-pub returns-in_default : goal.returns-in_default
-returns-in_default c = no_space c.args.line.now c.in_default.ensures
+pub returns-in_default-clause-read : goal.returns-in_default-clause-read
+returns-in_default-clause-read c = no_space c.args.line.now c.in_default.ensures

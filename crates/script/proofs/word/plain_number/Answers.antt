@@ -1,7 +1,7 @@
 use Rattle.script.proofs.Numbers.{wrong_is_none, no_text_is_none, parsed_as}
 use Rattle.std.proofs.Common.{◌≡◌, ◌∙◌, sym, false, subst}
 use Rattle.std.specs.Str.Parse.{ParsesUnsigned}
-use Rattle.script.specs.Numbers.{begins_wrong}
+use Rattle.script.specs.Steps.{begins_wrong}
 use Rattle.script.proofs.word.plain_number.Goals as goal
 
 pub returns-then-begins_wrong : goal.returns-then-begins_wrong

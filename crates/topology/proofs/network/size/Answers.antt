@@ -1,5 +1,5 @@
 use Rattle.std.proofs.Common.{sym, ap, ◌∙◌}
-use Rattle.topology.specs.Network.{size_of}
+use Rattle.topology.specs.Topology.{size_of}
 use Rattle.topology.proofs.Documents.{count_members}
 use Rattle.topology.proofs.network.size.Goals as goal
 

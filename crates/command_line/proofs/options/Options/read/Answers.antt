@@ -2,7 +2,7 @@ use Rattle.std.proofs.Common.{rules, ◌≡◌, map, ap, ◌∙◌, subst, strin
 use Rattle.std.proofs.lemmas.Iterator.{YieldsList-from_slice, YieldsList-from_map_by}
 use Rattle.std.proofs.lemmas.Iterator.Consumers.{map_from_collect}
 use Rattle.std.proofs.lemmas.Result.{IfOk-at_ok}
-use Rattle.command_line.specs.Arguments.{Asked, options_of}
+use Rattle.command_line.specs.Options.{Asked, options_of}
 use Rattle.command_line.proofs.options.Options.read.Goals as goal
 
 pub returns : goal.returns

@@ -9,22 +9,22 @@ use Rattle.clap.specs.Words.{App, app_of, fault_of, is_simple, is_simple_and_fre
 use Rattle.clap.specs.Kinds.{HasKind}
 use Rattle.clap.specs.Values.{kind_of}
 use Rattle.clap.specs.declared.error.kind.ErrorKind.TheVariants as kind
-use Rattle.command_line.specs.Arguments.{command_line}
-use Rattle.command_line.proofs.Flags.{Verdict, flag_is, is_simple_line, marked, refused, verdict}
+use Rattle.command_line.specs.Parser.{command_line}
+use Rattle.command_line.proofs.Words.{Verdict, flag_is, is_simple_line, marked, refused, verdict}
 use Rattle.command_line.proofs.options.Options.read_texts.Goals as goal
 
 marks : (words : List (Bor Text)) → list_any (λ word. bytes_eq word (codes "--")) (map (λ word. word.now) words) ≡ list_any (λ word. bytes_eq word.now (codes "--")) words
 marks words = sym (list_any-map (λ word. bytes_eq word (codes "--")) (λ word. word.now) words)
 
-pub returns-then-has_mark : goal.returns-then-has_mark
-returns-then-has_mark c = marked (map (λ word. word.now) c.args.words.now) _ (marks c.args.words.now ∙ sym c.has_mark.ensures ∙ c.if-has_mark.true)
+pub returns-then-has_double_hyphen : goal.returns-then-has_double_hyphen
+returns-then-has_double_hyphen c = marked (map (λ word. word.now) c.args.words.now) _ (marks c.args.words.now ∙ sym c.has_double_hyphen.ensures ∙ c.if-has_double_hyphen.true)
 
 pub returns-in-Ok : goal.returns-in-Ok
 returns-in-Ok c =
     let words : List Text = map (λ word. word.now) c.args.words.now in
     let found = found_of c.in-Ok.matches in
     let app_is = c.in_ok-command.ensures in
-    let judged : Verdict words = verdict words (marks c.args.words.now ∙ sym c.has_mark.ensures ∙ c.if-has_mark.false) in
+    let judged : Verdict words = verdict words (marks c.args.words.now ∙ sym c.has_double_hyphen.ensures ∙ c.if-has_double_hyphen.false) in
     let rows_are : rows_of found ≡ matches_of command_line words = (c.in-Ok.ensures.matches (ap is_simple app_is)).0 ∙ ap (λ (a : App). matches_of a words) app_is in
     elim judged [
       | inl p ↦
@@ -38,7 +38,7 @@ pub returns-in-Err-2 : goal.returns-in-Err-2
 returns-in-Err-2 c =
     let words : List Text = map (λ word. word.now) c.args.words.now in
     let app_is = c.in_ok-command.ensures in
-    let judged : Verdict words = verdict words (marks c.args.words.now ∙ sym c.has_mark.ensures ∙ c.if-has_mark.false) in
+    let judged : Verdict words = verdict words (marks c.args.words.now ∙ sym c.has_double_hyphen.ensures ∙ c.if-has_double_hyphen.false) in
     let kinds : HasKind (fault_of (app_of c.in_ok-command.field-0) words) c.in-Err.error = c.in-Err.ensures.kinds (ap is_simple_and_free app_is ∙ is_simple_line) in
     let other : kind_of c.in-Err.error ≢ kind.OutOfMemory = λ e.
     let is : c.kind.result ≡ kind.OutOfMemory = c.kind.ensures ∙ e in

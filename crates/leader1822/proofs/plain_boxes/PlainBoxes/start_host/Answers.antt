@@ -1,18 +1,11 @@
-use Rattle.std.proofs.Common.{◌≡◌, ◌∷◌, ◌∙◌, ap, refl, reverse, rules, List, None}
-use Rattle.leader1822.specs.Boxes.{Boxes, host_up_refusal, host_started}
-use Rattle.leader1822.specs.declared.crossing.Crossing.{Crossing}
-use Rattle.leader1822.specs.declared.crossing.Crossing.TheVariants as crossing
-use Rattle.leader1822.proofs.Lists.{reverse_push}
+use Rattle.std.proofs.Common.{◌≡◌, None, rules, subst, sym}
+use Rattle.leader1822.specs.Boxes.{Boxes, host_up_refusal}
+use Rattle.leader1822.specs.Inside.Soundness.{IsSound}
 use Rattle.leader1822.proofs.SoundEvents.{started_sound}
-use Rattle.leader1822.proofs.SoundCalls.{sound_as}
 use Rattle.leader1822.proofs.plain_boxes.PlainBoxes.start_host.Goals as goal
 
 pub invariant_of-self : goal.invariant_of-self
 invariant_of-self c =
-    let i = c.self.inside in
-    let h = c.args.host in
-    let b : Boxes = record { hosts = i.hosts.items; down = i.down.items; queue = i.queue.items; answers = i.answers.items; log = reverse i.log.items; stopped = i.stopped } in
-    let none : host_up_refusal b.stopped b.hosts b.down b.queue h ≡ None = search rules in
-    let log : reverse c.store_start.new.log.items ≡ crossing.Up h ∷ reverse i.log.items =
-    ap (λ (xs : List Crossing). reverse xs) c.in-Ok.ensures.log ∙ reverse_push i.log.items (crossing.Up h) in
-    sound_as (host_started b h) refl c.in-Ok.ensures.down refl refl log refl (started_sound b h c.self.invariant none)
+    let b : Boxes = c.self.inside.contents in
+    let none : host_up_refusal b c.args.host ≡ None = search rules in
+    subst IsSound (sym (c.in-Ok.ensures.ok)) (started_sound b c.args.host c.self.invariant none)

@@ -1,8 +1,19 @@
-use Rattle.std.proofs.Common.{sym, ◌∙◌, refl, subst, List, ℕ, get_or, ap, ◌<◌, arith}
+use Rattle.std.proofs.Common.{rules, take, Bool, length, length-drop, le-ltb, None, ◌-◌, ◌*◌, ◌≤◌, ◌≡◌, sym, ◌∙◌, refl, subst, List, ℕ, get_or, ap, ◌<◌, arith}
 use Rattle.packetiser.specs.PacketFields.{PacketFields, IsPacket}
+use Rattle.bit_messages.specs.Octets.{bits_of, octets_fault}
 use Rattle.packetiser.specs.Format.{spelling, is_last, place_of}
-use Rattle.packetiser.proofs.Packets.{SpellsPacket, packet_from, fields_fit, spelled, canonical_from, fields_made}
+use Rattle.packetiser.proofs.Calls.{only_memory}
+use Rattle.packetiser.proofs.Packets.{IsLong, long_from, SpellsPacket, packet_from, fields_fit, spelled, canonical_from, fields_made}
 use Rattle.packetiser.proofs.packet.Packet.read.Goals as goal
+
+pub map_err-requires : goal.map_err-requires
+map_err-requires c =
+    let octets : List ℕ = c.args.octets.now in
+    let long : IsLong octets = long_from octets (sym c.is_short.ensures.same ∙ c.if-is_short.false) in
+    let body : length c.split_at.result.1.now ≡ length octets - 8 = ap length c.split_at.ensures.back ∙ length-drop 8 octets in
+    let enough : c.bit_count.result ≤ 8 * length c.split_at.result.1.now = omega (arith, c.bit_count.ensures, body, long.header, long.body) in
+    let fits : octets_fault c.split_at.result.1.now c.bit_count.result ≡ None = rw (le-ltb (8 * length c.split_at.result.1.now) c.bit_count.result enough) refl in
+    only_memory (octets_fault c.split_at.result.1.now c.bit_count.result) (λ (bits : List Bool). bits ≡ take c.bit_count.result (bits_of c.split_at.result.1.now)) c.from_octets.result fits c.from_octets.ensures.decided
 
 pub host_of-requires : goal.host_of-requires
 host_of-requires c = (canonical_from c.args.octets.now (sym c.is_not_canonical.ensures ∙ c.if-is_not_canonical.false)).source
@@ -17,6 +28,7 @@ invariant_of-result c =
     let packet : SpellsPacket octets =
     packet_from octets (sym c.is_short.ensures.same ∙ c.if-is_short.false) (sym c.is_not_canonical.ensures ∙ c.if-is_not_canonical.false)
     (sym c.is_bad_length.ensures ∙ c.if-is_bad_length.false) in
+    let bits : c.in_ok-bits.bits ≡ take c.bit_count.result (bits_of c.split_at.result.1.now) = search rules in
     let made : PacketFields = record {
       kind = c.kind_of.result;
       source = c.host_of.result;
@@ -25,10 +37,10 @@ invariant_of-result c =
       number = get_or octets 4 0;
       place = place_of octets;
       last = is_last octets;
-      bits = c.in-Ok.bits;
+      bits = c.in_ok-bits.bits;
     } in
     subst IsPacket (fields_made octets made c.split_at.result.1.now c.bit_count.result c.kind_of.ensures c.host_of.ensures c.host_of-2.ensures refl refl refl refl
-    c.in-Ok.ensures.decided.1 c.split_at.ensures.back c.bit_count.ensures) (fields_fit octets small packet)
+    bits c.split_at.ensures.back c.bit_count.ensures) (fields_fit octets small packet)
 
 pub returns-clause-found : goal.returns-clause-found
 returns-clause-found c =
@@ -37,6 +49,7 @@ returns-clause-found c =
     let packet : SpellsPacket octets =
     packet_from octets (sym c.is_short.ensures.same ∙ c.if-is_short.false) (sym c.is_not_canonical.ensures ∙ c.if-is_not_canonical.false)
     (sym c.is_bad_length.ensures ∙ c.if-is_bad_length.false) in
+    let bits : c.in_ok-bits.bits ≡ take c.bit_count.result (bits_of c.split_at.result.1.now) = search rules in
     let made : PacketFields = record {
       kind = c.kind_of.result;
       source = c.host_of.result;
@@ -45,7 +58,7 @@ returns-clause-found c =
       number = get_or octets 4 0;
       place = place_of octets;
       last = is_last octets;
-      bits = c.in-Ok.bits;
+      bits = c.in_ok-bits.bits;
     } in
     spelled octets small packet ∙ ap spelling (fields_made octets made c.split_at.result.1.now c.bit_count.result c.kind_of.ensures c.host_of.ensures c.host_of-2.ensures refl refl refl refl
-    c.in-Ok.ensures.decided.1 c.split_at.ensures.back c.bit_count.ensures)
+    bits c.split_at.ensures.back c.bit_count.ensures)

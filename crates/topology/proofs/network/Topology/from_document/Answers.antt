@@ -1,5 +1,5 @@
 use Rattle.std.proofs.Common.{sym, subst, rules}
-use Rattle.topology.specs.Network.{IsRising}
+use Rattle.topology.specs.Topology.{IsRising}
 use Rattle.topology.proofs.Order.{numbered_rising}
 use Rattle.topology.proofs.network.Topology.from_document.Goals as goal
 

@@ -1,5 +1,5 @@
 use Rattle.std.proofs.Common.{◌≡◌}
-use Rattle.topology.specs.Network.{hosts_below}
+use Rattle.topology.specs.Topology.{hosts_below}
 use Rattle.topology.proofs.network.Topology.hosts.Given as goal
 
 abbrev pub invariant-loop-place : goal.invariant-loop-place

@@ -1,0 +1,13 @@
+-- How the simulator ends.
+use Rattle.std.specs.Prelude.{ℕ}
+use Rattle.command_line.specs.declared.fault.ScriptFault.{ScriptFault}
+use Rattle.command_line.specs.declared.fault.ScriptFault.TheVariants as fault
+
+-- the exit status of a fault
+abbrev pub status_of : ScriptFault → ℕ
+status_of fault.BadOptions = 1
+status_of fault.CannotRead = 1
+status_of fault.BadTopology = 1
+status_of (fault.BadLine number) = 2
+status_of fault.OutOfMemory = 3
+status_of fault.CannotWrite = 3

@@ -1,0 +1,28 @@
+-- The options of the command line.
+use Rattle.std.specs.Prelude.{◌≡◌, ℕ, true, false, not, ◌&&◌, List, [], ◌∷◌, Option, Some, None, Result, Ok, Err, codes, if◌then◌else◌, option_and_then}
+use Rattle.std.specs.Str.{bytes_eq}
+use Rattle.command_line.specs.declared.options.Options.{Options}
+use Rattle.command_line.specs.declared.options.OptionsFault.{OptionsFault}
+use Rattle.command_line.specs.declared.options.OptionsFault.TheVariants as fault
+
+-- the options with one word more: it names an option that wasn't given before
+abbrev pub with_word : List ℕ → Options → Option Options
+with_word word options =
+    if bytes_eq word (codes "--book") && not options.book then Some (record options { book = true })
+    else (if bytes_eq word (codes "--check") && not options.check then Some (record options { check = true })
+    else None)
+
+-- what further words ask for, after words that gave these options
+abbrev pub options_after : Options → List (List ℕ) → Option Options
+options_after options [] = Some options
+options_after options (word ∷ words) = option_and_then (λ more. options_after more words) (with_word word options)
+
+-- the options that words ask for; none where a word is no option or an option stands twice
+abbrev pub options_of : List (List ℕ) → Option Options
+options_of words = options_after (record { book = false; check = false }) words
+
+-- the options that the words ask for are given, or it is told that they ask for none; want of memory may come at any words
+abbrev pub Asked : Option Options → Result Options OptionsFault → Type 0
+Asked asked (Ok options) = asked ≡ Some options
+Asked asked (Err fault.BadOptions) = asked ≡ None
+Asked asked (Err fault.OutOfMemory) = Unit {0}

@@ -1,0 +1,30 @@
+-- What the contracts of private functions say. No public clause cites this file.
+use Rattle.command_line.specs.declared.fault.ScriptFault.{ScriptFault}
+use Rattle.command_line.specs.declared.fault.ScriptFault.TheVariants as fault
+
+-- the faults of a topology
+abbrev pub IsHostsFault : ScriptFault → Type 0
+IsHostsFault fault.BadTopology = Unit {0}
+IsHostsFault fault.OutOfMemory = Unit {0}
+IsHostsFault fault.BadOptions = ⊥
+IsHostsFault fault.CannotRead = ⊥
+IsHostsFault fault.CannotWrite = ⊥
+IsHostsFault (fault.BadLine number) = ⊥
+
+-- the faults of reading octets
+abbrev pub IsReadFault : ScriptFault → Type 0
+IsReadFault fault.BadTopology = Unit {0}
+IsReadFault fault.CannotRead = Unit {0}
+IsReadFault fault.OutOfMemory = Unit {0}
+IsReadFault fault.BadOptions = ⊥
+IsReadFault fault.CannotWrite = ⊥
+IsReadFault (fault.BadLine number) = ⊥
+
+-- the faults of a replay
+abbrev pub IsReplayFault : ScriptFault → Type 0
+IsReplayFault fault.OutOfMemory = Unit {0}
+IsReplayFault fault.CannotWrite = Unit {0}
+IsReplayFault fault.BadTopology = ⊥
+IsReplayFault fault.CannotRead = ⊥
+IsReplayFault fault.BadOptions = ⊥
+IsReplayFault (fault.BadLine number) = ⊥

@@ -1,0 +1,69 @@
+//! Why the simulator ends with a fault.
+
+ghost use Rattle.std.specs.Prelude.{◌≡◌};
+ghost use Rattle.command_line.specs.Faults.{status_of};
+
+use std::alloc::{AllocError, AllocFailed};
+use thiserror::Error;
+
+/// Why the simulator ends with a fault. Where several apply, the first one of this list is given. Only
+/// `OutOfMemory` may come in place of any other.
+///
+/// A user can't tell `OutOfMemory` from `CannotWrite`: text and status are the same. A caller can, and knows
+/// more of the output after `OutOfMemory`.
+#[derive(Clone, Copy, Debug, Drop, PartialEq, Eq, Error)]
+pub enum ScriptFault {
+    /// A word that is no option, or an option given twice.
+    #[error("arpasim: bad arguments")]
+    BadOptions,
+    /// The input could not be read.
+    #[error("arpasim: cannot read")]
+    CannotRead,
+    /// The input has more than 1,048,576 octets, has no line `%`, or begins with no topology that can be
+    /// replayed.
+    #[error("arpasim: bad topology")]
+    BadTopology,
+    /// This line of the script, counted from 1, is no event. Nothing was replayed.
+    #[error("arpasim: bad script line {0}")]
+    BadLine(usize),
+    /// No memory was left. The output is the first part of what the replay would have written.
+    #[error("arpasim: stopped")]
+    OutOfMemory,
+    /// The output could not be written.
+    #[error("arpasim: stopped")]
+    CannotWrite,
+}
+
+impl ScriptFault {
+    /// The exit status: 1 for options, reading and topology, 2 for a line of the script, 3 for want of memory
+    /// and a write that failed.
+    pub fn status(&self) -> u8
+        ensures { result ≡ status_of self.now }
+    {
+        match self {
+            ScriptFault::BadOptions | ScriptFault::CannotRead | ScriptFault::BadTopology => 1,
+            ScriptFault::BadLine(_) => 2,
+            ScriptFault::OutOfMemory | ScriptFault::CannotWrite => 3,
+        }
+    }
+}
+
+impl From<AllocError> for ScriptFault {
+    ghost use Rattle.command_line.specs.declared.fault.ScriptFault.TheVariants.{OutOfMemory};
+
+    ghost from_gives = { λ _ e. e ≡ OutOfMemory };
+
+    fn from(_error: AllocError) -> ScriptFault {
+        ScriptFault::OutOfMemory
+    }
+}
+
+impl<T: Drop> From<AllocFailed<T>> for ScriptFault {
+    ghost use Rattle.command_line.specs.declared.fault.ScriptFault.TheVariants.{OutOfMemory};
+
+    ghost from_gives = { λ _ e. e ≡ OutOfMemory };
+
+    fn from(_error: AllocFailed<T>) -> ScriptFault {
+        ScriptFault::OutOfMemory
+    }
+}

@@ -1,0 +1,16 @@
+//! What the simulator promises, as laws over its definitions. The functions here do nothing: their clauses
+//! are the laws.
+
+ghost use Rattle.std.specs.Prelude.{◌≡◌, ◌++◌, ℕ, List, Some};
+ghost use Rattle.command_line.specs.Replayed.{ReplaysInput, StopsInput};
+
+/// The input settles the output. It asks for one list of events between one list of hosts, and plain
+/// mailboxes leave their replay no choice.
+pub fn one_output()
+    ensures { (input before after other : List ℕ) → ReplaysInput input (Some before) (Some after) → ReplaysInput input (Some before) (Some other) → after ≡ other }
+{}
+
+/// What stands on the output after want of memory is the first part of what the whole replay writes.
+pub fn first_part()
+    ensures { (input before part whole : List ℕ) → StopsInput input (Some before) (Some part) → ReplaysInput input (Some before) (Some whole) → (rest : List ℕ) × (whole ≡ part ++ rest) }
+{}

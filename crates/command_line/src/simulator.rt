@@ -1,0 +1,151 @@
+//! The whole simulator, as a function of the words of its command line, a reader and a writer.
+
+ghost use Rattle.std.specs.Prelude.{◌≡◌, ◌≢◌, ◌⊎◌, None, Err, true, false, codes, map, string_bytes, IfSome, IfErr, MatchResult, OnOk};
+ghost use Rattle.std.specs.Io.KnownBytes.{Appends, Keeps};
+ghost use Rattle.leader1822.specs.Calls.{InOrder};
+ghost use Rattle.command_line.specs.Input.{IsInputFault, IsSomeInput};
+ghost use Rattle.command_line.specs.Options.{options_of};
+ghost use Rattle.command_line.specs.Replayed.{Ran, RanInPart, ReplaysInput, ReplaysPlain, StopsInput, StopsPlain};
+ghost use Rattle.command_line.specs.Steps.{IsReplayFault};
+
+use crate::fault::ScriptFault;
+use crate::input::{read_input, read_octets};
+use crate::options::{Options, OptionsFault};
+use leader1822::{HostAddr, PlainBoxes};
+use replay::{ReplayFault, replay_events};
+use script::Event;
+use std::alloc::Global;
+use std::io::{Read, Write};
+
+/// Runs the simulator on the words behind its name, from a reader to a writer.
+///
+/// Errors: `BadOptions` for words other than `--book` and `--check`, each at most once, with nothing read and
+/// nothing written; else as [`run_script`]. `OutOfMemory` may come for any words, since the parser of words
+/// is built in memory.
+pub fn run<R: Read, W: Write>(
+    alloc: Global,
+    words: &[String],
+    reader: &mut R,
+    writer: &mut W,
+) -> Result<(), ScriptFault>
+    // words that are no options are refused: nothing is read, and nothing is written
+    ensures refused { options_of (map string_bytes words.now) ≡ None → ((result ≡ Err ScriptFault.BadOptions) ⊎ (result ≡ Err ScriptFault.OutOfMemory)) × (reader.new ≡ reader.old) × (writer.new ≡ writer.old) }
+
+    // no other words are refused
+    ensures options { IfSome (options_of (map string_bytes words.now)) (λ options. IfErr result (λ f. f ≢ ScriptFault.BadOptions)) }
+
+    // with `--check` the input is only read
+    ensures checked { IfSome (options_of (map string_bytes words.now)) (λ options. options.check ≡ true → OnOk result (Appends (W.contents writer.old) (W.contents writer.new) (codes "ok\n"))) }
+
+    // without it what crosses at the hosts is a log that every host may rely on
+    ensures ran { IfSome (options_of (map string_bytes words.now)) (λ options. options.check ≡ false → OnOk result (Ran (W.contents writer.old) (W.contents writer.new))) }
+
+    // and the script that was read is replayed between the hosts of the topology that was read
+    ensures replayed { IfSome (options_of (map string_bytes words.now)) (λ options. options.check ≡ false → OnOk result (IfSome (R.remaining reader.old) (λ octets. ReplaysInput octets (W.contents writer.old) (W.contents writer.new)))) }
+
+    // what is read is an input, or the first fault is given
+    ensures read { IfSome (options_of (map string_bytes words.now)) (λ options. IfSome (R.remaining reader.old) (λ octets. MatchResult result (λ _. IsSomeInput octets) (IsInputFault octets))) }
+
+    // a fault that is found before the replay leaves nothing written
+    ensures untouched { IfErr result (λ f. f ≢ ScriptFault.CannotWrite → f ≢ ScriptFault.OutOfMemory → writer.new ≡ writer.old) }
+
+    // after want of memory the output is the first part of what the replay would write
+    ensures ran_in_part { result ≡ Err ScriptFault.OutOfMemory → RanInPart (W.contents writer.old) (W.contents writer.new) }
+    ensures first_part { result ≡ Err ScriptFault.OutOfMemory → IfSome (R.remaining reader.old) (λ octets. Keeps (W.contents writer.old) (W.contents writer.new) ⊎ StopsInput octets (W.contents writer.old) (W.contents writer.new)) }
+{
+    match Options::read(alloc, words) {
+        Ok(options) => run_script(alloc, reader, writer, options.book, options.check),
+        Err(OptionsFault::BadOptions) => Err(ScriptFault::BadOptions),
+        Err(OptionsFault::OutOfMemory) => Err(ScriptFault::OutOfMemory),
+    }
+}
+
+/// Reads a topology, the marker line `%` and a script, and replays the script: it writes one line for each
+/// crossing and each refusal, and a last line `end`. With `check` it only reads, and writes `ok`. With `book`
+/// the connections would stand before `end`; without host programs there are none.
+///
+/// Errors, in this order:
+/// - `CannotRead`: a read failed.
+/// - `BadTopology`: the input has more than 1,048,576 octets, has no line `%`, or begins with no topology
+///   that can be replayed.
+/// - `BadLine`: the first line of the script that is no event. Nothing is replayed and nothing is written.
+/// - `CannotWrite`: a write failed. How much was written the writer alone knows.
+///
+/// `OutOfMemory` may come at any of these steps. What was written by then is the first part of what the
+/// replay would have written.
+pub fn run_script<R: Read, W: Write>(
+    alloc: Global,
+    reader: &mut R,
+    writer: &mut W,
+    _book: bool,
+    check: bool,
+) -> Result<(), ScriptFault>
+    // with `check` the input is only read
+    ensures checked { check ≡ true → OnOk result (Appends (W.contents writer.old) (W.contents writer.new) (codes "ok\n")) }
+
+    // without it what crosses at the hosts is a log that every host may rely on
+    ensures ran { check ≡ false → OnOk result (Ran (W.contents writer.old) (W.contents writer.new)) }
+
+    // and the script that was read is replayed between the hosts of the topology that was read
+    ensures replayed { check ≡ false → OnOk result (IfSome (R.remaining reader.old) (λ octets. ReplaysInput octets (W.contents writer.old) (W.contents writer.new))) }
+    ensures options { IfErr result (λ f. f ≢ ScriptFault.BadOptions) }
+
+    // what is read is an input, or the first fault is given
+    ensures read { IfSome (R.remaining reader.old) (λ octets. MatchResult result (λ _. IsSomeInput octets) (IsInputFault octets)) }
+
+    // a fault that is found before the replay leaves nothing written
+    ensures untouched { IfErr result (λ f. f ≢ ScriptFault.CannotWrite → f ≢ ScriptFault.OutOfMemory → writer.new ≡ writer.old) }
+
+    // after want of memory the output is the first part of what the replay would write
+    ensures ran_in_part { result ≡ Err ScriptFault.OutOfMemory → RanInPart (W.contents writer.old) (W.contents writer.new) }
+    ensures first_part { result ≡ Err ScriptFault.OutOfMemory → IfSome (R.remaining reader.old) (λ octets. Keeps (W.contents writer.old) (W.contents writer.new) ⊎ StopsInput octets (W.contents writer.old) (W.contents writer.new)) }
+
+    // with `check` want of memory leaves nothing written
+    ensures check_memory { check ≡ true → result ≡ Err ScriptFault.OutOfMemory → writer.new ≡ writer.old }
+{
+    let octets = read_octets(alloc, reader)?;
+    let input = read_input(alloc, &octets)?;
+    if check {
+        write_last(writer, b"ok\n")
+    } else {
+        replay_plain(alloc, input.hosts, &input.events, writer)
+    }
+}
+
+/// Replays events over plain mailboxes between these hosts, and writes what they show and a last line `end`.
+///
+/// Errors: `CannotWrite`; `OutOfMemory`, after which what the first of the events show is written.
+fn replay_plain<W: Write>(
+    alloc: Global,
+    hosts: Vec<HostAddr>,
+    events: &[Event],
+    writer: &mut W,
+) -> Result<(), ScriptFault>
+    requires { InOrder hosts.items }
+    ensures replayed { OnOk result (ReplaysPlain hosts.items events.now (W.contents writer.old) (W.contents writer.new)) }
+    ensures stopped { result ≡ Err ScriptFault.OutOfMemory → StopsPlain hosts.items events.now (W.contents writer.old) (W.contents writer.new) }
+    ensures fault { IfErr result IsReplayFault }
+{
+    let mut carrier = PlainBoxes::new(alloc, hosts);
+    match replay_events(&mut carrier, events, writer) {
+        Ok(()) => write_last(writer, b"end\n"),
+        Err(ReplayFault::OutOfMemory) => Err(ScriptFault::OutOfMemory),
+        Err(ReplayFault::CannotWrite) => Err(ScriptFault::CannotWrite),
+    }
+}
+
+/// Writes the last line, and all that the writer still holds back.
+///
+/// Errors: `CannotWrite`.
+fn write_last<W: Write>(writer: &mut W, line: &[u8]) -> Result<(), ScriptFault>
+    ensures written { OnOk result (Appends (W.contents writer.old) (W.contents writer.new) line.now) }
+    ensures fault { IfErr result (λ f. f ≡ ScriptFault.CannotWrite) }
+{
+    match writer.write_all(line) {
+        Ok(()) => match writer.flush() {
+            Ok(()) => Ok(()),
+            Err(_) => Err(ScriptFault::CannotWrite),
+        },
+        Err(_) => Err(ScriptFault::CannotWrite),
+    }
+}

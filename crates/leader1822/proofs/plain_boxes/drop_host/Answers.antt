@@ -1,7 +1,0 @@
-use Rattle.std.proofs.Common.{rules, not}
-use Rattle.std.proofs.lemmas.Fn.{filter_same}
-use Rattle.leader1822.specs.Host.{Host, same_host}
-use Rattle.leader1822.proofs.plain_boxes.drop_host.Goals as goal
-
-pub returns : goal.returns
-returns c = filter_same _ (λ (x : Host). not (same_host c.args.host.now x)) _ (λ x b f' k. search rules) _ _ c.retain.ensures.filtered

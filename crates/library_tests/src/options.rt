@@ -1,0 +1,170 @@
+//! Words that are options, words that aren't, and what the simulator does on them.
+
+use command_line::{Options, OptionsFault, ScriptFault, run};
+use replay::ReplayFault;
+use script::LineFault;
+use std::alloc::{AllocError, Global};
+use std::fmt::Display;
+use std::io::Cursor;
+use topology::{CarrierKind, Ends, ImpHosts, TopologyFault};
+
+/// Words that are no options.
+const NO_OPTIONS: [&[&str]; 8] = [
+    &["--"],
+    &["--book", "--"],
+    &["--book", "--book"],
+    &["--check", "--book", "--check"],
+    &["--help"],
+    &["--version"],
+    &["-b"],
+    &["file"],
+];
+
+/// These words, each in memory of its own.
+fn strings(alloc: Global, words: &[&str]) -> Result<Vec<String>, AllocError> {
+    let mut strings = Vec::new(alloc);
+    for word in words {
+        strings.push(word.to_string(alloc)?)?;
+    }
+    Ok(strings)
+}
+
+/// What these words ask for: whether for the book, and whether for a check.
+fn asked(alloc: Global, words: &[&str]) -> Result<(bool, bool), OptionsFault> {
+    let options = Options::read(alloc, &strings(alloc, words)?)?;
+    Ok((options.book, options.check))
+}
+
+#[test]
+fn bad_options(rt: HostRuntime) {
+    for words in NO_OPTIONS {
+        let found = asked(rt.alloc(), words);
+        assert_eq!(rt; found, Err(OptionsFault::BadOptions), "of {words:?}");
+    }
+}
+
+#[test]
+fn options_in_any_order(rt: HostRuntime) {
+    let found = [
+        asked(rt.alloc(), &[]),
+        asked(rt.alloc(), &["--book"]),
+        asked(rt.alloc(), &["--check"]),
+        asked(rt.alloc(), &["--check", "--book"]),
+        asked(rt.alloc(), &["--book", "--check"]),
+    ];
+    let both = Ok((true, true));
+    assert_eq!(rt;
+        found,
+        [
+            Ok((false, false)),
+            Ok((true, false)),
+            Ok((false, true)),
+            both,
+            both
+        ]
+    );
+}
+
+/// A host at an IMP, and a script of no event.
+const NO_SCRIPT: &[u8] = b"carrier = \"plain\"\nraw = true\n[[imp]]\nid = 1\nhosts = 1\n%\n";
+
+/// How the simulator ends on these words and that input, and whether it wrote this.
+fn ended(alloc: Global, words: &[&str], printed: &[u8]) -> (Result<(), ScriptFault>, bool) {
+    let Ok(words) = strings(alloc, words) else {
+        return (Err(ScriptFault::OutOfMemory), false);
+    };
+    let mut reader = Cursor::new(NO_SCRIPT);
+    let mut writer = Vec::new(alloc);
+    let result = run(alloc, &words, &mut reader, &mut writer);
+    (result, writer.as_slice() == printed)
+}
+
+#[test]
+fn the_words_say_what_is_done(rt: HostRuntime) {
+    let found = [
+        ended(rt.alloc(), &["--book"], b"end\n"),
+        ended(rt.alloc(), &["--check"], b"ok\n"),
+        ended(rt.alloc(), &["--quiet"], b""),
+    ];
+    assert_eq!(rt;
+        found,
+        [
+            (Ok(()), true),
+            (Ok(()), true),
+            (Err(ScriptFault::BadOptions), true)
+        ]
+    );
+}
+
+/// What a user reads of each fault, and the status that comes with it.
+const FAULTS: [(ScriptFault, &str, u8); 6] = [
+    (ScriptFault::BadOptions, "arpasim: bad arguments", 1),
+    (ScriptFault::CannotRead, "arpasim: cannot read", 1),
+    (ScriptFault::BadTopology, "arpasim: bad topology", 1),
+    (ScriptFault::BadLine(12), "arpasim: bad script line 12", 2),
+    (ScriptFault::OutOfMemory, "arpasim: stopped", 3),
+    (ScriptFault::CannotWrite, "arpasim: stopped", 3),
+];
+
+/// Whether a value is printed so.
+fn is_printed<T: Display>(alloc: Global, value: &T, expected: &str) -> bool {
+    match value.to_string(alloc) {
+        Ok(printed) => printed.as_str() == expected,
+        Err(_) => false,
+    }
+}
+
+/// Whether each of these values equals itself and its copy, and no other of them.
+fn are_apart<T: Copy + PartialEq>(values: &[T]) -> bool {
+    values.iter().enumerate().all(|(place, value)| {
+        let copy = *value;
+        values.iter().enumerate().all(|(other_place, other)| (copy == *other)
+            == (place == other_place))
+    })
+}
+
+#[test]
+fn faults_have_their_texts_and_statuses(rt: HostRuntime) {
+    for (fault, text, status) in FAULTS {
+        let found = (is_printed(rt.alloc(), &fault, text), fault.status());
+        assert_eq!(rt; found, (true, status), "of {text}");
+    }
+}
+
+#[test]
+fn the_faults_of_the_parts_have_their_texts(rt: HostRuntime) {
+    let alloc = rt.alloc();
+    let found = [
+        is_printed(alloc, &OptionsFault::BadOptions, "bad options"),
+        is_printed(alloc, &OptionsFault::OutOfMemory, "out of memory"),
+        is_printed(alloc, &TopologyFault::BadTopology, "bad topology"),
+        is_printed(alloc, &TopologyFault::OutOfMemory, "out of memory"),
+        is_printed(alloc, &LineFault::BadLine(7), "bad script line 7"),
+        is_printed(alloc, &LineFault::OutOfMemory, "out of memory"),
+        is_printed(alloc, &ReplayFault::OutOfMemory, "out of memory"),
+        is_printed(alloc, &ReplayFault::CannotWrite, "cannot write"),
+    ];
+    assert_eq!(rt; found, [true; 8]);
+}
+
+#[test]
+fn copies_equal_and_other_values_do_not(rt: HostRuntime) {
+    let options = [(false, false), (false, true), (true, false), (true, true)];
+    let found = [
+        are_apart(&FAULTS.map(|(fault, _, _)| fault)),
+        are_apart(&[ScriptFault::BadLine(1), ScriptFault::BadLine(2)]),
+        are_apart(&options.map(|(book, check)| Options { book, check })),
+        are_apart(&[OptionsFault::BadOptions, OptionsFault::OutOfMemory]),
+        are_apart(&[TopologyFault::BadTopology, TopologyFault::OutOfMemory]),
+        are_apart(&[
+            LineFault::BadLine(1),
+            LineFault::BadLine(2),
+            LineFault::OutOfMemory,
+        ]),
+        are_apart(&[ReplayFault::OutOfMemory, ReplayFault::CannotWrite]),
+        are_apart(&[CarrierKind::Plain, CarrierKind::Subnet]),
+        are_apart(&[(1, 2), (2, 1), (2, 2)].map(|(imp, hosts)| ImpHosts { imp, hosts })),
+        are_apart(&[(1, 2), (2, 1), (2, 2)].map(|(a, b)| Ends { a, b })),
+    ];
+    assert_eq!(rt; found, [true; 10]);
+}

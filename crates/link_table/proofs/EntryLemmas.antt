@@ -1,0 +1,154 @@
+-- The entries of a map, in the order of its flows.
+use Rattle.std.proofs.Common.{T, unwrap_or, ◌≡◌, Bool, true, false, List, [], ◌∷◌, ◌||◌, ◌&&◌, Option, Some, None, IsSome, is_some, refl, ap, sym, ◌∙◌, cond}
+use Rattle.std.specs.List.{list_any, AllByRecursion}
+use Rattle.std.specs.List.Sorted.{IsStrictlySortedBy}
+use Rattle.std.specs.declared.cmp.Ordering.{Ordering}
+use Rattle.std.specs.declared.cmp.Ordering.TheVariants.{Less, Equal, Greater}
+use Rattle.std.specs.Ordering.{eq_by_cmp, is_lt, is_eq, ordering_reverse}
+use Rattle.std.specs.Cmp.{eq_by_cmp_equiv}
+use Rattle.std.specs.FinMap.{entries, entries_sorted, get, get-entries, from_entries, from_sorted, get-from_entries, get-from_sorted, entries-from_sorted, same_map}
+use Rattle.std.specs.FinMap.Entries.{find, below_all, is_sorted}
+use Rattle.std.specs.Map.{keys_of}
+use Rattle.leader1822.specs.Host.{Host, same_host}
+use Rattle.leader1822.specs.declared.address.Flow.{Flow}
+use Rattle.link_table.specs.Keys.{flow_cmp}
+use Rattle.link_table.specs.Flows.{Sources, outstanding_in, is_outstanding_from, has_outstanding}
+use Rattle.link_table.specs.declared.source.Standing.{Standing}
+use Rattle.leader1822.proofs.Order.{flows_total, exact_flows}
+
+both : (a b : Bool) → a ≡ true → b ≡ true → (a && b) ≡ true
+both true b e f = f
+both false b e f = absurd (cc)
+
+first_of : (a b : Bool) → (a && b) ≡ true → a ≡ true
+first_of true b e = refl
+first_of false b e = absurd (cc)
+
+second_of : (a b : Bool) → (a && b) ≡ true → b ≡ true
+second_of true b e = e
+second_of false b e = absurd (cc)
+
+-- ---- the map of entries whose flows rise
+
+rises : {V : Type 0} (f : Flow) (es : List (Flow × V)) → AllByRecursion (λ g. flow_cmp f g ≡ Less) (keys_of es) → below_all flow_cmp f es ≡ true
+rises f [] h = refl
+rises f (e ∷ es) h = both (is_lt (flow_cmp f e.0)) (below_all flow_cmp f es) (ap is_lt h.0) (rises f es h.1)
+
+pub sorted_from : {V : Type 0} (es : List (Flow × V)) → IsStrictlySortedBy flow_cmp (keys_of es) → is_sorted flow_cmp es ≡ true
+unfolding IsStrictlySortedBy
+sorted_from [] h = refl
+sorted_from (e ∷ es) h = both (below_all flow_cmp e.0 es) (is_sorted flow_cmp es) (rises e.0 es h.0) (sorted_from es h.1)
+
+known : (b : Bool) → T b → b ≡ true
+known true t = refl
+known false t = absurd t
+
+told : (b : Bool) → b ≡ true → T b
+told true e = tt
+told false e = absurd (cc)
+
+-- entries whose flows rise are those of the map that they make
+pub entries_again : {V : Type 0} (es : List (Flow × V)) → IsStrictlySortedBy flow_cmp (keys_of es) → entries (from_entries {R = flow_cmp} es) ≡ es
+entries_again es h =
+    let sorted : T (is_sorted flow_cmp es) = told (is_sorted flow_cmp es) (sorted_from es h) in
+    ap entries (same_map flows_total exact_flows (from_entries {R = flow_cmp} es) (from_sorted {R = flow_cmp} es)
+    (λ f. get-from_entries flows_total es f ∙ sym (get-from_sorted flow_cmp es f sorted)))
+    ∙ entries-from_sorted flow_cmp es sorted
+
+-- ---- what a map has at the flow of an entry
+
+is_equal : (o : Ordering) → is_eq o ≡ true → o ≡ Equal
+is_equal Less e = absurd (cc)
+is_equal Equal e = refl
+is_equal Greater e = absurd (cc)
+
+above_is_other : (o : Ordering) → is_lt o ≡ true → is_eq (ordering_reverse o) ≡ false
+above_is_other Less e = refl
+above_is_other Equal e = absurd (cc)
+above_is_other Greater e = absurd (cc)
+
+-- an entry that passes a test, and what its flow finds
+record Found {V : Type 0} (test : Flow × V → Bool) (es : List (Flow × V)) : Type 0 where
+  pub flow : Flow
+  pub value : V
+  pub passes : test (flow, value) ≡ true
+  pub at : find flow_cmp flow es ≡ Some value
+  pub above : (g : Flow) → below_all flow_cmp g es ≡ true → is_lt (flow_cmp g flow) ≡ true
+
+found : {V : Type 0} (test : Flow × V → Bool) (es : List (Flow × V)) → is_sorted flow_cmp es ≡ true → list_any test es ≡ true → Found test es
+found test [] sorted some = absurd (cc)
+found {V} test (e ∷ es) sorted some = by (test e) refl some (found test es (second_of (below_all flow_cmp e.0 es) (is_sorted flow_cmp es) sorted)) where
+  below : below_all flow_cmp e.0 es ≡ true
+  below = first_of (below_all flow_cmp e.0 es) (is_sorted flow_cmp es) sorted
+
+  itself : eq_by_cmp flow_cmp e.0 e.0 ≡ true
+  itself = (eq_by_cmp_equiv flows_total).refl e.0
+
+  later : Found test es → Found test (e ∷ es)
+  later h =
+      let other : eq_by_cmp flow_cmp h.flow e.0 ≡ false = ap is_eq (flows_total.antisymm h.flow e.0) ∙ above_is_other (flow_cmp e.0 h.flow) (h.above e.0 below) in
+      record {
+        flow = h.flow;
+        value = h.value;
+        passes = h.passes;
+        at = ap (λ (b : Bool). cond b (Some e.1) (find flow_cmp h.flow es)) other ∙ h.at;
+        above = λ g all. h.above g (second_of (is_lt (flow_cmp g e.0)) (below_all flow_cmp g es) all);
+      }
+
+  by : (b : Bool) → test e ≡ b → (b || list_any test es) ≡ true → (list_any test es ≡ true → Found test es) → Found test (e ∷ es)
+  by true passes h rest = record {
+    flow = e.0;
+    value = e.1;
+    passes = passes;
+    at = ap (λ (b : Bool). cond b (Some e.1) (find flow_cmp e.0 es)) itself;
+    above = λ g all. first_of (is_lt (flow_cmp g e.0)) (below_all flow_cmp g es) all;
+  }
+  by false passes h rest = later (rest h)
+
+-- where no entry passes a test, what a flow finds doesn't
+none_found : {V : Type 0} (test : Flow × V → Bool) (es : List (Flow × V)) (f : Flow) (v : V) → list_any test es ≡ false → find flow_cmp f es ≡ Some v → test (f, v) ≡ false
+none_found test [] f v none at = absurd (cc)
+none_found {V} test (e ∷ es) f v none at = by (eq_by_cmp flow_cmp f e.0) refl at (none_found test es f v) where
+  neither : (a b : Bool) → (a || b) ≡ false → (a ≡ false) × (b ≡ false)
+  neither true b h = absurd (cc)
+  neither false b h = (refl, h)
+
+  parts : (test e ≡ false) × (list_any test es ≡ false)
+  parts = neither (test e) (list_any test es) none
+
+  by : (b : Bool) → eq_by_cmp flow_cmp f e.0 ≡ b → cond b (Some e.1) (find flow_cmp f es) ≡ Some v → (list_any test es ≡ false → find flow_cmp f es ≡ Some v → test (f, v) ≡ false)
+      → test (f, v) ≡ false
+  by true same found rest =
+      let flow : f ≡ e.0 = exact_flows f e.0 (is_equal (flow_cmp f e.0) same) in
+      let value : e.1 ≡ v = ap (λ (o : Option V). unwrap_or o e.1) found in
+      ap (λ (g : Flow). test (g, v)) flow ∙ ap (λ (w : V). test (e.0, w)) (sym value) ∙ parts.0
+  by false other found rest = rest parts.1 found
+
+-- ---- a host with an outstanding message
+
+nothing : {V : Type 0} (o : Option V) → is_some o ≡ false → o ≡ None
+nothing None e = refl
+nothing (Some v) e = absurd (cc)
+
+neither_of : (a b : Bool) → a ≡ true → (a && b) ≡ false → b ≡ false
+neither_of true b e h = h
+neither_of false b e h = absurd (cc)
+
+-- where a host has none, no flow from it has
+pub outstanding_none : (m : Sources) (h : Host) → has_outstanding h m ≡ false → (g : Flow) → same_host g.source h ≡ true → outstanding_in (get m g) ≡ None
+unfolding has_outstanding
+outstanding_none m h none g from = by (get m g) refl where
+  by : (o : Option Standing) → get m g ≡ o → outstanding_in o ≡ None
+  by None e = refl
+  by (Some s) e = nothing (outstanding_in (Some s)) (neither_of (same_host g.source h) (is_some (outstanding_in (Some s))) from
+      (none_found (is_outstanding_from h) (entries m) g s none (sym (get-entries m g) ∙ e)))
+
+-- where it has one, a flow from it has
+pub outstanding_one : (m : Sources) (h : Host) → has_outstanding h m ≡ true → (g : Flow) × (same_host g.source h ≡ true) × IsSome (outstanding_in (get m g))
+unfolding has_outstanding
+outstanding_one m h some =
+    let one : Found (is_outstanding_from h) (entries m) = found (is_outstanding_from h) (entries m) (known (is_sorted flow_cmp (entries m)) (entries_sorted m)) some in (
+      one.flow,
+      first_of (same_host one.flow.source h) (is_some (outstanding_in (Some one.value))) one.passes,
+      ap (λ (o : Option Standing). is_some (outstanding_in o)) (get-entries m one.flow ∙ one.at) ∙ second_of (same_host one.flow.source h) (is_some (outstanding_in (Some one.value))) one.passes,
+    )

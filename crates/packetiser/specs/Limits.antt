@@ -1,0 +1,22 @@
+-- The limits of packets and of reassembly.
+use Rattle.std.specs.Prelude.{ℕ}
+
+-- the IMPs of the subnet are numbered from 1 to 16
+abbrev pub greatest_imp : ℕ
+greatest_imp = 16
+
+-- so many octets stand in front of a packet's bits
+abbrev pub header_octets : ℕ
+header_octets = 8
+
+-- a piece has at most so many bits (Heart et al., SJCC 1970: a packet is about a thousand bits)
+abbrev pub piece_bits : ℕ
+piece_bits = 1008
+
+-- a message has at most so many pieces
+abbrev pub most_pieces : ℕ
+most_pieces = 8
+
+-- so many messages can be in reassembly at once
+abbrev pub slot_count : ℕ
+slot_count = 8

@@ -1,6 +1,0 @@
-use Rattle.leader1822.proofs.MessageLaw.{safe_messages}
-use Rattle.replay.proofs.run.run_events.Goals as goal
-
-pub returns-clause-messages : goal.returns-clause-messages
-returns-clause-messages g c =
-    safe_messages (g.C.Carrier.seen c.in_turn-outcome.new.carrier).hosts (g.C.Carrier.seen c.in_turn-outcome.new.carrier).log c.log-log.ensures.run

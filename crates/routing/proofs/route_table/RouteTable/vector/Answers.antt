@@ -1,0 +1,22 @@
+use Rattle.std.proofs.Common.{◌≡◌, ◌+◌, ◌≤◌, ℕ, arith, sym, ◌∙◌, subst, get_or, slice_set}
+use Rattle.std.proofs.lemmas.List.FromFn.{fill_by_all}
+use Rattle.std.proofs.lemmas.List.Edits.{fill_by_more}
+use Rattle.std.proofs.lemmas.List.Elements.{All-set}
+use Rattle.std.proofs.lemmas.List.{length-set}
+use Rattle.routing.specs.Vector.{infinite}
+use Rattle.routing.specs.RouteTable.{vector_of, distance_to}
+use Rattle.routing.proofs.route_table.RouteTable.vector.Goals as goal
+
+pub loop-place-preserved : goal.loop-place-preserved
+loop-place-preserved c = record {
+  one_each = omega (arith, length-set {A = ℕ} c.loop-place.distances c.loop-place.place c.distance_to.result);
+  far = λ k below. subst (λ (v : ℕ). get_or (slice_set c.loop-place.distances c.loop-place.place v) k 0 ≡ distance_to c.args.self.now (k + 1)) (sym c.distance_to.ensures.value)
+      (fill_by_more (λ (k : ℕ). distance_to c.args.self.now (k + 1)) c.loop-place.distances c.loop-place.place 0 (omega arith) c.loop-place.invariant.far k below);
+  in_range = All-set (λ (d : ℕ). d ≤ infinite) c.loop-place.distances c.loop-place.place c.distance_to.result c.distance_to.ensures.most c.loop-place.invariant.in_range;
+}
+
+pub returns : goal.returns
+unfolding vector_of
+returns c =
+    c.new.ensures ∙ fill_by_all (λ (k : ℕ). distance_to c.args.self.now (k + 1)) c.loop-place.distances 16 0 c.loop-place.invariant.one_each
+    (λ k below. c.loop-place.invariant.far k (omega arith))

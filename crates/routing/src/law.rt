@@ -1,0 +1,27 @@
+//! The laws of route tables, stated over their definitions. The functions here do nothing: each clause is
+//! a law.
+
+ghost use Rattle.std.specs.Prelude.{◌≡◌, ◌≢◌, ℕ, ◌<◌, ◌≤◌, Some, List, length};
+ghost use Rattle.routing.specs.Vector.{IsVector, imps, infinite};
+ghost use Rattle.routing.specs.Settle.{AreTablesOf, IsImp, IsRight, settled, table_of};
+ghost use Rattle.routing.specs.RouteTable.{Table, distance_in, distance_to, vector_of, next_of, IsNext};
+
+/// A table's vector tells its distances, and its next line attains the distance to another IMP.
+pub fn tables()
+    ensures vector { (t : Table) → IsVector (vector_of t) }
+    ensures told { (t : Table) (imp : ℕ) → 0 < imp → imp ≤ imps → distance_in (vector_of t) imp ≡ distance_to t imp }
+
+    // a distance is 0 to the IMP itself alone
+    ensures own { (t : Table) (imp : ℕ) → distance_to t imp ≡ 0 → imp ≡ t.own }
+
+    // where another IMP is at a finite distance, the next line leads there
+    ensures next { (t : Table) (imp : ℕ) → imp ≢ t.own → distance_to t imp < infinite → (port : ℕ) × (next_of t imp ≡ Some port) × IsNext t imp port }
+{}
+
+/// Tables that hear one another in rounds, while the lines stay as they are. After as many rounds as the
+/// infinite distance, from whatever the tables had heard before, each table is right: its distances are
+/// those of shortest walks over the live lines, and its next lines lead nearer.
+pub fn settling()
+    ensures kept { (graph : List (ℕ × ℕ)) (tables : List Table) (rounds : ℕ) → AreTablesOf graph tables → AreTablesOf graph (settled graph tables rounds) }
+    ensures right { (graph : List (ℕ × ℕ)) (tables : List Table) (rounds : ℕ) → AreTablesOf graph tables → infinite ≤ rounds → (imp : ℕ) → IsImp (length tables) imp → IsRight graph (table_of (settled graph tables rounds) imp) }
+{}

@@ -1,0 +1,177 @@
+//! What an IMP knows of routes.
+
+ghost use Rattle.std.specs.Prelude.{◌≡◌, ◌+◌, ◌<◌, ◌≤◌, ◌==◌, IfOk, OnErr, length, position, ◌-◌, All, Some, map, [], slice_index_or};
+ghost use Rattle.routing.specs.RouteTable.{opening, hears, loses, distance_in, heard_distance, least_heard, distance_to, vector_of, next_of};
+ghost use Rattle.routing.specs.Vector.{infinite, IsVector};
+ghost use Rattle.routing.specs.Settle.{IsImp, after_round, neighbours, other_end};
+
+use crate::vector::{IMPS, INFINITE, Vector};
+use std::alloc::{AllocError, Global};
+use std::marker::Model;
+
+/// The route table of one IMP: its own number, and for each port the distances last heard there (Heart et
+/// al., "Routing algorithm"). Contracts see it as a `Table`.
+#[derive(Debug, Drop)]
+pub struct RouteTable {
+    own: u8,
+    heard: Vec<Option<Vector>>,
+}
+
+impl Model for RouteTable {
+    ghost use Rattle.routing.specs.RouteTable.{Table};
+
+    ghost Value = { Table };
+
+    ghost view = { λ t. record { own = t.own; heard = t.heard.items } };
+}
+
+impl RouteTable {
+    /// The table of an IMP with this number and this many ports. Nothing was heard on any port.
+    ///
+    /// Errors: want of memory, and only if there are ports.
+    pub fn new(alloc: Global, own: u8, ports: u8) -> Result<Self, AllocError>
+        ensures opening { IfOk result (λ table. table ≡ opening own ports) }
+        ensures memory { OnErr result (0 < ports) }
+    {
+        let mut heard = Vec::new(alloc);
+        for _ in 0..ports {
+            heard.push(None)?;
+        }
+        Ok(RouteTable { own, heard })
+    }
+
+    /// Notes the distances that came on a port, in place of those that were heard there before.
+    pub fn hear(&mut self, port: u8, distances: Vector)
+        requires { port < length self.old.heard }
+        ensures { self.new ≡ hears self.old port distances }
+    {
+        self.heard[port as usize] = Some(distances);
+    }
+
+    /// Forgets what was heard on a port, since its line was lost.
+    pub fn lost(&mut self, port: u8)
+        requires { port < length self.old.heard }
+        ensures { self.new ≡ loses self.old port }
+    {
+        self.heard[port as usize] = None;
+    }
+
+    /// The IMP's distances: 0 to itself, and to any other IMP the least that was heard plus one, at most
+    /// [`INFINITE`]. This takes no memory.
+    #[tactic(auto, unfolding(crate::specs::RouteTable::vector_of))]
+    pub fn vector(&self) -> Vector
+        ensures { result ≡ vector_of self.now }
+    {
+        let mut distances = [INFINITE; IMPS];
+        for place in 0..IMPS {
+            distances[place] = self.distance_to(place as u8 + 1);
+        }
+        Vector::new(distances)
+    }
+
+    /// The lowest port whose neighbour attains the IMP's distance to another IMP. `None` for the IMP
+    /// itself, and for an IMP at the infinite distance. This takes no memory.
+    #[tactic(auto, unfolding(crate::specs::RouteTable::next_of))]
+    pub fn next(&self, imp: u8) -> Option<usize>
+        ensures { result ≡ next_of self.now imp }
+    {
+        let distance = self.distance_to(imp);
+        if imp == self.own || distance == INFINITE {
+            return None;
+        }
+        first_port(&self.heard, imp, distance)
+    }
+
+    /// Hears on each port what the neighbour there told.
+    pub(crate) fn hear_neighbours(&mut self, graph: &[(u8, u8)], told: &[Vector])
+        requires ports { length self.old.heard ≡ length (neighbours graph.now self.old.own) }
+        requires named { All (λ line. IsImp (length told.now) line.0 × IsImp (length told.now) line.1) graph.now }
+        ensures { self.new ≡ after_round graph.now told.now self.old }
+    {
+        hear_lines(self.own, graph, told, &mut self.heard);
+    }
+
+    /// The distance to one IMP.
+    #[tactic(auto, unfolding(crate::specs::RouteTable::distance_to))]
+    fn distance_to(&self, imp: u8) -> u8
+        ensures value { result ≡ distance_to self.now imp }
+        ensures most { result ≤ infinite }
+    {
+        if imp == self.own {
+            return 0;
+        }
+        (least_heard(&self.heard, imp) + 1).min(INFINITE)
+    }
+}
+
+/// The IMP at the other end of a line; `None` for a line of other IMPs.
+fn other_end(imp: u8, line: (u8, u8)) -> Option<u8>
+    ensures { result ≡ other_end imp line }
+{
+    if line.0 == imp {
+        Some(line.1)
+    } else if line.1 == imp {
+        Some(line.0)
+    } else {
+        None
+    }
+}
+
+/// Writes what an IMP's neighbours told over what its ports had heard.
+fn hear_lines(own: u8, graph: &[(u8, u8)], told: &[Vector], heard: &mut [Option<Vector>])
+    requires ports { length heard.old ≡ length (neighbours graph.now own) }
+    requires named { All (λ line. IsImp (length told.now) line.0 × IsImp (length told.now) line.1) graph.now }
+    ensures { heard.new ≡ map (λ imp. Some (slice_index_or told.now (imp - 1) [])) (neighbours graph.now own) }
+{
+    let mut port = 0;
+    for line in graph {
+        if let Some(imp) = other_end(own, *line) {
+            heard[port] = Some(told[imp as usize - 1].copy());
+            port += 1;
+        }
+    }
+}
+
+/// The least distance to an IMP that was heard on any port.
+fn least_heard(ports: &[Option<Vector>], imp: u8) -> u8
+    ensures value { result ≡ least_heard ports.now imp }
+    ensures most { result ≤ infinite }
+{
+    let mut least = INFINITE;
+    for heard in ports {
+        least = least.min(heard_distance(heard, imp));
+    }
+    least
+}
+
+/// The lowest port on which a distance to an IMP is attained.
+fn first_port(ports: &[Option<Vector>], imp: u8, distance: u8) -> Option<usize>
+    ensures { result ≡ position (λ heard. heard_distance heard imp + 1 == distance) ports.now }
+{
+    ports
+        .iter()
+        .position(|heard| heard_distance(heard, imp) + 1 == distance)
+}
+
+/// The distance to an IMP that was heard on a port; infinite where nothing was heard.
+fn heard_distance(heard: &Option<Vector>, imp: u8) -> u8
+    ensures value { result ≡ heard_distance heard.now imp }
+    ensures most { result ≤ infinite }
+{
+    match heard {
+        Some(vector) => distance_in(vector.distances(), imp),
+        None => INFINITE,
+    }
+}
+
+/// The distance to an IMP in these distances; infinite to an IMP that there can't be.
+fn distance_in(distances: &[u8], imp: u8) -> u8
+    requires { IsVector distances.now }
+    ensures value { result ≡ distance_in distances.now imp }
+    ensures most { result ≤ infinite }
+{
+    if imp == 0 {
+        return INFINITE;
+    }
+    distances.get(imp as usize - 1).copied().unwrap_or(INFINITE)
+}

@@ -1,0 +1,242 @@
+-- Topologies: a network's IMPs, hosts and lines, and the documents that describe them.
+use Rattle.std.specs.Prelude.{◌≡◌, ℕ, zero, suc, ◌+◌, ◌*◌, ◌/◌, ◌%◌, ◌<◌, ◌==◌, ◌&&◌, ◌||◌, nat_le, nat_lt, not, Bool, true, false, List, [], ◌∷◌, ◌++◌, length, codes, Option, Some, None, option_and_then, is_some, if◌then◌else◌, ℤ, pos, negsuc, count_by, nat_eq}
+use Rattle.std.specs.Cmp.Lexicographic.{pointwise}
+use Rattle.std.specs.List.{list_any, list_all, find, cons_option}
+use Rattle.toml.specs.Data.{Data, Items, no_items, item, Members, no_members, member, table, get, as_integer, as_str, as_bool, as_array, as_table}
+use Rattle.toml.specs.Parse.{parse_document}
+use Rattle.leader1822.specs.Host.{Host}
+use Rattle.topology.specs.declared.network.CarrierKind.{CarrierKind}
+use Rattle.topology.specs.declared.network.CarrierKind.TheVariants as kind
+use Rattle.topology.specs.declared.network.ImpHosts.{ImpHosts}
+use Rattle.topology.specs.declared.network.Ends.{Ends}
+
+-- a topology: what carries the messages, whether there are no host programs, the IMPs by rising number, and the lines in order
+pub record TopologyFields : Type 0 where
+  pub carrier : CarrierKind
+  pub raw : Bool
+  pub imps : List ImpHosts
+  pub lines : List Ends
+
+-- ---- the limits
+
+abbrev pub most_imps : ℕ
+most_imps = 16
+
+-- hosts of one IMP
+abbrev pub most_hosts : ℕ
+most_hosts = 4
+
+-- lines of one IMP
+abbrev pub most_lines : ℕ
+most_lines = 5
+
+-- ---- the rules
+
+-- whether an IMP has this number
+
+abbrev pub is_there : List ImpHosts → ℕ → Bool
+is_there imps number = list_any (λ i. i.imp == number) imps
+
+-- an IMP is numbered 1 to 16 and has at most 4 hosts
+abbrev pub is_imp : ImpHosts → Bool
+is_imp i = nat_le 1 i.imp && (nat_le i.imp most_imps && nat_le i.hosts most_hosts)
+
+-- 1 to 16 IMPs
+abbrev pub are_imps : List ImpHosts → Bool
+are_imps imps = nat_le 1 (length imps) && (nat_le (length imps) most_imps && list_all is_imp imps)
+
+-- a line joins two IMPs that are there
+abbrev pub is_line : List ImpHosts → Ends → Bool
+is_line imps line = not (line.a == line.b) && (is_there imps line.a && is_there imps line.b)
+
+-- two lines join the same IMPs, in either direction
+abbrev pub joins_same : Ends → Ends → Bool
+joins_same line other = (other.a == line.a && other.b == line.b) || (other.a == line.b && other.b == line.a)
+
+-- no two lines join the same IMPs
+abbrev pub are_apart : List Ends → Bool
+are_apart [] = true
+are_apart (line ∷ lines) = not (list_any (joins_same line) lines) && are_apart lines
+
+-- how many lines an IMP has
+abbrev pub line_count : List Ends → ℕ → ℕ
+line_count lines number = count_by (λ line. line.a == number || line.b == number) lines
+
+-- no IMP has more than five lines
+abbrev pub has_ports : List ImpHosts → List Ends → Bool
+has_ports imps lines = list_all (λ i. nat_le (line_count lines i.imp) most_lines) imps
+
+-- the rules of lines
+abbrev pub are_lines : List ImpHosts → List Ends → Bool
+are_lines imps lines = (list_all (is_line imps) lines && are_apart lines) && has_ports imps lines
+
+-- ---- order
+
+-- the IMP with this number
+abbrev pub imp_of_number : List ImpHosts → ℕ → Option ImpHosts
+imp_of_number imps number = find (λ i. i.imp == number) imps
+
+-- the IMPs with a number below this one, by rising number
+unfoldable pub numbered_below : List ImpHosts → ℕ → List ImpHosts
+numbered_below imps zero = []
+numbered_below imps (suc number) = numbered_below imps number ++ cons_option (imp_of_number imps number) []
+
+-- all IMPs by rising number
+abbrev pub by_number : List ImpHosts → List ImpHosts
+by_number imps = numbered_below imps (most_imps + 1)
+
+-- IMPs by rising number, each number once
+abbrev pub IsRising : List ImpHosts → Type 0
+IsRising [] = Unit {0}
+IsRising (i ∷ []) = Unit {0}
+IsRising (i ∷ j ∷ imps) = (i.imp < j.imp) × IsRising (j ∷ imps)
+
+-- the rules that a topology keeps
+pub record IsTopology (n : TopologyFields) : Type 0 where
+  pub imps : are_imps n.imps ≡ true
+  pub rising : IsRising n.imps
+  pub lines : are_lines n.imps n.lines ≡ true
+
+-- ---- documents
+
+-- how many members a table has
+abbrev pub member_count : Members → ℕ
+member_count no_members = 0
+member_count (member key value members) = member_count members + 1
+
+abbrev pub size_of : Option Members → ℕ
+size_of None = 0
+size_of (Some members) = member_count members
+
+abbrev pub size : Data → ℕ
+size d = size_of (as_table d)
+
+-- whether a table has a member with this key
+abbrev pub has : List ℕ → Data → Bool
+has key d = is_some (get key d)
+
+abbrev pub one_if : Bool → ℕ
+one_if true = 1
+one_if false = 0
+
+-- a document has no key but these four: as many members as it has of them
+abbrev pub known_members : Data → ℕ
+known_members d = one_if (has (codes "carrier") d) + one_if (has (codes "raw") d) + one_if (has (codes "imp") d) + one_if (has (codes "line") d)
+
+-- a number from 0 to 255
+abbrev pub octet_of : ℤ → Option ℕ
+octet_of (pos n) = if nat_lt n 256 then Some n else None
+octet_of (negsuc n) = None
+
+-- the number from 0 to 255 at a key
+abbrev pub number_at : List ℕ → Data → Option ℕ
+number_at key d = option_and_then octet_of (option_and_then as_integer (get key d))
+
+abbrev pub imp_from : Option ℕ → Option ℕ → Option ImpHosts
+imp_from None hosts = None
+imp_from (Some imp) None = None
+imp_from (Some imp) (Some hosts) = Some (record { imp = imp; hosts = hosts })
+
+abbrev pub line_from : Option ℕ → Option ℕ → Option Ends
+line_from None b = None
+line_from (Some a) None = None
+line_from (Some a) (Some b) = Some (record { a = a; b = b })
+
+-- a table with the keys `id` and `hosts` and no other
+abbrev pub imp_of : Data → Option ImpHosts
+imp_of d = if size d == 2 then imp_from (number_at (codes "id") d) (number_at (codes "hosts") d) else None
+
+-- a table with the keys `a` and `b` and no other
+abbrev pub line_of : Data → Option Ends
+line_of d = if size d == 2 then line_from (number_at (codes "a") d) (number_at (codes "b") d) else None
+
+abbrev pub joined : {X : Type 0} → Option X → Option (List X) → Option (List X)
+joined {X} None xs = None
+joined {X} (Some x) None = None
+joined {X} (Some x) (Some xs) = Some (x ∷ xs)
+
+-- what the items of an array describe, in order; none where one of them describes nothing
+abbrev pub each_of : {X : Type 0} → (Data → Option X) → Items → Option (List X)
+each_of {X} describes no_items = Some []
+each_of {X} describes (item d items) = joined (describes d) (each_of describes items)
+
+abbrev pub all_of : {X : Type 0} → (Data → Option X) → Option Items → Option (List X)
+all_of {X} describes None = None
+all_of {X} describes (Some items) = each_of describes items
+
+abbrev pub imps_of : Option Data → Option (List ImpHosts)
+imps_of None = None
+imps_of (Some d) = all_of imp_of (as_array d)
+
+abbrev pub lines_of : Option Data → Option (List Ends)
+lines_of None = Some []
+lines_of (Some d) = all_of line_of (as_array d)
+
+abbrev pub kind_named : Option (List ℕ) → Option CarrierKind
+kind_named None = None
+kind_named (Some name) = if pointwise nat_eq name (codes "plain") then Some kind.Plain else (if pointwise nat_eq name (codes "subnet") then Some kind.Subnet else None)
+
+-- without the key the carrier is a subnet
+abbrev pub carrier_of : Option Data → Option CarrierKind
+carrier_of None = Some kind.Subnet
+carrier_of (Some d) = kind_named (as_str d)
+
+-- without the key there are host programs
+abbrev pub raw_of : Option Data → Option Bool
+raw_of None = Some false
+raw_of (Some d) = as_bool d
+
+-- no number stands twice, and none passes 16: the IMPs by rising number are as many as the document's
+abbrev pub all_placed : List ImpHosts → Bool
+all_placed imps = length (by_number imps) == length imps
+
+abbrev pub topology_if : Bool → TopologyFields → Option TopologyFields
+topology_if true n = Some n
+topology_if false n = None
+
+-- the topology of these IMPs and lines, where they keep the rules
+abbrev pub topology_by : CarrierKind → Bool → List ImpHosts → List Ends → Option TopologyFields
+topology_by carrier raw imps lines =
+    topology_if (all_placed imps && (are_imps (by_number imps) && are_lines (by_number imps) lines))
+    (record { carrier = carrier; raw = raw; imps = by_number imps; lines = lines })
+
+abbrev pub topology_from : Option CarrierKind → Option Bool → Option (List ImpHosts) → Option (List Ends) → Option TopologyFields
+topology_from None raw imps lines = None
+topology_from (Some carrier) None imps lines = None
+topology_from (Some carrier) (Some raw) None lines = None
+topology_from (Some carrier) (Some raw) (Some imps) None = None
+topology_from (Some carrier) (Some raw) (Some imps) (Some lines) = topology_by carrier raw imps lines
+
+-- the topology that a document's value describes
+abbrev pub topology_of : Data → Option TopologyFields
+topology_of d =
+    if size d == known_members d
+    then topology_from (carrier_of (get (codes "carrier") d)) (raw_of (get (codes "raw") d)) (imps_of (get (codes "imp") d)) (lines_of (get (codes "line") d))
+    else None
+
+abbrev pub topology_if_read : Option Members → Option TopologyFields
+topology_if_read None = None
+topology_if_read (Some members) = topology_of (table members)
+
+-- the topology that a text describes: the text is a TOML document, and the document describes one
+abbrev pub topology_in : List ℕ → Option TopologyFields
+topology_in text = topology_if_read (parse_document text)
+
+-- ---- hosts
+
+-- whether an IMP has a host of this number
+abbrev pub has_host : List ImpHosts → ℕ → ℕ → Bool
+has_host imps imp host = list_any (λ i. i.imp == imp && nat_lt host i.hosts) imps
+
+abbrev pub host_if : Bool → Host → List Host
+host_if true h = h ∷ []
+host_if false h = []
+
+-- the hosts at places below this one: four places for each IMP, from IMP 1 on
+unfoldable pub hosts_below : List ImpHosts → ℕ → List Host
+hosts_below imps zero = []
+hosts_below imps (suc place) = hosts_below imps place ++ host_if (has_host imps (place / 4 + 1) (place % 4)) (record { imp = place / 4 + 1; host = place % 4 })
+
+-- all hosts of a topology, in order: four places for each of sixteen IMPs
+abbrev pub hosts_of : TopologyFields → List Host
+hosts_of t = hosts_below t.imps (most_imps * most_hosts)
