@@ -1,6 +1,6 @@
 -- Lists of bits that are kept in octets.
 use Rattle.std.proofs.Common.{◌≡◌, ℕ, ◌+◌, ◌-◌, ◌*◌, ◌/◌, ◌%◌, ◌<◌, ◌≤◌, Bool, true, false, List, [], ◌∷◌, ◌++◌, length, get_or, set, take, drop, replicate, refl, ap, sym, subst, ◌∙◌, arith, suc, zero, All, inl, inr}
-use Rattle.std.proofs.Common.{drop-cons, take-add, Result, Ok, Err, IfOk, IsErr, MatchResult, Fits, w8, nat_eq, ◌^◌, ◌==◌, Option, Some, None, IfSome, eq-eqb}
+use Rattle.std.proofs.Common.{drop-cons, take-add, Result, Ok, Err, IfOk, OnErr, IsErr, MatchResult, Fits, w8, nat_eq, ◌^◌, ◌==◌, Option, Some, None, IfSome, eq-eqb}
 use Rattle.std.specs.Int.{trailing_zeros}
 use Rattle.std.proofs.lemmas.Nat.Bits.{bit_at-trailing_zeros}
 use Rattle.std.proofs.Math.Nat.{zero-div}
@@ -62,7 +62,7 @@ bits_of-take q octets within =
 pub packs_view : (octets : List ℕ) (bits : List Bool) → Packs octets bits → take (length bits) (bits_of octets) ≡ bits
 packs_view octets bits p = ap (λ (b : List Bool). take (length bits) b) p.same ∙ take_at bits (replicate p.zeros false) (length bits) refl
 
-packs_size : (octets : List ℕ) (bits : List Bool) (p : Packs octets bits) → 8 * length octets ≡ length bits + p.zeros
+pub packs_size : (octets : List ℕ) (bits : List Bool) (p : Packs octets bits) → 8 * length octets ≡ length bits + p.zeros
 packs_size octets bits p =
     sym (length-bits_of octets) ∙ ap length p.same ∙ length-append bits (replicate p.zeros false) ∙ ap (λ (n : ℕ). length bits + n) (length-replicate p.zeros false)
 
@@ -579,3 +579,8 @@ last_one_is octets k there some small h =
 pub match_err : {T E : Type 0} (P : T → Type 0) (Q : E → Type 0) (r : Result T E) → IsErr r → ((e : E) → Q e) → MatchResult r P Q
 match_err P Q (Ok v) h f = absurd (cc)
 match_err P Q (Err e) h f = f e
+
+-- what holds anyway holds after a fault
+pub on_fault : {T E P : Type 0} (r : Result T E) → P → OnErr r P
+on_fault (Ok v) p = tt
+on_fault (Err e) p = p

@@ -1,10 +1,11 @@
-use Rattle.std.proofs.Common.{◌≡◌, ◌+◌, ◌-◌, ◌*◌, ◌/◌, ◌%◌, ◌<◌, ◌≤◌, ◌∙◌, ap, sym, subst, arith, ℕ, List, Bool, ◌++◌, length, take, drop, replicate, false, get_or, set}
+use Rattle.std.proofs.Common.{◌≡◌, ◌+◌, ◌-◌, ◌*◌, ◌/◌, ◌%◌, ◌<◌, ◌≤◌, ◌∙◌, ap, sym, subst, arith, ℕ, List, Bool, ◌++◌, length, take, drop, replicate, false, true, get_or, set, inl, inr}
 use Rattle.std.proofs.lemmas.Grind.{get_or_default_zero}
 use Rattle.std.proofs.Math.ListN.{get_or-append}
+use Rattle.std.proofs.lemmas.Bool.{cases_lt}
 use Rattle.std.proofs.lemmas.Bool.Decides.{nat_tests}
 use Rattle.bit_messages.specs.Octets.{octet_bits, bits_of}
 use Rattle.bit_messages.specs.Packed.{Packs}
-use Rattle.bit_messages.proofs.PackedLemmas.{put_whole, put_across, last_octet}
+use Rattle.bit_messages.proofs.PackedLemmas.{put_whole, put_across, last_octet, on_fault, some_bits}
 use Rattle.bit_messages.proofs.octets.put.Goals as goal
 
 pub returns-then-used-eq0-clause-ok : goal.returns-then-used-eq0-clause-ok
@@ -44,3 +45,16 @@ returns-clause-ok c =
     subst P (ap (λ (ns : List ℕ). c.args.octets.now.items ++ ns) (sym c.deref.ensures.value) ∙ sym c.in_ok-extend_from_slice-2.ensures.items)
     (put_across c.args.octets.now.items c.args.more.now c.in_ok-tail.tail.items c.args.len c.args.more_len k used c.filled.result c.requires.packed c.requires.more
     (omega arith) (omega (arith, c.if-used-eq0.false)) (omega arith) some bits tail)
+
+pub returns-in_err-extend_from_slice-clause-memory : goal.returns-in_err-extend_from_slice-clause-memory
+returns-in_err-extend_from_slice-clause-memory c =
+    let some : 0 < length c.args.more.now = elim (cases_lt 0 (length c.args.more.now)) [
+    | inl more ↦ more
+    | inr none ↦ (let h : false ≡ true = c.in_err-extend_from_slice.ensures.succeeds (omega (arith, none, c.args.octets.now.ok.1)) in absurd (cc))
+    ] in
+    on_fault _ (some_bits c.args.more.now c.args.more_len c.requires.more some)
+
+pub returns-in_err-extend_from_slice-2-clause-memory : goal.returns-in_err-extend_from_slice-2-clause-memory
+returns-in_err-extend_from_slice-2-clause-memory c =
+    let some : 0 < length c.args.more.now = grind (arith, nat_tests, c.if-is_empty.false, c.is_empty.ensures) in
+    on_fault _ (some_bits c.args.more.now c.args.more_len c.requires.more some)

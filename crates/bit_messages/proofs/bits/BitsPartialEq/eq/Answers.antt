@@ -3,8 +3,11 @@ use Rattle.bit_messages.specs.Octets.{octets_of}
 use Rattle.bit_messages.proofs.PackedLemmas.{keeps, Keeps, keeps_along, packs_octets, differ_by_length, same_by_octets}
 use Rattle.bit_messages.proofs.bits.BitsPartialEq.eq.Goals as goal
 
-pub returns-then-self-other-ne : goal.returns-then-self-other-ne
-returns-then-self-other-ne c = ?
+pub returns-then-self-other : goal.returns-then-self-other
+returns-then-self-other c =
+    let k : Keeps c.self.inside.octets.items c.self.inside.len c.args.self.now = keeps _ _ _ c.self.invariant c.self.view_is in
+    let o : Keeps c.other.inside.octets.items c.other.inside.len c.args.other.now = keeps _ _ _ c.other.invariant c.other.view_is in
+    differ_by_length c.args.self.now c.args.other.now (λ e. c.if-self-other.true (k.size ∙ e ∙ sym o.size))
 
 pub returns : goal.returns
 returns c =
