@@ -208,36 +208,36 @@ fills_up : (more tail : List ℕ) (size room : ℕ) → IsPacked more size → r
     → Packs tail (take (size - room) (drop room (bits_of more))) → FillsUp (take room (bits_of more)) (bits_of tail) (take size (bits_of more))
 fills_up more tail size room m there few p = elim (cases_lt size room) [
   | inr enough ↦ (
-    let sum : room + (size - room) ≡ size = omega (arith, enough) in
-    record {
-      zeros = p.zeros;
-      same =
-          (ap (λ (b : List Bool). take room (bits_of more) ++ b) p.same
-          ∙ sym (append_assoc (take room (bits_of more)) (take (size - room) (drop room (bits_of more))) (replicate p.zeros false))
-          ∙ ap (λ (b : List Bool). b ++ replicate p.zeros false) (sym (take-add room (size - room) (bits_of more)) ∙ ap (λ (n : ℕ). take n (bits_of more)) sum));
-      few = p.few;
-    })
+      let sum : room + (size - room) ≡ size = omega (arith, enough) in
+      record {
+        zeros = p.zeros;
+        same =
+            (ap (λ (b : List Bool). take room (bits_of more) ++ b) p.same
+            ∙ sym (append_assoc (take room (bits_of more)) (take (size - room) (drop room (bits_of more))) (replicate p.zeros false))
+            ∙ ap (λ (b : List Bool). b ++ replicate p.zeros false) (sym (take-add room (size - room) (bits_of more)) ∙ ap (λ (n : ℕ). take n (bits_of more)) sum));
+        few = p.few;
+      })
   | inl short ↦ (
-    let kept : List Bool = take size (bits_of more) in
-    let none : size - room ≡ 0 = omega (arith, short) in
-    let empty : take (size - room) (drop room (bits_of more)) ≡ [] = ap (λ (n : ℕ). take n (drop room (bits_of more))) none in
-    let total : 8 * length tail ≡ 0 + p.zeros = packs_size tail (take (size - room) (drop room (bits_of more))) p ∙ ap (λ (b : List Bool). length b + p.zeros) empty in
-    let zeros : p.zeros ≡ 0 = omega (arith, total, p.few) in
-    let nothing : bits_of tail ≡ [] = p.same ∙ ap (λ (b : List Bool). b ++ replicate p.zeros false) empty ∙ ap (λ (n : ℕ). replicate n false) zeros in
-    let kept_size : length kept ≡ size = length-kept more size m in
-    let all : 8 * length more ≡ size + m.packs.zeros = packs_size more kept m.packs ∙ ap (λ (n : ℕ). n + m.packs.zeros) kept_size in
-    let sum : length kept + (room - size) ≡ room = omega (arith, kept_size, short) in
-    record {
-      zeros = room - size;
-      same =
-          (ap (λ (b : List Bool). take room (bits_of more) ++ b) nothing
-          ∙ append-nil (take room (bits_of more))
-          ∙ ap (λ (b : List Bool). take room b) m.packs.same
-          ∙ ap (λ (n : ℕ). take n (kept ++ replicate m.packs.zeros false)) (sym sum)
-          ∙ take-append-add kept (replicate m.packs.zeros false) (room - size)
-          ∙ ap (λ (b : List Bool). kept ++ b) (take-replicate (room - size) m.packs.zeros false (omega (arith, all, there))));
-      few = omega (arith, few);
-    })
+      let kept : List Bool = take size (bits_of more) in
+      let none : size - room ≡ 0 = omega (arith, short) in
+      let empty : take (size - room) (drop room (bits_of more)) ≡ [] = ap (λ (n : ℕ). take n (drop room (bits_of more))) none in
+      let total : 8 * length tail ≡ 0 + p.zeros = packs_size tail (take (size - room) (drop room (bits_of more))) p ∙ ap (λ (b : List Bool). length b + p.zeros) empty in
+      let zeros : p.zeros ≡ 0 = omega (arith, total, p.few) in
+      let nothing : bits_of tail ≡ [] = p.same ∙ ap (λ (b : List Bool). b ++ replicate p.zeros false) empty ∙ ap (λ (n : ℕ). replicate n false) zeros in
+      let kept_size : length kept ≡ size = length-kept more size m in
+      let all : 8 * length more ≡ size + m.packs.zeros = packs_size more kept m.packs ∙ ap (λ (n : ℕ). n + m.packs.zeros) kept_size in
+      let sum : length kept + (room - size) ≡ room = omega (arith, kept_size, short) in
+      record {
+        zeros = room - size;
+        same =
+            (ap (λ (b : List Bool). take room (bits_of more) ++ b) nothing
+            ∙ append-nil (take room (bits_of more))
+            ∙ ap (λ (b : List Bool). take room b) m.packs.same
+            ∙ ap (λ (n : ℕ). take n (kept ++ replicate m.packs.zeros false)) (sym sum)
+            ∙ take-append-add kept (replicate m.packs.zeros false) (room - size)
+            ∙ ap (λ (b : List Bool). kept ++ b) (take-replicate (room - size) m.packs.zeros false (omega (arith, all, there))));
+        few = omega (arith, few);
+      })
 ]
 
 -- bits put behind an octet that isn't full
@@ -534,12 +534,12 @@ zero_octet octets k there zero_is h = record {
   within = omega (arith, h.within);
   zeros = λ i from to. elim (cases_lt i (8 * suc k)) [
     | inl inside ↦ (
-      let at : 8 * k + (i - 8 * k) ≡ i = omega (arith, from) in
-      let few : i - 8 * k < 8 = omega (arith, inside) in
-      sym (ap (λ (n : ℕ). get_or (bits_of octets) n false) at)
-      ∙ place_in octets k (i - 8 * k) there few
-      ∙ ap (λ (n : ℕ). n / 2 ^ (7 - (i - 8 * k)) % 2 == 1) zero_is
-      ∙ (let none : 0 / 2 ^ (7 - (i - 8 * k)) ≡ 0 = zero-div (2 ^ (7 - (i - 8 * k))) in ap (λ (n : ℕ). n % 2 == 1) none))
+        let at : 8 * k + (i - 8 * k) ≡ i = omega (arith, from) in
+        let few : i - 8 * k < 8 = omega (arith, inside) in
+        sym (ap (λ (n : ℕ). get_or (bits_of octets) n false) at)
+        ∙ place_in octets k (i - 8 * k) there few
+        ∙ ap (λ (n : ℕ). n / 2 ^ (7 - (i - 8 * k)) % 2 == 1) zero_is
+        ∙ (let none : 0 / 2 ^ (7 - (i - 8 * k)) ≡ 0 = zero-div (2 ^ (7 - (i - 8 * k))) in ap (λ (n : ℕ). n % 2 == 1) none))
     | inr behind ↦ h.zeros i behind to
   ];
 }
@@ -563,12 +563,12 @@ last_one_is octets k there some small h =
       within = omega (arith, length-bits_of octets, there, few);
       zeros = λ i from to. elim (cases_lt i (8 * suc k)) [
         | inl inside ↦ (
-          let here : 8 * k + (i - 8 * k) ≡ i = omega (arith, from, few) in
-          let within : i - 8 * k < 8 = omega (arith, inside) in
-          let lower : 7 - (i - 8 * k) < trailing_zeros w8 (get_or octets k 0) = omega (arith, from, few, inside) in
-          sym (ap (λ (j : ℕ). get_or (bits_of octets) j false) here)
-          ∙ place_in octets k (i - 8 * k) there within
-          ∙ ap (λ (v : ℕ). v == 1) (low.2 (7 - (i - 8 * k)) lower))
+            let here : 8 * k + (i - 8 * k) ≡ i = omega (arith, from, few) in
+            let within : i - 8 * k < 8 = omega (arith, inside) in
+            let lower : 7 - (i - 8 * k) < trailing_zeros w8 (get_or octets k 0) = omega (arith, from, few, inside) in
+            sym (ap (λ (j : ℕ). get_or (bits_of octets) j false) here)
+            ∙ place_in octets k (i - 8 * k) there within
+            ∙ ap (λ (v : ℕ). v == 1) (low.2 (7 - (i - 8 * k)) lower))
         | inr behind ↦ h.zeros i behind to
       ];
     } in

@@ -1,5 +1,5 @@
 -- Shifts and masks of octets, as lists of bits.
-use Rattle.std.proofs.Common.{◌≡◌, ℕ, ◌+◌, ◌-◌, ◌*◌, ◌/◌, ◌%◌, ◌^◌, ◌<◌, ◌≤◌, ◌==◌, Bool, false, List, [], ◌∷◌, ◌++◌, take, drop, replicate, get_or, bit_and, bit_or, refl, ap, sym, ◌∙◌, arith, suc, zero}
+use Rattle.std.proofs.Common.{◌≡◌, ℕ, ◌+◌, ◌-◌, ◌*◌, ◌/◌, ◌%◌, ◌^◌, ◌<◌, ◌==◌, Bool, false, List, [], ◌∷◌, ◌++◌, take, drop, replicate, get_or, bit_and, bit_or, ap, sym, ◌∙◌, arith, suc, zero}
 use Rattle.std.proofs.lemmas.Nat.{and_mask, or_block}
 use Rattle.std.specs.Int.Bits.{or_zero_r, or_zero_l}
 use Rattle.std.proofs.lemmas.Nat.Bits.{and_high_mask}

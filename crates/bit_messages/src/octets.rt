@@ -29,7 +29,12 @@ pub(crate) fn copied(alloc: Global, octets: &[u8]) -> Result<Vec<u8>, AllocError
 }
 
 /// The octets of `count` bits from place `from` on.
-pub(crate) fn part(alloc: Global, octets: &[u8], from: usize, count: usize) -> Result<Vec<u8>, AllocError>
+pub(crate) fn part(
+    alloc: Global,
+    octets: &[u8],
+    from: usize,
+    count: usize,
+) -> Result<Vec<u8>, AllocError>
     requires there { from + count ≤ 8 * length octets.now }
     ensures packed { IfOk result (λ part. Packs part.items (take count (drop from (bits_of octets.now)))) }
     ensures memory { OnErr result (0 < count) }
@@ -110,7 +115,12 @@ fn filled(octet: u8, used: usize, next: u8) -> u8
 }
 
 /// Puts the first `more_len` bits of `more` behind the first `len` bits of `octets`.
-pub(crate) fn put(octets: &mut Vec<u8>, len: usize, more: &[u8], more_len: usize) -> Result<(), AllocError>
+pub(crate) fn put(
+    octets: &mut Vec<u8>,
+    len: usize,
+    more: &[u8],
+    more_len: usize,
+) -> Result<(), AllocError>
     requires packed { IsPacked octets.old.items len }
     requires more { IsPacked more.now more_len }
     ensures ok { OnOk result (Packs octets.new.items (take len (bits_of octets.old.items) ++ take more_len (bits_of more.now))) }
@@ -126,7 +136,12 @@ pub(crate) fn put(octets: &mut Vec<u8>, len: usize, more: &[u8], more_len: usize
         return Ok(());
     }
     let room = 8 - used;
-    let tail = part(*octets.allocator(), more, room, more_len.saturating_sub(room))?;
+    let tail = part(
+        *octets.allocator(),
+        more,
+        room,
+        more_len.saturating_sub(room),
+    )?;
     octets.extend_from_slice(&tail)?;
     octets[len / 8] = filled(octets[len / 8], used, more[0]);
     Ok(())

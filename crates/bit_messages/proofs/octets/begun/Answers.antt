@@ -1,4 +1,4 @@
-use Rattle.std.proofs.Common.{◌≡◌, ◌*◌, ◌/◌, ◌%◌, ◌≤◌, ◌∙◌, ap, arith, ℕ, List, Bool, Vec, Global, ◌++◌, length, take, drop, replicate, false}
+use Rattle.std.proofs.Common.{◌*◌, ◌/◌, ◌%◌, ◌≤◌, ◌∙◌, ap, arith, ℕ, List, Bool, ◌++◌, length, take, drop, replicate, false}
 use Rattle.std.proofs.lemmas.Grind.{div_ceil_times}
 use Rattle.std.proofs.lemmas.List.{length-drop}
 use Rattle.bit_messages.specs.Octets.{bits_of}

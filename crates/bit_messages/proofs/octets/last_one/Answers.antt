@@ -1,7 +1,7 @@
-use Rattle.std.proofs.Common.{◌≡◌, ◌-◌, ◌*◌, ◌<◌, suc, arith, length, subst, sym, ℕ, get_or}
+use Rattle.std.proofs.Common.{◌≡◌, ◌-◌, ◌*◌, ◌<◌, suc, arith, length, subst, ℕ}
 use Rattle.bit_messages.specs.Octets.{bits_of}
 use Rattle.bit_messages.proofs.OctetLemmas.{length-bits_of}
-use Rattle.bit_messages.proofs.BodyLemmas.{HasZerosFrom, IsMarkedAt, marked_none}
+use Rattle.bit_messages.proofs.BodyLemmas.{HasZerosFrom, marked_none}
 use Rattle.bit_messages.proofs.PackedLemmas.{zero_octet, last_one_is}
 use Rattle.bit_messages.proofs.octets.last_one.Goals as goal
 

@@ -1,6 +1,6 @@
-use Rattle.std.proofs.Common.{◌≡◌, ◌+◌, ◌*◌, ◌/◌, ◌%◌, ◌∙◌, ap, subst, arith, suc, ℕ, List, Bool, ◌++◌, length, take, drop, replicate, false, get_or, set, ◌-◌}
+use Rattle.std.proofs.Common.{◌≡◌, ◌/◌, ◌%◌, ◌∙◌, ap, subst, arith, suc, ℕ, List, Bool, ◌++◌, length, take, replicate, false, get_or, set, ◌-◌}
 use Rattle.std.proofs.lemmas.Grind.{get_or_default_zero}
-use Rattle.bit_messages.specs.Octets.{octet_bits, bits_of}
+use Rattle.bit_messages.specs.Octets.{octet_bits}
 use Rattle.bit_messages.specs.Packed.{Packs}
 use Rattle.bit_messages.proofs.PackedLemmas.{cleared_last, cleared_none}
 use Rattle.bit_messages.proofs.octets.part.Goals as goal

@@ -1,4 +1,4 @@
-use Rattle.std.proofs.Common.{◌≡◌, ◌+◌, ◌-◌, ◌*◌, ◌/◌, ◌%◌, ◌<◌, ◌≤◌, ◌∙◌, ap, sym, subst, arith, ℕ, List, Bool, ◌++◌, length, take, drop, replicate, false, true, get_or, set, inl, inr}
+use Rattle.std.proofs.Common.{◌≡◌, ◌-◌, ◌/◌, ◌%◌, ◌<◌, ◌∙◌, ap, sym, subst, arith, ℕ, List, ◌++◌, length, take, drop, replicate, false, true, get_or, set, inl, inr}
 use Rattle.std.proofs.lemmas.Grind.{get_or_default_zero}
 use Rattle.std.proofs.Math.ListN.{get_or-append}
 use Rattle.std.proofs.lemmas.Bool.{cases_lt}
@@ -49,8 +49,8 @@ returns-clause-ok c =
 pub returns-in_err-extend_from_slice-clause-memory : goal.returns-in_err-extend_from_slice-clause-memory
 returns-in_err-extend_from_slice-clause-memory c =
     let some : 0 < length c.args.more.now = elim (cases_lt 0 (length c.args.more.now)) [
-    | inl more ↦ more
-    | inr none ↦ (let h : false ≡ true = c.in_err-extend_from_slice.ensures.succeeds (omega (arith, none, c.args.octets.now.ok.1)) in absurd (cc))
+      | inl more ↦ more
+      | inr none ↦ (let h : false ≡ true = c.in_err-extend_from_slice.ensures.succeeds (omega (arith, none, c.args.octets.now.ok.1)) in absurd (cc))
     ] in
     on_fault _ (some_bits c.args.more.now c.args.more_len c.requires.more some)
 

@@ -1,4 +1,4 @@
-use Rattle.std.proofs.Common.{◌≡◌, ◌+◌, ◌*◌, ◌∙◌, ap, arith, ℕ, List, Bool, ◌++◌, ◌∷◌, [], take, drop, replicate, false, length, get_or, slice_index_or}
+use Rattle.std.proofs.Common.{◌≡◌, ◌+◌, ◌*◌, ◌∙◌, ap, arith, ℕ, ◌++◌, ◌∷◌, [], take, drop, replicate, false, length}
 use Rattle.std.proofs.lemmas.List.{length-append}
 use Rattle.bit_messages.specs.Octets.{bits_of}
 use Rattle.bit_messages.proofs.PackedLemmas.{shifted_more}

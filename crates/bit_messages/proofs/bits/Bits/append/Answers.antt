@@ -1,4 +1,4 @@
-use Rattle.std.proofs.Common.{◌≡◌, ◌+◌, ◌++◌, arith, refl, sym}
+use Rattle.std.proofs.Common.{◌++◌, arith, refl, sym}
 use Rattle.bit_messages.proofs.PackedLemmas.{keeps, Keeps, put_keeps, keeps_packed, keeps_view, keeps_along}
 use Rattle.bit_messages.proofs.bits.Bits.append.Goals as goal
 

@@ -1,4 +1,4 @@
-use Rattle.std.proofs.Common.{◌≡◌, ◌*◌, ◌≤◌, ◌∙◌, sym, take, length, arith}
+use Rattle.std.proofs.Common.{◌≡◌, ◌*◌, ◌≤◌, sym, take, length, arith}
 use Rattle.std.proofs.lemmas.Grind.{div_ceil_times}
 use Rattle.std.proofs.lemmas.List.{length-take-le}
 use Rattle.bit_messages.specs.Octets.{bits_of}

@@ -1,4 +1,4 @@
-use Rattle.std.proofs.Common.{◌≡◌, ◌*◌, ◌<◌, ◌≤◌, ◌+◌, ◌∙◌, ap, sym, arith, length, ℕ}
+use Rattle.std.proofs.Common.{ap, sym, arith, length}
 use Rattle.bit_messages.proofs.PackedLemmas.{keeps, Keeps, keeps_along, packs_size, strip_marked, strip_unmarked, IsMarked, if_some}
 use Rattle.bit_messages.proofs.bits.Bits.mark.Goals as goal
 

@@ -1,6 +1,5 @@
-use Rattle.std.proofs.Common.{◌≡◌, ◌+◌, ◌-◌, ◌*◌, ◌≤◌, ◌<◌, ◌∙◌, sym, subst, arith, All, List, ℕ, false, nat_lt, length, take, drop, refl}
+use Rattle.std.proofs.Common.{◌≡◌, ◌+◌, ◌*◌, ◌≤◌, ◌<◌, sym, subst, arith, All, List, ℕ, false, nat_lt, length, refl}
 use Rattle.std.proofs.lemmas.Bool.{le-ltb}
-use Rattle.bit_messages.specs.Octets.{octets_at_fault}
 use Rattle.bit_messages.proofs.PackedLemmas.{keeps, Keeps, keeps_along, part_octets}
 use Rattle.bit_messages.proofs.bits.Bits.octets_at.Goals as goal
 

@@ -1,8 +1,7 @@
-use Rattle.std.proofs.Common.{◌≡◌, ◌+◌, ◌*◌, ◌<◌, ◌≤◌, ◌∙◌, ap, sym, arith, refl, false, true, nat_lt, length, ℕ, ◌-◌, ◌++◌, take, replicate}
+use Rattle.std.proofs.Common.{◌≡◌, ◌+◌, ◌*◌, ◌∙◌, ap, sym, arith, refl, false, nat_lt, length, ℕ, ◌-◌, ◌++◌, take, replicate}
 use Rattle.std.proofs.lemmas.Grind.{div_ceil_times}
 use Rattle.std.proofs.lemmas.Bool.{le-ltb}
 use Rattle.std.specs.Vec.{vec_len}
-use Rattle.bit_messages.specs.Body.{body}
 use Rattle.bit_messages.proofs.PackedLemmas.{keeps, Keeps, keeps_along, keeps_packed, keeps_view, pad_keeps}
 use Rattle.bit_messages.proofs.bits.Bits.pad16.Goals as goal
 
@@ -27,9 +26,11 @@ returns c =
     let filled : c.resize.new.self.items ≡ take (2 * c.div_ceil-units.result) c.put_bit.new.octets.items ++ replicate (2 * c.div_ceil-units.result - length c.put_bit.new.octets.items) 0 =
     c.in_ok-resize.ensures.items ∙ ap (λ (n : ℕ). take (2 * c.div_ceil-units.result) c.put_bit.new.octets.items ++ replicate (2 * c.div_ceil-units.result - n) 0) size in
     record {
-      decided =
-          (rw short refl, keeps_view _ _ _
-          (pad_keeps c.in_ok-octets.octets.items c.put_bit.new.octets.items c.resize.new.self.items c.self.inside.len c.div_ceil-units.result c.args.self.now o c.in_ok-put_bit.ensures.ok
-          filled
-          (omega (arith, k.size, c.len-len.ensures, (div_ceil_times (c.len-len.result + 1) 16 (omega arith)).0)) (omega (arith, k.size, c.len-len.ensures, (div_ceil_times (c.len-len.result + 1) 16 (omega arith)).1))));
+      decided = (
+        rw short refl,
+        keeps_view _ _ _
+            (pad_keeps c.in_ok-octets.octets.items c.put_bit.new.octets.items c.resize.new.self.items c.self.inside.len c.div_ceil-units.result c.args.self.now o c.in_ok-put_bit.ensures.ok
+            filled
+            (omega (arith, k.size, c.len-len.ensures, (div_ceil_times (c.len-len.result + 1) 16 (omega arith)).0)) (omega (arith, k.size, c.len-len.ensures, (div_ceil_times (c.len-len.result + 1) 16 (omega arith)).1))),
+      );
     }

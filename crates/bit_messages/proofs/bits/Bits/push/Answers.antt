@@ -1,4 +1,4 @@
-use Rattle.std.proofs.Common.{◌≡◌, ◌+◌, ◌++◌, ◌∷◌, [], arith, refl}
+use Rattle.std.proofs.Common.{◌≡◌, ◌+◌, ◌++◌, ◌∷◌, [], refl}
 use Rattle.bit_messages.proofs.PackedLemmas.{keeps, Keeps, put_bit_keeps, keeps_packed, keeps_view}
 use Rattle.bit_messages.proofs.bits.Bits.push.Goals as goal
 

@@ -1,6 +1,5 @@
-use Rattle.std.proofs.Common.{◌≡◌, ◌+◌, ◌-◌, ◌≤◌, ◌∙◌, sym, arith, take, drop, refl, false, nat_lt, length}
+use Rattle.std.proofs.Common.{◌≡◌, ◌-◌, sym, arith, refl, false, nat_lt, length}
 use Rattle.std.proofs.lemmas.Bool.{le-ltb}
-use Rattle.bit_messages.specs.Body.{slice_fault}
 use Rattle.bit_messages.proofs.PackedLemmas.{keeps, Keeps, keeps_along, part_keeps, keeps_packed, keeps_view}
 use Rattle.bit_messages.proofs.bits.Bits.slice.Goals as goal
 
@@ -16,6 +15,8 @@ returns-clause-decided c =
     let k : Keeps c.self.inside.octets.items c.self.inside.len c.args.self.now = keeps _ _ _ c.self.invariant c.self.view_is in
     let o : Keeps c.deref.result.now c.self.inside.len c.args.self.now = keeps_along c.self.inside.octets.items c.deref.result.now c.self.inside.len c.args.self.now (sym c.deref.ensures.value) k in
     let order : nat_lt c.args.to c.args.from ≡ false = le-ltb c.args.to c.args.from (omega (arith, c.if-from-to.false)) in
-    let within : nat_lt (length c.args.self.now) c.args.to ≡ false = le-ltb (length c.args.self.now) c.args.to (omega (arith, c.len.ensures, c.if-to-len.false)) in
-    (rw order (rw within refl), keeps_view _ _ _
-    (part_keeps c.deref.result.now c.in_ok-part.field-0.items c.self.inside.len c.args.from c.args.to (c.args.to - c.args.from) c.args.self.now o (omega (arith, c.if-from-to.false)) (omega (arith, k.size, c.len.ensures, c.if-to-len.false)) c.in_ok-part.ensures.packed))
+    let within : nat_lt (length c.args.self.now) c.args.to ≡ false = le-ltb (length c.args.self.now) c.args.to (omega (arith, c.len.ensures, c.if-to-len.false)) in (
+      rw order (rw within refl),
+      keeps_view _ _ _
+          (part_keeps c.deref.result.now c.in_ok-part.field-0.items c.self.inside.len c.args.from c.args.to (c.args.to - c.args.from) c.args.self.now o (omega (arith, c.if-from-to.false)) (omega (arith, k.size, c.len.ensures, c.if-to-len.false)) c.in_ok-part.ensures.packed),
+    )

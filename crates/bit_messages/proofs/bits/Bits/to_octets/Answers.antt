@@ -1,4 +1,4 @@
-use Rattle.std.proofs.Common.{◌≡◌, ◌<◌, ◌∙◌, ap, arith, refl, All, length, ℕ, List, subst}
+use Rattle.std.proofs.Common.{◌<◌, ◌∙◌, ap, arith, refl, All, length, ℕ, List, subst}
 use Rattle.bit_messages.proofs.PackedLemmas.{keeps, Keeps, some_bits, packs_octets}
 use Rattle.bit_messages.proofs.bits.Bits.to_octets.Goals as goal
 

@@ -1,4 +1,4 @@
-use Rattle.std.proofs.Common.{◌≡◌, ◌<◌, ◌∙◌, ap, arith, [], length}
+use Rattle.std.proofs.Common.{◌≡◌, ◌<◌, ap, arith, [], length}
 use Rattle.bit_messages.proofs.PackedLemmas.{keeps, Keeps, some_bits, match_err}
 use Rattle.bit_messages.proofs.bits.BitsClone.clone.Goals as goal
 

@@ -1,5 +1,4 @@
-use Rattle.std.proofs.Common.{◌≡◌, ◌<◌, ◌∙◌, ap, sym, subst, arith, All, List, ℕ, length}
-use Rattle.bit_messages.specs.Octets.{octets_of}
+use Rattle.std.proofs.Common.{◌∙◌, sym, arith}
 use Rattle.bit_messages.proofs.PackedLemmas.{keeps, Keeps, keeps_along, packs_octets, differ_by_length, same_by_octets}
 use Rattle.bit_messages.proofs.bits.BitsPartialEq.eq.Goals as goal
 
