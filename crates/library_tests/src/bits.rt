@@ -220,13 +220,19 @@ fn octets_from(alloc: Global, from: usize, count: usize) -> Result<Vec<u8>, BitF
 
 #[test]
 fn octets_are_read_across_borders(rt: HostRuntime) -> Result<(), Fail> {
-    assert_eq!(rt; octets_from(rt.alloc(), 4, 2)?.as_slice(), [0x14, 0x24].as_slice());
+    assert_eq!(rt;
+        octets_from(rt.alloc(), 4, 2)?.as_slice(),
+        [0x14, 0x24].as_slice()
+    );
     let others = [
         octets_from(rt.alloc(), 4, 3).err(),
         octets_from(rt.alloc(), 24, 0).err(),
         octets_from(rt.alloc(), 25, 0).err(),
     ];
-    assert_eq!(rt; others, [Some(BitFault::Range), None, Some(BitFault::Range)]);
+    assert_eq!(rt;
+        others,
+        [Some(BitFault::Range), None, Some(BitFault::Range)]
+    );
     Ok(())
 }
 
