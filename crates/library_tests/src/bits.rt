@@ -235,37 +235,3 @@ fn octets_are_read_across_borders(rt: HostRuntime) -> Result<(), Fail> {
     );
     Ok(())
 }
-
-/// Whether a slice, and the same bits put behind others, are what single bits give.
-fn agrees(alloc: Global, from: usize, length: usize) -> Result<bool, BitFault> {
-    let octets = [0xA5u8, 0x3C, 0x96, 0xF0, 0x0F, 0x5A, 0xC3, 0x69];
-    let bits = Bits::from_octets(alloc, &octets, 64)?;
-    let mut singly = Bits::new(alloc);
-    let mut joined = bits.slice(alloc, 0, from)?;
-    for place in 0..from + length {
-        let bit = bits.get(place).unwrap_or(false);
-        singly.push(bit)?;
-    }
-    let part = bits.slice(alloc, from, from + length)?;
-    joined.append(&part)?;
-    Ok(part.len() == length && joined == singly)
-}
-
-/// How many starts and lengths agree with single bits.
-fn agreements(alloc: Global) -> Result<usize, BitFault> {
-    let mut found = 0;
-    for from in 0..16usize {
-        for length in 0..41usize {
-            if agrees(alloc, from, length)? && found < 9999 {
-                found += 1;
-            }
-        }
-    }
-    Ok(found)
-}
-
-#[test]
-fn slices_and_appends_agree_with_single_bits(rt: HostRuntime) -> Result<(), Fail> {
-    assert_eq!(rt; agreements(rt.alloc())?, 16 * 41);
-    Ok(())
-}
