@@ -200,6 +200,13 @@ impl Bits {
         self.slice(alloc, 0, mark)
     }
 
+    /// Whether any bit is a 1, as a body's mark is.
+    pub fn has_mark(&self) -> bool
+        ensures { result ≡ has_mark self.now }
+    {
+        self.mark().is_some()
+    }
+
     /// The place of the last 1.
     fn mark(&self) -> Option<usize>
         ensures none { result ≡ None → has_mark self.now ≡ false }

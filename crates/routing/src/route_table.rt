@@ -1,8 +1,8 @@
 //! What an IMP knows of routes.
 
-ghost use Rattle.std.specs.Prelude.{◌≡◌, ◌+◌, ◌<◌, ◌≤◌, ◌==◌, IfOk, OnErr, length, position, ◌-◌, All, Some, map, [], slice_index_or};
+ghost use Rattle.std.specs.Prelude.{◌≡◌, ◌≢◌, ◌+◌, ◌<◌, ◌≤◌, ◌==◌, IfOk, IfSome, OnErr, length, position, ◌-◌, All, Some, map, [], slice_index_or};
 ghost use Rattle.routing.specs.RouteTable.{opening, hears, loses, distance_in, heard_distance, least_heard, distance_to, vector_of, next_of};
-ghost use Rattle.routing.specs.Vector.{infinite, IsVector};
+ghost use Rattle.routing.specs.Vector.{imps, infinite, IsVector};
 ghost use Rattle.routing.specs.Settle.{IsImp, after_round, neighbours, other_end};
 
 use crate::vector::{IMPS, INFINITE, Vector};
@@ -69,11 +69,20 @@ impl RouteTable {
         Vector::new(distances)
     }
 
+    /// The IMP's own number.
+    pub fn own(&self) -> u8
+        ensures { result ≡ self.now.own }
+    {
+        self.own
+    }
+
     /// The lowest port whose neighbour attains the IMP's distance to another IMP. `None` for the IMP
-    /// itself, and for an IMP at the infinite distance. This takes no memory.
+    /// itself, and for an IMP at the infinite distance, such as one that there can't be. This takes no
+    /// memory.
     #[tactic(auto, unfolding(crate::specs::RouteTable::next_of))]
     pub fn next(&self, imp: u8) -> Option<usize>
-        ensures { result ≡ next_of self.now imp }
+        ensures next { result ≡ next_of self.now imp }
+        ensures within { IfSome result (λ port. (port < length self.now.heard) × (imp ≤ imps)) }
     {
         let distance = self.distance_to(imp);
         if imp == self.own || distance == INFINITE {
@@ -96,6 +105,7 @@ impl RouteTable {
     fn distance_to(&self, imp: u8) -> u8
         ensures value { result ≡ distance_to self.now imp }
         ensures most { result ≤ infinite }
+        ensures no_imp { imps < imp → imp ≢ self.now.own → result ≡ infinite }
     {
         if imp == self.own {
             return 0;
@@ -136,6 +146,7 @@ fn hear_lines(own: u8, graph: &[(u8, u8)], told: &[Vector], heard: &mut [Option<
 fn least_heard(ports: &[Option<Vector>], imp: u8) -> u8
     ensures value { result ≡ least_heard ports.now imp }
     ensures most { result ≤ infinite }
+    ensures no_imp { imps < imp → result ≡ infinite }
 {
     let mut least = INFINITE;
     for heard in ports {
@@ -146,7 +157,8 @@ fn least_heard(ports: &[Option<Vector>], imp: u8) -> u8
 
 /// The lowest port on which a distance to an IMP is attained.
 fn first_port(ports: &[Option<Vector>], imp: u8, distance: u8) -> Option<usize>
-    ensures { result ≡ position (λ heard. heard_distance heard imp + 1 == distance) ports.now }
+    ensures first { result ≡ position (λ heard. heard_distance heard imp + 1 == distance) ports.now }
+    ensures within { IfSome result (λ port. port < length ports.now) }
 {
     ports
         .iter()
@@ -157,6 +169,7 @@ fn first_port(ports: &[Option<Vector>], imp: u8, distance: u8) -> Option<usize>
 fn heard_distance(heard: &Option<Vector>, imp: u8) -> u8
     ensures value { result ≡ heard_distance heard.now imp }
     ensures most { result ≤ infinite }
+    ensures no_imp { imps < imp → result ≡ infinite }
 {
     match heard {
         Some(vector) => distance_in(vector.distances(), imp),
@@ -169,6 +182,7 @@ fn distance_in(distances: &[u8], imp: u8) -> u8
     requires { IsVector distances.now }
     ensures value { result ≡ distance_in distances.now imp }
     ensures most { result ≤ infinite }
+    ensures no_imp { imps < imp → result ≡ infinite }
 {
     if imp == 0 {
         return INFINITE;
