@@ -1,0 +1,12 @@
+pub mod State
+pub mod Room
+pub mod Flows
+pub mod Pump
+pub mod Offering
+pub mod Arrival
+pub mod Taking
+pub mod Lines
+pub mod Stopping
+pub mod Contents
+pub mod Queries
+pub mod Turns

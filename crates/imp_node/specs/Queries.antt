@@ -1,0 +1,74 @@
+-- What can be asked of an IMP: its flows, and what it holds of messages. (`begins` stands in Offering.)
+--
+-- Holding is what counts as alive in an IMP: packets in its store, in channels and in slots, and messages in queues. An answer
+-- that waits for a host does not count.
+use Rattle.std.specs.Prelude.{ℕ, Bool, true, false, Option, ◌==◌, ◌&&◌, ◌||◌}
+use Rattle.std.specs.FinMap as map
+use Rattle.std.specs.List.{list_any}
+use Rattle.leader1822.specs.Flow.{same_flow}
+use Rattle.leader1822.specs.declared.address.Flow.{Flow}
+use Rattle.link_table.specs.Flows.{last_in, outstanding_in}
+use Rattle.link_table.specs.Keys.{has_from}
+use Rattle.packetiser.specs.PacketFields.{PacketFields, flow_of}
+use Rattle.packetiser.specs.declared.packet.PacketKind.{PacketKind}
+use Rattle.packetiser.specs.declared.packet.PacketKind.TheVariants as kind
+use Rattle.imp_node.specs.declared.waiting.Message.{Message}
+use Rattle.imp_node.specs.State.{State}
+use Rattle.imp_node.specs.Contents.{packets, messages}
+
+-- ---- flows
+
+-- the number of the outstanding message of a flow
+abbrev pub outstanding : State → Flow → Option ℕ
+outstanding s f = outstanding_in (map.get s.sources f)
+
+-- the number begun last
+abbrev pub last : State → Flow → Option ℕ
+last s f = last_in (map.get s.sources f)
+
+-- whether it keeps a last number of a flow from this IMP
+abbrev pub keeps : State → ℕ → Bool
+keeps s imp = has_from imp s.kept
+
+-- ---- holding
+
+-- a packet of any kind, or a message, of this flow and number
+abbrev pub packet_has : Flow → ℕ → PacketFields → Bool
+packet_has f n p = same_flow f (flow_of p) && p.number == n
+
+abbrev pub message_has : Flow → ℕ → Message → Bool
+message_has f n m = same_flow f m.flow && m.number == n
+
+abbrev pub holds : State → Flow → ℕ → Bool
+holds s f n = list_any (packet_has f n) (packets s) || list_any (message_has f n) (messages s)
+
+-- data or a message from a host at one IMP to a host at another
+abbrev pub goes_between : ℕ → ℕ → Flow → Bool
+goes_between from to f = f.source.imp == from && f.destination.imp == to
+
+abbrev pub is_data : PacketKind → Bool
+is_data kind.Data = true
+is_data kind.Rfnm = false
+is_data kind.Dead = false
+
+abbrev pub is_data_between : ℕ → ℕ → PacketFields → Bool
+is_data_between from to p = is_data p.kind && goes_between from to (flow_of p)
+
+abbrev pub is_message_between : ℕ → ℕ → Message → Bool
+is_message_between from to m = goes_between from to m.flow
+
+abbrev pub holds_data : State → ℕ → ℕ → Bool
+holds_data s from to = list_any (is_data_between from to) (packets s) || list_any (is_message_between from to) (messages s)
+
+-- anything of a flow from or to a host at this IMP
+abbrev pub is_at_end : ℕ → Flow → Bool
+is_at_end imp f = f.source.imp == imp || f.destination.imp == imp
+
+abbrev pub packet_touches : ℕ → PacketFields → Bool
+packet_touches imp p = is_at_end imp (flow_of p)
+
+abbrev pub message_touches : ℕ → Message → Bool
+message_touches imp m = is_at_end imp m.flow
+
+abbrev pub touches : State → ℕ → Bool
+touches s imp = list_any (packet_touches imp) (packets s) || list_any (message_touches imp) (messages s)

@@ -1,0 +1,12 @@
+//! An IMP's end of a line.
+
+use imp_channel::Line;
+
+/// An IMP's end of a line: up or down, and its channels.
+#[derive(Debug, Drop)]
+pub struct Port {
+    /// Whether it is up.
+    pub up: bool,
+    /// Its channels.
+    pub line: Line,
+}

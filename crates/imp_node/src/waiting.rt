@@ -1,0 +1,23 @@
+//! What waits for a host.
+
+use leader1822::{Answer, Flow, Text};
+
+/// An answer that waits for the source of its flow.
+#[derive(Debug, Drop)]
+pub struct Told {
+    /// What became of the message.
+    pub kind: Answer,
+    /// Its flow.
+    pub flow: Flow,
+}
+
+/// A whole message that waits for its destination.
+#[derive(Debug, Drop)]
+pub struct Message {
+    /// Its flow.
+    pub flow: Flow,
+    /// Its number.
+    pub number: u8,
+    /// What it says.
+    pub text: Text,
+}
