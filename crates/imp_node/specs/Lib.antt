@@ -10,3 +10,4 @@ pub mod Stopping
 pub mod Contents
 pub mod Queries
 pub mod Turns
+pub mod Inside

@@ -1,0 +1,120 @@
+//! A host of an IMP, and what waits for it.
+
+ghost use Rattle.std.specs.Prelude.{◌≡◌, ℕ, ◌≤◌, ◌∷◌, ◌++◌, [], length, drop, nat_lt, slice_get, All, IfOk, IfSome, OnOk, OnErr, true, false};
+ghost use Rattle.std.specs.List.{list_any};
+ghost use Rattle.imp_node.specs.State.{no_host};
+ghost use Rattle.imp_node.specs.Flows.{is_about, given};
+ghost use Rattle.imp_node.specs.Room.{queue_places};
+ghost use Rattle.imp_node.specs.Inside.Parts.{IsPacketFlow, AreOfPackets};
+
+use crate::waiting::{Message, Told};
+use circular_buffer::HeapCircularBuffer;
+use leader1822::Flow;
+use std::alloc::{AllocError, Global};
+use std::collections::VecDeque;
+use std::marker::Model;
+
+/// How many whole messages can wait for a host.
+const QUEUE_PLACES: usize = 16;
+
+/// A host of an IMP: up or down, the answers that wait for it, and the whole messages that wait for it,
+/// the oldest first. The messages stand in a ring that is never overwritten.
+#[derive(Drop)]
+pub struct Host {
+    up: bool,
+    answers: VecDeque<Told>,
+    queue: HeapCircularBuffer<Message>,
+}
+
+impl Model for Host {
+    ghost use Rattle.std.specs.Prelude.{◌≡◌};
+    ghost use Rattle.imp_node.specs.State.{HostState};
+    ghost use Rattle.imp_node.specs.Inside.Parts.{AreOfPackets};
+    ghost use Rattle.imp_node.specs.Room.{queue_places};
+
+    ghost Value = { HostState };
+
+    ghost view = { λ h. record { up = h.up; answers = h.answers.items; queue = h.queue.items } };
+
+    ghost invariant = { λ h. (h.queue.capacity ≡ queue_places) × AreOfPackets h.queue.items };
+}
+
+impl Host {
+    /// A host that is up or down, and for which nothing waits.
+    pub(crate) fn new(alloc: Global, up: bool) -> Result<Host, AllocError>
+        ensures { IfOk result (λ host. host ≡ record { up = up; answers = []; queue = [] }) }
+    {
+        Ok(Host {
+            up,
+            answers: VecDeque::new(alloc),
+            queue: HeapCircularBuffer::with_capacity(alloc, QUEUE_PLACES)?,
+        })
+    }
+
+    /// Whether it is up.
+    pub(crate) fn is_up(&self) -> bool
+        ensures { result ≡ self.now.up }
+    {
+        self.up
+    }
+
+    /// Whether an answer about this flow waits.
+    pub(crate) fn has_answer_about(&self, flow: &Flow) -> bool
+        ensures { result ≡ list_any (is_about flow.now) self.now.answers }
+    {
+        self.answers.iter().any(|told| *flow == told.flow)
+    }
+
+    /// Whether one more message has room.
+    pub(crate) fn has_room(&self) -> bool
+        ensures { result ≡ nat_lt (length self.now.queue) queue_places }
+    {
+        self.queue.len() < self.queue.capacity()
+    }
+
+    /// Lets the host come up.
+    pub(crate) fn start(&mut self)
+        ensures { self.new ≡ record self.old { up = true } }
+    {
+        self.up = true;
+    }
+
+    /// An answer waits for the host if it is up.
+    pub(crate) fn tell(&mut self, told: Told) -> Result<(), AllocError>
+        ensures ok { OnOk result (self.new ≡ given self.old told) }
+        ensures memory { OnErr result (self.old.up ≡ true) }
+    {
+        if self.up {
+            self.answers.push_back(told)?;
+        }
+        Ok(())
+    }
+
+    /// A message waits behind the others. There is room for it.
+    pub(crate) fn enqueue(&mut self, message: Message)
+        requires room { nat_lt (length self.old.queue) queue_places ≡ true }
+        requires flow { IsPacketFlow message.flow }
+        ensures { self.new ≡ record self.old { queue = self.old.queue ++ message ∷ [] } }
+    {
+        if self.queue.try_push_back(message).is_err() {
+            unreachable!();
+        }
+    }
+
+    /// Takes the oldest answer.
+    pub(crate) fn take_answer(&mut self) -> Option<Told>
+        ensures first { result ≡ slice_get self.old.answers 0 }
+        ensures rest { self.new ≡ record self.old { answers = drop 1 self.old.answers } }
+    {
+        self.answers.pop_front()
+    }
+
+    /// Takes the oldest message.
+    pub(crate) fn take_message(&mut self) -> Option<Message>
+        ensures first { result ≡ slice_get self.old.queue 0 }
+        ensures rest { self.new ≡ record self.old { queue = drop 1 self.old.queue } }
+        ensures flow { IfSome result (λ m. IsPacketFlow m.flow) }
+    {
+        self.queue.pop_front()
+    }
+}
