@@ -167,3 +167,9 @@ bits_again (a ∷ b ∷ c ∷ d ∷ e ∷ f ∷ g ∷ h ∷ rest) =
     ap (λ (v : List Bool). v ++ bits_of (octets_of rest)) (octet_bits_again a b c d e f g h)
     ∙ ap (λ (v : List Bool). a ∷ b ∷ c ∷ d ∷ e ∷ f ∷ g ∷ h ∷ v) (bits_again rest)
     ∙ ap (λ (n : ℕ). a ∷ b ∷ c ∷ d ∷ e ∷ f ∷ g ∷ h ∷ (rest ++ replicate n false)) spare
+
+-- bits that take octets
+pub some_octets : (bits : List Bool) → 0 < length (octets_of bits) → 0 < length bits
+unfolding octets_of
+some_octets [] some = absurd (omega arith)
+some_octets (b ∷ bits) some = omega arith

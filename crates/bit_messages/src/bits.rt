@@ -134,6 +134,14 @@ impl Bits {
         })
     }
 
+    /// The bits in octets, the last octet filled with zeros. The octets are lent.
+    pub fn as_octets(&self) -> &[u8]
+        ensures { result.now ≡ octets_of self.now }
+    {
+        are_octets(&self.octets);
+        &self.octets
+    }
+
     /// The bits in octets, the last octet filled with zeros.
     ///
     /// Errors: `OutOfMemory` where there are bits.
@@ -141,8 +149,7 @@ impl Bits {
         ensures decided { Decided None (λ octets. octets.items ≡ octets_of self.now) result }
         ensures memory { result ≡ Err fault.OutOfMemory → 0 < length self.now }
     {
-        are_octets(&self.octets);
-        Ok(copied(alloc, &self.octets)?)
+        Ok(copied(alloc, self.as_octets())?)
     }
 
     /// The `8 * n` bits from place `from` on, as octets.

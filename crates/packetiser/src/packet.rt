@@ -185,7 +185,6 @@ impl Packet {
         ensures spelled { GivesIfMemory (λ octets. octets.items ≡ spelling self.now) result }
         ensures again { IfOk result (λ octets. read_of octets.items ≡ Ok self.now) }
     {
-        let bits = self.bits.to_octets(alloc).map_err(out_of_memory)?;
         let number = self.number;
         let count = self.bits.len();
         let mut octets = Vec::from_slice(
@@ -201,7 +200,7 @@ impl Packet {
                 (count % 256) as u8,
             ],
         )?;
-        octets.extend_from_slice(&bits)?;
+        octets.extend_from_slice(self.bits.as_octets())?;
         Ok(octets)
     }
 }

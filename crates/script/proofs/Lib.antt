@@ -1,3 +1,4 @@
+mod Digits
 mod Hosts
 mod Keywords
 mod Lines

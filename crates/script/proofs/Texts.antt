@@ -1,16 +1,20 @@
 -- Texts of messages as words.
-use Rattle.std.proofs.Common.{◌≡◌, ◌≢◌, ℕ, ◌<◌, ◌≤◌, ◌+◌, ◌*◌, ◌%◌, Bool, true, false, List, [], ◌∷◌, length, take, replicate, Result, Ok, refl, sym, ap, ◌∙◌, arith, length-append, lit<, zero, suc, Option, Some, None, IsSome, IfSome}
-use Rattle.std.proofs.lemmas.List.{take_at, length-take-le}
+use Rattle.std.proofs.Common.{◌≡◌, ◌≢◌, ℕ, ◌<◌, ◌≤◌, ◌+◌, ◌*◌, ◌%◌, Bool, true, false, List, [], ◌∷◌, ◌++◌, length, take, replicate, get_or, subst, Result, Ok, refl, sym, ap, ◌∙◌, arith, length-append, lit<, zero, suc, Option, Some, None, IsSome, IfSome}
+use Rattle.std.proofs.lemmas.List.{take_at, length-take-le, length-replicate}
+use Rattle.std.proofs.lemmas.Grind.{get_or_default_zero}
 use Rattle.std.proofs.lemmas.List.Elements.{All-head, All-tail}
 use Rattle.std.proofs.lemmas.Bool.{false≢true}
 use Rattle.std.specs.List.{All}
-use Rattle.hex.specs.Hex.{encode_upper, decode_of, is_hex_digit, IsBytes}
-use Rattle.hex.proofs.HexLemmas.{decode_of-digits, decode_of-encode_upper, decode_of-ok}
+use Rattle.hex.specs.Hex.{encode_upper, upper_digits, decode_of, is_hex_digit, IsBytes}
+use Rattle.hex.proofs.HexLemmas.{decode_of-digits, decode_of-encode_upper, length-encode_with}
 use Rattle.bit_messages.specs.Octets.{octets_of, bits_of, spare_bits}
 use Rattle.bit_messages.proofs.OctetLemmas.{bits_again, octets_below, length-bits_of}
-use Rattle.script.specs.Spelling.{octets_text, IsHex, ReadsAs}
+use Rattle.bit_messages.specs.Packed.{Packs}
+use Rattle.bit_messages.proofs.PackedLemmas.{packs_octets}
+use Rattle.script.specs.Spelling.{octets_text, IsHex, ReadsAs, is_upper_digit, IsTextWord, IsWordOfText}
+use Rattle.script.proofs.Digits.{IsSpelled, spelled_octets, spelled_digits, spelled_even, upper_are_digits}
 use Rattle.std.specs.List.{list_all}
-use Rattle.std.proofs.lemmas.List.Sums.{AllPass-from_list_all, list_all-from_AllPass}
+use Rattle.std.proofs.lemmas.List.Sums.{AllPass-from_list_all}
 
 -- the first bits of a text's octets are the text
 pub text_again : (text : List Bool) → take (length text) (bits_of (octets_of text)) ≡ text
@@ -53,22 +57,22 @@ too_few word octets count some read few x long e =
     let counted : length octets ≡ length (octets_of x) = ap length same in
     absurd (omega arith)
 
-pub other_case : (word octets : List ℕ) (bits : List Bool) (count : ℕ) → 0 < count → decode_of word ≡ Ok octets → bits ≡ take count (bits_of octets) → (encode_upper (octets_of bits) ≢ word) → (x : List Bool) → length x ≡ count → word ≢ octets_text x
+pub other_case : (word octets : List ℕ) (bits : List Bool) (count : ℕ) → 0 < count → decode_of word ≡ Ok octets → bits ≡ take count (bits_of octets) → (octets_of bits ≢ octets) → (x : List Bool) → length x ≡ count → word ≢ octets_text x
 other_case word octets bits count some read first differs x long e =
     let same : octets ≡ octets_of x = same_octets word octets x (omega arith) read e in
     let whole : bits ≡ x = first ∙ ap (λ n. take n (bits_of octets)) (sym long) ∙ ap (λ os. take (length x) (bits_of os)) same ∙ text_again x in
-    differs (ap (λ bs. encode_upper (octets_of bs)) whole ∙ sym (spelled_text x (omega arith)) ∙ sym e)
+    differs (ap octets_of whole ∙ sym same)
 
 -- bits whose octets a word spells
 pub record Spelled (word : List ℕ) (count : ℕ) (bits : List Bool) : Type 0 where
   pub long : length bits ≡ count
   pub text : word ≡ octets_text bits
 
-pub this_case : (word octets : List ℕ) (bits : List Bool) (count : ℕ) → 0 < count → count ≤ 8 * length octets → bits ≡ take count (bits_of octets) → encode_upper (octets_of bits) ≡ word → Spelled word count bits
-this_case word octets bits count some enough first same =
+pub this_case : (word octets : List ℕ) (bits : List Bool) (count : ℕ) → 0 < count → count ≤ 8 * length octets → bits ≡ take count (bits_of octets) → octets_of bits ≡ octets → word ≡ encode_upper octets → Spelled word count bits
+this_case word octets bits count some enough first same spelled =
     let all : length (bits_of octets) ≡ 8 * length octets = length-bits_of octets in
     let long : length bits ≡ count = ap length first ∙ length-take-le count (bits_of octets) (omega arith) in
-    record { long = long; text = sym same ∙ sym (spelled_text bits (omega arith)) }
+    record { long = long; text = spelled ∙ ap encode_upper (sym same) ∙ sym (spelled_text bits (omega arith)) }
 
 -- bits that are a short text
 pub text_made : (word : List ℕ) (count : ℕ) (bits : List Bool) (o : Option (List Bool)) → count ≤ 8063 → Spelled word count bits → (length bits ≤ 8063 → IsSome o) → IfSome o (λ text. text ≡ bits) → ReadsAs octets_text (λ text. length text ≡ count) word o
@@ -79,16 +83,56 @@ text_made word count bits None few spelled short same =
 text_made word count bits (Some t) few spelled short same =
     (spelled.text ∙ ap octets_text (sym same), ap length same ∙ spelled.long)
 
--- a word that doesn't decode is none that was written
-pub no_digits : (word : List ℕ) → (IsHex word → ⊥) → (e : List ℕ) → IsBytes e → word ≢ encode_upper e
-no_digits word none e bytes is = none (e, ap decode_of is ∙ decode_of-encode_upper e bytes)
+-- an even number of upper case digits decodes
+pub upper_hex : (word : List ℕ) → length word % 2 ≡ 0 → list_all is_upper_digit word ≡ true → IsHex word
+upper_hex word even digits = decode_of-digits word even (AllPass-from_list_all is_hex_digit word (upper_are_digits word digits))
 
-pub hex_digits : (word : List ℕ) → length word % 2 ≡ 0 → list_all is_hex_digit word ≡ true → IsHex word
-hex_digits word even digits = decode_of-digits word even (AllPass-from_list_all is_hex_digit word digits)
+-- and is spelled by what it decodes to
+pub upper_again : (word octets : List ℕ) → length word % 2 ≡ 0 → list_all is_upper_digit word ≡ true → decode_of word ≡ Ok octets → word ≡ encode_upper octets
+upper_again word octets even digits read =
+    let s : IsSpelled word = spelled_octets word even digits in
+    s.spelled ∙ ap encode_upper (ok_same s.octets octets (decode_of word) (ap decode_of s.spelled ∙ decode_of-encode_upper s.octets s.bytes) read)
 
--- a word of an odd length, or with another octet, doesn't decode
-pub odd_length : (word : List ℕ) → (length word % 2 ≡ 0 → ⊥) → IsHex word → ⊥
-odd_length word odd h = odd (decode_of-ok word h.0 h.1).0
+-- a word of an odd length, or with another octet, is none that was written
+pub odd_length : (word : List ℕ) → (length word % 2 ≡ 0 → ⊥) → (e : List ℕ) → IsBytes e → word ≢ encode_upper e
+odd_length word odd e bytes is = odd (ap (λ w. length w % 2) is ∙ spelled_even e)
 
-pub other_octet : (word : List ℕ) → list_all is_hex_digit word ≡ false → IsHex word → ⊥
-other_octet word other h = false≢true (sym other ∙ list_all-from_AllPass is_hex_digit word (decode_of-ok word h.0 h.1).1)
+pub other_octet : (word : List ℕ) → list_all is_upper_digit word ≡ false → (e : List ℕ) → IsBytes e → word ≢ encode_upper e
+other_octet word other e bytes is = false≢true (sym other ∙ ap (list_all is_upper_digit) is ∙ spelled_digits e bytes)
+
+-- ---- which words are texts
+
+bytes_below : (octets : List ℕ) → IsBytes octets → All (λ n. n < 256) octets
+bytes_below octets bytes = λ k d there. (let read : get_or octets k d ≡ get_or octets k 0 = get_or_default_zero octets k d there in let small : get_or octets k 0 < 256 = bytes k in omega arith)
+
+pub word_of_text : (word : List ℕ) (count : ℕ) → 0 < count → IsTextWord word count → IsWordOfText word count
+word_of_text word count some is =
+    let s : IsSpelled word = spelled_octets word (omega (arith, is.size)) is.digits in
+    let read : decode_of word ≡ Ok s.octets = ap decode_of s.spelled ∙ decode_of-encode_upper s.octets s.bytes in
+    let size : length word ≡ 2 * length s.octets = ap length s.spelled ∙ length-encode_with upper_digits s.octets in
+    let all : length (bits_of s.octets) ≡ 8 * length s.octets = length-bits_of s.octets in
+    let long : length (take count (bits_of s.octets)) ≡ count = length-take-le count (bits_of s.octets) (omega (arith, is.size)) in
+    let packs : Packs s.octets (take count (bits_of s.octets)) = record { zeros = spare_bits count; same = is.unused s.octets read; few = omega arith } in
+    let same : s.octets ≡ octets_of (take count (bits_of s.octets)) = packs_octets s.octets (take count (bits_of s.octets)) (bytes_below s.octets s.bytes) packs in
+    record {
+      text = take count (bits_of s.octets);
+      long = long;
+      spelled = s.spelled ∙ ap encode_upper same ∙ sym (spelled_text (take count (bits_of s.octets)) (omega arith));
+    }
+
+pub text_word : (word : List ℕ) (count : ℕ) → 0 < count → IsWordOfText word count → IsTextWord word count
+text_word word count some is =
+    let octets : List ℕ = octets_of is.text in
+    let spelled : word ≡ encode_upper octets = is.spelled ∙ spelled_text is.text (omega (arith, is.long)) in
+    let size : length word ≡ 2 * length octets = ap length spelled ∙ length-encode_with upper_digits octets in
+    let spare : spare_bits (length is.text) ≡ spare_bits count = ap spare_bits is.long in
+    let all : 8 * length octets ≡ length is.text + length (replicate (spare_bits (length is.text)) false) = sym (length-bits_of octets) ∙ ap length (bits_again is.text) ∙ length-append is.text _ in
+    let zeros : length (replicate (spare_bits (length is.text)) false) ≡ spare_bits (length is.text) = length-replicate (spare_bits (length is.text)) false in
+    let P : List ℕ → Type 0 = λ os. bits_of os ≡ take count (bits_of os) ++ replicate (spare_bits count) false in
+    let own : bits_of octets ≡ take count (bits_of octets) ++ replicate (spare_bits count) false =
+    bits_again is.text ∙ ap (λ n. is.text ++ replicate n false) spare ∙ ap (λ bs. bs ++ replicate (spare_bits count) false) (sym (ap (λ n. take n (bits_of octets)) (sym is.long) ∙ text_again is.text)) in
+    record {
+      digits = ap (list_all is_upper_digit) spelled ∙ spelled_digits octets (are_bytes is.text);
+      size = omega (arith, is.long);
+      unused = λ read reads. subst P (ok_same octets read (decode_of word) (ap decode_of spelled ∙ decode_of-encode_upper octets (are_bytes is.text)) reads) own;
+    }

@@ -1,8 +1,9 @@
 -- How events are spelled in a script: words with single spaces between.
-use Rattle.std.specs.Prelude.{◌≡◌, ◌≢◌, ℕ, ◌<◌, ◌≤◌, Bool, List, [], ◌∷◌, ◌++◌, ◌⊎◌, length, codes, Option, Some, None, Ok}
+use Rattle.std.specs.Prelude.{◌≡◌, ◌≢◌, ℕ, ◌+◌, ◌*◌, ◌/◌, ◌<◌, ◌≤◌, nat_le, Bool, true, false, ◌&&◌, ◌||◌, List, [], ◌∷◌, ◌++◌, ◌⊎◌, length, take, replicate, codes, Option, Some, None, Ok}
+use Rattle.std.specs.List.{list_all}
 use Rattle.std.specs.Fmt.{decimal}
 use Rattle.hex.specs.Hex.{decode_of, encode_upper}
-use Rattle.bit_messages.specs.Octets.{octets_of}
+use Rattle.bit_messages.specs.Octets.{octets_of, bits_of, spare_bits}
 use Rattle.leader1822.specs.Host.{Host, host_at}
 use Rattle.leader1822.specs.Printed.{host_text, flow_text}
 use Rattle.leader1822.specs.declared.address.Flow.{Flow}
@@ -31,6 +32,23 @@ IsFlow f = IsHost f.source × IsHost f.destination × (f.link.0 < 256)
 abbrev pub octets_text : List Bool → List ℕ
 octets_text [] = codes "-"
 octets_text (b ∷ bits) = encode_upper (octets_of (b ∷ bits))
+
+-- an upper case hexadecimal digit
+abbrev pub is_upper_digit : ℕ → Bool
+is_upper_digit c = nat_le 48 c && nat_le c 57 || nat_le 65 c && nat_le c 70
+
+-- a word of upper case hexadecimal digits, two for each octet that this many bits take; the bits of the last octet that aren't
+-- used are zero
+pub record IsTextWord (word : List ℕ) (count : ℕ) : Type 0 where
+  pub digits : list_all is_upper_digit word ≡ true
+  pub size : length word ≡ 2 * ((count + 7) / 8)
+  pub unused : (octets : List ℕ) → decode_of word ≡ Ok octets → bits_of octets ≡ take count (bits_of octets) ++ replicate (spare_bits count) false
+
+-- the word of a text of this many bits
+pub record IsWordOfText (word : List ℕ) (count : ℕ) : Type 0 where
+  pub text : List Bool
+  pub long : length text ≡ count
+  pub spelled : word ≡ octets_text text
 
 abbrev pub direction_text : Direction → List ℕ
 direction_text direction.Forward = codes "+"

@@ -3,11 +3,11 @@
 ghost use Rattle.std.specs.Prelude.{◌≡◌, ◌≢◌, ℕ, ◌<◌, ◌≤◌, ◌==◌, ◌^◌, false, List, ◌∷◌, ◌++◌, length, ◌*◌, take, Ok, MatchOption, IfOk, IfErr, IsTrue, ◌↔◌};
 ghost use Rattle.std.specs.List.{All, list_all};
 ghost use Rattle.std.specs.Fmt.{decimal};
-ghost use Rattle.hex.specs.Hex.{encode_upper, decode_of, is_hex_digit, IsBytes};
-ghost use Rattle.bit_messages.specs.Octets.{octets_of, bits_of};
+ghost use Rattle.hex.specs.Hex.{encode_upper, decode_of, IsBytes};
+ghost use Rattle.bit_messages.specs.Octets.{bits_of};
 ghost use Rattle.leader1822.specs.Printed.{host_text};
 ghost use Rattle.script.specs.Steps.{begins_wrong};
-ghost use Rattle.script.specs.Spelling.{ReadsAs, IsHost, IsHex, octets_text};
+ghost use Rattle.script.specs.Spelling.{ReadsAs, IsHost, IsHex, is_upper_digit, octets_text};
 
 use bit_messages::{BitFault, Bits, MAX_TEXT_BITS};
 use leader1822::{HostAddr, Text};
@@ -95,21 +95,22 @@ pub(crate) fn read_text(
     let Some(bits) = first_bits(alloc, &octets, count)? else {
         return Ok(None);
     };
-    if is_hex_of(alloc, &bits, word)? {
+    if bits.as_octets() == octets.as_slice() {
         Ok(Text::new(bits))
     } else {
         Ok(None)
     }
 }
 
-/// The octets that a word spells in hexadecimal. A word that spells none is refused before memory is taken.
+/// The octets that a word spells in upper case hexadecimal. A word that spells none is refused before memory
+/// is taken.
 ///
 /// Errors: `AllocError`, only for a word of hexadecimal octets.
 fn read_octets(alloc: Global, word: &[u8]) -> Result<Option<Vec<u8>>, AllocError>
-    ensures read { IfOk result (λ read. MatchOption read ((e : List ℕ) → IsBytes e → word.now ≢ encode_upper e) (λ octets. decode_of word.now ≡ Ok octets.items)) }
+    ensures read { IfOk result (λ read. MatchOption read ((e : List ℕ) → IsBytes e → word.now ≢ encode_upper e) (λ octets. (decode_of word.now ≡ Ok octets.items) × (word.now ≡ encode_upper octets.items))) }
     ensures memory { IfErr result (λ _. IsHex word.now) }
 {
-    if word.len() % 2 != 0 || !has_digits(word) {
+    if word.len() % 2 != 0 || !has_upper_digits(word) {
         return Ok(None);
     }
     match hex::decode(alloc, word) {
@@ -118,19 +119,19 @@ fn read_octets(alloc: Global, word: &[u8]) -> Result<Option<Vec<u8>>, AllocError
     }
 }
 
-/// Whether each octet of a word is a hexadecimal digit.
-fn has_digits(word: &[u8]) -> bool
-    ensures { result ≡ list_all is_hex_digit word.now }
+/// Whether each octet of a word is an upper case hexadecimal digit.
+fn has_upper_digits(word: &[u8]) -> bool
+    ensures { result ≡ list_all is_upper_digit word.now }
 {
-    word.iter().all(is_digit)
+    word.iter().all(is_upper_digit)
 }
 
-/// Whether an octet is a hexadecimal digit, in either case.
-fn is_digit(octet: &u8) -> bool
-    ensures { result ≡ is_hex_digit octet.now }
+/// Whether an octet is an upper case hexadecimal digit.
+fn is_upper_digit(octet: &u8) -> bool
+    ensures { result ≡ is_upper_digit octet.now }
 {
     match *octet {
-        b'A'..=b'F' | b'a'..=b'f' | b'0'..=b'9' => true,
+        b'0'..=b'9' | b'A'..=b'F' => true,
         _ => false,
     }
 }
@@ -147,15 +148,6 @@ fn first_bits(alloc: Global, octets: &[u8], count: usize) -> Result<Option<Bits>
         Err(BitFault::OutOfMemory) => Err(AllocError),
         Err(BitFault::NoMark | BitFault::TooLong | BitFault::Range) => Ok(None),
     }
-}
-
-/// Whether a word spells the octets of these bits.
-fn is_hex_of(alloc: Global, bits: &Bits, word: &[u8]) -> Result<bool, AllocError>
-    ensures { IfOk result (λ same. IsTrue same ↔ (encode_upper (octets_of bits.now) ≡ word.now)) }
-{
-    let octets = bits.to_octets(alloc).map_err(|_| AllocError)?;
-    let spelled = hex::encode_upper(alloc, &octets)?;
-    Ok(spelled.as_bytes() == word)
 }
 
 /// The number of bits of a message's text that a word spells.
