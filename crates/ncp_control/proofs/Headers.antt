@@ -1,21 +1,16 @@
 -- Headers written and read.
-use Rattle.std.proofs.Common.{◌≡◌, ℕ, ◌+◌, ◌*◌, ◌/◌, ◌%◌, ◌<◌, ◌≤◌, Bool, true, false, List, [], ◌∷◌, ◌++◌, length, take, drop, get_or, Option, refl, ap, sym, ◌∙◌, arith, Some, None, unwrap_or, nat_lt, subst, if◌then◌else◌, ◌||◌}
+use Rattle.std.proofs.Common.{◌≡◌, ℕ, ◌+◌, ◌*◌, ◌/◌, ◌%◌, ◌<◌, ◌≤◌, Bool, true, false, List, [], ◌∷◌, ◌++◌, length, take, drop, get_or, Option, refl, ap, sym, ◌∙◌, arith, Some, None, unwrap_or, nat_lt, subst, if◌then◌else◌, ◌||◌, zero, suc, replicate, length-append}
 use Rattle.std.proofs.lemmas.Bool.Decides.{nat_tests}
 use Rattle.std.proofs.lemmas.Nat.{from_be_bytes-to_be_bytes_2}
 use Rattle.std.proofs.lemmas.List.{length-drop, get_or-drop, drop-drop}
 use Rattle.std.proofs.Math.Seq.{take-add}
+use Rattle.std.proofs.lemmas.List.{get_or-append-add}
 use Rattle.std.proofs.lemmas.Bool.{or_parts}
-use Rattle.bit_messages.specs.Octets.{octet, octet_bits}
-use Rattle.std.proofs.lemmas.Option.{unwrap_or-slice_get}
-use Rattle.std.specs.Prelude.{slice_get}
+use Rattle.bit_messages.specs.Octets.{octet, octet_bits, octets_of, spare_bits}
 use Rattle.std.specs.Int.{w16, from_be_bytes}
-use Rattle.bit_messages.proofs.OctetLemmas.{octet_again, octet_bits_again, octet_below}
+use Rattle.bit_messages.proofs.OctetLemmas.{octet_again, octet_bits_again, octet_below, length-bits_of, bits_again}
 use Rattle.ncp_control.specs.declared.data_header.DataHeader.{DataHeader}
 use Rattle.ncp_control.specs.DataHeader.{octet_at, fields_of, data_bits, header_of, header_bits, IsHeader}
-
--- a bit that is read, or a zero past the end
-pub bit_read : (text : List Bool) (place : ℕ) → unwrap_or (slice_get text place) false ≡ get_or text place false
-bit_read text place = unwrap_or-slice_get text place false
 
 within : (n d : ℕ) (h : DataHeader) → 40 ≤ n → 40 + d ≤ n → (if nat_lt n 40 || nat_lt n (40 + d) then None else Some h) ≡ Some h
 within n d h long enough =
@@ -118,3 +113,43 @@ pub header_spelled : (text : List Bool) (h : DataHeader) → header_of text ≡ 
 header_spelled text h e =
     let told : (40 ≤ length text) × (fields_of text ≡ h) = header_of-tells text h e in
     subst (λ (h : DataHeader). take 24 (drop 8 (header_bits h)) ≡ take 24 (drop 8 text)) told.1 (fields_spelled text told.0)
+
+-- ---- the octets of a text
+
+bit_behind : (front rest : List Bool) (k m : ℕ) → length front + k ≡ m → get_or rest k false ≡ get_or (front ++ rest) m false
+bit_behind front rest k m at = sym (get_or-append-add front rest k false) ∙ ap (λ (n : ℕ). get_or (front ++ rest) n false) at
+
+-- behind eight bits an octet is one further
+octet_behind : (front rest : List Bool) (k : ℕ) → length front ≡ 8 → octet_at rest (8 * k) ≡ octet_at (front ++ rest) (8 * suc k)
+octet_behind front rest k eight =
+    same_octet (bit_behind front rest (8 * k) (8 * suc k) (omega (arith, eight))) (bit_behind front rest (8 * k + 1) (8 * suc k + 1) (omega (arith, eight))) (bit_behind front rest (8 * k + 2) (8 * suc k + 2) (omega (arith, eight)))
+    (bit_behind front rest (8 * k + 3) (8 * suc k + 3) (omega (arith, eight))) (bit_behind front rest (8 * k + 4) (8 * suc k + 4) (omega (arith, eight))) (bit_behind front rest (8 * k + 5) (8 * suc k + 5) (omega (arith, eight)))
+    (bit_behind front rest (8 * k + 6) (8 * suc k + 6) (omega (arith, eight))) (bit_behind front rest (8 * k + 7) (8 * suc k + 7) (omega (arith, eight)))
+
+-- each octet of a text has its eight bits
+pub octet_of_text : (text : List Bool) (k : ℕ) → 8 * k + 8 ≤ length text → get_or (octets_of text) k 0 ≡ octet_at text (8 * k)
+unfolding octets_of
+octet_of_text [] k there = absurd (omega arith)
+octet_of_text (a ∷ []) k there = absurd (omega arith)
+octet_of_text (a ∷ b ∷ []) k there = absurd (omega arith)
+octet_of_text (a ∷ b ∷ c ∷ []) k there = absurd (omega arith)
+octet_of_text (a ∷ b ∷ c ∷ d ∷ []) k there = absurd (omega arith)
+octet_of_text (a ∷ b ∷ c ∷ d ∷ e ∷ []) k there = absurd (omega arith)
+octet_of_text (a ∷ b ∷ c ∷ d ∷ e ∷ f ∷ []) k there = absurd (omega arith)
+octet_of_text (a ∷ b ∷ c ∷ d ∷ e ∷ f ∷ g ∷ []) k there = absurd (omega arith)
+octet_of_text (a ∷ b ∷ c ∷ d ∷ e ∷ f ∷ g ∷ h ∷ rest) zero there = refl
+octet_of_text (a ∷ b ∷ c ∷ d ∷ e ∷ f ∷ g ∷ h ∷ rest) (suc k) there =
+    octet_of_text rest k (omega arith) ∙ octet_behind (a ∷ b ∷ c ∷ d ∷ e ∷ f ∷ g ∷ h ∷ []) rest k refl
+
+-- and all of them are there
+pub octets_enough : (text : List Bool) → length text ≤ 8 * length (octets_of text)
+octets_enough text =
+    let all : 8 * length (octets_of text) ≡ length text + length (replicate (spare_bits (length text)) false) = sym (length-bits_of (octets_of text)) ∙ ap length (bits_again text) ∙ length-append text _ in
+    omega arith
+
+-- the fields that stand in the octets of a text
+pub fields_read : (text : List Bool) (octets : List ℕ) → octets ≡ octets_of text → 40 ≤ length text
+    → (let read : DataHeader = record { size = get_or octets 1 0; count = from_be_bytes w16 (get_or octets 2 0 ∷ get_or octets 3 0 ∷ []) } in read ≡ fields_of text)
+fields_read text octets same there =
+    same_header _ _ (fields_of text) (ap (λ (os : List ℕ). get_or os 1 0) same ∙ octet_of_text text 1 (omega arith))
+    (same_count _ _ (octet_at text 16) (octet_at text 24) (ap (λ (os : List ℕ). get_or os 2 0) same ∙ octet_of_text text 2 (omega arith)) (ap (λ (os : List ℕ). get_or os 3 0) same ∙ octet_of_text text 3 (omega arith)))

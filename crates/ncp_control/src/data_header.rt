@@ -1,9 +1,8 @@
 //! What stands in front of a message's data.
 
-ghost use Rattle.std.specs.Prelude.{◌≡◌, ◌+◌, ◌*◌, ◌<◌, ◌≤◌, ◌^◌, MatchResult, slice_index_or, false};
-ghost use Rattle.bit_messages.specs.Octets.{bit_value};
+ghost use Rattle.std.specs.Prelude.{◌≡◌, ◌*◌, ◌≤◌, MatchResult, length};
 ghost use Rattle.bit_messages.specs.declared.fault.BitFault.TheVariants.{OutOfMemory};
-ghost use Rattle.ncp_control.specs.DataHeader.{octet_at, header_of, header_bits, data_bits};
+ghost use Rattle.ncp_control.specs.DataHeader.{fields_of, header_of, header_bits, data_bits};
 
 use bit_messages::{BitFault, Bits};
 use std::alloc::Global;
@@ -30,10 +29,7 @@ impl DataHeader {
         if text.len() < HEADER_BITS {
             return None;
         }
-        let header = DataHeader {
-            size: octet_at(text, 8),
-            count: u16::from_be_bytes([octet_at(text, 16), octet_at(text, 24)]),
-        };
+        let header = fields_of(text);
         if text.len() - HEADER_BITS < header.data_bits() as usize {
             return None;
         }
@@ -56,30 +52,14 @@ impl DataHeader {
     }
 }
 
-/// The octet of the eight bits from a place on.
-fn octet_at(text: &Bits, place: usize) -> u8
-    requires { place < 2 ^ 32 }
-    ensures { result ≡ octet_at text.now place }
+/// The size and the count that stand in a text's header.
+fn fields_of(text: &Bits) -> DataHeader
+    requires { HEADER_BITS ≤ length text.now }
+    ensures { result ≡ fields_of text.now }
 {
-    value_at(text, place, 128)
-        + value_at(text, place + 1, 64)
-        + value_at(text, place + 2, 32)
-        + value_at(text, place + 3, 16)
-        + value_at(text, place + 4, 8)
-        + value_at(text, place + 5, 4)
-        + value_at(text, place + 6, 2)
-        + value_at(text, place + 7, 1)
-}
-
-#[tactic(auto, using(crate::proofs::Headers::bit_read))]
-/// What the bit at a place adds to its octet: its weight where it is a one.
-fn value_at(text: &Bits, place: usize, weight: u8) -> u8
-    ensures value { result ≡ weight * bit_value (slice_index_or text.now place false) }
-    ensures most { result ≤ weight }
-{
-    if text.get(place).unwrap_or(false) {
-        weight
-    } else {
-        0
+    let octets = text.as_octets();
+    DataHeader {
+        size: octets[1],
+        count: u16::from_be_bytes([octets[2], octets[3]]),
     }
 }
