@@ -11,3 +11,4 @@ pub mod Contents
 pub mod Queries
 pub mod Turns
 pub mod Inside
+pub mod Examples

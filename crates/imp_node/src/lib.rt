@@ -2,6 +2,7 @@
 #![tactic(auto)]
 
 mod host;
+pub mod law;
 mod outgoing;
 mod port;
 mod pump;

@@ -1,0 +1,111 @@
+-- Small IMPs, packets and frames, for the worked rows.
+use Rattle.std.specs.Prelude.{ℕ, Bool, true, false, List, [], ◌∷◌, length, map, replicate, Option, Some}
+use Rattle.std.specs.List.{range_with_len}
+use Rattle.bit_messages.specs.Body.{body}
+use Rattle.leader1822.specs.Host.{Host}
+use Rattle.leader1822.specs.declared.address.Flow.{Flow}
+use Rattle.leader1822.specs.declared.message.HostMessage.{HostMessage}
+use Rattle.packetiser.specs.PacketFields.{PacketFields}
+use Rattle.packetiser.specs.Slots.{SlotState}
+use Rattle.packetiser.specs.declared.packet.PacketKind.TheVariants as kind
+use Rattle.imp_channel.specs.declared.frame.Content.TheVariants as content
+use Rattle.imp_channel.specs.declared.frame.Frame.{Frame}
+use Rattle.imp_node.specs.declared.outgoing.Outgoing.{Outgoing}
+use Rattle.imp_node.specs.declared.waiting.Message.{Message}
+use Rattle.imp_node.specs.State.{State, opening, up_host}
+use Rattle.imp_node.specs.Pump.{pump}
+
+-- ---- flows and packets
+
+-- a host, by its own number and its IMP's
+abbrev pub host : ℕ → ℕ → Host
+host own imp = record { imp = imp; host = own }
+
+abbrev pub flow : Host → Host → ℕ → Flow
+flow from to link = record { source = from; destination = to; link = record { 0 = link } }
+
+-- the one packet of the empty message with this number
+abbrev pub only_packet : Flow → ℕ → PacketFields
+only_packet f n = record {
+  kind = kind.Data;
+  source = f.source;
+  destination = f.destination;
+  link = f.link.0;
+  number = n;
+  place = 0;
+  last = true;
+  bits = body [];
+}
+
+-- the same with these bits, not the last of its message
+abbrev pub first_packet : Flow → ℕ → List Bool → PacketFields
+first_packet f n bits = record (only_packet f n) { last = false; bits = bits }
+
+-- packets on links 0, 1, .. from host 0 at IMP 1 to host 0 at another
+abbrev pub packets_to : ℕ → ℕ → List PacketFields
+packets_to imp count = map (λ link. only_packet (flow (host 0 1) (host 0 imp) link) 0) (range_with_len 0 count)
+
+-- ---- frames
+
+abbrev pub no_acks : List Bool
+no_acks = replicate 8 false
+
+-- a packet on a channel under bit 0, with no acknowledgement
+abbrev pub packet_frame : ℕ → PacketFields → Frame
+packet_frame channel p = record { acks = no_acks; content = content.Packet (record { channel = channel; bit = false; packet = p }) }
+
+-- an acknowledgement of channel 0 alone
+abbrev pub ack_frame : Frame
+ack_frame = record { acks = true ∷ replicate 7 false; content = content.Nothing }
+
+abbrev pub on_port : ℕ → Frame → Outgoing
+on_port k f = record { port = k; frame = f }
+
+-- ---- what neighbours tell
+
+-- the distances of IMP 2, of IMP 3 and of IMP 1, where they have heard nothing
+abbrev pub from_2 : List ℕ
+from_2 = 16 ∷ 0 ∷ replicate 14 16
+
+abbrev pub from_3 : List ℕ
+from_3 = 16 ∷ 16 ∷ 0 ∷ replicate 13 16
+
+abbrev pub from_1 : List ℕ
+from_1 = 0 ∷ replicate 15 16
+
+-- the distances of IMP 3, which has heard IMP 2
+abbrev pub from_3_near_2 : List ℕ
+from_3_near_2 = 16 ∷ 1 ∷ 0 ∷ replicate 13 16
+
+-- ---- IMPs
+
+-- an IMP with two hosts, which heard this on its ports, and with these waiting packets
+abbrev pub imp : ℕ → List (Option (List ℕ)) → List PacketFields → State
+imp own heard store = record (opening own 2 (length heard)) { routes = record { own = own; heard = heard }; store = store }
+
+-- IMP 1 with port 0 to IMP 2 and port 1 to IMP 3, each heard, after it has stored this many packets for IMP 2
+abbrev pub busy : ℕ → State
+busy count = (pump [] (imp 1 (Some from_2 ∷ Some from_3 ∷ []) (packets_to 2 count))).state
+
+-- empty messages on links 2, 3, .. between two hosts
+abbrev pub messages_between : Host → Host → ℕ → List Message
+messages_between from to count = map (λ link. record { flow = flow from to link; number = 0; text = [] }) (range_with_len 2 count)
+
+-- IMP 1 with its two hosts and no line, where these messages wait for host 1
+abbrev pub queueing : List Message → State
+queueing queue = record (opening 1 2 0) { hosts = up_host ∷ record up_host { queue = queue } ∷ [] }
+
+-- IMP 1 with port 0 to IMP 2, which it has heard, and two hosts; these messages wait for host 0
+abbrev pub serving : List Message → State
+serving queue = record (opening 1 2 1) { hosts = record up_host { queue = queue } ∷ up_host ∷ []; routes = record { own = 1; heard = Some from_2 ∷ [] } }
+
+-- slots of so many flows, each with the first packet of a longer message
+abbrev pub slots_of : ℕ → List SlotState
+slots_of count = map (λ link. record { flow = flow (host 0 2) (host 0 1) link; number = 0; pieces = first_packet (flow (host 0 2) (host 0 1) link) 0 (replicate 1008 false) ∷ [] }) (range_with_len 0 count)
+
+-- a message's packet whose body has no mark
+abbrev pub unmarked_packet : Flow → ℕ → PacketFields
+unmarked_packet f n = record (only_packet f n) { bits = replicate 16 false }
+
+abbrev pub empty_message : Flow → HostMessage
+empty_message f = record { flow = f; text = [] }

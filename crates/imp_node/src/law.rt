@@ -1,0 +1,142 @@
+//! What an IMP promises beyond its calls being exact, as laws over the definitions that they cite. The
+//! functions here do nothing: each clause is a law.
+//!
+//! The functions `worked_..` state the rules by examples: each row is one that another reading of its rule
+//! would fail.
+
+ghost use Rattle.std.specs.Prelude.{◌≡◌, ℕ, true, false, List, [], ◌∷◌, ◌++◌, length, map, replicate, Some, None};
+ghost use Rattle.leader1822.specs.declared.carrier.CarrierFault.TheVariants as fault;
+ghost use Rattle.leader1822.specs.declared.crossing.Answer.TheVariants as answer;
+ghost use Rattle.leader1822.specs.declared.crossing.Inbound.TheVariants as inbound;
+ghost use Rattle.packetiser.specs.declared.packet.PacketKind.TheVariants as kind;
+ghost use Rattle.imp_channel.specs.declared.frame.Content.TheVariants as content;
+ghost use Rattle.imp_node.specs.Arrival.{from_line, ignored};
+ghost use Rattle.imp_node.specs.Examples.{host, flow, only_packet, first_packet, unmarked_packet, packets_to, packet_frame, ack_frame, on_port, from_1, from_2, from_3, from_3_near_2, imp, busy, messages_between, queueing, serving, slots_of, empty_message};
+ghost use Rattle.imp_node.specs.Flows.{answer_packet};
+ghost use Rattle.imp_node.specs.Lines.{route, resend, end_down};
+ghost use Rattle.imp_node.specs.Offering.{from_host, from_host_refusal};
+ghost use Rattle.imp_node.specs.Pump.{pump};
+ghost use Rattle.imp_node.specs.Room.{stored_count};
+ghost use Rattle.imp_node.specs.State.{host_at};
+ghost use Rattle.imp_node.specs.Stopping.{host_down};
+ghost use Rattle.imp_node.specs.Taking.{to_host, to_host_refusal, next_for};
+
+/// Waiting packets go out in order, into the lowest free channels of their routes' lines.
+pub fn worked_pump()
+    // two packets for a neighbour that was heard go into channels 0 and 1 of its line
+    ensures in_order { (pump [] (imp 1 (Some from_2 ∷ []) (packets_to 2 2))).frames ≡ on_port 0 (packet_frame 0 (only_packet (flow (host 0 1) (host 0 2) 0) 0)) ∷ on_port 0 (packet_frame 1 (only_packet (flow (host 0 1) (host 0 2) 1) 0)) ∷ [] }
+    ensures gone { (pump [] (imp 1 (Some from_2 ∷ []) (packets_to 2 2))).state.store ≡ [] }
+
+    // of nine packets the ninth waits, and a packet behind it that is for another neighbour goes out
+    ensures overtaken { map (λ out. out.port) (pump [] (imp 1 (Some from_2 ∷ Some from_3 ∷ []) (packets_to 2 9 ++ packets_to 3 1))).frames ≡ replicate 8 0 ++ 1 ∷ [] }
+    ensures waits { (pump [] (imp 1 (Some from_2 ∷ Some from_3 ∷ []) (packets_to 2 9 ++ packets_to 3 1))).state.store ≡ only_packet (flow (host 0 1) (host 0 2) 8) 0 ∷ [] }
+
+    // once its channel is acknowledged it goes out, under the channel's other bit
+    ensures freed { (from_line (busy 9) 0 ack_frame).frames ≡ on_port 0 (record { acks = replicate 8 false; content = content.Packet (record { channel = 0; bit = true; packet = only_packet (flow (host 0 1) (host 0 2) 8) 0 }) }) ∷ [] }
+
+    // packets without a live route are dropped
+    ensures dropped { (pump [] (imp 1 (None ∷ Some from_3 ∷ []) (packets_to 2 2))).state ≡ imp 1 (None ∷ Some from_3 ∷ []) [] }
+{}
+
+/// The store has 32 places, those in channels counted, and a frame without room counts as lost.
+pub fn worked_room()
+    // of 32 packets for one neighbour eight are in channels, and all 32 count
+    ensures counted { (stored_count (busy 32) ≡ 32) × (length (busy 32).store ≡ 24) }
+
+    // then a fresh packet for that neighbour changes nothing and is not acknowledged
+    ensures lost { from_line (busy 32) 1 (packet_frame 0 (only_packet (flow (host 0 3) (host 0 2) 5) 0)) ≡ ignored (busy 32) }
+
+    // room is asked for before acknowledgements are taken: that the same frame would free a channel does not help
+    ensures asked_before { from_line (busy 32) 0 (record (packet_frame 0 (only_packet (flow (host 0 2) (host 0 2) 5) 0)) { acks = ack_frame.acks }) ≡ ignored (busy 32) }
+
+    // a packet without a route is dropped, so it calls for no room, and is acknowledged
+    ensures dropped { (from_line (busy 32) 1 (packet_frame 0 (only_packet (flow (host 0 3) (host 0 5) 5) 0))).frames ≡ on_port 1 ack_frame ∷ [] }
+
+    // the 32nd packet has room: it is acknowledged, and waits as the 24th
+    ensures stored { (from_line (busy 31) 1 (packet_frame 0 (only_packet (flow (host 0 3) (host 0 2) 5) 0))).frames ≡ on_port 1 ack_frame ∷ [] }
+    ensures waiting { length (from_line (busy 31) 1 (packet_frame 0 (only_packet (flow (host 0 3) (host 0 2) 5) 0))).state.store ≡ 24 }
+
+    // a repeat calls for no room and changes nothing, but is acknowledged again
+    ensures repeated { from_line (from_line (busy 31) 1 (packet_frame 0 (only_packet (flow (host 0 3) (host 0 2) 5) 0))).state 1 (packet_frame 0 (only_packet (flow (host 0 3) (host 0 2) 5) 0)) ≡ record { state = (from_line (busy 31) 1 (packet_frame 0 (only_packet (flow (host 0 3) (host 0 2) 5) 0))).state; frames = on_port 1 ack_frame ∷ [] } }
+
+    // a host's message of one packet has room beside 31 packets, and none beside 32
+    ensures offered { from_host_refusal (busy 31) (empty_message (flow (host 0 1) (host 0 2) 40)) ≡ None }
+    ensures no_room { from_host_refusal (busy 32) (empty_message (flow (host 0 1) (host 0 2) 40)) ≡ Some fault.NoRoom }
+{}
+
+/// What an IMP tells of routes, and that packets find another one.
+pub fn worked_routes()
+    // the middle one of three IMPs in a row
+    ensures told { (route (imp 2 (Some from_1 ∷ Some from_3 ∷ []) [])).frames ≡ map (λ k. on_port k (record { acks = replicate 8 false; content = content.Routes (1 ∷ 0 ∷ 1 ∷ replicate 13 16) })) (0 ∷ 1 ∷ []) }
+
+    // a packet in a channel of a line that goes down takes the line of another neighbour that knows the way
+    ensures rerouted { (end_down (pump [] (imp 1 (Some from_2 ∷ Some from_3_near_2 ∷ []) (packets_to 2 1))).state 0).frames ≡ on_port 1 (packet_frame 0 (only_packet (flow (host 0 1) (host 0 2) 0) 0)) ∷ [] }
+
+    // and is dropped where none does
+    ensures unrouted { (end_down (busy 1) 0).frames ≡ [] }
+    ensures nothing_kept { (end_down (busy 1) 0).state.store ≡ [] }
+
+    // what is not acknowledged is sent again, in order of its channels
+    ensures sent_again { (resend (busy 2)).frames ≡ (pump [] (imp 1 (Some from_2 ∷ Some from_3 ∷ []) (packets_to 2 2))).frames }
+{}
+
+/// What a fresh packet for a host of the IMP comes to. Host 0 at IMP 1 is served over port 0, from IMP 2.
+pub fn worked_arrivals()
+    // the one packet of an empty message: it is acknowledged, and the message waits
+    ensures queued { (host_at (from_line (serving []) 0 (packet_frame 0 (only_packet (flow (host 0 2) (host 0 1) 2) 0))).state 0).queue ≡ messages_between (host 0 2) (host 0 1) 1 }
+    ensures acknowledged { (from_line (serving []) 0 (packet_frame 0 (only_packet (flow (host 0 2) (host 0 1) 2) 0))).frames ≡ on_port 0 ack_frame ∷ [] }
+
+    // the sixteenth message has room, and for the seventeenth the frame counts as lost
+    ensures sixteen { length (host_at (from_line (serving (messages_between (host 0 2) (host 0 1) 15)) 0 (packet_frame 0 (only_packet (flow (host 0 2) (host 0 1) 50) 0))).state 0).queue ≡ 16 }
+    ensures lost { from_line (serving (messages_between (host 0 2) (host 0 1) 16)) 0 (packet_frame 0 (only_packet (flow (host 0 2) (host 0 1) 50) 0)) ≡ ignored (serving (messages_between (host 0 2) (host 0 1) 16)) }
+
+    // a body without a mark calls for no room in the queue: it is acknowledged, and no message waits
+    ensures unmarked { (from_line (serving (messages_between (host 0 2) (host 0 1) 16)) 0 (packet_frame 0 (unmarked_packet (flow (host 0 2) (host 0 1) 50) 0))).frames ≡ on_port 0 ack_frame ∷ [] }
+    ensures no_message { (host_at (from_line (serving []) 0 (packet_frame 0 (unmarked_packet (flow (host 0 2) (host 0 1) 50) 0))).state 0).queue ≡ [] }
+
+    // a piece of a longer message is lost where eight other flows have the slots, and kept beside seven
+    ensures no_slot { from_line (record (serving []) { slots = slots_of 8 }) 0 (packet_frame 0 (first_packet (flow (host 0 2) (host 0 1) 8) 0 (replicate 1008 false))) ≡ ignored (record (serving []) { slots = slots_of 8 }) }
+    ensures eighth_slot { length (from_line (record (serving []) { slots = slots_of 7 }) 0 (packet_frame 0 (first_packet (flow (host 0 2) (host 0 1) 7) 0 (replicate 1008 false)))).state.slots ≡ 8 }
+
+    // a message for a host that isn't there is acknowledged, and Dead goes back
+    ensures undeliverable { (from_line (serving []) 0 (packet_frame 0 (only_packet (flow (host 0 2) (host 2 1) 5) 7))).frames ≡ on_port 0 ack_frame ∷ on_port 0 (record (packet_frame 0 (answer_packet kind.Dead (flow (host 0 2) (host 2 1) 5) 7)) { acks = ack_frame.acks }) ∷ [] }
+
+    // an answer to a message that isn't outstanding is acknowledged, and nothing waits for the host
+    ensures stale { (from_line (serving []) 0 (packet_frame 0 (answer_packet kind.Rfnm (flow (host 0 1) (host 0 2) 5) 0))).frames ≡ on_port 0 ack_frame ∷ [] }
+    ensures none_told { (host_at (from_line (serving []) 0 (packet_frame 0 (answer_packet kind.Rfnm (flow (host 0 1) (host 0 2) 5) 0))).state 0).answers ≡ [] }
+{}
+
+/// Hosts at IMP 1: what they send, take and leave behind.
+pub fn worked_hosts()
+    // nothing was heard of IMP 2, so Dead waits at once, no frame goes out, and no number is begun
+    ensures nowhere { (host_at (from_host (imp 1 (None ∷ []) []) (empty_message (flow (host 0 1) (host 0 2) 7))).state 0).answers ≡ record { kind = answer.Dead; flow = flow (host 0 1) (host 0 2) 7 } ∷ [] }
+    ensures nothing_sent { (from_host (imp 1 (None ∷ []) []) (empty_message (flow (host 0 1) (host 0 2) 7))).frames ≡ [] }
+    ensures accepted { from_host_refusal (imp 1 (None ∷ []) []) (empty_message (flow (host 0 1) (host 0 2) 7)) ≡ None }
+    ensures blocked { from_host_refusal (from_host (imp 1 (None ∷ []) []) (empty_message (flow (host 0 1) (host 0 2) 7))).state (empty_message (flow (host 0 1) (host 0 2) 7)) ≡ Some fault.Blocked }
+
+    // IMP 2 was heard: the packet of an empty message goes out, with the number 0
+    ensures away { (from_host (imp 1 (Some from_2 ∷ []) []) (empty_message (flow (host 0 1) (host 0 2) 7))).frames ≡ on_port 0 (packet_frame 0 (only_packet (flow (host 0 1) (host 0 2) 7) 0)) ∷ [] }
+
+    // within one IMP a message waits behind fifteen others, and has no room behind sixteen
+    ensures within { from_host_refusal (queueing (messages_between (host 0 1) (host 1 1) 15)) (empty_message (flow (host 0 1) (host 1 1) 17)) ≡ None }
+    ensures queue_full { from_host_refusal (queueing (messages_between (host 0 1) (host 1 1) 16)) (empty_message (flow (host 0 1) (host 1 1) 18)) ≡ Some fault.NoRoom }
+    ensures here { (host_at (from_host (queueing (messages_between (host 0 1) (host 1 1) 15)) (empty_message (flow (host 0 1) (host 1 1) 17))).state 1).queue ≡ messages_between (host 0 1) (host 1 1) 16 }
+
+    // the refusals before that: a host of another IMP, a host that isn't there
+    ensures other_imp { from_host_refusal (imp 1 (Some from_2 ∷ []) []) (empty_message (flow (host 0 3) (host 0 2) 7)) ≡ Some fault.NoSuch }
+    ensures other_host { from_host_refusal (imp 1 (Some from_2 ∷ []) []) (empty_message (flow (host 2 1) (host 0 2) 7)) ≡ Some fault.NoSuch }
+
+    // a message that is taken gives its source an RFNM, which goes out in the same step, and not before
+    ensures taken { next_for (serving (messages_between (host 0 2) (host 0 1) 2)) 0 ≡ Some (inbound.Message (empty_message (flow (host 0 2) (host 0 1) 2))) }
+    ensures rfnm { (to_host (serving (messages_between (host 0 2) (host 0 1) 2)) 0).frames ≡ on_port 0 (packet_frame 0 (answer_packet kind.Rfnm (flow (host 0 2) (host 0 1) 2) 0)) ∷ [] }
+
+    // a source at the same IMP whose message is not outstanding any more gets none
+    ensures given_up { (host_at (to_host (queueing (messages_between (host 0 1) (host 1 1) 1)) 1).state 0).answers ≡ [] }
+
+    // a host that goes down gives Dead to the source of each message that waited, and not to itself
+    ensures dead { (host_down (serving (messages_between (host 0 1) (host 0 1) 1 ++ messages_between (host 0 2) (host 0 1) 2)) 0).frames ≡ on_port 0 (packet_frame 0 (answer_packet kind.Dead (flow (host 0 2) (host 0 1) 2) 0)) ∷ on_port 0 (packet_frame 1 (answer_packet kind.Dead (flow (host 0 2) (host 0 1) 3) 0)) ∷ [] }
+    ensures cleared { host_at (host_down (serving (messages_between (host 0 2) (host 0 1) 2)) 0).state 0 ≡ record { up = false; answers = []; queue = [] } }
+
+    // nothing waits: nothing is given
+    ensures nothing { (to_host_refusal (serving []) 0 ≡ None) × (next_for (serving []) 0 ≡ None) × ((to_host (serving []) 0).frames ≡ []) }
+{}
