@@ -76,14 +76,19 @@ fn each_fault_has_its_text(rt: HostRuntime) -> Result<(), Fail> {
     Ok(())
 }
 
-/// The length and the octets of bits 4 to 12 of `41 42`, with so many ones behind them.
+/// The length and the octets of bits 4 to 12 of `41 42`, with so many ones behind them. `Range` where the
+/// octets that are lent aren't those that are copied.
 fn part(alloc: Global, ones: usize) -> Result<(usize, Vec<u8>), BitFault> {
     let bits = Bits::from_octets(alloc, &[0x41, 0x42], 16)?;
     let mut part = bits.slice(alloc, 4, 12)?;
     for _ in 0..ones {
         part.push(true)?;
     }
-    Ok((part.len(), part.to_octets(alloc)?))
+    let octets = part.to_octets(alloc)?;
+    if octets.as_slice() != part.as_octets() {
+        return Err(BitFault::Range);
+    }
+    Ok((part.len(), octets))
 }
 
 #[test]
@@ -233,5 +238,40 @@ fn octets_are_read_across_borders(rt: HostRuntime) -> Result<(), Fail> {
         others,
         [Some(BitFault::Range), None, Some(BitFault::Range)]
     );
+    Ok(())
+}
+
+/// Whether a slice, and the same bits put behind others, are what single bits give.
+fn agrees(alloc: Global, from: usize, length: usize) -> Result<bool, BitFault> {
+    let octets = [0xA5u8, 0x3C, 0x96, 0xF0, 0x0F, 0x5A, 0xC3, 0x69];
+    let bits = Bits::from_octets(alloc, &octets, 64)?;
+    let end = from.saturating_add(length);
+    let mut singly = Bits::new(alloc);
+    let mut joined = bits.slice(alloc, 0, from)?;
+    for place in 0..end {
+        let bit = bits.get(place).unwrap_or(false);
+        singly.push(bit)?;
+    }
+    let part = bits.slice(alloc, from, end)?;
+    joined.append(&part)?;
+    Ok(part.len() == length && joined == singly)
+}
+
+/// How many starts and lengths agree with single bits.
+fn agreements(alloc: Global) -> Result<usize, BitFault> {
+    let mut found = 0;
+    for from in 0..16usize {
+        for length in 0..41usize {
+            if agrees(alloc, from, length)? && found < 9999 {
+                found += 1;
+            }
+        }
+    }
+    Ok(found)
+}
+
+#[test]
+fn slices_and_appends_agree_with_single_bits(rt: HostRuntime) -> Result<(), Fail> {
+    assert_eq!(rt; agreements(rt.alloc())?, 16 * 41);
     Ok(())
 }
