@@ -7,9 +7,10 @@ ghost use Rattle.link_table.specs.Flows.{begun};
 use leader1822::{Flow, HostAddr, Link};
 use link_table::{DestFlows, FlowFault, Number, SourceFlows};
 use packetiser::Reassembly;
-use std::alloc::Global;
+use std::alloc::{AllocError, Global};
 use std::marker::Model;
 use std::process::Abort;
+use std::test::Fail;
 
 /// The tables of flows of one IMP.
 #[derive(Drop)]
@@ -33,12 +34,12 @@ impl Model for Tables {
 
 impl Tables {
     /// Tables without a flow.
-    fn new(alloc: Global) -> Tables {
-        Tables {
+    fn new(alloc: Global) -> Result<Tables, AllocError> {
+        Ok(Tables {
             sources: SourceFlows::new(alloc),
             destinations: DestFlows::new(alloc),
-            slots: Reassembly::new(alloc),
-        }
+            slots: Reassembly::new(alloc)?,
+        })
     }
 
     /// Begins a message of a flow: nothing but its source's table changes.
@@ -59,11 +60,12 @@ fn any_flow(rt: &impl Abort) -> Flow {
 }
 
 #[test]
-fn tables_of_flows_stand_beside_other_state(rt: HostRuntime) {
+fn tables_of_flows_stand_beside_other_state(rt: HostRuntime) -> Result<(), Fail> {
     let flow = any_flow(&rt);
-    let mut tables = Tables::new(rt.alloc());
+    let mut tables = Tables::new(rt.alloc())?;
     let begun = tables.begin(&flow);
     let kept = tables.destinations.kept(&flow);
     let held = tables.slots.held(0).is_some();
     assert_eq!(rt; (begun, kept, held), (Ok(0), None, false));
+    Ok(())
 }

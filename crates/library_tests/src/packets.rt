@@ -529,7 +529,7 @@ fn the_longest_message_ends_with_its_mark(rt: HostRuntime) {
 }
 
 #[test]
-fn pieces_rejoin_in_any_order(rt: HostRuntime) {
+fn pieces_rejoin_in_any_order(rt: HostRuntime) -> Result<(), Fail> {
     let alloc = rt.alloc();
     for order in [
         [0, 1, 2],
@@ -539,7 +539,7 @@ fn pieces_rejoin_in_any_order(rt: HostRuntime) {
         [2, 0, 1],
         [2, 1, 0],
     ] {
-        let mut slots = Reassembly::new(alloc);
+        let mut slots = Reassembly::new(alloc)?;
         let [first, second, third] = order;
         let rows = [
             (5, 0, 3000, first, Outcome::Kept),
@@ -552,12 +552,13 @@ fn pieces_rejoin_in_any_order(rt: HostRuntime) {
         let done = completes(alloc, &mut slots, 3000, third);
         assert_eq!(rt; done, Ok([true, true]), "in order {order:?}");
     }
+    Ok(())
 }
 
 /// Gives the eight pieces of the longest message, the last one first: whether all but the first are held
 /// as they come, and whether the first makes the message whole and empties its slot.
 fn longest_rejoined(alloc: Global) -> Result<(bool, [bool; 2]), PacketFault> {
-    let mut slots = Reassembly::new(alloc);
+    let mut slots = Reassembly::new(alloc)?;
     let mut are_held = true;
     for place in [7, 6, 5, 4, 3, 2, 1usize] {
         let packet = piece(alloc, 5, 0, 8063, place)?;
@@ -573,9 +574,9 @@ fn the_longest_message_rejoins(rt: HostRuntime) {
 }
 
 #[test]
-fn eight_messages_are_held_at_once(rt: HostRuntime) {
+fn eight_messages_are_held_at_once(rt: HostRuntime) -> Result<(), Fail> {
     let alloc = rt.alloc();
-    let mut slots = Reassembly::new(alloc);
+    let mut slots = Reassembly::new(alloc)?;
     let rows = [
         (2, 0, 1008, 0, Outcome::Kept),
         (3, 0, 3000, 0, Outcome::Kept),
@@ -600,6 +601,7 @@ fn eight_messages_are_held_at_once(rt: HostRuntime) {
         (5, 0, 1008, 1, Outcome::Kept),
     ];
     check_rows(&rt, alloc, &mut slots, &rows);
+    Ok(())
 }
 
 /// The flows from 0/1 to 0/2, from 0/2 to 0/1, and from 0/1 to 1/2, on link 5.
@@ -635,7 +637,7 @@ fn outcome_on(
 /// Gives the first piece of a message to 0/2, the second pieces of messages of two other flows, and the
 /// second piece of the message to 0/2: what becomes of each.
 fn outcomes_on_flows(alloc: Global) -> Result<[Outcome; 4], PacketFault> {
-    let mut slots = Reassembly::new(alloc);
+    let mut slots = Reassembly::new(alloc)?;
     let [forth, back, aside] = three_flows();
     Ok([
         outcome_on(alloc, &mut slots, forth, 0)?,
@@ -652,9 +654,9 @@ fn messages_of_different_flows_are_held_apart(rt: HostRuntime) {
 }
 
 #[test]
-fn each_message_held_is_named_once(rt: HostRuntime) {
+fn each_message_held_is_named_once(rt: HostRuntime) -> Result<(), Fail> {
     let alloc = rt.alloc();
-    let mut slots = Reassembly::new(alloc);
+    let mut slots = Reassembly::new(alloc)?;
     let rows = [
         (9, 9, 1008, 1, Outcome::Kept),
         (2, 2, 1008, 1, Outcome::Kept),
@@ -666,11 +668,12 @@ fn each_message_held_is_named_once(rt: HostRuntime) {
         (links_held(&slots, 3), is_past),
         (Some(0b10_0010_0100), true)
     );
+    Ok(())
 }
 
 #[test]
-fn pieces_that_contradict_a_slot_are_dropped(rt: HostRuntime) {
-    let mut slots = Reassembly::new(rt.alloc());
+fn pieces_that_contradict_a_slot_are_dropped(rt: HostRuntime) -> Result<(), Fail> {
+    let mut slots = Reassembly::new(rt.alloc())?;
     let rows = [
         (5, 0, 3000, 2, Outcome::Kept),
         (5, 0, 5000, 3, Outcome::Old),
@@ -681,11 +684,12 @@ fn pieces_that_contradict_a_slot_are_dropped(rt: HostRuntime) {
         (5, 0, 3000, 0, Outcome::Whole),
     ];
     check_rows(&rt, rt.alloc(), &mut slots, &rows);
+    Ok(())
 }
 
 #[test]
-fn a_slot_begins_again_with_another_number(rt: HostRuntime) {
-    let mut slots = Reassembly::new(rt.alloc());
+fn a_slot_begins_again_with_another_number(rt: HostRuntime) -> Result<(), Fail> {
+    let mut slots = Reassembly::new(rt.alloc())?;
     let rows = [
         (5, 0, 1008, 0, Outcome::Kept),
         (5, 1, 1008, 1, Outcome::Kept),
@@ -696,6 +700,7 @@ fn a_slot_begins_again_with_another_number(rt: HostRuntime) {
         (5, 2, 1008, 1, Outcome::Kept),
     ];
     check_rows(&rt, rt.alloc(), &mut slots, &rows);
+    Ok(())
 }
 
 /// The texts of the faults, in the order in which they are looked for.

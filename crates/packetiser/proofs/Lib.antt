@@ -4,3 +4,5 @@ pub mod Slots
 pub mod Calls
 pub mod Rejoining
 pub mod Holding
+pub mod Keys
+pub mod Table

@@ -37,14 +37,14 @@ position_given p xs = elim (cases_Bool (nat_lt (position_or_len p xs) (length xs
 ]
 
 -- an element passes where the first place that passes is within
-any_within : {X : Type 0} (p : X → Bool) (xs : List X) → list_any p xs ≡ nat_lt (position_or_len p xs) (length xs)
+pub any_within : {X : Type 0} (p : X → Bool) (xs : List X) → list_any p xs ≡ nat_lt (position_or_len p xs) (length xs)
 any_within p [] = refl
 any_within p (x ∷ xs) = elim (cases_Bool (p x)) [
   | inl e ↦ (let here : nat_lt 0 (suc (length xs)) ≡ true = grind (arith, nat_tests) in rw e (sym here))
   | inr e ↦ rw e (any_within p xs ∙ grind (arith, nat_tests))
 ]
 
-record IsAt {X : Type 0} (p : X → Bool) (xs : List X) (at : ℕ) : Type 0 where
+pub record IsAt {X : Type 0} (p : X → Bool) (xs : List X) (at : ℕ) : Type 0 where
   pub first : position_or_len p xs ≡ at
   pub within : at < length xs
   pub any : list_any p xs ≡ true
@@ -52,7 +52,7 @@ record IsAt {X : Type 0} (p : X → Bool) (xs : List X) (at : ℕ) : Type 0 wher
 pub none_some : {X : Type 0} (x : X) → None ≡ Some x → ⊥
 none_some x h = cc
 
-position_some : {X : Type 0} (p : X → Bool) (xs : List X) (at : ℕ) → position p xs ≡ Some at → IsAt p xs at
+pub position_some : {X : Type 0} (p : X → Bool) (xs : List X) (at : ℕ) → position p xs ≡ Some at → IsAt p xs at
 position_some p xs at h = elim (cases_Bool (nat_lt (position_or_len p xs) (length xs))) [
   | inl e ↦ (
       let first : position_or_len p xs ≡ at = same_Some (position_or_len p xs) at (rw e at h) in
@@ -61,13 +61,13 @@ position_some p xs at h = elim (cases_Bool (nat_lt (position_or_len p xs) (lengt
   | inr e ↦ absurd (none_some at (rw e at h))
 ]
 
-position_none : {X : Type 0} (p : X → Bool) (xs : List X) → position p xs ≡ None → list_any p xs ≡ false
+pub position_none : {X : Type 0} (p : X → Bool) (xs : List X) → position p xs ≡ None → list_any p xs ≡ false
 position_none p xs h = elim (cases_Bool (nat_lt (position_or_len p xs) (length xs))) [
   | inl e ↦ absurd (none_some (position_or_len p xs) (sym (rw e at h)))
   | inr e ↦ any_within p xs ∙ e
 ]
 
-find_none : {X : Type 0} (p : X → Bool) (xs : List X) → list_any p xs ≡ false → find p xs ≡ None
+pub find_none : {X : Type 0} (p : X → Bool) (xs : List X) → list_any p xs ≡ false → find p xs ≡ None
 find_none p [] h = refl
 find_none p (x ∷ xs) h = elim (cases_Bool (p x)) [
   | inl e ↦ absurd (let t : true ≡ false = rw e at h in cc)
@@ -251,7 +251,7 @@ new_from true whole room h = absurd (cc)
 new_from false whole room h = refl
 
 -- there is room where a packet is kept
-room_from : (old whole room : Bool) → (if old then outcome.Old else (if whole then outcome.Whole else (if room then outcome.Kept else outcome.Full))) ≡ outcome.Kept → room ≡ true
+pub room_from : (old whole room : Bool) → (if old then outcome.Old else (if whole then outcome.Whole else (if room then outcome.Kept else outcome.Full))) ≡ outcome.Kept → room ≡ true
 room_from true whole room h = absurd (cc)
 room_from false true room h = absurd (cc)
 room_from false false true h = refl

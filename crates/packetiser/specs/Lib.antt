@@ -5,3 +5,4 @@ pub mod Format
 pub mod Pieces
 pub mod Slots
 pub mod Rejoining
+pub mod Inside

@@ -14,6 +14,7 @@ pub mod format;
 pub mod law;
 mod packet;
 mod reassembly;
+mod slot_table;
 
 pub use cutting::cut;
 pub use fault::PacketFault;

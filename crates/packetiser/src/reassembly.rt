@@ -1,23 +1,20 @@
 //! Reassembly: pieces of messages that aren't whole yet.
 
-ghost use Rattle.std.specs.Prelude.{◌≡◌, ℕ, ◌<◌, ◌≤◌, ◌++◌, ◌∷◌, [], Bool, true, false, not, List, length, nat_lt};
-ghost use Rattle.std.specs.Prelude.{Option, Some, None, Err, OnErr, IfOk, option_map, slice_get, slice_set, slice_index_or, filter, insert, unwrap_or};
-ghost use Rattle.std.specs.List.{position, position_or_len, list_any};
-ghost use Rattle.std.specs.Option.{option_copied};
-ghost use Rattle.leader1822.specs.Flow.{same_flow, flow_before};
+ghost use Rattle.std.specs.Prelude.{◌≡◌, ◌<◌, ◌++◌, [], true, false, List, length};
+ghost use Rattle.std.specs.Prelude.{Option, Some, None, Err, OnErr, IfOk, option_map, slice_get};
 ghost use Rattle.packetiser.specs.Faults.{GivesIfMemory};
-ghost use Rattle.packetiser.specs.PacketFields.{PacketFields, IsPacket, flow_of};
-ghost use Rattle.packetiser.specs.Slots.{SlotState, slot_of, pieces_at, kept_for, is_old, with_piece, is_whole_from, joined, gathered};
-ghost use Rattle.packetiser.specs.Slots.{without, put, has_room, outcome_of, answer_of, added, kept, grows, in_some_order, IsTable, IsInOrder};
+ghost use Rattle.packetiser.specs.PacketFields.{IsPacket};
+ghost use Rattle.packetiser.specs.Slots.{SlotState, is_old, with_piece, is_whole_from, joined};
+ghost use Rattle.packetiser.specs.Slots.{without, outcome_of, answer_of, added, kept, grows, in_some_order, IsTable};
 ghost use Rattle.packetiser.specs.Rejoining.{HasBodySize};
 ghost use Rattle.packetiser.specs.declared.fault.PacketFault.TheVariants as fault;
 
 use crate::fault::out_of_memory;
-use crate::format::SLOTS;
+use crate::slot_table::{SlotTable, place_among};
 use crate::{Packet, PacketFault, PacketKind};
 use bit_messages::Bits;
 use leader1822::Flow;
-use std::alloc::Global;
+use std::alloc::{AllocError, Global};
 use std::marker::Model;
 
 /// What becomes of a piece.
@@ -55,70 +52,12 @@ pub struct Held {
     pub number: u8,
 }
 
-/// A message in reassembly: its pieces that came, in order of their places.
-#[derive(Debug, Drop)]
-struct Slot {
-    flow: Flow,
-    number: u8,
-    pieces: Vec<Packet>,
-}
-
-impl Model for Slot {
-    ghost use Rattle.packetiser.specs.Slots.{SlotState};
-
-    ghost Value = { SlotState };
-
-    ghost view = { λ s. record { flow = s.flow; number = s.number; pieces = s.pieces.items } };
-}
-
-impl Slot {
-    /// Whether it is of this flow.
-    fn is_of(&self, flow: &Flow) -> bool
-        ensures { result ≡ same_flow flow.now self.now.flow }
-    {
-        *flow == self.flow
-    }
-
-    /// Whether its flow comes before this one.
-    fn is_before(&self, flow: &Flow) -> bool
-        ensures { result ≡ flow_before self.now.flow flow.now }
-    {
-        self.flow < *flow
-    }
-
-    /// What it holds of the message with this number.
-    fn pieces(&self, number: u8) -> &[Packet]
-        ensures { result.now ≡ pieces_at (Some self.now) number }
-    {
-        if self.number == number {
-            self.pieces.as_slice()
-        } else {
-            &[]
-        }
-    }
-
-    /// Takes one more piece, and drops pieces of another number.
-    fn take(&mut self, alloc: Global, packet: Packet) -> Result<(), PacketFault>
-        ensures taken { GivesIfMemory (λ _. self.new ≡ record { flow = self.old.flow; number = packet.number; pieces = with_piece packet (pieces_at (Some self.old) packet.number) }) result }
-        ensures err { OnErr result (self.new ≡ self.old) }
-    {
-        let number = packet.number();
-        if self.number == number {
-            insert_piece(&mut self.pieces, packet)?;
-        } else {
-            self.pieces = one_piece(alloc, packet)?;
-            self.number = number;
-        }
-        Ok(())
-    }
-}
-
 /// The messages in reassembly at an IMP: at most eight, one for each flow.
 ///
 /// A piece is held until all pieces of its message came. A message of one packet needs no slot.
 #[derive(Debug, Drop)]
 pub struct Reassembly {
-    slots: Vec<Slot>,
+    slots: SlotTable,
 }
 
 impl Model for Reassembly {
@@ -127,19 +66,21 @@ impl Model for Reassembly {
 
     ghost Value = { List SlotState };
 
-    ghost view = { λ r. r.slots.items };
+    ghost view = { λ r. r.slots };
 
-    ghost invariant = { λ r. IsTable r.slots.items };
+    ghost invariant = { λ r. IsTable r.slots };
 }
 
 impl Reassembly {
-    /// No message in reassembly.
-    pub fn new(alloc: Global) -> Reassembly
-        ensures { result ≡ [] }
+    /// No message in reassembly. Room for eight is reserved, so that only their pieces take memory later.
+    ///
+    /// Errors: want of memory.
+    pub fn new(alloc: Global) -> Result<Reassembly, AllocError>
+        ensures { IfOk result (λ reassembly. reassembly ≡ []) }
     {
-        Reassembly {
-            slots: Vec::new(alloc),
-        }
+        Ok(Reassembly {
+            slots: SlotTable::new(alloc)?,
+        })
     }
 
     /// What `add` would answer to this piece of a message.
@@ -147,12 +88,12 @@ impl Reassembly {
         requires { packet.now.kind ≡ PacketKind.Data }
         ensures { result ≡ outcome_of self.now packet.now }
     {
-        let kept = kept_for(&self.slots, packet);
+        let kept = self.slots.kept_for(packet);
         if is_old(kept, packet) {
             Outcome::Old
         } else if completes(0, kept, packet) {
             Outcome::Whole
-        } else if has_room(&self.slots, &packet.flow()) {
+        } else if self.slots.has_room(&packet.flow()) {
             Outcome::Kept
         } else {
             Outcome::Full
@@ -182,7 +123,7 @@ impl Reassembly {
             }
             Outcome::Whole => {
                 let flow = packet.flow();
-                let body = join(alloc, kept_for(&self.slots, &packet), packet)?;
+                let body = join(alloc, self.slots.kept_for(&packet), packet)?;
                 self.discard(flow);
                 Ok(Added::Whole(body))
             }
@@ -195,7 +136,7 @@ impl Reassembly {
     pub fn discard(&mut self, flow: Flow)
         ensures { self.new ≡ without self.old flow }
     {
-        clear(&mut self.slots, &flow);
+        self.slots.clear(&flow);
     }
 
     /// The `k`th message in reassembly, counted from 0; `None` past the last. Each message stands at one
@@ -205,10 +146,7 @@ impl Reassembly {
         ensures message { result ≡ option_map (λ s. record { flow = s.flow; number = s.number }) (slice_get (in_some_order self.now) k) }
         ensures table { IsTable self.now }
     {
-        if k >= self.slots.len() {
-            return None;
-        }
-        let slot = &self.slots[k];
+        let slot = self.slots.get(k)?;
         Some(Held {
             flow: slot.flow,
             number: slot.number,
@@ -223,108 +161,8 @@ impl Reassembly {
         ensures kept { GivesIfMemory (λ _. self.new ≡ kept self.old packet) result }
         ensures err { OnErr result (self.new ≡ self.old) }
     {
-        match place_of(&self.slots, &packet.flow()) {
-            Some(at) => fill_slot(&mut self.slots, alloc, at, packet),
-            None => open_slot(&mut self.slots, alloc, packet),
-        }
+        self.slots.keep(alloc, packet)
     }
-}
-
-/// Holds a piece in its flow's slot.
-fn fill_slot(
-    slots: &mut Vec<Slot>,
-    alloc: Global,
-    at: usize,
-    packet: Packet,
-) -> Result<(), PacketFault>
-    requires order { IsInOrder slots.old.items }
-    requires place { position (λ s. same_flow (flow_of packet) s.flow) slots.old.items ≡ Some at }
-    ensures kept { GivesIfMemory (λ _. slots.new.items ≡ kept slots.old.items packet) result }
-    ensures err { OnErr result (slots.new.items ≡ slots.old.items) }
-{
-    slots[at].take(alloc, packet)
-}
-
-/// Holds a piece whose flow has no slot.
-fn open_slot(slots: &mut Vec<Slot>, alloc: Global, packet: Packet) -> Result<(), PacketFault>
-    requires { position (λ s. same_flow (flow_of packet) s.flow) slots.old.items ≡ None }
-    ensures kept { GivesIfMemory (λ _. slots.new.items ≡ kept slots.old.items packet) result }
-    ensures err { OnErr result (slots.new.items ≡ slots.old.items) }
-{
-    let flow = packet.flow();
-    let number = packet.number();
-    let at = place_for(slots, &flow);
-    let pieces = one_piece(alloc, packet)?;
-    slots.insert(
-        at,
-        Slot {
-            flow,
-            number,
-            pieces,
-        },
-    )?;
-    Ok(())
-}
-
-/// Where the slot of a flow is.
-fn place_of(slots: &[Slot], flow: &Flow) -> Option<usize>
-    ensures { result ≡ position (λ s. same_flow flow.now s.flow) slots.now }
-{
-    slots.iter().position(|slot| slot.is_of(flow))
-}
-
-/// Where a slot of a flow belongs.
-#[tactic(auto, using(crate::proofs::Slots::position_given))]
-fn place_for(slots: &[Slot], flow: &Flow) -> usize
-    ensures place { result ≡ position_or_len (λ s. not (flow_before s.flow flow.now)) slots.now }
-    ensures within { result ≤ length slots.now }
-{
-    first_after(slots, flow).unwrap_or(slots.len())
-}
-
-/// Where the first slot is that doesn't come before a flow's.
-fn first_after(slots: &[Slot], flow: &Flow) -> Option<usize>
-    ensures { result ≡ position (λ s. not (flow_before s.flow flow.now)) slots.now }
-{
-    slots.iter().position(|slot| !slot.is_before(flow))
-}
-
-/// The pieces of a packet's message that are held.
-fn kept_for<'a>(slots: &'a [Slot], packet: &Packet) -> &'a [Packet]
-    ensures { result.now ≡ kept_for slots.now packet.now }
-{
-    match slot_of(slots, &packet.flow()) {
-        Some(slot) => slot.pieces(packet.number()),
-        None => &[],
-    }
-}
-
-/// The slot of a flow.
-fn slot_of<'a>(slots: &'a [Slot], flow: &Flow) -> Option<&'a Slot>
-    ensures { option_copied result ≡ slot_of slots.now flow.now }
-{
-    slots.iter().find(|slot| slot.is_of(flow))
-}
-
-/// Whether a flow has a slot, or one is free.
-fn has_room(slots: &[Slot], flow: &Flow) -> bool
-    ensures { result ≡ has_room slots.now flow.now }
-{
-    has_slot(slots, flow) || slots.len() < SLOTS
-}
-
-/// Whether a flow has a slot.
-fn has_slot(slots: &[Slot], flow: &Flow) -> bool
-    ensures { result ≡ list_any (λ s. same_flow flow.now s.flow) slots.now }
-{
-    slots.iter().any(|slot| slot.is_of(flow))
-}
-
-/// Empties the slot of a flow.
-fn clear(slots: &mut Vec<Slot>, flow: &Flow)
-    ensures { slots.new.items ≡ without slots.old.items flow.now }
-{
-    slots.retain(|slot| !slot.is_of(flow));
 }
 
 /// Whether a piece that is held leaves no place for a packet.
@@ -336,22 +174,6 @@ fn is_old(pieces: &[Packet], packet: &Packet) -> bool
             || piece.is_last() && piece.place() < packet.place()
             || packet.is_last() && packet.place() < piece.place()
     })
-}
-
-/// Where a packet's piece belongs among pieces in order of their places.
-#[tactic(auto, using(crate::proofs::Slots::position_given))]
-fn place_among(pieces: &[Packet], packet: &Packet) -> usize
-    ensures place { result ≡ position_or_len (λ q. not (nat_lt q.place packet.now.place)) pieces.now }
-    ensures within { result ≤ length pieces.now }
-{
-    first_from(pieces, packet.place()).unwrap_or(pieces.len())
-}
-
-/// Where the first piece is that doesn't lie below a place.
-fn first_from(pieces: &[Packet], place: u8) -> Option<usize>
-    ensures { result ≡ position (λ q. not (nat_lt q.place place)) pieces.now }
-{
-    pieces.iter().position(|piece| piece.place() >= place)
 }
 
 /// Whether pieces are whole from a place on.
@@ -390,25 +212,6 @@ fn completes(place: usize, pieces: &[Packet], packet: &Packet) -> bool
                 }
         }
     }
-}
-
-/// Puts a piece among others, which are in order of their places.
-fn insert_piece(pieces: &mut Vec<Packet>, packet: Packet) -> Result<(), PacketFault>
-    ensures inserted { GivesIfMemory (λ _. pieces.new.items ≡ with_piece packet pieces.old.items) result }
-    ensures err { OnErr result (pieces.new.items ≡ pieces.old.items) }
-{
-    let at = place_among(pieces, &packet);
-    pieces.insert(at, packet)?;
-    Ok(())
-}
-
-/// A list of one piece.
-fn one_piece(alloc: Global, packet: Packet) -> Result<Vec<Packet>, PacketFault>
-    ensures { GivesIfMemory (λ pieces. pieces.items ≡ packet ∷ []) result }
-{
-    let mut pieces = Vec::new(alloc);
-    pieces.push(packet)?;
-    Ok(pieces)
 }
 
 /// The bits of pieces and a packet, in order of their places. A packet alone gives its own bits.

@@ -2,7 +2,7 @@ use Rattle.std.proofs.Common.{sym, ◌∙◌, ap, insert, ℕ, List, ◌≡◌, 
 use Rattle.std.specs.List.{position_or_len}
 use Rattle.packetiser.specs.PacketFields.{PacketFields}
 use Rattle.packetiser.proofs.Slots.{with_piece_is}
-use Rattle.packetiser.proofs.reassembly.insert_piece.Goals as goal
+use Rattle.packetiser.proofs.slot_table.insert_piece.Goals as goal
 
 pub returns-clause-inserted : goal.returns-clause-inserted
 returns-clause-inserted c =
