@@ -1,0 +1,56 @@
+-- A message of data on a connection's link (NIC 8246, message format; ALL).
+use Rattle.std.specs.Prelude.{ℕ, ◌+◌, ◌*◌, ◌==◌, ◌&&◌, Bool, nat_lt, nat_le, if◌then◌else◌, List, [], ◌∷◌, ◌++◌, length, take, drop, Option, Some, None}
+use Rattle.bit_messages.specs.Octets.{octets_of}
+use Rattle.ncp_control.specs.Allocation as counters
+use Rattle.ncp_control.specs.DataHeader.{header_of, data_bits, header_bits}
+use Rattle.ncp_control.specs.declared.allocation.Allocation.{Allocation}
+use Rattle.ncp_control.specs.declared.data_header.DataHeader.{DataHeader}
+use Rattle.sockets.specs.Commands.{Found, Unconnected, Ending, Open, receiver_on, changed}
+use Rattle.sockets.specs.Control.{error, ERRONEOUS, NOT_CONNECTED}
+use Rattle.sockets.specs.Pairs.{Desk, queued, told}
+use Rattle.sockets.specs.declared.entry.Entry.{Entry}
+use Rattle.sockets.specs.declared.notice.Notice.TheVariants as notice
+
+-- ---- taking
+
+-- what is left of an allocation after a message with these bits
+abbrev pub spent : ℕ → Entry → Entry
+spent bits e = record e { allocation = counters.spent e.allocation bits }
+
+-- a message costs one message and its bits of data
+abbrev pub is_covered : ℕ → Allocation → Bool
+is_covered bits a = nat_lt 0 a.messages && nat_le bits a.bits
+
+-- the data of a text; what follows them is ignored
+abbrev pub data_of : ℕ → List Bool → List Bool
+data_of bits text = take bits (drop 40 text)
+
+-- a text is taken where its bytes have the connection's size and what was granted covers it
+abbrev pub is_taken : Entry → DataHeader → Bool
+is_taken e h = h.size == e.size && is_covered (data_bits h) e.allocation
+
+abbrev pub arrived : Entry → ℕ → List Bool → Desk → Desk
+arrived e bits text d = told (notice.Arrived e.own (data_of bits text) ∷ []) (changed e (spent bits) d)
+
+-- an ERR about a whole message quotes its text
+abbrev pub text_faulted : ℕ → List Bool → Desk → Desk
+text_faulted code text d = queued (error code (octets_of text)) d
+
+abbrev pub arrived_if : Entry → List Bool → Option DataHeader → Desk → Desk
+arrived_if e text None d = text_faulted ERRONEOUS text d
+arrived_if e text (Some h) d = if is_taken e h then arrived e (data_bits h) text d else text_faulted ERRONEOUS text d
+
+abbrev pub data_found : List Bool → Found → Desk → Desk
+data_found text Unconnected d = text_faulted NOT_CONNECTED text d
+data_found text Ending d = d
+data_found text (Open e) d = arrived_if e text (header_of text) d
+
+-- a message of data on a link
+abbrev pub data_taken : ℕ → List Bool → Desk → Desk
+data_taken link text d = data_found text (receiver_on link d) d
+
+-- ---- sending
+
+-- the text of a message of so many bytes of this size, with these bits
+abbrev pub data_text : ℕ → ℕ → List Bool → List Bool
+data_text size count bits = header_bits (record { size = size; count = count }) ++ bits

@@ -1,0 +1,9 @@
+pub mod Phases
+pub mod Entries
+pub mod Pairs
+pub mod Control
+pub mod Commands
+pub mod Data
+pub mod Accepting
+pub mod Sending
+pub mod Requests

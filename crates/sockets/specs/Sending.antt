@@ -1,0 +1,168 @@
+-- What goes out next (NIC 8246: RST and RRP go alone, control messages hold 120 octets, data go within the allocation).
+use Rattle.std.specs.Prelude.{ℕ, ◌+◌, ◌*◌, ◌/◌, ◌==◌, ◌&&◌, not, Bool, true, false, nat_lt, nat_le, if◌then◌else◌, List, [], ◌∷◌, ◌++◌, length, take, drop, find, filter, Option, Some, None}
+use Rattle.leader1822.specs.Host.{Host}
+use Rattle.leader1822.specs.declared.message.HostMessage.{HostMessage}
+use Rattle.ncp_control.specs.Allocation as counters
+use Rattle.ncp_control.specs.Command.{spelling}
+use Rattle.ncp_control.specs.Packing.{spellings, packed_count}
+use Rattle.ncp_control.specs.declared.command.Command.{Command}
+use Rattle.ncp_control.specs.declared.command.Command.TheVariants as command
+use Rattle.sockets.specs.Control.{control_text}
+use Rattle.sockets.specs.Data.{data_text}
+use Rattle.sockets.specs.Entries.{is_receiving, is_open, is_answered, is_busy, entry_at, changed_at, opening}
+use Rattle.sockets.specs.Pairs.{Pair, Peer, Desk, NcpState, desk_of, told, swept, with_pair}
+use Rattle.sockets.specs.Phases.{is_want, is_ready}
+use Rattle.sockets.specs.declared.entry.Closing.TheVariants as closing
+use Rattle.sockets.specs.declared.entry.Entry.{Entry}
+use Rattle.sockets.specs.declared.notice.Notice.{Notice}
+use Rattle.sockets.specs.declared.notice.Notice.TheVariants as notice
+use Rattle.sockets.specs.declared.phase.Phase.TheVariants as phase
+
+-- what goes out in one message: an RST, an RRP, so many of the commands that wait, or so many bytes of an end
+pub data Parcel : Type 0 where
+  Reset : Parcel
+  Reply : Parcel
+  Commands : (count : ℕ) → Parcel
+  Bytes : (entry : Entry) → (count : ℕ) → Parcel
+
+-- ---- choosing
+
+-- how many bytes an end may send now: as many as wait, as are granted, and as one message holds
+abbrev pub sendable : Entry → ℕ
+sendable e = counters.may_send e.allocation e.size (length e.bits / e.size)
+
+-- an open sending end whose link is free, with something to send
+abbrev pub may_send : List ℕ → Entry → Bool
+may_send busy e = not (is_receiving e) && is_open e && is_answered busy e.link && nat_lt 0 (sendable e)
+
+abbrev pub link_of : Option ℕ → ℕ
+link_of None = 0
+link_of (Some link) = link
+
+abbrev pub lower : Entry → Option Entry → Entry
+lower e None = e
+lower e (Some f) = if nat_le (link_of e.link) (link_of f.link) then e else f
+
+-- the end with the lowest link
+abbrev pub lowest : List Entry → Option Entry
+lowest [] = None
+lowest (e ∷ es) = Some (lower e (lowest es))
+
+abbrev pub bytes_of : Option Entry → Option Parcel
+bytes_of None = None
+bytes_of (Some e) = Some (Bytes e (sendable e))
+
+-- RST and RRP wait until no message to the peer is outstanding
+abbrev pub if_silent : List ℕ → Parcel → Option Parcel
+if_silent busy parcel = if length busy == 0 then Some parcel else None
+
+-- commands go before data, as many as one control message holds
+abbrev pub next_of_ready : Pair → Option Parcel
+next_of_ready q =
+    if nat_lt 0 (length q.queue) && not (is_busy q.busy 0) then Some (Commands (packed_count q.queue))
+    else bytes_of (lowest (filter (may_send q.busy) q.entries))
+
+-- RST goes first, then RRP, and while one of them waits nothing else goes
+abbrev pub next_of : Pair → Option Parcel
+next_of q =
+    if is_want q.phase then if_silent q.busy Reset
+    else (if q.owed then if_silent q.busy Reply
+    else (if is_ready q.phase then next_of_ready q
+    else None))
+
+-- the first peer that something goes to
+abbrev pub parcel_for : Peer → Option Parcel → Option (Peer × Parcel) → Option (Peer × Parcel)
+parcel_for p (Some parcel) others = Some (p, parcel)
+parcel_for p None others = others
+
+abbrev pub next_in : List Peer → Option (Peer × Parcel)
+next_in [] = None
+next_in (p ∷ ps) = parcel_for p (next_of p.pair) (next_in ps)
+
+-- ---- the message
+
+abbrev pub link_for : Parcel → ℕ
+link_for (Bytes e count) = link_of e.link
+link_for parcel = 0
+
+abbrev pub text_for : Pair → Parcel → List Bool
+text_for q Reset = control_text (spelling command.Rst)
+text_for q Reply = control_text (spelling command.Rrp)
+text_for q (Commands count) = control_text (spellings (take count q.queue))
+text_for q (Bytes e count) = data_text e.size count (take (e.size * count) e.bits)
+
+abbrev pub message_for : Host → Peer → Parcel → HostMessage
+message_for own p parcel = record {
+  flow = record { source = own; destination = p.host; link = record { 0 = link_for parcel } };
+  text = text_for p.pair parcel;
+}
+
+abbrev pub message_of : Host → Option (Peer × Parcel) → Option HostMessage
+message_of own None = None
+message_of own (Some (p, parcel)) = Some (message_for own p parcel)
+
+-- the message that goes out next
+unfoldable pub next_out : NcpState → Option HostMessage
+next_out s = message_of s.own (next_in s.peers)
+
+-- ---- what its going out changes
+
+abbrev pub asked_at : ℕ → Entry → Entry
+asked_at stamp e = record e { asked = Some stamp }
+
+abbrev pub cls_sent : Entry → Entry
+cls_sent e = record e { closing = closing.Sent }
+
+-- a request of this host has gone out, and the connection may be open by it
+abbrev pub request_gone : Host → ℕ → ℕ → ℕ → Desk → Desk
+request_gone peer stamp own foreign d =
+    told (opening peer (entry_at own foreign (changed_at own foreign (asked_at stamp) d.entries))) (record d { entries = changed_at own foreign (asked_at stamp) d.entries })
+
+abbrev pub command_gone : Host → ℕ → Command → Desk → Desk
+command_gone peer stamp (command.Rts receive send link) d = request_gone peer stamp receive send d
+command_gone peer stamp (command.Str send receive size) d = request_gone peer stamp send receive d
+command_gone peer stamp (command.Cls own foreign) d = swept peer (record d { entries = changed_at own foreign cls_sent d.entries })
+command_gone peer stamp c d = d
+
+-- one command after another
+abbrev pub commands_gone : Host → ℕ → List Command → Desk → Desk
+commands_gone peer stamp [] d = d
+commands_gone peer stamp (c ∷ cs) d = commands_gone peer stamp cs (command_gone peer stamp c d)
+
+-- so many bits of an end have gone out
+abbrev pub bits_gone : ℕ → Entry → Entry
+bits_gone bits e = record e { bits = drop bits e.bits; allocation = counters.spent e.allocation bits }
+
+abbrev pub with_connections : Pair → Desk → Pair
+with_connections q d = record q { entries = d.entries; queue = d.queue }
+
+-- a link has a message outstanding
+abbrev pub busied : ℕ → Pair → Pair
+busied link q = record q { busy = link ∷ q.busy }
+
+-- the desk after a parcel with commands or bytes
+abbrev pub parcel_gone : Host → ℕ → Parcel → Desk → Desk
+parcel_gone peer stamp (Commands count) d = commands_gone peer stamp (take count d.queue) (record d { queue = drop count d.queue })
+parcel_gone peer stamp (Bytes e count) d =
+    told (notice.Sent e.own (take (e.size * count) e.bits) ∷ []) (record d { entries = changed_at e.own e.foreign (bits_gone (e.size * count)) d.entries })
+parcel_gone peer stamp parcel d = d
+
+-- the reset after a parcel with an RST or an RRP
+abbrev pub signal_gone : Parcel → Pair → Pair
+signal_gone Reset q = record q { phase = phase.Gone false }
+signal_gone Reply q = record q { owed = false }
+signal_gone parcel q = q
+
+abbrev pub pair_after : Parcel → Pair → Desk → Pair
+pair_after parcel q d = busied (link_for parcel) (with_connections (signal_gone parcel q) d)
+
+abbrev pub offered_as : NcpState → ℕ → Peer → Parcel → Desk → NcpState × List Notice
+offered_as s stamp p parcel d = (record s { peers = with_pair p.host (pair_after parcel p.pair d) s.peers }, d.notices)
+
+abbrev pub offered_by : NcpState → ℕ → Option (Peer × Parcel) → NcpState × List Notice
+offered_by s stamp None = (s, [])
+offered_by s stamp (Some (p, parcel)) = offered_as s stamp p parcel (parcel_gone p.host stamp parcel (desk_of p.pair s.listening))
+
+-- the carrier took what goes out next, with its place in the log: the host after it, and what is told
+unfoldable pub offered : NcpState → ℕ → NcpState × List Notice
+offered s stamp = offered_by s stamp (next_in s.peers)

@@ -1,0 +1,19 @@
+//! One host's network control program.
+//!
+//! A host talks to each other host over a pair of reset states, over control commands on link 0, and over
+//! connections, each from an odd send socket to an even receive socket and on a link of its own (NIC 8246,
+//! Host/Host Protocol for the ARPA Network). Here lives that program as a machine: what its user asks for,
+//! what comes in from the IMP, and what goes out next.
+//!
+//! Nothing here knows of IMPs, of the log or of programs above the sockets.
+#![tactic(auto)]
+
+mod entry;
+mod fault;
+mod notice;
+mod phase;
+mod request;
+
+pub use fault::NcpFault;
+pub use notice::Notice;
+pub use request::Request;
