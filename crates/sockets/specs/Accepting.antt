@@ -14,7 +14,7 @@ use Rattle.sockets.specs.Control.{Order, Legal, Wrong, orders_of, error}
 use Rattle.sockets.specs.Data.{data_taken}
 use Rattle.sockets.specs.Entries.{is_busy}
 use Rattle.sockets.specs.Pairs.{Pair, Listener, Desk, NcpState, desk_of, queued, settled, pair_with, with_pair}
-use Rattle.sockets.specs.Phases.{is_want, is_ready, reset_phase, reply_phase, rfnm_phase}
+use Rattle.sockets.specs.Phases.{is_ready, reset_phase, reply_phase, rfnm_phase}
 use Rattle.sockets.specs.declared.notice.Notice.{Notice}
 use Rattle.sockets.specs.declared.notice.Notice.TheVariants as notice
 use Rattle.sockets.specs.declared.phase.Phase.{Phase}
@@ -150,8 +150,8 @@ abbrev pub accepted_answer : NcpState → Answer → Flow → NcpState × List N
 accepted_answer s kind f =
     if same_host s.own f.source
     then (if is_busy (pair_with f.destination s.peers).busy f.link.0
-      then turned s f.destination (answered_turn f.destination kind f.link.0 (turn_of s f.destination))
-      else (s, []))
+    then turned s f.destination (answered_turn f.destination kind f.link.0 (turn_of s f.destination))
+    else (s, []))
     else (s, [])
 
 -- what comes in, with its place in the log: the host after it, and what is told

@@ -1,8 +1,8 @@
 -- A control message read as commands and errors (NIC 8246, the control commands and ERR).
-use Rattle.std.specs.Prelude.{ℕ, ◌+◌, ◌*◌, ◌==◌, ◌||◌, ◌&&◌, not, nat_lt, if◌then◌else◌, zero, suc, List, [], ◌∷◌, ◌++◌, length, take, drop, Option, Some, None, Result, Ok, Err}
+use Rattle.std.specs.Prelude.{ℕ, ◌*◌, ◌==◌, ◌&&◌, not, nat_lt, if◌then◌else◌, zero, suc, List, [], ◌∷◌, ◌++◌, length, take, drop, Option, Some, None, Result, Ok, Err}
 use Rattle.std.specs.Prelude.{Bool}
 use Rattle.bit_messages.specs.Octets.{bits_of, octets_of}
-use Rattle.ncp_control.specs.Command.{spelling, detail_of}
+use Rattle.ncp_control.specs.Command.{detail_of}
 use Rattle.ncp_control.specs.DataHeader.{header_of, header_bits}
 use Rattle.ncp_control.specs.Reading.{read_of}
 use Rattle.ncp_control.specs.declared.command.Command.{Command}

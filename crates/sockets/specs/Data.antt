@@ -1,5 +1,5 @@
 -- A message of data on a connection's link (NIC 8246, message format; ALL).
-use Rattle.std.specs.Prelude.{ℕ, ◌+◌, ◌*◌, ◌==◌, ◌&&◌, Bool, nat_lt, nat_le, if◌then◌else◌, List, [], ◌∷◌, ◌++◌, length, take, drop, Option, Some, None}
+use Rattle.std.specs.Prelude.{ℕ, ◌==◌, ◌&&◌, Bool, nat_lt, nat_le, if◌then◌else◌, List, [], ◌∷◌, ◌++◌, take, drop, Option, Some, None}
 use Rattle.bit_messages.specs.Octets.{octets_of}
 use Rattle.ncp_control.specs.Allocation as counters
 use Rattle.ncp_control.specs.DataHeader.{header_of, data_bits, header_bits}

@@ -7,3 +7,5 @@ pub mod Data
 pub mod Accepting
 pub mod Sending
 pub mod Requests
+pub mod Dialogue
+pub mod Worked

@@ -1,5 +1,5 @@
 -- What a host knows of each other host, and of its own sockets.
-use Rattle.std.specs.Prelude.{◌≡◌, ℕ, Bool, true, false, not, ◌==◌, ◌&&◌, nat_lt, if◌then◌else◌, List, [], ◌∷◌, ◌++◌, length, map, filter, find, Option, Some, None}
+use Rattle.std.specs.Prelude.{ℕ, Bool, false, not, ◌==◌, ◌&&◌, nat_lt, if◌then◌else◌, List, [], ◌∷◌, ◌++◌, length, map, filter, find, Option, Some, None}
 use Rattle.std.specs.List.{list_any, flat_map}
 use Rattle.leader1822.specs.Host.{Host, same_host, address_octet}
 use Rattle.ncp_control.specs.declared.command.Command.{Command}

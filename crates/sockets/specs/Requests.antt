@@ -1,15 +1,13 @@
 -- What a user asks for (NIC 8246 leaves the calls to each host; RTS, STR, CLS, ALL, GVB, INR, INS, ECO and RST go out by them).
-use Rattle.std.specs.Prelude.{ℕ, ◌+◌, ◌%◌, ◌==◌, ◌&&◌, ◌||◌, not, Bool, true, false, nat_lt, nat_le, if◌then◌else◌, List, [], ◌∷◌, ◌++◌, length, Option, Some, None, is_some}
+use Rattle.std.specs.Prelude.{ℕ, ◌+◌, ◌%◌, ◌==◌, ◌&&◌, ◌||◌, not, Bool, nat_lt, if◌then◌else◌, List, [], ◌∷◌, ◌++◌, length, Option, Some, None, is_some}
 use Rattle.leader1822.specs.Host.{Host}
-use Rattle.ncp_control.specs.Allocation as counters
 use Rattle.ncp_control.specs.Numbers.{is_receive_socket, is_send_socket, is_byte_size}
 use Rattle.ncp_control.specs.declared.allocation.Allocation.{Allocation}
 use Rattle.ncp_control.specs.declared.command.Command.{Command}
 use Rattle.ncp_control.specs.declared.command.Command.TheVariants as command
-use Rattle.sockets.specs.Accepting.{Turn, turned, turn_of, with_desk}
 use Rattle.sockets.specs.Commands.{granted}
-use Rattle.sockets.specs.Entries.{is_receiving, entry_at, changed_at, sending_end, receiving_end, is_due, was_closed, is_open, free_link, called_off}
-use Rattle.sockets.specs.Pairs.{Pair, Peer, Listener, Desk, NcpState, pair_with, with_pair, listens_on, without_listener, owner_of, queued, settled}
+use Rattle.sockets.specs.Entries.{is_receiving, entry_at, changed_at, sending_end, receiving_end, was_closed, is_open, free_link, called_off}
+use Rattle.sockets.specs.Pairs.{Pair, Desk, NcpState, pair_with, with_pair, listens_on, without_listener, owner_of, settled}
 use Rattle.sockets.specs.Phases.{is_ready}
 use Rattle.sockets.specs.Sending.{link_of}
 use Rattle.sockets.specs.declared.entry.Entry.{Entry}

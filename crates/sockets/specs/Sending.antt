@@ -1,5 +1,5 @@
 -- What goes out next (NIC 8246: RST and RRP go alone, control messages hold 120 octets, data go within the allocation).
-use Rattle.std.specs.Prelude.{ℕ, ◌+◌, ◌*◌, ◌/◌, ◌==◌, ◌&&◌, not, Bool, true, false, nat_lt, nat_le, if◌then◌else◌, List, [], ◌∷◌, ◌++◌, length, take, drop, find, filter, Option, Some, None}
+use Rattle.std.specs.Prelude.{ℕ, ◌*◌, ◌/◌, ◌==◌, ◌&&◌, not, Bool, false, nat_lt, nat_le, if◌then◌else◌, List, [], ◌∷◌, length, take, drop, filter, Option, Some, None}
 use Rattle.leader1822.specs.Host.{Host}
 use Rattle.leader1822.specs.declared.message.HostMessage.{HostMessage}
 use Rattle.ncp_control.specs.Allocation as counters

@@ -10,6 +10,7 @@
 
 mod entry;
 mod fault;
+pub mod law;
 mod notice;
 mod phase;
 mod request;

@@ -1,0 +1,78 @@
+//! What the definitions of the network control program come to, on worked dialogues.
+
+ghost use Rattle.std.specs.Prelude.{◌≡◌, ℕ, List, [], ◌∷◌, ◌++◌, Option, Some, None, replicate, true};
+ghost use Rattle.bit_messages.specs.Octets.{bits_of};
+ghost use Rattle.leader1822.specs.declared.message.HostMessage.{HostMessage};
+ghost use Rattle.sockets.specs.Dialogue.{state_of, Ask};
+ghost use Rattle.sockets.specs.Requests.{refusal, served};
+ghost use Rattle.sockets.specs.Sending.{next_out, offered};
+ghost use Rattle.sockets.specs.Worked.{first, second, third, talk, message, control, reset, opening, closing, crossing, failing, sending, asking_back, giving_back, many_opened, twelve, second_after};
+ghost use Rattle.sockets.specs.declared.fault.NcpFault.TheVariants as fault;
+ghost use Rattle.sockets.specs.declared.notice.Notice.TheVariants as notice;
+ghost use Rattle.sockets.specs.declared.request.Request.TheVariants as request;
+
+/// Dialogues of two hosts, and what each of them is told.
+pub fn worked_dialogues()
+    // a contact makes both hosts ready: the second by the RST, the first by the RRP
+    ensures reset { (talk reset).notices ≡ (second, notice.Ready first) ∷ (first, notice.Ready second) ∷ [] }
+
+    // RSTs that cross do the same, and nothing more
+    ensures crossing { (talk crossing).notices ≡ (second, notice.Ready first) ∷ (first, notice.Ready second) ∷ [] }
+
+    // a contact fails though its RST was taken, and the next one resets a pair that the second host held for open
+    ensures failing { (talk failing).notices ≡ (second, notice.Ready first) ∷ (first, notice.ContactFailed second) ∷ (second, notice.PairReset first) ∷ (first, notice.Ready second) ∷ [] }
+
+    // a connection opens at its sender when the STR is out, at its receiver when that is taken; it ends at each when both CLS have passed
+    ensures connection { (talk (reset ++ opening ++ closing)).notices ≡ (second, notice.Ready first) ∷ (first, notice.Ready second) ∷ (second, notice.Opened 33 first 16 8 7) ∷ (first, notice.Opened 16 second 33 6 10) ∷ (second, notice.Ended 33 first 16) ∷ (first, notice.Ended 16 second 33) ∷ [] }
+
+    // of thirteen octets the hundred bits granted cover twelve; then what is left is asked back
+    ensures data { (talk (reset ++ opening ++ sending ++ asking_back)).notices ≡ (second, notice.Ready first) ∷ (first, notice.Ready second) ∷ (second, notice.Opened 33 first 16 8 7) ∷ (first, notice.Opened 16 second 33 6 10) ∷ (second, notice.Sent 33 (bits_of twelve)) ∷ (first, notice.Arrived 16 (bits_of twelve)) ∷ (first, notice.Returned 16 1 4) ∷ [] }
+{}
+
+/// What a host says next, octet by octet.
+pub fn worked_messages()
+    // an illegal code, a command that ends too soon, and a message that is no control message are answered by ERR
+    ensures illegal_code { next_out (second_after (control first second (14 ∷ 7 ∷ []))) ≡ Some (control second first (11 ∷ 1 ∷ 14 ∷ 7 ∷ replicate 8 0)) }
+    ensures short { next_out (second_after (control first second (1 ∷ 0 ∷ 0 ∷ 0 ∷ []))) ≡ Some (control second first (11 ∷ 2 ∷ 1 ∷ replicate 9 0)) }
+    ensures malformed { next_out (second_after (message first second 0 (0 ∷ 7 ∷ 0 ∷ 1 ∷ 0 ∷ 254 ∷ []))) ≡ Some (control second first (11 ∷ 3 ∷ 0 ∷ 7 ∷ 0 ∷ 1 ∷ 0 ∷ 254 ∷ replicate 4 0)) }
+
+    // a CLS of an unknown connection, and data on a link that no connection has
+    ensures no_socket { next_out (second_after (control first second (3 ∷ 0 ∷ 0 ∷ 0 ∷ 16 ∷ 0 ∷ 0 ∷ 0 ∷ 33 ∷ []))) ≡ Some (control second first (11 ∷ 4 ∷ 3 ∷ 0 ∷ 0 ∷ 0 ∷ 16 ∷ 0 ∷ 0 ∷ 0 ∷ 33 ∷ 0 ∷ [])) }
+    ensures not_connected { next_out (second_after (message first second 7 (0 ∷ 8 ∷ 0 ∷ 1 ∷ 0 ∷ 65 ∷ []))) ≡ Some (control second first (11 ∷ 5 ∷ 0 ∷ 8 ∷ 0 ∷ 1 ∷ 0 ∷ 65 ∷ replicate 4 0)) }
+
+    // a request that nobody waits for is refused by a CLS
+    ensures refused { next_out (second_after (control first second (1 ∷ 0 ∷ 0 ∷ 0 ∷ 16 ∷ 0 ∷ 0 ∷ 0 ∷ 33 ∷ 5 ∷ []))) ≡ Some (control second first (3 ∷ 0 ∷ 0 ∷ 0 ∷ 33 ∷ 0 ∷ 0 ∷ 0 ∷ 16 ∷ [])) }
+
+    // an ECO is asked for, and answered by an ERP
+    ensures echo { next_out (served (state_of (talk reset) first) (request.Echo second 65)) ≡ Some (control first second (9 ∷ 65 ∷ [])) }
+    ensures echoed { next_out (second_after (control first second (9 ∷ 65 ∷ []))) ≡ Some (control second first (10 ∷ 65 ∷ [])) }
+
+    // each end interrupts with a command of its own
+    ensures interrupt_by_receiver { next_out (served (state_of (talk (reset ++ opening)) first) (request.Interrupt 16)) ≡ Some (control first second (7 ∷ 2 ∷ [])) }
+    ensures interrupt_by_sender { next_out (served (state_of (talk (reset ++ opening)) second) (request.Interrupt 33)) ≡ Some (control second first (8 ∷ 2 ∷ [])) }
+
+    // twelve whole octets go out within 100 bits, and nothing more after them
+    ensures data { next_out (state_of (talk (reset ++ opening ++ sending)) second) ≡ Some (message second first 2 (0 ∷ 8 ∷ 0 ∷ 12 ∷ 0 ∷ twelve)) }
+    ensures no_more { next_out (offered (state_of (talk (reset ++ opening ++ sending)) second) 15).0 ≡ None }
+
+    // half of three messages and the whole of 100 bits are given back: a fraction above 128 counts as the whole
+    ensures given_back { next_out (state_of (talk (reset ++ opening ++ giving_back)) second) ≡ Some (control second first (6 ∷ 2 ∷ 0 ∷ 1 ∷ 0 ∷ 0 ∷ 0 ∷ 100 ∷ [])) }
+{}
+
+/// Why a user is refused.
+pub fn worked_refusals()
+    ensures over_grant { refusal (state_of (talk (reset ++ opening ++ Ask first (request.Grant 16 65535 0) ∷ [])) first) (request.Grant 16 1 0) ≡ Some fault.OverGrant }
+    ensures bad_size { refusal (state_of (talk (reset ++ opening)) second) (request.Send 33 (replicate 7 true)) ≡ Some fault.BadSize }
+    ensures wrong_end { refusal (state_of (talk (reset ++ opening)) first) (request.Send 16 (bits_of (255 ∷ []))) ≡ Some fault.WrongEnd }
+    ensures no_such_socket { refusal (state_of (talk (reset ++ opening)) second) (request.Send 35 (bits_of (255 ∷ []))) ≡ Some fault.NoSuchSocket }
+    ensures in_use { refusal (state_of (talk (reset ++ opening)) second) (request.Listen 33 8) ≡ Some fault.InUse }
+    ensures not_contacted { refusal (state_of (talk (reset ++ opening)) first) (request.OpenReceive third 18 33) ≡ Some fault.NotContacted }
+    ensures not_open { refusal (state_of (talk (reset ++ Ask first (request.OpenSend second 17 32 8) ∷ [])) first) (request.Send 17 (bits_of (255 ∷ []))) ≡ Some fault.NotOpen }
+    ensures closing { refusal (state_of (talk (reset ++ opening ++ Ask first (request.Close 16) ∷ [])) first) (request.Close 16) ≡ Some fault.Closing }
+
+    // thirty receiving ends have all links from 2 to 31
+    ensures no_link { refusal (state_of (talk (reset ++ many_opened)) first) (request.OpenReceive second 76 33) ≡ Some fault.NoLink }
+
+    // where several refusals apply, the first of the list is given
+    ensures in_order { refusal (state_of (talk (reset ++ opening)) first) (request.OpenSend third 16 33 0) ≡ Some fault.NotContacted }
+{}
