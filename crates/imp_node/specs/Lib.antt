@@ -12,3 +12,4 @@ pub mod Queries
 pub mod Turns
 pub mod Inside
 pub mod Examples
+pub mod Making

@@ -5,6 +5,9 @@
 //! would fail.
 
 ghost use Rattle.std.specs.Prelude.{◌≡◌, ℕ, true, false, List, [], ◌∷◌, ◌++◌, length, map, replicate, Some, None};
+ghost use Rattle.leader1822.specs.declared.address.Flow.{Flow};
+ghost use Rattle.leader1822.specs.declared.message.HostMessage.{HostMessage};
+ghost use Rattle.imp_channel.specs.declared.frame.Frame.{Frame};
 ghost use Rattle.leader1822.specs.declared.carrier.CarrierFault.TheVariants as fault;
 ghost use Rattle.leader1822.specs.declared.crossing.Answer.TheVariants as answer;
 ghost use Rattle.leader1822.specs.declared.crossing.Inbound.TheVariants as inbound;
@@ -13,13 +16,43 @@ ghost use Rattle.imp_channel.specs.declared.frame.Content.TheVariants as content
 ghost use Rattle.imp_node.specs.Arrival.{from_line, ignored};
 ghost use Rattle.imp_node.specs.Examples.{host, flow, only_packet, first_packet, unmarked_packet, packets_to, packet_frame, ack_frame, on_port, from_1, from_2, from_3, from_3_near_2, imp, busy, messages_between, queueing, serving, slots_of, empty_message};
 ghost use Rattle.imp_node.specs.Flows.{answer_packet};
-ghost use Rattle.imp_node.specs.Lines.{route, resend, end_down};
+ghost use Rattle.imp_node.specs.Lines.{route, resend, end_down, end_up};
+ghost use Rattle.imp_node.specs.Contents.{packets};
+ghost use Rattle.imp_node.specs.Making.{Leaves, from_host_makes, from_line_makes, to_host_makes, host_down_makes};
 ghost use Rattle.imp_node.specs.Offering.{from_host, from_host_refusal};
 ghost use Rattle.imp_node.specs.Pump.{pump};
 ghost use Rattle.imp_node.specs.Room.{stored_count};
-ghost use Rattle.imp_node.specs.State.{host_at};
-ghost use Rattle.imp_node.specs.Stopping.{host_down};
+ghost use Rattle.imp_node.specs.State.{State, host_at, opening};
+ghost use Rattle.imp_node.specs.Stopping.{give_up, forget, abandon, host_down, host_up};
 ghost use Rattle.imp_node.specs.Taking.{to_host, to_host_refusal, next_for};
+
+/// Which packets are in an IMP, and in the frames that it puts on lines, after each call: those that were in
+/// it, and those that the rule of the call makes. Nothing else comes about.
+pub fn holding()
+    // a message that goes over lines is cut into its packets
+    ensures from_host { (s : State) (m : HostMessage) → Leaves s (from_host_makes s m) (from_host s m) }
+
+    // a frame brings its packet, and a piece that can't be delivered gives Dead
+    ensures from_line { (s : State) (k : ℕ) (f : Frame) → Leaves s (from_line_makes s f) (from_line s k f) }
+
+    // a message that is taken gives its RFNM, and one that waits for a host that goes down gives Dead, where the source is at
+    // another IMP
+    ensures to_host { (s : State) (h : ℕ) → Leaves s (to_host_makes s h) (to_host s h) }
+    ensures host_down { (s : State) (h : ℕ) → Leaves s (host_down_makes s h) (host_down s h) }
+
+    // no other call makes a packet
+    ensures resend { (s : State) → Leaves s [] (resend s) }
+    ensures route { (s : State) → Leaves s [] (route s) }
+    ensures end_down { (s : State) (k : ℕ) → Leaves s [] (end_down s k) }
+    ensures end_up { (s : State) (k : ℕ) → Leaves s [] (end_up s k) }
+    ensures give_up { (s : State) (f : Flow) → Leaves s [] (give_up s f) }
+    ensures forget { (s : State) (imp : ℕ) → Leaves s [] (forget s imp) }
+    ensures abandon { (s : State) (f : Flow) → Leaves s [] (abandon s f) }
+    ensures host_up { (s : State) (h : ℕ) → Leaves s [] (host_up s h) }
+
+    // an IMP begins without any
+    ensures opening { (own hosts ports : ℕ) → packets (opening own hosts ports) ≡ [] }
+{}
 
 /// Waiting packets go out in order, into the lowest free channels of their routes' lines.
 pub fn worked_pump()
