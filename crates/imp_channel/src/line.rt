@@ -1,6 +1,6 @@
 //! One end of a line.
 
-ghost use Rattle.std.specs.Prelude.{◌≡◌, ◌<◌, ◌++◌, length, IfOk, IfErr, IsSome, OnOk, OnErr, Ok, Some, None, false, position};
+ghost use Rattle.std.specs.Prelude.{◌≡◌, ◌<◌, ◌≤◌, ◌++◌, length, IfOk, IfErr, IsSome, OnOk, OnErr, Ok, Some, None, false, position};
 ghost use Rattle.std.specs.Option.{option_copied};
 ghost use Rattle.imp_channel.specs.Holding.{packets_in};
 ghost use Rattle.imp_channel.specs.Line.{IsRefusal, is_free, frames_of, opening, frame_of, submitted, resent, acknowledgement, routes_frame, channel_at, is_foreign, has_expected_bit, expected_after, brought, state_after, answer_to, is_fresh_answer};
@@ -154,6 +154,15 @@ impl Line {
         ensures { option_copied result ≡ (channel_at self.now channel).packet }
     {
         self.channels.get(channel as usize)?.packet.as_ref()
+    }
+
+    /// How many channels are busy: at most eight.
+    #[tactic(auto, using(crate::proofs::Calls::packets_counted))]
+    pub fn busy_channels(&self) -> usize
+        ensures count { result ≡ length (packets_in self.now.sending) }
+        ensures most { result ≤ CHANNELS }
+    {
+        count_packets(&self.channels)
     }
 
     /// Puts the frame of a channel, if it is busy, at the end of a list.

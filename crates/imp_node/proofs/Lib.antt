@@ -1,3 +1,5 @@
 pub mod Firsts
 pub mod Held
 pub mod HeldByCalls
+pub mod Reading
+pub mod Sending

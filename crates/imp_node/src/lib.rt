@@ -1,11 +1,16 @@
 //! One IMP of the subnet.
 #![tactic(auto)]
 
+mod flows;
 mod host;
+mod imp;
 pub mod law;
+mod lines;
 mod outgoing;
 mod port;
 mod pump;
+mod steps;
 mod waiting;
 
+pub use imp::Imp;
 pub use outgoing::Outgoing;

@@ -1,0 +1,78 @@
+//! Giving up, forgetting and abandoning.
+
+ghost use Rattle.std.specs.Prelude.{◌≡◌, true, false, IfOk, OnErr};
+ghost use Rattle.imp_node.specs.Stopping as stopping;
+ghost use Rattle.imp_node.specs.Turns.{Turned, Takes, give_up_grows, forget_grows, abandon_grows};
+
+use crate::{Imp, Outgoing};
+use leader1822::{Answer, CarrierFault, Flow, ImpNumber};
+use std::alloc::AllocError;
+
+impl Imp {
+    /// The outstanding message of a flow from one of its hosts is given up: Incomplete waits for the source,
+    /// if that is up. It answers the frames to put on lines.
+    ///
+    /// Errors: `NoSuch` where the source isn't one of its hosts, `NotOutstanding` where no message of the flow
+    /// is outstanding. `OutOfMemory` only where the source is up or a frame is sent, and then the IMP is spent.
+    pub fn give_up(&mut self, flow: Flow) -> Result<Vec<Outgoing>, CarrierFault>
+        requires { self.old.spent ≡ false }
+        ensures { Turned (stopping.give_up_refusal self.old flow) (give_up_grows self.old flow) (λ frames. Takes (stopping.give_up self.old flow) self.new frames.items) self.old self.new result }
+    {
+        if let Some(fault) = self.give_up_refusal(&flow) {
+            return Err(fault);
+        }
+        let Ok(frames) = self.given_up(flow) else {
+            return Err(self.exhaust());
+        };
+        Ok(frames)
+    }
+
+    /// Why the message of a flow may not be given up.
+    fn give_up_refusal(&self, flow: &Flow) -> Option<CarrierFault>
+        ensures { result ≡ stopping.give_up_refusal self.now flow.now }
+    {
+        if !self.is_own(&flow.source) {
+            Some(CarrierFault::NoSuch)
+        } else if self.sources.outstanding(flow).is_none() {
+            Some(CarrierFault::NotOutstanding)
+        } else {
+            None
+        }
+    }
+
+    /// Gives up the outstanding message of a flow.
+    fn given_up(&mut self, flow: Flow) -> Result<Vec<Outgoing>, AllocError>
+        ensures ok { IfOk result (λ frames. Takes (stopping.give_up self.old flow) self.new frames.items) }
+        ensures memory { OnErr result (give_up_grows self.old flow ≡ true) }
+    {
+        self.sources.give_up(&flow);
+        self.tell(Answer::Incomplete, flow)?;
+        self.pump(Vec::new(self.alloc))
+    }
+
+    /// The last numbers that it keeps of flows from another IMP are dropped. It answers the frames to put on
+    /// lines.
+    ///
+    /// Errors: `NoSuch` for its own number. `OutOfMemory` only where a frame is sent, and then the IMP is spent.
+    pub fn forget(&mut self, imp: ImpNumber) -> Result<Vec<Outgoing>, CarrierFault>
+        requires { self.old.spent ≡ false }
+        ensures { Turned (stopping.forget_refusal self.old imp) (forget_grows self.old imp) (λ frames. Takes (stopping.forget self.old imp) self.new frames.items) self.old self.new result }
+    {
+        if imp.number() == self.number() {
+            return Err(CarrierFault::NoSuch);
+        }
+        let Ok(frames) = self.forgotten(imp) else {
+            return Err(self.exhaust());
+        };
+        Ok(frames)
+    }
+
+    /// Drops the last numbers of flows from an IMP.
+    fn forgotten(&mut self, imp: ImpNumber) -> Result<Vec<Outgoing>, AllocError>
+        ensures ok { IfOk result (λ frames. Takes (stopping.forget self.old imp) self.new frames.items) }
+        ensures memory { OnErr result (forget_grows self.old imp ≡ true) }
+    {
+        self.kept.forget(imp);
+        self.pump(Vec::new(self.alloc))
+    }
+}

@@ -1,0 +1,189 @@
+//! One IMP, what it keeps, and what its calls ask of that.
+
+ghost use Rattle.std.specs.Prelude.{◌≡◌, ◌+◌, ◌*◌, ◌<◌, ◌≤◌, ◌&&◌, Bool, true, false, length, replicate, nat_lt, nat_le, IfOk};
+ghost use Rattle.std.specs.List.{list_any, sum_by};
+ghost use Rattle.packetiser.specs.Limits.{greatest_imp};
+ghost use Rattle.imp_node.specs.State as states;
+ghost use Rattle.imp_node.specs.State.{up_host, up_port, host_at};
+ghost use Rattle.imp_node.specs.Room as room;
+ghost use Rattle.imp_node.specs.Flows as flows;
+ghost use Rattle.imp_node.specs.Flows.{is_about};
+ghost use Rattle.imp_node.specs.Offering as offering;
+
+use crate::host::Host;
+use crate::port::Port;
+use imp_channel::Line;
+use leader1822::{Flow, HostAddr, ImpNumber};
+use link_table::{DestFlows, SourceFlows};
+use packetiser::{Packet, Reassembly};
+use routing::RouteTable;
+use std::alloc::{AllocError, Global};
+use std::marker::Model;
+
+/// How many packets an IMP stores, those that wait and those in channels together.
+const STORE_PLACES: usize = 32;
+
+/// One IMP of the subnet.
+#[derive(Drop)]
+pub struct Imp {
+    pub(crate) hosts: Vec<Host>,
+    pub(crate) ports: Vec<Port>,
+    pub(crate) routes: RouteTable,
+    pub(crate) store: Vec<Packet>,
+    pub(crate) slots: Reassembly,
+    pub(crate) sources: SourceFlows,
+    pub(crate) kept: DestFlows,
+    pub(crate) spent: bool,
+    pub(crate) alloc: Global,
+}
+
+impl Model for Imp {
+    ghost use Rattle.std.specs.Coded.{codes};
+    ghost use Rattle.link_table.specs.Codes.{coded_sources, coded_destinations};
+    ghost use Rattle.imp_node.specs.State.{State};
+    ghost use Rattle.imp_node.specs.Inside.Parts.{AreParts};
+
+    ghost Value = { State };
+
+    ghost coded = { Prim.hlevel (codes, coded_sources, coded_destinations) };
+
+    ghost view = { λ i. record { spent = i.spent; hosts = i.hosts.items; ports = i.ports.items; routes = i.routes; store = i.store.items; slots = i.slots; sources = i.sources; kept = i.kept } };
+
+    ghost invariant = { λ i. AreParts i.hosts.items i.ports.items i.routes };
+}
+
+impl Imp {
+    /// The IMP with this number, 1 to 16, with so many hosts, at most four, and so many ports. All hosts and
+    /// ends of lines are up, and nothing was heard, begun or taken.
+    ///
+    /// Errors: want of memory alone.
+    pub fn new(alloc: Global, own: ImpNumber, hosts: u8, ports: u8) -> Result<Imp, AllocError>
+        requires imp { own ≤ greatest_imp }
+        requires hosts { hosts ≤ 4 }
+        ensures { IfOk result (λ imp. imp ≡ states.opening own hosts ports) }
+    {
+        Ok(Imp {
+            hosts: up_hosts(alloc, hosts)?,
+            ports: up_ports(alloc, ports)?,
+            routes: RouteTable::new(alloc, own.number(), ports)?,
+            store: Vec::new(alloc),
+            slots: Reassembly::new(alloc)?,
+            sources: SourceFlows::new(alloc),
+            kept: DestFlows::new(alloc),
+            spent: false,
+            alloc,
+        })
+    }
+
+    /// Its number.
+    pub(crate) fn number(&self) -> u8
+        ensures { result ≡ states.number self.now }
+    {
+        self.routes.own()
+    }
+
+    /// Whether it has a host of this number.
+    pub(crate) fn is_there(&self, host: u8) -> bool
+        ensures { result ≡ states.is_there self.now host }
+    {
+        (host as usize) < self.hosts.len()
+    }
+
+    /// Whether its host of this number is up; a host that isn't there is not.
+    pub(crate) fn is_up(&self, host: u8) -> bool
+        ensures { result ≡ states.is_up self.now host }
+    {
+        self.is_there(host) && self.hosts[host as usize].is_up()
+    }
+
+    /// Whether this is one of its hosts.
+    pub(crate) fn is_own(&self, host: &HostAddr) -> bool
+        ensures { result ≡ offering.is_own self.now host.now }
+    {
+        host.imp() == self.number() && self.is_there(host.host())
+    }
+
+    /// Whether an answer about this flow waits for its source.
+    pub(crate) fn has_answer_about(&self, flow: &Flow) -> bool
+        ensures { result ≡ list_any (is_about flow.now) (host_at self.now flow.now.source.host).answers }
+    {
+        let source = flow.source;
+        self.is_there(source.host()) && self.hosts[source.host() as usize].has_answer_about(flow)
+    }
+
+    /// Whether a message of this flow may begin: none is outstanding, and no answer waits.
+    pub(crate) fn is_idle(&self, flow: &Flow) -> bool
+        ensures { result ≡ flows.is_idle self.now flow.now }
+    {
+        self.sources.is_idle(flow) && !self.has_answer_about(flow)
+    }
+
+    /// Whether a live route leads to another IMP.
+    pub(crate) fn has_route(&self, imp: u8) -> bool
+        ensures route { result ≡ room.has_route self.now imp }
+        ensures within { result ≡ true → imp ≤ greatest_imp }
+    {
+        self.routes.next(imp).is_some()
+    }
+
+    /// Whether so many packets more, at most 8, have room in the store.
+    pub(crate) fn has_room(&self, packets: usize) -> bool
+        requires { packets ≤ 8 }
+        ensures { result ≡ room.has_room self.now packets }
+    {
+        let taken = busy_channels(&self.ports) + packets;
+        taken <= STORE_PLACES && self.store.len() <= STORE_PLACES - taken
+    }
+
+    /// Whether a packet to another IMP has room, or needs none since no live route leads there.
+    pub(crate) fn has_room_to(&self, imp: u8) -> bool
+        ensures { result ≡ room.has_room_to self.now imp }
+    {
+        !self.has_route(imp) || self.has_room(1)
+    }
+
+    /// Whether one more message has room in the queue of a host.
+    pub(crate) fn queue_has_room(&self, host: u8) -> bool
+        ensures { result ≡ room.queue_has_room self.now host }
+    {
+        !self.is_there(host) || self.hosts[host as usize].has_room()
+    }
+}
+
+/// So many hosts that are up, for which nothing waits.
+fn up_hosts(alloc: Global, count: u8) -> Result<Vec<Host>, AllocError>
+    ensures { IfOk result (λ hosts. hosts.items ≡ replicate count up_host) }
+{
+    let mut hosts = Vec::new(alloc);
+    for _ in 0..count {
+        hosts.push(Host::new(alloc, true)?)?;
+    }
+    Ok(hosts)
+}
+
+/// So many ends of lines that are up.
+fn up_ports(alloc: Global, count: u8) -> Result<Vec<Port>, AllocError>
+    ensures { IfOk result (λ ports. ports.items ≡ replicate count up_port) }
+{
+    let mut ports = Vec::new(alloc);
+    for _ in 0..count {
+        ports.push(Port {
+            up: true,
+            line: Line::new(alloc)?,
+        })?;
+    }
+    Ok(ports)
+}
+
+/// How many channels of these ports are busy.
+fn busy_channels(ports: &[Port]) -> usize
+    requires { length ports.now < 256 }
+    ensures count { result ≡ sum_by room.busy_channels ports.now }
+    ensures most { result ≤ 8 * length ports.now }
+{
+    let mut busy = 0;
+    for port in ports {
+        busy += port.line.busy_channels();
+    }
+    busy
+}

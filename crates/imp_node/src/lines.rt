@@ -1,0 +1,211 @@
+//! Calls on the ends of lines: what is sent again, the distances that are told, and ends that go down and up.
+
+ghost use Rattle.std.specs.Prelude.{◌≡◌, ◌<◌, ◌++◌, ◌∷◌, [], true, false, length, map, nat_lt, slice_set, IfOk, OnOk, OnErr};
+ghost use Rattle.imp_channel.specs.Holding.{packets_in};
+ghost use Rattle.imp_channel.specs.Line.{resent, opening};
+ghost use Rattle.routing.specs.RouteTable.{vector_of, loses};
+ghost use Rattle.imp_node.specs.State.{port_at, down_port, with_port};
+ghost use Rattle.imp_node.specs.Lines as lines;
+ghost use Rattle.imp_node.specs.Turns.{Turned, Takes, sends, resend_grows, route_grows, end_down_grows, end_up_grows};
+
+use crate::port::Port;
+use crate::{Imp, Outgoing};
+use leader1822::CarrierFault;
+use routing::Vector;
+use std::alloc::{AllocError, Global};
+
+impl Imp {
+    /// The frames of all busy channels of live ends once more. It answers the frames to put on lines.
+    ///
+    /// Errors: `OutOfMemory` alone, only where a frame is sent, and then the IMP is spent.
+    pub fn resend(&mut self) -> Result<Vec<Outgoing>, CarrierFault>
+        requires { self.old.spent ≡ false }
+        ensures { Turned None (resend_grows self.old) (λ frames. Takes (lines.resend self.old) self.new frames.items) self.old self.new result }
+    {
+        let Ok(frames) = self.resent() else {
+            return Err(self.exhaust());
+        };
+        Ok(frames)
+    }
+
+    /// Sends again, and pumps.
+    fn resent(&mut self) -> Result<Vec<Outgoing>, AllocError>
+        ensures ok { IfOk result (λ frames. Takes (lines.resend self.old) self.new frames.items) }
+        ensures memory { OnErr result (resend_grows self.old ≡ true) }
+    {
+        let frames = resent_from(self.alloc, &self.ports)?;
+        self.pump(frames)
+    }
+
+    /// The IMP's distances go out on each live end. It answers the frames to put on lines.
+    ///
+    /// Errors: `OutOfMemory` alone, only where a frame is sent, and then the IMP is spent.
+    pub fn route(&mut self) -> Result<Vec<Outgoing>, CarrierFault>
+        requires { self.old.spent ≡ false }
+        ensures { Turned None (route_grows self.old) (λ frames. Takes (lines.route self.old) self.new frames.items) self.old self.new result }
+    {
+        let Ok(frames) = self.routed() else {
+            return Err(self.exhaust());
+        };
+        Ok(frames)
+    }
+
+    /// Tells its distances, and pumps.
+    fn routed(&mut self) -> Result<Vec<Outgoing>, AllocError>
+        ensures ok { IfOk result (λ frames. Takes (lines.route self.old) self.new frames.items) }
+        ensures memory { OnErr result (route_grows self.old ≡ true) }
+    {
+        let frames = told_from(self.alloc, &self.routes.vector(), &self.ports)?;
+        self.pump(frames)
+    }
+
+    /// Whether its end at this port is up; an end that isn't there is not.
+    pub(crate) fn is_live(&self, port: u8) -> bool
+        ensures up { result ≡ (port_at self.now.ports port).up }
+        ensures there { result ≡ true → port < length self.now.ports }
+    {
+        (port as usize) < self.ports.len() && self.ports[port as usize].up
+    }
+
+    /// An end goes down. The packets of its channels wait behind those that wait already, for other routes; the
+    /// end is as just reset, and the distances that were heard on it are forgotten. It answers the frames to
+    /// put on lines.
+    ///
+    /// Errors: `NoSuch` for a port that isn't there, `IsDown` where the end is down. `OutOfMemory` only where a
+    /// channel is busy or a frame is sent, and then the IMP is spent.
+    pub fn end_down(&mut self, port: u8) -> Result<Vec<Outgoing>, CarrierFault>
+        requires { self.old.spent ≡ false }
+        ensures { Turned (lines.end_down_refusal self.old port) (end_down_grows self.old port) (λ frames. Takes (lines.end_down self.old port) self.new frames.items) self.old self.new result }
+    {
+        if port as usize >= self.ports.len() {
+            return Err(CarrierFault::NoSuch);
+        }
+        if !self.is_live(port) {
+            return Err(CarrierFault::IsDown);
+        }
+        let Ok(frames) = self.ended(port) else {
+            return Err(self.exhaust());
+        };
+        Ok(frames)
+    }
+
+    /// Takes an end down, and pumps.
+    fn ended(&mut self, port: u8) -> Result<Vec<Outgoing>, AllocError>
+        requires { port < length self.old.ports }
+        ensures ok { IfOk result (λ frames. Takes (lines.end_down self.old port) self.new frames.items) }
+        ensures memory { OnErr result (end_down_grows self.old port ≡ true) }
+    {
+        let mut packets = reset_port(self.alloc, &mut self.ports, port as usize)?;
+        self.routes.lost(port);
+        self.store.append(&mut packets)?;
+        self.pump(Vec::new(self.alloc))
+    }
+
+    /// An end comes up. It answers the frames to put on lines.
+    ///
+    /// Errors: `NoSuch` for a port that isn't there, `IsUp` where the end is up. `OutOfMemory` only where a
+    /// frame is sent, and then the IMP is spent.
+    pub fn end_up(&mut self, port: u8) -> Result<Vec<Outgoing>, CarrierFault>
+        requires { self.old.spent ≡ false }
+        ensures { Turned (lines.end_up_refusal self.old port) (end_up_grows self.old port) (λ frames. Takes (lines.end_up self.old port) self.new frames.items) self.old self.new result }
+    {
+        if port as usize >= self.ports.len() {
+            return Err(CarrierFault::NoSuch);
+        }
+        if self.is_live(port) {
+            return Err(CarrierFault::IsUp);
+        }
+        let Ok(frames) = self.started(port) else {
+            return Err(self.exhaust());
+        };
+        Ok(frames)
+    }
+
+    /// Takes an end up, and pumps.
+    fn started(&mut self, port: u8) -> Result<Vec<Outgoing>, AllocError>
+        requires { port < length self.old.ports }
+        ensures ok { IfOk result (λ frames. Takes (lines.end_up self.old port) self.new frames.items) }
+        ensures memory { OnErr result (end_up_grows self.old port ≡ true) }
+    {
+        self.ports[port as usize].up = true;
+        self.pump(Vec::new(self.alloc))
+    }
+}
+
+/// Resets a port and takes it down. The packets of its busy channels are given back.
+fn reset_port(
+    alloc: Global,
+    ports: &mut [Port],
+    at: usize,
+) -> Result<Vec<packetiser::Packet>, AllocError>
+    requires { at < length ports.old }
+    ensures ports { OnOk result (ports.new ≡ slice_set ports.old at down_port) }
+    ensures packets { IfOk result (λ packets. packets.items ≡ packets_in (port_at ports.old at).line.sending) }
+    ensures memory { OnErr result (0 < length (packets_in (port_at ports.old at).line.sending)) }
+{
+    let port = &mut ports[at];
+    let packets = port.line.reset(alloc)?;
+    port.up = false;
+    Ok(packets)
+}
+
+/// The frames of all busy channels of live ports again, in order of ports and channels.
+fn resent_from(alloc: Global, ports: &[Port]) -> Result<Vec<Outgoing>, AllocError>
+    requires { length ports.now < 256 }
+    ensures ok { IfOk result (λ frames. frames.items ≡ lines.resent_from 0 ports.now) }
+    ensures memory { OnErr result (0 < length (lines.resent_from 0 ports.now)) }
+{
+    let mut frames = Vec::new(alloc);
+    for (at, port) in ports.iter().enumerate() {
+        push_resent(alloc, &mut frames, at as u8, port)?;
+    }
+    Ok(frames)
+}
+
+/// Puts the frames of a port's busy channels behind the others, if it is live.
+fn push_resent(
+    alloc: Global,
+    frames: &mut Vec<Outgoing>,
+    at: u8,
+    port: &Port,
+) -> Result<(), AllocError>
+    ensures ok { OnOk result (frames.new.items ≡ frames.old.items ++ lines.resent_by at port.now) }
+    ensures memory { OnErr result (0 < length (lines.resent_by at port.now)) }
+{
+    if port.up {
+        for frame in port.line.resend(alloc)? {
+            frames.push(Outgoing { port: at, frame })?;
+        }
+    }
+    Ok(())
+}
+
+/// The frames that tell these distances on live ports, in order of ports.
+fn told_from(alloc: Global, distances: &Vector, ports: &[Port]) -> Result<Vec<Outgoing>, AllocError>
+    requires { length ports.now < 256 }
+    ensures ok { IfOk result (λ frames. frames.items ≡ lines.told_from distances.now 0 ports.now) }
+    ensures memory { OnErr result (0 < length (lines.told_from distances.now 0 ports.now)) }
+{
+    let mut frames = Vec::new(alloc);
+    for (at, port) in ports.iter().enumerate() {
+        push_told(&mut frames, distances, at as u8, port)?;
+    }
+    Ok(frames)
+}
+
+/// Puts the frame that tells these distances on a port behind the others, if it is live.
+fn push_told(
+    frames: &mut Vec<Outgoing>,
+    distances: &Vector,
+    at: u8,
+    port: &Port,
+) -> Result<(), AllocError>
+    ensures ok { OnOk result (frames.new.items ≡ frames.old.items ++ lines.told_by distances.now at port.now) }
+    ensures memory { OnErr result (0 < length (lines.told_by distances.now at port.now)) }
+{
+    if port.up {
+        let frame = port.line.routes_frame(distances.clone()?);
+        frames.push(Outgoing { port: at, frame })?;
+    }
+    Ok(())
+}

@@ -1,0 +1,143 @@
+//! The steps that calls of an IMP are made of.
+
+ghost use Rattle.std.specs.Prelude.{◌≡◌, ◌<◌, ◌++◌, ◌∷◌, [], true, false, length, nat_lt, IfOk, OnOk, OnErr};
+ghost use Rattle.packetiser.specs.PacketFields.{Carries};
+ghost use Rattle.imp_node.specs.State as states;
+ghost use Rattle.imp_node.specs.Room as room;
+ghost use Rattle.imp_node.specs.Flows.{answer_packet, told, freed, noted, queued};
+ghost use Rattle.imp_node.specs.Pump as pumps;
+ghost use Rattle.imp_node.specs.Taking.{replied, reply_has_room};
+ghost use Rattle.imp_node.specs.Turns.{Takes, sends};
+ghost use Rattle.imp_node.specs.Inside.Parts.{IsPacketFlow};
+ghost use Rattle.leader1822.specs.declared.carrier.CarrierFault.TheVariants as fault;
+
+use crate::pump::{pump, target};
+use crate::waiting::{Message, Told};
+use crate::{Imp, Outgoing};
+use bit_messages::Bits;
+use leader1822::{Answer, CarrierFault, Flow};
+use link_table::Number;
+use packetiser::{Packet, PacketKind};
+use std::alloc::{AllocError, Global};
+
+impl Imp {
+    /// Every call ends so: waiting packets go out. The frames of the call itself go first.
+    pub(crate) fn pump(&mut self, mut frames: Vec<Outgoing>) -> Result<Vec<Outgoing>, AllocError>
+        ensures ok { IfOk result (λ out. Takes (pumps.pump frames.items self.old) self.new out.items) }
+        ensures memory { OnErr result (sends (pumps.pump frames.items self.old) ≡ true) }
+    {
+        pump(&self.routes, &mut self.ports, &mut self.store, &mut frames)?;
+        Ok(frames)
+    }
+
+    /// Want of memory came: it is not to be used again.
+    pub(crate) fn exhaust(&mut self) -> CarrierFault
+        ensures state { self.new ≡ record self.old { spent = true } }
+        ensures fault { result ≡ fault.OutOfMemory }
+    {
+        self.spent = true;
+        CarrierFault::OutOfMemory
+    }
+
+    /// An answer waits for the source of its flow. Where the source is down, the flow is idle at once.
+    #[tactic(auto, using(crate::proofs::Reading::set_same))]
+    pub(crate) fn tell(&mut self, kind: Answer, flow: Flow) -> Result<(), AllocError>
+        ensures ok { OnOk result (self.new ≡ told kind flow self.old) }
+        ensures memory { OnErr result (states.is_up self.old flow.source.host ≡ true) }
+    {
+        let source = flow.source;
+        let host = source.host();
+        if self.is_up(host) {
+            self.hosts[host as usize].tell(Told { kind, flow })
+        } else {
+            self.sources.handed(&flow);
+            Ok(())
+        }
+    }
+
+    /// An answer to the message of this number comes to its flow. With another number than the outstanding
+    /// one it changes nothing.
+    #[tactic(auto, using(crate::proofs::Reading::freed_with, crate::proofs::Reading::stale_with))]
+    pub(crate) fn free(
+        &mut self,
+        kind: Answer,
+        flow: Flow,
+        number: Number,
+    ) -> Result<(), AllocError>
+        ensures { OnOk result (self.new ≡ freed kind flow number self.old) }
+    {
+        if self.sources.outstanding(&flow) != Some(number) {
+            return Ok(());
+        }
+        let _ = self.sources.answer(&flow, number);
+        self.tell(kind, flow)
+    }
+
+    /// A number is the last that was noted of its flow.
+    pub(crate) fn note(&mut self, flow: &Flow, number: Number) -> Result<(), AllocError>
+        ensures { OnOk result (self.new ≡ noted flow.now number self.old) }
+    {
+        self.kept.note(flow, number)
+    }
+
+    /// A whole message waits for its host, which is there and has room for it, behind the others.
+    pub(crate) fn enqueue(&mut self, message: Message)
+        requires there { message.flow.destination.host < length self.old.hosts }
+        requires room { room.queue_has_room self.old message.flow.destination.host ≡ true }
+        requires flow { IsPacketFlow message.flow }
+        ensures { self.new ≡ queued message self.old }
+    {
+        let host = message.flow.destination.host();
+        self.hosts[host as usize].enqueue(message);
+    }
+
+    /// A packet is stored for its route behind those that wait, or dropped where no live route is.
+    pub(crate) fn admit(&mut self, packet: Packet) -> Result<(), AllocError>
+        ensures ok { OnOk result (self.new ≡ pumps.stored packet self.old) }
+        ensures memory { OnErr result (room.has_route self.old (pumps.target packet) ≡ true) }
+    {
+        if self.has_route(target(&packet)) {
+            self.store.push(packet)?;
+        }
+        Ok(())
+    }
+
+    /// An answer goes to the source of a message that waited here: at once where the source is at this IMP,
+    /// else as a packet.
+    pub(crate) fn reply(
+        &mut self,
+        kind: Answer,
+        packet: PacketKind,
+        flow: Flow,
+        number: Number,
+    ) -> Result<(), AllocError>
+        requires flow { IsPacketFlow flow }
+        requires answer { Carries packet 0 true 0 }
+        ensures { OnOk result (self.new ≡ replied kind packet (record { flow = flow; number = number; text = [] }) self.old) }
+    {
+        let source = flow.source;
+        if source.imp() == self.number() {
+            self.free(kind, flow, number)
+        } else {
+            let answer = answer_packet(self.alloc, packet, flow, number);
+            self.admit(answer)
+        }
+    }
+
+    /// Whether there is room for such an answer to a message of this flow.
+    pub(crate) fn reply_has_room(&self, flow: &Flow) -> bool
+        ensures { result ≡ reply_has_room self.now (record { flow = flow.now; number = 0; text = [] }) }
+    {
+        let source = flow.source;
+        source.imp() == self.number() || self.has_room_to(source.imp())
+    }
+}
+
+/// The packet that tells a message's source what became of it.
+pub(crate) fn answer_packet(alloc: Global, kind: PacketKind, flow: Flow, number: Number) -> Packet
+    requires flow { IsPacketFlow flow }
+    requires answer { Carries kind 0 true 0 }
+    ensures { result ≡ answer_packet kind flow number }
+{
+    Packet::new(kind, flow, number, 0, true, Bits::new(alloc))
+}
