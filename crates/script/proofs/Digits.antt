@@ -1,7 +1,8 @@
 -- Upper case hexadecimal digits.
-use Rattle.std.proofs.Common.{◌≡◌, ℕ, ◌<◌, ◌≤◌, ◌+◌, ◌-◌, ◌*◌, ◌/◌, ◌%◌, ◌&&◌, nat_le, true, List, [], ◌∷◌, length, slice_index, is_some, refl, sym, ap, ◌∙◌, arith, zero, suc, inl, inr}
-use Rattle.std.proofs.lemmas.Bool.{or_cases, and_parts, leb-true}
+use Rattle.std.proofs.Common.{◌≡◌, ℕ, ◌<◌, ◌≤◌, ◌+◌, ◌-◌, ◌*◌, ◌/◌, ◌%◌, ◌&&◌, nat_le, true, List, [], ◌∷◌, ◌++◌, length, take, slice_index, slice_set, is_some, refl, sym, ap, ◌∙◌, arith, zero, suc, inl, inr}
+use Rattle.std.proofs.lemmas.Bool.{or_cases, and_parts, leb-true, cases_lt, false≢true}
 use Rattle.std.specs.List.{list_all}
+use Rattle.std.proofs.lemmas.List.{take_more, take_more_set, append_assoc, get_or_past}
 use Rattle.hex.specs.Hex.{encode_upper, encode_with, upper_digits, is_hex_digit, IsBytes}
 use Rattle.hex.proofs.HexLemmas.{IsDigits-upper_digits, length-encode_with}
 use Rattle.script.specs.Spelling.{is_upper_digit}
@@ -124,3 +125,85 @@ spelled_digits (n ∷ octets) bytes =
 
 pub spelled_even : (octets : List ℕ) → length (encode_upper octets) % 2 ≡ 0
 spelled_even octets = let size : length (encode_upper octets) ≡ 2 * length octets = length-encode_with upper_digits octets in omega arith
+
+-- ---- the value of a digit
+
+-- the upper half of an octet and the lower one
+pub value_small : (c : ℕ) → is_upper_digit c ≡ true → c % 16 + c / 64 * 9 < 16
+value_small c is = elim (or_cases (nat_le 48 c && nat_le c 57) (nat_le 65 c && nat_le c 70) is) [
+  | inl digit ↦
+      let both : (nat_le 48 c ≡ true) × (nat_le c 57 ≡ true) = and_parts (nat_le 48 c) (nat_le c 57) digit in
+      let low : 48 ≤ c = leb-true 48 c both.0 in
+      let high : c ≤ 57 = leb-true c 57 both.1 in
+      omega arith
+  | inr letter ↦
+      let both : (nat_le 65 c ≡ true) × (nat_le c 70 ≡ true) = and_parts (nat_le 65 c) (nat_le c 70) letter in
+      let low : 65 ≤ c = leb-true 65 c both.0 in
+      let high : c ≤ 70 = leb-true c 70 both.1 in
+      omega arith
+]
+
+pub value_same : (c : ℕ) → is_upper_digit c ≡ true → slice_index upper_digits (c % 16 + c / 64 * 9) ≡ c
+value_same c is = elim (or_cases (nat_le 48 c && nat_le c 57) (nat_le 65 c && nat_le c 70) is) [
+  | inl digit ↦
+      let both : (nat_le 48 c ≡ true) × (nat_le c 57 ≡ true) = and_parts (nat_le 48 c) (nat_le c 57) digit in
+      let low : 48 ≤ c = leb-true 48 c both.0 in
+      let high : c ≤ 57 = leb-true c 57 both.1 in
+      let value : c % 16 + c / 64 * 9 ≡ c - 48 = omega arith in
+      let back : c - 48 + 48 ≡ c = omega arith in
+      ap (slice_index upper_digits) value ∙ digit_at (c - 48) (omega arith) ∙ back
+  | inr letter ↦
+      let both : (nat_le 65 c ≡ true) × (nat_le c 70 ≡ true) = and_parts (nat_le 65 c) (nat_le c 70) letter in
+      let low : 65 ≤ c = leb-true 65 c both.0 in
+      let high : c ≤ 70 = leb-true c 70 both.1 in
+      let value : c % 16 + c / 64 * 9 ≡ c - 65 + 10 = omega arith in
+      let back : c - 65 + 65 ≡ c = omega arith in
+      ap (slice_index upper_digits) value ∙ letter_at (c - 65) (omega arith) ∙ back
+]
+
+-- ---- octets spelled one after another
+
+encode_append : (xs ys : List ℕ) → encode_upper (xs ++ ys) ≡ encode_upper xs ++ encode_upper ys
+unfolding encode_with
+encode_append [] ys = refl
+encode_append (x ∷ xs) ys = ap (λ cs. slice_index upper_digits (x / 16) ∷ slice_index upper_digits (x % 16) ∷ cs) (encode_append xs ys)
+
+encode_one : (n high low : ℕ) → high < 16 → low < 16 → n ≡ 16 * high + low → encode_upper (n ∷ []) ≡ slice_index upper_digits high ∷ slice_index upper_digits low ∷ []
+unfolding encode_with
+encode_one n high low a b is =
+    let upper : n / 16 ≡ high = omega arith in
+    let lower : n % 16 ≡ low = omega arith in
+    ap (λ (k : ℕ). slice_index upper_digits k ∷ slice_index upper_digits (n % 16) ∷ []) upper ∙ ap (λ (k : ℕ). slice_index upper_digits high ∷ slice_index upper_digits k ∷ []) lower
+
+-- one octet more
+pub spelled_more : (word octets : List ℕ) (i n high low : ℕ) → 2 * i + 1 < length word → i < length octets → high < 16 → low < 16 → n ≡ 16 * high + low
+    → slice_index upper_digits high ≡ slice_index word (2 * i) → slice_index upper_digits low ≡ slice_index word (2 * i + 1)
+    → encode_upper (take i octets) ≡ take (2 * i) word
+    → encode_upper (take (i + 1) (slice_set octets i n)) ≡ take (2 * (i + 1)) word
+spelled_more word octets i n high low there room small_high small_low is first second so_far =
+    let two : 2 * (i + 1) ≡ 2 * i + 1 + 1 = omega arith in
+    let one : take (2 * i + 1) word ≡ take (2 * i) word ++ slice_index word (2 * i) ∷ [] = take_more word (2 * i) 0 (omega arith) in
+    let both : take (2 * i + 1 + 1) word ≡ take (2 * i + 1) word ++ slice_index word (2 * i + 1) ∷ [] = take_more word (2 * i + 1) 0 there in
+    let front : List ℕ = take (2 * i) word in
+    ap encode_upper (take_more_set octets i n room)
+    ∙ encode_append (take i octets) (n ∷ [])
+    ∙ ap (λ (cs : List ℕ). cs ++ encode_upper (n ∷ [])) so_far
+    ∙ ap (λ (cs : List ℕ). front ++ cs) (encode_one n high low small_high small_low is)
+    ∙ ap (λ (c : ℕ). front ++ (c ∷ slice_index upper_digits low ∷ [])) first
+    ∙ ap (λ (c : ℕ). front ++ (slice_index word (2 * i) ∷ c ∷ [])) second
+    ∙ sym (ap (λ (k : ℕ). take k word) two ∙ both ∙ ap (λ (cs : List ℕ). cs ++ slice_index word (2 * i + 1) ∷ []) one ∙ append_assoc front (slice_index word (2 * i) ∷ []) (slice_index word (2 * i + 1) ∷ []))
+
+-- digits spell octets: no digit stands behind the sixteenth
+behind_digits : (k : ℕ) → 16 ≤ k → slice_index upper_digits k ≡ 0
+behind_digits k far = get_or_past upper_digits k 0 far
+
+pub digits_bytes : (octets : List ℕ) → list_all is_upper_digit (encode_upper octets) ≡ true → IsBytes octets
+unfolding encode_with
+digits_bytes [] is = λ i. omega arith
+digits_bytes (n ∷ octets) is =
+    let first = and_parts (is_upper_digit (slice_index upper_digits (n / 16))) (is_upper_digit (slice_index upper_digits (n % 16)) && list_all is_upper_digit (encode_upper octets)) is in
+    let second = and_parts (is_upper_digit (slice_index upper_digits (n % 16))) (list_all is_upper_digit (encode_upper octets)) first.1 in
+    bytes_more n octets (elim (cases_lt n 256) [
+      | inl small ↦ small
+      | inr big ↦ absurd (false≢true (sym (ap is_upper_digit (behind_digits (n / 16) (omega arith))) ∙ first.0))
+    ]) (digits_bytes octets second.1)

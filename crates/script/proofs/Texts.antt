@@ -1,5 +1,5 @@
 -- Texts of messages as words.
-use Rattle.std.proofs.Common.{◌≡◌, ◌≢◌, ℕ, ◌<◌, ◌≤◌, ◌+◌, ◌*◌, ◌%◌, Bool, true, false, List, [], ◌∷◌, ◌++◌, length, take, replicate, get_or, subst, Result, Ok, refl, sym, ap, ◌∙◌, arith, length-append, lit<, zero, suc, Option, Some, None, IsSome, IfSome}
+use Rattle.std.proofs.Common.{◌≡◌, ◌≢◌, ℕ, ◌<◌, ◌≤◌, ◌+◌, ◌*◌, ◌%◌, Bool, true, false, List, [], ◌∷◌, ◌++◌, length, take, replicate, get_or, subst, Result, Ok, refl, sym, ap, ◌∙◌, arith, length-append, lit<, zero, suc, Option, Some, None, IsSome, IfSome, IfErr, Err}
 use Rattle.std.proofs.lemmas.List.{take_at, length-take-le, length-replicate}
 use Rattle.std.proofs.lemmas.Grind.{get_or_default_zero}
 use Rattle.std.proofs.lemmas.List.Elements.{All-head, All-tail}
@@ -12,7 +12,7 @@ use Rattle.bit_messages.proofs.OctetLemmas.{bits_again, octets_below, length-bit
 use Rattle.bit_messages.specs.Packed.{Packs}
 use Rattle.bit_messages.proofs.PackedLemmas.{packs_octets}
 use Rattle.script.specs.Spelling.{octets_text, IsHex, ReadsAs, is_upper_digit, IsTextWord, IsWordOfText}
-use Rattle.script.proofs.Digits.{IsSpelled, spelled_octets, spelled_digits, spelled_even, upper_are_digits}
+use Rattle.script.proofs.Digits.{IsSpelled, spelled_octets, spelled_digits, spelled_even, upper_are_digits, digits_bytes}
 use Rattle.std.specs.List.{list_all}
 use Rattle.std.proofs.lemmas.List.Sums.{AllPass-from_list_all}
 
@@ -83,15 +83,17 @@ text_made word count bits None few spelled short same =
 text_made word count bits (Some t) few spelled short same =
     (spelled.text ∙ ap octets_text (sym same), ap length same ∙ spelled.long)
 
+pub on_error : {T E : Type 0} (P : Type 0) (r : Result T E) → P → IfErr r (λ _. P)
+on_error P (Ok x) p = tt
+on_error P (Err e) p = p
+
 -- an even number of upper case digits decodes
 pub upper_hex : (word : List ℕ) → length word % 2 ≡ 0 → list_all is_upper_digit word ≡ true → IsHex word
 upper_hex word even digits = decode_of-digits word even (AllPass-from_list_all is_hex_digit word (upper_are_digits word digits))
 
--- and is spelled by what it decodes to
-pub upper_again : (word octets : List ℕ) → length word % 2 ≡ 0 → list_all is_upper_digit word ≡ true → decode_of word ≡ Ok octets → word ≡ encode_upper octets
-upper_again word octets even digits read =
-    let s : IsSpelled word = spelled_octets word even digits in
-    s.spelled ∙ ap encode_upper (ok_same s.octets octets (decode_of word) (ap decode_of s.spelled ∙ decode_of-encode_upper s.octets s.bytes) read)
+-- and decodes to what spells it
+pub decoded : (word octets : List ℕ) → list_all is_upper_digit word ≡ true → word ≡ encode_upper octets → decode_of word ≡ Ok octets
+decoded word octets digits spelled = ap decode_of spelled ∙ decode_of-encode_upper octets (digits_bytes octets (sym (ap (list_all is_upper_digit) spelled) ∙ digits))
 
 -- a word of an odd length, or with another octet, is none that was written
 pub odd_length : (word : List ℕ) → (length word % 2 ≡ 0 → ⊥) → (e : List ℕ) → IsBytes e → word ≢ encode_upper e

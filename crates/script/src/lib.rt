@@ -9,6 +9,7 @@
 mod event;
 mod events;
 mod fault;
+mod hexadecimal;
 mod input;
 pub mod law;
 mod word;

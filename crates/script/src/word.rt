@@ -1,14 +1,14 @@
 //! The words of a line: numbers, hosts and bits.
 
 ghost use Rattle.std.specs.Prelude.{◌≡◌, ◌≢◌, ℕ, ◌<◌, ◌≤◌, ◌==◌, ◌^◌, false, List, ◌∷◌, ◌++◌, length, ◌*◌, take, Ok, MatchOption, IfOk, IfErr, IsTrue, ◌↔◌};
-ghost use Rattle.std.specs.List.{All, list_all};
+ghost use Rattle.std.specs.List.{All};
 ghost use Rattle.std.specs.Fmt.{decimal};
-ghost use Rattle.hex.specs.Hex.{encode_upper, decode_of, IsBytes};
 ghost use Rattle.bit_messages.specs.Octets.{bits_of};
 ghost use Rattle.leader1822.specs.Printed.{host_text};
 ghost use Rattle.script.specs.Steps.{begins_wrong};
-ghost use Rattle.script.specs.Spelling.{ReadsAs, IsHost, IsHex, is_upper_digit, octets_text};
+ghost use Rattle.script.specs.Spelling.{ReadsAs, IsHost, IsHex, octets_text};
 
+use crate::hexadecimal::read_octets;
 use bit_messages::{BitFault, Bits, MAX_TEXT_BITS};
 use leader1822::{HostAddr, Text};
 use std::alloc::{AllocError, Global};
@@ -99,40 +99,6 @@ pub(crate) fn read_text(
         Ok(Text::new(bits))
     } else {
         Ok(None)
-    }
-}
-
-/// The octets that a word spells in upper case hexadecimal. A word that spells none is refused before memory
-/// is taken.
-///
-/// Errors: `AllocError`, only for a word of hexadecimal octets.
-fn read_octets(alloc: Global, word: &[u8]) -> Result<Option<Vec<u8>>, AllocError>
-    ensures read { IfOk result (λ read. MatchOption read ((e : List ℕ) → IsBytes e → word.now ≢ encode_upper e) (λ octets. (decode_of word.now ≡ Ok octets.items) × (word.now ≡ encode_upper octets.items))) }
-    ensures memory { IfErr result (λ _. IsHex word.now) }
-{
-    if word.len() % 2 != 0 || !has_upper_digits(word) {
-        return Ok(None);
-    }
-    match hex::decode(alloc, word) {
-        Ok(octets) => Ok(Some(octets)),
-        Err(_) => Err(AllocError),
-    }
-}
-
-/// Whether each octet of a word is an upper case hexadecimal digit.
-fn has_upper_digits(word: &[u8]) -> bool
-    ensures { result ≡ list_all is_upper_digit word.now }
-{
-    word.iter().all(is_upper_digit)
-}
-
-/// Whether an octet is an upper case hexadecimal digit.
-fn is_upper_digit(octet: &u8) -> bool
-    ensures { result ≡ is_upper_digit octet.now }
-{
-    match *octet {
-        b'0'..=b'9' | b'A'..=b'F' => true,
-        _ => false,
     }
 }
 

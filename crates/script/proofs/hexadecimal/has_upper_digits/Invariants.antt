@@ -1,0 +1,8 @@
+use Rattle.std.proofs.Common.{◌≡◌, take}
+use Rattle.std.specs.List.{list_all}
+use Rattle.script.specs.Spelling.{is_upper_digit}
+use Rattle.script.proofs.hexadecimal.has_upper_digits.Given as goal
+
+-- the octets so far are digits
+abbrev pub invariant-loop-octet : goal.invariant-loop-octet
+invariant-loop-octet l = l.all ≡ list_all is_upper_digit (take l.octet-index l.word)
