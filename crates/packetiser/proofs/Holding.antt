@@ -1,20 +1,20 @@
 -- What slots hold.
 use Rattle.std.proofs.Common.{◌≡◌, ℕ, ◌+◌, ◌*◌, ◌%◌, ◌<◌, ◌≤◌, Bool, true, false, not, List, [], ◌∷◌, ◌++◌, length, refl, ap, sym, ◌∙◌, subst, arith, All, Contains, None, Some, filter, map, IsPermutation, length-append, replicate}
 use Rattle.std.proofs.Common.{nat_lt, ◌==◌, ◌||◌, ◌&&◌, eqb-true, eq-eqb, le-ltb, inl, inr, if◌then◌else◌}
-use Rattle.std.specs.List.{range_with_len}
+use Rattle.std.specs.List.{list_any, range_with_len}
 use Rattle.std.proofs.lemmas.Bool.{cases_Bool}
 use Rattle.std.proofs.lemmas.Bool.Decides.{nat_tests}
 use Rattle.std.proofs.lemmas.List.{nil_from_length}
 use Rattle.std.proofs.lemmas.List.Elements.{All-cons, All-nil, All-head, All-tail, All-weaker, All-append, All-contains_itself, Contains-append_left, Contains-push}
 use Rattle.std.proofs.lemmas.List.Sorted.{IsPermutation-refl}
-use Rattle.bit_messages.specs.Body.{has_mark, text_of, strip_fault}
+use Rattle.bit_messages.specs.Body.{is_one, has_mark, text_of, strip_fault}
 use Rattle.bit_messages.specs.declared.fault.BitFault.TheVariants as bit_fault
 use Rattle.bit_messages.proofs.BodyLemmas.{IsSplit, split_text}
 use Rattle.leader1822.specs.Flow.{same_flow, flow_before}
 use Rattle.leader1822.specs.declared.address.Flow.{Flow}
 use Rattle.packetiser.specs.PacketFields.{PacketFields, IsPacket, IsPiece, Carries, flow_of}
 use Rattle.packetiser.specs.Pieces.{IsBodySize}
-use Rattle.packetiser.specs.Slots.{SlotState, IsTable, IsPieceFor, slot_of, pieces_at, kept_for, gathered, put, without, outcome_of, answer_of, answer_by, added, added_by, has_room, is_old, rules_out, is_whole_from, joined, packets_in, in_some_order}
+use Rattle.packetiser.specs.Slots.{SlotState, IsTable, IsPieceFor, slot_of, pieces_at, kept_for, gathered, with_piece, put, without, outcome_of, answer_of, answer_by, added, added_by, has_room, is_old, rules_out, is_whole_from, joined, packets_in, in_some_order}
 use Rattle.packetiser.specs.Rejoining.{AreAmong, IsGathered, IsRejoined, HasBodySize}
 use Rattle.packetiser.specs.declared.packet.PacketKind.{PacketKind}
 use Rattle.packetiser.specs.declared.packet.PacketKind.TheVariants as kind
@@ -240,3 +240,36 @@ single_old slots p first last some =
     let old : is_old (kept_for slots p) p ≡ true = old_by p (kept_for slots p) first last some in
     let out : outcome_of slots p ≡ outcome.Old = rw old refl in
     (ap (λ (o : Outcome). answer_by o slots p) out, ap (λ (o : Outcome). added_by o slots p) out)
+
+-- ---- the mark of a body
+
+any_append : {X : Type 0} (p : X → Bool) (xs ys : List X) → list_any p (xs ++ ys) ≡ (list_any p xs || list_any p ys)
+any_append p [] ys = refl
+any_append p (x ∷ xs) ys = rw (any_append p xs ys) (or_assoc (p x) (list_any p xs) (list_any p ys))
+  where
+    or_assoc : (a b c : Bool) → (a || (b || c)) ≡ ((a || b) || c)
+    or_assoc true b c = refl
+    or_assoc false b c = refl
+
+or_swap : (a b c : Bool) → (a || (b || c)) ≡ (b || (a || c))
+or_swap true true c = refl
+or_swap true false c = refl
+or_swap false b c = refl
+
+-- the pieces hold a mark where one of them does
+pub mark_joined : (p : PacketFields) (qs : List PacketFields) → has_mark (joined (with_piece p qs)) ≡ (has_mark p.bits || list_any (λ q. has_mark q.bits) qs)
+mark_joined p [] = any_append is_one p.bits []
+mark_joined p (q ∷ qs) = elim (cases_Bool (nat_lt q.place p.place)) [
+  | inl e ↦ rw e (any_append is_one q.bits (joined (with_piece p qs)) ∙ ap (λ (b : Bool). has_mark q.bits || b) (mark_joined p qs) ∙ or_swap (has_mark q.bits) (has_mark p.bits) (list_any (λ (r : PacketFields). has_mark r.bits) qs))
+  | inr e ↦ rw e (any_append is_one p.bits (joined (q ∷ qs)) ∙ ap (λ (b : Bool). has_mark p.bits || b) (mark_all (q ∷ qs)))
+]
+  where
+    mark_all : (rs : List PacketFields) → has_mark (joined rs) ≡ list_any (λ r. has_mark r.bits) rs
+    mark_all [] = refl
+    mark_all (r ∷ rs) = any_append is_one r.bits (joined rs) ∙ ap (λ (b : Bool). has_mark r.bits || b) (mark_all rs)
+
+pub mark_first : (p : PacketFields) (qs : List PacketFields) → has_mark p.bits ≡ true → has_mark (joined (with_piece p qs)) ≡ true
+mark_first p qs here = mark_joined p qs ∙ ap (λ (b : Bool). b || list_any (λ (q : PacketFields). has_mark q.bits) qs) here
+
+pub mark_later : (p : PacketFields) (qs : List PacketFields) → has_mark p.bits ≡ false → has_mark (joined (with_piece p qs)) ≡ list_any (λ q. has_mark q.bits) qs
+mark_later p qs here = mark_joined p qs ∙ ap (λ (b : Bool). b || list_any (λ (q : PacketFields). has_mark q.bits) qs) here

@@ -1,10 +1,12 @@
 //! Reassembly: pieces of messages that aren't whole yet.
 
 ghost use Rattle.std.specs.Prelude.{◌≡◌, ◌<◌, ◌++◌, [], true, false, List, length};
-ghost use Rattle.std.specs.Prelude.{Option, Some, None, Err, OnErr, IfOk, option_map, slice_get};
+ghost use Rattle.std.specs.Prelude.{Option, Some, None, Err, OnErr, IfOk, is_some, option_map, slice_get};
+ghost use Rattle.std.specs.List.{list_any};
+ghost use Rattle.bit_messages.specs.Body.{has_mark};
 ghost use Rattle.packetiser.specs.Faults.{GivesIfMemory};
 ghost use Rattle.packetiser.specs.PacketFields.{IsPacket};
-ghost use Rattle.packetiser.specs.Slots.{SlotState, is_old, with_piece, is_whole_from, joined};
+ghost use Rattle.packetiser.specs.Slots.{SlotState, slot_of, is_old, with_piece, is_whole_from, gathered, joined};
 ghost use Rattle.packetiser.specs.Slots.{without, outcome_of, answer_of, added, kept, grows, in_some_order, IsTable};
 ghost use Rattle.packetiser.specs.Rejoining.{HasBodySize};
 ghost use Rattle.packetiser.specs.declared.fault.PacketFault.TheVariants as fault;
@@ -100,6 +102,21 @@ impl Reassembly {
         }
     }
 
+    /// Whether a bit 1 stands in this piece or in those that are held of its message. If `outcome` is Whole,
+    /// this is whether the body has a mark.
+    pub fn is_marked(&self, packet: &Packet) -> bool
+        ensures { result ≡ has_mark (joined (gathered self.now packet.now)) }
+    {
+        packet.bits().has_mark() || has_mark(self.slots.kept_for(packet))
+    }
+
+    /// Whether pieces of a message of this flow are held.
+    pub fn has_slot(&self, flow: &Flow) -> bool
+        ensures { result ≡ is_some (slot_of self.now flow.now) }
+    {
+        self.slots.slot_of(flow).is_some()
+    }
+
     /// Takes a piece of a message.
     ///
     /// A piece is Old where its place is held, where it lies above a last piece, and where it is a last
@@ -174,6 +191,13 @@ fn is_old(pieces: &[Packet], packet: &Packet) -> bool
             || piece.is_last() && piece.place() < packet.place()
             || packet.is_last() && packet.place() < piece.place()
     })
+}
+
+/// Whether a bit 1 stands in pieces.
+fn has_mark(pieces: &[Packet]) -> bool
+    ensures { result ≡ list_any (λ q. has_mark q.bits) pieces.now }
+{
+    pieces.iter().any(|piece| piece.bits().has_mark())
 }
 
 /// Whether pieces are whole from a place on.

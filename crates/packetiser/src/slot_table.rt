@@ -163,7 +163,7 @@ impl SlotTable {
     }
 
     /// The slot of a flow.
-    fn slot_of(&self, flow: &Flow) -> Option<&Slot>
+    pub(crate) fn slot_of(&self, flow: &Flow) -> Option<&Slot>
         ensures { option_copied result ≡ slot_of self.now flow.now }
     {
         let at = self.place_of(flow)?;
