@@ -1,5 +1,6 @@
 -- Reading and writing the parts of an IMP.
-use Rattle.std.proofs.Common.{◌≡◌, ℕ, zero, suc, ◌==◌, Bool, true, false, List, [], ◌∷◌, get_or, set, Option, Some, None, refl, ap, eqb, cond}
+use Rattle.std.proofs.Common.{◌≡◌, ℕ, ◌==◌, Bool, true, false, List, get_or, set, Option, Some, None, refl, ap, eqb, cond}
+use Rattle.std.proofs.lemmas.List.{set-get_or}
 use Rattle.std.proofs.lemmas.Bool.{eq-eqb, eqb-true}
 use Rattle.link_table.specs.Flows.{outstanding_in, release_in}
 use Rattle.link_table.specs.declared.source.Standing.{Standing}
@@ -8,9 +9,7 @@ use Rattle.link_table.specs.declared.source.Release.TheVariants as release
 
 -- writing what was there changes nothing; there is nothing to write past the end
 pub set_same : {X : Type 0} (xs : List X) (i : ℕ) (d : X) → set xs i (get_or xs i d) ≡ xs
-set_same [] i d = refl
-set_same (x ∷ xs) zero d = refl
-set_same (x ∷ xs) (suc i) d = ap (λ (ys : List _). x ∷ ys) (set_same xs i d)
+set_same xs i d = set-get_or xs i d
 
 -- an answer frees a flow with its outstanding number
 pub freed_with : (s : Option Standing) (n : ℕ) → outstanding_in s ≡ Some n → release_in n s ≡ release.Freed

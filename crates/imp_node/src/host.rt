@@ -1,6 +1,6 @@
 //! A host of an IMP, and what waits for it.
 
-ghost use Rattle.std.specs.Prelude.{◌≡◌, ℕ, ◌≤◌, ◌∷◌, ◌++◌, [], length, drop, nat_lt, slice_get, All, IfOk, IfSome, OnOk, OnErr, true, false};
+ghost use Rattle.std.specs.Prelude.{◌≡◌, ℕ, ◌≤◌, ◌<◌, ◌∷◌, ◌++◌, [], length, drop, nat_lt, slice_get, option_map, All, IfOk, IfSome, OnOk, OnErr, true, false};
 ghost use Rattle.std.specs.List.{list_any};
 ghost use Rattle.imp_node.specs.State.{no_host};
 ghost use Rattle.imp_node.specs.Flows.{is_about, given};
@@ -13,6 +13,7 @@ use leader1822::Flow;
 use std::alloc::{AllocError, Global};
 use std::collections::VecDeque;
 use std::marker::Model;
+use std::mem;
 
 /// How many whole messages can wait for a host.
 const QUEUE_PLACES: usize = 16;
@@ -101,20 +102,69 @@ impl Host {
         }
     }
 
+    /// Whether an answer waits.
+    pub(crate) fn has_answer(&self) -> bool
+        ensures { result ≡ nat_lt 0 (length self.now.answers) }
+    {
+        !self.answers.is_empty()
+    }
+
     /// Takes the oldest answer.
-    pub(crate) fn take_answer(&mut self) -> Option<Told>
-        ensures first { result ≡ slice_get self.old.answers 0 }
+    pub(crate) fn take_answer(&mut self) -> Told
+        requires { 0 < length self.old.answers }
+        ensures first { self.old.answers ≡ result ∷ drop 1 self.old.answers }
         ensures rest { self.new ≡ record self.old { answers = drop 1 self.old.answers } }
     {
-        self.answers.pop_front()
+        self.answers.pop_front().unwrap()
+    }
+
+    /// Whether a message waits.
+    pub(crate) fn has_message(&self) -> bool
+        ensures { result ≡ nat_lt 0 (length self.now.queue) }
+    {
+        !self.queue.is_empty()
+    }
+
+    /// The flow of the oldest message.
+    pub(crate) fn next_flow(&self) -> Option<Flow>
+        ensures { result ≡ option_map (λ m. m.flow) (slice_get self.now.queue 0) }
+    {
+        match self.queue.front() {
+            Some(message) => Some(message.flow),
+            None => None,
+        }
     }
 
     /// Takes the oldest message.
-    pub(crate) fn take_message(&mut self) -> Option<Message>
-        ensures first { result ≡ slice_get self.old.queue 0 }
+    #[tactic(auto, using(crate::proofs::Firsts::first_is))]
+    pub(crate) fn take_message(&mut self) -> Message
+        requires { 0 < length self.old.queue }
+        ensures first { self.old.queue ≡ result ∷ drop 1 self.old.queue }
         ensures rest { self.new ≡ record self.old { queue = drop 1 self.old.queue } }
-        ensures flow { IfSome result (λ m. IsPacketFlow m.flow) }
+        ensures flow { IsPacketFlow result.flow }
     {
-        self.queue.pop_front()
+        self.queue.pop_front().unwrap()
+    }
+
+    /// Takes the host down. The answers that nobody will take are given back.
+    pub(crate) fn stop(&mut self, alloc: Global) -> VecDeque<Told>
+        ensures answers { result.items ≡ self.old.answers }
+        ensures state { self.new ≡ record self.old { up = false; answers = [] } }
+    {
+        self.up = false;
+        mem::replace(&mut self.answers, VecDeque::new(alloc))
+    }
+
+    /// Takes all messages.
+    pub(crate) fn take_queue(
+        &mut self,
+        alloc: Global,
+    ) -> Result<HeapCircularBuffer<Message>, AllocError>
+        ensures queue { IfOk result (λ queue. queue.items ≡ self.old.queue) }
+        ensures flows { IfOk result (λ queue. AreOfPackets queue.items) }
+        ensures state { OnOk result (self.new ≡ record self.old { queue = [] }) }
+    {
+        let empty = HeapCircularBuffer::with_capacity(alloc, QUEUE_PLACES)?;
+        Ok(mem::replace(&mut self.queue, empty))
     }
 }

@@ -77,7 +77,8 @@ impl Imp {
 
     /// Its number.
     pub(crate) fn number(&self) -> u8
-        ensures { result ≡ states.number self.now }
+        ensures number { result ≡ states.number self.now }
+        ensures within { (1 ≤ result) × (result ≤ greatest_imp) }
     {
         self.routes.own()
     }
@@ -91,7 +92,8 @@ impl Imp {
 
     /// Whether its host of this number is up; a host that isn't there is not.
     pub(crate) fn is_up(&self, host: u8) -> bool
-        ensures { result ≡ states.is_up self.now host }
+        ensures up { result ≡ states.is_up self.now host }
+        ensures there { result ≡ true → host < length self.now.hosts }
     {
         self.is_there(host) && self.hosts[host as usize].is_up()
     }

@@ -6,10 +6,13 @@ mod host;
 mod imp;
 pub mod law;
 mod lines;
+mod offering;
 mod outgoing;
 mod port;
 mod pump;
 mod steps;
+mod stopping;
+mod taking;
 mod waiting;
 
 pub use imp::Imp;

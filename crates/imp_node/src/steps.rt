@@ -108,18 +108,18 @@ impl Imp {
         &mut self,
         kind: Answer,
         packet: PacketKind,
-        flow: Flow,
+        flow: &Flow,
         number: Number,
     ) -> Result<(), AllocError>
-        requires flow { IsPacketFlow flow }
+        requires flow { IsPacketFlow flow.now }
         requires answer { Carries packet 0 true 0 }
-        ensures { OnOk result (self.new ≡ replied kind packet (record { flow = flow; number = number; text = [] }) self.old) }
+        ensures { OnOk result (self.new ≡ replied kind packet (record { flow = flow.now; number = number; text = [] }) self.old) }
     {
         let source = flow.source;
         if source.imp() == self.number() {
-            self.free(kind, flow, number)
+            self.free(kind, *flow, number)
         } else {
-            let answer = answer_packet(self.alloc, packet, flow, number);
+            let answer = answer_packet(self.alloc, packet, *flow, number);
             self.admit(answer)
         }
     }

@@ -1,0 +1,43 @@
+-- Steps of a frame's coming in that the calls are made of.
+use Rattle.std.specs.Prelude.{ℕ, Bool, true, false, not, List, Result, Ok, Err, if◌then◌else◌}
+use Rattle.bit_messages.specs.Body.{has_mark, text_of}
+use Rattle.leader1822.specs.declared.address.Flow.{Flow}
+use Rattle.packetiser.specs.PacketFields.{PacketFields}
+use Rattle.packetiser.specs.Slots.{without}
+use Rattle.packetiser.specs.declared.packet.PacketKind.TheVariants as kind
+use Rattle.imp_channel.specs.declared.fault.ChannelFault.{ChannelFault}
+use Rattle.imp_channel.specs.declared.line.Received.{Received}
+use Rattle.imp_channel.specs.declared.line.Received.TheVariants as received
+use Rattle.imp_node.specs.State.{State}
+use Rattle.imp_node.specs.Room.{queue_has_room}
+use Rattle.imp_node.specs.Flows.{noted, queued, answer_packet}
+use Rattle.imp_node.specs.Pump.{stored}
+use Rattle.imp_node.specs.Arrival.{Arrival, Passing, Old, Undeliverable, Piece, NoSlot, Whole, Unmarked, Answering, arrival, arrival_has_room}
+
+-- a frame counts as lost where it brings a fresh packet for which there is no room
+abbrev pub lost_by : Result Received ChannelFault → State → Bool
+lost_by (Ok (received.Fresh p)) s = not (arrival_has_room (arrival s p) s p)
+lost_by (Ok received.Repeat) s = false
+lost_by (Ok received.AckOnly) s = false
+lost_by (Ok (received.Routes distances)) s = false
+lost_by (Err fault) s = false
+
+-- a message that a packet makes whole has a place in its host's queue
+abbrev pub has_place : Arrival → State → PacketFields → Bool
+has_place (Whole text) s p = queue_has_room s p.destination.host
+has_place Passing s p = true
+has_place Old s p = true
+has_place Undeliverable s p = true
+has_place Piece s p = true
+has_place NoSlot s p = true
+has_place Unmarked s p = true
+has_place (Answering kind) s p = true
+
+-- a new message for a host that is down or not there
+abbrev pub turned_away : Flow → ℕ → State → State
+turned_away f n s = stored (answer_packet kind.Dead f n) (noted f n (record s { slots = without s.slots f }))
+
+-- a body is whole
+abbrev pub completed : Flow → ℕ → List Bool → State → State
+completed f n body s =
+    if has_mark body then queued (record { flow = f; number = n; text = text_of body }) (noted f n s) else noted f n s
