@@ -1,6 +1,8 @@
-pub mod Firsts
 pub mod Held
 pub mod HeldByCalls
+pub mod SideLemmas
+pub mod SidesOfCalls
+pub mod Firsts
 pub mod Reading
 pub mod Sending
 pub mod Takings

@@ -13,3 +13,5 @@ pub mod Turns
 pub mod Inside
 pub mod Examples
 pub mod Making
+pub mod Sides
+pub mod Moves

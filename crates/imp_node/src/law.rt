@@ -4,7 +4,7 @@
 //! The functions `worked_..` state the rules by examples: each row is one that another reading of its rule
 //! would fail.
 
-ghost use Rattle.std.specs.Prelude.{◌≡◌, ℕ, true, false, List, [], ◌∷◌, ◌++◌, length, map, replicate, Some, None};
+ghost use Rattle.std.specs.Prelude.{◌≡◌, ℕ, ◌<◌, ◌==◌, if◌then◌else◌, true, false, List, [], ◌∷◌, ◌++◌, length, map, replicate, Some, None};
 ghost use Rattle.leader1822.specs.declared.address.Flow.{Flow};
 ghost use Rattle.leader1822.specs.declared.message.HostMessage.{HostMessage};
 ghost use Rattle.imp_channel.specs.declared.frame.Frame.{Frame};
@@ -13,18 +13,26 @@ ghost use Rattle.leader1822.specs.declared.crossing.Answer.TheVariants as answer
 ghost use Rattle.leader1822.specs.declared.crossing.Inbound.TheVariants as inbound;
 ghost use Rattle.packetiser.specs.declared.packet.PacketKind.TheVariants as kind;
 ghost use Rattle.imp_channel.specs.declared.frame.Content.TheVariants as content;
-ghost use Rattle.imp_node.specs.Arrival.{from_line, ignored};
+ghost use Rattle.imp_node.specs.Arrival.{arrival, from_line, ignored};
 ghost use Rattle.imp_node.specs.Examples.{host, flow, only_packet, first_packet, unmarked_packet, packets_to, packet_frame, ack_frame, on_port, from_1, from_2, from_3, from_3_near_2, imp, busy, messages_between, queueing, serving, slots_of, empty_message};
 ghost use Rattle.imp_node.specs.Flows.{answer_packet};
 ghost use Rattle.imp_node.specs.Lines.{route, resend, end_down, end_up};
 ghost use Rattle.imp_node.specs.Contents.{packets};
 ghost use Rattle.imp_node.specs.Making.{Leaves, from_host_makes, from_line_makes, to_host_makes, host_down_makes};
-ghost use Rattle.imp_node.specs.Offering.{from_host, from_host_refusal};
+ghost use Rattle.imp_node.specs.Offering.{way_of, from_host, from_host_refusal};
 ghost use Rattle.imp_node.specs.Pump.{pump};
 ghost use Rattle.imp_node.specs.Room.{stored_count};
-ghost use Rattle.imp_node.specs.State.{State, host_at, opening};
-ghost use Rattle.imp_node.specs.Stopping.{give_up, forget, abandon, host_down, host_up};
-ghost use Rattle.imp_node.specs.Taking.{to_host, to_host_refusal, next_for};
+ghost use Rattle.imp_node.specs.State.{State, host_at, is_up, opening};
+ghost use Rattle.imp_node.specs.Stopping.{give_up, forget, abandon, stopped, returned, host_down, host_up};
+ghost use Rattle.imp_node.specs.Sides.{sender, receiver, answers_of, ended_with, AllUnmoved, Moved};
+ghost use Rattle.imp_node.specs.Moves.{OfferMoves, ArrivalSays, FrameMoves, TellingMoves, Becomes, without_first, sender_told, source_down, destination_down, source_up, destination_up};
+ghost use Rattle.imp_node.specs.declared.waiting.Message.{Message};
+ghost use Rattle.imp_node.specs.declared.waiting.Told.{Told};
+ghost use Rattle.std.specs.FinMap as map;
+ghost use Rattle.link_table.specs.Flows.{release_in};
+ghost use Rattle.link_table.specs.Keys.{is_from};
+ghost use Rattle.packetiser.specs.PacketFields.{PacketFields};
+ghost use Rattle.imp_node.specs.Taking.{is_from_here, to_host, to_host_refusal, next_for};
 
 /// Which packets are in an IMP, and in the frames that it puts on lines, after each call: those that were in
 /// it, and those that the rule of the call makes. Nothing else comes about.
@@ -52,6 +60,44 @@ pub fn holding()
 
     // an IMP begins without any
     ensures opening { (own hosts ports : ℕ) → packets (opening own hosts ports) ≡ [] }
+{}
+
+/// How each call moves the flows of an IMP: what becomes of the named flow at its source and at its
+/// destination, and that all other flows stay as they were.
+pub fn moving()
+    // a message is offered: see `OfferMoves`
+    ensures from_host { (s : State) (m : HostMessage) → OfferMoves (way_of s m.flow) m s (from_host s m).state }
+
+    // a frame moves no flow, or brings a packet that moves its own by what its arrival is, and that says what the packet is
+    ensures from_line { (s : State) (k : ℕ) (f : Frame) → FrameMoves f s (from_line s k f).state }
+    ensures arrivals { (s : State) (p : PacketFields) → ArrivalSays (arrival s p) s p }
+
+    // a host takes the oldest answer that waits for it: its flow has one answer less
+    ensures answer_taken { (s : State) (h : ℕ) (t : Told) (others : List Told) → is_up s h ≡ true → (host_at s h).answers ≡ t ∷ others → t.flow.source.host ≡ h → Moved s (to_host s h).state t.flow (record (sender s t.flow) { answers = answers_of t.flow others }) (receiver s t.flow) }
+
+    // else the oldest message: its flow has one message less, and its source is told where it is at this IMP
+    ensures message_taken { (s : State) (h : ℕ) (m : Message) (others : List Message) → is_up s h ≡ true → (host_at s h).answers ≡ [] → (host_at s h).queue ≡ m ∷ others → m.flow.destination.host ≡ h → Moved s (to_host s h).state m.flow (sender_told (is_from_here s m) (release_in m.number (map.get s.sources m.flow)) answer.Rfnm (sender s m.flow)) (without_first others m.flow (receiver s m.flow)) }
+
+    // else nothing
+    ensures nothing_taken { (s : State) (h : ℕ) → (host_at s h).answers ≡ [] → (host_at s h).queue ≡ [] → AllUnmoved s (to_host s h).state }
+
+    // the outstanding message of a flow is given up, or last numbers are forgotten
+    ensures give_up { (s : State) (f : Flow) → Moved s (give_up s f).state f (ended_with answer.Incomplete (sender s f)) (receiver s f) }
+    ensures forget { (s : State) (imp : ℕ) (f : Flow) → Becomes s (forget s imp).state f (sender s f) (record (receiver s f) { kept = if is_from imp f then None else map.get s.kept f }) }
+
+    // a host goes down by these two steps: it stops, and then the source of each message that waited for it is told
+    ensures stopped { (s : State) (h : ℕ) (f : Flow) → Becomes s (stopped s h) f (source_down (f.source.host == h) (sender s f)) (destination_down (f.destination.host == h) (receiver s f)) }
+    ensures returned { (m : Message) (s : State) → TellingMoves answer.Dead m s (returned m s) }
+
+    // a host comes up
+    ensures host_up { (s : State) (h : ℕ) (f : Flow) → h < length s.hosts → Becomes s (host_up s h).state f (source_up (f.source.host == h) (sender s f)) (destination_up (f.destination.host == h) (receiver s f)) }
+
+    // the other calls move no flow
+    ensures resend { (s : State) → AllUnmoved s (resend s).state }
+    ensures route { (s : State) → AllUnmoved s (route s).state }
+    ensures end_down { (s : State) (k : ℕ) → AllUnmoved s (end_down s k).state }
+    ensures end_up { (s : State) (k : ℕ) → AllUnmoved s (end_up s k).state }
+    ensures abandon { (s : State) (f : Flow) → AllUnmoved s (abandon s f).state }
 {}
 
 /// Waiting packets go out in order, into the lowest free channels of their routes' lines.
