@@ -2,6 +2,7 @@ pub mod Held
 pub mod HeldByCalls
 pub mod SideLemmas
 pub mod SidesOfCalls
+pub mod Sound
 pub mod Firsts
 pub mod Reading
 pub mod Sending

@@ -4,9 +4,10 @@
 //! The functions `worked_..` state the rules by examples: each row is one that another reading of its rule
 //! would fail.
 
-ghost use Rattle.std.specs.Prelude.{◌≡◌, ℕ, ◌<◌, ◌==◌, if◌then◌else◌, true, false, List, [], ◌∷◌, ◌++◌, length, map, replicate, Some, None};
+ghost use Rattle.std.specs.Prelude.{◌≡◌, ℕ, ◌<◌, ◌==◌, if◌then◌else◌, true, false, List, [], ◌∷◌, ◌++◌, length, map, replicate, All, Some, None};
 ghost use Rattle.leader1822.specs.declared.address.Flow.{Flow};
 ghost use Rattle.leader1822.specs.declared.message.HostMessage.{HostMessage};
+ghost use Rattle.imp_channel.specs.Holding.{carried_by};
 ghost use Rattle.imp_channel.specs.declared.frame.Frame.{Frame};
 ghost use Rattle.leader1822.specs.declared.carrier.CarrierFault.TheVariants as fault;
 ghost use Rattle.leader1822.specs.declared.crossing.Answer.TheVariants as answer;
@@ -23,15 +24,15 @@ ghost use Rattle.imp_node.specs.Offering.{way_of, from_host, from_host_refusal};
 ghost use Rattle.imp_node.specs.Pump.{pump};
 ghost use Rattle.imp_node.specs.Room.{stored_count};
 ghost use Rattle.imp_node.specs.State.{State, host_at, is_up, opening};
-ghost use Rattle.imp_node.specs.Stopping.{give_up, forget, abandon, stopped, returned, host_down, host_up};
-ghost use Rattle.imp_node.specs.Sides.{sender, receiver, answers_of, ended_with, AllUnmoved, Moved};
+ghost use Rattle.imp_node.specs.Stopping.{give_up, give_up_refusal, forget, abandon, stopped, returned, host_down, host_up};
+ghost use Rattle.imp_node.specs.Sides.{IsImp, sender, receiver, answers_of, ended_with, AllUnmoved, Moved};
 ghost use Rattle.imp_node.specs.Moves.{OfferMoves, ArrivalSays, FrameMoves, TellingMoves, Becomes, without_first, sender_told, source_down, destination_down, source_up, destination_up};
 ghost use Rattle.imp_node.specs.declared.waiting.Message.{Message};
 ghost use Rattle.imp_node.specs.declared.waiting.Told.{Told};
 ghost use Rattle.std.specs.FinMap as map;
 ghost use Rattle.link_table.specs.Flows.{release_in};
 ghost use Rattle.link_table.specs.Keys.{is_from};
-ghost use Rattle.packetiser.specs.PacketFields.{PacketFields};
+ghost use Rattle.packetiser.specs.PacketFields.{PacketFields, IsPacket};
 ghost use Rattle.imp_node.specs.Taking.{is_from_here, to_host, to_host_refusal, next_for};
 
 /// Which packets are in an IMP, and in the frames that it puts on lines, after each call: those that were in
@@ -98,6 +99,29 @@ pub fn moving()
     ensures end_down { (s : State) (k : ℕ) → AllUnmoved s (end_down s k).state }
     ensures end_up { (s : State) (k : ℕ) → AllUnmoved s (end_up s k).state }
     ensures abandon { (s : State) (f : Flow) → AllUnmoved s (abandon s f).state }
+{}
+
+/// What holds of an IMP that was not short of memory, after each call if it held before: it has its number,
+/// each answer waits for the source of its flow and each message for its destination, and its slots hold
+/// pieces of one message each.
+pub fn sound()
+    ensures opening { (own hosts ports : ℕ) → IsImp own (opening own hosts ports) }
+
+    // from a host of the IMP
+    ensures from_host { (imp : ℕ) (s : State) (m : HostMessage) → from_host_refusal s m ≡ None → IsImp imp s → IsImp imp (from_host s m).state }
+
+    // a frame whose packet, if it has one, is a packet by the format
+    ensures from_line { (imp : ℕ) (s : State) (k : ℕ) (f : Frame) → All IsPacket (carried_by f.content) → IsImp imp s → IsImp imp (from_line s k f).state }
+    ensures to_host { (imp : ℕ) (s : State) (h : ℕ) → IsImp imp s → IsImp imp (to_host s h).state }
+    ensures resend { (imp : ℕ) (s : State) → IsImp imp s → IsImp imp (resend s).state }
+    ensures route { (imp : ℕ) (s : State) → IsImp imp s → IsImp imp (route s).state }
+    ensures end_down { (imp : ℕ) (s : State) (k : ℕ) → IsImp imp s → IsImp imp (end_down s k).state }
+    ensures end_up { (imp : ℕ) (s : State) (k : ℕ) → IsImp imp s → IsImp imp (end_up s k).state }
+    ensures give_up { (imp : ℕ) (s : State) (f : Flow) → give_up_refusal s f ≡ None → IsImp imp s → IsImp imp (give_up s f).state }
+    ensures forget { (imp : ℕ) (s : State) (other : ℕ) → IsImp imp s → IsImp imp (forget s other).state }
+    ensures abandon { (imp : ℕ) (s : State) (f : Flow) → IsImp imp s → IsImp imp (abandon s f).state }
+    ensures host_down { (imp : ℕ) (s : State) (h : ℕ) → IsImp imp s → IsImp imp (host_down s h).state }
+    ensures host_up { (imp : ℕ) (s : State) (h : ℕ) → IsImp imp s → IsImp imp (host_up s h).state }
 {}
 
 /// Waiting packets go out in order, into the lowest free channels of their routes' lines.

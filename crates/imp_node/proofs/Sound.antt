@@ -1,0 +1,259 @@
+-- What holds of an IMP after every call, if it held before.
+use Rattle.std.proofs.Common.{◌≡◌, ℕ, zero, suc, Bool, true, false, not, List, [], ◌∷◌, ◌++◌, get_or, set, Option, Some, None, Result, Ok, Err, refl, ◌∙◌, subst, cond, ◌==◌, inl, inr, eqb-true, All, replicate, arith}
+use Rattle.std.specs.FinMap as finite
+use Rattle.std.proofs.lemmas.Bool.{cases_Bool}
+use Rattle.std.proofs.lemmas.List.Elements.{All-nil, All-head, All-tail, All-push}
+use Rattle.leader1822.specs.declared.address.Flow.{Flow}
+use Rattle.leader1822.specs.declared.carrier.CarrierFault.{CarrierFault}
+use Rattle.leader1822.specs.declared.carrier.CarrierFault.TheVariants as fault
+use Rattle.leader1822.specs.declared.crossing.Answer.{Answer}
+use Rattle.leader1822.specs.declared.crossing.Answer.TheVariants as answer
+use Rattle.leader1822.specs.declared.message.HostMessage.{HostMessage}
+use Rattle.link_table.specs.Flows.{release_in, given_up}
+use Rattle.link_table.specs.declared.source.Release.{Release}
+use Rattle.link_table.specs.declared.source.Release.TheVariants as release
+use Rattle.packetiser.specs.PacketFields.{PacketFields, IsPacket, flow_of}
+use Rattle.packetiser.specs.Slots.{added}
+use Rattle.packetiser.specs.declared.packet.PacketKind.{PacketKind}
+use Rattle.packetiser.specs.declared.packet.PacketKind.TheVariants as kind
+use Rattle.packetiser.proofs.Holding.{added_table}
+use Rattle.packetiser.proofs.Slots.{without_table}
+use Rattle.imp_channel.specs.Holding.{carried_by}
+use Rattle.imp_channel.specs.Line.{answer_to}
+use Rattle.imp_channel.specs.declared.fault.ChannelFault.{ChannelFault}
+use Rattle.imp_channel.specs.declared.frame.Frame.{Frame}
+use Rattle.imp_channel.specs.declared.line.Received.{Received}
+use Rattle.imp_channel.specs.declared.line.Received.TheVariants as received
+use Rattle.imp_channel.proofs.Holding.{fresh_carried}
+use Rattle.imp_node.specs.declared.outgoing.Outgoing.{Outgoing}
+use Rattle.imp_node.specs.declared.waiting.Message.{Message}
+use Rattle.imp_node.specs.declared.waiting.Told.{Told}
+use Rattle.imp_node.specs.State.{State, HostState, opening, up_host, no_host, host_at, port_at, with_host, number, is_up}
+use Rattle.imp_node.specs.Room.{has_route}
+use Rattle.imp_node.specs.Pump.{pump}
+use Rattle.imp_node.specs.Flows.{given, told, answered_by, noted, queued, next_number, with_begun}
+use Rattle.imp_node.specs.Offering.{Way, Nowhere, Here, Away, way_of, is_own, offered, from_host, from_host_refusal}
+use Rattle.imp_node.specs.Arrival.{Arrival, Passing, Old, Undeliverable, Piece, NoSlot, Whole, Unmarked, Answering, arrival, arrival_has_room, arrived, taken, acknowledged, ignored, fresh, taken_frame, from_line}
+use Rattle.imp_node.specs.Taking.{is_from_here, reply_has_room, replied, taken_by, to_host}
+use Rattle.imp_node.specs.Lines.{resend, route, end_down, end_up}
+use Rattle.imp_node.specs.Stopping.{give_up, give_up_refusal, forget, abandon, returned, all_returned, stopped, host_down, host_up}
+use Rattle.imp_node.specs.Moves.{ArrivalSays}
+use Rattle.imp_node.specs.Sides.{IsImp}
+use Rattle.imp_node.proofs.SidesOfCalls.{arrival_says}
+
+-- ---- the hosts of an IMP
+
+-- what holds of each element by its place holds after one was set
+at_set : {A : Type 0} (P : ℕ → A → Type 0) (xs : List A) (k h : ℕ) (x d : A) → P h (get_or xs h d) → P k x → P h (get_or (set xs k x) h d)
+at_set P [] k h x d old new = old
+at_set P (y ∷ ys) zero zero x d old new = new
+at_set P (y ∷ ys) zero (suc h) x d old new = old
+at_set P (y ∷ ys) (suc k) zero x d old new = old
+at_set P (y ∷ ys) (suc k) (suc h) x d old new = at_set (λ (n : ℕ). P (suc n)) ys k h x d old new
+
+abbrev pub AnswersAt : ℕ → ℕ → HostState → Type 0
+AnswersAt imp h host = All (λ told. told.flow.source ≡ record { imp = imp; host = h }) host.answers
+
+abbrev pub QueueAt : ℕ → ℕ → HostState → Type 0
+QueueAt imp h host = All (λ m. m.flow.destination ≡ record { imp = imp; host = h }) host.queue
+
+-- an IMP that has another host in one's place
+with_host_imp : (imp : ℕ) (s : State) (k : ℕ) (host : HostState) → IsImp imp s → AnswersAt imp k host → QueueAt imp k host → IsImp imp (with_host s k host)
+with_host_imp imp s k host is answers queue = record {
+  own = is.own;
+  live = is.live;
+  answers = λ h. at_set (AnswersAt imp) s.hosts k h host no_host (is.answers h) answers;
+  queues = λ h. at_set (QueueAt imp) s.hosts k h host no_host (is.queues h) queue;
+  slots = is.slots;
+}
+
+-- an IMP that differs in nothing that is spoken of
+same_imp : (imp : ℕ) (s t : State) → IsImp imp s → t.routes.own ≡ s.routes.own → t.spent ≡ s.spent → t.hosts ≡ s.hosts → t.slots ≡ s.slots → IsImp imp t
+same_imp imp s t is own live hosts slots = record {
+  own = own ∙ is.own;
+  live = live ∙ is.live;
+  answers = λ h. rw hosts (is.answers h);
+  queues = λ h. rw hosts (is.queues h);
+  slots = rw slots is.slots;
+}
+
+-- ---- steps
+
+told_imp : (imp : ℕ) (kind : Answer) (f : Flow) (s : State) → f.source.imp ≡ imp → IsImp imp s → IsImp imp (told kind f s)
+told_imp imp kind f s here is =
+    let host : HostState = given (host_at s f.source.host) (record { kind = kind; flow = f }) in
+    let at : IsImp imp (with_host s f.source.host host) = with_host_imp imp s f.source.host host is (by (is_up s f.source.host)) (is.queues f.source.host) in
+    record { own = at.own; live = at.live; answers = at.answers; queues = at.queues; slots = at.slots }
+  where
+    by : (up : Bool) → All (λ told. told.flow.source ≡ record { imp = imp; host = f.source.host }) (cond up ((host_at s f.source.host).answers ++ record { kind = kind; flow = f } ∷ []) (host_at s f.source.host).answers)
+    by true = All-push (λ (told : Told). told.flow.source ≡ record { imp = imp; host = f.source.host }) (host_at s f.source.host).answers (record { kind = kind; flow = f }) (is.answers f.source.host) (rw (← here) refl)
+    by false = is.answers f.source.host
+
+answered_imp : (imp : ℕ) (r : Release) (kind : Answer) (f : Flow) (n : ℕ) (s : State) → f.source.imp ≡ imp → IsImp imp s → IsImp imp (answered_by r kind f n s)
+answered_imp imp release.Freed kind f n s here is = told_imp imp kind f _ here (record { own = is.own; live = is.live; answers = is.answers; queues = is.queues; slots = is.slots })
+answered_imp imp release.Stale kind f n s here is = is
+
+queued_imp : (imp : ℕ) (m : Message) (s : State) → m.flow.destination.imp ≡ imp → IsImp imp s → IsImp imp (queued m s)
+queued_imp imp m s here is =
+    let k : ℕ = m.flow.destination.host in
+    with_host_imp imp s k (record (host_at s k) { queue = (host_at s k).queue ++ m ∷ [] }) is (is.answers k)
+    (All-push (λ (x : Message). x.flow.destination ≡ record { imp = imp; host = m.flow.destination.host }) (host_at s m.flow.destination.host).queue m (is.queues m.flow.destination.host) (rw (← here) refl))
+
+pumped_imp : (imp : ℕ) (frames : List Outgoing) (s : State) → IsImp imp s → IsImp imp (pump frames s).state
+pumped_imp imp frames s is = record { own = is.own; live = is.live; answers = is.answers; queues = is.queues; slots = is.slots }
+
+-- ---- calls that leave hosts and slots alone
+
+pub resend_imp : (imp : ℕ) (s : State) → IsImp imp s → IsImp imp (resend s).state
+resend_imp imp s is = record { own = is.own; live = is.live; answers = is.answers; queues = is.queues; slots = is.slots }
+
+pub route_imp : (imp : ℕ) (s : State) → IsImp imp s → IsImp imp (route s).state
+route_imp imp s is = record { own = is.own; live = is.live; answers = is.answers; queues = is.queues; slots = is.slots }
+
+pub end_down_imp : (imp : ℕ) (s : State) (k : ℕ) → IsImp imp s → IsImp imp (end_down s k).state
+end_down_imp imp s k is = record { own = is.own; live = is.live; answers = is.answers; queues = is.queues; slots = is.slots }
+
+pub end_up_imp : (imp : ℕ) (s : State) (k : ℕ) → IsImp imp s → IsImp imp (end_up s k).state
+end_up_imp imp s k is = record { own = is.own; live = is.live; answers = is.answers; queues = is.queues; slots = is.slots }
+
+pub forget_imp : (imp : ℕ) (s : State) (other : ℕ) → IsImp imp s → IsImp imp (forget s other).state
+forget_imp imp s other is = record { own = is.own; live = is.live; answers = is.answers; queues = is.queues; slots = is.slots }
+
+pub abandon_imp : (imp : ℕ) (s : State) (f : Flow) → IsImp imp s → IsImp imp (abandon s f).state
+abandon_imp imp s f is = record { own = is.own; live = is.live; answers = is.answers; queues = is.queues; slots = without_table s.slots f is.slots }
+
+-- ---- from_host, give_up
+
+-- what is not refused comes from a host of the IMP
+own_source : (s : State) (f : Flow) (others : Option CarrierFault) → cond (not (is_own s f.source)) (Some fault.NoSuch) others ≡ None → f.source.imp ≡ number s
+own_source s f others is = elim (cases_Bool (f.source.imp == number s)) [
+  | inl own ↦ eqb-true f.source.imp (number s) own
+  | inr other ↦ let no : Some fault.NoSuch ≡ None = rw other at is in cc
+]
+
+offered_imp : (imp : ℕ) (way : Way) (m : HostMessage) (s : State) → m.flow.source.imp ≡ imp → (way ≡ Here → m.flow.destination.imp ≡ imp) → IsImp imp s → IsImp imp (offered way m s)
+offered_imp imp Nowhere m s from to is = told_imp imp answer.Dead m.flow s from is
+offered_imp imp Here m s from to is =
+    queued_imp imp (record { flow = m.flow; number = next_number s m.flow; text = m.text }) (noted m.flow (next_number s m.flow) (with_begun m.flow s)) (to refl)
+    (record { own = is.own; live = is.live; answers = is.answers; queues = is.queues; slots = is.slots })
+offered_imp imp Away m s from to is = record { own = is.own; live = is.live; answers = is.answers; queues = is.queues; slots = is.slots }
+
+here_imp : (s : State) (f : Flow) → way_of s f ≡ Here → f.destination.imp ≡ number s
+here_imp s f is = elim (cases_Bool (f.destination.imp == number s)) [
+  | inl own ↦ eqb-true f.destination.imp (number s) own
+  | inr other ↦ elim (cases_Bool (has_route s f.destination.imp)) [
+    | inl there ↦ let no : Away ≡ Here = rw (other, there) at is in cc
+    | inr none ↦ let no : Nowhere ≡ Here = rw (other, none) at is in cc
+  ]
+]
+
+pub from_host_imp : (imp : ℕ) (s : State) (m : HostMessage) → from_host_refusal s m ≡ None → IsImp imp s → IsImp imp (from_host s m).state
+from_host_imp imp s m accepted is =
+    pumped_imp imp [] (offered (way_of s m.flow) m s)
+    (offered_imp imp (way_of s m.flow) m s (own_source s m.flow _ accepted ∙ is.own) (λ here. here_imp s m.flow here ∙ is.own) is)
+
+pub give_up_imp : (imp : ℕ) (s : State) (f : Flow) → give_up_refusal s f ≡ None → IsImp imp s → IsImp imp (give_up s f).state
+give_up_imp imp s f accepted is =
+    pumped_imp imp [] (told answer.Incomplete f (record s { sources = given_up s.sources f }))
+    (told_imp imp answer.Incomplete f (record s { sources = given_up s.sources f }) (own_source s f _ accepted ∙ is.own) (record { own = is.own; live = is.live; answers = is.answers; queues = is.queues; slots = is.slots }))
+
+-- ---- from_line
+
+arrived_imp : (imp : ℕ) (a : Arrival) (p : PacketFields) (s t : State) → ArrivalSays a s p → number s ≡ imp → IsPacket p → IsImp imp t → IsImp imp (arrived a p t)
+arrived_imp imp Passing p s t says own format is = record { own = is.own; live = is.live; answers = is.answers; queues = is.queues; slots = is.slots }
+arrived_imp imp Old p s t says own format is = is
+arrived_imp imp Undeliverable p s t says own format is = record { own = is.own; live = is.live; answers = is.answers; queues = is.queues; slots = without_table t.slots (flow_of p) is.slots }
+arrived_imp imp Piece p s t says own format is = record { own = is.own; live = is.live; answers = is.answers; queues = is.queues; slots = added_table t.slots p is.slots format says.0.data_kind }
+arrived_imp imp NoSlot p s t says own format is = is
+arrived_imp imp (Whole text) p s t says own format is =
+    queued_imp imp (record { flow = flow_of p; number = p.number; text = text }) (noted (flow_of p) p.number (record t { slots = added t.slots p })) (says.1.new.here ∙ own)
+    (record { own = is.own; live = is.live; answers = is.answers; queues = is.queues; slots = added_table t.slots p is.slots format says.1.new.data_kind })
+arrived_imp imp Unmarked p s t says own format is = record { own = is.own; live = is.live; answers = is.answers; queues = is.queues; slots = added_table t.slots p is.slots format says.1.new.data_kind }
+arrived_imp imp (Answering kind) p s t says own format is = answered_imp imp (release_in p.number (finite.get t.sources (flow_of p))) kind (flow_of p) p.number t (says.0 ∙ own) is
+
+taken_imp : (imp : ℕ) (k : ℕ) (f : Frame) (s : State) → IsImp imp s → IsImp imp (taken k f s)
+taken_imp imp k f s is = record { own = is.own; live = is.live; answers = is.answers; queues = is.queues; slots = is.slots }
+
+fresh_imp : (imp : ℕ) (k : ℕ) (f : Frame) (p : PacketFields) (s : State) → IsPacket p → IsImp imp s → IsImp imp (fresh k f p s).state
+fresh_imp imp k f p s format is = at (arrival_has_room (arrival s p) s p) where
+  at : (room : Bool) → IsImp imp (cond room (pump (acknowledged k (taken k f s)) (arrived (arrival s p) p (taken k f s))) (ignored s)).state
+  at true = pumped_imp imp (acknowledged k (taken k f s)) (arrived (arrival s p) p (taken k f s)) (arrived_imp imp (arrival s p) p s (taken k f s) (arrival_says s p) is.own format (taken_imp imp k f s is))
+  at false = is
+
+frame_imp : (imp : ℕ) (got : Result Received ChannelFault) (k : ℕ) (f : Frame) (s : State) → ((p : PacketFields) → got ≡ Ok (received.Fresh p) → IsPacket p) → IsImp imp s → IsImp imp (taken_frame got k f s).state
+frame_imp imp (Ok (received.Fresh p)) k f s format is = fresh_imp imp k f p s (format p refl) is
+frame_imp imp (Ok received.Repeat) k f s format is = record { own = is.own; live = is.live; answers = is.answers; queues = is.queues; slots = is.slots }
+frame_imp imp (Ok received.AckOnly) k f s format is = record { own = is.own; live = is.live; answers = is.answers; queues = is.queues; slots = is.slots }
+frame_imp imp (Ok (received.Routes distances)) k f s format is = record { own = is.own; live = is.live; answers = is.answers; queues = is.queues; slots = is.slots }
+frame_imp imp (Err fault) k f s format is = is
+
+pub from_line_imp : (imp : ℕ) (s : State) (k : ℕ) (f : Frame) → All IsPacket (carried_by f.content) → IsImp imp s → IsImp imp (from_line s k f).state
+from_line_imp imp s k f formats is = at (port_at s.ports k).up where
+  format : (p : PacketFields) → answer_to (port_at s.ports k).line f ≡ Ok (received.Fresh p) → IsPacket p
+  format p fresh = All-head IsPacket p [] (subst (All IsPacket) (fresh_carried (port_at s.ports k).line f p fresh) formats)
+
+  at : (up : Bool) → IsImp imp (cond up (taken_frame (answer_to (port_at s.ports k).line f) k f s) (ignored s)).state
+  at true = frame_imp imp (answer_to (port_at s.ports k).line f) k f s format is
+  at false = is
+
+-- ---- to_host, host_down, host_up
+
+replied_imp : (imp : ℕ) (kind : Answer) (packet : PacketKind) (m : Message) (s : State) → IsImp imp s → IsImp imp (replied kind packet m s)
+replied_imp imp kind packet m s is = elim (cases_Bool (is_from_here s m)) [
+  | inl here ↦ rw here (answered_imp imp (release_in m.number (finite.get s.sources m.flow)) kind m.flow m.number s (eqb-true m.flow.source.imp (number s) here ∙ is.own) is)
+  | inr other ↦ rw other (record { own = is.own; live = is.live; answers = is.answers; queues = is.queues; slots = is.slots })
+]
+
+taken_by_imp : (imp : ℕ) (h : ℕ) (told : List Told) (queue : List Message) (s : State) → (host_at s h).answers ≡ told → (host_at s h).queue ≡ queue → IsImp imp s → IsImp imp (taken_by h told queue s)
+taken_by_imp imp h (t ∷ others) queue s answers queues is =
+    let old : All (λ (x : Told). x.flow.source ≡ record { imp = imp; host = h }) (t ∷ others) = subst (All (λ (x : Told). x.flow.source ≡ record { imp = imp; host = h })) answers (is.answers h) in
+    let at : IsImp imp (with_host s h (record (host_at s h) { answers = others })) =
+    with_host_imp imp s h (record (host_at s h) { answers = others }) is (All-tail (λ (x : Told). x.flow.source ≡ record { imp = imp; host = h }) t others old) (is.queues h) in
+    record { own = at.own; live = at.live; answers = at.answers; queues = at.queues; slots = at.slots }
+taken_by_imp imp h [] (m ∷ others) s answers queues is =
+    let old : All (λ (x : Message). x.flow.destination ≡ record { imp = imp; host = h }) (m ∷ others) = subst (All (λ (x : Message). x.flow.destination ≡ record { imp = imp; host = h })) queues (is.queues h) in
+    replied_imp imp answer.Rfnm kind.Rfnm m (with_host s h (record (host_at s h) { queue = others }))
+    (with_host_imp imp s h (record (host_at s h) { queue = others }) is (is.answers h) (All-tail (λ (x : Message). x.flow.destination ≡ record { imp = imp; host = h }) m others old))
+taken_by_imp imp h [] [] s answers queues is = is
+
+pub to_host_imp : (imp : ℕ) (s : State) (h : ℕ) → IsImp imp s → IsImp imp (to_host s h).state
+to_host_imp imp s h is = pumped_imp imp [] _ (taken_by_imp imp h (host_at s h).answers (host_at s h).queue s refl refl is)
+
+returned_imp : (imp : ℕ) (m : Message) (s : State) → IsImp imp s → IsImp imp (returned m s)
+returned_imp imp m s is = at (reply_has_room s m) where
+  at : (room : Bool) → IsImp imp (cond room (replied answer.Dead kind.Dead m s) s)
+  at true = replied_imp imp answer.Dead kind.Dead m s is
+  at false = is
+
+all_returned_imp : (imp : ℕ) (ms : List Message) (s : State) → IsImp imp s → IsImp imp (all_returned ms s)
+all_returned_imp imp [] s is = is
+all_returned_imp imp (m ∷ ms) s is = all_returned_imp imp ms (returned m s) (returned_imp imp m s is)
+
+pub host_down_imp : (imp : ℕ) (s : State) (h : ℕ) → IsImp imp s → IsImp imp (host_down s h).state
+host_down_imp imp s h is =
+    let at : IsImp imp (with_host s h no_host) = with_host_imp imp s h no_host is (All-nil _) (All-nil _) in
+    pumped_imp imp [] _ (all_returned_imp imp (host_at s h).queue (stopped s h) (record { own = at.own; live = at.live; answers = at.answers; queues = at.queues; slots = at.slots }))
+
+pub host_up_imp : (imp : ℕ) (s : State) (h : ℕ) → IsImp imp s → IsImp imp (host_up s h).state
+host_up_imp imp s h is = pumped_imp imp [] _ (with_host_imp imp s h (record (host_at s h) { up = true }) is (is.answers h) (is.queues h))
+
+-- ---- at the opening
+
+opening_answers : (count h : ℕ) → (get_or (replicate count up_host) h no_host).answers ≡ []
+opening_answers zero h = refl
+opening_answers (suc count) zero = refl
+opening_answers (suc count) (suc h) = opening_answers count h
+
+opening_queue : (count h : ℕ) → (get_or (replicate count up_host) h no_host).queue ≡ []
+opening_queue zero h = refl
+opening_queue (suc count) zero = refl
+opening_queue (suc count) (suc h) = opening_queue count h
+
+pub opening_imp : (own hosts ports : ℕ) → IsImp own (opening own hosts ports)
+opening_imp own hosts ports = record {
+  own = refl;
+  live = refl;
+  answers = λ h. rw (opening_answers hosts h) (All-nil _);
+  queues = λ h. rw (opening_queue hosts h) (All-nil _);
+  slots = record { few = omega arith; in_order = tt; sound = All-nil _ };
+}
