@@ -7,7 +7,8 @@ use Rattle.ncp_control.specs.declared.allocation.Allocation.{Allocation}
 use Rattle.ncp_control.specs.declared.data_header.DataHeader.{DataHeader}
 use Rattle.sockets.specs.Commands.{Found, Unconnected, Ending, Open, receiver_on, changed}
 use Rattle.sockets.specs.Control.{error, ERRONEOUS, NOT_CONNECTED}
-use Rattle.sockets.specs.Pairs.{Desk, queued, told}
+use Rattle.sockets.specs.Entries.{receives_on}
+use Rattle.sockets.specs.Pairs.{DeskState, queued, told}
 use Rattle.sockets.specs.declared.entry.Entry.{Entry}
 use Rattle.sockets.specs.declared.notice.Notice.TheVariants as notice
 
@@ -29,25 +30,25 @@ data_of bits text = take bits (drop 40 text)
 abbrev pub is_taken : Entry → DataHeader → Bool
 is_taken e h = h.size == e.size && is_covered (data_bits h) e.allocation
 
-abbrev pub arrived : Entry → ℕ → List Bool → Desk → Desk
-arrived e bits text d = told (notice.Arrived e.own (data_of bits text) ∷ []) (changed e (spent bits) d)
+abbrev pub arrived : ℕ → Entry → ℕ → List Bool → DeskState → DeskState
+arrived link e bits text d = told (notice.Arrived e.own (data_of bits text) ∷ []) (changed (receives_on link) (spent bits) d)
 
 -- an ERR about a whole message quotes its text
-abbrev pub text_faulted : ℕ → List Bool → Desk → Desk
+abbrev pub text_faulted : ℕ → List Bool → DeskState → DeskState
 text_faulted code text d = queued (error code (octets_of text)) d
 
-abbrev pub arrived_if : Entry → List Bool → Option DataHeader → Desk → Desk
-arrived_if e text None d = text_faulted ERRONEOUS text d
-arrived_if e text (Some h) d = if is_taken e h then arrived e (data_bits h) text d else text_faulted ERRONEOUS text d
+abbrev pub arrived_if : ℕ → Entry → List Bool → Option DataHeader → DeskState → DeskState
+arrived_if link e text None d = text_faulted ERRONEOUS text d
+arrived_if link e text (Some h) d = if is_taken e h then arrived link e (data_bits h) text d else text_faulted ERRONEOUS text d
 
-abbrev pub data_found : List Bool → Found → Desk → Desk
-data_found text Unconnected d = text_faulted NOT_CONNECTED text d
-data_found text Ending d = d
-data_found text (Open e) d = arrived_if e text (header_of text) d
+abbrev pub data_found : ℕ → List Bool → Found → DeskState → DeskState
+data_found link text Unconnected d = text_faulted NOT_CONNECTED text d
+data_found link text Ending d = d
+data_found link text (Open e) d = arrived_if link e text (header_of text) d
 
 -- a message of data on a link
-abbrev pub data_taken : ℕ → List Bool → Desk → Desk
-data_taken link text d = data_found text (receiver_on link d) d
+abbrev pub data_taken : ℕ → List Bool → DeskState → DeskState
+data_taken link text d = data_found link text (receiver_on link d) d
 
 -- ---- sending
 

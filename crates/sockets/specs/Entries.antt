@@ -1,5 +1,5 @@
 -- One end of a connection (NIC 8246, connections: RTS, STR and CLS).
-use Rattle.std.specs.Prelude.{ℕ, Bool, true, false, not, ◌==◌, ◌&&◌, ◌||◌, if◌then◌else◌, List, [], ◌∷◌, length, map, find, Option, Some, None, is_some}
+use Rattle.std.specs.Prelude.{ℕ, Bool, true, false, not, ◌==◌, ◌&&◌, ◌||◌, if◌then◌else◌, List, [], ◌∷◌, length, find, Option, Some, None, is_some}
 use Rattle.std.specs.List.{list_any, range_with_len}
 use Rattle.leader1822.specs.Host.{Host}
 use Rattle.ncp_control.specs.Allocation as counters
@@ -40,9 +40,14 @@ sends_on link e = not (is_receiving e) && is_link link e.link
 abbrev pub receives_on : ℕ → Entry → Bool
 receives_on link e = is_receiving e && is_link link e.link
 
+-- the first element that passes is changed
+abbrev pub changed_first : {A : Type 0} → (A → Bool) → (A → A) → List A → List A
+changed_first test change [] = []
+changed_first test change (x ∷ xs) = if test x then change x ∷ xs else x ∷ changed_first test change xs
+
 -- the end of these two sockets is changed
 abbrev pub changed_at : ℕ → ℕ → (Entry → Entry) → List Entry → List Entry
-changed_at own foreign change entries = map (λ e. if is_at own foreign e then change e else e) entries
+changed_at own foreign change entries = changed_first (is_at own foreign) change entries
 
 -- ---- a new end: nothing is asked for, granted or queued on it
 

@@ -1,5 +1,6 @@
 pub mod Phases
 pub mod Entries
+pub mod Pair
 pub mod Pairs
 pub mod Control
 pub mod Commands

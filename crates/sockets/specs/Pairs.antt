@@ -1,32 +1,14 @@
 -- What a host knows of each other host, and of its own sockets.
-use Rattle.std.specs.Prelude.{ℕ, Bool, false, not, ◌==◌, ◌&&◌, nat_lt, if◌then◌else◌, List, [], ◌∷◌, ◌++◌, length, map, filter, find, Option, Some, None}
+use Rattle.std.specs.Prelude.{ℕ, Bool, false, not, ◌==◌, nat_lt, if◌then◌else◌, List, [], ◌∷◌, ◌++◌, map, filter, find, Option, Some, None}
 use Rattle.std.specs.List.{list_any, flat_map}
 use Rattle.leader1822.specs.Host.{Host, same_host, address_octet}
 use Rattle.ncp_control.specs.declared.command.Command.{Command}
 use Rattle.sockets.specs.Entries.{is_mine_on, must_close, closed_when, cls_of, is_over, ending}
-use Rattle.sockets.specs.Phases.{is_closed}
+use Rattle.sockets.specs.Pair.{PairState, opening_pair, is_opening}
 use Rattle.sockets.specs.declared.entry.Entry.{Entry}
 use Rattle.sockets.specs.declared.notice.Notice.{Notice}
-use Rattle.sockets.specs.declared.phase.Phase.{Phase}
-use Rattle.sockets.specs.declared.phase.Phase.TheVariants as phase
-
--- this host and one peer: how far the reset has come, whether an RRP is owed, the links on which a message has no answer yet,
--- the ends of their connections, oldest first, and the commands that wait to go out
-pub record Pair : Type 0 where
-  pub phase : Phase
-  pub owed : Bool
-  pub busy : List ℕ
-  pub entries : List Entry
-  pub queue : List Command
-
-pub record Peer : Type 0 where
-  pub host : Host
-  pub pair : Pair
-
--- a socket that waits for any host's request, and the byte size with which it would send
-pub record Listener : Type 0 where
-  pub socket : ℕ
-  pub size : ℕ
+use Rattle.sockets.specs.declared.listener.Listener.{Listener}
+use Rattle.sockets.specs.declared.peer.Peer.{Peer}
 
 -- a host's network control program: its own address, its peers in order of their address octets, what listens, and whether
 -- want of memory has made it useless
@@ -38,21 +20,14 @@ pub record NcpState : Type 0 where
 
 -- ---- peers
 
--- a peer that was never spoken of is a closed pair that owes nothing
-abbrev pub opening_pair : Pair
-opening_pair = record { phase = phase.Closed; owed = false; busy = []; entries = []; queue = [] }
-
 abbrev pub opening_state : Host → NcpState
 opening_state own = record { own = own; peers = []; listening = []; spent = false }
 
-abbrev pub is_opening : Pair → Bool
-is_opening q = is_closed q.phase && not q.owed && length q.busy == 0 && length q.entries == 0 && length q.queue == 0
-
-abbrev pub pair_in : Option Peer → Pair
+abbrev pub pair_in : Option Peer → PairState
 pair_in None = opening_pair
 pair_in (Some p) = p.pair
 
-abbrev pub pair_with : Host → List Peer → Pair
+abbrev pub pair_with : Host → List Peer → PairState
 pair_with h peers = pair_in (find (λ p. same_host h p.host) peers)
 
 -- in order of address octets
@@ -66,7 +41,7 @@ abbrev pub without_peer : Host → List Peer → List Peer
 without_peer h peers = filter (λ p. not (same_host h p.host)) peers
 
 -- a peer's pair is now this one; one that is as at the opening isn't kept
-abbrev pub with_pair : Host → Pair → List Peer → List Peer
+abbrev pub with_pair : Host → PairState → List Peer → List Peer
 with_pair h q peers = if is_opening q then without_peer h peers else placed (record { host = h; pair = q }) peers
 
 -- ---- sockets
@@ -92,30 +67,30 @@ owner_of socket (p ∷ ps) = owner_first p.host (find (is_mine_on socket) p.pair
 -- ---- the connections of a pair
 
 -- what a command or a message of an opened pair may change, and what is told: nothing of the reset, and no link's answer
-pub record Desk : Type 0 where
+pub record DeskState : Type 0 where
   pub entries : List Entry
   pub queue : List Command
   pub listening : List Listener
   pub notices : List Notice
 
-abbrev pub desk_of : Pair → List Listener → Desk
+abbrev pub desk_of : PairState → List Listener → DeskState
 desk_of q listening = record { entries = q.entries; queue = q.queue; listening = listening; notices = [] }
 
-abbrev pub queued : Command → Desk → Desk
+abbrev pub queued : Command → DeskState → DeskState
 queued c d = record d { queue = d.queue ++ c ∷ [] }
 
-abbrev pub told : List Notice → Desk → Desk
+abbrev pub told : List Notice → DeskState → DeskState
 told notices d = record d { notices = d.notices ++ notices }
 
 -- each end that has to close now queues its CLS
-abbrev pub settled : List ℕ → Desk → Desk
+abbrev pub settled : List ℕ → DeskState → DeskState
 settled busy d = record d {
   entries = map (λ e. closed_when (must_close busy e) e) d.entries;
   queue = d.queue ++ map cls_of (filter (must_close busy) d.entries);
 }
 
 -- each end that is over goes
-abbrev pub swept : Host → Desk → Desk
+abbrev pub swept : Host → DeskState → DeskState
 swept peer d = record d {
   entries = filter (λ e. not (is_over e)) d.entries;
   notices = d.notices ++ flat_map (ending peer) (filter is_over d.entries);

@@ -6,8 +6,9 @@ use Rattle.ncp_control.specs.declared.allocation.Allocation.{Allocation}
 use Rattle.ncp_control.specs.declared.command.Command.{Command}
 use Rattle.ncp_control.specs.declared.command.Command.TheVariants as command
 use Rattle.sockets.specs.Commands.{granted}
-use Rattle.sockets.specs.Entries.{is_receiving, entry_at, changed_at, sending_end, receiving_end, was_closed, is_open, free_link, called_off}
-use Rattle.sockets.specs.Pairs.{Pair, Desk, NcpState, pair_with, with_pair, listens_on, without_listener, owner_of, settled}
+use Rattle.sockets.specs.Entries.{is_receiving, entry_at, changed_first, is_mine_on, sending_end, receiving_end, was_closed, is_open, free_link, called_off}
+use Rattle.sockets.specs.Pair.{PairState}
+use Rattle.sockets.specs.Pairs.{DeskState, NcpState, pair_with, with_pair, listens_on, without_listener, owner_of, desk_of, settled}
 use Rattle.sockets.specs.Phases.{is_ready}
 use Rattle.sockets.specs.Sending.{link_of}
 use Rattle.sockets.specs.declared.entry.Entry.{Entry}
@@ -117,54 +118,52 @@ refusal s (request.Echo peer octet) = echo_refusal s peer
 -- ---- what they do
 
 -- the connections with a peer are changed
-abbrev pub with_peer : NcpState → Host → (Pair → Pair) → NcpState
+abbrev pub with_peer : NcpState → Host → (PairState → PairState) → NcpState
 with_peer s peer change = record s { peers = with_pair peer (change (pair_with peer s.peers)) s.peers }
 
 -- all that was with the peer is gone, and an RST will go out
-abbrev pub contacted : Pair → Pair
+abbrev pub contacted : PairState → PairState
 contacted q = record q { phase = phase.Want; entries = []; queue = [] }
 
 -- a new end, and its request
-abbrev pub requested : Entry → Command → Pair → Pair
+abbrev pub requested : Entry → Command → PairState → PairState
 requested e c q = record q { entries = q.entries ++ e ∷ []; queue = q.queue ++ c ∷ [] }
 
-abbrev pub receiver_requested : ℕ → ℕ → Option ℕ → Pair → Pair
+abbrev pub receiver_requested : ℕ → ℕ → Option ℕ → PairState → PairState
 receiver_requested own foreign None q = q
 receiver_requested own foreign (Some link) q = requested (receiving_end own foreign link) (command.Rts own foreign link) q
 
--- an end is changed, and a command is queued
-abbrev pub commanded : Entry → (Entry → Entry) → Command → Pair → Pair
-commanded e change c q = record q { entries = changed_at e.own e.foreign change q.entries; queue = q.queue ++ c ∷ [] }
+-- this host's own end on a socket is changed
+abbrev pub with_end : ℕ → (Entry → Entry) → PairState → PairState
+with_end socket change q = record q { entries = changed_first (is_mine_on socket) change q.entries }
 
-abbrev pub kept : Entry → Entry
-kept e = e
+-- a command is queued
+abbrev pub commanded : Command → PairState → PairState
+commanded c q = record q { queue = q.queue ++ c ∷ [] }
 
 abbrev pub with_more_bits : List Bool → Entry → Entry
 with_more_bits bits e = record e { bits = e.bits ++ bits }
-
-abbrev pub with_end : Entry → (Entry → Entry) → Pair → Pair
-with_end e change q = record q { entries = changed_at e.own e.foreign change q.entries }
 
 abbrev pub interrupt_of : Entry → Command
 interrupt_of e = if is_receiving e then command.Inr (link_of e.link) else command.Ins (link_of e.link)
 
 -- the connection of a socket is changed
-abbrev pub at_owner : NcpState → Option (Host × Entry) → (Entry → Pair → Pair) → NcpState
+abbrev pub at_owner : NcpState → Option (Host × Entry) → (Entry → PairState → PairState) → NcpState
 at_owner s None change = s
 at_owner s (Some (peer, e)) change = with_peer s peer (change e)
 
 -- the end closes, at once or when it is drained
-abbrev pub closes_in : Pair → Desk → Pair
-closes_in q d = record q { entries = d.entries; queue = d.queue }
+abbrev pub settled_pair : PairState → DeskState → PairState
+settled_pair q d = record q { entries = d.entries; queue = d.queue }
 
-abbrev pub closed_end : Entry → Pair → Pair
-closed_end e q = closes_in q (settled q.busy (record { entries = changed_at e.own e.foreign called_off q.entries; queue = q.queue; listening = []; notices = [] }))
+abbrev pub closed_end : ℕ → PairState → PairState
+closed_end socket q = settled_pair q (settled q.busy (desk_of (with_end socket called_off q) []))
 
 abbrev pub closed_socket : NcpState → ℕ → NcpState
 closed_socket s socket =
     if listens_on socket s.listening
     then record s { listening = without_listener socket s.listening }
-    else at_owner s (owner_of socket s.peers) closed_end
+    else at_owner s (owner_of socket s.peers) (λ e. closed_end socket)
 
 -- a request that isn't refused is served
 unfoldable pub served : NcpState → Request → NcpState
@@ -172,14 +171,14 @@ served s (request.Contact peer) = with_peer s peer contacted
 served s (request.Listen socket size) = record s { listening = s.listening ++ record { socket = socket; size = size } ∷ [] }
 served s (request.OpenSend peer own foreign size) = with_peer s peer (requested (sending_end own foreign size) (command.Str own foreign size))
 served s (request.OpenReceive peer own foreign) = with_peer s peer (receiver_requested own foreign (free_link (pair_with peer s.peers).entries))
-served s (request.Send socket bits) = at_owner s (owner_of socket s.peers) (λ e. with_end e (with_more_bits bits))
+served s (request.Send socket bits) = at_owner s (owner_of socket s.peers) (λ e. with_end socket (with_more_bits bits))
 served s (request.Grant socket messages bits) =
-    at_owner s (owner_of socket s.peers) (λ e. commanded e (granted messages bits) (command.All (link_of e.link) messages bits))
+    at_owner s (owner_of socket s.peers) (λ e q. commanded (command.All (link_of e.link) messages bits) (with_end socket (granted messages bits) q))
 served s (request.AskBack socket messages bits) =
-    at_owner s (owner_of socket s.peers) (λ e. commanded e kept (command.Gvb (link_of e.link) messages bits))
-served s (request.Interrupt socket) = at_owner s (owner_of socket s.peers) (λ e. commanded e kept (interrupt_of e))
+    at_owner s (owner_of socket s.peers) (λ e. commanded (command.Gvb (link_of e.link) messages bits))
+served s (request.Interrupt socket) = at_owner s (owner_of socket s.peers) (λ e. commanded (interrupt_of e))
 served s (request.Close socket) = closed_socket s socket
-served s (request.Echo peer octet) = with_peer s peer (λ q. record q { queue = q.queue ++ command.Eco octet ∷ [] })
+served s (request.Echo peer octet) = with_peer s peer (commanded (command.Eco octet))
 
 -- a contact with an opened pair is told of, since all its connections are gone
 abbrev pub contact_notices : Host → Phase → List Notice

@@ -1,5 +1,5 @@
 -- What goes out next (NIC 8246: RST and RRP go alone, control messages hold 120 octets, data go within the allocation).
-use Rattle.std.specs.Prelude.{ℕ, ◌*◌, ◌/◌, ◌==◌, ◌&&◌, not, Bool, false, nat_lt, nat_le, if◌then◌else◌, List, [], ◌∷◌, length, take, drop, filter, Option, Some, None}
+use Rattle.std.specs.Prelude.{ℕ, ◌*◌, ◌/◌, ◌==◌, ◌&&◌, not, Bool, false, nat_lt, min, if◌then◌else◌, List, [], ◌∷◌, length, take, drop, filter, find, Option, Some, None}
 use Rattle.leader1822.specs.Host.{Host}
 use Rattle.leader1822.specs.declared.message.HostMessage.{HostMessage}
 use Rattle.ncp_control.specs.Allocation as counters
@@ -7,10 +7,13 @@ use Rattle.ncp_control.specs.Command.{spelling}
 use Rattle.ncp_control.specs.Packing.{spellings, packed_count}
 use Rattle.ncp_control.specs.declared.command.Command.{Command}
 use Rattle.ncp_control.specs.declared.command.Command.TheVariants as command
+use Rattle.sockets.specs.Commands.{changed}
 use Rattle.sockets.specs.Control.{control_text}
 use Rattle.sockets.specs.Data.{data_text}
-use Rattle.sockets.specs.Entries.{is_receiving, is_open, is_answered, is_busy, entry_at, changed_at, opening}
-use Rattle.sockets.specs.Pairs.{Pair, Peer, Desk, NcpState, desk_of, told, swept, with_pair}
+use Rattle.sockets.specs.Entries.{is_at, is_receiving, is_open, is_answered, is_busy, entry_at, changed_at, opening}
+use Rattle.sockets.specs.Pair.{PairState}
+use Rattle.sockets.specs.Pairs.{DeskState, NcpState, desk_of, told, swept, with_pair}
+use Rattle.sockets.specs.declared.peer.Peer.{Peer}
 use Rattle.sockets.specs.Phases.{is_want, is_ready}
 use Rattle.sockets.specs.declared.entry.Closing.TheVariants as closing
 use Rattle.sockets.specs.declared.entry.Entry.{Entry}
@@ -39,31 +42,43 @@ abbrev pub link_of : Option ℕ → ℕ
 link_of None = 0
 link_of (Some link) = link
 
-abbrev pub lower : Entry → Option Entry → Entry
-lower e None = e
-lower e (Some f) = if nat_le (link_of e.link) (link_of f.link) then e else f
+-- the least of the links of these ends
+abbrev pub lower : ℕ → Option ℕ → ℕ
+lower link None = link
+lower link (Some other) = min link other
 
--- the end with the lowest link
-abbrev pub lowest : List Entry → Option Entry
-lowest [] = None
-lowest (e ∷ es) = Some (lower e (lowest es))
+abbrev pub lowest_link : List Entry → Option ℕ
+lowest_link [] = None
+lowest_link (e ∷ es) = Some (lower (link_of e.link) (lowest_link es))
+
+-- an end that may send now on this link
+abbrev pub may_send_on : List ℕ → ℕ → Entry → Bool
+may_send_on busy link e = may_send busy e && link_of e.link == link
 
 abbrev pub bytes_of : Option Entry → Option Parcel
 bytes_of None = None
 bytes_of (Some e) = Some (Bytes e (sendable e))
+
+abbrev pub bytes_on : List ℕ → List Entry → Option ℕ → Option Parcel
+bytes_on busy entries None = None
+bytes_on busy entries (Some link) = bytes_of (find (may_send_on busy link) entries)
+
+-- of the ends that may send, that with the lowest link does
+abbrev pub next_bytes : List ℕ → List Entry → Option Parcel
+next_bytes busy entries = bytes_on busy entries (lowest_link (filter (may_send busy) entries))
 
 -- RST and RRP wait until no message to the peer is outstanding
 abbrev pub if_silent : List ℕ → Parcel → Option Parcel
 if_silent busy parcel = if length busy == 0 then Some parcel else None
 
 -- commands go before data, as many as one control message holds
-abbrev pub next_of_ready : Pair → Option Parcel
+abbrev pub next_of_ready : PairState → Option Parcel
 next_of_ready q =
     if nat_lt 0 (length q.queue) && not (is_busy q.busy 0) then Some (Commands (packed_count q.queue))
-    else bytes_of (lowest (filter (may_send q.busy) q.entries))
+    else next_bytes q.busy q.entries
 
 -- RST goes first, then RRP, and while one of them waits nothing else goes
-abbrev pub next_of : Pair → Option Parcel
+abbrev pub next_of : PairState → Option Parcel
 next_of q =
     if is_want q.phase then if_silent q.busy Reset
     else (if q.owed then if_silent q.busy Reply
@@ -85,7 +100,7 @@ abbrev pub link_for : Parcel → ℕ
 link_for (Bytes e count) = link_of e.link
 link_for parcel = 0
 
-abbrev pub text_for : Pair → Parcel → List Bool
+abbrev pub text_for : PairState → Parcel → List Bool
 text_for q Reset = control_text (spelling command.Rst)
 text_for q Reply = control_text (spelling command.Rrp)
 text_for q (Commands count) = control_text (spellings (take count q.queue))
@@ -114,18 +129,18 @@ abbrev pub cls_sent : Entry → Entry
 cls_sent e = record e { closing = closing.Sent }
 
 -- a request of this host has gone out, and the connection may be open by it
-abbrev pub request_gone : Host → ℕ → ℕ → ℕ → Desk → Desk
+abbrev pub request_gone : Host → ℕ → ℕ → ℕ → DeskState → DeskState
 request_gone peer stamp own foreign d =
-    told (opening peer (entry_at own foreign (changed_at own foreign (asked_at stamp) d.entries))) (record d { entries = changed_at own foreign (asked_at stamp) d.entries })
+    told (opening peer (entry_at own foreign (changed_at own foreign (asked_at stamp) d.entries))) (changed (is_at own foreign) (asked_at stamp) d)
 
-abbrev pub command_gone : Host → ℕ → Command → Desk → Desk
+abbrev pub command_gone : Host → ℕ → Command → DeskState → DeskState
 command_gone peer stamp (command.Rts receive send link) d = request_gone peer stamp receive send d
 command_gone peer stamp (command.Str send receive size) d = request_gone peer stamp send receive d
-command_gone peer stamp (command.Cls own foreign) d = swept peer (record d { entries = changed_at own foreign cls_sent d.entries })
+command_gone peer stamp (command.Cls own foreign) d = swept peer (changed (is_at own foreign) cls_sent d)
 command_gone peer stamp c d = d
 
 -- one command after another
-abbrev pub commands_gone : Host → ℕ → List Command → Desk → Desk
+abbrev pub commands_gone : Host → ℕ → List Command → DeskState → DeskState
 commands_gone peer stamp [] d = d
 commands_gone peer stamp (c ∷ cs) d = commands_gone peer stamp cs (command_gone peer stamp c d)
 
@@ -133,35 +148,39 @@ commands_gone peer stamp (c ∷ cs) d = commands_gone peer stamp cs (command_gon
 abbrev pub bits_gone : ℕ → Entry → Entry
 bits_gone bits e = record e { bits = drop bits e.bits; allocation = counters.spent e.allocation bits }
 
-abbrev pub with_connections : Pair → Desk → Pair
+abbrev pub with_connections : PairState → DeskState → PairState
 with_connections q d = record q { entries = d.entries; queue = d.queue }
 
 -- a link has a message outstanding
-abbrev pub busied : ℕ → Pair → Pair
+abbrev pub busied : ℕ → PairState → PairState
 busied link q = record q { busy = link ∷ q.busy }
 
+-- so many commands have gone out
+abbrev pub unqueued : ℕ → DeskState → DeskState
+unqueued count d = record d { queue = drop count d.queue }
+
 -- the desk after a parcel with commands or bytes
-abbrev pub parcel_gone : Host → ℕ → Parcel → Desk → Desk
-parcel_gone peer stamp (Commands count) d = commands_gone peer stamp (take count d.queue) (record d { queue = drop count d.queue })
-parcel_gone peer stamp (Bytes e count) d =
-    told (notice.Sent e.own (take (e.size * count) e.bits) ∷ []) (record d { entries = changed_at e.own e.foreign (bits_gone (e.size * count)) d.entries })
-parcel_gone peer stamp parcel d = d
+abbrev pub parcel_gone : Host → ℕ → List ℕ → Parcel → DeskState → DeskState
+parcel_gone peer stamp busy (Commands count) d = unqueued count (commands_gone peer stamp (take count d.queue) d)
+parcel_gone peer stamp busy (Bytes e count) d =
+    told (notice.Sent e.own (take (e.size * count) e.bits) ∷ []) (changed (may_send_on busy (link_of e.link)) (bits_gone (e.size * count)) d)
+parcel_gone peer stamp busy parcel d = d
 
 -- the reset after a parcel with an RST or an RRP
-abbrev pub signal_gone : Parcel → Pair → Pair
+abbrev pub signal_gone : Parcel → PairState → PairState
 signal_gone Reset q = record q { phase = phase.Gone false }
 signal_gone Reply q = record q { owed = false }
 signal_gone parcel q = q
 
-abbrev pub pair_after : Parcel → Pair → Desk → Pair
+abbrev pub pair_after : Parcel → PairState → DeskState → PairState
 pair_after parcel q d = busied (link_for parcel) (with_connections (signal_gone parcel q) d)
 
-abbrev pub offered_as : NcpState → ℕ → Peer → Parcel → Desk → NcpState × List Notice
+abbrev pub offered_as : NcpState → ℕ → Peer → Parcel → DeskState → NcpState × List Notice
 offered_as s stamp p parcel d = (record s { peers = with_pair p.host (pair_after parcel p.pair d) s.peers }, d.notices)
 
 abbrev pub offered_by : NcpState → ℕ → Option (Peer × Parcel) → NcpState × List Notice
 offered_by s stamp None = (s, [])
-offered_by s stamp (Some (p, parcel)) = offered_as s stamp p parcel (parcel_gone p.host stamp parcel (desk_of p.pair s.listening))
+offered_by s stamp (Some (p, parcel)) = offered_as s stamp p parcel (parcel_gone p.host stamp p.pair.busy parcel (desk_of p.pair s.listening))
 
 -- the carrier took what goes out next, with its place in the log: the host after it, and what is told
 unfoldable pub offered : NcpState → ℕ → NcpState × List Notice

@@ -11,7 +11,10 @@
 mod entry;
 mod fault;
 pub mod law;
+mod listener;
 mod notice;
+mod pair;
+mod peer;
 mod phase;
 mod request;
 

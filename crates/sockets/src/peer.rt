@@ -1,0 +1,13 @@
+//! A host that this one speaks to.
+
+use crate::pair::Pair;
+use leader1822::HostAddr;
+
+/// Another host, and what this one knows of it.
+#[derive(Drop)]
+pub(crate) struct Peer {
+    /// Its address.
+    pub host: HostAddr,
+    /// How far the two hosts have come.
+    pub pair: Pair,
+}
