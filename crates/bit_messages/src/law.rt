@@ -9,7 +9,7 @@ ghost use Rattle.bit_messages.specs.declared.fault.BitFault.TheVariants as fault
 
 /// A body gives its text back, and is the shortest list that does (BBN Report 1822, padding).
 pub fn padding()
-    // stripping a padded text gives the text
+    // stripping a text's body gives the text
     ensures given_back { (text : List Bool) → length text ≤ 8063 → (strip_fault (body text) ≡ None) × (text_of (body text) ≡ text) }
 
     // so does stripping a text that is too long for a body

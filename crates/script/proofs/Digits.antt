@@ -86,17 +86,17 @@ upper_are_digits (c ∷ word) is =
 -- octets that are spelled
 pub record IsSpelled (word : List ℕ) : Type 0 where
   pub octets : List ℕ
-  pub bytes : IsBytes octets
+  pub small : IsBytes octets
   pub spelled : word ≡ encode_upper octets
 
-bytes_more : (b : ℕ) (rest : List ℕ) → b < 256 → IsBytes rest → IsBytes (b ∷ rest)
-bytes_more b rest h hs zero = h
-bytes_more b rest h hs (suc i) = hs i
+small_more : (b : ℕ) (rest : List ℕ) → b < 256 → IsBytes rest → IsBytes (b ∷ rest)
+small_more b rest h hs zero = h
+small_more b rest h hs (suc i) = hs i
 
 -- an even number of upper case digits spells octets
 pub spelled_octets : (word : List ℕ) → length word % 2 ≡ 0 → list_all is_upper_digit word ≡ true → IsSpelled word
 unfolding encode_with
-spelled_octets [] even is = record { octets = []; bytes = λ i. omega arith; spelled = refl }
+spelled_octets [] even is = record { octets = []; small = λ i. omega arith; spelled = refl }
 spelled_octets (a ∷ []) even is = absurd (omega arith)
 spelled_octets (a ∷ b ∷ word) even is =
     let first = and_parts (is_upper_digit a) (list_all is_upper_digit (b ∷ word)) is in
@@ -108,7 +108,7 @@ spelled_octets (a ∷ b ∷ word) even is =
     let lower : low.place ≡ (16 * high.place + low.place) % 16 = omega (arith, high.below, low.below) in
     record {
       octets = (16 * high.place + low.place) ∷ rest.octets;
-      bytes = bytes_more (16 * high.place + low.place) rest.octets (omega (arith, high.below, low.below)) rest.bytes;
+      small = small_more (16 * high.place + low.place) rest.octets (omega (arith, high.below, low.below)) rest.small;
       spelled =
           (ap (λ c. c ∷ b ∷ word) (high.same ∙ ap (slice_index upper_digits) upper)
           ∙ ap (λ c. slice_index upper_digits ((16 * high.place + low.place) / 16) ∷ c ∷ word) (low.same ∙ ap (slice_index upper_digits) lower)
@@ -118,10 +118,10 @@ spelled_octets (a ∷ b ∷ word) even is =
 -- octets are spelled in upper case digits, two each
 pub spelled_digits : (octets : List ℕ) → IsBytes octets → list_all is_upper_digit (encode_upper octets) ≡ true
 unfolding encode_with
-spelled_digits [] bytes = refl
-spelled_digits (n ∷ octets) bytes =
-    let small : n < 256 = bytes 0 in
-    rw (at_upper (n / 16) (omega arith), at_upper (n % 16) (omega arith)) (spelled_digits octets (λ i. bytes (suc i)))
+spelled_digits [] small = refl
+spelled_digits (n ∷ octets) small =
+    let first : n < 256 = small 0 in
+    rw (at_upper (n / 16) (omega arith), at_upper (n % 16) (omega arith)) (spelled_digits octets (λ i. small (suc i)))
 
 pub spelled_even : (octets : List ℕ) → length (encode_upper octets) % 2 ≡ 0
 spelled_even octets = let size : length (encode_upper octets) ≡ 2 * length octets = length-encode_with upper_digits octets in omega arith
@@ -197,13 +197,13 @@ spelled_more word octets i n high low there room small_high small_low is first s
 behind_digits : (k : ℕ) → 16 ≤ k → slice_index upper_digits k ≡ 0
 behind_digits k far = get_or_past upper_digits k 0 far
 
-pub digits_bytes : (octets : List ℕ) → list_all is_upper_digit (encode_upper octets) ≡ true → IsBytes octets
+pub digits_small : (octets : List ℕ) → list_all is_upper_digit (encode_upper octets) ≡ true → IsBytes octets
 unfolding encode_with
-digits_bytes [] is = λ i. omega arith
-digits_bytes (n ∷ octets) is =
+digits_small [] is = λ i. omega arith
+digits_small (n ∷ octets) is =
     let first = and_parts (is_upper_digit (slice_index upper_digits (n / 16))) (is_upper_digit (slice_index upper_digits (n % 16)) && list_all is_upper_digit (encode_upper octets)) is in
     let second = and_parts (is_upper_digit (slice_index upper_digits (n % 16))) (list_all is_upper_digit (encode_upper octets)) first.1 in
-    bytes_more n octets (elim (cases_lt n 256) [
+    small_more n octets (elim (cases_lt n 256) [
       | inl small ↦ small
       | inr big ↦ absurd (false≢true (sym (ap is_upper_digit (behind_digits (n / 16) (omega arith))) ∙ first.0))
-    ]) (digits_bytes octets second.1)
+    ]) (digits_small octets second.1)

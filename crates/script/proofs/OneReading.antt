@@ -25,7 +25,7 @@ use Rattle.script.proofs.Keywords.{unmarked_where}
 use Rattle.script.proofs.Hosts.{front_unmarked, host_range, host_unmarked}
 use Rattle.script.proofs.Messages.{message_words}
 use Rattle.script.proofs.Numbers.{All-unmarked_decimal}
-use Rattle.script.proofs.Texts.{are_bytes, text_again}
+use Rattle.script.proofs.Texts.{octets_are_small, text_again}
 use Rattle.script.proofs.Words.{SameCut, SameThree, same_cut, same_parts, same_three}
 
 -- ---- hosts, flows and messages
@@ -63,7 +63,7 @@ text_once [] (y ∷ ys) long e = absurd (omega (arith, long))
 text_once (x ∷ xs) [] long e = absurd (omega (arith, long))
 text_once (x ∷ xs) (y ∷ ys) long e =
     let read : Ok (octets_of (x ∷ xs)) ≡ Ok (octets_of (y ∷ ys)) =
-    sym (decode_of-encode_upper (octets_of (x ∷ xs)) (are_bytes (x ∷ xs))) ∙ ap decode_of e ∙ decode_of-encode_upper (octets_of (y ∷ ys)) (are_bytes (y ∷ ys)) in
+    sym (decode_of-encode_upper (octets_of (x ∷ xs)) (octets_are_small (x ∷ xs))) ∙ ap decode_of e ∙ decode_of-encode_upper (octets_of (y ∷ ys)) (octets_are_small (y ∷ ys)) in
     let octets : octets_of (x ∷ xs) ≡ octets_of (y ∷ ys) = cc in
     sym (text_again (x ∷ xs)) ∙ ap₂ (λ n os. take n (bits_of os)) long octets ∙ text_again (y ∷ ys)
 

@@ -12,7 +12,7 @@ use Rattle.bit_messages.proofs.OctetLemmas.{bits_again, octets_below, length-bit
 use Rattle.bit_messages.specs.Packed.{Packs}
 use Rattle.bit_messages.proofs.PackedLemmas.{packs_octets}
 use Rattle.script.specs.Spelling.{octets_text, IsHex, ReadsAs, is_upper_digit, IsTextWord, IsWordOfText}
-use Rattle.script.proofs.Digits.{IsSpelled, spelled_octets, spelled_digits, spelled_even, upper_are_digits, digits_bytes}
+use Rattle.script.proofs.Digits.{IsSpelled, spelled_octets, spelled_digits, spelled_even, upper_are_digits, digits_small}
 use Rattle.std.specs.List.{list_all}
 use Rattle.std.proofs.lemmas.List.Sums.{AllPass-from_list_all}
 
@@ -33,22 +33,22 @@ spelled_text (b ∷ bits) some = refl
 ok_same : {X E : Type 0} (x y : X) (r : Result X E) → r ≡ Ok x → r ≡ Ok y → x ≡ y
 ok_same x y r a b = cc
 
-bytes_from : (xs : List ℕ) → All (λ n. n < 256) xs → IsBytes xs
-bytes_from [] h i = lit< tt
-bytes_from (x ∷ xs) h zero = All-head (λ n. n < 256) x xs h
-bytes_from (x ∷ xs) h (suc i) = bytes_from xs (All-tail (λ n. n < 256) x xs h) i
+small_from : (xs : List ℕ) → All (λ n. n < 256) xs → IsBytes xs
+small_from [] h i = lit< tt
+small_from (x ∷ xs) h zero = All-head (λ n. n < 256) x xs h
+small_from (x ∷ xs) h (suc i) = small_from xs (All-tail (λ n. n < 256) x xs h) i
 
-pub are_bytes : (x : List Bool) → IsBytes (octets_of x)
-are_bytes x = bytes_from (octets_of x) (octets_below x)
+pub octets_are_small : (x : List Bool) → IsBytes (octets_of x)
+octets_are_small x = small_from (octets_of x) (octets_below x)
 
 -- a word that is no hexadecimal is no text's
 pub no_octets : (word : List ℕ) (count : ℕ) → 0 < count → ((e : List ℕ) → IsBytes e → word ≢ encode_upper e) → (x : List Bool) → length x ≡ count → word ≢ octets_text x
-no_octets word count some none x long e = none (octets_of x) (are_bytes x) (e ∙ spelled_text x (omega arith))
+no_octets word count some none x long e = none (octets_of x) (octets_are_small x) (e ∙ spelled_text x (omega arith))
 
 -- the octets that a word spells
 same_octets : (word octets : List ℕ) (x : List Bool) → 0 < length x → decode_of word ≡ Ok octets → word ≡ octets_text x → octets ≡ octets_of x
 same_octets word octets x some read e =
-    ok_same octets (octets_of x) (decode_of word) read (ap decode_of (e ∙ spelled_text x some) ∙ decode_of-encode_upper (octets_of x) (are_bytes x))
+    ok_same octets (octets_of x) (decode_of word) read (ap decode_of (e ∙ spelled_text x some) ∙ decode_of-encode_upper (octets_of x) (octets_are_small x))
 
 pub too_few : (word octets : List ℕ) (count : ℕ) → 0 < count → decode_of word ≡ Ok octets → 8 * length octets < count → (x : List Bool) → length x ≡ count → word ≢ octets_text x
 too_few word octets count some read few x long e =
@@ -93,29 +93,29 @@ upper_hex word even digits = decode_of-digits word even (AllPass-from_list_all i
 
 -- and decodes to what spells it
 pub decoded : (word octets : List ℕ) → list_all is_upper_digit word ≡ true → word ≡ encode_upper octets → decode_of word ≡ Ok octets
-decoded word octets digits spelled = ap decode_of spelled ∙ decode_of-encode_upper octets (digits_bytes octets (sym (ap (list_all is_upper_digit) spelled) ∙ digits))
+decoded word octets digits spelled = ap decode_of spelled ∙ decode_of-encode_upper octets (digits_small octets (sym (ap (list_all is_upper_digit) spelled) ∙ digits))
 
 -- a word of an odd length, or with another octet, is none that was written
 pub odd_length : (word : List ℕ) → (length word % 2 ≡ 0 → ⊥) → (e : List ℕ) → IsBytes e → word ≢ encode_upper e
-odd_length word odd e bytes is = odd (ap (λ w. length w % 2) is ∙ spelled_even e)
+odd_length word odd e small is = odd (ap (λ w. length w % 2) is ∙ spelled_even e)
 
 pub other_octet : (word : List ℕ) → list_all is_upper_digit word ≡ false → (e : List ℕ) → IsBytes e → word ≢ encode_upper e
-other_octet word other e bytes is = false≢true (sym other ∙ ap (list_all is_upper_digit) is ∙ spelled_digits e bytes)
+other_octet word other e small is = false≢true (sym other ∙ ap (list_all is_upper_digit) is ∙ spelled_digits e small)
 
 -- ---- which words are texts
 
-bytes_below : (octets : List ℕ) → IsBytes octets → All (λ n. n < 256) octets
-bytes_below octets bytes = λ k d there. (let read : get_or octets k d ≡ get_or octets k 0 = get_or_default_zero octets k d there in let small : get_or octets k 0 < 256 = bytes k in omega arith)
+small_below : (octets : List ℕ) → IsBytes octets → All (λ n. n < 256) octets
+small_below octets small = λ k d there. (let read : get_or octets k d ≡ get_or octets k 0 = get_or_default_zero octets k d there in let here : get_or octets k 0 < 256 = small k in omega arith)
 
 pub word_of_text : (word : List ℕ) (count : ℕ) → 0 < count → IsTextWord word count → IsWordOfText word count
 word_of_text word count some is =
     let s : IsSpelled word = spelled_octets word (omega (arith, is.size)) is.digits in
-    let read : decode_of word ≡ Ok s.octets = ap decode_of s.spelled ∙ decode_of-encode_upper s.octets s.bytes in
+    let read : decode_of word ≡ Ok s.octets = ap decode_of s.spelled ∙ decode_of-encode_upper s.octets s.small in
     let size : length word ≡ 2 * length s.octets = ap length s.spelled ∙ length-encode_with upper_digits s.octets in
     let all : length (bits_of s.octets) ≡ 8 * length s.octets = length-bits_of s.octets in
     let long : length (take count (bits_of s.octets)) ≡ count = length-take-le count (bits_of s.octets) (omega (arith, is.size)) in
     let packs : Packs s.octets (take count (bits_of s.octets)) = record { zeros = spare_bits count; same = is.unused s.octets read; few = omega arith } in
-    let same : s.octets ≡ octets_of (take count (bits_of s.octets)) = packs_octets s.octets (take count (bits_of s.octets)) (bytes_below s.octets s.bytes) packs in
+    let same : s.octets ≡ octets_of (take count (bits_of s.octets)) = packs_octets s.octets (take count (bits_of s.octets)) (small_below s.octets s.small) packs in
     record {
       text = take count (bits_of s.octets);
       long = long;
@@ -134,7 +134,7 @@ text_word word count some is =
     let own : bits_of octets ≡ take count (bits_of octets) ++ replicate (spare_bits count) false =
     bits_again is.text ∙ ap (λ n. is.text ++ replicate n false) spare ∙ ap (λ bs. bs ++ replicate (spare_bits count) false) (sym (ap (λ n. take n (bits_of octets)) (sym is.long) ∙ text_again is.text)) in
     record {
-      digits = ap (list_all is_upper_digit) spelled ∙ spelled_digits octets (are_bytes is.text);
+      digits = ap (list_all is_upper_digit) spelled ∙ spelled_digits octets (octets_are_small is.text);
       size = omega (arith, is.long);
-      unused = λ read reads. subst P (ok_same octets read (decode_of word) (ap decode_of spelled ∙ decode_of-encode_upper octets (are_bytes is.text)) reads) own;
+      unused = λ read reads. subst P (ok_same octets read (decode_of word) (ap decode_of spelled ∙ decode_of-encode_upper octets (octets_are_small is.text)) reads) own;
     }
