@@ -156,6 +156,13 @@ impl Line {
         self.channels.get(channel as usize)?.packet.as_ref()
     }
 
+    /// Its sending channels, in their order.
+    pub fn channels(&self) -> &[Channel]
+        ensures { result.now ≡ self.now.sending }
+    {
+        &self.channels
+    }
+
     /// How many channels are busy: at most eight.
     #[tactic(auto, using(crate::proofs::Calls::packets_counted))]
     pub fn busy_channels(&self) -> usize

@@ -8,3 +8,6 @@ pub mod Reading
 pub mod Sending
 pub mod Takings
 pub mod Stops
+pub mod Arrivals
+pub mod Searching
+pub mod Spending

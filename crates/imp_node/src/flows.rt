@@ -1,6 +1,6 @@
 //! Giving up, forgetting and abandoning.
 
-ghost use Rattle.std.specs.Prelude.{◌≡◌, true, false, IfOk, OnErr};
+ghost use Rattle.std.specs.Prelude.{◌≡◌, true, false, IfOk, OnOk, OnErr};
 ghost use Rattle.imp_node.specs.Stopping as stopping;
 ghost use Rattle.imp_node.specs.Turns.{Turned, Takes, give_up_grows, forget_grows, abandon_grows};
 
@@ -16,7 +16,8 @@ impl Imp {
     /// is outstanding. `OutOfMemory` only where the source is up or a frame is sent, and then the IMP is spent.
     pub fn give_up(&mut self, flow: Flow) -> Result<Vec<Outgoing>, CarrierFault>
         requires { self.old.spent ≡ false }
-        ensures { Turned (stopping.give_up_refusal self.old flow) (give_up_grows self.old flow) (λ frames. Takes (stopping.give_up self.old flow) self.new frames.items) self.old self.new result }
+        ensures turn { Turned (stopping.give_up_refusal self.old flow) (give_up_grows self.old flow) (λ frames. Takes (stopping.give_up self.old flow) self.new frames.items) self.old self.new result }
+        ensures live { OnOk result (self.new.spent ≡ false) }
     {
         if let Some(fault) = self.give_up_refusal(&flow) {
             return Err(fault);
@@ -56,7 +57,8 @@ impl Imp {
     /// Errors: `NoSuch` for its own number. `OutOfMemory` only where a frame is sent, and then the IMP is spent.
     pub fn forget(&mut self, imp: ImpNumber) -> Result<Vec<Outgoing>, CarrierFault>
         requires { self.old.spent ≡ false }
-        ensures { Turned (stopping.forget_refusal self.old imp) (forget_grows self.old imp) (λ frames. Takes (stopping.forget self.old imp) self.new frames.items) self.old self.new result }
+        ensures turn { Turned (stopping.forget_refusal self.old imp) (forget_grows self.old imp) (λ frames. Takes (stopping.forget self.old imp) self.new frames.items) self.old self.new result }
+        ensures live { OnOk result (self.new.spent ≡ false) }
     {
         if imp.number() == self.number() {
             return Err(CarrierFault::NoSuch);
@@ -73,6 +75,34 @@ impl Imp {
         ensures memory { OnErr result (forget_grows self.old imp ≡ true) }
     {
         self.kept.forget(imp);
+        self.pump(Vec::new(self.alloc))
+    }
+
+    /// The slot of a flow is thrown away, with what it holds of a message. It answers the frames to put on
+    /// lines.
+    ///
+    /// Errors: `NoSuch` where the flow has no slot. `OutOfMemory` only where a frame is sent, and then the IMP is
+    /// spent.
+    pub fn abandon(&mut self, flow: Flow) -> Result<Vec<Outgoing>, CarrierFault>
+        requires { self.old.spent ≡ false }
+        ensures turn { Turned (stopping.abandon_refusal self.old flow) (abandon_grows self.old flow) (λ frames. Takes (stopping.abandon self.old flow) self.new frames.items) self.old self.new result }
+        ensures live { OnOk result (self.new.spent ≡ false) }
+    {
+        if !self.slots.has_slot(&flow) {
+            return Err(CarrierFault::NoSuch);
+        }
+        let Ok(frames) = self.abandoned(flow) else {
+            return Err(self.exhaust());
+        };
+        Ok(frames)
+    }
+
+    /// Throws the slot of a flow away, and pumps.
+    fn abandoned(&mut self, flow: Flow) -> Result<Vec<Outgoing>, AllocError>
+        ensures ok { IfOk result (λ frames. Takes (stopping.abandon self.old flow) self.new frames.items) }
+        ensures memory { OnErr result (abandon_grows self.old flow ≡ true) }
+    {
+        self.slots.discard(flow);
         self.pump(Vec::new(self.alloc))
     }
 }

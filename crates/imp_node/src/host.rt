@@ -6,7 +6,9 @@ ghost use Rattle.imp_node.specs.State.{no_host};
 ghost use Rattle.imp_node.specs.Flows.{is_about, given};
 ghost use Rattle.imp_node.specs.Room.{queue_places};
 ghost use Rattle.imp_node.specs.Inside.Parts.{IsPacketFlow, AreOfPackets};
+ghost use Rattle.imp_node.specs.Inside.Seeking.{message_is};
 
+use crate::seeking::Sought;
 use crate::waiting::{Message, Told};
 use circular_buffer::HeapCircularBuffer;
 use leader1822::Flow;
@@ -71,6 +73,13 @@ impl Host {
         ensures { result ≡ nat_lt (length self.now.queue) queue_places }
     {
         self.queue.len() < self.queue.capacity()
+    }
+
+    /// Whether a message that waits is sought.
+    pub(crate) fn has(&self, sought: &Sought) -> bool
+        ensures { result ≡ list_any (message_is sought.now) self.now.queue }
+    {
+        self.queue.iter().any(|message| sought.is_message(message))
     }
 
     /// Lets the host come up.

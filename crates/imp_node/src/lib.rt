@@ -1,6 +1,7 @@
 //! One IMP of the subnet.
 #![tactic(auto)]
 
+mod arrival;
 mod flows;
 mod host;
 mod imp;
@@ -10,6 +11,8 @@ mod offering;
 mod outgoing;
 mod port;
 mod pump;
+mod queries;
+mod seeking;
 mod steps;
 mod stopping;
 mod taking;

@@ -20,7 +20,8 @@ impl Imp {
     /// Errors: `OutOfMemory` alone, only where a frame is sent, and then the IMP is spent.
     pub fn resend(&mut self) -> Result<Vec<Outgoing>, CarrierFault>
         requires { self.old.spent ≡ false }
-        ensures { Turned None (resend_grows self.old) (λ frames. Takes (lines.resend self.old) self.new frames.items) self.old self.new result }
+        ensures turn { Turned None (resend_grows self.old) (λ frames. Takes (lines.resend self.old) self.new frames.items) self.old self.new result }
+        ensures live { OnOk result (self.new.spent ≡ false) }
     {
         let Ok(frames) = self.resent() else {
             return Err(self.exhaust());
@@ -42,7 +43,8 @@ impl Imp {
     /// Errors: `OutOfMemory` alone, only where a frame is sent, and then the IMP is spent.
     pub fn route(&mut self) -> Result<Vec<Outgoing>, CarrierFault>
         requires { self.old.spent ≡ false }
-        ensures { Turned None (route_grows self.old) (λ frames. Takes (lines.route self.old) self.new frames.items) self.old self.new result }
+        ensures turn { Turned None (route_grows self.old) (λ frames. Takes (lines.route self.old) self.new frames.items) self.old self.new result }
+        ensures live { OnOk result (self.new.spent ≡ false) }
     {
         let Ok(frames) = self.routed() else {
             return Err(self.exhaust());
@@ -75,7 +77,8 @@ impl Imp {
     /// channel is busy or a frame is sent, and then the IMP is spent.
     pub fn end_down(&mut self, port: u8) -> Result<Vec<Outgoing>, CarrierFault>
         requires { self.old.spent ≡ false }
-        ensures { Turned (lines.end_down_refusal self.old port) (end_down_grows self.old port) (λ frames. Takes (lines.end_down self.old port) self.new frames.items) self.old self.new result }
+        ensures turn { Turned (lines.end_down_refusal self.old port) (end_down_grows self.old port) (λ frames. Takes (lines.end_down self.old port) self.new frames.items) self.old self.new result }
+        ensures live { OnOk result (self.new.spent ≡ false) }
     {
         if port as usize >= self.ports.len() {
             return Err(CarrierFault::NoSuch);
@@ -107,7 +110,8 @@ impl Imp {
     /// frame is sent, and then the IMP is spent.
     pub fn end_up(&mut self, port: u8) -> Result<Vec<Outgoing>, CarrierFault>
         requires { self.old.spent ≡ false }
-        ensures { Turned (lines.end_up_refusal self.old port) (end_up_grows self.old port) (λ frames. Takes (lines.end_up self.old port) self.new frames.items) self.old self.new result }
+        ensures turn { Turned (lines.end_up_refusal self.old port) (end_up_grows self.old port) (λ frames. Takes (lines.end_up self.old port) self.new frames.items) self.old self.new result }
+        ensures live { OnOk result (self.new.spent ≡ false) }
     {
         if port as usize >= self.ports.len() {
             return Err(CarrierFault::NoSuch);

@@ -30,9 +30,11 @@ impl Imp {
     /// Errors: `NoSuch` where the source isn't one of its hosts, `IsDown` where it is down, `Blocked` while a
     /// message of the flow is outstanding or an answer about it waits, `NoRoom` where the destination's queue
     /// holds sixteen messages or the store has no room for all packets. After `OutOfMemory` the IMP is spent.
+    #[tactic(auto, using(crate::proofs::Spending::from_host_spent))]
     pub fn from_host(&mut self, message: HostMessage) -> Result<Vec<Outgoing>, CarrierFault>
         requires { self.old.spent ≡ false }
-        ensures { Turned (offering.from_host_refusal self.old message) (offering.from_host_grows self.old message) (λ frames. Takes (offering.from_host self.old message) self.new frames.items) self.old self.new result }
+        ensures turn { Turned (offering.from_host_refusal self.old message) (offering.from_host_grows self.old message) (λ frames. Takes (offering.from_host self.old message) self.new frames.items) self.old self.new result }
+        ensures live { OnOk result (self.new.spent ≡ false) }
     {
         if let Some(fault) = self.from_host_refusal(&message) {
             return Err(fault);

@@ -24,9 +24,11 @@ impl Imp {
     ///
     /// Errors: `NoSuch` for a host that isn't there, `IsDown` where it is down. `OutOfMemory` only where a
     /// message waits for the host or a frame is sent, and then the IMP is spent.
+    #[tactic(auto, using(crate::proofs::Spending::host_down_spent))]
     pub fn host_down(&mut self, host: u8) -> Result<Vec<Outgoing>, CarrierFault>
         requires { self.old.spent ≡ false }
-        ensures { Turned (stopping.host_down_refusal self.old host) (host_down_grows self.old host) (λ frames. Takes (stopping.host_down self.old host) self.new frames.items) self.old self.new result }
+        ensures turn { Turned (stopping.host_down_refusal self.old host) (host_down_grows self.old host) (λ frames. Takes (stopping.host_down self.old host) self.new frames.items) self.old self.new result }
+        ensures live { OnOk result (self.new.spent ≡ false) }
     {
         if let Some(fault) = self.host_down_refusal(host) {
             return Err(fault);
@@ -114,7 +116,8 @@ impl Imp {
     /// is outstanding. `OutOfMemory` only where a frame is sent, and then the IMP is spent.
     pub fn host_up(&mut self, host: u8) -> Result<Vec<Outgoing>, CarrierFault>
         requires { self.old.spent ≡ false }
-        ensures { Turned (stopping.host_up_refusal self.old host) (host_up_grows self.old host) (λ frames. Takes (stopping.host_up self.old host) self.new frames.items) self.old self.new result }
+        ensures turn { Turned (stopping.host_up_refusal self.old host) (host_up_grows self.old host) (λ frames. Takes (stopping.host_up self.old host) self.new frames.items) self.old self.new result }
+        ensures live { OnOk result (self.new.spent ≡ false) }
     {
         if let Some(fault) = self.host_up_refusal(host) {
             return Err(fault);

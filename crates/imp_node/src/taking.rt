@@ -20,9 +20,11 @@ impl Imp {
     /// Errors: `NoSuch` for a host that isn't there, `IsDown` where it is down, `NoRoom` where the RFNM has no
     /// room in the store. `OutOfMemory` only where a message is taken or a frame is sent, and then the IMP is
     /// spent.
+    #[tactic(auto, using(crate::proofs::Spending::to_host_spent))]
     pub fn to_host(&mut self, host: u8) -> Result<(Option<Inbound>, Vec<Outgoing>), CarrierFault>
         requires { self.old.spent ≡ false }
-        ensures { Turned (taking.to_host_refusal self.old host) (to_host_grows self.old host) (λ given. (given.0 ≡ taking.next_for self.old host) × Takes (taking.to_host self.old host) self.new given.1.items) self.old self.new result }
+        ensures turn { Turned (taking.to_host_refusal self.old host) (to_host_grows self.old host) (λ given. (given.0 ≡ taking.next_for self.old host) × Takes (taking.to_host self.old host) self.new given.1.items) self.old self.new result }
+        ensures live { OnOk result (self.new.spent ≡ false) }
     {
         if let Some(fault) = self.to_host_refusal(host) {
             return Err(fault);

@@ -1,0 +1,86 @@
+-- No call spends an IMP, save by want of memory.
+use Rattle.std.proofs.Common.{◌≡◌, ℕ, Bool, true, false, List, [], ◌∷◌, Result, Ok, Err, refl, ◌∙◌}
+use Rattle.std.specs.Prelude.{if◌then◌else◌}
+use Rattle.leader1822.specs.declared.address.Flow.{Flow}
+use Rattle.leader1822.specs.declared.crossing.Answer.{Answer}
+use Rattle.leader1822.specs.declared.crossing.Answer.TheVariants as answer
+use Rattle.leader1822.specs.declared.message.HostMessage.{HostMessage}
+use Rattle.packetiser.specs.PacketFields.{PacketFields}
+use Rattle.packetiser.specs.declared.packet.PacketKind.{PacketKind}
+use Rattle.packetiser.specs.declared.packet.PacketKind.TheVariants as kind
+use Rattle.imp_channel.specs.Line.{answer_to}
+use Rattle.imp_channel.specs.declared.fault.ChannelFault.{ChannelFault}
+use Rattle.imp_channel.specs.declared.frame.Frame.{Frame}
+use Rattle.imp_channel.specs.declared.line.Received.{Received}
+use Rattle.imp_channel.specs.declared.line.Received.TheVariants as received
+use Rattle.link_table.specs.declared.source.Release.{Release}
+use Rattle.link_table.specs.declared.source.Release.TheVariants as release
+use Rattle.imp_node.specs.declared.waiting.Message.{Message}
+use Rattle.imp_node.specs.declared.waiting.Told.{Told}
+use Rattle.imp_node.specs.State.{State, Turn, host_at, with_host, port_at}
+use Rattle.imp_node.specs.Flows.{answered_by}
+use Rattle.imp_node.specs.Arrival.{Arrival, Passing, Old, Undeliverable, Piece, NoSlot, Whole, Unmarked, Answering, arrival, arrived, arrival_has_room, taken, taken_frame, from_line}
+use Rattle.imp_node.specs.Offering.{Way, Nowhere, Here, Away, way_of, offered, from_host}
+use Rattle.imp_node.specs.Stopping.{returned, all_returned, stopped, host_down}
+use Rattle.imp_node.specs.Taking.{is_from_here, replied, reply_has_room, taken_by, to_host}
+
+answered_spent : (r : Release) (kind : Answer) (f : Flow) (n : ℕ) (s : State) → (answered_by r kind f n s).spent ≡ s.spent
+answered_spent release.Freed kind f n s = refl
+answered_spent release.Stale kind f n s = refl
+
+either_spent : (b : Bool) (s t u : State) → t.spent ≡ s.spent → u.spent ≡ s.spent → (if b then t else u).spent ≡ s.spent
+either_spent true s t u e h = e
+either_spent false s t u e h = h
+
+replied_spent : (kind : Answer) (packet : PacketKind) (m : Message) (s : State) → (replied kind packet m s).spent ≡ s.spent
+replied_spent kind packet m s = either_spent (is_from_here s m) s _ _ (answered_spent _ kind m.flow m.number s) refl
+
+arrived_spent : (a : Arrival) (p : PacketFields) (s : State) → (arrived a p s).spent ≡ s.spent
+arrived_spent Passing p s = refl
+arrived_spent Old p s = refl
+arrived_spent Undeliverable p s = refl
+arrived_spent Piece p s = refl
+arrived_spent NoSlot p s = refl
+arrived_spent (Whole text) p s = refl
+arrived_spent Unmarked p s = refl
+arrived_spent (Answering kind) p s = answered_spent _ kind _ p.number s
+
+turn_spent : (b : Bool) (s : State) (t u : Turn) → t.state.spent ≡ s.spent → u.state.spent ≡ s.spent → (if b then t else u).state.spent ≡ s.spent
+turn_spent true s t u e h = e
+turn_spent false s t u e h = h
+
+taken_spent : (r : Result Received ChannelFault) (k : ℕ) (f : Frame) (s : State) → (taken_frame r k f s).state.spent ≡ s.spent
+taken_spent (Ok (received.Fresh p)) k f s = turn_spent (arrival_has_room (arrival s p) s p) s _ _ (arrived_spent (arrival s p) p (taken k f s)) refl
+taken_spent (Ok received.Repeat) k f s = refl
+taken_spent (Ok received.AckOnly) k f s = refl
+taken_spent (Ok (received.Routes distances)) k f s = refl
+taken_spent (Err fault) k f s = refl
+
+pub from_line_spent : (s : State) (k : ℕ) (f : Frame) → (from_line s k f).state.spent ≡ s.spent
+from_line_spent s k f = turn_spent (port_at s.ports k).up s _ _ (taken_spent (answer_to (port_at s.ports k).line f) k f s) refl
+
+offered_spent : (way : Way) (m : HostMessage) (s : State) → (offered way m s).spent ≡ s.spent
+offered_spent Nowhere m s = refl
+offered_spent Here m s = refl
+offered_spent Away m s = refl
+
+pub from_host_spent : (s : State) (m : HostMessage) → (from_host s m).state.spent ≡ s.spent
+from_host_spent s m = offered_spent (way_of s m.flow) m s
+
+taken_by_spent : (h : ℕ) (answers : List Told) (queue : List Message) (s : State) → (taken_by h answers queue s).spent ≡ s.spent
+taken_by_spent h (told ∷ others) queue s = refl
+taken_by_spent h [] (m ∷ others) s = replied_spent answer.Rfnm kind.Rfnm m (with_host s h (record (host_at s h) { queue = others }))
+taken_by_spent h [] [] s = refl
+
+pub to_host_spent : (s : State) (h : ℕ) → (to_host s h).state.spent ≡ s.spent
+to_host_spent s h = taken_by_spent h (host_at s h).answers (host_at s h).queue s
+
+returned_spent : (m : Message) (s : State) → (returned m s).spent ≡ s.spent
+returned_spent m s = either_spent (reply_has_room s m) s (replied answer.Dead kind.Dead m s) s (replied_spent answer.Dead kind.Dead m s) refl
+
+all_returned_spent : (ms : List Message) (s : State) → (all_returned ms s).spent ≡ s.spent
+all_returned_spent [] s = refl
+all_returned_spent (m ∷ others) s = all_returned_spent others (returned m s) ∙ returned_spent m s
+
+pub host_down_spent : (s : State) (h : ℕ) → (host_down s h).state.spent ≡ s.spent
+host_down_spent s h = all_returned_spent (host_at s h).queue (stopped s h)

@@ -1,0 +1,235 @@
+//! A frame comes in on a line.
+
+ghost use Rattle.std.specs.Prelude.{◌≡◌, ◌<◌, ◌++◌, ◌∷◌, [], true, false, length, None, Ok, IfOk, OnOk, OnErr, if◌then◌else◌};
+ghost use Rattle.bit_messages.specs.Body.{has_mark, text_of};
+ghost use Rattle.packetiser.specs.PacketFields.{IsPacket, flow_of};
+ghost use Rattle.packetiser.specs.Pieces.{IsBodySize};
+ghost use Rattle.packetiser.specs.Slots.{answer_of};
+ghost use Rattle.packetiser.specs.declared.packet.PacketKind.TheVariants as kind;
+ghost use Rattle.imp_channel.specs.Line.{answer_to, acknowledgement};
+ghost use Rattle.imp_node.specs.State.{is_up, port_at};
+ghost use Rattle.imp_node.specs.Flows.{noted, queued};
+ghost use Rattle.imp_node.specs.Room.{queue_has_room};
+ghost use Rattle.imp_node.specs.Arrival as arrivals;
+ghost use Rattle.imp_node.specs.Arrival.{arrival, arrived, data_arrival, piece_arrival, arrival_has_room, acknowledged, taken};
+ghost use Rattle.imp_node.specs.Turns.{Turned, Takes, from_line_grows};
+ghost use Rattle.imp_node.specs.Inside.Parts.{IsPacketFlow};
+ghost use Rattle.imp_node.specs.Inside.Arriving.{lost_by, has_place, turned_away, completed};
+
+use crate::pump::target;
+use crate::steps::answer_packet;
+use crate::waiting::Message;
+use crate::{Imp, Outgoing};
+use bit_messages::{BitFault, Bits};
+use imp_channel::{Content, Frame, Received};
+use leader1822::{Answer, CarrierFault, Flow, Text};
+use link_table::{Age, Number};
+use packetiser::{Added, Outcome, Packet, PacketKind};
+use std::alloc::AllocError;
+
+impl Imp {
+    /// A frame comes in at a port. Where the end is down, or has no room for the packet that the frame brings,
+    /// the frame counts as lost and nothing changes. Else its acknowledgement bits free channels, its packet
+    /// is taken if it is fresh, and is acknowledged, and distances are noted. It answers the frames to put on
+    /// lines.
+    ///
+    /// Errors: `NoSuch` for a port that isn't there. `OutOfMemory` only where a frame is sent, and then the
+    /// IMP is spent.
+    #[tactic(auto, using(crate::proofs::Spending::from_line_spent))]
+    pub fn from_line(&mut self, port: u8, frame: Frame) -> Result<Vec<Outgoing>, CarrierFault>
+        requires { self.old.spent ≡ false }
+        ensures turn { Turned (arrivals.from_line_refusal self.old port) (from_line_grows self.old port frame) (λ frames. Takes (arrivals.from_line self.old port frame) self.new frames.items) self.old self.new result }
+        ensures live { OnOk result (self.new.spent ≡ false) }
+    {
+        if port as usize >= self.ports.len() {
+            return Err(CarrierFault::NoSuch);
+        }
+        let Ok(frames) = self.take_frame(port, frame) else {
+            return Err(self.exhaust());
+        };
+        Ok(frames)
+    }
+
+    /// Takes a frame, unless it counts as lost.
+    #[tactic(auto, using(crate::proofs::Arrivals::from_line_fresh))]
+    fn take_frame(&mut self, port: u8, frame: Frame) -> Result<Vec<Outgoing>, AllocError>
+        requires { port < length self.old.ports }
+        ensures ok { IfOk result (λ frames. Takes (arrivals.from_line self.old port frame) self.new frames.items) }
+        ensures memory { OnErr result (from_line_grows self.old port frame ≡ true) }
+    {
+        if !self.is_live(port) || self.is_lost(port, &frame) {
+            return Ok(Vec::new(self.alloc));
+        }
+        match self.receive(port, frame) {
+            Received::Fresh(packet) => {
+                let frames = self.acknowledge(port)?;
+                self.arrive(packet)?;
+                self.pump(frames)
+            }
+            Received::Repeat => {
+                let frames = self.acknowledge(port)?;
+                self.pump(frames)
+            }
+            Received::AckOnly => self.pump(Vec::new(self.alloc)),
+            Received::Routes(vector) => {
+                self.routes.hear(port, vector);
+                self.pump(Vec::new(self.alloc))
+            }
+        }
+    }
+
+    /// Whether a frame brings a fresh packet for which there is no room.
+    fn is_lost(&self, port: u8, frame: &Frame) -> bool
+        requires { port < length self.now.ports }
+        ensures { result ≡ lost_by (answer_to (port_at self.now.ports port).line frame.now) self.now }
+    {
+        match &frame.content {
+            Content::Packet(carried) => {
+                self.ports[port as usize].line.is_fresh(frame)
+                    && !self.arrival_has_room(carried.packet())
+            }
+            _ => false,
+        }
+    }
+
+    /// Whether there is room for what a fresh packet calls for.
+    fn arrival_has_room(&self, packet: &Packet) -> bool
+        ensures { result ≡ arrival_has_room (arrival self.now packet.now) self.now packet.now }
+    {
+        if target(packet) != self.number() {
+            return self.has_room_to(target(packet));
+        }
+        match packet.kind() {
+            PacketKind::Data => self.data_has_room(packet),
+            PacketKind::Rfnm | PacketKind::Dead => true,
+        }
+    }
+
+    /// Whether there is room for what a fresh piece for this IMP calls for.
+    fn data_has_room(&self, packet: &Packet) -> bool
+        requires { packet.now.kind ≡ kind.Data }
+        ensures { result ≡ arrival_has_room (data_arrival self.now packet.now) self.now packet.now }
+    {
+        let flow = packet.flow();
+        if self.kept.judge(&flow, packet.number()) == Age::Old {
+            return true;
+        }
+        let Flow {
+            source,
+            destination,
+            ..
+        } = flow;
+        if !self.is_up(destination.host()) {
+            return self.has_room_to(source.imp());
+        }
+        match self.slots.outcome(packet) {
+            Outcome::Kept | Outcome::Old => true,
+            Outcome::Full => false,
+            Outcome::Whole => !self.slots.is_marked(packet)
+                || self.queue_has_room(destination.host()),
+        }
+    }
+
+    /// The line's end at a port takes a frame.
+    fn receive(&mut self, port: u8, frame: Frame) -> Received
+        requires { port < length self.old.ports }
+        ensures state { self.new ≡ taken port frame self.old }
+        ensures answer { answer_to (port_at self.old.ports port).line frame ≡ Ok result }
+    {
+        self.ports[port as usize].line.receive(frame)
+    }
+
+    /// The acknowledgement that goes back at once.
+    fn acknowledge(&self, port: u8) -> Result<Vec<Outgoing>, AllocError>
+        requires { port < length self.now.ports }
+        ensures { IfOk result (λ frames. frames.items ≡ acknowledged port self.now) }
+    {
+        let frame = self.ports[port as usize].line.ack_frame();
+        let mut frames = Vec::new(self.alloc);
+        frames.push(Outgoing { port, frame })?;
+        Ok(frames)
+    }
+
+    /// Takes a fresh packet. A message that it makes whole has a place.
+    fn arrive(&mut self, packet: Packet) -> Result<(), AllocError>
+        requires { has_place (arrival self.old packet) self.old packet ≡ true }
+        ensures { OnOk result (self.new ≡ arrived (arrival self.old packet) packet self.old) }
+    {
+        if target(&packet) != self.number() {
+            return self.admit(packet);
+        }
+        match packet.kind() {
+            PacketKind::Data => self.arrive_data(packet),
+            PacketKind::Rfnm => self.free(Answer::Rfnm, packet.flow(), packet.number()),
+            PacketKind::Dead => self.free(Answer::Dead, packet.flow(), packet.number()),
+        }
+    }
+
+    /// Takes a fresh piece for this IMP.
+    fn arrive_data(&mut self, packet: Packet) -> Result<(), AllocError>
+        requires data { packet.kind ≡ kind.Data }
+        requires format { IsPacket packet }
+        requires place { has_place (data_arrival self.old packet) self.old packet ≡ true }
+        ensures { OnOk result (self.new ≡ arrived (data_arrival self.old packet) packet self.old) }
+    {
+        let flow = packet.flow();
+        let number = packet.number();
+        if self.kept.judge(&flow, number) == Age::Old {
+            return Ok(());
+        }
+        let destination = flow.destination;
+        if !self.is_up(destination.host()) {
+            return self.turn_away(flow, number);
+        }
+        self.reassemble(packet)
+    }
+
+    /// A new message is for a host that is down or not there: Dead goes to its source.
+    fn turn_away(&mut self, flow: Flow, number: Number) -> Result<(), AllocError>
+        requires { IsPacketFlow flow }
+        ensures { OnOk result (self.new ≡ turned_away flow number self.old) }
+    {
+        self.slots.discard(flow);
+        self.note(&flow, number)?;
+        let answer = answer_packet(self.alloc, PacketKind::Dead, flow, number);
+        self.admit(answer)
+    }
+
+    /// A new piece for a host that is up goes to reassembly.
+    fn reassemble(&mut self, packet: Packet) -> Result<(), AllocError>
+        requires data { packet.kind ≡ kind.Data }
+        requires format { IsPacket packet }
+        requires up { is_up self.old packet.destination.host ≡ true }
+        requires place { has_place (piece_arrival (answer_of self.old.slots packet)) self.old packet ≡ true }
+        ensures { OnOk result (self.new ≡ arrived (piece_arrival (answer_of self.old.slots packet)) packet self.old) }
+    {
+        let flow = packet.flow();
+        let number = packet.number();
+        match self.slots.add(self.alloc, packet) {
+            Ok(Added::Whole(body)) => self.complete(flow, number, body),
+            Ok(Added::Kept | Added::Old | Added::Full) => Ok(()),
+            Err(_) => Err(AllocError),
+        }
+    }
+
+    /// A body is whole: its text waits for the host. A body without a mark has no text.
+    fn complete(&mut self, flow: Flow, number: Number, body: Bits) -> Result<(), AllocError>
+        requires flow { IsPacketFlow flow }
+        requires size { IsBodySize (length body) }
+        requires there { flow.destination.host < length self.old.hosts }
+        requires place { has_mark body ≡ true → queue_has_room self.old flow.destination.host ≡ true }
+        ensures { OnOk result (self.new ≡ completed flow number body self.old) }
+    {
+        self.note(&flow, number)?;
+        match body.strip(self.alloc) {
+            Ok(bits) => {
+                let text = Text::new(bits).unwrap();
+                self.enqueue(Message { flow, number, text });
+                Ok(())
+            }
+            Err(BitFault::NoMark) => Ok(()),
+            Err(BitFault::OutOfMemory) => Err(AllocError),
+            Err(BitFault::TooLong | BitFault::Range) => unreachable!(),
+        }
+    }
+}

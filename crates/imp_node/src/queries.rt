@@ -1,0 +1,66 @@
+//! What can be asked of an IMP. The questions change nothing and take no memory.
+
+ghost use Rattle.std.specs.Prelude.{◌≡◌};
+ghost use Rattle.imp_node.specs.Queries as queries;
+ghost use Rattle.imp_node.specs.Inside.Seeking.{found};
+
+use crate::Imp;
+use crate::seeking::Sought;
+use leader1822::{Flow, ImpNumber};
+use link_table::Number;
+
+impl Imp {
+    /// The number of the outstanding message of a flow; `None` where none is outstanding.
+    pub fn outstanding(&self, flow: &Flow) -> Option<Number>
+        ensures { result ≡ queries.outstanding self.now flow.now }
+    {
+        self.sources.outstanding(flow)
+    }
+
+    /// The number of the last message begun of a flow; `None` where none was begun.
+    pub fn last(&self, flow: &Flow) -> Option<Number>
+        ensures { result ≡ queries.last self.now flow.now }
+    {
+        self.sources.last(flow)
+    }
+
+    /// Whether it keeps a last number of a flow from a host at this IMP.
+    pub fn keeps(&self, imp: ImpNumber) -> bool
+        ensures { result ≡ queries.keeps self.now imp }
+    {
+        self.kept.keeps(imp)
+    }
+
+    /// Whether it holds a message of this flow and number, or a packet of it: in its store, in a channel, in
+    /// reassembly or in a host's queue. An answer that waits for a host does not count.
+    pub fn holds(&self, flow: &Flow, number: Number) -> bool
+        ensures { result ≡ queries.holds self.now flow.now number }
+    {
+        self.finds(&Sought::Message(*flow, number))
+    }
+
+    /// Whether it holds a message, or a piece of one, from a host at one IMP to a host at another.
+    pub fn holds_data(&self, from: ImpNumber, to: ImpNumber) -> bool
+        ensures { result ≡ queries.holds_data self.now from to }
+    {
+        self.finds(&Sought::Between(from, to))
+    }
+
+    /// Whether it holds a message from or to a host at this IMP, or a packet of one.
+    pub fn touches(&self, imp: ImpNumber) -> bool
+        ensures { result ≡ queries.touches self.now imp }
+    {
+        self.finds(&Sought::Touching(imp))
+    }
+
+    /// Whether it holds what is sought.
+    #[tactic(auto, using(crate::proofs::Searching::found_is))]
+    fn finds(&self, sought: &Sought) -> bool
+        ensures { result ≡ found sought.now self.now }
+    {
+        sought.is_among(&self.store)
+            || sought.is_on_lines(&self.ports)
+            || sought.is_in_slots(&self.slots)
+            || sought.is_in_queues(&self.hosts)
+    }
+}
