@@ -185,22 +185,20 @@ impl Packet {
         ensures spelled { GivesIfMemory (λ octets. octets.items ≡ spelling self.now) result }
         ensures again { IfOk result (λ octets. read_of octets.items ≡ Ok self.now) }
     {
-        let number = self.number;
+        let bits = self.bits.as_octets();
         let count = self.bits.len();
-        let mut octets = Vec::from_slice(
-            alloc,
-            &[
-                kind_octet(self.kind),
-                self.source.octet(),
-                self.destination.octet(),
-                self.link.0,
-                number,
-                place_octet(self.place, self.last),
-                (count / 256) as u8,
-                (count % 256) as u8,
-            ],
-        )?;
-        octets.extend_from_slice(self.bits.as_octets())?;
+        let mut octets = Vec::with_capacity(alloc, bits.len().saturating_add(HEADER_OCTETS))?;
+        octets.extend_from_slice(&[
+            kind_octet(self.kind),
+            self.source.octet(),
+            self.destination.octet(),
+            self.link.0,
+            self.number,
+            place_octet(self.place, self.last),
+            (count / 256) as u8,
+            (count % 256) as u8,
+        ])?;
+        octets.extend_from_slice(bits)?;
         Ok(octets)
     }
 }
