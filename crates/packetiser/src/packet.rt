@@ -187,13 +187,14 @@ impl Packet {
     {
         let bits = self.bits.as_octets();
         let count = self.bits.len();
+        let number = self.number;
         let mut octets = Vec::with_capacity(alloc, bits.len().saturating_add(HEADER_OCTETS))?;
         octets.extend_from_slice(&[
             kind_octet(self.kind),
             self.source.octet(),
             self.destination.octet(),
             self.link.0,
-            self.number,
+            number,
             place_octet(self.place, self.last),
             (count / 256) as u8,
             (count % 256) as u8,
