@@ -8,3 +8,4 @@ pub mod Sound
 pub mod SoundEvents
 pub mod SoundCalls
 pub mod WorkedBoxes
+pub mod UnsafeLogs

@@ -39,3 +39,29 @@ up_twice hosts h run = let both : true ≡ false = sym run.0.0 ∙ run.0.1 in cc
 
 pub down_twice : (hosts : List Host) (h : Host) → IsRun hosts (crossing.Down h ∷ crossing.Down h ∷ []) → ⊥
 down_twice hosts h run = let both : false ≡ true = rw (same_host-refl h) at run.0 in cc
+
+pub place : (m : HostMessage) (h : Host) → box_of m.flow (crossing.Out m ∷ crossing.Down h ∷ []) ≡ Waiting 1 m.text
+place m h = rw (same_flow-refl m.flow) refl
+
+pub left : (m : HostMessage) (h : Host) → box_of m.flow (crossing.Down h ∷ crossing.Out m ∷ []) ≡ Waiting 0 m.text
+left m h = rw (same_flow-refl m.flow) refl
+
+pub stranger : (hosts : List Host) (m : HostMessage) → is_host hosts m.flow.source ≡ false → IsRun hosts (crossing.Out m ∷ []) → ⊥
+stranger hosts m absent run = let both : true ≡ false = sym run.0.0 ∙ absent in cc
+
+-- ---- logs that are runs
+
+pub rfnm_run : (hosts : List Host) (m : HostMessage) → is_host hosts m.flow.source ≡ true → is_host hosts m.flow.destination ≡ true → IsRun hosts (crossing.Answer answer.Rfnm m.flow ∷ crossing.In m ∷ crossing.Out m ∷ [])
+rfnm_run hosts m from to = rw (same_flow-refl m.flow) ((from, tt), ((to, refl), ((from, refl), tt)))
+
+pub late_run : (hosts : List Host) (m : HostMessage) → is_host hosts m.flow.source ≡ true → is_host hosts m.flow.destination ≡ true → IsRun hosts (crossing.Answer answer.Incomplete m.flow ∷ crossing.In m ∷ crossing.Out m ∷ [])
+late_run hosts m from to = rw (same_flow-refl m.flow) ((from, tt), ((to, refl), ((from, refl), tt)))
+
+pub dead_run : (hosts : List Host) (m : HostMessage) → is_host hosts m.flow.source ≡ true → IsRun hosts (crossing.Answer answer.Dead m.flow ∷ crossing.Out m ∷ [])
+dead_run hosts m from = rw (same_flow-refl m.flow) ((from, tt), ((from, refl), tt))
+
+pub early_run : (hosts : List Host) (m : HostMessage) → is_host hosts m.flow.source ≡ true → IsRun hosts (crossing.Answer answer.Incomplete m.flow ∷ crossing.Out m ∷ [])
+early_run hosts m from = rw (same_flow-refl m.flow) ((from, tt), ((from, refl), tt))
+
+pub restarted : (hosts : List Host) (h : Host) → is_host hosts h ≡ true → IsRun hosts (crossing.Up h ∷ crossing.Down h ∷ [])
+restarted hosts h there = rw (same_host-refl h) ((there, refl), (there, tt))

@@ -1,8 +1,8 @@
 //! What leaders and mailboxes promise, as laws over their definitions. The functions here do nothing:
 //! each clause is the law.
 
-ghost use Rattle.std.specs.Prelude.{◌≡◌, ℕ, ◌+◌, ◌*◌, ◌<◌, ◌≤◌, Bool, List, [], ◌∷◌, ◌++◌, Ok, Some, slice_get};
-ghost use Rattle.leader1822.specs.Host.{Host, IsAddress, InOrder};
+ghost use Rattle.std.specs.Prelude.{◌≡◌, ◌≢◌, ℕ, ◌+◌, ◌*◌, ◌<◌, ◌≤◌, Bool, true, false, List, [], ◌∷◌, ◌++◌, Ok, Some, slice_get};
+ghost use Rattle.leader1822.specs.Host.{Host, is_host, IsAddress, InOrder};
 ghost use Rattle.leader1822.specs.Leader.{read_from_host, read_from_imp, spelling, IsWritten, IsFromHost};
 ghost use Rattle.leader1822.specs.Mailboxes.{IsRun, EachIsRun, Box, Empty, Waiting, Taken, WaitsWith, Mail, opening_mail, mail_of, passed, is_up, box_of};
 ghost use Rattle.leader1822.specs.Messages.{SafeMessages};
@@ -54,6 +54,12 @@ pub fn worked_boxes()
     ensures waits { (m : HostMessage) → box_of m.flow (crossing.Out m ∷ []) ≡ Waiting 0 m.text }
     ensures taken { (m : HostMessage) → box_of m.flow (crossing.In m ∷ crossing.Out m ∷ []) ≡ Taken 0 m.text }
 
+    // its place is the number of crossings before it
+    ensures place { (m : HostMessage) (h : Host) → box_of m.flow (crossing.Out m ∷ crossing.Down h ∷ []) ≡ Waiting 1 m.text }
+
+    // a host that goes down changes no box
+    ensures left { (m : HostMessage) (h : Host) → box_of m.flow (crossing.Down h ∷ crossing.Out m ∷ []) ≡ Waiting 0 m.text }
+
     // a host that comes up finds the boxes of its flows empty
     ensures emptied { (m : HostMessage) → box_of m.flow (crossing.Up m.flow.source ∷ crossing.Out m ∷ []) ≡ Empty }
 
@@ -69,6 +75,36 @@ pub fn worked_boxes()
     // a host that is up does not come up, and one that is down does not go down
     ensures up_twice { (hosts : List Host) (h : Host) → IsRun hosts (crossing.Up h ∷ []) → ⊥ }
     ensures down_twice { (hosts : List Host) (h : Host) → IsRun hosts (crossing.Down h ∷ crossing.Down h ∷ []) → ⊥ }
+
+    // a host that isn't in the network hands over no message
+    ensures stranger { (hosts : List Host) (m : HostMessage) → is_host hosts m.flow.source ≡ false → IsRun hosts (crossing.Out m ∷ []) → ⊥ }
+{}
+
+/// Logs that are runs: what the rules of the mailboxes allow.
+pub fn worked_runs()
+    // between two hosts of the network a message is answered by RFNM or Incomplete once it is taken
+    ensures taken { (hosts : List Host) (m : HostMessage) → is_host hosts m.flow.source ≡ true → is_host hosts m.flow.destination ≡ true → IsRun hosts (crossing.Answer answer.Rfnm m.flow ∷ crossing.In m ∷ crossing.Out m ∷ []) × IsRun hosts (crossing.Answer answer.Incomplete m.flow ∷ crossing.In m ∷ crossing.Out m ∷ []) }
+
+    // while it waits, it is answered by Dead or Incomplete
+    ensures waiting { (hosts : List Host) (m : HostMessage) → is_host hosts m.flow.source ≡ true → IsRun hosts (crossing.Answer answer.Dead m.flow ∷ crossing.Out m ∷ []) × IsRun hosts (crossing.Answer answer.Incomplete m.flow ∷ crossing.Out m ∷ []) }
+
+    // a host of the network goes down, and comes up again
+    ensures restarted { (hosts : List Host) (h : Host) → is_host hosts h ≡ true → IsRun hosts (crossing.Up h ∷ crossing.Down h ∷ []) }
+{}
+
+/// Logs that break the promise about messages, one for each part of it.
+pub fn unsafe_logs()
+    // an RFNM though nothing was taken
+    ensures untaken { (m : HostMessage) → SafeMessages (crossing.Answer answer.Rfnm m.flow ∷ crossing.Out m ∷ []) → ⊥ }
+
+    // a message taken twice
+    ensures twice { (m : HostMessage) → SafeMessages (crossing.In m ∷ crossing.In m ∷ crossing.Out m ∷ []) → ⊥ }
+
+    // a text taken that isn't the message's
+    ensures other_text { (m n : HostMessage) → n.flow ≡ m.flow → n.text ≢ m.text → SafeMessages (crossing.In n ∷ crossing.Out m ∷ []) → ⊥ }
+
+    // a message taken before any went out
+    ensures early { (m : HostMessage) → SafeMessages (crossing.In m ∷ []) → ⊥ }
 {}
 
 /// What every host may rely on, from the mailboxes alone.

@@ -1,12 +1,12 @@
 //! Route tables.
 
+use crate::values::far_from_others;
 use routing::{RouteTable, Vector};
 use std::alloc::{AllocError, Global};
 
 /// Distances to the first four IMPs, with no path to any other.
 fn near(first: [u8; 4]) -> Option<Vector> {
-    let [a, b, c, d] = first;
-    Vector::from_slice(&[a, b, c, d, 16, 16, 16, 16, 16, 16, 16, 16, 16, 16, 16, 16])
+    Vector::from_slice(&far_from_others(first))
 }
 
 /// What a table says: its distances, and its next lines to the IMPs 0 to 5 and 17.
@@ -50,13 +50,6 @@ fn story(alloc: Global) -> Result<[Said; 6], AllocError> {
     Ok([
         opening, one_heard, both_heard, heard_anew, one_lost, both_lost,
     ])
-}
-
-/// Distances to the first four IMPs, and infinite ones to the others.
-const fn far_from_others(first: [u8; 4]) -> [u8; 16] {
-    [
-        first[0], first[1], first[2], first[3], 16, 16, 16, 16, 16, 16, 16, 16, 16, 16, 16, 16,
-    ]
 }
 
 #[test]

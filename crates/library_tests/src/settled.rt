@@ -2,6 +2,7 @@
 
 ghost use Rattle.std.specs.Prelude.{◌≡◌, ◌≤◌, length, IfOk};
 
+use crate::values::far_from_others;
 use routing::{RouteTable, Vector, settle};
 use std::alloc::{AllocError, Global};
 
@@ -69,13 +70,6 @@ fn islands(alloc: Global) -> Result<[Said; 4], AllocError> {
     ];
     settle(alloc, &[(1, 2), (3, 4)], &mut tables, 16)?;
     Ok(told(&tables))
-}
-
-/// Distances to the first four IMPs, and infinite ones to the others.
-const fn far_from_others(first: [u8; 4]) -> [u8; 16] {
-    [
-        first[0], first[1], first[2], first[3], 16, 16, 16, 16, 16, 16, 16, 16, 16, 16, 16, 16,
-    ]
 }
 
 #[test]

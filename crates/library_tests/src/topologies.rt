@@ -39,7 +39,7 @@ fn is_seen(alloc: Global, document: &str, expected: &str) -> bool {
 }
 
 /// Documents, and what is seen of their topologies.
-const DOCUMENTS: [(&str, &str); 27] = [
+const DOCUMENTS: [(&str, &str); 30] = [
     (
         "[[imp]]\nid = 16\nhosts = 4\n[[imp]]\nid = 2\nhosts = 0\n[[imp]]\nid = 1\nhosts = 1\n[[line]]\na = 2\nb = 1\n[[line]]\na = 1\nb = 16\n",
         "subnet false imp 1 1 imp 2 0 imp 16 4 line 2 1 line 1 16 host 0/1 host 0/16 host 1/16 host 2/16 host 3/16",
@@ -55,6 +55,10 @@ const DOCUMENTS: [(&str, &str); 27] = [
     (
         "imp = [{id = 1, hosts = 0}, {id = 2, hosts = 0}, {id = 3, hosts = 0}, {id = 4, hosts = 0}, {id = 5, hosts = 0}, {id = 6, hosts = 0}]\nline = [{a = 1, b = 2}, {a = 3, b = 1}, {a = 1, b = 4}, {a = 1, b = 5}, {a = 1, b = 6}]\n",
         "subnet false imp 1 0 imp 2 0 imp 3 0 imp 4 0 imp 5 0 imp 6 0 line 1 2 line 3 1 line 1 4 line 1 5 line 1 6",
+    ),
+    (
+        "imp = [{id = 1, hosts = 0}, {id = 2, hosts = 0}, {id = 3, hosts = 0}, {id = 4, hosts = 0}, {id = 5, hosts = 0}, {id = 6, hosts = 0}, {id = 7, hosts = 0}, {id = 8, hosts = 0}, {id = 9, hosts = 0}, {id = 10, hosts = 0}, {id = 11, hosts = 0}, {id = 12, hosts = 0}, {id = 13, hosts = 0}, {id = 14, hosts = 0}, {id = 15, hosts = 0}, {id = 16, hosts = 0}]\n",
+        "subnet false imp 1 0 imp 2 0 imp 3 0 imp 4 0 imp 5 0 imp 6 0 imp 7 0 imp 8 0 imp 9 0 imp 10 0 imp 11 0 imp 12 0 imp 13 0 imp 14 0 imp 15 0 imp 16 0",
     ),
     ("", ""),
     ("imp = []\n", ""),
@@ -74,6 +78,7 @@ const DOCUMENTS: [(&str, &str); 27] = [
     ("book = true\nimp = [{id = 1, hosts = 1}]\n", ""),
     ("imp = [{id = 1, hosts = 1}]\n[[line]]\na = 1\nb = 1\n", ""),
     ("imp = [{id = 1, hosts = 1}]\n[[line]]\na = 1\nb = 2\n", ""),
+    ("imp = [{id = 1, hosts = 1}]\n[[line]]\na = 2\nb = 1\n", ""),
     (
         "imp = [{id = 1, hosts = 1}, {id = 2, hosts = 1}]\nline = [{a = 1, b = 2, c = 3}]\n",
         "",
@@ -88,6 +93,10 @@ const DOCUMENTS: [(&str, &str); 27] = [
     ),
     (
         "imp = [{id = 1, hosts = 0}, {id = 2, hosts = 0}, {id = 3, hosts = 0}, {id = 4, hosts = 0}, {id = 5, hosts = 0}, {id = 6, hosts = 0}, {id = 7, hosts = 0}]\nline = [{a = 1, b = 2}, {a = 3, b = 1}, {a = 1, b = 4}, {a = 1, b = 5}, {a = 1, b = 6}, {a = 7, b = 1}]\n",
+        "",
+    ),
+    (
+        "imp = [{id = 1, hosts = 0}, {id = 2, hosts = 0}, {id = 3, hosts = 0}]\nline = [{a = 1, b = 2}, {a = 1, b = 3}, {a = 2, b = 1}]\n",
         "",
     ),
     ("imp = [{id = 1, hosts = 1}\n", ""),

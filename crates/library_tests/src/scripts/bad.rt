@@ -32,7 +32,7 @@ fn bad_topologies(rt: HostRuntime) {
 }
 
 /// Lines that are no events. The marker line is one too, after the first that parts the input.
-const NO_EVENTS: [&str; 30] = [
+const NO_EVENTS: [&str; 34] = [
     " ",
     "jump",
     "take",
@@ -41,6 +41,10 @@ const NO_EVENTS: [&str; 30] = [
     " take 0/1",
     "take  0/1",
     "take 0/1\r",
+    "take\t0/1",
+    "TAKE 0/1",
+    "take 0/1 # then",
+    " # then",
     "take 00/1",
     "take +0/1",
     "take 4/1",

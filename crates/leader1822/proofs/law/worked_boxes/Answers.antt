@@ -1,4 +1,4 @@
-use Rattle.leader1822.proofs.WorkedBoxes.{waits, taken, emptied, one_outstanding, taken_once, early_rfnm, late_dead, answered_once, up_twice, down_twice}
+use Rattle.leader1822.proofs.WorkedBoxes.{waits, taken, place, left, stranger, emptied, one_outstanding, taken_once, early_rfnm, late_dead, answered_once, up_twice, down_twice}
 use Rattle.leader1822.proofs.law.worked_boxes.Goals as goal
 
 pub returns-clause-waits : goal.returns-clause-waits
@@ -30,3 +30,12 @@ returns-clause-up_twice c = up_twice
 
 pub returns-clause-down_twice : goal.returns-clause-down_twice
 returns-clause-down_twice c = down_twice
+
+pub returns-clause-place : goal.returns-clause-place
+returns-clause-place c = place
+
+pub returns-clause-left : goal.returns-clause-left
+returns-clause-left c = left
+
+pub returns-clause-stranger : goal.returns-clause-stranger
+returns-clause-stranger c = stranger
