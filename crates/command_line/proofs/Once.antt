@@ -89,8 +89,8 @@ shows_once old e new other shown more h k same =
 taken_once : (old : Boxes) (g : Host) (new other : Boxes) (shown more : List Shown) (h : Happens plain_calls old (event.Take g) new shown) (k : Happens plain_calls old (event.Take g) other more)
     → Same h.outcome k.outcome new other
 taken_once old g new other shown more h k =
-    let P : Option Inbound → Type 0 = λ o. (o ≡ next_for old.answers old.queue g) × (new ≡ taken old g o) in
-    let Q : Option Inbound → Type 0 = λ o. (o ≡ next_for old.answers old.queue g) × (other ≡ taken old g o) in
+    let P : Option Inbound → Type 0 = λ o. (o ≡ next_for old g) × (new ≡ taken old g o) in
+    let Q : Option Inbound → Type 0 = λ o. (o ≡ next_for old g) × (other ≡ taken old g o) in
     let refusal : Option CarrierFault = host_refusal old g in
     let answers : Same h.gives.0 k.gives.0 new other =
     same_answer refusal P Q old h.gives.0 k.gives.0 new other

@@ -67,7 +67,7 @@ halted_back r (Err f) e h = subst Halts e h
 halted_log : (old : Boxes) (e : Event) (r : Result (Unit {0}) CarrierFault) (new : Boxes) → EventGives plain_calls old e r new → Halts r → new.log ≡ old.log
 halted_log old (event.Out m) r new gives halts = same_log (offer_refusal old m.flow) true (λ done. new ≡ offered old m) old r new gives (halted r halts)
 halted_log old (event.Take g) r new gives halts =
-    same_log (host_refusal old g) (take_grows old g) (λ o. (o ≡ next_for old.answers old.queue g) × (new ≡ taken old g o)) old gives.0 new gives.1 (halted_back r gives.0 gives.2 halts)
+    same_log (host_refusal old g) (take_grows old g) (λ o. (o ≡ next_for old g) × (new ≡ taken old g o)) old gives.0 new gives.1 (halted_back r gives.0 gives.2 halts)
 halted_log old (event.Net n) r new gives halts = same_log (step_refusal old n) (step_grows old n) (λ done. new ≡ stepped old n) old r new gives (halted r halts)
 
 stopped_log : (old : Boxes) (e : Event) (new : Boxes) → StopsIn plain_calls old e new → new.log ≡ old.log

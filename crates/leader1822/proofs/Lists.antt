@@ -1,11 +1,8 @@
--- Tests, lists and the ends of lists, as the mailboxes want them.
-use Rattle.std.proofs.Common.{◌≡◌, ◌<◌, ◌≤◌, arith, length, ℕ, Bool, true, false, not, ◌&&◌, ◌||◌, List, [], ◌∷◌, ◌++◌, Option, Some, None, refl, ap, sym, subst, ◌∙◌, inl, inr, ◌⊎◌, ◌==◌, if◌then◌else◌, eq-eqb}
-use Rattle.std.specs.List.{find, list_any, filter}
-use Rattle.std.proofs.lemmas.Bool.{cases_Bool}
+-- Tests of hosts and flows, and chains of tests.
+use Rattle.std.proofs.Common.{◌≡◌, ℕ, Bool, true, false, not, ◌&&◌, ◌||◌, List, Option, Some, None, refl, ap, sym, subst, ◌∙◌, inl, inr, ◌⊎◌, ◌==◌, if◌then◌else◌, eq-eqb}
 use Rattle.std.proofs.lemmas.Bool.{eqb-true}
 use Rattle.leader1822.specs.Host.{Host, same_host}
 use Rattle.leader1822.specs.Mailboxes.{same_flow, Box, Empty, Waiting, Taken, WaitsWith}
-use Rattle.leader1822.specs.Boxes.{without_first}
 use Rattle.leader1822.specs.declared.address.Flow.{Flow}
 
 -- ---- tests
@@ -51,11 +48,6 @@ same_host-true g h e =
 pub same_host-refl : (h : Host) → same_host h h ≡ true
 same_host-refl h = rw (eq-eqb h.imp h.imp refl, eq-eqb h.host h.host refl) refl
 
-pub same_host-sym : (g h : Host) → same_host g h ≡ same_host h g
-same_host-sym g h = both_ways (same_host g h) (same_host h g)
-    (λ e. let P : Host → Type 0 = λ x. same_host x g ≡ true in subst P (same_host-true g h e) (same_host-refl g))
-    (λ e. let P : Host → Type 0 = λ x. same_host x h ≡ true in subst P (same_host-true h g e) (same_host-refl h))
-
 pub same_flow-true : (f g : Flow) → same_flow f g ≡ true → f ≡ g
 same_flow-true f g e =
     let t : (same_host f.source g.source && same_host f.destination g.destination) ≡ true × (f.link.0 == g.link.0) ≡ true =
@@ -74,71 +66,6 @@ pub same_flow-sym : (f g : Flow) → same_flow f g ≡ same_flow g f
 same_flow-sym f g = both_ways (same_flow f g) (same_flow g f)
     (λ e. let P : Flow → Type 0 = λ x. same_flow x f ≡ true in subst P (same_flow-true f g e) (same_flow-refl f))
     (λ e. let P : Flow → Type 0 = λ x. same_flow x g ≡ true in subst P (same_flow-true g f e) (same_flow-refl g))
-
--- ---- lists
-
--- a list apart at its first element that passes
-pub record Apart {A : Type 0} (test : A → Bool) (xs : List A) (x : A) : Type 0 where
-  pub front : List A
-  pub back : List A
-  pub whole : xs ≡ front ++ x ∷ back
-  pub left : without_first test xs ≡ front ++ back
-  pub passes : test x ≡ true
-
-apart_more : {A : Type 0} (test : A → Bool) (y : A) (ys : List A) (x : A) → (find test ys ≡ Some x → Apart test ys x)
-    → (b : Bool) → test y ≡ b → find test (y ∷ ys) ≡ Some x → Apart test (y ∷ ys) x
-apart_more {A} test y ys x rest true e f =
-    let found : Some y ≡ Some x = rw e at f in
-    let same : y ≡ x = cc in
-    record {
-      front = [];
-      back = ys;
-      whole = ap (λ (z : A). z ∷ ys) same;
-      left = rw e refl;
-      passes = (let P : A → Type 0 = λ z. test z ≡ true in subst P same e);
-    }
-apart_more {A} test y ys x rest false e f =
-    let r : Apart test ys x = rest (rw e at f) in
-    record {
-      front = y ∷ r.front;
-      back = r.back;
-      whole = ap (λ (zs : List A). y ∷ zs) r.whole;
-      left = rw e (ap (λ (zs : List A). y ∷ zs) r.left);
-      passes = r.passes;
-    }
-
-pub apart : {A : Type 0} (test : A → Bool) (xs : List A) (x : A) → find test xs ≡ Some x → Apart test xs x
-apart test [] x e = absurd (cc)
-apart test (y ∷ ys) x e = apart_more test y ys x (apart test ys x) (test y) refl e
-
-pub never_empty : {A : Type 0} (front : List A) (x : A) (back : List A) → front ++ x ∷ back ≡ [] → ⊥
-never_empty [] x back e = cc
-never_empty (z ∷ zs) x back e = cc
-
--- one element alone
-pub record Alone {A : Type 0} (front : List A) (x : A) (back : List A) (y : A) : Type 0 where
-  pub nothing_before : front ≡ []
-  pub same : x ≡ y
-  pub nothing_behind : back ≡ []
-
-pub alone : {A : Type 0} (front : List A) (x : A) (back : List A) (y : A) → front ++ x ∷ back ≡ y ∷ [] → Alone front x back y
-alone [] x back y e = record { nothing_before = refl; same = cc; nothing_behind = cc }
-alone (z ∷ zs) x back y e = absurd (never_empty zs x back (cc))
-
--- a list without the elements that pass is no longer, and shorter where there is one
-filter_shortens : {A : Type 0} (p : A → Bool) (xs : List A) → length (filter (λ x. not (p x)) xs) ≤ length xs
-filter_shortens p [] = omega arith
-filter_shortens {A} p (x ∷ xs) = elim (cases_Bool (p x)) [
-  | inl e ↦ (let rest : length (filter (λ y. not (p y)) xs) ≤ length xs = filter_shortens p xs in rw e (omega (arith, rest)))
-  | inr e ↦ (let rest : length (filter (λ y. not (p y)) xs) ≤ length xs = filter_shortens p xs in rw e (omega (arith, rest)))
-]
-
-pub filter_shorter : {A : Type 0} (p : A → Bool) (xs : List A) → list_any p xs ≡ true → length (filter (λ x. not (p x)) xs) < length xs
-filter_shorter p [] any = absurd (cc)
-filter_shorter {A} p (x ∷ xs) any = elim (cases_Bool (p x)) [
-  | inl e ↦ (let rest : length (filter (λ y. not (p y)) xs) ≤ length xs = filter_shortens p xs in rw e (omega (arith, rest)))
-  | inr e ↦ (let rest : length (filter (λ y. not (p y)) xs) < length xs = filter_shorter p xs (rw e at any) in rw e (omega (arith, rest)))
-]
 
 -- ---- boxes
 

@@ -10,7 +10,7 @@ use Rattle.leader1822.specs.declared.crossing.Crossing.TheVariants as crossing
 use Rattle.leader1822.specs.declared.message.HostMessage.{HostMessage}
 use Rattle.leader1822.proofs.Lists.{or_false, same_flow-true, same_flow-refl}
 
--- what came below is a run too
+-- the older part of a run is a run too
 pub run_below : (hosts : List Host) (newer older : List Crossing) → IsRun hosts (newer ++ older) → IsRun hosts older
 run_below hosts [] older r = r
 run_below hosts (c ∷ newer) older r = run_below hosts newer older r.1
@@ -104,7 +104,7 @@ tells_run hosts f (crossing.Up h ∷ since) m before e r n =
 
 -- ---- the last message out
 
--- a crossing more that is no message out of the flow
+-- one more crossing, which isn't a message out of the flow
 since_more : (f : Flow) (c : Crossing) (log : List Crossing) → ((since : List Crossing) → went_out f since ≡ false → went_out f (c ∷ since) ≡ false) → SinceLastOut f log → SinceLastOut f (c ∷ log)
 since_more f c log keeps s = record {
   since = c ∷ s.since;

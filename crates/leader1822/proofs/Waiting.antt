@@ -1,13 +1,12 @@
 -- What waits of one flow, when the queue and the answers change.
-use Rattle.std.proofs.Common.{◌≡◌, Bool, true, false, ◌||◌, List, [], ◌∷◌, ◌++◌, filter, map, refl, ap, sym, ◌∙◌, if◌then◌else◌, append_assoc}
+use Rattle.std.proofs.Common.{◌≡◌, Bool, true, false, ◌||◌, List, [], ◌∷◌, ◌++◌, filter, refl, ap, sym, ◌∙◌, if◌then◌else◌, append_assoc}
 use Rattle.std.specs.List.{list_any}
-use Rattle.leader1822.specs.Host.{Host, same_host}
+use Rattle.leader1822.specs.Host.{same_host}
 use Rattle.leader1822.specs.Mailboxes.{same_flow}
-use Rattle.leader1822.specs.Boxes.{WaitingAnswer, is_of, is_about, is_rfnm, is_rfnm_about, is_running, is_from, one_if, dead_to}
+use Rattle.leader1822.specs.Boxes.{WaitingAnswer, is_of, is_about, is_rfnm, is_rfnm_about, is_from, one_if}
 use Rattle.leader1822.specs.Inside.Soundness.{texts_of, kinds_of}
 use Rattle.leader1822.specs.declared.address.Flow.{Flow}
 use Rattle.leader1822.specs.declared.crossing.Answer.{Answer}
-use Rattle.leader1822.specs.declared.crossing.Answer.TheVariants as answer
 use Rattle.leader1822.specs.declared.message.HostMessage.{HostMessage}
 use Rattle.leader1822.proofs.Lists.{same_flow-true, same_flow-refl, same_host-refl, or_false}
 
@@ -85,32 +84,9 @@ filter_all {A} true (x ∷ xs) = ap (λ (ys : List A). x ∷ ys) (filter_all tru
 filter_all false [] = refl
 filter_all false (x ∷ xs) = filter_all false xs
 
--- ---- what is told of messages that a host leaves behind
-
 pub if_same : {A : Type 0} {x : A} (b : Bool) → x ≡ (if b then x else x)
 if_same true = refl
 if_same false = refl
-
-dead_more : (hosts down : List Host) (g : Flow) (m : HostMessage) (ms : List HostMessage)
-    → kinds_of g (dead_to hosts down ms) ≡ (if is_running hosts down g.source then map (λ t. answer.Dead) (texts_of g ms) else [])
-    → (b c : Bool) → is_of g m ≡ b → is_running hosts down m.flow.source ≡ c
-    → kinds_of g (dead_to hosts down (m ∷ ms)) ≡ (if is_running hosts down g.source then map (λ t. answer.Dead) (texts_of g (m ∷ ms)) else [])
-dead_more hosts down g m ms rest true true e r =
-    let p : is_running hosts down g.source ≡ true = ap (λ (f : Flow). is_running hosts down f.source) (same_flow-true g m.flow e) ∙ r in
-    let q : kinds_of g (dead_to hosts down ms) ≡ map (λ t. answer.Dead) (texts_of g ms) = rw p at rest in
-    rw (r, e, p) (ap (λ (ks : List Answer). answer.Dead ∷ ks) q)
-dead_more hosts down g m ms rest true false e r =
-    let p : is_running hosts down g.source ≡ false = ap (λ (f : Flow). is_running hosts down f.source) (same_flow-true g m.flow e) ∙ r in
-    let q : kinds_of g (dead_to hosts down ms) ≡ [] = rw p at rest in
-    rw (r, p) q
-dead_more hosts down g m ms rest false true e r = rw (r, e) rest
-dead_more hosts down g m ms rest false false e r = rw (r, e) rest
-
-pub kinds_of-dead_to : (hosts down : List Host) (g : Flow) (ms : List HostMessage)
-    → kinds_of g (dead_to hosts down ms) ≡ (if is_running hosts down g.source then map (λ t. answer.Dead) (texts_of g ms) else [])
-kinds_of-dead_to hosts down g [] = if_same (is_running hosts down g.source)
-kinds_of-dead_to hosts down g (m ∷ ms) =
-    dead_more hosts down g m ms (kinds_of-dead_to hosts down g ms) (is_of g m) (is_running hosts down m.flow.source) refl refl
 
 -- ---- tests of what waits
 

@@ -1,7 +1,9 @@
--- The plainest carrier: each host's messages wait in one queue, and answers wait for their sources. Nothing is ever lost.
-use Rattle.std.specs.Prelude.{◌≡◌, Bool, true, false, not, List, [], ◌∷◌, ◌++◌, Option, Some, None, Result, Ok, Err, if◌then◌else◌, ◌&&◌, ◌||◌, filter, map, find, is_some}
+-- The plainest carrier: each host has a queue of the messages that wait for it, and a queue of the answers that wait for it.
+-- Nothing is ever lost.
+use Rattle.std.specs.Prelude.{◌≡◌, Bool, true, false, not, List, [], ◌∷◌, ◌++◌, Option, Some, None, Result, Ok, Err, if◌then◌else◌, ◌&&◌, ◌||◌, filter, is_some, unwrap_or}
 use Rattle.std.specs.List.{list_any}
-use Rattle.leader1822.specs.Host.{Host, same_host, is_host}
+use Rattle.std.specs.FinMap as map
+use Rattle.leader1822.specs.Host.{Host, same_host, is_host, host_cmp}
 use Rattle.leader1822.specs.Mailboxes.{same_flow}
 use Rattle.leader1822.specs.Calls.{Seen}
 use Rattle.leader1822.specs.declared.address.Flow.{Flow}
@@ -21,24 +23,54 @@ use Rattle.leader1822.specs.declared.message.HostMessage.{HostMessage}
 abbrev pub WaitingAnswer : Type 0
 WaitingAnswer = Answer × Flow
 
--- the hosts, those of them that are down, the messages and the answers that wait (oldest first), the log (newest first),
--- and whether want of memory has stopped it all
+-- a queue for each host, oldest first; a host for which nothing waits isn't in it
+abbrev pub Queues : Type 0 → Type 0
+Queues A = map.FinMap host_cmp (List A)
+
+-- the hosts, those of them that are down, the messages and the answers that wait for each, the log (newest first), and
+-- whether want of memory has stopped it all
 pub record Boxes : Type 0 where
   pub hosts : List Host
   pub down : List Host
-  pub queue : List HostMessage
-  pub answers : List WaitingAnswer
+  pub messages : Queues HostMessage
+  pub answers : Queues WaitingAnswer
   pub log : List Crossing
   pub stopped : Bool
 
 -- between hosts that are all up, with nothing on its way
 abbrev pub opening_boxes : List Host → Boxes
-opening_boxes hosts = record { hosts = hosts; down = []; queue = []; answers = []; log = []; stopped = false }
+opening_boxes hosts = record { hosts = hosts; down = []; messages = map.empty; answers = map.empty; log = []; stopped = false }
 
 abbrev pub seen_of : Boxes → Seen
 seen_of b = record { hosts = b.hosts; log = b.log; stopped = b.stopped }
 
--- ---- small words
+-- ---- queues
+
+-- what waits for a host
+abbrev pub for_host : {A : Type 0} → Queues A → Host → List A
+for_host queues h = unwrap_or (map.get queues h) []
+
+-- the same queues, except for this host's
+abbrev pub with_queue : {A : Type 0} → Queues A → Host → List A → Queues A
+with_queue queues h [] = map.remove queues h
+with_queue queues h (x ∷ xs) = map.insert queues h (x ∷ xs)
+
+-- one more, behind what waits for the host
+abbrev pub queued : {A : Type 0} → Queues A → Host → A → Queues A
+queued queues h x = with_queue queues h (for_host queues h ++ x ∷ [])
+
+abbrev pub queued_if : {A : Type 0} → Bool → Queues A → Host → A → Queues A
+queued_if test queues h x = if test then queued queues h x else queues
+
+abbrev pub first : {A : Type 0} → List A → Option A
+first [] = None
+first (x ∷ xs) = Some x
+
+abbrev pub rest : {A : Type 0} → List A → List A
+rest [] = []
+rest (x ∷ xs) = xs
+
+-- ---- words
 
 -- a host of the network that isn't down
 abbrev pub is_running : List Host → List Host → Host → Bool
@@ -68,12 +100,12 @@ abbrev pub is_rfnm_about : Flow → WaitingAnswer → Bool
 is_rfnm_about f a = is_about f a && is_rfnm a.0
 
 -- a flow is busy while its message or an answer about it waits
-abbrev pub is_busy : List HostMessage → List WaitingAnswer → Flow → Bool
-is_busy queue answers f = list_any (is_of f) queue || list_any (is_about f) answers
+abbrev pub is_busy : Boxes → Flow → Bool
+is_busy b f = list_any (is_of f) (for_host b.messages f.destination) || list_any (is_about f) (for_host b.answers f.source)
 
 -- a message of a flow is outstanding while it waits or its RFNM waits
-abbrev pub is_outstanding : List HostMessage → List WaitingAnswer → Flow → Bool
-is_outstanding queue answers f = list_any (is_of f) queue || list_any (is_rfnm_about f) answers
+abbrev pub is_outstanding : Boxes → Flow → Bool
+is_outstanding b f = list_any (is_of f) (for_host b.messages f.destination) || list_any (is_rfnm_about f) (for_host b.answers f.source)
 
 abbrev pub one_if : {A : Type 0} → Bool → A → List A
 one_if test x = if test then x ∷ [] else []
@@ -85,14 +117,14 @@ offer_refusal b f =
     if b.stopped then Some fault.Stopped
     else (if not (is_host b.hosts f.source) then Some fault.NoSuch
     else (if is_host b.down f.source then Some fault.IsDown
-    else (if is_busy b.queue b.answers f then Some fault.Blocked
+    else (if is_busy b f then Some fault.Blocked
     else None)))
 
 -- the message waits for its destination; where that is down or not there, Dead waits for the source at once
 abbrev pub offered : Boxes → HostMessage → Boxes
 offered b m = record b {
-  queue = b.queue ++ one_if (is_running b.hosts b.down m.flow.destination) m;
-  answers = b.answers ++ one_if (not (is_running b.hosts b.down m.flow.destination)) (answer.Dead, m.flow);
+  messages = queued_if (is_running b.hosts b.down m.flow.destination) b.messages m.flow.destination m;
+  answers = queued_if (not (is_running b.hosts b.down m.flow.destination)) b.answers m.flow.source (answer.Dead, m.flow);
   log = crossing.Out m ∷ b.log;
 }
 
@@ -106,11 +138,6 @@ host_refusal b h =
     else (if is_host b.down h then Some fault.IsDown
     else None))
 
--- the list without its first element that passes
-abbrev pub without_first : {A : Type 0} → (A → Bool) → List A → List A
-without_first test [] = []
-without_first test (x ∷ xs) = if test x then xs else x ∷ without_first test xs
-
 abbrev pub inbound_of : WaitingAnswer → Inbound
 inbound_of a = inbound.Answer a.0 a.1
 
@@ -120,19 +147,19 @@ answer_first (Some a) m = Some (inbound_of a)
 answer_first None (Some m) = Some (inbound.Message m)
 answer_first None None = None
 
-abbrev pub next_for : List WaitingAnswer → List HostMessage → Host → Option Inbound
-next_for answers queue h = answer_first (find (is_told_to h) answers) (find (is_to h) queue)
+abbrev pub next_for : Boxes → Host → Option Inbound
+next_for b h = answer_first (first (for_host b.answers h)) (first (for_host b.messages h))
 
 -- what is left after a host took this. After a message, an RFNM waits for its source, if that is up
 abbrev pub taken : Boxes → Host → Option Inbound → Boxes
 taken b h None = b
 taken b h (Some (inbound.Answer kind f)) = record b {
-  answers = without_first (is_told_to h) b.answers;
+  answers = with_queue b.answers h (rest (for_host b.answers h));
   log = crossing.Answer kind f ∷ b.log;
 }
 taken b h (Some (inbound.Message m)) = record b {
-  queue = without_first (is_to h) b.queue;
-  answers = b.answers ++ one_if (is_running b.hosts b.down m.flow.source) (answer.Rfnm, m.flow);
+  messages = with_queue b.messages h (rest (for_host b.messages h));
+  answers = queued_if (is_running b.hosts b.down m.flow.source) b.answers m.flow.source (answer.Rfnm, m.flow);
   log = crossing.In m ∷ b.log;
 }
 
@@ -144,29 +171,34 @@ abbrev pub give_up_refusal : Boxes → Flow → Option CarrierFault
 give_up_refusal b f =
     if b.stopped then Some fault.Stopped
     else (if not (is_host b.hosts f.source) then Some fault.NoSuch
-    else (if not (is_outstanding b.queue b.answers f) then Some fault.NotOutstanding
+    else (if not (is_outstanding b f) then Some fault.NotOutstanding
     else None))
 
--- the message leaves the queue, its RFNM is withdrawn, and Incomplete waits for the source, if that is up
+-- the message leaves its queue, its RFNM is withdrawn, and Incomplete waits for the source, if that is up
 abbrev pub given_up : Boxes → Flow → Boxes
 given_up b f = record b {
-  queue = filter (λ m. not (is_of f m)) b.queue;
-  answers = filter (λ a. not (is_rfnm_about f a)) b.answers ++ one_if (not (is_host b.down f.source)) (answer.Incomplete, f);
+  messages = with_queue b.messages f.destination (filter (λ m. not (is_of f m)) (for_host b.messages f.destination));
+  answers = with_queue b.answers f.source (filter (λ a. not (is_rfnm_about f a)) (for_host b.answers f.source) ++ one_if (not (is_host b.down f.source)) (answer.Incomplete, f));
 }
 
--- a Dead for each of these messages whose source is up
-abbrev pub dead_to : List Host → List Host → List HostMessage → List WaitingAnswer
-dead_to hosts down messages = map (λ m. (answer.Dead, m.flow)) (filter (λ m. is_running hosts down m.flow.source) messages)
+-- each of these messages gives its source Dead, if that is up
+abbrev pub told_dead : List Host → List Host → Queues WaitingAnswer → List HostMessage → Queues WaitingAnswer
+told_dead hosts down answers [] = answers
+told_dead hosts down answers (m ∷ ms) = told_dead hosts down (queued_if (is_running hosts down m.flow.source) answers m.flow.source (answer.Dead, m.flow)) ms
 
--- The answers for the host are cleared. Each message that waits for it gives its source Dead, if that is up. The host
--- itself counts as down by then
+-- What waits for the host is cleared, and each message of it gives its source Dead, if that is up. The host itself counts as
+-- down by then
 abbrev pub host_stopped : Boxes → Host → Boxes
 host_stopped b h = record b {
   down = b.down ++ h ∷ [];
-  queue = filter (λ m. not (is_to h m)) b.queue;
-  answers = filter (λ a. not (is_told_to h a)) b.answers ++ dead_to b.hosts (b.down ++ h ∷ []) (filter (is_to h) b.queue);
+  messages = with_queue b.messages h [];
+  answers = told_dead b.hosts (b.down ++ h ∷ []) (with_queue b.answers h []) (for_host b.messages h);
   log = crossing.Down h ∷ b.log;
 }
+
+-- a message from the host waits for one of the hosts
+abbrev pub is_unsettled : Boxes → Host → Bool
+is_unsettled b h = list_any (λ g. list_any (is_from h) (for_host b.messages g)) b.hosts
 
 -- a host comes up only when no message of its own waits any more
 abbrev pub host_up_refusal : Boxes → Host → Option CarrierFault
@@ -174,7 +206,7 @@ host_up_refusal b h =
     if b.stopped then Some fault.Stopped
     else (if not (is_host b.hosts h) then Some fault.NoSuch
     else (if not (is_host b.down h) then Some fault.IsUp
-    else (if list_any (is_from h) b.queue then Some fault.Unsettled
+    else (if is_unsettled b h then Some fault.Unsettled
     else None)))
 
 abbrev pub host_started : Boxes → Host → Boxes
@@ -222,11 +254,11 @@ stepped b (event.Abandon f) = b
 
 -- a taking that gives something puts it on the log
 abbrev pub take_grows : Boxes → Host → Bool
-take_grows b h = is_some (next_for b.answers b.queue h)
+take_grows b h = is_some (next_for b h)
 
 -- giving up puts Incomplete beside the answers that wait, unless the source is down or an RFNM gives way to it
 abbrev pub give_up_grows : Boxes → Flow → Bool
-give_up_grows b f = not (is_host b.down f.source) && not (list_any (is_rfnm_about f) b.answers)
+give_up_grows b f = not (is_host b.down f.source) && not (list_any (is_rfnm_about f) (for_host b.answers f.source))
 
 -- whether an event, where it is not refused, makes what is kept longer: a host that stops or starts is put on the log
 abbrev pub step_grows : Boxes → NetEvent → Bool
@@ -264,7 +296,7 @@ abbrev pub BoxesOffer : Boxes → HostMessage → Result (Unit {0}) CarrierFault
 BoxesOffer old m r new = BoxesDecided (offer_refusal old m.flow) true (λ done. new ≡ offered old m) old r new
 
 abbrev pub BoxesTake : Boxes → Host → Result (Option Inbound) CarrierFault → Boxes → Type 0
-BoxesTake old h r new = BoxesDecided (host_refusal old h) (take_grows old h) (λ o. (o ≡ next_for old.answers old.queue h) × (new ≡ taken old h o)) old r new
+BoxesTake old h r new = BoxesDecided (host_refusal old h) (take_grows old h) (λ o. (o ≡ next_for old h) × (new ≡ taken old h o)) old r new
 
 abbrev pub BoxesStep : Boxes → NetEvent → Result (Unit {0}) CarrierFault → Boxes → Type 0
 BoxesStep old e r new = BoxesDecided (step_refusal old e) (step_grows old e) (λ done. new ≡ stepped old e) old r new

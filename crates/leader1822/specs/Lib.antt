@@ -1,5 +1,6 @@
 pub mod Boxes
 pub mod Calls
+pub mod Codes
 pub mod Flow
 pub mod Host
 pub mod Inside

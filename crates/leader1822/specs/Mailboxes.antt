@@ -122,7 +122,7 @@ pub record Mail : Type 0 where
   pub destination : Bool
   pub box : Box
 
--- at first
+-- a flow at first
 abbrev pub opening_mail : List Host → Flow → Mail
 opening_mail hosts f = record { source = is_host hosts f.source; destination = is_host hosts f.destination; box = Empty }
 
@@ -136,7 +136,7 @@ MailNeeds SourceUp m = m.source ≡ false
 MailNeeds DestinationDown m = m.destination ≡ true
 MailNeeds DestinationUp m = m.destination ≡ false
 
--- what it gives
+-- what a passing changes
 abbrev pub mail_after : Passing → Mail → Mail
 mail_after (Put place text) m = record m { box = Waiting place text }
 mail_after (Fetched text) m = record m { box = fetched m.box }

@@ -35,7 +35,7 @@ pub record SinceLastOut (f : Flow) (log : List Crossing) : Type 0 where
   pub flow : message.flow ≡ f
   pub last : went_out f since ≡ false
 
--- and that message was taken exactly once since, with its text
+-- the flow's last message out was taken exactly once since, with its text
 pub record TakenOnce (f : Flow) (log : List Crossing) : Type 0 where
   pub out : SinceLastOut f log
   pub once : taken_in f out.since ≡ out.message.text ∷ []

@@ -75,6 +75,20 @@ impl HostAddr {
         }
     }
 
+    /// The first of all hosts in order: host 0 at IMP 1.
+    pub(crate) fn first() -> HostAddr
+        ensures { result ≡ record { imp = 1; host = 0 } }
+    {
+        HostAddr { imp: 1, host: 0 }
+    }
+
+    /// The last of all hosts in order: host 3 at IMP 63.
+    pub(crate) fn last() -> HostAddr
+        ensures { result ≡ record { imp = 63; host = 3 } }
+    {
+        HostAddr { imp: 63, host: 3 }
+    }
+
     /// Its number at its IMP, 0 to 3.
     pub fn host(&self) -> u8
         ensures same { result ≡ self.now.host }

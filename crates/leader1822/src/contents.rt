@@ -1,22 +1,29 @@
 //! What plain boxes hold, and the steps that their calls are made of.
 
-ghost use Rattle.std.specs.Prelude.{◌≡◌, ◌<◌, ◌++◌, [], ◌∷◌, ◌&&◌, not, true, reverse, vec_len, OnOk, OnErr, IfOk, filter, find, position};
-ghost use Rattle.std.specs.List.{list_any};
-ghost use Rattle.leader1822.specs.Host.{is_host, same_host};
+ghost use Rattle.std.specs.Prelude.{◌≡◌, ◌++◌, [], ◌∷◌, not, true, false, reverse, OnOk, OnErr, IfOk, IsSome, None, filter, length};
+ghost use Rattle.std.specs.FinMap as map;
+ghost use Rattle.leader1822.specs.Host.{InOrder, is_host, same_host};
 ghost use Rattle.leader1822.specs.Boxes as boxes;
-ghost use Rattle.leader1822.specs.Boxes.{without_first};
+ghost use Rattle.leader1822.specs.Boxes.{queued_if, told_dead};
+ghost use Rattle.leader1822.specs.Inside.Held.{IsIndexed, IsKept, is_message, is_unanswered, put, answer_if, cleared, turned, held_admitted, held_offered, held_taken, held_given_up, held_stopped, held_started};
+ghost use Rattle.leader1822.specs.Inside.Named.{IsNamed};
+ghost use Rattle.leader1822.specs.Inside.Shown.{waiting_in};
 ghost use Rattle.leader1822.specs.Inside.Soundness.{KeepsLog};
-ghost use Rattle.std.specs.Vec.{vec_capacity};
 ghost use Rattle.leader1822.specs.declared.carrier.CarrierFault.TheVariants.{OutOfMemory};
 ghost use Rattle.leader1822.specs.declared.crossing.Answer.TheVariants as answer;
 ghost use Rattle.leader1822.specs.declared.crossing.Crossing.TheVariants as crossing;
 ghost use Rattle.leader1822.specs.declared.crossing.Inbound.TheVariants as inbound;
+ghost use Rattle.leader1822.specs.declared.flows.Pending.TheVariants as pending;
 
+use crate::flows::{Flows, Pending};
+use crate::queues::Queues;
 use crate::{Answer, CarrierFault, Crossing, Flow, HostAddr, HostMessage, Inbound};
 use std::alloc::{AllocError, Global};
+use std::collections::VecDeque;
 use std::marker::Model;
 
-/// The hosts, those of them that are down, the messages and the answers that wait, and the log.
+/// The hosts, those of them that are down, the messages and the answers that wait for each, what waits of
+/// each flow, and the log.
 ///
 /// Any such value is allowed here. What holds of those that plain boxes come to, [`crate::PlainBoxes`]
 /// keeps.
@@ -24,31 +31,38 @@ use std::marker::Model;
 pub(crate) struct Contents {
     hosts: Vec<HostAddr>,
     down: Vec<HostAddr>,
-    queue: Vec<HostMessage>,
-    answers: Vec<(Answer, Flow)>,
+    messages: Queues<HostMessage>,
+    answers: Queues<(Answer, Flow)>,
+    flows: Flows,
     log: Vec<Crossing>,
     stopped: bool,
 }
 
 impl Model for Contents {
     ghost use Rattle.std.specs.Prelude.{reverse};
-    ghost use Rattle.leader1822.specs.Boxes.{Boxes};
+    ghost use Rattle.std.specs.Coded.{codes};
+    ghost use Rattle.leader1822.specs.Inside.Held.{Held};
+    ghost use Rattle.leader1822.specs.Inside.Codes.{coded_flows};
+    ghost use Rattle.leader1822.specs.Codes.{coded_queues, coded_answers};
 
-    ghost Value = { Boxes };
+    ghost Value = { Held };
 
-    ghost view = { λ b. record { hosts = b.hosts.items; down = b.down.items; queue = b.queue.items; answers = b.answers.items; log = reverse b.log.items; stopped = b.stopped } };
+    ghost coded = { Prim.hlevel (codes, coded_queues, coded_answers, coded_flows) };
+
+    ghost view = { λ b. record { boxes = record { hosts = b.hosts.items; down = b.down.items; messages = b.messages; answers = b.answers; log = reverse b.log.items; stopped = b.stopped }; flows = b.flows } };
 }
 
 impl Contents {
     /// These hosts, all up, with nothing on its way.
     pub(crate) fn new(alloc: Global, hosts: Vec<HostAddr>) -> Contents
-        ensures { result ≡ boxes.opening_boxes hosts.items }
+        ensures { result ≡ record { boxes = boxes.opening_boxes hosts.items; flows = map.empty } }
     {
         Contents {
             hosts,
             down: Vec::new(alloc),
-            queue: Vec::new(alloc),
-            answers: Vec::new(alloc),
+            messages: Queues::new(alloc),
+            answers: Queues::new(alloc),
+            flows: Flows::new(alloc),
             log: Vec::new(alloc),
             stopped: false,
         }
@@ -58,81 +72,86 @@ impl Contents {
 
     /// The hosts.
     pub(crate) fn hosts(&self) -> &[HostAddr]
-        ensures { result.now ≡ self.now.hosts }
+        ensures { result.now ≡ self.now.boxes.hosts }
     {
         &self.hosts
     }
 
     /// The log, oldest first.
     pub(crate) fn log(&self) -> &[Crossing]
-        ensures { result.now ≡ reverse self.now.log }
+        ensures { result.now ≡ reverse self.now.boxes.log }
     {
         &self.log
     }
 
     /// Whether want of memory has stopped them.
     pub(crate) fn has_stopped(&self) -> bool
-        ensures { result ≡ self.now.stopped }
+        ensures { result ≡ self.now.boxes.stopped }
     {
         self.stopped
     }
 
     /// Whether this is a host of the network.
     fn is_there(&self, host: &HostAddr) -> bool
-        ensures { result ≡ is_host self.now.hosts host.now }
+        ensures { result ≡ is_host self.now.boxes.hosts host.now }
     {
         self.hosts.contains(host)
     }
 
     /// Whether this host is down.
     fn is_down(&self, host: &HostAddr) -> bool
-        ensures { result ≡ is_host self.now.down host.now }
+        ensures { result ≡ is_host self.now.boxes.down host.now }
     {
         self.down.contains(host)
     }
 
     /// Whether this is a host of the network that isn't down.
     fn is_running(&self, host: &HostAddr) -> bool
-        ensures { result ≡ boxes.is_running self.now.hosts self.now.down host.now }
+        ensures { result ≡ boxes.is_running self.now.boxes.hosts self.now.boxes.down host.now }
     {
-        is_running(&self.hosts, &self.down, host)
+        self.is_there(host) && !self.is_down(host)
     }
 
     /// Whether a message of the flow waits.
     fn has_message(&self, flow: &Flow) -> bool
-        ensures { result ≡ list_any (boxes.is_of flow.now) self.now.queue }
+        ensures { result ≡ is_message (map.get self.now.flows flow.now) }
     {
-        self.queue.iter().any(|m| *flow == m.flow)
+        matches!(self.flows.get(flow), Some(Pending::Message))
     }
 
-    /// Whether a message of the host's own waits.
-    fn has_message_from(&self, host: &HostAddr) -> bool
-        ensures { result ≡ list_any (boxes.is_from host.now) self.now.queue }
+    /// Whether a message of the flow, or an answer about it, waits.
+    fn is_busy(&self, flow: &Flow) -> bool
+        requires { IsIndexed self.now }
+        ensures { result ≡ boxes.is_busy self.now.boxes flow.now }
     {
-        self.queue.iter().any(|m| *host == m.flow.source)
+        self.flows.get(flow).is_some()
     }
 
-    /// Whether an answer about the flow waits.
-    fn has_answer(&self, flow: &Flow) -> bool
-        ensures { result ≡ list_any (boxes.is_about flow.now) self.now.answers }
+    /// Whether a message of the flow, or an RFNM about it, waits.
+    fn is_outstanding(&self, flow: &Flow) -> bool
+        requires kept { IsKept self.now }
+        requires running { self.now.boxes.stopped ≡ false }
+        ensures { result ≡ boxes.is_outstanding self.now.boxes flow.now }
     {
-        self.answers.iter().any(|a| *flow == a.1)
+        is_unanswered(self.flows.get(flow))
     }
 
-    /// Whether an RFNM about the flow waits.
-    fn has_rfnm(&self, flow: &Flow) -> bool
-        ensures { result ≡ list_any (boxes.is_rfnm_about flow.now) self.now.answers }
+    /// Whether a message from a host that is down waits.
+    fn is_unsettled(&self, host: &HostAddr) -> bool
+        requires kept { IsKept self.now }
+        requires running { self.now.boxes.stopped ≡ false }
+        requires down { is_host self.now.boxes.down host.now ≡ true }
+        ensures { result ≡ boxes.is_unsettled self.now.boxes host.now }
     {
-        self.answers
-            .iter()
-            .any(|a| *flow == a.1 && a.0 == Answer::Rfnm)
+        self.flows.has_from(*host)
     }
 
     // ---- refusing
 
     /// Why a message of this flow may not be offered.
     pub(crate) fn offer_refusal(&self, flow: &Flow) -> Option<CarrierFault>
-        ensures { result ≡ boxes.offer_refusal self.now flow.now }
+        requires { IsKept self.now }
+        ensures { result ≡ boxes.offer_refusal self.now.boxes flow.now }
     {
         if self.stopped {
             Some(CarrierFault::Stopped)
@@ -140,7 +159,7 @@ impl Contents {
             Some(CarrierFault::NoSuch)
         } else if self.is_down(&flow.source) {
             Some(CarrierFault::IsDown)
-        } else if self.has_message(flow) || self.has_answer(flow) {
+        } else if self.is_busy(flow) {
             Some(CarrierFault::Blocked)
         } else {
             None
@@ -149,7 +168,7 @@ impl Contents {
 
     /// Why this host may not take, or may not go down.
     pub(crate) fn host_refusal(&self, host: &HostAddr) -> Option<CarrierFault>
-        ensures { result ≡ boxes.host_refusal self.now host.now }
+        ensures { result ≡ boxes.host_refusal self.now.boxes host.now }
     {
         if self.stopped {
             Some(CarrierFault::Stopped)
@@ -164,13 +183,14 @@ impl Contents {
 
     /// Why the message of this flow may not be given up.
     pub(crate) fn give_up_refusal(&self, flow: &Flow) -> Option<CarrierFault>
-        ensures { result ≡ boxes.give_up_refusal self.now flow.now }
+        requires { IsKept self.now }
+        ensures { result ≡ boxes.give_up_refusal self.now.boxes flow.now }
     {
         if self.stopped {
             Some(CarrierFault::Stopped)
         } else if !self.is_there(&flow.source) {
             Some(CarrierFault::NoSuch)
-        } else if !(self.has_message(flow) || self.has_rfnm(flow)) {
+        } else if !self.is_outstanding(flow) {
             Some(CarrierFault::NotOutstanding)
         } else {
             None
@@ -179,7 +199,8 @@ impl Contents {
 
     /// Why this host may not come up.
     pub(crate) fn host_up_refusal(&self, host: &HostAddr) -> Option<CarrierFault>
-        ensures { result ≡ boxes.host_up_refusal self.now host.now }
+        requires { IsKept self.now }
+        ensures { result ≡ boxes.host_up_refusal self.now.boxes host.now }
     {
         if self.stopped {
             Some(CarrierFault::Stopped)
@@ -187,7 +208,7 @@ impl Contents {
             Some(CarrierFault::NoSuch)
         } else if !self.is_down(host) {
             Some(CarrierFault::IsUp)
-        } else if self.has_message_from(host) {
+        } else if self.is_unsettled(host) {
             Some(CarrierFault::Unsettled)
         } else {
             None
@@ -198,34 +219,48 @@ impl Contents {
 
     /// Puts a crossing on the log.
     fn cross(&mut self, crossing: Crossing) -> Result<(), AllocError>
-        ensures ok { OnOk result (self.new ≡ record self.old { log = crossing ∷ self.old.log }) }
+        ensures ok { OnOk result (self.new ≡ record self.old { boxes = record self.old.boxes { log = crossing ∷ self.old.boxes.log } }) }
         ensures err { OnErr result (self.new ≡ self.old) }
     {
         self.log.push(crossing)?;
         Ok(())
     }
 
-    /// Puts a message behind those that wait.
+    /// Puts a message behind those that wait for its destination.
     fn enqueue(&mut self, message: HostMessage) -> Result<(), AllocError>
-        ensures ok { OnOk result (self.new ≡ record self.old { queue = self.old.queue ++ message ∷ [] }) }
-        ensures err { OnErr result (self.new ≡ self.old) }
+        ensures ok { OnOk result (self.new ≡ record { boxes = record self.old.boxes { messages = boxes.queued self.old.boxes.messages message.flow.destination message }; flows = map.insert self.old.flows message.flow pending.Message }) }
+        ensures err { OnErr result (KeepsLog self.old.boxes self.new.boxes) }
     {
-        self.queue.push(message)?;
-        Ok(())
+        let flow = message.flow;
+        let destination = flow.destination;
+        self.flows.set(flow, Pending::Message)?;
+        self.messages.push(destination, message)
     }
 
-    /// Puts an answer behind those that wait.
-    fn answer(&mut self, kind: Answer, flow: Flow) -> Result<(), AllocError>
-        ensures ok { OnOk result (self.new ≡ record self.old { answers = self.old.answers ++ (kind, flow) ∷ [] }) }
-        ensures err { OnErr result (self.new ≡ self.old) }
+    /// Puts an answer behind those that wait for the source of its flow.
+    fn answer(&mut self, kind: Answer, flow: &Flow) -> Result<(), AllocError>
+        ensures ok { OnOk result (self.new ≡ record { boxes = record self.old.boxes { answers = boxes.queued self.old.boxes.answers flow.now.source (kind, flow.now) }; flows = map.insert self.old.flows flow.now (pending.Answer kind) }) }
+        ensures err { OnErr result (KeepsLog self.old.boxes self.new.boxes) }
     {
-        self.answers.push((kind, flow))?;
+        self.flows.set(*flow, Pending::Answer(kind))?;
+        self.answers.push_answer(kind, flow)
+    }
+
+    /// Tells the source of a flow this answer in place of whatever waits of the flow, if the source is up.
+    fn tell(&mut self, kind: Answer, flow: &Flow) -> Result<(), AllocError>
+        ensures ok { OnOk result (self.new ≡ record { boxes = record self.old.boxes { answers = queued_if (boxes.is_running self.old.boxes.hosts self.old.boxes.down flow.now.source) self.old.boxes.answers flow.now.source (kind, flow.now) }; flows = put self.old.flows flow.now (answer_if (boxes.is_running self.old.boxes.hosts self.old.boxes.down flow.now.source) kind) }) }
+        ensures err { OnErr result (KeepsLog self.old.boxes self.new.boxes) }
+    {
+        if self.is_running(&flow.source) {
+            return self.answer(kind, flow);
+        }
+        self.flows.remove(flow);
         Ok(())
     }
 
     /// Stops them for want of memory.
     pub(crate) fn halt(&mut self) -> CarrierFault
-        ensures state { self.new ≡ record self.old { stopped = true } }
+        ensures state { self.new ≡ record self.old { boxes = record self.old.boxes { stopped = true } } }
         ensures fault { result ≡ OutOfMemory }
     {
         self.stopped = true;
@@ -234,77 +269,49 @@ impl Contents {
 
     /// A message waits for its destination; where that is down or not there, Dead waits for the source.
     fn admit(&mut self, message: HostMessage) -> Result<(), AllocError>
-        ensures ok { OnOk result (self.new ≡ record self.old { queue = self.old.queue ++ boxes.one_if (boxes.is_running self.old.hosts self.old.down message.flow.destination) message; answers = self.old.answers ++ boxes.one_if (not (boxes.is_running self.old.hosts self.old.down message.flow.destination)) (answer.Dead, message.flow) }) }
-        ensures err { OnErr result (self.new ≡ self.old) }
+        ensures ok { OnOk result (self.new ≡ held_admitted self.old message) }
+        ensures err { OnErr result (KeepsLog self.old.boxes self.new.boxes) }
     {
         if self.is_running(&message.flow.destination) {
             self.enqueue(message)
         } else {
-            self.answer(Answer::Dead, message.flow)
+            self.answer(Answer::Dead, &message.flow)
         }
     }
 
     /// A message goes out.
     pub(crate) fn offer(&mut self, message: HostMessage) -> Result<(), AllocError>
-        ensures ok { OnOk result (self.new ≡ boxes.offered self.old message) }
-        ensures err { OnErr result (KeepsLog self.old self.new) }
+        ensures ok { OnOk result (self.new ≡ held_offered self.old message) }
+        ensures err { OnErr result (KeepsLog self.old.boxes self.new.boxes) }
+        ensures named { IsNamed message.flow }
     {
         let copy = message.clone()?;
         self.admit(message)?;
         self.cross(Crossing::Out(copy))
     }
 
-    /// The place of the oldest answer that waits for the host.
-    fn answer_place(&self, host: &HostAddr) -> Option<usize>
-        ensures { result ≡ position (boxes.is_told_to host.now) self.now.answers }
-    {
-        self.answers.iter().position(|a| *host == a.1.source)
-    }
-
-    /// The place of the oldest message that waits for the host.
-    fn message_place(&self, host: &HostAddr) -> Option<usize>
-        ensures { result ≡ position (boxes.is_to host.now) self.now.queue }
-    {
-        self.queue.iter().position(|m| *host == m.flow.destination)
-    }
-
     /// Takes the oldest answer that waits for the host.
     fn take_answer(&mut self, host: &HostAddr) -> Option<(Answer, Flow)>
-        ensures found { result ≡ find (boxes.is_told_to host.now) self.old.answers }
-        ensures left { self.new ≡ record self.old { answers = without_first (boxes.is_told_to host.now) self.old.answers } }
+        ensures found { result ≡ boxes.first (boxes.for_host self.old.boxes.answers host.now) }
+        ensures left { self.new ≡ record self.old { boxes = record self.old.boxes { answers = boxes.with_queue self.old.boxes.answers host.now (boxes.rest (boxes.for_host self.old.boxes.answers host.now)) } } }
+        ensures unchanged { result ≡ None → self.new ≡ self.old }
     {
-        let Some(place) = self.answer_place(host) else {
-            return None;
-        };
-        Some(self.answers.remove(place))
+        self.answers.pop(host)
     }
 
     /// Takes the oldest message that waits for the host.
     fn take_message(&mut self, host: &HostAddr) -> Option<HostMessage>
-        ensures found { result ≡ find (boxes.is_to host.now) self.old.queue }
-        ensures left { self.new ≡ record self.old { queue = without_first (boxes.is_to host.now) self.old.queue } }
+        ensures found { result ≡ boxes.first (boxes.for_host self.old.boxes.messages host.now) }
+        ensures left { self.new ≡ record self.old { boxes = record self.old.boxes { messages = boxes.with_queue self.old.boxes.messages host.now (boxes.rest (boxes.for_host self.old.boxes.messages host.now)) } } }
+        ensures unchanged { result ≡ None → self.new ≡ self.old }
     {
-        let Some(place) = self.message_place(host) else {
-            return None;
-        };
-        Some(self.queue.remove(place))
-    }
-
-    /// RFNM waits for the source of a message that was taken, if that is up.
-    fn acknowledge(&mut self, flow: Flow) -> Result<(), AllocError>
-        ensures ok { OnOk result (self.new ≡ record self.old { answers = self.old.answers ++ boxes.one_if (boxes.is_running self.old.hosts self.old.down flow.source) (answer.Rfnm, flow) }) }
-        ensures err { OnErr result (self.new ≡ self.old) }
-    {
-        if self.is_running(&flow.source) {
-            self.answer(Answer::Rfnm, flow)?;
-        }
-        Ok(())
+        self.messages.pop(host)
     }
 
     /// Puts an answer that comes in on the log, and gives it.
     fn cross_answer(&mut self, kind: Answer, flow: &Flow) -> Result<Inbound, AllocError>
         ensures inbound { IfOk result (λ i. i ≡ inbound.Answer kind flow.now) }
-        ensures ok { OnOk result (self.new ≡ record self.old { log = crossing.Answer kind flow.now ∷ self.old.log }) }
+        ensures ok { OnOk result (self.new ≡ record self.old { boxes = record self.old.boxes { log = crossing.Answer kind flow.now ∷ self.old.boxes.log } }) }
         ensures err { OnErr result (self.new ≡ self.old) }
     {
         self.cross(Crossing::Answer(kind, *flow))?;
@@ -314,7 +321,7 @@ impl Contents {
     /// Puts a message that comes in on the log, and gives it.
     fn cross_in(&mut self, message: HostMessage) -> Result<Inbound, AllocError>
         ensures inbound { IfOk result (λ i. i ≡ inbound.Message message) }
-        ensures ok { OnOk result (self.new ≡ record self.old { log = crossing.In message ∷ self.old.log }) }
+        ensures ok { OnOk result (self.new ≡ record self.old { boxes = record self.old.boxes { log = crossing.In message ∷ self.old.boxes.log } }) }
         ensures err { OnErr result (self.new ≡ self.old) }
     {
         let copy = message.clone()?;
@@ -322,157 +329,162 @@ impl Contents {
         Ok(Inbound::Message(message))
     }
 
+    /// From now on nothing waits of a flow.
+    fn forget(&mut self, flow: &Flow)
+        ensures { self.new ≡ record self.old { flows = map.remove self.old.flows flow.now } }
+    {
+        self.flows.remove(flow);
+    }
+
     /// A host takes the oldest answer that waits for it, else the oldest message.
     pub(crate) fn take(&mut self, host: &HostAddr) -> Result<Option<Inbound>, AllocError>
-        ensures next { IfOk result (λ o. o ≡ boxes.next_for self.old.answers self.old.queue host.now) }
-        ensures ok { OnOk result (self.new ≡ boxes.taken self.old host.now (boxes.next_for self.old.answers self.old.queue host.now)) }
-        ensures grows { OnErr result (boxes.take_grows self.old host.now ≡ true) }
-        ensures err { OnErr result (KeepsLog self.old self.new) }
+        ensures next { IfOk result (λ o. o ≡ boxes.next_for self.old.boxes host.now) }
+        ensures ok { OnOk result (self.new ≡ held_taken self.old host.now (boxes.next_for self.old.boxes host.now)) }
+        ensures grows { OnErr result (boxes.take_grows self.old.boxes host.now ≡ true) }
+        ensures err { OnErr result (KeepsLog self.old.boxes self.new.boxes) }
     {
         if let Some((kind, flow)) = self.take_answer(host) {
+            self.forget(&flow);
             let inbound = self.cross_answer(kind, &flow)?;
             return Ok(Some(inbound));
         }
         let Some(message) = self.take_message(host) else {
             return Ok(None);
         };
-        self.acknowledge(message.flow)?;
+        self.tell(Answer::Rfnm, &message.flow)?;
         let arrived = self.cross_in(message)?;
         Ok(Some(arrived))
-    }
-
-    /// Takes the messages of a flow out of the queue.
-    fn drop_messages_of(&mut self, flow: &Flow)
-        ensures { self.new ≡ record self.old { queue = filter (λ m. not (boxes.is_of flow.now m)) self.old.queue } }
-    {
-        self.queue.retain(|m| *flow != m.flow);
     }
 
     /// Gives up the outstanding message of a flow: it and its RFNM go, and Incomplete waits for the
     /// source, if that is up.
     pub(crate) fn give_up(&mut self, flow: Flow) -> Result<(), AllocError>
-        ensures ok { OnOk result (self.new ≡ boxes.given_up self.old flow) }
-        ensures grows { OnErr result (boxes.give_up_grows self.old flow ≡ true) }
-        ensures err { OnErr result (KeepsLog self.old self.new) }
+        requires kept { IsKept self.old }
+        requires outstanding { boxes.give_up_refusal self.old.boxes flow ≡ None }
+        ensures ok { OnOk result (self.new ≡ held_given_up self.old flow) }
+        ensures grows { OnErr result (boxes.give_up_grows self.old.boxes flow ≡ true) }
+        ensures err { OnErr result (KeepsLog self.old.boxes self.new.boxes) }
     {
-        let told = !self.is_down(&flow.source);
-        self.drop_messages_of(&flow);
-        replace_rfnms(&mut self.answers, &flow, told)
+        if self.has_message(&flow) {
+            return self.give_up_message(flow);
+        }
+        self.give_up_rfnm(flow);
+        Ok(())
     }
 
-    /// Takes the messages for a host out of the queue.
-    fn drop_messages_to(&mut self, host: &HostAddr)
-        ensures { self.new ≡ record self.old { queue = filter (λ m. not (boxes.is_to host.now m)) self.old.queue } }
+    /// Gives up a message that waits.
+    fn give_up_message(&mut self, flow: Flow) -> Result<(), AllocError>
+        requires { length (filter (boxes.is_of flow) (boxes.for_host self.old.boxes.messages flow.destination)) ≡ 1 }
+        ensures ok { OnOk result (self.new ≡ record { boxes = record self.old.boxes { messages = boxes.with_queue self.old.boxes.messages flow.destination (filter (λ m. not (boxes.is_of flow m)) (boxes.for_host self.old.boxes.messages flow.destination)); answers = boxes.with_queue self.old.boxes.answers flow.source (boxes.for_host self.old.boxes.answers flow.source ++ boxes.one_if (not (is_host self.old.boxes.down flow.source)) (answer.Incomplete, flow)) }; flows = put self.old.flows flow (answer_if (not (is_host self.old.boxes.down flow.source)) answer.Incomplete) }) }
+        ensures grows { OnErr result (is_host self.old.boxes.down flow.source ≡ false) }
+        ensures err { OnErr result (KeepsLog self.old.boxes self.new.boxes) }
     {
-        self.queue.retain(|m| *host != m.flow.destination);
+        self.messages.remove_message(&flow);
+        if self.is_down(&flow.source) {
+            self.answers.stays(&flow.source);
+            self.flows.remove(&flow);
+            return Ok(());
+        }
+        self.answer(Answer::Incomplete, &flow)
     }
 
-    /// Clears the answers that wait for a host.
-    fn drop_answers_to(&mut self, host: &HostAddr)
-        ensures { self.new ≡ record self.old { answers = filter (λ a. not (boxes.is_told_to host.now a)) self.old.answers } }
+    /// Withdraws the RFNM of a flow, and puts Incomplete in its place, behind the other answers.
+    fn give_up_rfnm(&mut self, flow: Flow)
+        requires one { length (filter (boxes.is_rfnm_about flow) (boxes.for_host self.old.boxes.answers flow.source)) ≡ 1 }
+        requires known { IsSome (map.get self.old.flows flow) }
+        ensures { self.new ≡ record { boxes = record self.old.boxes { messages = boxes.with_queue self.old.boxes.messages flow.destination (boxes.for_host self.old.boxes.messages flow.destination); answers = boxes.with_queue self.old.boxes.answers flow.source (filter (λ a. not (boxes.is_rfnm_about flow a)) (boxes.for_host self.old.boxes.answers flow.source) ++ (answer.Incomplete, flow) ∷ []) }; flows = map.insert self.old.flows flow (pending.Answer answer.Incomplete) } }
     {
-        self.answers.retain(|a| *host != a.1.source);
+        self.messages.stays(&flow.destination);
+        self.answers.replace_rfnm(&flow);
+        self.flows
+            .replace(flow, Pending::Answer(Answer::Incomplete));
     }
 
     /// Puts a host among those that are down.
     fn take_down(&mut self, host: HostAddr) -> Result<(), AllocError>
-        ensures ok { OnOk result (self.new ≡ record self.old { down = self.old.down ++ host ∷ [] }) }
+        ensures ok { OnOk result (self.new ≡ record self.old { boxes = record self.old.boxes { down = self.old.boxes.down ++ host ∷ [] } }) }
         ensures err { OnErr result (self.new ≡ self.old) }
     {
         self.down.push(host)?;
         Ok(())
     }
 
-    /// Puts Dead behind the answers for each message that waits for the host and whose source is up.
-    fn tell_dead(&mut self, host: &HostAddr) -> Result<(), AllocError>
-        ensures ok { OnOk result (self.new ≡ record self.old { answers = self.old.answers ++ boxes.dead_to self.old.hosts self.old.down (filter (boxes.is_to host.now) self.old.queue) }) }
-        ensures err { OnErr result (KeepsLog self.old self.new) }
+    /// Clears the answers that wait for a host.
+    fn drop_answers(&mut self, host: &HostAddr)
+        ensures { self.new ≡ record { boxes = record self.old.boxes { answers = boxes.with_queue self.old.boxes.answers host.now [] }; flows = cleared self.old.flows (boxes.for_host self.old.boxes.answers host.now) } }
     {
-        push_dead(
-            &self.hosts,
-            &self.down,
-            &self.queue,
-            &mut self.answers,
-            host,
-        )
+        if let Some(answers) = self.answers.take(host) {
+            forget_all(&mut self.flows, answers);
+        }
+    }
+
+    /// Clears the messages that wait for a host, and gives them.
+    fn drop_messages(&mut self, host: &HostAddr) -> Option<VecDeque<HostMessage>>
+        ensures all { waiting_in result ≡ boxes.for_host self.old.boxes.messages host.now }
+        ensures left { self.new ≡ record self.old { boxes = record self.old.boxes { messages = boxes.with_queue self.old.boxes.messages host.now [] } } }
+    {
+        self.messages.take(host)
+    }
+
+    /// Gives the sources of these messages Dead, if they are up.
+    fn tell_dead(&mut self, messages: VecDeque<HostMessage>) -> Result<(), AllocError>
+        ensures ok { OnOk result (self.new ≡ record { boxes = record self.old.boxes { answers = told_dead self.old.boxes.hosts self.old.boxes.down self.old.boxes.answers messages.items }; flows = turned self.old.boxes.hosts self.old.boxes.down self.old.flows messages.items }) }
+        ensures err { OnErr result (KeepsLog self.old.boxes self.new.boxes) }
+    {
+        let mut messages = messages;
+        'messages: while let Some(message) = messages.pop_front() {
+            self.tell(Answer::Dead, &message.flow)?;
+        }
+        Ok(())
     }
 
     /// Takes a host down: what waits for it is cleared, and its messages give their sources Dead.
     pub(crate) fn stop_host(&mut self, host: HostAddr) -> Result<(), AllocError>
-        ensures ok { OnOk result (self.new ≡ boxes.host_stopped self.old host) }
-        ensures err { OnErr result (KeepsLog self.old self.new) }
+        ensures ok { OnOk result (self.new ≡ held_stopped self.old host) }
+        ensures err { OnErr result (KeepsLog self.old.boxes self.new.boxes) }
     {
         self.take_down(host)?;
-        self.drop_answers_to(&host);
-        self.tell_dead(&host)?;
-        self.drop_messages_to(&host);
+        self.drop_answers(&host);
+        if let Some(messages) = self.drop_messages(&host) {
+            self.tell_dead(messages)?;
+        }
         self.cross(Crossing::Down(host))
     }
 
     /// Takes a host off those that are down.
     fn take_up(&mut self, host: &HostAddr)
-        ensures { self.new ≡ record self.old { down = filter (λ g. not (same_host host.now g)) self.old.down } }
+        ensures { self.new ≡ record self.old { boxes = record self.old.boxes { down = filter (λ g. not (same_host host.now g)) self.old.boxes.down } } }
     {
         self.down.retain(|other| *host != *other);
     }
 
     /// Lets a host come up.
     pub(crate) fn start_host(&mut self, host: HostAddr) -> Result<(), AllocError>
-        ensures ok { OnOk result (self.new ≡ boxes.host_started self.old host) }
-        ensures err { OnErr result (KeepsLog self.old self.new) }
+        ensures ok { OnOk result (self.new ≡ held_started self.old host) }
+        ensures err { OnErr result (KeepsLog self.old.boxes self.new.boxes) }
     {
         self.take_up(&host);
         self.cross(Crossing::Up(host))
     }
 }
 
-/// Withdraws the RFNMs about a flow, and puts Incomplete behind the answers where its source is told. A
-/// withdrawn RFNM leaves room for Incomplete.
-fn replace_rfnms(
-    answers: &mut Vec<(Answer, Flow)>,
-    flow: &Flow,
-    told: bool,
-) -> Result<(), AllocError>
-    ensures ok { OnOk result (answers.new.items ≡ filter (λ a. not (boxes.is_rfnm_about flow.now a)) answers.old.items ++ boxes.one_if told (answer.Incomplete, flow.now)) }
-    ensures grows { OnErr result ((told && not (list_any (boxes.is_rfnm_about flow.now) answers.old.items)) ≡ true) }
+/// Whether what waits of a flow is a message, or the RFNM of one.
+fn is_unanswered(pending: Option<Pending>) -> bool
+    ensures { result ≡ is_unanswered pending }
 {
-    drop_rfnms_about(answers, flow);
-    if told {
-        answers.push((Answer::Incomplete, *flow))?;
+    match pending {
+        None => false,
+        Some(Pending::Message) => true,
+        Some(Pending::Answer(kind)) => kind == Answer::Rfnm,
     }
-    Ok(())
 }
 
-/// Withdraws the RFNMs about a flow. Where there was one, there is room for another answer.
-fn drop_rfnms_about(answers: &mut Vec<(Answer, Flow)>, flow: &Flow)
-    ensures left { answers.new.items ≡ filter (λ a. not (boxes.is_rfnm_about flow.now a)) answers.old.items }
-    ensures room { list_any (boxes.is_rfnm_about flow.now) answers.old.items ≡ true → vec_len answers.new < vec_capacity answers.new }
+/// From now on nothing waits of the flows of these answers.
+fn forget_all(flows: &mut Flows, answers: VecDeque<(Answer, Flow)>)
+    ensures { flows.new ≡ cleared flows.old answers.items }
 {
-    answers.retain(|a| !(*flow == a.1 && a.0 == Answer::Rfnm));
-}
-
-/// Puts Dead behind the answers for each message that waits for the host and whose source is up.
-fn push_dead(
-    hosts: &[HostAddr],
-    down: &[HostAddr],
-    queue: &[HostMessage],
-    answers: &mut Vec<(Answer, Flow)>,
-    host: &HostAddr,
-) -> Result<(), AllocError>
-    ensures { OnOk result (answers.new.items ≡ answers.old.items ++ boxes.dead_to hosts.now down.now (filter (boxes.is_to host.now) queue.now)) }
-{
-    for message in queue {
-        let flow = message.flow;
-        if *host == flow.destination && is_running(hosts, down, &flow.source) {
-            answers.push((Answer::Dead, flow))?;
-        }
+    let mut answers = answers;
+    'answers: while let Some((_, flow)) = answers.pop_front() {
+        flows.remove(&flow);
     }
-    Ok(())
-}
-
-/// Whether a host is one of these hosts and not one of those that are down.
-fn is_running(hosts: &[HostAddr], down: &[HostAddr], host: &HostAddr) -> bool
-    ensures { result ≡ boxes.is_running hosts.now down.now host.now }
-{
-    hosts.contains(host) && !down.contains(host)
 }

@@ -14,10 +14,12 @@ mod carrier;
 mod contents;
 mod crossing;
 mod event;
+mod flows;
 pub mod law;
 mod leader;
 mod message;
 mod plain_boxes;
+mod queues;
 
 pub use address::{Flow, HostAddr, ImpNumber, Link, MESSAGE_NUMBERS};
 pub use carrier::{Carrier, CarrierFault};

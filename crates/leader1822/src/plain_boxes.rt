@@ -18,14 +18,18 @@ pub struct PlainBoxes {
 }
 
 impl Model for PlainBoxes {
+    ghost use Rattle.std.specs.Coded.{codes};
     ghost use Rattle.leader1822.specs.Boxes.{Boxes};
-    ghost use Rattle.leader1822.specs.Inside.Soundness.{IsSound};
+    ghost use Rattle.leader1822.specs.Codes.{coded_queues, coded_answers};
+    ghost use Rattle.leader1822.specs.Inside.Held.{IsKept};
 
     ghost Value = { Boxes };
 
-    ghost view = { λ b. b.contents };
+    ghost coded = { Prim.hlevel (codes, coded_queues, coded_answers) };
 
-    ghost invariant = { λ b. IsSound b.contents };
+    ghost view = { λ b. b.contents.boxes };
+
+    ghost invariant = { λ b. IsKept b.contents };
 }
 
 impl PlainBoxes {

@@ -1,6 +1,5 @@
 -- Two hosts and what is on its way between them, step by step: words for worked examples.
 use Rattle.std.specs.Prelude.{ℕ, ◌+◌, Bool, not, if◌then◌else◌, List, [], ◌∷◌, ◌++◌, find, filter, map, Option, Some, None}
-use Rattle.leader1822.specs.Boxes.{without_first}
 use Rattle.leader1822.specs.Host.{Host, same_host}
 use Rattle.leader1822.specs.Flow.{same_flow}
 use Rattle.leader1822.specs.declared.address.Flow.{Flow}
@@ -26,6 +25,11 @@ pub record Talk : Type 0 where
 
 abbrev pub opening_talk : Host → Host → Talk
 opening_talk left right = record { left = opening_state left; right = opening_state right; messages = []; answers = []; place = 0; notices = [] }
+
+-- the list without its first element that passes
+abbrev pub without_first : {A : Type 0} → (A → Bool) → List A → List A
+without_first test [] = []
+without_first test (x ∷ xs) = if test x then xs else x ∷ without_first test xs
 
 -- what can happen
 pub data Step : Type 0 where

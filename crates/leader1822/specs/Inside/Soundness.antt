@@ -3,7 +3,7 @@ use Rattle.std.specs.Prelude.{◌≡◌, Bool, true, false, List, [], ◌∷◌,
 use Rattle.leader1822.specs.Host.{Host}
 use Rattle.leader1822.specs.Mailboxes.{Box, Empty, WaitsWith, Fits, IsRun, box_of, is_up}
 use Rattle.leader1822.specs.Calls.{InOrder}
-use Rattle.leader1822.specs.Boxes.{Boxes, WaitingAnswer, is_of, is_about, is_running}
+use Rattle.leader1822.specs.Boxes.{Boxes, WaitingAnswer, for_host, is_of, is_about, is_running, is_to, is_told_to}
 use Rattle.leader1822.specs.declared.address.Flow.{Flow}
 use Rattle.leader1822.specs.declared.crossing.Answer.{Answer}
 use Rattle.leader1822.specs.declared.message.HostMessage.{HostMessage}
@@ -27,14 +27,32 @@ pub record FitsBox (source destination : Bool) (texts : List (List Bool)) (kinds
   -- no answer waits for a host that is down
   pub shut : source ≡ false → kinds ≡ []
 
+-- what waits of a flow: messages for its destination, and answers for its source
+abbrev pub texts_for : Boxes → Flow → List (List Bool)
+texts_for b f = texts_of f (for_host b.messages f.destination)
+
+abbrev pub kinds_for : Boxes → Flow → List Answer
+kinds_for b f = kinds_of f (for_host b.answers f.source)
+
 abbrev pub FlowFits : Boxes → Flow → Type 0
-FlowFits b f =
-    FitsBox (is_running b.hosts b.down f.source) (is_running b.hosts b.down f.destination) (texts_of f b.queue) (kinds_of f b.answers) (box_of f b.log)
+FlowFits b f = FitsBox (is_running b.hosts b.down f.source) (is_running b.hosts b.down f.destination) (texts_for b f) (kinds_for b f) (box_of f b.log)
+
+-- these messages are for the host
+abbrev pub AreTo : Host → List HostMessage → Type 0
+AreTo h [] = Unit {0}
+AreTo h (m ∷ ms) = (is_to h m ≡ true) × AreTo h ms
+
+-- these answers are for the host
+abbrev pub AreToldTo : Host → List WaitingAnswer → Type 0
+AreToldTo h [] = Unit {0}
+AreToldTo h (a ∷ xs) = (is_told_to h a ≡ true) × AreToldTo h xs
 
 -- while nothing has stopped the boxes
 pub record Matches (b : Boxes) : Type 0 where
   pub up : (h : Host) → is_up b.hosts h b.log ≡ is_running b.hosts b.down h
   pub flows : (f : Flow) → FlowFits b f
+  pub sent : (h : Host) → AreTo h (for_host b.messages h)
+  pub told : (h : Host) → AreToldTo h (for_host b.answers h)
 
 pub record IsSound (b : Boxes) : Type 0 where
   pub ordered : InOrder b.hosts

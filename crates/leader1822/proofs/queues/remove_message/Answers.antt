@@ -1,0 +1,30 @@
+use Rattle.std.proofs.Common.{◌≡◌, ◌-◌, ◌<◌, ◌≤◌, true, false, not, Some, length, drop, filter, rules, refl, ap, sym, ◌∙◌, arith, ℕ}
+use Rattle.std.specs.List.{list_any, slice_get}
+use Rattle.std.proofs.lemmas.Option.{slice_get_read}
+use Rattle.leader1822.specs.Boxes.{is_of}
+use Rattle.leader1822.proofs.Newest.{remove_only, on_some, never_none}
+use Rattle.leader1822.proofs.queues.remove_message.Goals as goal
+
+pub returns-then-eq : goal.returns-then-eq
+returns-then-eq c =
+    let q = c.places.queue.items in
+    let k : ℕ = c.places.place - 1 in
+    let same : q ≡ c.args.queue.now.items = ap (λ d. d.items) c.places.invariant.0 in
+    let bound : c.places.place ≤ length c.args.queue.now.items = c.places.invariant.1 in
+    let long : length q ≡ length c.args.queue.now.items = ap length same in
+    let full = c.places.queue.ok.0 in
+    let some = c.places-test.true in
+    let within : k < length q = omega (arith, bound, long, some) in
+    let short : k < c.places.queue.len = omega (arith, within, full) in
+    let at : slice_get q k ≡ Some c.index.result.now = slice_get_read q (length q) k c.index.result.now refl within c.index.ensures in
+    let passes : is_of c.args.flow.now c.index.result.now ≡ true = search rules in
+    let one : length (filter (is_of c.args.flow.now) q) ≡ 1 = ap (λ xs. length (filter (is_of c.args.flow.now) xs)) same ∙ c.requires in
+    on_some c.remove.result _ (c.remove.ensures.succeeds c.index.result.now short) c.remove.ensures.items
+    ∙ remove_only (is_of c.args.flow.now) q k c.index.result.now at passes one ∙ ap (filter (λ x. not (is_of c.args.flow.now x))) same
+
+pub returns : goal.returns
+returns c =
+    let done : c.places.place ≡ 0 = omega (arith, c.places-test.false) in
+    let none : list_any (is_of c.args.flow.now) c.args.queue.now.items ≡ false =
+    ap (λ k. list_any (is_of c.args.flow.now) (drop k c.args.queue.now.items)) (sym done) ∙ c.places.invariant.2 in
+    absurd (never_none (is_of c.args.flow.now) c.args.queue.now.items c.requires none)

@@ -1,0 +1,105 @@
+-- The boxes, and a map that tells at once whether something of a flow waits.
+use Rattle.std.specs.Prelude.{◌≡◌, Bool, true, false, not, List, [], ◌∷◌, ◌++◌, Option, Some, None, IsSome, if◌then◌else◌}
+use Rattle.std.specs.FinMap as map
+use Rattle.leader1822.specs.Host.{Host, is_host}
+use Rattle.leader1822.specs.Flow.{flow_cmp}
+use Rattle.leader1822.specs.Boxes.{Boxes, WaitingAnswer, for_host, queued_if, is_rfnm, is_running, offered, taken, given_up, host_stopped, host_started}
+use Rattle.leader1822.specs.Inside.Named.{IsNamed}
+use Rattle.leader1822.specs.Inside.Soundness.{texts_for, kinds_for, IsSound}
+use Rattle.leader1822.specs.declared.address.Flow.{Flow}
+use Rattle.leader1822.specs.declared.crossing.Answer.{Answer}
+use Rattle.leader1822.specs.declared.crossing.Answer.TheVariants as answer
+use Rattle.leader1822.specs.declared.crossing.Inbound.{Inbound}
+use Rattle.leader1822.specs.declared.crossing.Inbound.TheVariants as inbound
+use Rattle.leader1822.specs.declared.flows.Pending.{Pending}
+use Rattle.leader1822.specs.declared.flows.Pending.TheVariants as pending
+use Rattle.leader1822.specs.declared.message.HostMessage.{HostMessage}
+
+-- what waits of each flow of which anything waits
+abbrev pub Flows : Type 0
+Flows = map.FinMap flow_cmp Pending
+
+pub record Held : Type 0 where
+  pub boxes : Boxes
+  pub flows : Flows
+
+-- what waits of a flow, by its texts and its answers
+abbrev pub pending_of : List (List Bool) → List Answer → Option Pending
+pending_of (t ∷ ts) kinds = Some pending.Message
+pending_of [] (k ∷ kinds) = Some (pending.Answer k)
+pending_of [] [] = None
+
+abbrev pub is_message : Option Pending → Bool
+is_message None = false
+is_message (Some pending.Message) = true
+is_message (Some (pending.Answer kind)) = false
+
+-- this waits of a flow whose message has no other answer than an RFNM yet
+abbrev pub is_unanswered : Option Pending → Bool
+is_unanswered None = false
+is_unanswered (Some pending.Message) = true
+is_unanswered (Some (pending.Answer kind)) = is_rfnm kind
+
+-- the map tells of each flow what waits
+pub record IsIndexed (c : Held) : Type 0 where
+  pub each : (f : Flow) → map.get c.flows f ≡ pending_of (texts_for c.boxes f) (kinds_for c.boxes f)
+  pub named : (f : Flow) → IsSome (map.get c.flows f) → IsNamed f
+
+pub record IsKept (c : Held) : Type 0 where
+  pub sound : IsSound c.boxes
+  pub indexed : c.boxes.stopped ≡ false → IsIndexed c
+
+-- ---- the map after each call
+
+-- this waits of the flow, or nothing
+abbrev pub put : Flows → Flow → Option Pending → Flows
+put flows f None = map.remove flows f
+put flows f (Some p) = map.insert flows f p
+
+abbrev pub answer_if : Bool → Answer → Option Pending
+answer_if test kind = if test then Some (pending.Answer kind) else None
+
+abbrev pub held_admitted : Held → HostMessage → Held
+held_admitted c m = record {
+  boxes = record c.boxes {
+    messages = queued_if (is_running c.boxes.hosts c.boxes.down m.flow.destination) c.boxes.messages m.flow.destination m;
+    answers = queued_if (not (is_running c.boxes.hosts c.boxes.down m.flow.destination)) c.boxes.answers m.flow.source (answer.Dead, m.flow);
+  };
+  flows = map.insert c.flows m.flow (if is_running c.boxes.hosts c.boxes.down m.flow.destination then pending.Message else pending.Answer answer.Dead);
+}
+
+abbrev pub held_offered : Held → HostMessage → Held
+held_offered c m = record {
+  boxes = offered c.boxes m;
+  flows = map.insert c.flows m.flow (if is_running c.boxes.hosts c.boxes.down m.flow.destination then pending.Message else pending.Answer answer.Dead);
+}
+
+abbrev pub held_taken : Held → Host → Option Inbound → Held
+held_taken c h None = c
+held_taken c h (Some (inbound.Answer kind f)) = record { boxes = taken c.boxes h (Some (inbound.Answer kind f)); flows = map.remove c.flows f }
+held_taken c h (Some (inbound.Message m)) = record {
+  boxes = taken c.boxes h (Some (inbound.Message m));
+  flows = put c.flows m.flow (answer_if (is_running c.boxes.hosts c.boxes.down m.flow.source) answer.Rfnm);
+}
+
+abbrev pub held_given_up : Held → Flow → Held
+held_given_up c f = record { boxes = given_up c.boxes f; flows = put c.flows f (answer_if (not (is_host c.boxes.down f.source)) answer.Incomplete) }
+
+-- without the flows of these answers
+abbrev pub cleared : Flows → List WaitingAnswer → Flows
+cleared flows [] = flows
+cleared flows (a ∷ answers) = cleared (map.remove flows a.1) answers
+
+-- Dead waits of the flows of these messages, where their sources run
+abbrev pub turned : List Host → List Host → Flows → List HostMessage → Flows
+turned hosts down flows [] = flows
+turned hosts down flows (m ∷ ms) = turned hosts down (put flows m.flow (answer_if (is_running hosts down m.flow.source) answer.Dead)) ms
+
+abbrev pub held_stopped : Held → Host → Held
+held_stopped c h = record {
+  boxes = host_stopped c.boxes h;
+  flows = turned c.boxes.hosts (c.boxes.down ++ h ∷ []) (cleared c.flows (for_host c.boxes.answers h)) (for_host c.boxes.messages h);
+}
+
+abbrev pub held_started : Held → Host → Held
+held_started c h = record { boxes = host_started c.boxes h; flows = c.flows }
