@@ -12,7 +12,10 @@ use Rattle.imp_channel.specs.declared.frame.Content.TheVariants as content
 use Rattle.imp_channel.specs.declared.frame.Frame.{Frame}
 use Rattle.imp_node.specs.declared.outgoing.Outgoing.{Outgoing}
 use Rattle.imp_node.specs.declared.waiting.Message.{Message}
-use Rattle.imp_node.specs.State.{State, opening, up_host}
+use Rattle.imp_node.specs.State.{State, Turn, opening, up_host}
+use Rattle.imp_node.specs.Flows.{answer_packet}
+use Rattle.imp_node.specs.Offering.{from_host}
+use Rattle.imp_node.specs.Arrival.{from_line}
 use Rattle.imp_node.specs.Pump.{pump}
 
 -- ---- flows and packets
@@ -109,3 +112,11 @@ unmarked_packet f n = record (only_packet f n) { bits = replicate 16 false }
 
 abbrev pub empty_message : Flow → HostMessage
 empty_message f = record { flow = f; text = [] }
+
+-- IMP 1 with port 0 to IMP 2, after its host 0 has sent an empty message to host 0 at IMP 2 on link 7
+abbrev pub sent : State
+sent = (from_host (imp 1 (Some from_2 ∷ []) []) (empty_message (flow (host 0 1) (host 0 2) 7))).state
+
+-- and after an RFNM to that message, with this number
+abbrev pub answered : ℕ → Turn
+answered n = from_line sent 0 (packet_frame 0 (answer_packet kind.Rfnm (flow (host 0 1) (host 0 2) 7) n))

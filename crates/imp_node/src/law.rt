@@ -4,7 +4,7 @@
 //! The functions `worked_..` state the rules by examples: each row is one that another reading of its rule
 //! would fail.
 
-ghost use Rattle.std.specs.Prelude.{◌≡◌, ℕ, ◌<◌, ◌==◌, if◌then◌else◌, true, false, List, [], ◌∷◌, ◌++◌, length, map, replicate, All, Some, None};
+ghost use Rattle.std.specs.Prelude.{◌≡◌, ℕ, ◌<◌, ◌==◌, if◌then◌else◌, true, false, List, [], ◌∷◌, ◌++◌, length, map, replicate, All, Any, ◌⊎◌, Some, None};
 ghost use Rattle.leader1822.specs.declared.address.Flow.{Flow};
 ghost use Rattle.leader1822.specs.declared.message.HostMessage.{HostMessage};
 ghost use Rattle.imp_channel.specs.Holding.{carried_by};
@@ -14,17 +14,18 @@ ghost use Rattle.leader1822.specs.declared.crossing.Answer.TheVariants as answer
 ghost use Rattle.leader1822.specs.declared.crossing.Inbound.TheVariants as inbound;
 ghost use Rattle.packetiser.specs.declared.packet.PacketKind.TheVariants as kind;
 ghost use Rattle.imp_channel.specs.declared.frame.Content.TheVariants as content;
-ghost use Rattle.imp_node.specs.Arrival.{arrival, from_line, ignored};
-ghost use Rattle.imp_node.specs.Examples.{host, flow, only_packet, first_packet, unmarked_packet, packets_to, packet_frame, ack_frame, on_port, from_1, from_2, from_3, from_3_near_2, imp, busy, messages_between, queueing, serving, slots_of, empty_message};
-ghost use Rattle.imp_node.specs.Flows.{answer_packet};
-ghost use Rattle.imp_node.specs.Lines.{route, resend, end_down, end_up};
-ghost use Rattle.imp_node.specs.Contents.{packets};
+ghost use Rattle.imp_node.specs.Arrival.{arrival, from_line, from_line_refusal, ignored};
+ghost use Rattle.imp_node.specs.Examples.{host, flow, only_packet, first_packet, unmarked_packet, packets_to, packet_frame, ack_frame, on_port, from_1, from_2, from_3, from_3_near_2, imp, busy, messages_between, queueing, serving, slots_of, empty_message, sent, answered};
+ghost use Rattle.imp_node.specs.Flows.{answer_packet, is_idle, next_number};
+ghost use Rattle.imp_node.specs.Lines.{route, resend, end_down, end_up, end_down_refusal, end_up_refusal};
+ghost use Rattle.imp_node.specs.Contents.{packets, messages};
 ghost use Rattle.imp_node.specs.Making.{Leaves, from_host_makes, from_line_makes, to_host_makes, host_down_makes};
-ghost use Rattle.imp_node.specs.Offering.{way_of, from_host, from_host_refusal};
+ghost use Rattle.imp_node.specs.Offering.{begins, way_of, way_has_room, from_host, from_host_refusal};
 ghost use Rattle.imp_node.specs.Pump.{pump};
+ghost use Rattle.imp_node.specs.Queries.{outstanding, last, packet_has, message_has, holds, is_data_between, is_message_between, holds_data, packet_touches, message_touches, touches};
 ghost use Rattle.imp_node.specs.Room.{stored_count};
 ghost use Rattle.imp_node.specs.State.{State, host_at, is_up, opening};
-ghost use Rattle.imp_node.specs.Stopping.{give_up, give_up_refusal, forget, abandon, stopped, returned, host_down, host_up};
+ghost use Rattle.imp_node.specs.Stopping.{give_up, give_up_refusal, forget_refusal, abandon_refusal, host_down_refusal, host_up_refusal, forget, abandon, stopped, returned, host_down, host_up};
 ghost use Rattle.imp_node.specs.Sides.{IsImp, sender, receiver, answers_of, ended_with, AllUnmoved, Moved};
 ghost use Rattle.imp_node.specs.Moves.{OfferMoves, ArrivalSays, FrameMoves, TellingMoves, Becomes, without_first, sender_told, source_down, destination_down, source_up, destination_up};
 ghost use Rattle.imp_node.specs.declared.waiting.Message.{Message};
@@ -122,6 +123,26 @@ pub fn sound()
     ensures abandon { (imp : ℕ) (s : State) (f : Flow) → IsImp imp s → IsImp imp (abandon s f).state }
     ensures host_down { (imp : ℕ) (s : State) (h : ℕ) → IsImp imp s → IsImp imp (host_down s h).state }
     ensures host_up { (imp : ℕ) (s : State) (h : ℕ) → IsImp imp s → IsImp imp (host_up s h).state }
+{}
+
+/// What the answers to questions say.
+pub fn asking()
+    // what an IMP holds of a message is in one of its packets or messages, and what it doesn't hold in none
+    ensures held { (s : State) (f : Flow) (n : ℕ) → holds s f n ≡ true → Any (λ p. packet_has f n p ≡ true) (packets s) ⊎ Any (λ m. message_has f n m ≡ true) (messages s) }
+    ensures not_held { (s : State) (f : Flow) (n : ℕ) → holds s f n ≡ false → All (λ p. packet_has f n p ≡ false) (packets s) × All (λ m. message_has f n m ≡ false) (messages s) }
+
+    // the same of data from one IMP to another, and of anything of a flow from or to an IMP
+    ensures data { (s : State) (from to : ℕ) → holds_data s from to ≡ true → Any (λ p. is_data_between from to p ≡ true) (packets s) ⊎ Any (λ m. is_message_between from to m ≡ true) (messages s) }
+    ensures no_data { (s : State) (from to : ℕ) → holds_data s from to ≡ false → All (λ p. is_data_between from to p ≡ false) (packets s) × All (λ m. is_message_between from to m ≡ false) (messages s) }
+    ensures touched { (s : State) (imp : ℕ) → touches s imp ≡ true → Any (λ p. packet_touches imp p ≡ true) (packets s) ⊎ Any (λ m. message_touches imp m ≡ true) (messages s) }
+    ensures untouched { (s : State) (imp : ℕ) → touches s imp ≡ false → All (λ p. packet_touches imp p ≡ false) (packets s) × All (λ m. message_touches imp m ≡ false) (messages s) }
+
+    // a message of a flow that begins is refused for want of room alone, and else begins the next number
+    ensures begins { (s : State) (m : HostMessage) → begins s m.flow ≡ true → from_host_refusal s m ≡ (if way_has_room (way_of s m.flow) s m then None else Some fault.NoRoom) }
+    ensures number { (s : State) (m : HostMessage) → begins s m.flow ≡ true → last (from_host s m).state m.flow ≡ Some (next_number s m.flow) }
+
+    // and one of a flow that does not begin is refused, or begins none
+    ensures no_number { (s : State) (m : HostMessage) → begins s m.flow ≡ false → from_host_refusal s m ≡ None → last (from_host s m).state m.flow ≡ last s m.flow }
 {}
 
 /// Waiting packets go out in order, into the lowest free channels of their routes' lines.
@@ -242,4 +263,65 @@ pub fn worked_hosts()
 
     // nothing waits: nothing is given
     ensures nothing { (to_host_refusal (serving []) 0 ≡ None) × (next_for (serving []) 0 ≡ None) × ((to_host (serving []) 0).frames ≡ []) }
+{}
+
+/// The flows of an IMP's hosts: what is begun, answered and given up. Host 0 at IMP 1 has sent an empty
+/// message to host 0 at IMP 2 on link 7.
+pub fn worked_flows()
+    // it is outstanding with number 0, and the next one is blocked
+    ensures begun { outstanding sent (flow (host 0 1) (host 0 2) 7) ≡ Some 0 }
+    ensures blocked { from_host_refusal sent (empty_message (flow (host 0 1) (host 0 2) 7)) ≡ Some fault.Blocked }
+
+    // an RFNM with its number waits for the host, and ends it; the next message is blocked until the host took it
+    ensures rfnm { (host_at (answered 0).state 0).answers ≡ record { kind = answer.Rfnm; flow = flow (host 0 1) (host 0 2) 7 } ∷ [] }
+    ensures ended { outstanding (answered 0).state (flow (host 0 1) (host 0 2) 7) ≡ None }
+    ensures waits { begins (answered 0).state (flow (host 0 1) (host 0 2) 7) ≡ false }
+    ensures again { begins (to_host (answered 0).state 0).state (flow (host 0 1) (host 0 2) 7) ≡ true }
+
+    // an RFNM with another number is acknowledged, and changes nothing of the flow
+    ensures stale { (host_at (answered 1).state 0).answers ≡ [] }
+    ensures still { outstanding (answered 1).state (flow (host 0 1) (host 0 2) 7) ≡ Some 0 }
+
+    // given up, it gives Incomplete, once
+    ensures given_up { (host_at (give_up sent (flow (host 0 1) (host 0 2) 7)).state 0).answers ≡ record { kind = answer.Incomplete; flow = flow (host 0 1) (host 0 2) 7 } ∷ [] }
+    ensures once { give_up_refusal (give_up sent (flow (host 0 1) (host 0 2) 7)).state (flow (host 0 1) (host 0 2) 7) ≡ Some fault.NotOutstanding }
+    ensures elsewhere { give_up_refusal sent (flow (host 0 2) (host 0 1) 7) ≡ Some fault.NoSuch }
+
+    // a host that is down gets no answer, and its flow is idle at once
+    ensures nobody { (host_at (give_up (host_down sent 0).state (flow (host 0 1) (host 0 2) 7)).state 0).answers ≡ [] }
+    ensures idle { is_idle (give_up (host_down sent 0).state (flow (host 0 1) (host 0 2) 7)).state (flow (host 0 1) (host 0 2) 7) ≡ true }
+{}
+
+/// The refusals of the other calls, and what an IMP says that it holds.
+pub fn worked_answers()
+    // hosts and ends of lines that are down, up or not there
+    ensures host_not_there { (to_host_refusal (serving []) 2 ≡ Some fault.NoSuch) × (host_down_refusal (serving []) 2 ≡ Some fault.NoSuch) × (host_up_refusal (serving []) 2 ≡ Some fault.NoSuch) }
+    ensures host_is_down { (to_host_refusal (host_down (serving []) 0).state 0 ≡ Some fault.IsDown) × (host_down_refusal (host_down (serving []) 0).state 0 ≡ Some fault.IsDown) }
+    ensures host_is_up { host_up_refusal (serving []) 0 ≡ Some fault.IsUp }
+    ensures end_not_there { (end_down_refusal (serving []) 1 ≡ Some fault.NoSuch) × (end_up_refusal (serving []) 1 ≡ Some fault.NoSuch) × (from_line_refusal (serving []) 1 ≡ Some fault.NoSuch) }
+    ensures end_is_down { end_down_refusal (end_down (serving []) 0).state 0 ≡ Some fault.IsDown }
+    ensures end_is_up { end_up_refusal (serving []) 0 ≡ Some fault.IsUp }
+    ensures own_numbers { (forget_refusal (serving []) 1 ≡ Some fault.NoSuch) × (forget_refusal (serving []) 2 ≡ None) }
+    ensures slots { (abandon_refusal (record (serving []) { slots = slots_of 1 }) (flow (host 0 2) (host 0 1) 0) ≡ None) × (abandon_refusal (record (serving []) { slots = slots_of 1 }) (flow (host 0 2) (host 0 1) 1) ≡ Some fault.NoSuch) }
+
+    // a taking whose RFNM has no room is refused, and a frame at an end that is down is ignored
+    ensures no_room { to_host_refusal (record (serving (messages_between (host 0 2) (host 0 1) 1)) { store = packets_to 2 32 }) 0 ≡ Some fault.NoRoom }
+    ensures ignored { from_line (end_down (serving []) 0).state 0 (packet_frame 0 (only_packet (flow (host 0 2) (host 0 1) 2) 0)) ≡ ignored (end_down (serving []) 0).state }
+
+    // packets in channels and those that wait, messages in queues: each with its flow and its number
+    ensures in_channel { (holds (busy 9) (flow (host 0 1) (host 0 2) 0) 0 ≡ true) × (holds (busy 9) (flow (host 0 1) (host 0 2) 0) 1 ≡ false) }
+    ensures waiting { (holds (busy 9) (flow (host 0 1) (host 0 2) 8) 0 ≡ true) × (holds (busy 9) (flow (host 0 1) (host 0 2) 9) 0 ≡ false) }
+    ensures in_slot { holds (record (serving []) { slots = slots_of 1 }) (flow (host 0 2) (host 0 1) 0) 0 ≡ true }
+    ensures in_queue { (holds (serving (messages_between (host 0 2) (host 0 1) 1)) (flow (host 0 2) (host 0 1) 2) 0 ≡ true) × (holds_data (serving (messages_between (host 0 2) (host 0 1) 1)) 2 1 ≡ true) }
+
+    // an answer that waits for a host does not count
+    ensures answers_aside { touches (from_host (imp 1 (None ∷ []) []) (empty_message (flow (host 0 1) (host 0 2) 7))).state 2 ≡ false }
+
+    // data from one IMP to another; an RFNM is none, but is something of a flow from or to both
+    ensures data { (holds_data (busy 1) 1 2 ≡ true) × (holds_data (busy 1) 2 1 ≡ false) × (touches (busy 1) 1 ≡ true) × (touches (busy 1) 2 ≡ true) × (touches (busy 1) 3 ≡ false) }
+    ensures no_data { (holds_data (imp 1 [] (answer_packet kind.Rfnm (flow (host 0 2) (host 0 1) 5) 0 ∷ [])) 2 1 ≡ false) × (touches (imp 1 [] (answer_packet kind.Rfnm (flow (host 0 2) (host 0 1) 5) 0 ∷ [])) 2 ≡ true) }
+
+    // what would begin a number: from a host here that is up, to an IMP with a route or a host here that is up
+    ensures begins { (begins (imp 1 (Some from_2 ∷ []) []) (flow (host 0 1) (host 0 2) 7) ≡ true) × (begins (imp 1 (Some from_2 ∷ []) []) (flow (host 0 1) (host 1 1) 7) ≡ true) }
+    ensures begins_none { (begins (imp 1 (None ∷ []) []) (flow (host 0 1) (host 0 2) 7) ≡ false) × (begins (imp 1 (Some from_2 ∷ []) []) (flow (host 0 3) (host 0 2) 7) ≡ false) × (begins (imp 1 (Some from_2 ∷ []) []) (flow (host 0 1) (host 2 1) 7) ≡ false) }
 {}
