@@ -1,7 +1,7 @@
 -- Short logs that break the promise about messages.
-use Rattle.std.proofs.Common.{◌≡◌, ◌≢◌, Bool, true, List, [], ◌∷◌, ◌++◌, ap, sym, ◌∙◌, refl, inl, inr, if◌then◌else◌}
+use Rattle.std.proofs.Common.{◌≡◌, ◌≢◌, true, List, [], ◌∷◌, ◌++◌, ap, sym, ◌∙◌, refl, inl, inr}
 use Rattle.leader1822.specs.Flow.{same_flow}
-use Rattle.leader1822.specs.Messages.{SafeMessages, SinceLastOut, TakenOnce, taken_in}
+use Rattle.leader1822.specs.Messages.{SafeMessages, TakenOnce, taken_in}
 use Rattle.leader1822.specs.declared.crossing.Answer.TheVariants as answer
 use Rattle.leader1822.specs.declared.crossing.Crossing.{Crossing}
 use Rattle.leader1822.specs.declared.crossing.Crossing.TheVariants as crossing

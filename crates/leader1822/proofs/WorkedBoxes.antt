@@ -1,5 +1,5 @@
 -- The rules of the mailboxes on short logs.
-use Rattle.std.proofs.Common.{◌≡◌, true, false, List, [], ◌∷◌, sym, ◌∙◌, if◌then◌else◌, refl}
+use Rattle.std.proofs.Common.{◌≡◌, true, false, List, [], ◌∷◌, sym, ◌∙◌, refl}
 use Rattle.leader1822.specs.Host.{Host, is_host}
 use Rattle.leader1822.specs.Mailboxes.{Empty, Waiting, Taken, box_of, IsRun}
 use Rattle.leader1822.specs.declared.crossing.Answer.{Answer}
