@@ -128,6 +128,7 @@ fn bad_bounds_are_out_of_range(rt: HostRuntime) {
     for (octets, count, length) in [
         (&[0u8] as &[u8], 9, Err(BitFault::Range)),
         (&[0], 8, Ok(8)),
+        (&[0xFF], 5, Ok(5)),
         (&[], 0, Ok(0)),
     ] {
         assert_eq!(rt; read(alloc, octets, count), length, "{count} bits");

@@ -62,6 +62,7 @@ fn leaders_from_a_host(rt: HostRuntime) {
         (&[0x00, 0xC0, 0x05, 0x00], Err(LeaderFault::BadImp)),
         (&[0x02, 0x00, 0x05, 0x00], Err(LeaderFault::UnknownType(2))),
         (&[0x02, 0x00, 0x05], Err(LeaderFault::ShortLeader)),
+        (&[0xF2, 0x42, 0x05, 0x00], Err(LeaderFault::UnknownType(2))),
         (&[0x05, 0x42, 0x05, 0x00], Err(LeaderFault::UnknownType(5))),
         (&[0x07, 0x42, 0x05, 0x00], Err(LeaderFault::UnknownType(7))),
         (&[0x09, 0x42, 0x05, 0x00], Err(LeaderFault::UnknownType(9))),

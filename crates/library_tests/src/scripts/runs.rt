@@ -3,7 +3,7 @@
 use super::*;
 
 /// Scripts over two IMPs with a host each, and their output.
-const RUNS: [(&[u8], &[u8]); 4] = [
+const RUNS: [(&[u8], &[u8]); 5] = [
     (
         b"out 0/1 0/2 5 24 414243\nout 0/1 0/2 5 8 FF\ntake 0/2\ntake 0/1\ntake 0/1\n",
         b"out 0/1 0/2 5 24\nrefused Blocked\nin 0/1 0/2 5 24\nanswer rfnm 0/1 0/2 5\nend\n",
@@ -15,6 +15,10 @@ const RUNS: [(&[u8], &[u8]); 4] = [
     (
         b"out 0/1 0/2 5 8 FF\nhostdown 0/2\nhostdown 0/2\ntake 0/1\nhostup 0/2\nout 0/1 0/2 5 8 FF\nhostdown 0/1\nhostup 0/1\ngiveup 0/1 0/2 5\nhostup 0/1\ngiveup 0/1 0/2 5\nhostup 0/2\ntake 0/3\n",
         b"out 0/1 0/2 5 8\ndown 0/2\nrefused IsDown\nanswer dead 0/1 0/2 5\nup 0/2\nout 0/1 0/2 5 8\ndown 0/1\nrefused Unsettled\nup 0/1\nrefused NotOutstanding\nrefused IsUp\nrefused NoSuch\nend\n",
+    ),
+    (
+        b"out 0/1 0/2 255 0 -\ntake 0/2\n",
+        b"out 0/1 0/2 255 0\nin 0/1 0/2 255 0\nend\n",
     ),
     (b"", b"end\n"),
 ];
