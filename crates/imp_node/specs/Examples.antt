@@ -10,7 +10,6 @@ use Rattle.packetiser.specs.Slots.{SlotState}
 use Rattle.packetiser.specs.declared.packet.PacketKind.TheVariants as kind
 use Rattle.imp_channel.specs.declared.frame.Content.TheVariants as content
 use Rattle.imp_channel.specs.declared.frame.Frame.{Frame}
-use Rattle.imp_node.specs.declared.outgoing.Outgoing.{Outgoing}
 use Rattle.imp_node.specs.declared.waiting.Message.{Message}
 use Rattle.imp_node.specs.State.{State, Turn, opening, up_host}
 use Rattle.imp_node.specs.Flows.{answer_packet}
@@ -60,9 +59,6 @@ packet_frame channel p = record { acks = no_acks; content = content.Packet (reco
 -- an acknowledgement of channel 0 alone
 abbrev pub ack_frame : Frame
 ack_frame = record { acks = true ∷ replicate 7 false; content = content.Nothing }
-
-abbrev pub on_port : ℕ → Frame → Outgoing
-on_port k f = record { port = k; frame = f }
 
 -- ---- what neighbours tell
 

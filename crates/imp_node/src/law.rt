@@ -15,9 +15,9 @@ ghost use Rattle.leader1822.specs.declared.crossing.Inbound.TheVariants as inbou
 ghost use Rattle.packetiser.specs.declared.packet.PacketKind.TheVariants as kind;
 ghost use Rattle.imp_channel.specs.declared.frame.Content.TheVariants as content;
 ghost use Rattle.imp_node.specs.Arrival.{arrival, from_line, from_line_refusal, ignored};
-ghost use Rattle.imp_node.specs.Examples.{host, flow, only_packet, first_packet, unmarked_packet, packets_to, packet_frame, ack_frame, on_port, from_1, from_2, from_3, from_3_near_2, imp, busy, messages_between, queueing, serving, slots_of, empty_message, sent, answered};
+ghost use Rattle.imp_node.specs.Examples.{host, flow, only_packet, first_packet, unmarked_packet, packets_to, packet_frame, ack_frame, from_1, from_2, from_3, from_3_near_2, imp, busy, messages_between, queueing, serving, slots_of, empty_message, sent, answered};
 ghost use Rattle.imp_node.specs.Flows.{answer_packet, is_idle, next_number};
-ghost use Rattle.imp_node.specs.Lines.{route, resend, end_down, end_up, end_down_refusal, end_up_refusal};
+ghost use Rattle.imp_node.specs.Lines.{on_port, route, resend, end_down, end_up, end_down_refusal, end_up_refusal};
 ghost use Rattle.imp_node.specs.Contents.{packets, messages};
 ghost use Rattle.imp_node.specs.Making.{Leaves, from_host_makes, from_line_makes, to_host_makes, host_down_makes};
 ghost use Rattle.imp_node.specs.Offering.{begins, way_of, way_has_room, from_host, from_host_refusal};
