@@ -1,0 +1,8 @@
+use Rattle.subnet.proofs.Openings.{opening_sound, opening_empty}
+use Rattle.subnet.proofs.law.at_the_opening.Goals as goal
+
+pub returns-clause-sound : goal.returns-clause-sound
+returns-clause-sound c = opening_sound
+
+pub returns-clause-empty : goal.returns-clause-empty
+returns-clause-empty c = opening_empty

@@ -1,0 +1,9 @@
+pub mod Net
+pub mod Alive
+pub mod Flows
+pub mod Events
+pub mod Opening
+pub mod Run
+pub mod Examples
+pub mod Making
+pub mod Sound

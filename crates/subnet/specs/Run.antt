@@ -1,0 +1,36 @@
+-- Whatever happens to a subnet: offers, takings, events and quiet rounds, of which some are refused.
+use Rattle.std.specs.Prelude.{List, [], ◌∷◌, Option, Some, None}
+use Rattle.leader1822.specs.Host.{Host}
+use Rattle.leader1822.specs.declared.carrier.CarrierFault.{CarrierFault}
+use Rattle.leader1822.specs.declared.event.NetEvent.{NetEvent}
+use Rattle.leader1822.specs.declared.message.HostMessage.{HostMessage}
+use Rattle.subnet.specs.Net.{Net}
+use Rattle.subnet.specs.Events.{offer_refusal, offer_out, take_refusal, take_in, step_refusal, stepped, quiet_round}
+
+pub data Call : Type 0 where
+  Offer : (m : HostMessage) → Call
+  Take : (h : Host) → Call
+  Happen : (e : NetEvent) → Call
+  Round : Call
+
+abbrev pub refusal : Net → Call → Option CarrierFault
+refusal n (Offer m) = offer_refusal n m
+refusal n (Take h) = take_refusal n h
+refusal n (Happen e) = step_refusal n e
+refusal n Round = None
+
+abbrev pub after : Net → Call → Net
+after n (Offer m) = offer_out n m
+after n (Take h) = take_in n h
+after n (Happen e) = stepped n e
+after n Round = quiet_round n
+
+-- a refused call changes nothing
+abbrev pub done_by : Option CarrierFault → Net → Call → Net
+done_by None n c = after n c
+done_by (Some fault) n c = n
+
+-- a list of calls, newest first
+abbrev pub ran : List Call → Net → Net
+ran [] n = n
+ran (c ∷ calls) n = done_by (refusal (ran calls n) c) (ran calls n) c

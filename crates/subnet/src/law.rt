@@ -1,0 +1,205 @@
+//! What holds of a subnet whatever its code is, as laws over the definitions. The functions here do nothing:
+//! each clause is a law.
+//!
+//! The functions `worked_..` state the rules by examples: each row is one that another reading of its rule
+//! would fail.
+
+ghost use Rattle.std.specs.Prelude.{◌≡◌, ℕ, true, false, List, [], ◌∷◌, length, Option, Some, None};
+ghost use Rattle.leader1822.specs.Host.{Host};
+ghost use Rattle.leader1822.specs.Mailboxes.{IsRun};
+ghost use Rattle.leader1822.specs.declared.address.Flow.{Flow};
+ghost use Rattle.leader1822.specs.declared.carrier.CarrierFault.TheVariants as fault;
+ghost use Rattle.leader1822.specs.declared.crossing.Crossing.TheVariants as crossing;
+ghost use Rattle.leader1822.specs.declared.event.Direction.{Direction};
+ghost use Rattle.leader1822.specs.declared.event.Direction.TheVariants as way;
+ghost use Rattle.leader1822.specs.declared.event.NetEvent.TheVariants as event;
+ghost use Rattle.leader1822.specs.declared.message.HostMessage.{HostMessage};
+ghost use Rattle.imp_node.specs.Examples.{host, flow, packets_to, ack_frame};
+ghost use Rattle.imp_node.specs.Lines.{on_port};
+ghost use Rattle.imp_node.specs.State.{opening, no_host};
+ghost use Rattle.subnet.specs.Alive.{packets, messages, is_alive};
+ghost use Rattle.subnet.specs.Events.{offer_refusal, offer_out, take_refusal, take_in, deliver, drop_frame, giving_up_refusal, forgetting_refusal, starting_refusal, imp_stopped, imp_started, quiet_round, step_refusal, stepped};
+ghost use Rattle.subnet.specs.Examples.{ours, our_message, our_queued, data_frame, rfnm_frame, passing_frame, imp_1, imp_2, wire, pair, opened_pair, begun_up_to, expecting, one_host_down, serving_ours, keeping_ours, sending_ours, past_one, full_of, triangle};
+ghost use Rattle.subnet.specs.Making.{NothingNew, OnlyNew, offer_makes, take_makes, deliver_makes, stop_makes};
+ghost use Rattle.subnet.specs.Net.{Net, imp_at, wire_at, port_of, line_from, put_one, frames_on};
+ghost use Rattle.subnet.specs.Opening.{Ends, AreHosts};
+ghost use Rattle.subnet.specs.Opening as start;
+ghost use Rattle.subnet.specs.Sound.{IsSound};
+
+/// Which packets are in a subnet, in its IMPs and in live frames, after each event: those that were in it,
+/// and those that the rule of the event makes. Nothing else comes about.
+pub fn holding()
+    // a message that goes over lines is cut into its packets, and one that is taken gives an RFNM
+    ensures offer_out { (n : Net) (m : HostMessage) → OnlyNew n (offer_makes n m) (offer_out n m) }
+    ensures take_in { (n : Net) (h : Host) → OnlyNew n (take_makes n h) (take_in n h) }
+
+    // a frame brings a packet that was alive, and a piece that can't be delivered gives Dead
+    ensures deliver { (n : Net) (l : ℕ) (d : Direction) (k : ℕ) → OnlyNew n (deliver_makes n l d k) (stepped n (event.Deliver l d k)) }
+
+    // each message that waits for a host that goes down gives Dead
+    ensures host_down { (n : Net) (h : Host) → OnlyNew n (stop_makes n h) (stepped n (event.HostDown h)) }
+
+    // no other event makes a packet
+    ensures drop { (n : Net) (l : ℕ) (d : Direction) (k : ℕ) → NothingNew n (stepped n (event.Drop l d k)) }
+    ensures resend { (n : Net) (i : ℕ) → NothingNew n (stepped n (event.Resend i)) }
+    ensures route { (n : Net) (i : ℕ) → NothingNew n (stepped n (event.Route i)) }
+    ensures end_down { (n : Net) (i l : ℕ) → NothingNew n (stepped n (event.EndDown i l)) }
+    ensures end_up { (n : Net) (i l : ℕ) → NothingNew n (stepped n (event.EndUp i l)) }
+    ensures imp_down { (n : Net) (i : ℕ) → NothingNew n (stepped n (event.ImpDown i)) }
+    ensures imp_up { (n : Net) (i : ℕ) → NothingNew n (stepped n (event.ImpUp i)) }
+    ensures host_up { (n : Net) (h : Host) → NothingNew n (stepped n (event.HostUp h)) }
+    ensures give_up { (n : Net) (f : Flow) → NothingNew n (stepped n (event.GiveUp f)) }
+    ensures forget { (n : Net) (at from : ℕ) → NothingNew n (stepped n (event.Forget at from)) }
+    ensures abandon { (n : Net) (f : Flow) → NothingNew n (stepped n (event.Abandon f)) }
+{}
+
+/// At its opening a subnet whose hosts are those of its IMPs is sound, and no packet is there.
+pub fn at_the_opening()
+    ensures sound { (hosts : List Host) (sites : List (Option ℕ)) (ends : List Ends) → AreHosts hosts sites → IsSound (start.opening hosts sites ends) }
+    ensures empty { (hosts : List Host) (sites : List (Option ℕ)) (ends : List Ends) → packets (start.opening hosts sites ends) ≡ [] }
+{}
+
+/// A sound subnet stays sound where frames are lost or sent again, ends of lines go down and come up, slots are
+/// thrown away, and messages are given up. The log of a sound subnet is a run of the mailboxes.
+pub fn sound_events()
+    ensures drop { (n : Net) (l : ℕ) (d : Direction) (k : ℕ) → IsSound n → IsSound (stepped n (event.Drop l d k)) }
+    ensures resend { (n : Net) (i : ℕ) → IsSound n → IsSound (stepped n (event.Resend i)) }
+    ensures route { (n : Net) (i : ℕ) → IsSound n → IsSound (stepped n (event.Route i)) }
+    ensures end_down { (n : Net) (i l : ℕ) → IsSound n → IsSound (stepped n (event.EndDown i l)) }
+    ensures end_up { (n : Net) (i l : ℕ) → IsSound n → IsSound (stepped n (event.EndUp i l)) }
+    ensures abandon { (n : Net) (f : Flow) → IsSound n → IsSound (stepped n (event.Abandon f)) }
+
+    // an outstanding message is given up, where that is not refused
+    ensures give_up { (n : Net) (f : Flow) → step_refusal n (event.GiveUp f) ≡ None → IsSound n → IsSound (stepped n (event.GiveUp f)) }
+    ensures run { (n : Net) → IsSound n → IsRun n.hosts n.log }
+{}
+
+/// Lines and their ends.
+pub fn worked_lines()
+    // a line takes 256 frames each way; one more is lost, whatever it carries, and those that are there stay
+    ensures last_place { length (frames_on way.Forward (wire_at (put_one (full_of 255) 1 (on_port 0 (data_frame 0))) 0)) ≡ 256 }
+    ensures full { put_one (full_of 256) 1 (on_port 0 (data_frame 0)) ≡ full_of 256 }
+
+    // the other way has places of its own
+    ensures other_way { frames_on way.Back (wire_at (put_one (full_of 256) 2 (on_port 0 (data_frame 0))) 0) ≡ data_frame 0 ∷ [] }
+
+    // an IMP's ports are its own lines in order: IMP 3 has lines 1 and 2 at ports 0 and 1
+    ensures ports { (port_of triangle 3 1 ≡ 0) × (port_of triangle 3 2 ≡ 1) × (port_of triangle 2 2 ≡ 1) }
+    ensures lines { (line_from 0 triangle 3 0 ≡ Some 1) × (line_from 0 triangle 3 1 ≡ Some 2) × (line_from 0 triangle 3 2 ≡ None) }
+
+    // and its frames go the way that leads from there
+    ensures ends { frames_on way.Back (wire_at (put_one triangle 3 (on_port 0 ack_frame)) 1) ≡ ack_frame ∷ [] }
+{}
+
+/// Frames that are delivered and dropped.
+pub fn worked_frames()
+    // a frame that is delivered stays alive, and its acknowledgement goes back
+    ensures stays { (deliver (pair (Some imp_1) (Some imp_2) (data_frame 0 ∷ []) []) 0 way.Forward 0).lines ≡ wire (data_frame 0 ∷ []) (ack_frame ∷ []) ∷ [] }
+    ensures came { messages (deliver (pair (Some imp_1) (Some imp_2) (data_frame 0 ∷ []) []) 0 way.Forward 0) ≡ our_queued 0 ∷ [] }
+
+    // a frame that is dropped is gone, and no other
+    ensures dropped { (drop_frame (pair (Some imp_1) (Some imp_2) (data_frame 0 ∷ data_frame 1 ∷ data_frame 2 ∷ []) []) 0 way.Forward 1).lines ≡ wire (data_frame 0 ∷ data_frame 2 ∷ []) [] ∷ [] }
+    ensures killed { (is_alive (pair (Some imp_1) (Some imp_2) (data_frame 1 ∷ []) []) ours 1 ≡ true) × (is_alive (drop_frame (pair (Some imp_1) (Some imp_2) (data_frame 1 ∷ []) []) 0 way.Forward 0) ours 1 ≡ false) }
+
+    // at an IMP that is down it is not refused, and ignored
+    ensures ignored { (step_refusal (pair (Some imp_1) None (data_frame 0 ∷ []) []) (event.Deliver 0 way.Forward 0) ≡ None) × (deliver (pair (Some imp_1) None (data_frame 0 ∷ []) []) 0 way.Forward 0 ≡ pair (Some imp_1) None (data_frame 0 ∷ []) []) }
+
+    // frames and lines that aren't there, in the way that is named
+    ensures no_frame { (step_refusal (pair (Some imp_1) (Some imp_2) (data_frame 0 ∷ []) []) (event.Deliver 0 way.Forward 1) ≡ Some fault.NoSuch) × (step_refusal (pair (Some imp_1) (Some imp_2) (data_frame 0 ∷ []) []) (event.Drop 0 way.Back 0) ≡ Some fault.NoSuch) × (step_refusal (pair (Some imp_1) (Some imp_2) (data_frame 0 ∷ []) []) (event.Deliver 1 way.Forward 0) ≡ Some fault.NoSuch) }
+{}
+
+/// What is alive, and the four refusals that wait for packets to die.
+pub fn worked_still_alive()
+    // data, an answer that travels and a message in a queue are alive; an answer that waits for its host is not
+    ensures alive { (is_alive (pair (Some imp_1) (Some imp_2) (data_frame 0 ∷ []) []) ours 0 ≡ true) × (is_alive (pair (Some imp_1) (Some imp_2) [] (rfnm_frame 0 ∷ [])) ours 0 ≡ true) × (is_alive (pair (Some imp_1) (Some serving_ours) [] []) ours 0 ≡ true) × (is_alive (pair (Some sending_ours) (Some imp_2) [] []) ours 0 ≡ true) }
+    ensures other { (is_alive (pair (Some imp_1) (Some serving_ours) (data_frame 0 ∷ []) []) ours 1 ≡ false) × (is_alive (pair (Some imp_1) (Some serving_ours) (data_frame 0 ∷ []) []) (flow (host 0 1) (host 0 2) 8) 0 ≡ false) }
+
+    // an offer: the number 127 before the last is alive, and the next one is not in the way
+    ensures offer_window { offer_refusal (pair (Some (begun_up_to 127)) (Some imp_2) (data_frame 0 ∷ []) []) our_message ≡ Some fault.StillAlive }
+    ensures offer_within { offer_refusal (pair (Some (begun_up_to 127)) (Some imp_2) (data_frame 1 ∷ []) []) our_message ≡ None }
+
+    // numbers go round, also where fewer were begun; an answer counts like data
+    ensures offer_round { offer_refusal (pair (Some (begun_up_to 0)) (Some imp_2) [] (rfnm_frame 129 ∷ [])) our_message ≡ Some fault.StillAlive }
+
+    // before the first number nothing is in the way
+    ensures offer_first { offer_refusal (pair (Some imp_1) (Some imp_2) (data_frame 129 ∷ []) []) our_message ≡ None }
+
+    // want of room comes behind it; and what would begin no number, without a route or from a host that is down, does not wait
+    ensures offer_full { (offer_refusal (pair (Some (record (begun_up_to 127) { store = packets_to 3 32 })) (Some imp_2) (data_frame 0 ∷ []) []) our_message ≡ Some fault.StillAlive) × (offer_refusal (pair (Some (record (begun_up_to 127) { store = packets_to 3 32 })) (Some imp_2) (data_frame 1 ∷ []) []) our_message ≡ Some fault.NoRoom) }
+    ensures offer_nowhere { offer_refusal (pair (Some (record (begun_up_to 127) { routes = record { own = 1; heard = None ∷ [] } })) (Some imp_2) (data_frame 0 ∷ []) []) our_message ≡ None }
+    ensures offer_down { offer_refusal (pair (Some (record (begun_up_to 127) { hosts = no_host ∷ no_host ∷ [] })) (Some imp_2) (data_frame 0 ∷ []) []) our_message ≡ Some fault.IsDown }
+
+    // giving up: the outstanding number is alive, as data, as an answer that travels, or in a queue
+    ensures give_up_data { giving_up_refusal (pair (Some expecting) (Some imp_2) (data_frame 0 ∷ []) []) ours ≡ Some fault.StillAlive }
+    ensures give_up_rfnm { giving_up_refusal (pair (Some expecting) (Some imp_2) [] (rfnm_frame 0 ∷ [])) ours ≡ Some fault.StillAlive }
+    ensures give_up_queued { giving_up_refusal (pair (Some expecting) (Some serving_ours) [] []) ours ≡ Some fault.StillAlive }
+    ensures give_up_other { giving_up_refusal (pair (Some expecting) (Some imp_2) (data_frame 1 ∷ []) []) ours ≡ None }
+    ensures give_up_none { giving_up_refusal (pair (Some imp_1) (Some imp_2) (data_frame 0 ∷ []) []) ours ≡ Some fault.NotOutstanding }
+
+    // forgetting, at IMP 2 what came from IMP 1: data from there is alive, on a line or in a queue. Data the other way and answers
+    // don't count
+    ensures forget_data { step_refusal (pair (Some imp_1) (Some imp_2) (data_frame 0 ∷ []) []) (event.Forget 2 1) ≡ Some fault.StillAlive }
+    ensures forget_queued { step_refusal (pair (Some imp_1) (Some serving_ours) [] []) (event.Forget 2 1) ≡ Some fault.StillAlive }
+    ensures forget_back { step_refusal (pair (Some imp_1) (Some imp_2) (data_frame 0 ∷ []) []) (event.Forget 1 2) ≡ None }
+    ensures forget_answer { step_refusal (pair (Some imp_1) (Some imp_2) [] (rfnm_frame 0 ∷ [])) (event.Forget 2 1) ≡ None }
+
+    // an IMP comes up: something of a flow from it is alive, also an answer. What others only passed over it doesn't count
+    ensures start_answer { starting_refusal (pair None (Some imp_2) [] (rfnm_frame 0 ∷ [])) 1 ≡ Some fault.StillAlive }
+    ensures start_destination { starting_refusal (pair (Some imp_1) None (data_frame 0 ∷ []) []) 2 ≡ Some fault.StillAlive }
+    ensures start_passing { starting_refusal (pair None (Some imp_2) (passing_frame ∷ []) []) 1 ≡ None }
+
+    // or another IMP keeps the number of a flow from it; what it keeps of others is not in the way
+    ensures start_kept { starting_refusal (pair None (Some keeping_ours) [] []) 1 ≡ Some fault.StillAlive }
+    ensures start_keeper { starting_refusal (pair (Some imp_1) (Some keeping_ours) [] []) 2 ≡ Some fault.IsUp }
+{}
+
+/// IMPs that stop and start.
+pub fn worked_stops()
+    // the hosts that are up go down in their order, which the log has newest first; a host that is down already does not
+    ensures downs { (imp_stopped (pair (Some imp_1) (Some imp_2) [] []) 1).log ≡ crossing.Down (host 1 1) ∷ crossing.Down (host 0 1) ∷ [] }
+    ensures one_down { (imp_stopped (pair (Some one_host_down) (Some imp_2) [] []) 1).log ≡ crossing.Down (host 1 1) ∷ [] }
+
+    // what the IMP held is gone, and frames on its lines stay
+    ensures frames_stay { (imp_stopped (pair (Some sending_ours) (Some imp_2) (data_frame 0 ∷ []) (rfnm_frame 1 ∷ [])) 1).lines ≡ wire (data_frame 0 ∷ []) (rfnm_frame 1 ∷ []) ∷ [] }
+    ensures empty { packets (imp_stopped (pair (Some sending_ours) (Some imp_2) [] []) 1) ≡ [] }
+    ensures unread { messages (imp_stopped (pair (Some imp_1) (Some serving_ours) [] []) 2) ≡ [] }
+
+    // it starts with all hosts down and all ends of lines up, having heard nothing, and nothing crosses
+    ensures started { imp_at (imp_started (pair None (Some imp_2) [] []) 1).imps 1 ≡ Some (record (opening 1 2 1) { hosts = no_host ∷ no_host ∷ [] }) }
+    ensures silent { (imp_started (pair None (Some imp_2) [] []) 1).log ≡ [] }
+{}
+
+/// Which refusal comes first.
+pub fn worked_refusals()
+    // what is still alive comes before an IMP that is down or up
+    ensures forget_down { (step_refusal (pair (Some imp_1) None (data_frame 0 ∷ []) []) (event.Forget 2 1) ≡ Some fault.StillAlive) × (step_refusal (pair (Some imp_1) None [] []) (event.Forget 2 1) ≡ Some fault.IsDown) }
+    ensures start_up { (step_refusal (pair (Some imp_1) (Some imp_2) (data_frame 0 ∷ []) []) (event.ImpUp 1) ≡ Some fault.StillAlive) × (step_refusal (pair (Some imp_1) (Some imp_2) [] []) (event.ImpUp 1) ≡ Some fault.IsUp) }
+
+    // an IMP forgets no flows of its own, also where it is down, and none of an IMP that isn't there
+    ensures forget_itself { (step_refusal (pair (Some imp_1) None [] []) (event.Forget 2 2) ≡ Some fault.NoSuch) × (step_refusal (pair (Some imp_1) (Some imp_2) [] []) (event.Forget 2 3) ≡ Some fault.NoSuch) }
+
+    // at an IMP that is down: its timers, its ends of lines and its hosts
+    ensures imp_down { (step_refusal (pair None (Some imp_2) [] []) (event.Resend 1) ≡ Some fault.IsDown) × (step_refusal (pair None (Some imp_2) [] []) (event.Route 1) ≡ Some fault.IsDown) × (step_refusal (pair None (Some imp_2) [] []) (event.ImpDown 1) ≡ Some fault.IsDown) × (step_refusal (pair None (Some imp_2) [] []) (event.EndDown 1 0) ≡ Some fault.IsDown) × (step_refusal (pair None (Some imp_2) [] []) (event.EndUp 1 0) ≡ Some fault.IsDown) }
+    ensures hosts_down { (step_refusal (pair None (Some imp_2) [] []) (event.HostUp (host 0 1)) ≡ Some fault.IsDown) × (step_refusal (pair None (Some imp_2) [] []) (event.HostDown (host 0 1)) ≡ Some fault.IsDown) × (step_refusal (pair None (Some imp_2) [] []) (event.GiveUp ours) ≡ Some fault.IsDown) × (offer_refusal (pair None (Some imp_2) [] []) our_message ≡ Some fault.IsDown) × (take_refusal (pair None (Some imp_2) [] []) (host 0 1) ≡ Some fault.IsDown) }
+
+    // it has no slot
+    ensures no_slot { step_refusal (pair (Some imp_1) None [] []) (event.Abandon ours) ≡ Some fault.NoSuch }
+
+    // what isn't there comes first, also at an IMP that is down: a line, a host, an IMP
+    ensures not_there { (step_refusal (pair None (Some imp_2) [] []) (event.EndDown 1 1) ≡ Some fault.NoSuch) × (step_refusal (pair None (Some imp_2) [] []) (event.HostUp (host 2 1)) ≡ Some fault.NoSuch) × (take_refusal (pair None (Some imp_2) [] []) (host 2 1) ≡ Some fault.NoSuch) × (step_refusal (pair None (Some imp_2) [] []) (event.GiveUp (flow (host 2 1) (host 0 2) 7)) ≡ Some fault.NoSuch) × (step_refusal (pair None (Some imp_2) [] []) (event.ImpUp 3) ≡ Some fault.NoSuch) × (step_refusal (pair None (Some imp_2) [] []) (event.Resend 0) ≡ Some fault.NoSuch) }
+
+    // a line that has no end at this IMP
+    ensures other_line { (step_refusal (record (pair (Some imp_1) (Some imp_2) [] []) { lines = triangle }) (event.EndDown 1 2) ≡ Some fault.NoSuch) × (step_refusal (record (pair (Some imp_1) (Some imp_2) [] []) { lines = triangle }) (event.EndUp 2 0) ≡ Some fault.IsUp) }
+{}
+
+/// A quiet round.
+pub fn worked_rounds()
+    // after one round from the opening each IMP has heard what the other could tell before the round, and no frame is left
+    ensures heard { quiet_round opened_pair ≡ pair (Some imp_1) (Some imp_2) [] [] }
+
+    // a packet that came before is sent again and acknowledged, and its acknowledgement is delivered in the same round
+    ensures acknowledged { (packets (quiet_round (pair (Some sending_ours) (Some past_one) [] [])) ≡ []) × ((quiet_round (pair (Some sending_ours) (Some past_one) [] [])).lines ≡ wire [] [] ∷ []) }
+
+    // an IMP that is down tells nothing, and frames to it are dropped
+    ensures down { quiet_round (pair (Some imp_1) None (data_frame 0 ∷ []) []) ≡ pair (Some imp_1) None [] [] }
+{}

@@ -1,0 +1,7 @@
+//! All IMPs and lines of the subnet.
+//!
+//! What a subnet is, what is alive in it, and what becomes of it with each event are definitions so far; there
+//! is no code yet. The module `law` states them by examples.
+#![tactic(auto)]
+
+pub mod law;
