@@ -88,6 +88,10 @@ serving_ours = record imp_2 { hosts = record up_host { queue = our_queued 0 ∷ 
 abbrev pub keeping_ours : State
 keeping_ours = record imp_2 { kept = map.insert map.empty ours 0 }
 
+-- IMP 1 that has noted number 0 of a flow between its own hosts
+abbrev pub keeping_own : State
+keeping_own = record imp_1 { kept = map.insert map.empty (flow (host 0 1) (host 1 1) 7) 0 }
+
 -- IMP 1 with our packet 0 in channel 0 of the line
 abbrev pub sending_ours : State
 sending_ours = (pump [] (imp 1 (Some from_2 ∷ []) (only_packet ours 0 ∷ []))).state

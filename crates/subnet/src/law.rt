@@ -4,7 +4,7 @@
 //! The functions `worked_..` state the rules by examples: each row is one that another reading of its rule
 //! would fail.
 
-ghost use Rattle.std.specs.Prelude.{◌≡◌, ℕ, true, false, List, [], ◌∷◌, length, Option, Some, None};
+ghost use Rattle.std.specs.Prelude.{◌≡◌, ℕ, true, false, List, [], ◌∷◌, length, replicate, Option, Some, None};
 ghost use Rattle.leader1822.specs.Host.{Host};
 ghost use Rattle.leader1822.specs.Mailboxes.{IsRun};
 ghost use Rattle.leader1822.specs.declared.address.Flow.{Flow};
@@ -14,12 +14,13 @@ ghost use Rattle.leader1822.specs.declared.event.Direction.{Direction};
 ghost use Rattle.leader1822.specs.declared.event.Direction.TheVariants as way;
 ghost use Rattle.leader1822.specs.declared.event.NetEvent.TheVariants as event;
 ghost use Rattle.leader1822.specs.declared.message.HostMessage.{HostMessage};
-ghost use Rattle.imp_node.specs.Examples.{host, flow, packets_to, ack_frame};
+ghost use Rattle.imp_channel.specs.declared.frame.Content.TheVariants as content;
+ghost use Rattle.imp_node.specs.Examples.{host, flow, packets_to, no_acks, ack_frame};
 ghost use Rattle.imp_node.specs.Lines.{on_port};
 ghost use Rattle.imp_node.specs.State.{opening, no_host};
 ghost use Rattle.subnet.specs.Alive.{packets, messages, is_alive};
-ghost use Rattle.subnet.specs.Events.{offer_refusal, offer_out, take_refusal, take_in, deliver, drop_frame, giving_up_refusal, forgetting_refusal, starting_refusal, imp_stopped, imp_started, quiet_round, step_refusal, stepped};
-ghost use Rattle.subnet.specs.Examples.{ours, our_message, our_queued, data_frame, rfnm_frame, passing_frame, imp_1, imp_2, wire, pair, opened_pair, begun_up_to, expecting, one_host_down, serving_ours, keeping_ours, sending_ours, past_one, full_of, triangle};
+ghost use Rattle.subnet.specs.Events.{offer_refusal, offer_out, take_refusal, take_in, deliver, drop_frame, giving_up_refusal, forgetting_refusal, starting_refusal, imp_stopped, imp_started, refreshed, quiet_round, step_refusal, stepped};
+ghost use Rattle.subnet.specs.Examples.{ours, our_message, our_queued, data_frame, rfnm_frame, passing_frame, imp_1, imp_2, wire, pair, opened_pair, begun_up_to, expecting, one_host_down, serving_ours, keeping_ours, keeping_own, sending_ours, past_one, full_of, triangle};
 ghost use Rattle.subnet.specs.Making.{NothingNew, OnlyNew, offer_makes, take_makes, deliver_makes, stop_makes};
 ghost use Rattle.subnet.specs.Net.{Net, imp_at, wire_at, port_of, line_from, put_one, frames_on};
 ghost use Rattle.subnet.specs.Opening.{Ends, AreHosts};
@@ -148,8 +149,9 @@ pub fn worked_still_alive()
     ensures start_destination { starting_refusal (pair (Some imp_1) None (data_frame 0 ∷ []) []) 2 ≡ Some fault.StillAlive }
     ensures start_passing { starting_refusal (pair None (Some imp_2) (passing_frame ∷ []) []) 1 ≡ None }
 
-    // or another IMP keeps the number of a flow from it; what it keeps of others is not in the way
+    // or another IMP keeps the number of a flow from it; what it keeps itself, of its own flows or of others, is not in the way
     ensures start_kept { starting_refusal (pair None (Some keeping_ours) [] []) 1 ≡ Some fault.StillAlive }
+    ensures start_own { starting_refusal (pair (Some keeping_own) (Some imp_2) [] []) 1 ≡ Some fault.IsUp }
     ensures start_keeper { starting_refusal (pair (Some imp_1) (Some keeping_ours) [] []) 2 ≡ Some fault.IsUp }
 {}
 
@@ -196,6 +198,9 @@ pub fn worked_refusals()
 pub fn worked_rounds()
     // after one round from the opening each IMP has heard what the other could tell before the round, and no frame is left
     ensures heard { quiet_round opened_pair ≡ pair (Some imp_1) (Some imp_2) [] [] }
+
+    // an IMP tells its distances before it sends again
+    ensures told_first { (refreshed (pair (Some sending_ours) None [] []) 1).lines ≡ wire (record { acks = no_acks; content = content.Routes (0 ∷ 1 ∷ replicate 14 16) } ∷ data_frame 0 ∷ []) [] ∷ [] }
 
     // a packet that came before is sent again and acknowledged, and its acknowledgement is delivered in the same round
     ensures acknowledged { (packets (quiet_round (pair (Some sending_ours) (Some past_one) [] [])) ≡ []) × ((quiet_round (pair (Some sending_ours) (Some past_one) [] [])).lines ≡ wire [] [] ∷ []) }

@@ -15,3 +15,7 @@ returns-clause-acknowledged c = (refl, refl)
 pub returns-clause-down : goal.returns-clause-down
 unfolding next_of submitted distance_to vector_of is_new oldest modulus window
 returns-clause-down c = refl
+
+pub returns-clause-told_first : goal.returns-clause-told_first
+unfolding next_of submitted distance_to vector_of is_new oldest modulus window
+returns-clause-told_first c = refl

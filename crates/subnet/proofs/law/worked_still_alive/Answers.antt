@@ -118,3 +118,7 @@ returns-clause-start_kept c = rw one_kept refl
 pub returns-clause-start_keeper : goal.returns-clause-start_keeper
 unfolding next_of submitted distance_to vector_of is_new oldest modulus window
 returns-clause-start_keeper c = rw (none_kept 2) refl
+
+pub returns-clause-start_own : goal.returns-clause-start_own
+unfolding next_of submitted distance_to vector_of is_new oldest modulus window
+returns-clause-start_own c = rw (none_kept 1) refl
