@@ -32,7 +32,7 @@ abbrev pub asked_on_link : ℕ → ℕ → Entry → Entry
 asked_on_link stamp link e = record e { partner = Some stamp; link = Some link }
 
 abbrev pub asked_with_size : ℕ → ℕ → Entry → Entry
-asked_with_size stamp size e = record e { partner = Some stamp; size = size }
+asked_with_size stamp size e = record e { partner = Some stamp; size = Some size }
 
 -- a new end
 abbrev pub joined : Entry → DeskState → DeskState

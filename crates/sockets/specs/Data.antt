@@ -1,5 +1,5 @@
 -- A message of data on a connection's link (NIC 8246, message format; ALL).
-use Rattle.std.specs.Prelude.{ℕ, ◌==◌, ◌&&◌, Bool, nat_lt, nat_le, if◌then◌else◌, List, [], ◌∷◌, ◌++◌, take, drop, Option, Some, None}
+use Rattle.std.specs.Prelude.{ℕ, ◌+◌, ◌&&◌, Bool, nat_lt, nat_le, if◌then◌else◌, List, [], ◌∷◌, ◌++◌, take, drop, Option, Some, None}
 use Rattle.bit_messages.specs.Octets.{octets_of}
 use Rattle.ncp_control.specs.Allocation as counters
 use Rattle.ncp_control.specs.DataHeader.{header_of, data_bits, header_bits}
@@ -7,7 +7,7 @@ use Rattle.ncp_control.specs.declared.allocation.Allocation.{Allocation}
 use Rattle.ncp_control.specs.declared.data_header.DataHeader.{DataHeader}
 use Rattle.sockets.specs.Commands.{Found, Unconnected, Ending, Open, receiver_on, changed}
 use Rattle.sockets.specs.Control.{error, ERRONEOUS, NOT_CONNECTED}
-use Rattle.sockets.specs.Entries.{receives_on}
+use Rattle.sockets.specs.Entries.{is_size, receives_on}
 use Rattle.sockets.specs.Pairs.{DeskState, queued, told}
 use Rattle.sockets.specs.declared.entry.Entry.{Entry}
 use Rattle.sockets.specs.declared.notice.Notice.TheVariants as notice
@@ -22,13 +22,13 @@ spent bits e = record e { allocation = counters.spent e.allocation bits }
 abbrev pub is_covered : ℕ → Allocation → Bool
 is_covered bits a = nat_lt 0 a.messages && nat_le bits a.bits
 
--- the data of a text; what follows them is ignored
+-- the data of a text stand behind its header; what follows them is ignored
 abbrev pub data_of : ℕ → List Bool → List Bool
-data_of bits text = take bits (drop 40 text)
+data_of bits text = drop 40 (take (40 + bits) text)
 
--- a text is taken where its bytes have the connection's size and what was granted covers it
-abbrev pub is_taken : Entry → DataHeader → Bool
-is_taken e h = h.size == e.size && is_covered (data_bits h) e.allocation
+-- a message is acceptable where its bytes have the connection's size and what was granted covers it
+abbrev pub is_acceptable : Entry → DataHeader → Bool
+is_acceptable e h = is_size h.size e.size && is_covered (data_bits h) e.allocation
 
 abbrev pub arrived : ℕ → Entry → ℕ → List Bool → DeskState → DeskState
 arrived link e bits text d = told (notice.Arrived e.own (data_of bits text) ∷ []) (changed (receives_on link) (spent bits) d)
@@ -39,7 +39,7 @@ text_faulted code text d = queued (error code (octets_of text)) d
 
 abbrev pub arrived_if : ℕ → Entry → List Bool → Option DataHeader → DeskState → DeskState
 arrived_if link e text None d = text_faulted ERRONEOUS text d
-arrived_if link e text (Some h) d = if is_taken e h then arrived link e (data_bits h) text d else text_faulted ERRONEOUS text d
+arrived_if link e text (Some h) d = if is_acceptable e h then arrived link e (data_bits h) text d else text_faulted ERRONEOUS text d
 
 abbrev pub data_found : ℕ → List Bool → Found → DeskState → DeskState
 data_found link text Unconnected d = text_faulted NOT_CONNECTED text d

@@ -34,6 +34,11 @@ abbrev pub is_link : ℕ → Option ℕ → Bool
 is_link link None = false
 is_link link (Some l) = l == link
 
+-- a byte size, where it is known
+abbrev pub is_size : ℕ → Option ℕ → Bool
+is_size size None = false
+is_size size (Some s) = s == size
+
 abbrev pub sends_on : ℕ → Entry → Bool
 sends_on link e = not (is_receiving e) && is_link link e.link
 
@@ -61,14 +66,14 @@ new_entry own foreign = record {
   closing = closing.No;
   partner_closed = false;
   link = None;
-  size = 0;
+  size = None;
   allocation = counters.nothing;
   bits = [];
 }
 
 -- a sending end, with bytes of this size
 abbrev pub sending_end : ℕ → ℕ → ℕ → Entry
-sending_end own foreign size = record (new_entry own foreign) { size = size }
+sending_end own foreign size = record (new_entry own foreign) { size = Some size }
 
 -- a receiving end, on this link
 abbrev pub receiving_end : ℕ → ℕ → ℕ → Entry

@@ -1,5 +1,5 @@
 -- What a user asks for (NIC 8246 leaves the calls to each host; RTS, STR, CLS, ALL, GVB, INR, INS, ECO and RST go out by them).
-use Rattle.std.specs.Prelude.{ℕ, ◌+◌, ◌%◌, ◌==◌, ◌&&◌, ◌||◌, not, Bool, nat_lt, if◌then◌else◌, List, [], ◌∷◌, ◌++◌, length, Option, Some, None, is_some}
+use Rattle.std.specs.Prelude.{ℕ, ◌+◌, ◌%◌, ◌==◌, ◌&&◌, ◌||◌, not, Bool, false, nat_lt, if◌then◌else◌, List, [], ◌∷◌, ◌++◌, length, Option, Some, None, is_some}
 use Rattle.leader1822.specs.Host.{Host}
 use Rattle.ncp_control.specs.Numbers.{is_receive_socket, is_send_socket, is_byte_size}
 use Rattle.ncp_control.specs.declared.allocation.Allocation.{Allocation}
@@ -58,10 +58,15 @@ abbrev pub on_open : (Entry → Option NcpFault) → Option (Host × Entry) → 
 on_open others None = Some fault.NoSuchSocket
 on_open others (Some found) = first_if (not (is_open found.1)) fault.NotOpen (others found.1)
 
+-- so many bits are whole bytes of a size
+abbrev pub are_bytes : ℕ → Option ℕ → Bool
+are_bytes bits None = false
+are_bytes bits (Some size) = bits % size == 0
+
 -- whole bytes; and an end that drains takes no more
 abbrev pub send_fault : ℕ → Entry → Option NcpFault
 send_fault bits e =
-    first_if (not (bits % e.size == 0)) fault.BadSize
+    first_if (not (are_bytes bits e.size)) fault.BadSize
     (first_if (was_closed e) fault.Closing None)
 
 -- what is granted at a time stays within 65535 messages and 4294967295 bits

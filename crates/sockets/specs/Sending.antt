@@ -26,13 +26,17 @@ pub data Parcel : Type 0 where
   Reset : Parcel
   Reply : Parcel
   Commands : (count : ℕ) → Parcel
-  Bytes : (entry : Entry) → (count : ℕ) → Parcel
+  Bytes : (entry : Entry) → (size : ℕ) → (count : ℕ) → Parcel
 
 -- ---- choosing
 
 -- how many bytes an end may send now: as many as wait, as are granted, and as one message holds
+abbrev pub sendable_by : Option ℕ → Entry → ℕ
+sendable_by None e = 0
+sendable_by (Some size) e = counters.may_send e.allocation size (length e.bits / size)
+
 abbrev pub sendable : Entry → ℕ
-sendable e = counters.may_send e.allocation e.size (length e.bits / e.size)
+sendable e = sendable_by e.size e
 
 -- an open sending end whose link is free, with something to send
 abbrev pub may_send : List ℕ → Entry → Bool
@@ -55,9 +59,13 @@ lowest_link (e ∷ es) = Some (lower (link_of e.link) (lowest_link es))
 abbrev pub may_send_on : List ℕ → ℕ → Entry → Bool
 may_send_on busy link e = may_send busy e && link_of e.link == link
 
+abbrev pub bytes_by : Entry → Option ℕ → Option Parcel
+bytes_by e None = None
+bytes_by e (Some size) = Some (Bytes e size (sendable e))
+
 abbrev pub bytes_of : Option Entry → Option Parcel
 bytes_of None = None
-bytes_of (Some e) = Some (Bytes e (sendable e))
+bytes_of (Some e) = bytes_by e e.size
 
 abbrev pub bytes_on : List ℕ → List Entry → Option ℕ → Option Parcel
 bytes_on busy entries None = None
@@ -97,14 +105,14 @@ next_in (p ∷ ps) = parcel_for p (next_of p.pair) (next_in ps)
 -- ---- the message
 
 abbrev pub link_for : Parcel → ℕ
-link_for (Bytes e count) = link_of e.link
+link_for (Bytes e size count) = link_of e.link
 link_for parcel = 0
 
 abbrev pub text_for : PairState → Parcel → List Bool
 text_for q Reset = control_text (spelling command.Rst)
 text_for q Reply = control_text (spelling command.Rrp)
 text_for q (Commands count) = control_text (spellings (take count q.queue))
-text_for q (Bytes e count) = data_text e.size count (take (e.size * count) e.bits)
+text_for q (Bytes e size count) = data_text size count (take (size * count) e.bits)
 
 abbrev pub message_for : Host → Peer → Parcel → HostMessage
 message_for own p parcel = record {
@@ -162,8 +170,8 @@ unqueued count d = record d { queue = drop count d.queue }
 -- the desk after a parcel with commands or bytes
 abbrev pub parcel_gone : Host → ℕ → List ℕ → Parcel → DeskState → DeskState
 parcel_gone peer stamp busy (Commands count) d = unqueued count (commands_gone peer stamp (take count d.queue) d)
-parcel_gone peer stamp busy (Bytes e count) d =
-    told (notice.Sent e.own (take (e.size * count) e.bits) ∷ []) (changed (may_send_on busy (link_of e.link)) (bits_gone (e.size * count)) d)
+parcel_gone peer stamp busy (Bytes e size count) d =
+    told (notice.Sent e.own (take (size * count) e.bits) ∷ []) (changed (may_send_on busy (link_of e.link)) (bits_gone (size * count)) d)
 parcel_gone peer stamp busy parcel d = d
 
 -- the reset after a parcel with an RST or an RRP

@@ -8,6 +8,10 @@
 //! Nothing here knows of IMPs, of the log or of programs above the sockets.
 #![tactic(auto)]
 
+mod commands;
+mod data;
+mod desk;
+mod ends;
 mod entry;
 mod fault;
 pub mod law;

@@ -1,0 +1,73 @@
+//! The connections of an opened pair, while something of the peer or of the user is done to them.
+
+ghost use Rattle.std.specs.Prelude.{◌≡◌, ◌++◌, ◌∷◌, [], OnOk};
+ghost use Rattle.ncp_control.specs.Command.{spelling};
+ghost use Rattle.sockets.specs.Control.{error};
+ghost use Rattle.sockets.specs.Commands.{faulted, joined};
+ghost use Rattle.sockets.specs.Pairs.{queued, told};
+
+use crate::Notice;
+use crate::entry::Entry;
+use crate::listener::Listener;
+use ncp_control::Command;
+use std::alloc::{AllocError, Global};
+use std::marker::Model;
+
+/// The ends of a pair's connections, the commands that wait to go out to the peer, what listens, and what
+/// the user is told.
+#[derive(Drop)]
+pub(crate) struct Desk {
+    pub entries: Vec<Entry>,
+    pub queue: Vec<Command>,
+    pub listening: Vec<Listener>,
+    pub notices: Vec<Notice>,
+}
+
+impl Model for Desk {
+    ghost use Rattle.sockets.specs.Pairs.{DeskState};
+
+    ghost Value = { DeskState };
+
+    ghost view = { λ d. record { entries = d.entries.items; queue = d.queue.items; listening = d.listening.items; notices = d.notices.items } };
+}
+
+impl Desk {
+    /// Puts a command behind those that wait.
+    pub(crate) fn queue(&mut self, command: Command) -> Result<(), AllocError>
+        ensures { OnOk result (self.new ≡ queued command self.old) }
+    {
+        self.queue.push(command)?;
+        Ok(())
+    }
+
+    /// Tells the user something.
+    pub(crate) fn tell(&mut self, notice: Notice) -> Result<(), AllocError>
+        ensures { OnOk result (self.new ≡ told (notice ∷ []) self.old) }
+    {
+        self.notices.push(notice)?;
+        Ok(())
+    }
+
+    /// Adds an end.
+    pub(crate) fn join(&mut self, entry: Entry) -> Result<(), AllocError>
+        ensures { OnOk result (self.new ≡ joined entry self.old) }
+    {
+        self.entries.push(entry)?;
+        Ok(())
+    }
+
+    /// An ERR about a command will go out.
+    pub(crate) fn fault(
+        &mut self,
+        alloc: Global,
+        code: u8,
+        command: &Command,
+    ) -> Result<(), AllocError>
+        ensures { OnOk result (self.new ≡ faulted code command.now self.old) }
+    {
+        let Ok(octets) = command.write(alloc) else {
+            return Err(AllocError);
+        };
+        self.queue(Command::error(code, octets.as_slice()))
+    }
+}
