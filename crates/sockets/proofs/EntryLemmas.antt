@@ -1,5 +1,5 @@
 -- The first element of a list that passes a test, found by its place and changed there.
-use Rattle.std.proofs.Common.{◌≡◌, ℕ, ◌+◌, ◌<◌, ◌≤◌, Bool, true, false, cond, List, [], ◌∷◌, length, Option, Some, None, MatchOption, slice_set, slice_index_or, refl, ap, sym, ◌∙◌, arith, suc, zero, nat_lt}
+use Rattle.std.proofs.Common.{◌≡◌, ℕ, ◌+◌, ◌<◌, ◌≤◌, Bool, true, false, cond, List, [], ◌∷◌, length, Option, Some, None, MatchOption, slice_set, slice_index_or, refl, ap, sym, ◌∙◌, arith, suc, nat_lt}
 use Rattle.std.specs.List.{position_or_len, position, find, slice_get}
 use Rattle.std.proofs.lemmas.List.Folds.{find_at}
 use Rattle.std.proofs.lemmas.List.{get_or_default}

@@ -11,8 +11,8 @@ ghost use Rattle.sockets.specs.Pairs.{told, settled, swept};
 use crate::Notice;
 use crate::desk::Desk;
 use crate::ends::{
-    ask_on_link, ask_with_size, close, close_by_partner, give_back, grant, place, queue_closings,
-    receiver_place, sender_place, sweep, take_back, tell_endings,
+    ask_on_link, ask_with_size, close, close_by_partner, free_link, give_back, grant, place,
+    queue_closings, receiver_place, sender_place, sweep, take_back, tell_endings,
 };
 use crate::entry::Entry;
 use crate::listener::{listener_on, stop_listening};
@@ -156,6 +156,62 @@ impl Desk {
             send: own,
             receive: foreign,
             size,
+        })
+    }
+
+    /// An STR is taken: the peer will send, with bytes of a size that it names.
+    fn take_str(
+        &mut self,
+        alloc: Global,
+        peer: HostAddr,
+        own: ReceiveSocket,
+        foreign: SendSocket,
+        size: ByteSize,
+        stamp: usize,
+    ) -> Result<(), AllocError>
+        ensures { OnOk result (self.new ≡ commands.str_taken peer own foreign size stamp self.old) }
+    {
+        match place(&self.entries, own.number(), foreign.number()) {
+            Some(at) if self.entries[at].partner.is_some() => {
+                let command = Command::Str {
+                    send: foreign,
+                    receive: own,
+                    size,
+                };
+                self.fault(alloc, ERRONEOUS, &command)
+            }
+            Some(_) => self.match_str(peer, own.number(), foreign.number(), stamp, size),
+            None => self.hear_str(alloc, own, foreign, size, stamp),
+        }
+    }
+
+    /// An STR that no end waits for: a socket that listens answers where a link is free, and else it is
+    /// refused.
+    fn hear_str(
+        &mut self,
+        alloc: Global,
+        own: ReceiveSocket,
+        foreign: SendSocket,
+        size: ByteSize,
+        stamp: usize,
+    ) -> Result<(), AllocError>
+        ensures { OnOk result (self.new ≡ commands.str_heard own foreign size stamp (listener_on own self.old.listening) self.old) }
+    {
+        let Some(_) = listener_on(&self.listening, own.number()) else {
+            return self.refuse(alloc, own.number(), foreign.number(), stamp);
+        };
+        let Some(link) = free_link(&self.entries) else {
+            return self.refuse(alloc, own.number(), foreign.number(), stamp);
+        };
+        let mut entry = Entry::receiving(alloc, own.number(), foreign.number(), link);
+        entry.partner = Some(stamp);
+        entry.size = Some(size);
+        stop_listening(&mut self.listening, own.number());
+        self.join(entry)?;
+        self.queue(Command::Rts {
+            receive: own,
+            send: foreign,
+            link,
         })
     }
 }
@@ -349,6 +405,57 @@ impl Desk {
         }
         let socket = self.entries[at].own;
         self.tell(Notice::Interrupt { socket })
+    }
+}
+
+// ---- all commands
+
+impl Desk {
+    /// A command of the peer is taken. RST and RRP are no matter of connections.
+    pub(crate) fn take(
+        &mut self,
+        alloc: Global,
+        peer: HostAddr,
+        busy: &[u8],
+        stamp: usize,
+        command: Command,
+    ) -> Result<(), AllocError>
+        ensures { OnOk result (self.new ≡ commands.taken peer busy.now stamp command self.old) }
+    {
+        match command {
+            Command::Nop | Command::Rst | Command::Rrp => Ok(()),
+            Command::Rts {
+                receive,
+                send,
+                link,
+            } => { self.take_rts(alloc, peer, send, receive, link, stamp) }
+            Command::Str {
+                send,
+                receive,
+                size,
+            } => { self.take_str(alloc, peer, receive, send, size, stamp) }
+            Command::Cls { own, foreign } => self.take_cls(alloc, peer, busy, foreign, own),
+            Command::All {
+                link,
+                messages,
+                bits,
+            } => self.take_all(alloc, link, messages, bits),
+            Command::Gvb {
+                link,
+                messages,
+                bits,
+            } => self.take_gvb(alloc, link, messages, bits),
+            Command::Ret {
+                link,
+                messages,
+                bits,
+            } => self.take_ret(alloc, link, messages, bits),
+            Command::Inr { link } => self.take_inr(alloc, link),
+            Command::Ins { link } => self.take_ins(alloc, link),
+            Command::Eco { octet } => self.queue(Command::Erp { octet }),
+            Command::Erp { octet } => self.tell(Notice::Echoed { peer, octet }),
+            Command::Err { code, detail } => self.tell(Notice::RemoteError { peer, code, detail }),
+        }
     }
 }
 

@@ -1,11 +1,12 @@
 //! The ends of a pair's connections, found and changed.
 
-ghost use Rattle.std.specs.Prelude.{◌≡◌, ◌++◌, OnOk, map, filter, position, find, not, MatchOption, Some, None, slice_index_or};
-ghost use Rattle.std.specs.List.{flat_map};
+ghost use Rattle.std.specs.Prelude.{◌≡◌, ◌++◌, OnOk, map, filter, position, find, not, MatchOption, IfSome, Some, None, slice_index_or, true};
+ghost use Rattle.std.specs.List.{flat_map, list_any};
 ghost use Rattle.sockets.specs.declared.entry.Entry.{Entry};
 ghost use Rattle.sockets.specs.Commands.{asked_on_link, asked_with_size, granted, given_back, returned};
 ghost use Rattle.sockets.specs.Data.{spent};
-ghost use Rattle.sockets.specs.Entries.{is_at, entry_at, sends_on, receives_on, is_mine_on, changed_first, changed_at, closed_by_partner, must_close, closed_when, cls_of, is_over, ending};
+ghost use Rattle.sockets.specs.Entries.{is_at, entry_at, sends_on, receives_on, is_mine_on, changed_first, changed_at, closed_by_partner, must_close, closed_when, cls_of, is_over, ending, free_link};
+ghost use Rattle.ncp_control.specs.Numbers.{is_connection_link};
 
 use crate::Notice;
 use crate::entry::{Closing, Entry};
@@ -75,6 +76,36 @@ fn first_own(entries: &[Entry], socket: u32) -> Option<usize>
     ensures { result ≡ position (is_mine_on socket) entries.now }
 {
     entries.iter().position(|e| e.mine && e.own == socket)
+}
+
+/// The links that connections may have.
+const CONNECTION_LINKS: [u8; 30] = [
+    2, 3, 4, 5, 6, 7, 8, 9, 10, 11, 12, 13, 14, 15, 16, 17, 18, 19, 20, 21, 22, 23, 24, 25, 26, 27,
+    28, 29, 30, 31,
+];
+
+/// Whether an end receives on a link.
+fn has_receiver_on(entries: &[Entry], link: u8) -> bool
+    ensures { result ≡ list_any (receives_on link) entries.now }
+{
+    entries.iter().any(|e| e.receives_on(link))
+}
+
+/// The number of the lowest link that no receiving end has.
+fn free_number(entries: &[Entry]) -> Option<u8>
+    ensures { result ≡ free_link entries.now }
+{
+    CONNECTION_LINKS
+        .iter()
+        .copied()
+        .find(|link| !has_receiver_on(entries, *link))
+}
+
+/// The lowest link that no receiving end has.
+pub(crate) fn free_link(entries: &[Entry]) -> Option<ConnectionLink>
+    ensures { result ≡ free_link entries.now }
+{
+    ConnectionLink::new(free_number(entries)?)
 }
 
 // ---- changed
