@@ -1,12 +1,11 @@
 //! The ends of a pair's connections, found and changed.
 
-ghost use Rattle.std.specs.Prelude.{◌≡◌, ◌++◌, OnOk, map, filter, position, find, not, MatchOption, IfSome, Some, None, slice_index_or, true};
+ghost use Rattle.std.specs.Prelude.{◌≡◌, ◌++◌, OnOk, map, filter, position, find, not, MatchOption, Some, None, slice_index_or};
 ghost use Rattle.std.specs.List.{flat_map, list_any};
 ghost use Rattle.sockets.specs.declared.entry.Entry.{Entry};
 ghost use Rattle.sockets.specs.Commands.{asked_on_link, asked_with_size, granted, given_back, returned};
 ghost use Rattle.sockets.specs.Data.{spent};
 ghost use Rattle.sockets.specs.Entries.{is_at, entry_at, sends_on, receives_on, is_mine_on, changed_first, changed_at, closed_by_partner, must_close, closed_when, cls_of, is_over, ending, free_link};
-ghost use Rattle.ncp_control.specs.Numbers.{is_connection_link};
 
 use crate::Notice;
 use crate::entry::{Closing, Entry};

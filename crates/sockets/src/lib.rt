@@ -21,6 +21,7 @@ mod pair;
 mod peer;
 mod phase;
 mod request;
+mod turn;
 
 pub use fault::NcpFault;
 pub use notice::Notice;
