@@ -44,7 +44,7 @@ both_true : (a b : Bool) → a ≡ true → b ≡ true → (a && b) ≡ true
 both_true a b e f = rw (e, f) refl
 
 -- a packet with this number would have been found
-no_packet : (n : Net) (f : Flow) (number : ℕ) → All (NotIn f number) (packets n) → (x : Packet) → Alive n f x → x.number ≢ number
+pub no_packet : (n : Net) (f : Flow) (number : ℕ) → All (NotIn f number) (packets n) → (x : Packet) → Alive n f x → x.number ≢ number
 no_packet n f number silent x a same =
     let p : PacketFields = a.fields in
     let missing : packet_has f number p ≡ false = All-contains (NotIn f number) (packets n) p silent a.there in

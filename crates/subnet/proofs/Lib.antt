@@ -5,3 +5,5 @@ pub mod QuietCalls
 pub mod Openings
 pub mod Silence
 pub mod GivingUp
+pub mod Turns
+pub mod Offers

@@ -58,20 +58,20 @@ not_alive n f number none =
 
 -- ---- the queue of one flow
 
-parts_left : (P : Message → Type 0) (xs ys : List Message) → All P (xs ++ ys) → All P xs
+pub parts_left : (P : Message → Type 0) (xs ys : List Message) → All P (xs ++ ys) → All P xs
 parts_left P [] ys all = All-nil P
 parts_left P (x ∷ xs) ys all = All-cons P x xs (All-head P x (xs ++ ys) all) (parts_left P xs ys (All-tail P x (xs ++ ys) all))
 
-parts_right : (P : Message → Type 0) (xs ys : List Message) → All P (xs ++ ys) → All P ys
+pub parts_right : (P : Message → Type 0) (xs ys : List Message) → All P (xs ++ ys) → All P ys
 parts_right P [] ys all = all
 parts_right P (x ∷ xs) ys all = parts_right P xs ys (All-tail P x (xs ++ ys) all)
 
-at_imp_all : (P : Message → Type 0) (imps : List (Option State)) (i : ℕ) → All P (flat_map messages_at_imp imps) → All P (messages_at_imp (imp_at imps i))
+pub at_imp_all : (P : Message → Type 0) (imps : List (Option State)) (i : ℕ) → All P (flat_map messages_at_imp imps) → All P (messages_at_imp (imp_at imps i))
 at_imp_all P [] i all = All-nil P
 at_imp_all P (o ∷ imps) zero all = parts_left P (messages_at_imp o) (flat_map messages_at_imp imps) all
 at_imp_all P (o ∷ imps) (suc i) all = at_imp_all P imps i (parts_right P (messages_at_imp o) (flat_map messages_at_imp imps) all)
 
-at_host_all : (P : Message → Type 0) (hosts : List HostState) (h : ℕ) → All P (flat_map (λ (x : HostState). x.queue) hosts) → All P (get_or hosts h no_host).queue
+pub at_host_all : (P : Message → Type 0) (hosts : List HostState) (h : ℕ) → All P (flat_map (λ (x : HostState). x.queue) hosts) → All P (get_or hosts h no_host).queue
 at_host_all P [] h all = All-nil P
 at_host_all P (x ∷ hosts) zero all = parts_left P x.queue (flat_map (λ (y : HostState). y.queue) hosts) all
 at_host_all P (x ∷ hosts) (suc h) all = at_host_all P hosts h (parts_right P x.queue (flat_map (λ (y : HostState). y.queue) hosts) all)

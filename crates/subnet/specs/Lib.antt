@@ -7,3 +7,4 @@ pub mod Run
 pub mod Examples
 pub mod Making
 pub mod Sound
+pub mod Offers

@@ -23,6 +23,7 @@ ghost use Rattle.subnet.specs.Events.{offer_refusal, offer_out, take_refusal, ta
 ghost use Rattle.subnet.specs.Examples.{ours, our_message, our_queued, data_frame, rfnm_frame, passing_frame, imp_1, imp_2, wire, pair, opened_pair, begun_up_to, expecting, one_host_down, serving_ours, keeping_ours, keeping_own, sending_ours, past_one, full_of, triangle};
 ghost use Rattle.subnet.specs.Making.{NothingNew, OnlyNew, offer_makes, take_makes, deliver_makes, stop_makes};
 ghost use Rattle.subnet.specs.Net.{Net, imp_at, wire_at, port_of, line_from, put_one, frames_on};
+ghost use Rattle.subnet.specs.Offers.{CanGoFrom};
 ghost use Rattle.subnet.specs.Opening.{Ends, AreHosts};
 ghost use Rattle.subnet.specs.Opening as start;
 ghost use Rattle.subnet.specs.Sound.{IsSound};
@@ -58,6 +59,13 @@ pub fn holding()
 pub fn at_the_opening()
     ensures sound { (hosts : List Host) (sites : List (Option ℕ)) (ends : List Ends) → AreHosts hosts sites → IsSound (start.opening hosts sites ends) }
     ensures empty { (hosts : List Host) (sites : List (Option ℕ)) (ends : List Ends) → packets (start.opening hosts sites ends) ≡ [] }
+{}
+
+/// A sound subnet stays sound where hosts offer and take messages and where frames are delivered.
+pub fn sound_messages()
+    // a message is offered, where that is not refused: it goes nowhere and Dead waits, it waits for a host of the same IMP, or it
+    // goes over lines. Packets can carry it, unless it goes nowhere
+    ensures offer_out { (n : Net) (m : HostMessage) → CanGoFrom (imp_at n.imps m.flow.source.imp) m → offer_refusal n m ≡ None → IsSound n → IsSound (offer_out n m) }
 {}
 
 /// A sound subnet stays sound where frames are lost or sent again, ends of lines go down and come up, slots are
