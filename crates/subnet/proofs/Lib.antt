@@ -7,3 +7,4 @@ pub mod Silence
 pub mod GivingUp
 pub mod Turns
 pub mod Offers
+pub mod Takes

@@ -66,6 +66,9 @@ pub fn sound_messages()
     // a message is offered, where that is not refused: it goes nowhere and Dead waits, it waits for a host of the same IMP, or it
     // goes over lines. Packets can carry it, unless it goes nowhere
     ensures offer_out { (n : Net) (m : HostMessage) → CanGoFrom (imp_at n.imps m.flow.source.imp) m → offer_refusal n m ≡ None → IsSound n → IsSound (offer_out n m) }
+
+    // a host takes what waits for it, where that is not refused: an answer, a message, for which its source is told, or nothing
+    ensures take_in { (n : Net) (h : Host) → take_refusal n h ≡ None → IsSound n → IsSound (take_in n h) }
 {}
 
 /// A sound subnet stays sound where frames are lost or sent again, ends of lines go down and come up, slots are

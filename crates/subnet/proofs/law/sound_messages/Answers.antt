@@ -1,5 +1,9 @@
 use Rattle.subnet.proofs.Offers.{offer_sound}
+use Rattle.subnet.proofs.Takes.{take_sound}
 use Rattle.subnet.proofs.law.sound_messages.Goals as goal
 
-pub returns : goal.returns
-returns c = record { offer_out = offer_sound }
+pub returns-clause-offer_out : goal.returns-clause-offer_out
+returns-clause-offer_out c = offer_sound
+
+pub returns-clause-take_in : goal.returns-clause-take_in
+returns-clause-take_in c = take_sound
