@@ -69,7 +69,7 @@ unread n f number silent q there same =
 -- ---- what it changes
 
 -- a host gets an answer: its queue stays
-given_queue : (hosts : List HostState) (h : ℕ) (x : HostState) → x.queue ≡ (get_or hosts h no_host).queue → flat_map (λ (y : HostState). y.queue) (set hosts h x) ≡ flat_map (λ (y : HostState). y.queue) hosts
+pub given_queue : (hosts : List HostState) (h : ℕ) (x : HostState) → x.queue ≡ (get_or hosts h no_host).queue → flat_map (λ (y : HostState). y.queue) (set hosts h x) ≡ flat_map (λ (y : HostState). y.queue) hosts
 given_queue [] h x same = refl
 given_queue (y ∷ hosts) zero x same = ap (λ (ms : List Message). ms ++ flat_map (λ (z : HostState). z.queue) hosts) same
 given_queue (y ∷ hosts) (suc h) x same = ap (λ (ms : List Message). y.queue ++ ms) (given_queue hosts h x same)

@@ -8,3 +8,8 @@ pub mod GivingUp
 pub mod Turns
 pub mod Offers
 pub mod Takes
+pub mod ManyFlows
+pub mod Forgetting
+pub mod HostsUp
+pub mod ImpsUp
+pub mod ImpsDown

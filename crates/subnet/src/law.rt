@@ -86,6 +86,22 @@ pub fn sound_events()
     ensures run { (n : Net) → IsSound n → IsRun n.hosts n.log }
 {}
 
+/// A sound subnet stays sound where hosts and IMPs stop and start, and where an IMP forgets. In such an event many
+/// flows move at once.
+pub fn sound_stops()
+    // an IMP forgets the numbers of flows from another one
+    ensures forget { (n : Net) (at from : ℕ) → step_refusal n (event.Forget at from) ≡ None → IsSound n → IsSound (stepped n (event.Forget at from)) }
+
+    // a host comes up, while no message of it is outstanding
+    ensures host_up { (n : Net) (h : Host) → step_refusal n (event.HostUp h) ≡ None → IsSound n → IsSound (stepped n (event.HostUp h)) }
+
+    // an IMP stops: its hosts go down in their order, and all that it held is gone
+    ensures imp_down { (n : Net) (i : ℕ) → step_refusal n (event.ImpDown i) ≡ None → IsSound n → IsSound (stepped n (event.ImpDown i)) }
+
+    // an IMP starts, where nothing of its flows is alive
+    ensures imp_up { (n : Net) (i : ℕ) → step_refusal n (event.ImpUp i) ≡ None → IsSound n → IsSound (stepped n (event.ImpUp i)) }
+{}
+
 /// Lines and their ends.
 pub fn worked_lines()
     // a line takes 256 frames each way; one more is lost, whatever it carries, and those that are there stay
