@@ -1,5 +1,5 @@
 -- A message is offered.
-use Rattle.std.proofs.Common.{arith, ◌≡◌, ◌≢◌, ℕ, ◌+◌, ◌<◌, ◌≤◌, ◌==◌, ◌&&◌, Bool, true, false, not, List, [], ◌∷◌, ◌++◌, get_or, length, map, Option, Some, None, refl, ap, sym, ◌∙◌, subst, ◌⊎◌, inl, inr, eqb-true, All, Contains}
+use Rattle.std.proofs.Common.{arith, ◌≡◌, ℕ, ◌+◌, ◌<◌, ◌≤◌, ◌==◌, Bool, true, false, not, List, [], ◌∷◌, ◌++◌, length, Option, Some, None, refl, ap, sym, ◌∙◌, subst, inl, inr, eqb-true, All, Contains}
 use Rattle.std.proofs.lemmas.Bool.{cases_Bool}
 use Rattle.std.proofs.lemmas.List.{map-append}
 use Rattle.std.proofs.lemmas.List.Elements.{All-nil, All-push, All-weaker, All-contains, All-contains_itself}
@@ -33,12 +33,11 @@ use Rattle.packetiser.proofs.Rejoining.{packets_are}
 use Rattle.flow_law.specs.View.{View, Packet, Queued}
 use Rattle.flow_law.specs.Moves as moves
 use Rattle.flow_law.specs.Moves.{Move, DeadNow, Begin, BeginLocal, CanOffer, CanBegin, NumberFree, IsPieceOf, after}
-use Rattle.flow_law.specs.Follows.{Follows}
 use Rattle.flow_law.proofs.FollowLemmas.{makes_one}
 use Rattle.flow_law.proofs.StepLemmas.{out_here}
 use Rattle.imp_node.specs.declared.waiting.Message.{Message}
 use Rattle.imp_node.specs.declared.waiting.Told.{Told}
-use Rattle.imp_node.specs.State.{State, HostState, Turn, number, host_at, is_up}
+use Rattle.imp_node.specs.State.{State, number, host_at, is_up}
 use Rattle.imp_node.specs.Contents as contents
 use Rattle.imp_node.specs.Flows.{answer_packet, given, is_about, is_idle, next_number}
 use Rattle.imp_node.specs.Making.{cut_for}
@@ -46,8 +45,7 @@ use Rattle.imp_node.specs.Moves.{OfferMoves}
 use Rattle.imp_node.specs.Offering.{Way, Nowhere, Here, Away, way_of, way_has_room, is_own, goes, begins, offered, from_host, from_host_refusal}
 use Rattle.imp_node.specs.Queries.{last}
 use Rattle.imp_node.specs.Room.{has_route}
-use Rattle.imp_node.specs.Sides.{Sender, Receiver, sender, receiver, answers_of, begun_with, told_with, noted_with, queued_with, IsImp, Moved}
-use Rattle.imp_node.proofs.Held.{Has, TurnHas}
+use Rattle.imp_node.specs.Sides.{Sender, Receiver, sender, receiver, answers_of, begun_with, told_with, noted_with, queued_with, IsImp}
 use Rattle.imp_node.proofs.HeldByCalls.{from_host_has}
 use Rattle.imp_node.proofs.SidesOfCalls.{from_host_moves}
 use Rattle.imp_node.proofs.Sound.{from_host_imp}
@@ -59,8 +57,8 @@ use Rattle.subnet.specs.Making.{OnlyNew}
 use Rattle.subnet.specs.Offers.{IsCarriable, CanGo, CanGoFrom}
 use Rattle.subnet.specs.Sound.{IsAt, IsSound}
 use Rattle.subnet.proofs.GivingUp.{no_packet}
-use Rattle.subnet.proofs.Silence.{NotIn, not_alive, at_host_all}
-use Rattle.subnet.proofs.Turns.{Answerable, IsTurnOf, turn_only, alive_or_made, set_queue, answerable, source_changed, source_same, destination_changed, destination_same, moved_view, out_crosses, followed_turn}
+use Rattle.subnet.proofs.Silence.{not_alive, at_host_all}
+use Rattle.subnet.proofs.Turns.{Answerable, turn_only, alive_or_made, set_queue, answerable, source_changed, destination_changed, destination_same, moved_view, out_crosses, followed_turn}
 
 -- ---- packets by the format
 

@@ -1,8 +1,7 @@
 -- A host takes what waits for it.
-use Rattle.std.proofs.Common.{◌≡◌, ℕ, Bool, true, false, not, List, [], ◌∷◌, ◌++◌, length, map, Option, Some, None, refl, ap, sym, ◌∙◌, subst, ◌⊎◌, inl, inr, ◌==◌, eqb-true, cond, All, Contains}
+use Rattle.std.proofs.Common.{◌≡◌, ℕ, Bool, true, false, not, List, [], ◌∷◌, ◌++◌, map, Option, Some, None, refl, ap, sym, ◌∙◌, subst, ◌⊎◌, inl, inr, eqb-true, cond, All, Contains}
 use Rattle.std.proofs.lemmas.List.Elements.{All-nil, All-cons, All-head, All-tail}
 use Rattle.std.specs.FinMap as finite
-use Rattle.leader1822.specs.Calls.{crossing_of}
 use Rattle.leader1822.specs.Flow.{same_flow}
 use Rattle.leader1822.specs.Host.{Host, is_host}
 use Rattle.leader1822.specs.Mailboxes.{Box, box_of, fetched}
@@ -20,7 +19,7 @@ use Rattle.link_table.specs.declared.source.Release.{Release}
 use Rattle.link_table.specs.declared.source.Release.TheVariants as release
 use Rattle.packetiser.specs.PacketFields.{PacketFields, IsPacket, flow_of}
 use Rattle.packetiser.specs.declared.packet.PacketKind.TheVariants as kind
-use Rattle.flow_law.specs.View.{View, Packet, Queued, Kind}
+use Rattle.flow_law.specs.View.{Packet, Queued, Kind}
 use Rattle.flow_law.specs.Moves.{Move, TakeMessage, TakeAnswer, CanTakeMessage, IsTold}
 use Rattle.flow_law.specs.Follows.{Follows}
 use Rattle.flow_law.specs.Local.{taken_here, view_taken_here}
@@ -29,15 +28,14 @@ use Rattle.flow_law.proofs.LocalLemmas.{queued_awaited, take_here}
 use Rattle.flow_law.proofs.StepLemmas.{in_here, answer_here}
 use Rattle.imp_node.specs.declared.waiting.Message.{Message}
 use Rattle.imp_node.specs.declared.waiting.Told.{Told}
-use Rattle.imp_node.specs.State.{State, HostState, number, host_at, is_there, is_up, with_host}
+use Rattle.imp_node.specs.State.{State, number, host_at, is_there, is_up, with_host}
 use Rattle.imp_node.specs.Contents as contents
 use Rattle.imp_node.specs.Flows.{answer_packet, given, answered_by, freed}
-use Rattle.imp_node.specs.Making.{reply_for, rfnm_for}
+use Rattle.imp_node.specs.Making.{rfnm_for}
 use Rattle.imp_node.specs.Moves.{without_first, sender_told}
 use Rattle.imp_node.specs.Pump.{stored}
-use Rattle.imp_node.specs.Sides.{Sender, Receiver, sender, receiver, answers_of, messages_of, ended_with, IsImp, Moved}
+use Rattle.imp_node.specs.Sides.{Sender, sender, receiver, answers_of, messages_of, ended_with, IsImp, Moved}
 use Rattle.imp_node.specs.Taking.{first_of, is_from_here, replied, taking_has_room, taken_by, to_host, to_host_refusal}
-use Rattle.imp_node.proofs.Held.{Has, TurnHas}
 use Rattle.imp_node.proofs.HeldByCalls.{to_host_has}
 use Rattle.imp_node.proofs.Reading.{freed_with}
 use Rattle.imp_node.proofs.SidesOfCalls.{answer_taken, message_taken, nothing_taken}
@@ -46,7 +44,7 @@ use Rattle.subnet.specs.Net.{Net, imp_at, with_turn}
 use Rattle.subnet.specs.Alive.{packets}
 use Rattle.subnet.specs.Events as events
 use Rattle.subnet.specs.Events.{at_imp, at_up, logging, given_at, crossings_of, take_refusal, take_in}
-use Rattle.subnet.specs.Flows.{Piece, Alive, packet_of, queued_of, imp_is_up, sender_at, receiver_at, view_of, view}
+use Rattle.subnet.specs.Flows.{Piece, Alive, packet_of, queued_of, imp_is_up, sender_at, receiver_at, view}
 use Rattle.subnet.specs.Making.{NothingNew, OnlyNew}
 use Rattle.subnet.specs.Sound.{IsAt, IsSound}
 use Rattle.subnet.proofs.Silence.{at_host_all}

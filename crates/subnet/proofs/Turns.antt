@@ -1,5 +1,5 @@
 -- A call of one IMP that moves one flow.
-use Rattle.std.proofs.Common.{◌≡◌, ℕ, zero, suc, Bool, true, false, List, [], ◌∷◌, ◌++◌, get_or, set, Option, Some, None, refl, ap, sym, ◌∙◌, subst, ◌⊎◌, inl, inr, All, Contains, if◌then◌else◌}
+use Rattle.std.proofs.Common.{◌≡◌, ℕ, zero, suc, Bool, true, false, List, [], ◌∷◌, ◌++◌, set, Option, Some, None, refl, ap, sym, ◌∙◌, subst, ◌⊎◌, inl, inr, All, Contains}
 use Rattle.std.specs.Prelude.{slice_set}
 use Rattle.std.specs.List.{flat_map}
 use Rattle.std.proofs.lemmas.List.Elements.{All-append, All-weaker, All-contains, All-contains_itself, Contains-append_left, Contains-append_right, Contains-append_cases}
@@ -14,7 +14,7 @@ use Rattle.leader1822.specs.declared.message.HostMessage.{HostMessage}
 use Rattle.leader1822.proofs.Lists.{same_flow-refl}
 use Rattle.packetiser.specs.PacketFields.{PacketFields, IsPacket, flow_of}
 use Rattle.packetiser.specs.declared.packet.PacketKind.TheVariants as kind
-use Rattle.flow_law.specs.View.{View, Packet}
+use Rattle.flow_law.specs.View.{Packet}
 use Rattle.flow_law.specs.Moves.{Move, shown_by}
 use Rattle.flow_law.specs.Follows.{Follows, passed_over}
 use Rattle.flow_law.proofs.StepLemmas.{one_follows, silent_follows, out_elsewhere, in_elsewhere, answer_elsewhere}
@@ -26,7 +26,7 @@ use Rattle.imp_node.specs.Sides.{Sender, Receiver, sender, receiver, IsImp, Unmo
 use Rattle.imp_node.proofs.Held.{Has, TurnHas}
 use Rattle.imp_node.proofs.SideLemmas.{same_at}
 use Rattle.subnet.specs.Net.{Net, imp_at, with_turn}
-use Rattle.subnet.specs.Alive.{packets, messages, messages_at_imp}
+use Rattle.subnet.specs.Alive.{packets, messages_at_imp}
 use Rattle.subnet.specs.Events.{logging}
 use Rattle.subnet.specs.Flows.{Piece, Alive, packet_of, imp_is_up, sender_at, receiver_at, view_of, view}
 use Rattle.subnet.specs.Making.{NothingNew, OnlyNew}

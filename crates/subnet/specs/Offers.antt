@@ -1,5 +1,5 @@
 -- What packets can carry of a message that a host offers.
-use Rattle.std.specs.Prelude.{ℕ, ◌≤◌, ◌<◌, Option, Some, None, length}
+use Rattle.std.specs.Prelude.{◌≤◌, ◌<◌, Option, Some, None, length}
 use Rattle.bit_messages.specs.Body.{most_text_bits}
 use Rattle.leader1822.specs.declared.message.HostMessage.{HostMessage}
 use Rattle.packetiser.specs.PacketFields.{IsPacketHost}
