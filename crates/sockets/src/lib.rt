@@ -22,6 +22,7 @@ mod peer;
 mod phase;
 mod request;
 mod turn;
+pub mod worked;
 
 pub use fault::NcpFault;
 pub use notice::Notice;

@@ -1,0 +1,167 @@
+-- What a reset does, and what ends it. Computed.
+use Rattle.std.proofs.Common.{◌≡◌, [], ◌∷◌, ◌++◌, Some, None, refl}
+use Rattle.bit_messages.specs.Octets.{octets_of}
+use Rattle.leader1822.specs.declared.crossing.Answer.TheVariants as answer
+use Rattle.leader1822.specs.declared.crossing.Inbound.TheVariants as inbound
+use Rattle.ncp_control.specs.Packing.{packed_count}
+use Rattle.ncp_control.specs.Reading.{read_of, command_of}
+use Rattle.sockets.specs.Accepting.{accepted}
+use Rattle.sockets.specs.Control.{orders_of}
+use Rattle.sockets.specs.Requests.{refusal, served, served_notices}
+use Rattle.sockets.specs.Sending.{next_out, offered}
+use Rattle.sockets.specs.Worked.{first, second, third, neighbour, talk, control, on_link, heard, answered, gone, delivered, reset, sending, opened, own_reset, own_opening, first_in, second_in, closed, rst_out, rst_taken, ready, want_again, ECO, ERP, RST, RRP}
+use Rattle.sockets.specs.declared.fault.NcpFault.TheVariants as fault
+use Rattle.sockets.specs.declared.notice.Notice.TheVariants as notice
+use Rattle.sockets.specs.declared.request.Request.TheVariants as request
+
+pub resets_own_peer : (talk (own_reset ++ own_opening)).notices ≡ (first, notice.Ready first) ∷ (first, notice.Opened 33 first 16 9 7) ∷ (first, notice.Opened 16 first 33 6 10) ∷ []
+unfolding octets_of orders_of read_of command_of packed_count accepted refusal served served_notices next_out offered
+resets_own_peer = refl
+
+pub resets_reset_amid_commands : (heard (second_in reset) first (ECO 65 ++ RST ++ ECO 66)).1 ≡ notice.PairReset first ∷ []
+unfolding octets_of orders_of read_of command_of packed_count accepted refusal served served_notices next_out offered
+resets_reset_amid_commands = refl
+
+pub resets_reply_alone : next_out (heard (second_in reset) first (ECO 65 ++ RST ++ ECO 66)).0 ≡ Some (control second first RRP)
+unfolding octets_of orders_of read_of command_of packed_count accepted refusal served served_notices next_out offered
+resets_reply_alone = refl
+
+pub resets_heard_after_reset : next_out (delivered (heard (second_in reset) first (ECO 65 ++ RST ++ ECO 66)).0 first 0) ≡ Some (control second first (ERP 66))
+unfolding octets_of orders_of read_of command_of packed_count accepted refusal served served_notices next_out offered
+resets_heard_after_reset = refl
+
+pub resets_opened_amid_commands : next_out (delivered (heard closed second (ECO 65 ++ RST ++ ECO 66)).0 second 0) ≡ Some (control first second (ERP 66))
+unfolding octets_of orders_of read_of command_of packed_count accepted refusal served served_notices next_out offered
+resets_opened_amid_commands = refl
+
+pub resets_failed_while_owing : (answered (heard rst_out second RST).0 answer.Incomplete second 0).1 ≡ notice.ContactFailed second ∷ []
+unfolding octets_of orders_of read_of command_of packed_count accepted refusal served served_notices next_out offered
+resets_failed_while_owing = refl
+
+pub resets_failed_by_dead : (answered (heard rst_out second RST).0 answer.Dead second 0).1 ≡ notice.ContactFailed second ∷ []
+unfolding octets_of orders_of read_of command_of packed_count accepted refusal served served_notices next_out offered
+resets_failed_by_dead = refl
+
+pub resets_replies_when_failed : next_out (answered (heard rst_out second RST).0 answer.Incomplete second 0).0 ≡ Some (control first second RRP)
+unfolding octets_of orders_of read_of command_of packed_count accepted refusal served served_notices next_out offered
+resets_replies_when_failed = refl
+
+pub resets_closed_when_failed : (heard (answered (heard rst_out second RST).0 answer.Incomplete second 0).0 second RST).1 ≡ notice.Ready second ∷ []
+unfolding octets_of orders_of read_of command_of packed_count accepted refusal served served_notices next_out offered
+resets_closed_when_failed = refl
+
+pub resets_reply_failed : (answered (gone (heard rst_taken second RST).0) answer.Incomplete second 0).1 ≡ notice.ContactFailed second ∷ []
+unfolding octets_of orders_of read_of command_of packed_count accepted refusal served served_notices next_out offered
+resets_reply_failed = refl
+
+pub resets_reply_failed_while_owing : (answered (heard (gone (heard rst_taken second RST).0) second RST).0 answer.Incomplete second 0).1 ≡ []
+unfolding octets_of orders_of read_of command_of packed_count accepted refusal served served_notices next_out offered
+resets_reply_failed_while_owing = refl
+
+pub resets_still_awaited : (heard (answered (heard (gone (heard rst_taken second RST).0) second RST).0 answer.Incomplete second 0).0 second RRP).1 ≡ notice.Ready second ∷ []
+unfolding octets_of orders_of read_of command_of packed_count accepted refusal served served_notices next_out offered
+resets_still_awaited = refl
+
+pub resets_lost_when_ready : (answered (gone (served ready (request.Echo second 65))) answer.Dead second 0).1 ≡ notice.PairReset second ∷ []
+unfolding octets_of orders_of read_of command_of packed_count accepted refusal served served_notices next_out offered
+resets_lost_when_ready = refl
+
+pub resets_closed_when_lost : refusal (answered (gone (served ready (request.Echo second 65))) answer.Dead second 0).0 (request.Echo second 65) ≡ Some fault.NotContacted
+unfolding octets_of orders_of read_of command_of packed_count accepted refusal served served_notices next_out offered
+resets_closed_when_lost = refl
+
+pub resets_lost_while_owing : (answered (heard (gone (served ready (request.Echo second 65))) second RST).0 answer.Dead second 0).1 ≡ []
+unfolding octets_of orders_of read_of command_of packed_count accepted refusal served served_notices next_out offered
+resets_lost_while_owing = refl
+
+pub resets_ready_while_owing : refusal (answered (heard (gone (served ready (request.Echo second 65))) second RST).0 answer.Dead second 0).0 (request.Echo second 65) ≡ None
+unfolding octets_of orders_of read_of command_of packed_count accepted refusal served served_notices next_out offered
+resets_ready_while_owing = refl
+
+pub resets_early_reply : (answered (heard rst_out second RRP).0 answer.Rfnm second 0).1 ≡ []
+unfolding octets_of orders_of read_of command_of packed_count accepted refusal served served_notices next_out offered
+resets_early_reply = refl
+
+pub resets_another_rst : next_out (answered (heard rst_out second (RRP ++ RST)).0 answer.Rfnm second 0).0 ≡ Some (control first second RST)
+unfolding octets_of orders_of read_of command_of packed_count accepted refusal served served_notices next_out offered
+resets_another_rst = refl
+
+pub resets_early_reply_forgotten : next_out (delivered (answered (served (heard rst_out second RRP).0 (request.Contact second)) answer.Rfnm second 0).0 second 0) ≡ None
+unfolding octets_of orders_of read_of command_of packed_count accepted refusal served served_notices next_out offered
+resets_early_reply_forgotten = refl
+
+pub resets_reply_to_the_next : (heard (delivered (answered (heard want_again second RRP).0 answer.Rfnm second 0).0 second 0) second RRP).1 ≡ notice.Ready second ∷ []
+unfolding octets_of orders_of read_of command_of packed_count accepted refusal served served_notices next_out offered
+resets_reply_to_the_next = refl
+
+pub resets_rst_waits : next_out want_again ≡ None
+unfolding octets_of orders_of read_of command_of packed_count accepted refusal served served_notices next_out offered
+resets_rst_waits = refl
+
+pub resets_rst_after_failure : next_out (answered want_again answer.Incomplete second 0).0 ≡ Some (control first second RST)
+unfolding octets_of orders_of read_of command_of packed_count accepted refusal served served_notices next_out offered
+resets_rst_after_failure = refl
+
+pub resets_no_failure : (answered want_again answer.Incomplete second 0).1 ≡ []
+unfolding octets_of orders_of read_of command_of packed_count accepted refusal served served_notices next_out offered
+resets_no_failure = refl
+
+pub resets_rst_after_rfnm : next_out (answered want_again answer.Rfnm second 0).0 ≡ Some (control first second RST)
+unfolding octets_of orders_of read_of command_of packed_count accepted refusal served served_notices next_out offered
+resets_rst_after_rfnm = refl
+
+pub resets_rst_is_silent : next_out (served (gone (second_in (opened ++ sending))) (request.Contact first)) ≡ None
+unfolding octets_of orders_of read_of command_of packed_count accepted refusal served served_notices next_out offered
+resets_rst_is_silent = refl
+
+pub resets_rst_when_silent : next_out (answered (served (gone (second_in (opened ++ sending))) (request.Contact first)) answer.Rfnm first 2).0 ≡ Some (control second first RST)
+unfolding octets_of orders_of read_of command_of packed_count accepted refusal served served_notices next_out offered
+resets_rst_when_silent = refl
+
+pub resets_rrp_is_silent : next_out (heard (gone (second_in (opened ++ sending))) first (RST ++ ECO 65)).0 ≡ None
+unfolding octets_of orders_of read_of command_of packed_count accepted refusal served served_notices next_out offered
+resets_rrp_is_silent = refl
+
+pub resets_rrp_when_silent : next_out (answered (heard (gone (second_in (opened ++ sending))) first (RST ++ ECO 65)).0 answer.Rfnm first 2).0 ≡ Some (control second first RRP)
+unfolding octets_of orders_of read_of command_of packed_count accepted refusal served served_notices next_out offered
+resets_rrp_when_silent = refl
+
+pub resets_rst_first : next_out (served (heard ready second RST).0 (request.Contact second)) ≡ Some (control first second RST)
+unfolding octets_of orders_of read_of command_of packed_count accepted refusal served served_notices next_out offered
+resets_rst_first = refl
+
+pub resets_rrp_after_rst : next_out (delivered (served (heard ready second RST).0 (request.Contact second)) second 0) ≡ Some (control first second RRP)
+unfolding octets_of orders_of read_of command_of packed_count accepted refusal served served_notices next_out offered
+resets_rrp_after_rst = refl
+
+pub resets_one_reply : next_out (delivered (heard (served ready (request.Echo second 65)) second (RST ++ RST)).0 second 0) ≡ None
+unfolding octets_of orders_of read_of command_of packed_count accepted refusal served served_notices next_out offered
+resets_one_reply = refl
+
+pub resets_contact_tells : served_notices (first_in opened) (request.Contact second) ≡ notice.PairReset second ∷ []
+unfolding octets_of orders_of read_of command_of packed_count accepted refusal served served_notices next_out offered
+resets_contact_tells = refl
+
+pub resets_contact_drops : refusal (served (first_in opened) (request.Contact second)) (request.Grant 16 0 0) ≡ Some fault.NoSuchSocket
+unfolding octets_of orders_of read_of command_of packed_count accepted refusal served served_notices next_out offered
+resets_contact_drops = refl
+
+pub resets_peers_in_order : next_out (served (served closed (request.Contact neighbour)) (request.Contact second)) ≡ Some (control first second RST)
+unfolding octets_of orders_of read_of command_of packed_count accepted refusal served served_notices next_out offered
+resets_peers_in_order = refl
+
+pub resets_next_peer : next_out (gone (served (served closed (request.Contact neighbour)) (request.Contact second))) ≡ Some (control first neighbour RST)
+unfolding octets_of orders_of read_of command_of packed_count accepted refusal served served_notices next_out offered
+resets_next_peer = refl
+
+pub resets_not_for_this_host : next_out (accepted ready (inbound.Message (control second third (ECO 65))) 20).0 ≡ None
+unfolding octets_of orders_of read_of command_of packed_count accepted refusal served served_notices next_out offered
+resets_not_for_this_host = refl
+
+pub resets_nothing_outstanding : refusal (answered ready answer.Dead second 5).0 (request.Echo second 65) ≡ None
+unfolding octets_of orders_of read_of command_of packed_count accepted refusal served served_notices next_out offered
+resets_nothing_outstanding = refl
+
+pub resets_answer_of_another : refusal (accepted (gone (served ready (request.Echo second 65))) (inbound.Answer answer.Dead (on_link third second 0)) 20).0 (request.Echo second 65) ≡ None
+unfolding octets_of orders_of read_of command_of packed_count accepted refusal served served_notices next_out offered
+resets_answer_of_another = refl
