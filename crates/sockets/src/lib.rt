@@ -9,6 +9,7 @@
 #![tactic(auto)]
 
 mod commands;
+mod control;
 mod data;
 mod desk;
 mod ends;

@@ -93,7 +93,7 @@ impl Turn {
     }
 
     /// A message of data is taken, while the pair is opened.
-    fn hear_data(&mut self, alloc: Global, link: u8, text: &Bits) -> Result<(), AllocError>
+    pub fn hear_data(&mut self, alloc: Global, link: u8, text: &Bits) -> Result<(), AllocError>
         ensures { OnOk result (self.new ≡ accepting.if_ready (data_taken link text.now) self.old) }
     {
         if !self.pair.phase.is_ready() {
@@ -146,7 +146,7 @@ impl Turn {
     }
 
     /// A command of the peer is taken.
-    fn take_command(
+    pub fn take_command(
         &mut self,
         alloc: Global,
         peer: HostAddr,
