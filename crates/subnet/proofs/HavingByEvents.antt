@@ -69,7 +69,7 @@ stop_has P n h has made =
     (making_has P (imp_at n.imps h.imp) h.imp (λ s. host_down s h.host) (λ s. host_down_makes s h.host) n has (imp_has P n.imps h.imp has.imps) made (λ s here dead. host_down_has P s h.host here dead))
 
 -- a frame brings its packet, and what that makes
-brings : (P : PacketFields → Type 0) (s : State) (f : Frame) → FrameHas P f → All P (dead_made f s) → All P (from_line_makes s f)
+pub brings : (P : PacketFields → Type 0) (s : State) (f : Frame) → FrameHas P f → All P (dead_made f s) → All P (from_line_makes s f)
 brings P s f has dead = at f.content has dead where
   at : (c : Content) → ContentHas P c → All P (flat_map (λ p. dead_for (arrival s p) p) (carried_by c)) → All P (flat_map (λ p. p ∷ dead_for (arrival s p) p) (carried_by c))
   at (content.Packet carried) here dead = All-cons P carried.packet (dead_for (arrival s carried.packet) carried.packet ++ []) here dead

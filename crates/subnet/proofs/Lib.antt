@@ -13,3 +13,4 @@ pub mod Forgetting
 pub mod HostsUp
 pub mod ImpsUp
 pub mod ImpsDown
+pub mod Deliveries

@@ -69,6 +69,10 @@ pub fn sound_messages()
 
     // a host takes what waits for it, where that is not refused: an answer, a message, for which its source is told, or nothing
     ensures take_in { (n : Net) (h : Host) → take_refusal n h ≡ None → IsSound n → IsSound (take_in n h) }
+
+    // a frame is delivered: it is lost, or its packet goes on, is joined with others, makes its message whole, can't be delivered, or
+    // brings an answer
+    ensures deliver { (n : Net) (l : ℕ) (d : Direction) (k : ℕ) → IsSound n → IsSound (stepped n (event.Deliver l d k)) }
 {}
 
 /// A sound subnet stays sound where frames are lost or sent again, ends of lines go down and come up, slots are

@@ -1,3 +1,4 @@
+use Rattle.subnet.proofs.Deliveries.{deliver_sound}
 use Rattle.subnet.proofs.Offers.{offer_sound}
 use Rattle.subnet.proofs.Takes.{take_sound}
 use Rattle.subnet.proofs.law.sound_messages.Goals as goal
@@ -7,3 +8,6 @@ returns-clause-offer_out c = offer_sound
 
 pub returns-clause-take_in : goal.returns-clause-take_in
 returns-clause-take_in c = take_sound
+
+pub returns-clause-deliver : goal.returns-clause-deliver
+returns-clause-deliver c = deliver_sound
