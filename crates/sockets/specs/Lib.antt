@@ -2,6 +2,7 @@ pub mod Phases
 pub mod Entries
 pub mod Pair
 pub mod Pairs
+pub mod Peers
 pub mod Control
 pub mod Commands
 pub mod Data

@@ -20,6 +20,7 @@ mod listener;
 mod notice;
 mod pair;
 mod peer;
+mod peers;
 mod phase;
 mod request;
 mod turn;

@@ -1,8 +1,12 @@
 //! What a host knows of one other host.
 
+ghost use Rattle.std.specs.Prelude.{◌≡◌};
+ghost use Rattle.sockets.specs.Pair.{opening_pair, is_opening};
+
 use crate::entry::Entry;
 use crate::phase::Phase;
 use ncp_control::Command;
+use std::alloc::Global;
 use std::marker::Model;
 
 /// This host and one peer: how far the reset has come, whether an RRP is owed, the links on which a message
@@ -22,4 +26,30 @@ impl Model for Pair {
     ghost Value = { PairState };
 
     ghost view = { λ p. record { phase = p.phase; owed = p.owed; busy = p.busy.items; entries = p.entries.items; queue = p.queue.items } };
+}
+
+impl Pair {
+    /// A pair of hosts that never spoke to each other.
+    pub fn new(alloc: Global) -> Pair
+        ensures { result ≡ opening_pair }
+    {
+        Pair {
+            phase: Phase::Closed,
+            owed: false,
+            busy: Vec::new(alloc),
+            entries: Vec::new(alloc),
+            queue: Vec::new(alloc),
+        }
+    }
+
+    /// Whether it is as at the opening.
+    pub fn is_opening(&self) -> bool
+        ensures { result ≡ is_opening self.now }
+    {
+        self.phase == Phase::Closed
+            && !self.owed
+            && self.busy.is_empty()
+            && self.entries.is_empty()
+            && self.queue.is_empty()
+    }
 }

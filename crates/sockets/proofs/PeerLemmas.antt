@@ -1,0 +1,243 @@
+-- Peers in order: where a host stands among them.
+use Rattle.std.proofs.Common.{◌≡◌, ℕ, ◌<◌, ◌≤◌, Bool, true, false, ◌&&◌, ◌==◌, List, [], ◌∷◌, length, find, Some, None, slice_set, slice_index_or, refl, ap, sym, subst, ◌∙◌, arith, suc, zero, nat_lt, eq-eqb}
+use Rattle.std.specs.List.{insert, remove}
+use Rattle.std.specs.List.Sorted.{IsPartitionPoint, IsPartitionedBy}
+use Rattle.std.proofs.lemmas.Bool.{eqb-true, ltb-true, ltb-false}
+use Rattle.leader1822.specs.Host.{Host, IsAddress, same_host, address_octet}
+use Rattle.sockets.specs.Pair.{PairState, is_opening}
+use Rattle.sockets.specs.Pairs.{placed, without_peer, with_pair}
+use Rattle.sockets.specs.Peers.{StandAbove, AreInOrder}
+use Rattle.sockets.specs.declared.peer.Peer.{Peer}
+
+-- ---- hosts
+
+and_both : (a b : Bool) → (a && b) ≡ true → (a ≡ true) × (b ≡ true)
+and_both true b h = (refl, h)
+and_both false b h = absurd (cc)
+
+abbrev host_of : ℕ → ℕ → Host
+host_of i j = record { imp = i; host = j }
+
+pub same_host-true : (g h : Host) → same_host g h ≡ true → g ≡ h
+same_host-true g h e =
+    let t : (g.imp == h.imp) ≡ true × (g.host == h.host) ≡ true = and_both (g.imp == h.imp) (g.host == h.host) e in
+    ap (λ (i : ℕ). host_of i g.host) (eqb-true g.imp h.imp t.0) ∙ ap (λ (j : ℕ). host_of h.imp j) (eqb-true g.host h.host t.1)
+
+pub same_octet : (g h : Host) → same_host g h ≡ true → address_octet g ≡ address_octet h
+same_octet g h e = ap (λ (x : Host). address_octet x) (same_host-true g h e)
+
+-- two hosts with one octet are one
+pub octet_names : (g h : Host) → IsAddress g → IsAddress h → address_octet g ≡ address_octet h → same_host g h ≡ true
+octet_names g h a b e =
+    let imp : g.imp ≡ h.imp = omega (arith, e, a.imp_to, b.imp_to, a.host_to, b.host_to) in
+    let host : g.host ≡ h.host = omega (arith, e, a.imp_to, b.imp_to, a.host_to, b.host_to) in
+    rw (eq-eqb g.imp h.imp imp, eq-eqb g.host h.host host) refl
+
+-- ---- order
+
+not_less_by : (m n : ℕ) → n ≤ m → (b : Bool) → nat_lt m n ≡ b → b ≡ false
+not_less_by m n le true e = absurd (omega (arith, le, ltb-true m n e))
+not_less_by m n le false e = refl
+
+not_less : (m n : ℕ) → n ≤ m → nat_lt m n ≡ false
+not_less m n le = not_less_by m n le (nat_lt m n) refl
+
+pub above_less : (m n : ℕ) (ps : List Peer) → m ≤ n → StandAbove n ps → StandAbove m ps
+above_less m n [] le h = h
+above_less m n (p ∷ ps) le h = (omega (arith, le, h.0), h.1, h.2)
+
+differs : (h : Host) (p : Peer) → address_octet h < address_octet p.host → (b : Bool) → same_host h p.host ≡ b → b ≡ false
+differs h p lt true e = absurd (let o : address_octet h ≡ address_octet p.host = same_octet h p.host e in omega (arith, lt, o))
+differs h p lt false e = refl
+
+pub other : (h : Host) (p : Peer) → address_octet h < address_octet p.host → same_host h p.host ≡ false
+other h p lt = differs h p lt (same_host h p.host) refl
+
+pub none_above : (h : Host) (n : ℕ) (ps : List Peer) → address_octet h ≤ n → StandAbove n ps → find (λ (p : Peer). same_host h p.host) ps ≡ None
+none_above h n [] le s = refl
+none_above h n (p ∷ ps) le s = rw (other h p (omega (arith, le, s.0))) (none_above h (address_octet p.host) ps (omega (arith, le, s.0)) s.2)
+
+pub kept_above : (h : Host) (n : ℕ) (ps : List Peer) → address_octet h ≤ n → StandAbove n ps → without_peer h ps ≡ ps
+kept_above h n [] le s = refl
+kept_above h n (p ∷ ps) le s = rw (other h p (omega (arith, le, s.0))) (ap (λ (qs : List Peer). p ∷ qs) (kept_above h (address_octet p.host) ps (omega (arith, le, s.0)) s.2))
+
+-- ---- places
+
+abbrev below : Host → Peer → Bool
+below h p = nat_lt (address_octet p.host) (address_octet h)
+
+abbrev Parts : Host → List Peer → ℕ → Type 0
+Parts h ps at = IsPartitionPoint (λ (p : Peer). below h p ≡ true) (λ (p : Peer). below h p ≡ false) ps at
+
+rest_parts : (h : Host) (p : Peer) (ps : List Peer) (at : ℕ) → Parts h (p ∷ ps) (suc at) → Parts h ps at
+rest_parts h p ps at t = (λ k d lo hi. t.0 (suc k) d (omega (arith, lo)) (omega (arith, hi)), λ k d lo hi. t.1 (suc k) d (omega (arith, lo)) (omega (arith, hi)))
+
+first_below : (h : Host) (p : Peer) (ps : List Peer) (at : ℕ) → Parts h (p ∷ ps) (suc at) → below h p ≡ true
+first_below h p ps at t = t.0 0 p (omega arith) (omega arith)
+
+first_not : (h : Host) (p : Peer) (ps : List Peer) → Parts h (p ∷ ps) 0 → below h p ≡ false
+first_not h p ps t = t.1 0 p (omega arith) (omega arith)
+
+differs_below : (h : Host) (p : Peer) → below h p ≡ true → (b : Bool) → same_host h p.host ≡ b → b ≡ false
+differs_below h p lt true e = absurd (let o : address_octet h ≡ address_octet p.host = same_octet h p.host e in omega (arith, o, ltb-true (address_octet p.host) (address_octet h) lt))
+differs_below h p lt false e = refl
+
+other_below : (h : Host) (p : Peer) → below h p ≡ true → same_host h p.host ≡ false
+other_below h p lt = differs_below h p lt (same_host h p.host) refl
+
+-- a host that stands here is found here, goes from here, and is placed here
+pub record StandsAt (h : Host) (ps : List Peer) (at : ℕ) : Type 0 where
+  pub found : (d : Peer) → find (λ (p : Peer). same_host h p.host) ps ≡ Some (slice_index_or ps at d)
+  pub removed : remove ps at ≡ without_peer h ps
+  pub placed : (q : PairState) → slice_set ps at (record { host = h; pair = q }) ≡ placed (record { host = h; pair = q }) ps
+
+pub stands_at : (h : Host) (n : ℕ) (ps : List Peer) (at : ℕ) (d : Peer) → StandAbove n ps → Parts h ps at → at < length ps → same_host h (slice_index_or ps at d).host ≡ true → StandsAt h ps at
+stands_at h n [] at d s t lt e = absurd (omega (arith, lt))
+stands_at h n (p ∷ ps) zero d s t lt e = record {
+  found = λ x. rw e refl;
+  removed = rw e (sym (kept_above h (address_octet p.host) ps (omega (arith, same_octet h p.host e)) s.2));
+  placed = λ q. rw (first_not h p ps t, e) refl;
+}
+stands_at h n (p ∷ ps) (suc at) d s t lt e =
+    let r : StandsAt h ps at = stands_at h (address_octet p.host) ps at d s.2 (rest_parts h p ps at t) (omega (arith, lt)) e in
+    let o : same_host h p.host ≡ false = other_below h p (first_below h p ps at t) in
+    record {
+      found = λ x. rw o (r.found x);
+      removed = rw o (ap (λ (qs : List Peer). p ∷ qs) r.removed);
+      placed = λ q. rw (first_below h p ps at t) (ap (λ (qs : List Peer). p ∷ qs) (r.placed q));
+    }
+
+less_of : (m n : ℕ) → n ≤ m → (n ≡ m → ⊥) → n < m
+less_of m n le ne = omega (arith, le, ne)
+
+-- a host that doesn't stand here, where it would, stands nowhere, and is placed here
+pub record IsMissing (h : Host) (ps : List Peer) (at : ℕ) : Type 0 where
+  pub found : find (λ (p : Peer). same_host h p.host) ps ≡ None
+  pub removed : without_peer h ps ≡ ps
+  pub placed : (q : PairState) → insert ps at (record { host = h; pair = q }) ≡ placed (record { host = h; pair = q }) ps
+
+pub is_missing : (h : Host) (n : ℕ) (ps : List Peer) (at : ℕ) → IsAddress h → StandAbove n ps → Parts h ps at → at ≤ length ps
+    → (at < length ps → (d : Peer) → same_host h (slice_index_or ps at d).host ≡ false) → IsMissing h ps at
+is_missing h n [] zero a s t le e = record { found = refl; removed = refl; placed = λ q. refl }
+is_missing h n [] (suc at) a s t le e = absurd (omega (arith, le))
+is_missing h n (p ∷ ps) zero a s t le e =
+    let o : same_host h p.host ≡ false = e (omega arith) p in
+    let not_same : (address_octet h ≡ address_octet p.host) → ⊥ = λ w. (let y : same_host h p.host ≡ true = octet_names h p.host a s.1 w in absurd (cc)) in
+    let above : address_octet h < address_octet p.host = less_of (address_octet p.host) (address_octet h) (ltb-false (address_octet p.host) (address_octet h) (first_not h p ps t)) not_same in
+    record {
+      found = rw o (none_above h (address_octet p.host) ps (omega (arith, above)) s.2);
+      removed = rw o (ap (λ (qs : List Peer). p ∷ qs) (kept_above h (address_octet p.host) ps (omega (arith, above)) s.2));
+      placed = λ q. rw (first_not h p ps t, o) refl;
+    }
+is_missing h n (p ∷ ps) (suc at) a s t le e =
+    let r : IsMissing h ps at = is_missing h (address_octet p.host) ps at a s.2 (rest_parts h p ps at t) (omega (arith, le)) (λ lt d. e (omega (arith, lt)) d) in
+    let o : same_host h p.host ≡ false = other_below h p (first_below h p ps at t) in
+    record {
+      found = rw o r.found;
+      removed = rw o (ap (λ (qs : List Peer). p ∷ qs) r.removed);
+      placed = λ q. rw (first_below h p ps at t) (ap (λ (qs : List Peer). p ∷ qs) (r.placed q));
+    }
+
+-- ---- the order is kept
+
+placed_below : (n : ℕ) (p q : Peer) (qs : List Peer) → n < address_octet p.host → IsAddress p.host → StandAbove n (q ∷ qs)
+    → ((m : ℕ) → m < address_octet p.host → StandAbove m qs → StandAbove m (placed p qs))
+    → (below same : Bool) → nat_lt (address_octet q.host) (address_octet p.host) ≡ below → same_host p.host q.host ≡ same → StandAbove n (placed p (q ∷ qs))
+placed_below n p q qs lt a s rest true same e f = rw e (s.0, s.1, rest (address_octet q.host) (ltb-true (address_octet q.host) (address_octet p.host) e) s.2)
+placed_below n p q qs lt a s rest false true e f =
+    rw (e, f) (lt, a, above_less (address_octet p.host) (address_octet q.host) qs (omega (arith, same_octet p.host q.host f)) s.2)
+placed_below n p q qs lt a s rest false false e f =
+    let not_same : (address_octet p.host ≡ address_octet q.host) → ⊥ = λ w. (let y : same_host p.host q.host ≡ true = octet_names p.host q.host a s.1 w in absurd (cc)) in
+    rw (e, f) (lt, a, (less_of (address_octet q.host) (address_octet p.host) (ltb-false (address_octet q.host) (address_octet p.host) e) not_same, s.1, s.2))
+
+pub placed_above : (n : ℕ) (p : Peer) (ps : List Peer) → n < address_octet p.host → IsAddress p.host → StandAbove n ps → StandAbove n (placed p ps)
+placed_above n p [] lt a s = (lt, a, tt)
+placed_above n p (q ∷ qs) lt a s =
+    placed_below n p q qs lt a s (λ m l t. placed_above m p qs l a t) (nat_lt (address_octet q.host) (address_octet p.host)) (same_host p.host q.host) refl refl
+
+without_one : (h : Host) (n : ℕ) (p : Peer) (ps : List Peer) → StandAbove n (p ∷ ps) → ((m : ℕ) → StandAbove m ps → StandAbove m (without_peer h ps))
+    → (same : Bool) → same_host h p.host ≡ same → StandAbove n (without_peer h (p ∷ ps))
+without_one h n p ps s rest true e = rw e (rest n (above_less n (address_octet p.host) ps (omega (arith, s.0)) s.2))
+without_one h n p ps s rest false e = rw e (s.0, s.1, rest (address_octet p.host) s.2)
+
+pub without_above : (h : Host) (n : ℕ) (ps : List Peer) → StandAbove n ps → StandAbove n (without_peer h ps)
+without_above h n [] s = tt
+without_above h n (p ∷ ps) s = without_one h n p ps s (λ m t. without_above h m ps t) (same_host h p.host) refl
+
+-- ---- what was taken out is put back
+
+-- below all peers it is placed in front
+placed_first : (p : Peer) (n : ℕ) (ps : List Peer) → address_octet p.host ≤ n → StandAbove n ps → placed p ps ≡ p ∷ ps
+placed_first p n [] le s = refl
+placed_first p n (q ∷ qs) le s =
+    let lt : nat_lt (address_octet q.host) (address_octet p.host) ≡ false = not_less (address_octet q.host) (address_octet p.host) (omega (arith, le, s.0)) in
+    rw (lt, other p.host q (omega (arith, le, s.0))) refl
+
+placed_other : (n : ℕ) (p q : Peer) (qs : List Peer) → StandAbove n (q ∷ qs) → placed p (without_peer p.host qs) ≡ placed p qs
+    → (below same : Bool) → nat_lt (address_octet q.host) (address_octet p.host) ≡ below → same_host p.host q.host ≡ same → placed p (without_peer p.host (q ∷ qs)) ≡ placed p (q ∷ qs)
+placed_other n p q qs s rest true true e f = absurd (let o : address_octet p.host ≡ address_octet q.host = same_octet p.host q.host f in omega (arith, o, ltb-true (address_octet q.host) (address_octet p.host) e))
+placed_other n p q qs s rest false true e f =
+    let o : address_octet p.host ≤ address_octet q.host = omega (arith, same_octet p.host q.host f) in
+    let first : placed p (without_peer p.host qs) ≡ p ∷ qs =
+    ap (λ (ps : List Peer). placed p ps) (kept_above p.host (address_octet q.host) qs o s.2) ∙ placed_first p (address_octet q.host) qs o s.2 in
+    rw (e, f) first
+placed_other n p q qs s rest true false e f = rw (e, f) (let more : placed p (q ∷ without_peer p.host qs) ≡ q ∷ placed p qs = rw e (ap (λ (ps : List Peer). q ∷ ps) rest) in more)
+placed_other n p q qs s rest false false e f =
+    let le : address_octet p.host ≤ address_octet q.host = ltb-false (address_octet q.host) (address_octet p.host) e in
+    let more : placed p (q ∷ without_peer p.host qs) ≡ p ∷ q ∷ qs = rw (e, f) (ap (λ (ps : List Peer). p ∷ q ∷ ps) (kept_above p.host (address_octet q.host) qs le s.2)) in
+    rw (e, f) more
+
+placed_again : (n : ℕ) (p : Peer) (ps : List Peer) → StandAbove n ps → placed p (without_peer p.host ps) ≡ placed p ps
+placed_again n p [] s = refl
+placed_again n p (q ∷ qs) s =
+    placed_other n p q qs s (placed_again (address_octet q.host) p qs s.2) (nat_lt (address_octet q.host) (address_octet p.host)) (same_host p.host q.host) refl refl
+
+without_other : (h : Host) (p : Peer) (ps : List Peer) → without_peer h (without_peer h ps) ≡ without_peer h ps
+    → (same : Bool) → same_host h p.host ≡ same → without_peer h (without_peer h (p ∷ ps)) ≡ without_peer h (p ∷ ps)
+without_other h p ps rest true e = rw e rest
+without_other h p ps rest false e = rw e (let more : without_peer h (p ∷ without_peer h ps) ≡ p ∷ without_peer h ps = rw e (ap (λ (qs : List Peer). p ∷ qs) rest) in more)
+
+without_again : (h : Host) (ps : List Peer) → without_peer h (without_peer h ps) ≡ without_peer h ps
+without_again h [] = refl
+without_again h (p ∷ ps) = without_other h p ps (without_again h ps) (same_host h p.host) refl
+
+put_again : (h : Host) (q : PairState) (ps : List Peer) → StandAbove 0 ps → (b : Bool) → is_opening q ≡ b → with_pair h q (without_peer h ps) ≡ with_pair h q ps
+put_again h q ps s true e = rw e (without_again h ps)
+put_again h q ps s false e = rw e (placed_again 0 (record { host = h; pair = q }) ps s)
+
+pub with_pair_again : (h : Host) (q : PairState) (ps : List Peer) → StandAbove 0 ps → with_pair h q (without_peer h ps) ≡ with_pair h q ps
+with_pair_again h q ps s = put_again h q ps s (is_opening q) refl
+
+-- ---- the search
+
+each_above : (n : ℕ) (ps : List Peer) → StandAbove n ps → (j : ℕ) (d : Peer) → j < length ps → n < address_octet (slice_index_or ps j d).host
+each_above n [] s j d lt = absurd (omega (arith, lt))
+each_above n (p ∷ ps) s zero d lt = s.0
+each_above n (p ∷ ps) s (suc j) d lt = omega (arith, s.0, each_above (address_octet p.host) ps s.2 j d (omega (arith, lt)))
+
+less_by : (m n : ℕ) → m < n → (b : Bool) → nat_lt m n ≡ b → b ≡ true
+less_by m n lt true e = refl
+less_by m n lt false e = absurd (omega (arith, lt, ltb-false m n e))
+
+partitioned_at : (h : Host) (n : ℕ) (ps : List Peer) → StandAbove n ps → (i j : ℕ) (d : Peer) → i ≤ j → j < length ps
+    → nat_lt (address_octet (slice_index_or ps j d).host) (address_octet h) ≡ true → nat_lt (address_octet (slice_index_or ps i d).host) (address_octet h) ≡ true
+partitioned_at h n [] s i j d le lt t = absurd (omega (arith, lt))
+partitioned_at h n (p ∷ ps) s zero zero d le lt t = t
+partitioned_at h n (p ∷ ps) s zero (suc j) d le lt t =
+    less_by (address_octet p.host) (address_octet h) (omega (arith, each_above (address_octet p.host) ps s.2 j d (omega (arith, lt)), ltb-true (address_octet (slice_index_or ps j d).host) (address_octet h) t)) (nat_lt (address_octet p.host) (address_octet h)) refl
+partitioned_at h n (p ∷ ps) s (suc i) zero d le lt t = absurd (omega (arith, le))
+partitioned_at h n (p ∷ ps) s (suc i) (suc j) d le lt t = partitioned_at h (address_octet p.host) ps s.2 i j d (omega (arith, le)) (omega (arith, lt)) t
+
+pub partitioned : (h : Host) (n : ℕ) (ps : List Peer) → StandAbove n ps → IsPartitionedBy (λ (p : Peer). nat_lt (address_octet p.host) (address_octet h)) ps
+partitioned h n ps s = λ i j d le lt t. partitioned_at h n ps s i j d le lt t
+
+-- ---- what stands where a peer was put
+
+pub order_removed : (h : Host) (ps qs : List Peer) → AreInOrder ps → qs ≡ without_peer h ps → AreInOrder qs
+order_removed h ps qs s e = subst (λ (rs : List Peer). AreInOrder rs) (sym e) (without_above h 0 ps s)
+
+pub order_placed : (p : Peer) (ps qs : List Peer) → IsAddress p.host → AreInOrder ps → qs ≡ placed p ps → AreInOrder qs
+order_placed p ps qs a s e = subst (λ (rs : List Peer). AreInOrder rs) (sym e) (placed_above 0 p ps (omega (arith, a.imp_from)) a s)
+
+pub again_removed : (h : Host) (q : PairState) (ps qs : List Peer) → AreInOrder ps → qs ≡ without_peer h ps → with_pair h q qs ≡ with_pair h q ps
+again_removed h q ps qs s e = ap (λ (rs : List Peer). with_pair h q rs) e ∙ with_pair_again h q ps s

@@ -1,0 +1,166 @@
+//! What a host knows of the others.
+
+ghost use Rattle.std.specs.Prelude.{◌≡◌, ◌<◌, ◌≤◌, [], OnOk, MatchResult, MatchOption, Some, None, length, find, true, false, nat_lt, slice_set, slice_index_or};
+ghost use Rattle.std.specs.Bool.{OnTrue, OnFalse};
+ghost use Rattle.std.specs.List as lists;
+ghost use Rattle.std.specs.List.Sorted.{IsPartitionPoint};
+ghost use Rattle.leader1822.specs.Host.{address_octet, same_host};
+ghost use Rattle.sockets.specs.Pair.{PairState, opening_pair};
+ghost use Rattle.sockets.specs.Pairs.{owner_of, pair_with, with_pair, placed, without_peer};
+ghost use Rattle.sockets.specs.Peers.{AreInOrder};
+ghost use Rattle.sockets.specs.declared.peer.Peer.{Peer};
+
+use crate::ends::own_place;
+use crate::entry::Entry;
+use crate::pair::Pair;
+use crate::peer::Peer;
+use leader1822::HostAddr;
+use std::alloc::{AllocError, Global};
+use std::marker::Model;
+
+/// The other hosts that this one has to do with, in order of their address octets. A host that isn't here has
+/// a pair as at the opening.
+#[derive(Drop)]
+pub(crate) struct Peers {
+    peers: Vec<Peer>,
+}
+
+impl Model for Peers {
+    ghost use Rattle.std.specs.Prelude.{List};
+    ghost use Rattle.sockets.specs.Peers.{AreInOrder};
+    ghost use Rattle.sockets.specs.declared.peer.Peer.{Peer};
+
+    ghost Value = { List Peer };
+
+    ghost view = { λ p. p.peers.items };
+
+    ghost invariant = { λ p. AreInOrder p.peers.items };
+}
+
+impl Peers {
+    /// No peers.
+    pub fn new(alloc: Global) -> Peers
+        ensures { result ≡ [] }
+    {
+        Peers {
+            peers: Vec::new(alloc),
+        }
+    }
+
+    /// What is known of a peer; `None` where that is as at the opening.
+    pub fn pair(&self, host: HostAddr) -> Option<&Pair>
+        ensures { MatchOption result (pair_with host self.now ≡ opening_pair) (λ pair. pair_with host self.now ≡ pair.now) }
+    {
+        match place(&self.peers, host) {
+            Ok(at) => Some(&self.peers[at].pair),
+            Err(_) => None,
+        }
+    }
+
+    /// The peers, in order of their address octets.
+    pub fn as_slice(&self) -> &[Peer]
+        ensures { result.now ≡ self.now }
+    {
+        &self.peers
+    }
+
+    /// This host's own end on a socket, and its peer.
+    pub fn owner(&self, socket: u32) -> Option<(HostAddr, &Entry)>
+        ensures { MatchOption result (owner_of socket self.now ≡ None) (λ found. owner_of socket self.now ≡ Some (found.0, found.1.now)) }
+    {
+        for peer in self.as_slice() {
+            let entries = &peer.pair.entries;
+            if let Some(at) = own_place(entries, socket) {
+                return Some((peer.host, &entries[at]));
+            }
+        }
+        None
+    }
+
+    /// Takes what is known of a peer out, to be changed and put back.
+    pub fn take(&mut self, alloc: Global, host: HostAddr) -> Pair
+        ensures pair { result ≡ pair_with host self.old }
+        ensures left { self.new ≡ without_peer host self.old }
+        ensures again { (pair : PairState) → with_pair host pair self.new ≡ with_pair host pair self.old }
+    {
+        match remove(&mut self.peers, host) {
+            Some(peer) => peer.pair,
+            None => Pair::new(alloc),
+        }
+    }
+
+    /// Puts what is known of a peer in. One with a pair as at the opening isn't kept.
+    pub fn put(&mut self, host: HostAddr, pair: Pair) -> Result<(), AllocError>
+        ensures { OnOk result (self.new ≡ with_pair host pair self.old) }
+    {
+        if pair.is_opening() {
+            remove(&mut self.peers, host);
+            return Ok(());
+        }
+        insert(&mut self.peers, host, pair)
+    }
+}
+
+/// Removes a host from the peers.
+fn remove(peers: &mut Vec<Peer>, host: HostAddr) -> Option<Peer>
+    requires { AreInOrder peers.old.items }
+    ensures left { peers.new.items ≡ without_peer host peers.old.items }
+    ensures found { MatchOption result (pair_with host peers.old.items ≡ opening_pair) (λ peer. pair_with host peers.old.items ≡ peer.pair) }
+    ensures order { AreInOrder peers.new.items }
+    ensures again { (pair : PairState) → with_pair host pair peers.new.items ≡ with_pair host pair peers.old.items }
+{
+    match place(peers, host) {
+        Ok(at) => Some(peers.remove(at)),
+        Err(_) => None,
+    }
+}
+
+/// Puts a host among the peers, or in the place of what stood there of it.
+fn insert(peers: &mut Vec<Peer>, host: HostAddr, pair: Pair) -> Result<(), AllocError>
+    requires { AreInOrder peers.old.items }
+    ensures placed { OnOk result (peers.new.items ≡ placed (record { host = host; pair = pair }) peers.old.items) }
+    ensures order { AreInOrder peers.new.items }
+{
+    match place(peers, host) {
+        Ok(at) => peers[at] = Peer { host, pair },
+        Err(at) => peers.insert(at, Peer { host, pair })?,
+    }
+    Ok(())
+}
+
+/// The place of a host among the peers, or that at which it would stand.
+fn place(peers: &[Peer], host: HostAddr) -> Result<usize, usize>
+    requires { AreInOrder peers.now }
+    ensures bound { MatchResult result (λ at. at < length peers.now) (λ at. at ≤ length peers.now) }
+    ensures found { MatchResult result (λ at. (d : Peer) → find (λ p. same_host host p.host) peers.now ≡ Some (slice_index_or peers.now at d)) (λ at. find (λ p. same_host host p.host) peers.now ≡ None) }
+    ensures removed { MatchResult result (λ at. lists.remove peers.now at ≡ without_peer host peers.now) (λ at. without_peer host peers.now ≡ peers.now) }
+    ensures placed { (pair : PairState) → MatchResult result (λ at. slice_set peers.now at (record { host = host; pair = pair }) ≡ placed (record { host = host; pair = pair }) peers.now) (λ at. lists.insert peers.now at (record { host = host; pair = pair }) ≡ placed (record { host = host; pair = pair }) peers.now) }
+{
+    let at = first_from(peers, host);
+    if stands_at(peers, at, host) {
+        Ok(at)
+    } else {
+        Err(at)
+    }
+}
+
+/// Whether a host stands at this place.
+fn stands_at(peers: &[Peer], at: usize, host: HostAddr) -> bool
+    ensures yes { OnTrue result ((at < length peers.now) × ((d : Peer) → same_host host (slice_index_or peers.now at d).host ≡ true)) }
+    ensures no { OnFalse result (at < length peers.now → (d : Peer) → same_host host (slice_index_or peers.now at d).host ≡ false) }
+{
+    if at >= peers.len() {
+        return false;
+    }
+    host == peers[at].host
+}
+
+/// How many of the peers stand before a host.
+fn first_from(peers: &[Peer], host: HostAddr) -> usize
+    requires { AreInOrder peers.now }
+    ensures bound { result ≤ length peers.now }
+    ensures parts { IsPartitionPoint (λ p. nat_lt (address_octet p.host) (address_octet host) ≡ true) (λ p. nat_lt (address_octet p.host) (address_octet host) ≡ false) peers.now result }
+{
+    let octet = host.octet();
+    peers.partition_point(|p| p.host.octet() < octet)
+}
