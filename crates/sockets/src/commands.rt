@@ -124,7 +124,7 @@ impl Desk {
             return self.fault(alloc, ERRONEOUS, &command);
         }
         match place(&self.entries, own.number(), foreign.number()) {
-            Some(at) if self.entries[at].partner.is_some() => {
+            Some(sender) if self.entries[sender].partner.is_some() => {
                 self.fault(alloc, ERRONEOUS, &command)
             }
             Some(_) => self.match_rts(peer, own.number(), foreign.number(), stamp, link),
@@ -172,7 +172,7 @@ impl Desk {
         ensures { OnOk result (self.new ≡ commands.str_taken peer own foreign size stamp self.old) }
     {
         match place(&self.entries, own.number(), foreign.number()) {
-            Some(at) if self.entries[at].partner.is_some() => {
+            Some(receiver) if self.entries[receiver].partner.is_some() => {
                 let command = Command::Str {
                     send: foreign,
                     receive: own,

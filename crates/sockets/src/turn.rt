@@ -117,6 +117,14 @@ impl Turn {
 // ---- the reset
 
 impl Turn {
+    /// All of the pair's connections and what waits to be said are gone.
+    fn forget(&mut self, alloc: Global)
+        ensures { self.new ≡ record self.old { pair = record self.old.pair { entries = []; queue = [] } } }
+    {
+        self.pair.entries = Vec::new(alloc);
+        self.pair.queue = Vec::new(alloc);
+    }
+
     /// An RST of the peer is taken: all of the pair's connections are gone, and an RRP is owed.
     fn take_reset(&mut self, alloc: Global, peer: HostAddr) -> Result<(), AllocError>
         ensures { OnOk result (self.new ≡ accepting.reset_taken peer self.old) }
@@ -124,8 +132,7 @@ impl Turn {
         let before = self.pair.phase;
         self.pair.phase = before.after_reset();
         self.pair.owed = true;
-        self.pair.entries = Vec::new(alloc);
-        self.pair.queue = Vec::new(alloc);
+        self.forget(alloc);
         match before {
             Phase::Closed => self.tell(Notice::Ready { peer }),
             Phase::Ready => self.tell(Notice::PairReset { peer }),
@@ -178,8 +185,7 @@ impl Turn {
         ensures { OnOk result (self.new ≡ accepting.closed (notice ∷ []) self.old) }
     {
         self.pair.phase = Phase::Closed;
-        self.pair.entries = Vec::new(alloc);
-        self.pair.queue = Vec::new(alloc);
+        self.forget(alloc);
         self.tell(notice)
     }
 
