@@ -14,3 +14,4 @@ pub mod HostsUp
 pub mod ImpsUp
 pub mod ImpsDown
 pub mod Deliveries
+pub mod HostsDown

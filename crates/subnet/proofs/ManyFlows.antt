@@ -36,13 +36,17 @@ all_moved n imps lines entries moves follow at formats answers is =
 -- ---- one IMP is another one
 
 -- what becomes of a side of a flow at that IMP becomes of it where the side is there
-pub at_end : {X : Type 0} (F : Option State → X) (change : Bool → X → X) (imps : List (Option State)) (i j : ℕ) (o : Option State) (b : Bool)
-    → ((x : X) → change false x ≡ x) → imp_at (slice_set imps i o) i ≡ o → F o ≡ change b (F (imp_at imps i)) → F (imp_at (slice_set imps i o) j) ≡ change (j == i && b) (F (imp_at imps j))
-at_end F change imps i j o b still there is = elim (cases_Bool (j == i)) [
+pub at_end_if : {X : Type 0} (F : Option State → X) (change : Bool → X → X) (imps : List (Option State)) (i j : ℕ) (o : Option State) (b : Bool)
+    → ((x : X) → change false x ≡ x) → imp_at (slice_set imps i o) i ≡ o → ((j == i) ≡ true → F o ≡ change b (F (imp_at imps i))) → F (imp_at (slice_set imps i o) j) ≡ change (j == i && b) (F (imp_at imps j))
+at_end_if F change imps i j o b still there is = elim (cases_Bool (j == i)) [
   | inl same ↦ (let at : j ≡ i = eqb-true j i same in
-      rw same (ap (λ (k : ℕ). F (imp_at (slice_set imps i o) k)) at ∙ ap F there ∙ is ∙ ap (λ (k : ℕ). change b (F (imp_at imps k))) (sym at)))
+      rw same (ap (λ (k : ℕ). F (imp_at (slice_set imps i o) k)) at ∙ ap F there ∙ is same ∙ ap (λ (k : ℕ). change b (F (imp_at imps k))) (sym at)))
   | inr other ↦ rw other (ap F (get_or-set_other imps i j o None (λ (e : j ≡ i). let both : true ≡ false = sym (eq-eqb j i e) ∙ other in cc)) ∙ sym (still (F (imp_at imps j))))
 ]
+
+pub at_end : {X : Type 0} (F : Option State → X) (change : Bool → X → X) (imps : List (Option State)) (i j : ℕ) (o : Option State) (b : Bool)
+    → ((x : X) → change false x ≡ x) → imp_at (slice_set imps i o) i ≡ o → F o ≡ change b (F (imp_at imps i)) → F (imp_at (slice_set imps i o) j) ≡ change (j == i && b) (F (imp_at imps j))
+at_end F change imps i j o b still there is = at_end_if F change imps i j o b still there (λ here. is)
 
 -- a call that touches all hosts of an IMP
 pub and_true_is : (b : Bool) → (b && true) ≡ b

@@ -96,6 +96,9 @@ pub fn sound_stops()
     // an IMP forgets the numbers of flows from another one
     ensures forget { (n : Net) (at from : ℕ) → step_refusal n (event.Forget at from) ≡ None → IsSound n → IsSound (stepped n (event.Forget at from)) }
 
+    // a host goes down: messages that waited for it give Dead
+    ensures host_down { (n : Net) (h : Host) → step_refusal n (event.HostDown h) ≡ None → IsSound n → IsSound (stepped n (event.HostDown h)) }
+
     // a host comes up, while no message of it is outstanding
     ensures host_up { (n : Net) (h : Host) → step_refusal n (event.HostUp h) ≡ None → IsSound n → IsSound (stepped n (event.HostUp h)) }
 

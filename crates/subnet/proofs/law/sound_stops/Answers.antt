@@ -1,4 +1,5 @@
 use Rattle.subnet.proofs.Forgetting.{forget_sound}
+use Rattle.subnet.proofs.HostsDown.{host_down_sound}
 use Rattle.subnet.proofs.HostsUp.{host_up_sound}
 use Rattle.subnet.proofs.ImpsDown.{imp_down_sound}
 use Rattle.subnet.proofs.ImpsUp.{imp_up_sound}
@@ -15,3 +16,6 @@ returns-clause-imp_up c = imp_up_sound
 
 pub returns-clause-imp_down : goal.returns-clause-imp_down
 returns-clause-imp_down c = imp_down_sound
+
+pub returns-clause-host_down : goal.returns-clause-host_down
+returns-clause-host_down c = host_down_sound
