@@ -15,3 +15,5 @@ pub mod ImpsUp
 pub mod ImpsDown
 pub mod Deliveries
 pub mod HostsDown
+pub mod Rounds
+pub mod EventSteps

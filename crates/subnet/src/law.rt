@@ -12,6 +12,7 @@ ghost use Rattle.leader1822.specs.declared.carrier.CarrierFault.TheVariants as f
 ghost use Rattle.leader1822.specs.declared.crossing.Crossing.TheVariants as crossing;
 ghost use Rattle.leader1822.specs.declared.event.Direction.{Direction};
 ghost use Rattle.leader1822.specs.declared.event.Direction.TheVariants as way;
+ghost use Rattle.leader1822.specs.declared.event.NetEvent.{NetEvent};
 ghost use Rattle.leader1822.specs.declared.event.NetEvent.TheVariants as event;
 ghost use Rattle.leader1822.specs.declared.message.HostMessage.{HostMessage};
 ghost use Rattle.imp_channel.specs.declared.frame.Content.TheVariants as content;
@@ -107,6 +108,15 @@ pub fn sound_stops()
 
     // an IMP starts, where nothing of its flows is alive
     ensures imp_up { (n : Net) (i : ℕ) → step_refusal n (event.ImpUp i) ≡ None → IsSound n → IsSound (stepped n (event.ImpUp i)) }
+{}
+
+/// A sound subnet stays sound whatever happens in it.
+pub fn sound_steps()
+    // any event, where it is not refused
+    ensures step { (n : Net) (e : NetEvent) → step_refusal n e ≡ None → IsSound n → IsSound (stepped n e) }
+
+    // all IMPs tell their distances and send again, and all frames are delivered
+    ensures quiet_round { (n : Net) → IsSound n → IsSound (quiet_round n) }
 {}
 
 /// Lines and their ends.

@@ -1,0 +1,9 @@
+use Rattle.subnet.proofs.EventSteps.{step_sound}
+use Rattle.subnet.proofs.Rounds.{quiet_round_sound}
+use Rattle.subnet.proofs.law.sound_steps.Goals as goal
+
+pub returns-clause-step : goal.returns-clause-step
+returns-clause-step c = step_sound
+
+pub returns-clause-quiet_round : goal.returns-clause-quiet_round
+returns-clause-quiet_round c = quiet_round_sound
