@@ -1,5 +1,5 @@
 -- A frame is delivered.
-use Rattle.std.proofs.Common.{◌≡◌, ℕ, Bool, true, false, List, [], ◌∷◌, ◌++◌, map, Option, Some, None, Result, Ok, Err, refl, ap, sym, ◌∙◌, subst, ◌⊎◌, inl, inr, ◌==◌, eqb-true, cond, append-nil, All, Contains}
+use Rattle.std.proofs.Common.{◌≡◌, ℕ, Bool, true, false, List, [], ◌∷◌, ◌++◌, Option, Some, None, Result, Ok, Err, refl, ap, sym, ◌∙◌, subst, inl, inr, ◌==◌, eqb-true, cond, append-nil, All, Contains}
 use Rattle.std.specs.Prelude.{slice_get}
 use Rattle.std.specs.FinMap as finite
 use Rattle.std.specs.List.{flat_map}
@@ -7,7 +7,6 @@ use Rattle.std.proofs.lemmas.List.{map-append}
 use Rattle.std.proofs.lemmas.List.Elements.{All-nil, All-cons, All-head, All-push, All-set, All-weaker, All-contains, All-contains_itself, Contains-append_left}
 use Rattle.bit_messages.specs.Body.{body, text_of}
 use Rattle.bit_messages.proofs.BodyLemmas.{text_of-body}
-use Rattle.leader1822.specs.Flow.{same_flow}
 use Rattle.leader1822.specs.declared.address.Flow.{Flow}
 use Rattle.leader1822.specs.declared.crossing.Answer.{Answer}
 use Rattle.leader1822.specs.declared.crossing.Answer.TheVariants as answer
@@ -35,10 +34,10 @@ use Rattle.imp_channel.specs.declared.line.Received.{Received}
 use Rattle.imp_channel.specs.declared.line.Received.TheVariants as received
 use Rattle.imp_channel.proofs.Holding.{received_has, fresh_carried}
 use Rattle.flow_law.specs.View.{View, Packet, Queued, Kind}
-use Rattle.flow_law.specs.Moves.{Move, NoteGone, Whole, Freed, New, Brings, CanNote, CanQueue, CanFree, Joined, IsTold, after}
+use Rattle.flow_law.specs.Moves.{Move, NoteGone, Whole, Freed, Brings, CanNote, Joined, IsTold, after}
 use Rattle.flow_law.proofs.FollowLemmas.{makes_one}
 use Rattle.imp_node.specs.declared.waiting.Message.{Message}
-use Rattle.imp_node.specs.State.{State, HostState, Turn, number, host_at, port_at}
+use Rattle.imp_node.specs.State.{State, Turn, number, host_at, port_at}
 use Rattle.imp_node.specs.Arrival as arrivals
 use Rattle.imp_node.specs.Arrival.{Arrival, Passing, Old, Undeliverable, Piece, NoSlot, Unmarked, Answering, arrival, arrival_has_room, arrived, taken, acknowledged, heard, ignored, taken_frame, from_line}
 use Rattle.imp_node.specs.Contents as contents
@@ -59,7 +58,7 @@ use Rattle.subnet.specs.Flows as flows
 use Rattle.subnet.specs.Flows.{Alive, kind_of, packet_of, queued_of, imp_is_up, sender_at, receiver_at, view_of, view}
 use Rattle.subnet.specs.Making.{NothingNew, OnlyNew, dead_made}
 use Rattle.subnet.specs.Sound.{IsAt, IsSound}
-use Rattle.subnet.proofs.Having.{FrameHas, ImpHas, NetHas, GotHas, net_itself, content_has, frame_packets, imp_has, wire_has, way_has, got_has}
+use Rattle.subnet.proofs.Having.{FrameHas, ImpHas, GotHas, net_itself, content_has, frame_packets, imp_has, wire_has, way_has, got_has}
 use Rattle.subnet.proofs.HavingByEvents.{brings}
 use Rattle.subnet.proofs.Offers.{answer_format}
 use Rattle.subnet.proofs.Silence.{at_host_all}

@@ -17,3 +17,4 @@ pub mod Deliveries
 pub mod HostsDown
 pub mod Rounds
 pub mod EventSteps
+pub mod Routed

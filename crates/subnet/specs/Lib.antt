@@ -8,3 +8,4 @@ pub mod Examples
 pub mod Making
 pub mod Sound
 pub mod Offers
+pub mod Routed

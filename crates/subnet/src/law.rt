@@ -4,7 +4,7 @@
 //! The functions `worked_..` state the rules by examples: each row is one that another reading of its rule
 //! would fail.
 
-ghost use Rattle.std.specs.Prelude.{◌≡◌, ℕ, true, false, List, [], ◌∷◌, length, replicate, Option, Some, None};
+ghost use Rattle.std.specs.Prelude.{◌≡◌, ◌≤◌, ℕ, true, false, List, [], ◌∷◌, length, replicate, Option, Some, None};
 ghost use Rattle.leader1822.specs.Host.{Host};
 ghost use Rattle.leader1822.specs.Mailboxes.{IsRun};
 ghost use Rattle.leader1822.specs.declared.address.Flow.{Flow};
@@ -27,6 +27,7 @@ ghost use Rattle.subnet.specs.Net.{Net, imp_at, wire_at, port_of, line_from, put
 ghost use Rattle.subnet.specs.Offers.{CanGoFrom};
 ghost use Rattle.subnet.specs.Opening.{Ends, AreHosts};
 ghost use Rattle.subnet.specs.Opening as start;
+ghost use Rattle.subnet.specs.Routed.{IsRouted, IsHostMessage};
 ghost use Rattle.subnet.specs.Sound.{IsSound};
 
 /// Which packets are in a subnet, in its IMPs and in live frames, after each event: those that were in it,
@@ -74,6 +75,19 @@ pub fn sound_messages()
     // a frame is delivered: it is lost, or its packet goes on, is joined with others, makes its message whole, can't be delivered, or
     // brings an answer
     ensures deliver { (n : Net) (l : ℕ) (d : Direction) (k : ℕ) → IsSound n → IsSound (stepped n (event.Deliver l d k)) }
+{}
+
+/// Distances are told of the IMPs 1 to 16 alone, from the opening on and whatever happens: so a message with
+/// addresses, which every message of a host has, can be carried where it goes.
+pub fn routed()
+    ensures opening { (hosts : List Host) (sites : List (Option ℕ)) (ends : List Ends) → length sites ≤ 17 → IsRouted (start.opening hosts sites ends) }
+    ensures offer_out { (n : Net) (m : HostMessage) → IsRouted n → IsRouted (offer_out n m) }
+    ensures take_in { (n : Net) (h : Host) → IsRouted n → IsRouted (take_in n h) }
+    ensures step { (n : Net) (e : NetEvent) → IsRouted n → IsRouted (stepped n e) }
+    ensures quiet_round { (n : Net) → IsRouted n → IsRouted (quiet_round n) }
+
+    // so what is asked of an offer holds of every message of a host
+    ensures offers { (n : Net) (m : HostMessage) → IsRouted n → IsSound n → IsHostMessage m → CanGoFrom (imp_at n.imps m.flow.source.imp) m }
 {}
 
 /// A sound subnet stays sound where frames are lost or sent again, ends of lines go down and come up, slots are
