@@ -8,7 +8,7 @@ use Rattle.sockets.specs.Accepting.{accepted}
 use Rattle.sockets.specs.Control.{orders_of}
 use Rattle.sockets.specs.Requests.{served, refusal, served_notices}
 use Rattle.sockets.specs.Sending.{next_out, offered}
-use Rattle.sockets.specs.Worked.{first, second, message, control, heard, got, answered, gone, delivered, reset, closing, sending, opened, draining, first_in, second_in, CLS, ALL, GVB, RET, INR, INS, ERR}
+use Rattle.sockets.specs.Worked.{first, second, message, control, heard, got, answered, gone, delivered, reset, closing, sending, opened, draining, first_in, second_in, RTS, CLS, ALL, GVB, RET, INR, INS, ERR}
 use Rattle.sockets.specs.declared.notice.Notice.TheVariants as notice
 use Rattle.sockets.specs.declared.request.Request.TheVariants as request
 
@@ -71,3 +71,7 @@ closings_commands_when_closing = refl
 pub closings_untold_when_closing : (heard (served (first_in opened) (request.Close 16)) second (RET 2 0 0 ++ INS 2)).1 ≡ []
 unfolding octets_of orders_of read_of command_of packed_count accepted refusal served served_notices next_out offered
 closings_untold_when_closing = refl
+
+pub closings_closes_at_once : next_out (served (served (gone (second_in (opened ++ sending))) (request.OpenReceive first 18 35)) (request.Close 18)) ≡ Some (control second first (RTS 18 35 2 ++ CLS 18 35))
+unfolding octets_of orders_of read_of command_of packed_count accepted refusal served served_notices next_out offered
+closings_closes_at_once = refl

@@ -8,7 +8,7 @@ use Rattle.sockets.specs.Accepting.{accepted}
 use Rattle.sockets.specs.Control.{orders_of}
 use Rattle.sockets.specs.Requests.{served, refusal, served_notices}
 use Rattle.sockets.specs.Sending.{next_out, offered}
-use Rattle.sockets.specs.Worked.{first, second, message, control, heard, got, answered, gone, opened, first_in, second_in, two_senders, ALL, GVB, RET, ECO, ERP, ERR}
+use Rattle.sockets.specs.Worked.{first, second, message, control, heard, got, answered, gone, sending, opened, first_in, second_in, two_senders, ALL, GVB, RET, ECO, ERP, ERR}
 use Rattle.sockets.specs.declared.notice.Notice.TheVariants as notice
 use Rattle.sockets.specs.declared.request.Request.TheVariants as request
 
@@ -71,6 +71,30 @@ data_nothing_given_back = refl
 pub data_nothing_returned : (heard (first_in opened) second (RET 2 0 0)).1 ≡ notice.Returned 16 0 0 ∷ []
 unfolding octets_of orders_of read_of command_of packed_count accepted refusal served served_notices next_out offered
 data_nothing_returned = refl
+
+pub data_bits_are_used : next_out (got (got (served (first_in opened) (request.Grant 16 3 16)) second 2 (0 ∷ 8 ∷ 0 ∷ 1 ∷ 0 ∷ 65 ∷ [])).0 second 2 (0 ∷ 8 ∷ 0 ∷ 2 ∷ 0 ∷ 65 ∷ 66 ∷ [])).0 ≡ Some (control first second (ALL 2 3 16 ++ ERR 3 (0 ∷ 8 ∷ 0 ∷ 2 ∷ 0 ∷ 65 ∷ 66 ∷ []) 3))
+unfolding octets_of orders_of read_of command_of packed_count accepted refusal served served_notices next_out offered
+data_bits_are_used = refl
+
+pub data_grants_add_up : (got (served (served (first_in opened) (request.Grant 16 1 16)) (request.Grant 16 0 8)) second 2 (0 ∷ 8 ∷ 0 ∷ 3 ∷ 0 ∷ 65 ∷ 66 ∷ 67 ∷ [])).1 ≡ notice.Arrived 16 (bits_of (65 ∷ 66 ∷ 67 ∷ [])) ∷ []
+unfolding octets_of orders_of read_of command_of packed_count accepted refusal served served_notices next_out offered
+data_grants_add_up = refl
+
+pub data_returned_once : next_out (heard (served (first_in opened) (request.Grant 16 1 16)) second (RET 2 1 8 ++ RET 2 1 8 ++ RET 2 0 8)).0 ≡ Some (control first second (ALL 2 1 16 ++ ERR 3 (RET 2 1 8) 2))
+unfolding octets_of orders_of read_of command_of packed_count accepted refusal served served_notices next_out offered
+data_returned_once = refl
+
+pub data_given_back_once : next_out (heard (second_in (opened ++ sending)) first (GVB 2 64 200 ++ GVB 2 128 128)).0 ≡ Some (control second first (RET 2 1 100 ++ RET 2 1 0))
+unfolding octets_of orders_of read_of command_of packed_count accepted refusal served served_notices next_out offered
+data_given_back_once = refl
+
+pub data_in_order : next_out (heard (served (served (second_in opened) (request.Send 33 (bits_of (65 ∷ [])))) (request.Send 33 (bits_of (66 ∷ [])))) first (ALL 2 1 8 ++ ALL 2 1 8)).0 ≡ Some (message second first 2 (0 ∷ 8 ∷ 0 ∷ 2 ∷ 0 ∷ 65 ∷ 66 ∷ []))
+unfolding octets_of orders_of read_of command_of packed_count accepted refusal served served_notices next_out offered
+data_in_order = refl
+
+pub data_what_is_left : next_out (heard (answered (gone (second_in (opened ++ sending))) answer.Rfnm first 2).0 first (ALL 2 0 4)).0 ≡ Some (message second first 2 (0 ∷ 8 ∷ 0 ∷ 1 ∷ 0 ∷ 13 ∷ []))
+unfolding octets_of orders_of read_of command_of packed_count accepted refusal served served_notices next_out offered
+data_what_is_left = refl
 
 pub data_lowest_link : next_out two_senders ≡ Some (message second first 4 (0 ∷ 8 ∷ 0 ∷ 1 ∷ 0 ∷ 66 ∷ []))
 unfolding octets_of orders_of read_of command_of packed_count accepted refusal served served_notices next_out offered

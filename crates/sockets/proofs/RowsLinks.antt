@@ -7,7 +7,7 @@ use Rattle.sockets.specs.Accepting.{accepted}
 use Rattle.sockets.specs.Control.{orders_of}
 use Rattle.sockets.specs.Requests.{refusal, served, served_notices}
 use Rattle.sockets.specs.Sending.{next_out, offered}
-use Rattle.sockets.specs.Worked.{first, second, third, control, heard, delivered, reset, many_opened, one_refused, refused_closed, first_in, RTS, STR, CLS, RST}
+use Rattle.sockets.specs.Worked.{first, second, third, control, heard, delivered, reset, many_opened, opened, one_refused, refused_closed, first_in, second_in, RTS, STR, CLS, RST}
 use Rattle.sockets.specs.declared.fault.NcpFault.TheVariants as fault
 use Rattle.sockets.specs.declared.request.Request.TheVariants as request
 
@@ -18,6 +18,10 @@ links_lowest_free_link = refl
 pub links_link_of_closing : next_out (served (first_in (reset ++ one_refused)) (request.OpenReceive second 20 37)) ≡ Some (control first second (CLS 16 33 ++ RTS 20 37 4))
 unfolding octets_of orders_of read_of command_of packed_count accepted refusal served served_notices next_out offered
 links_link_of_closing = refl
+
+pub links_links_of_senders : next_out (served (second_in opened) (request.OpenReceive first 18 35)) ≡ Some (control second first (RTS 18 35 2))
+unfolding octets_of orders_of read_of command_of packed_count accepted refusal served served_notices next_out offered
+links_links_of_senders = refl
 
 pub links_links_of_another_peer : refusal (heard (first_in (reset ++ many_opened)) third RST).0 (request.OpenReceive third 76 33) ≡ None
 unfolding octets_of orders_of read_of command_of packed_count accepted refusal served served_notices next_out offered

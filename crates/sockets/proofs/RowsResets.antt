@@ -9,7 +9,7 @@ use Rattle.sockets.specs.Accepting.{accepted}
 use Rattle.sockets.specs.Control.{orders_of}
 use Rattle.sockets.specs.Requests.{refusal, served, served_notices}
 use Rattle.sockets.specs.Sending.{next_out, offered}
-use Rattle.sockets.specs.Worked.{first, second, third, neighbour, talk, control, on_link, heard, answered, gone, delivered, reset, sending, opened, own_reset, own_opening, first_in, second_in, closed, rst_out, rst_taken, ready, want_again, ECO, ERP, RST, RRP}
+use Rattle.sockets.specs.Worked.{first, second, third, neighbour, talk, control, on_link, heard, answered, gone, delivered, reset, sending, opened, own_reset, own_opening, first_in, second_in, closed, rst_out, rst_taken, ready, want_again, RTS, STR, CLS, ECO, ERP, RST, RRP}
 use Rattle.sockets.specs.declared.fault.NcpFault.TheVariants as fault
 use Rattle.sockets.specs.declared.notice.Notice.TheVariants as notice
 use Rattle.sockets.specs.declared.request.Request.TheVariants as request
@@ -70,6 +70,18 @@ pub resets_closed_when_lost : refusal (answered (gone (served ready (request.Ech
 unfolding octets_of orders_of read_of command_of packed_count accepted refusal served served_notices next_out offered
 resets_closed_when_lost = refl
 
+pub resets_lost_drops_commands : next_out (delivered (heard (answered (served (gone (served ready (request.Echo second 65))) (request.Echo second 66)) answer.Dead second 0).0 second RST).0 second 0) ≡ None
+unfolding octets_of orders_of read_of command_of packed_count accepted refusal served served_notices next_out offered
+resets_lost_drops_commands = refl
+
+pub resets_lost_drops_connections : refusal (answered (gone (served (first_in opened) (request.Interrupt 16))) answer.Dead second 0).0 (request.Grant 16 0 0) ≡ Some fault.NoSuchSocket
+unfolding octets_of orders_of read_of command_of packed_count accepted refusal served served_notices next_out offered
+resets_lost_drops_connections = refl
+
+pub resets_reset_drops_connections : refusal (heard (first_in opened) second RST).0 (request.Grant 16 0 0) ≡ Some fault.NoSuchSocket
+unfolding octets_of orders_of read_of command_of packed_count accepted refusal served served_notices next_out offered
+resets_reset_drops_connections = refl
+
 pub resets_lost_while_owing : (answered (heard (gone (served ready (request.Echo second 65))) second RST).0 answer.Dead second 0).1 ≡ []
 unfolding octets_of orders_of read_of command_of packed_count accepted refusal served served_notices next_out offered
 resets_lost_while_owing = refl
@@ -77,6 +89,10 @@ resets_lost_while_owing = refl
 pub resets_ready_while_owing : refusal (answered (heard (gone (served ready (request.Echo second 65))) second RST).0 answer.Dead second 0).0 (request.Echo second 65) ≡ None
 unfolding octets_of orders_of read_of command_of packed_count accepted refusal served served_notices next_out offered
 resets_ready_while_owing = refl
+
+pub resets_closes_after_failure : next_out (delivered (heard (answered (served (heard (served (gone (second_in (opened ++ sending))) (request.Listen 35 8)) first (RST ++ RTS 16 35 2)).0 (request.Close 35)) answer.Incomplete first 2).0 first (ECO 65)).0 first 0) ≡ Some (control second first (STR 35 16 8 ++ CLS 35 16 ++ ERP 65))
+unfolding octets_of orders_of read_of command_of packed_count accepted refusal served served_notices next_out offered
+resets_closes_after_failure = refl
 
 pub resets_early_reply : (answered (heard rst_out second RRP).0 answer.Rfnm second 0).1 ≡ []
 unfolding octets_of orders_of read_of command_of packed_count accepted refusal served served_notices next_out offered
@@ -117,6 +133,10 @@ resets_rst_is_silent = refl
 pub resets_rst_when_silent : next_out (answered (served (gone (second_in (opened ++ sending))) (request.Contact first)) answer.Rfnm first 2).0 ≡ Some (control second first RST)
 unfolding octets_of orders_of read_of command_of packed_count accepted refusal served served_notices next_out offered
 resets_rst_when_silent = refl
+
+pub resets_rst_waits_for_each : next_out (answered (served (gone (heard (gone (second_in (opened ++ sending))) first (ECO 65)).0) (request.Contact first)) answer.Rfnm first 0).0 ≡ None
+unfolding octets_of orders_of read_of command_of packed_count accepted refusal served served_notices next_out offered
+resets_rst_waits_for_each = refl
 
 pub resets_rrp_is_silent : next_out (heard (gone (second_in (opened ++ sending))) first (RST ++ ECO 65)).0 ≡ None
 unfolding octets_of orders_of read_of command_of packed_count accepted refusal served served_notices next_out offered

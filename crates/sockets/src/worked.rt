@@ -54,7 +54,8 @@ pub fn worked_links()
     ensures lowest_free_link { next_out (served (first_in (reset ++ refused_closed)) (request.OpenReceive second 20 37)) ≡ Some (control first second (RTS 20 37 2)) }
     ensures link_of_closing { next_out (served (first_in (reset ++ one_refused)) (request.OpenReceive second 20 37)) ≡ Some (control first second (CLS 16 33 ++ RTS 20 37 4)) }
 
-    // another peer has thirty links of its own
+    // a sending end's link isn't the receiver's to give, and another peer has thirty links of its own
+    ensures links_of_senders { next_out (served (second_in opened) (request.OpenReceive first 18 35)) ≡ Some (control second first (RTS 18 35 2)) }
     ensures links_of_another_peer { refusal (heard (first_in (reset ++ many_opened)) third RST).0 (request.OpenReceive third 76 33) ≡ None }
 
     // without a free link a request is refused, and the socket goes on listening
@@ -89,6 +90,7 @@ pub fn worked_closings()
     ensures data_when_closing { next_out (got (served (first_in opened) (request.Close 16)) second 2 (0 ∷ 8 ∷ 0 ∷ 1 ∷ 0 ∷ 65 ∷ [])).0 ≡ Some (control first second (CLS 16 33)) }
     ensures commands_when_closing { next_out (heard (served (first_in opened) (request.Close 16)) second (RET 2 0 0 ++ RET 2 1 1 ++ INS 2)).0 ≡ Some (control first second (CLS 16 33)) }
     ensures untold_when_closing { (heard (served (first_in opened) (request.Close 16)) second (RET 2 0 0 ++ INS 2)).1 ≡ [] }
+    ensures closes_at_once { next_out (served (served (gone (second_in (opened ++ sending))) (request.OpenReceive first 18 35)) (request.Close 18)) ≡ Some (control second first (RTS 18 35 2 ++ CLS 18 35)) }
 {}
 
 /// What becomes of data, and of an allocation.
@@ -117,6 +119,16 @@ pub fn worked_data()
     ensures asked_back { next_out (served (first_in opened) (request.AskBack 16 64 200)) ≡ Some (control first second (GVB 2 64 200)) }
     ensures nothing_given_back { next_out (heard (second_in opened) first (GVB 2 128 128)).0 ≡ Some (control second first (RET 2 0 0)) }
     ensures nothing_returned { (heard (first_in opened) second (RET 2 0 0)).1 ≡ notice.Returned 16 0 0 ∷ [] }
+
+    // what was granted adds up; what was used, given back or returned is taken off
+    ensures bits_are_used { next_out (got (got (served (first_in opened) (request.Grant 16 3 16)) second 2 (0 ∷ 8 ∷ 0 ∷ 1 ∷ 0 ∷ 65 ∷ [])).0 second 2 (0 ∷ 8 ∷ 0 ∷ 2 ∷ 0 ∷ 65 ∷ 66 ∷ [])).0 ≡ Some (control first second (ALL 2 3 16 ++ ERR 3 (0 ∷ 8 ∷ 0 ∷ 2 ∷ 0 ∷ 65 ∷ 66 ∷ []) 3)) }
+    ensures grants_add_up { (got (served (served (first_in opened) (request.Grant 16 1 16)) (request.Grant 16 0 8)) second 2 (0 ∷ 8 ∷ 0 ∷ 3 ∷ 0 ∷ 65 ∷ 66 ∷ 67 ∷ [])).1 ≡ notice.Arrived 16 (bits_of (65 ∷ 66 ∷ 67 ∷ [])) ∷ [] }
+    ensures returned_once { next_out (heard (served (first_in opened) (request.Grant 16 1 16)) second (RET 2 1 8 ++ RET 2 1 8 ++ RET 2 0 8)).0 ≡ Some (control first second (ALL 2 1 16 ++ ERR 3 (RET 2 1 8) 2)) }
+    ensures given_back_once { next_out (heard (second_in (opened ++ sending)) first (GVB 2 64 200 ++ GVB 2 128 128)).0 ≡ Some (control second first (RET 2 1 100 ++ RET 2 1 0)) }
+
+    // bits go out in the order of the calls, and what is left goes next
+    ensures in_order { next_out (heard (served (served (second_in opened) (request.Send 33 (bits_of (65 ∷ [])))) (request.Send 33 (bits_of (66 ∷ [])))) first (ALL 2 1 8 ++ ALL 2 1 8)).0 ≡ Some (message second first 2 (0 ∷ 8 ∷ 0 ∷ 2 ∷ 0 ∷ 65 ∷ 66 ∷ [])) }
+    ensures what_is_left { next_out (heard (answered (gone (second_in (opened ++ sending))) answer.Rfnm first 2).0 first (ALL 2 0 4)).0 ≡ Some (message second first 2 (0 ∷ 8 ∷ 0 ∷ 1 ∷ 0 ∷ 13 ∷ [])) }
 
     // of the ends that may send, that with the lowest link does, and each waits for its answer. Commands go first if link 0 is free
     ensures lowest_link { next_out two_senders ≡ Some (message second first 4 (0 ∷ 8 ∷ 0 ∷ 1 ∷ 0 ∷ 66 ∷ [])) }
@@ -151,8 +163,14 @@ pub fn worked_resets()
     // so it is with a pair that is ready
     ensures lost_when_ready { (answered (gone (served ready (request.Echo second 65))) answer.Dead second 0).1 ≡ notice.PairReset second ∷ [] }
     ensures closed_when_lost { refusal (answered (gone (served ready (request.Echo second 65))) answer.Dead second 0).0 (request.Echo second 65) ≡ Some fault.NotContacted }
+    ensures lost_drops_commands { next_out (delivered (heard (answered (served (gone (served ready (request.Echo second 65))) (request.Echo second 66)) answer.Dead second 0).0 second RST).0 second 0) ≡ None }
+    ensures lost_drops_connections { refusal (answered (gone (served (first_in opened) (request.Interrupt 16))) answer.Dead second 0).0 (request.Grant 16 0 0) ≡ Some fault.NoSuchSocket }
+    ensures reset_drops_connections { refusal (heard (first_in opened) second RST).0 (request.Grant 16 0 0) ≡ Some fault.NoSuchSocket }
     ensures lost_while_owing { (answered (heard (gone (served ready (request.Echo second 65))) second RST).0 answer.Dead second 0).1 ≡ [] }
     ensures ready_while_owing { refusal (answered (heard (gone (served ready (request.Echo second 65))) second RST).0 answer.Dead second 0).0 (request.Echo second 65) ≡ None }
+
+    // a link is free by any answer, also while an RRP is owed, and an end that waited for that closes then
+    ensures closes_after_failure { next_out (delivered (heard (answered (served (heard (served (gone (second_in (opened ++ sending))) (request.Listen 35 8)) first (RST ++ RTS 16 35 2)).0 (request.Close 35)) answer.Incomplete first 2).0 first (ECO 65)).0 first 0) ≡ Some (control second first (STR 35 16 8 ++ CLS 35 16 ++ ERP 65)) }
 
     // an RRP that comes before the RFNM of the RST may belong to an older RST: another RST goes out. An RST of the peer changes nothing of that
     ensures early_reply { (answered (heard rst_out second RRP).0 answer.Rfnm second 0).1 ≡ [] }
@@ -171,6 +189,7 @@ pub fn worked_resets()
     // RST and RRP wait for the answers of all links, and nothing else goes while they do. RST goes before RRP
     ensures rst_is_silent { next_out (served (gone (second_in (opened ++ sending))) (request.Contact first)) ≡ None }
     ensures rst_when_silent { next_out (answered (served (gone (second_in (opened ++ sending))) (request.Contact first)) answer.Rfnm first 2).0 ≡ Some (control second first RST) }
+    ensures rst_waits_for_each { next_out (answered (served (gone (heard (gone (second_in (opened ++ sending))) first (ECO 65)).0) (request.Contact first)) answer.Rfnm first 0).0 ≡ None }
     ensures rrp_is_silent { next_out (heard (gone (second_in (opened ++ sending))) first (RST ++ ECO 65)).0 ≡ None }
     ensures rrp_when_silent { next_out (answered (heard (gone (second_in (opened ++ sending))) first (RST ++ ECO 65)).0 answer.Rfnm first 2).0 ≡ Some (control second first RRP) }
     ensures rst_first { next_out (served (heard ready second RST).0 (request.Contact second)) ≡ Some (control first second RST) }

@@ -1,4 +1,4 @@
-use Rattle.sockets.proofs.RowsClosings.{closings_second_cls, closings_cls_after_the_end, closings_cls_of_any_sockets, closings_drains, closings_drains_into_a_grant, closings_drains_until_answered, closings_drained, closings_draining_gives_back, closings_draining_is_interrupted, closings_called_off, closings_called_off_waits, closings_called_off_closes, closings_data_when_closing, closings_commands_when_closing, closings_untold_when_closing}
+use Rattle.sockets.proofs.RowsClosings.{closings_second_cls, closings_cls_after_the_end, closings_cls_of_any_sockets, closings_drains, closings_drains_into_a_grant, closings_drains_until_answered, closings_drained, closings_draining_gives_back, closings_draining_is_interrupted, closings_called_off, closings_called_off_waits, closings_called_off_closes, closings_data_when_closing, closings_commands_when_closing, closings_untold_when_closing, closings_closes_at_once}
 use Rattle.sockets.proofs.worked.worked_closings.Goals as goal
 
 pub returns-clause-second_cls : goal.returns-clause-second_cls
@@ -45,3 +45,6 @@ returns-clause-commands_when_closing c = closings_commands_when_closing
 
 pub returns-clause-untold_when_closing : goal.returns-clause-untold_when_closing
 returns-clause-untold_when_closing c = closings_untold_when_closing
+
+pub returns-clause-closes_at_once : goal.returns-clause-closes_at_once
+returns-clause-closes_at_once c = closings_closes_at_once

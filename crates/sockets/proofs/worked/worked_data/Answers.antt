@@ -1,4 +1,4 @@
-use Rattle.sockets.proofs.RowsData.{data_covered, data_more_than_announced, data_no_bytes, data_no_bytes_cost_a_message, data_past_the_bits, data_untold_past_the_bits, data_past_the_messages, data_another_size, data_too_short, data_too_much_returned, data_returned, data_nothing_granted, data_asked_back, data_nothing_given_back, data_nothing_returned, data_lowest_link, data_next_link, data_no_link_left, data_commands_wait, data_commands_first}
+use Rattle.sockets.proofs.RowsData.{data_covered, data_more_than_announced, data_no_bytes, data_no_bytes_cost_a_message, data_past_the_bits, data_untold_past_the_bits, data_past_the_messages, data_another_size, data_too_short, data_too_much_returned, data_returned, data_nothing_granted, data_asked_back, data_nothing_given_back, data_nothing_returned, data_bits_are_used, data_grants_add_up, data_returned_once, data_given_back_once, data_in_order, data_what_is_left, data_lowest_link, data_next_link, data_no_link_left, data_commands_wait, data_commands_first}
 use Rattle.sockets.proofs.worked.worked_data.Goals as goal
 
 pub returns-clause-covered : goal.returns-clause-covered
@@ -45,6 +45,24 @@ returns-clause-nothing_given_back c = data_nothing_given_back
 
 pub returns-clause-nothing_returned : goal.returns-clause-nothing_returned
 returns-clause-nothing_returned c = data_nothing_returned
+
+pub returns-clause-bits_are_used : goal.returns-clause-bits_are_used
+returns-clause-bits_are_used c = data_bits_are_used
+
+pub returns-clause-grants_add_up : goal.returns-clause-grants_add_up
+returns-clause-grants_add_up c = data_grants_add_up
+
+pub returns-clause-returned_once : goal.returns-clause-returned_once
+returns-clause-returned_once c = data_returned_once
+
+pub returns-clause-given_back_once : goal.returns-clause-given_back_once
+returns-clause-given_back_once c = data_given_back_once
+
+pub returns-clause-in_order : goal.returns-clause-in_order
+returns-clause-in_order c = data_in_order
+
+pub returns-clause-what_is_left : goal.returns-clause-what_is_left
+returns-clause-what_is_left c = data_what_is_left
 
 pub returns-clause-lowest_link : goal.returns-clause-lowest_link
 returns-clause-lowest_link c = data_lowest_link

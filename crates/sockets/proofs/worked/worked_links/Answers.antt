@@ -1,4 +1,4 @@
-use Rattle.sockets.proofs.RowsLinks.{links_lowest_free_link, links_link_of_closing, links_links_of_another_peer, links_listens_without_link, links_listens_on, links_refused_without_free_link}
+use Rattle.sockets.proofs.RowsLinks.{links_lowest_free_link, links_link_of_closing, links_links_of_senders, links_links_of_another_peer, links_listens_without_link, links_listens_on, links_refused_without_free_link}
 use Rattle.sockets.proofs.worked.worked_links.Goals as goal
 
 pub returns-clause-lowest_free_link : goal.returns-clause-lowest_free_link
@@ -6,6 +6,9 @@ returns-clause-lowest_free_link c = links_lowest_free_link
 
 pub returns-clause-link_of_closing : goal.returns-clause-link_of_closing
 returns-clause-link_of_closing c = links_link_of_closing
+
+pub returns-clause-links_of_senders : goal.returns-clause-links_of_senders
+returns-clause-links_of_senders c = links_links_of_senders
 
 pub returns-clause-links_of_another_peer : goal.returns-clause-links_of_another_peer
 returns-clause-links_of_another_peer c = links_links_of_another_peer
