@@ -7,6 +7,7 @@ pub mod Control
 pub mod Commands
 pub mod Data
 pub mod Accepting
+pub mod Memory
 pub mod Sending
 pub mod Requests
 pub mod Dialogue

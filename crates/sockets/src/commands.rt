@@ -1,6 +1,7 @@
 //! What a command of the peer does to the connections of an opened pair (NIC 8246, the control commands).
 
-ghost use Rattle.std.specs.Prelude.{◌≡◌, OnOk};
+ghost use Rattle.std.specs.Prelude.{◌≡◌, OnOk, ◌<◌, OnErr};
+ghost use Rattle.sockets.specs.Memory.{said};
 ghost use Rattle.sockets.specs.Commands as commands;
 ghost use Rattle.sockets.specs.Entries.{entry_at, opening, sends_on};
 ghost use Rattle.ncp_control.specs.declared.command.Command.TheVariants as command;
@@ -38,7 +39,8 @@ impl Desk {
         foreign: u32,
         stamp: usize,
     ) -> Result<(), AllocError>
-        ensures { OnOk result (self.new ≡ commands.refused own foreign stamp self.old) }
+        ensures state { OnOk result (self.new ≡ commands.refused own foreign stamp self.old) }
+        ensures memory { OnErr result (said self.old < said (commands.refused own foreign stamp self.old)) }
     {
         self.join(Entry::refused(alloc, own, foreign, stamp))?;
         self.queue(Command::Cls { own, foreign })
@@ -51,7 +53,8 @@ impl Desk {
         own: u32,
         foreign: u32,
     ) -> Result<(), AllocError>
-        ensures { OnOk result (self.new ≡ told (opening peer (entry_at own foreign self.old.entries)) self.old) }
+        ensures state { OnOk result (self.new ≡ told (opening peer (entry_at own foreign self.old.entries)) self.old) }
+        ensures memory { OnErr result (said self.old < said (told (opening peer (entry_at own foreign self.old.entries)) self.old)) }
     {
         let Some(at) = place(&self.entries, own, foreign) else {
             return Ok(());
@@ -82,7 +85,8 @@ impl Desk {
         stamp: usize,
         link: ConnectionLink,
     ) -> Result<(), AllocError>
-        ensures { OnOk result (self.new ≡ commands.matched peer own foreign (commands.asked_on_link stamp link) self.old) }
+        ensures state { OnOk result (self.new ≡ commands.matched peer own foreign (commands.asked_on_link stamp link) self.old) }
+        ensures memory { OnErr result (said self.old < said (commands.matched peer own foreign (commands.asked_on_link stamp link) self.old)) }
     {
         ask_on_link(&mut self.entries, own, foreign, stamp, link);
         self.tell_opening(peer, own, foreign)
@@ -97,7 +101,8 @@ impl Desk {
         stamp: usize,
         size: ByteSize,
     ) -> Result<(), AllocError>
-        ensures { OnOk result (self.new ≡ commands.matched peer own foreign (commands.asked_with_size stamp size) self.old) }
+        ensures state { OnOk result (self.new ≡ commands.matched peer own foreign (commands.asked_with_size stamp size) self.old) }
+        ensures memory { OnErr result (said self.old < said (commands.matched peer own foreign (commands.asked_with_size stamp size) self.old)) }
     {
         ask_with_size(&mut self.entries, own, foreign, stamp, size);
         self.tell_opening(peer, own, foreign)
@@ -113,7 +118,8 @@ impl Desk {
         link: ConnectionLink,
         stamp: usize,
     ) -> Result<(), AllocError>
-        ensures { OnOk result (self.new ≡ commands.rts_taken peer own foreign link stamp self.old) }
+        ensures state { OnOk result (self.new ≡ commands.rts_taken peer own foreign link stamp self.old) }
+        ensures memory { OnErr result (said self.old < said (commands.rts_taken peer own foreign link stamp self.old)) }
     {
         let command = Command::Rts {
             receive: foreign,
@@ -141,7 +147,8 @@ impl Desk {
         link: ConnectionLink,
         stamp: usize,
     ) -> Result<(), AllocError>
-        ensures { OnOk result (self.new ≡ commands.rts_heard own foreign link stamp (listener_on own self.old.listening) self.old) }
+        ensures state { OnOk result (self.new ≡ commands.rts_heard own foreign link stamp (listener_on own self.old.listening) self.old) }
+        ensures memory { OnErr result (said self.old < said (commands.rts_heard own foreign link stamp (listener_on own self.old.listening) self.old)) }
     {
         let Some(listener) = listener_on(&self.listening, own.number()) else {
             return self.refuse(alloc, own.number(), foreign.number(), stamp);
@@ -169,7 +176,8 @@ impl Desk {
         size: ByteSize,
         stamp: usize,
     ) -> Result<(), AllocError>
-        ensures { OnOk result (self.new ≡ commands.str_taken peer own foreign size stamp self.old) }
+        ensures state { OnOk result (self.new ≡ commands.str_taken peer own foreign size stamp self.old) }
+        ensures memory { OnErr result (said self.old < said (commands.str_taken peer own foreign size stamp self.old)) }
     {
         match place(&self.entries, own.number(), foreign.number()) {
             Some(receiver) if self.entries[receiver].partner.is_some() => {
@@ -195,7 +203,8 @@ impl Desk {
         size: ByteSize,
         stamp: usize,
     ) -> Result<(), AllocError>
-        ensures { OnOk result (self.new ≡ commands.str_heard own foreign size stamp (listener_on own self.old.listening) self.old) }
+        ensures state { OnOk result (self.new ≡ commands.str_heard own foreign size stamp (listener_on own self.old.listening) self.old) }
+        ensures memory { OnErr result (said self.old < said (commands.str_heard own foreign size stamp (listener_on own self.old.listening) self.old)) }
     {
         let Some(_) = listener_on(&self.listening, own.number()) else {
             return self.refuse(alloc, own.number(), foreign.number(), stamp);
@@ -221,7 +230,8 @@ impl Desk {
 impl Desk {
     /// Each end that has to close now queues its CLS.
     pub(crate) fn settle(&mut self, busy: &[u8]) -> Result<(), AllocError>
-        ensures { OnOk result (self.new ≡ settled busy.now self.old) }
+        ensures state { OnOk result (self.new ≡ settled busy.now self.old) }
+        ensures memory { OnErr result (said self.old < said (settled busy.now self.old)) }
     {
         queue_closings(&self.entries, busy, &mut self.queue)?;
         close(&mut self.entries, busy);
@@ -230,7 +240,8 @@ impl Desk {
 
     /// Each end that is over goes, and the user is told of this host's own.
     pub(crate) fn sweep(&mut self, peer: HostAddr) -> Result<(), AllocError>
-        ensures { OnOk result (self.new ≡ swept peer self.old) }
+        ensures state { OnOk result (self.new ≡ swept peer self.old) }
+        ensures memory { OnErr result (said self.old < said (swept peer self.old)) }
     {
         tell_endings(&self.entries, peer, &mut self.notices)?;
         sweep(&mut self.entries);
@@ -246,7 +257,8 @@ impl Desk {
         own: u32,
         foreign: u32,
     ) -> Result<(), AllocError>
-        ensures { OnOk result (self.new ≡ commands.cls_taken peer busy.now own foreign self.old) }
+        ensures state { OnOk result (self.new ≡ commands.cls_taken peer busy.now own foreign self.old) }
+        ensures memory { OnErr result (said self.old < said (commands.cls_taken peer busy.now own foreign self.old)) }
     {
         let Some(at) = place(&self.entries, own, foreign) else {
             let command = Command::Cls {
@@ -275,7 +287,8 @@ impl Desk {
         messages: u16,
         bits: u32,
     ) -> Result<(), AllocError>
-        ensures { OnOk result (self.new ≡ commands.at_end (command.All link messages bits) (commands.all_taken link messages bits) (commands.sender_on link self.old) self.old) }
+        ensures state { OnOk result (self.new ≡ commands.at_end (command.All link messages bits) (commands.all_taken link messages bits) (commands.sender_on link self.old) self.old) }
+        ensures memory { OnErr result (said self.old < said (commands.at_end (command.All link messages bits) (commands.all_taken link messages bits) (commands.sender_on link self.old) self.old)) }
     {
         let command = Command::All {
             link,
@@ -304,7 +317,8 @@ impl Desk {
         messages: u8,
         bits: u8,
     ) -> Result<(), AllocError>
-        ensures { OnOk result (self.new ≡ commands.at_end (command.Gvb link messages bits) (commands.gvb_taken link messages bits) (commands.sender_on link self.old) self.old) }
+        ensures state { OnOk result (self.new ≡ commands.at_end (command.Gvb link messages bits) (commands.gvb_taken link messages bits) (commands.sender_on link self.old) self.old) }
+        ensures memory { OnErr result (said self.old < said (commands.at_end (command.Gvb link messages bits) (commands.gvb_taken link messages bits) (commands.sender_on link self.old) self.old)) }
     {
         let command = Command::Gvb {
             link,
@@ -339,7 +353,8 @@ impl Desk {
         messages: u16,
         bits: u32,
     ) -> Result<(), AllocError>
-        ensures { OnOk result (self.new ≡ commands.at_end (command.Ret link messages bits) (commands.ret_taken link messages bits) (commands.receiver_on link self.old) self.old) }
+        ensures state { OnOk result (self.new ≡ commands.at_end (command.Ret link messages bits) (commands.ret_taken link messages bits) (commands.receiver_on link self.old) self.old) }
+        ensures memory { OnErr result (said self.old < said (commands.at_end (command.Ret link messages bits) (commands.ret_taken link messages bits) (commands.receiver_on link self.old) self.old)) }
     {
         let command = Command::Ret {
             link,
@@ -371,7 +386,8 @@ impl Desk {
 
     /// INR is taken: the receiver interrupts.
     fn take_inr(&mut self, alloc: Global, link: u8) -> Result<(), AllocError>
-        ensures { OnOk result (self.new ≡ commands.at_end (command.Inr link) commands.interrupted (commands.sender_on link self.old) self.old) }
+        ensures state { OnOk result (self.new ≡ commands.at_end (command.Inr link) commands.interrupted (commands.sender_on link self.old) self.old) }
+        ensures memory { OnErr result (said self.old < said (commands.at_end (command.Inr link) commands.interrupted (commands.sender_on link self.old) self.old)) }
     {
         let command = Command::Inr { link };
         let Some(at) = sender_place(&self.entries, link) else {
@@ -390,7 +406,8 @@ impl Desk {
 
     /// INS is taken: the sender interrupts.
     fn take_ins(&mut self, alloc: Global, link: u8) -> Result<(), AllocError>
-        ensures { OnOk result (self.new ≡ commands.at_end (command.Ins link) commands.interrupted (commands.receiver_on link self.old) self.old) }
+        ensures state { OnOk result (self.new ≡ commands.at_end (command.Ins link) commands.interrupted (commands.receiver_on link self.old) self.old) }
+        ensures memory { OnErr result (said self.old < said (commands.at_end (command.Ins link) commands.interrupted (commands.receiver_on link self.old) self.old)) }
     {
         let command = Command::Ins { link };
         let Some(at) = receiver_place(&self.entries, link) else {
@@ -420,7 +437,8 @@ impl Desk {
         stamp: usize,
         command: Command,
     ) -> Result<(), AllocError>
-        ensures { OnOk result (self.new ≡ commands.taken peer busy.now stamp command self.old) }
+        ensures state { OnOk result (self.new ≡ commands.taken peer busy.now stamp command self.old) }
+        ensures memory { OnErr result (said self.old < said (commands.taken peer busy.now stamp command self.old)) }
     {
         match command {
             Command::Nop | Command::Rst | Command::Rrp => Ok(()),

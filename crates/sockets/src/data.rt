@@ -1,6 +1,7 @@
 //! A message of data on a connection's link (NIC 8246, message format).
 
-ghost use Rattle.std.specs.Prelude.{◌≡◌, ◌+◌, ◌≤◌, ◌∷◌, [], OnOk, length};
+ghost use Rattle.std.specs.Prelude.{◌≡◌, ◌+◌, ◌≤◌, ◌∷◌, [], OnOk, length, ◌<◌, OnErr};
+ghost use Rattle.sockets.specs.Memory.{said};
 ghost use Rattle.sockets.specs.Commands.{changed};
 ghost use Rattle.sockets.specs.Data as texts;
 ghost use Rattle.sockets.specs.Entries.{receives_on};
@@ -30,7 +31,8 @@ impl Entry {
 impl Desk {
     /// An ERR about a whole message will go out. It quotes the message's text.
     fn fault_text(&mut self, code: u8, text: &Bits) -> Result<(), AllocError>
-        ensures { OnOk result (self.new ≡ texts.text_faulted code text.now self.old) }
+        ensures state { OnOk result (self.new ≡ texts.text_faulted code text.now self.old) }
+        ensures memory { OnErr result (said self.old < said (texts.text_faulted code text.now self.old)) }
     {
         self.queue(Command::error(code, text.as_octets()))
     }
@@ -42,7 +44,8 @@ impl Desk {
         link: u8,
         text: &Bits,
     ) -> Result<(), AllocError>
-        ensures { OnOk result (self.new ≡ texts.data_taken link text.now self.old) }
+        ensures state { OnOk result (self.new ≡ texts.data_taken link text.now self.old) }
+        ensures memory { OnErr result (said self.old < said (texts.data_taken link text.now self.old)) }
     {
         let Some(at) = receiver_place(&self.entries, link) else {
             return self.fault_text(NOT_CONNECTED, text);
@@ -73,7 +76,8 @@ impl Desk {
         bits: u32,
     ) -> Result<(), AllocError>
         requires { 40 + bits ≤ length text.now }
-        ensures { OnOk result (self.new ≡ told (notice.Arrived socket (texts.data_of bits text.now) ∷ []) (changed (receives_on link) (texts.spent bits) self.old)) }
+        ensures state { OnOk result (self.new ≡ told (notice.Arrived socket (texts.data_of bits text.now) ∷ []) (changed (receives_on link) (texts.spent bits) self.old)) }
+        ensures memory { OnErr result (said self.old < said (told (notice.Arrived socket (texts.data_of bits text.now) ∷ []) (changed (receives_on link) (texts.spent bits) self.old))) }
     {
         let Ok(arrived) = text.slice(alloc, HEADER_BITS, HEADER_BITS + bits as usize) else {
             return Err(AllocError);

@@ -1,6 +1,7 @@
 //! The connections of an opened pair, while something of the peer or of the user is done to them.
 
-ghost use Rattle.std.specs.Prelude.{◌≡◌, ◌++◌, ◌∷◌, [], OnOk};
+ghost use Rattle.std.specs.Prelude.{◌≡◌, ◌++◌, ◌∷◌, [], OnOk, ◌<◌, OnErr};
+ghost use Rattle.sockets.specs.Memory.{said};
 ghost use Rattle.ncp_control.specs.Command.{spelling};
 ghost use Rattle.sockets.specs.Control.{error};
 ghost use Rattle.sockets.specs.Commands.{faulted, joined};
@@ -34,7 +35,8 @@ impl Model for Desk {
 impl Desk {
     /// Puts a command behind those that wait.
     pub(crate) fn queue(&mut self, command: Command) -> Result<(), AllocError>
-        ensures { OnOk result (self.new ≡ queued command self.old) }
+        ensures state { OnOk result (self.new ≡ queued command self.old) }
+        ensures memory { OnErr result (said self.old < said (queued command self.old)) }
     {
         self.queue.push(command)?;
         Ok(())
@@ -42,7 +44,8 @@ impl Desk {
 
     /// Tells the user something.
     pub(crate) fn tell(&mut self, notice: Notice) -> Result<(), AllocError>
-        ensures { OnOk result (self.new ≡ told (notice ∷ []) self.old) }
+        ensures state { OnOk result (self.new ≡ told (notice ∷ []) self.old) }
+        ensures memory { OnErr result (said self.old < said (told (notice ∷ []) self.old)) }
     {
         self.notices.push(notice)?;
         Ok(())
@@ -63,7 +66,8 @@ impl Desk {
         code: u8,
         command: &Command,
     ) -> Result<(), AllocError>
-        ensures { OnOk result (self.new ≡ faulted code command.now self.old) }
+        ensures state { OnOk result (self.new ≡ faulted code command.now self.old) }
+        ensures memory { OnErr result (said self.old < said (faulted code command.now self.old)) }
     {
         let Ok(octets) = command.write(alloc) else {
             return Err(AllocError);

@@ -1,6 +1,6 @@
 //! The ends of a pair's connections, found and changed.
 
-ghost use Rattle.std.specs.Prelude.{◌≡◌, ◌++◌, OnOk, map, filter, position, find, not, MatchOption, Some, None, slice_index_or};
+ghost use Rattle.std.specs.Prelude.{◌≡◌, ◌<◌, OnErr, length, ◌++◌, OnOk, map, filter, position, find, not, MatchOption, Some, None, slice_index_or};
 ghost use Rattle.std.specs.List.{flat_map, list_any};
 ghost use Rattle.sockets.specs.declared.entry.Entry.{Entry};
 ghost use Rattle.sockets.specs.Commands.{asked_on_link, asked_with_size, granted, given_back, returned};
@@ -202,7 +202,8 @@ pub(crate) fn queue_closings(
     busy: &[u8],
     queue: &mut Vec<Command>,
 ) -> Result<(), AllocError>
-    ensures { OnOk result (queue.new.items ≡ queue.old.items ++ map cls_of (filter (must_close busy.now) entries.now)) }
+    ensures state { OnOk result (queue.new.items ≡ queue.old.items ++ map cls_of (filter (must_close busy.now) entries.now)) }
+    ensures memory { OnErr result (length queue.old.items < length (queue.old.items ++ map cls_of (filter (must_close busy.now) entries.now))) }
 {
     for entry in entries {
         if entry.must_close(busy) {
@@ -232,7 +233,8 @@ pub(crate) fn tell_endings(
     peer: HostAddr,
     notices: &mut Vec<Notice>,
 ) -> Result<(), AllocError>
-    ensures { OnOk result (notices.new.items ≡ notices.old.items ++ flat_map (ending peer) (filter is_over entries.now)) }
+    ensures state { OnOk result (notices.new.items ≡ notices.old.items ++ flat_map (ending peer) (filter is_over entries.now)) }
+    ensures memory { OnErr result (length notices.old.items < length (notices.old.items ++ flat_map (ending peer) (filter is_over entries.now))) }
 {
     for entry in entries {
         if entry.is_over() && entry.mine {
