@@ -18,3 +18,4 @@ pub mod HostsDown
 pub mod Rounds
 pub mod EventSteps
 pub mod Routed
+pub mod SiteHosts

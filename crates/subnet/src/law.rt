@@ -61,6 +61,9 @@ pub fn holding()
 pub fn at_the_opening()
     ensures sound { (hosts : List Host) (sites : List (Option ℕ)) (ends : List Ends) → AreHosts hosts sites → IsSound (start.opening hosts sites ends) }
     ensures empty { (hosts : List Host) (sites : List (Option ℕ)) (ends : List Ends) → packets (start.opening hosts sites ends) ≡ [] }
+
+    // the hosts that stand in the list of the IMPs, one after another, are those of its IMPs
+    ensures hosts { (sites : List (Option ℕ)) → AreHosts (start.hosts_from 0 sites) sites }
 {}
 
 /// A sound subnet stays sound where hosts offer and take messages and where frames are delivered.

@@ -1,4 +1,5 @@
 use Rattle.subnet.proofs.Openings.{opening_sound, opening_empty}
+use Rattle.subnet.proofs.SiteHosts.{hosts_fit}
 use Rattle.subnet.proofs.law.at_the_opening.Goals as goal
 
 pub returns-clause-sound : goal.returns-clause-sound
@@ -6,3 +7,6 @@ returns-clause-sound c = opening_sound
 
 pub returns-clause-empty : goal.returns-clause-empty
 returns-clause-empty c = opening_empty
+
+pub returns-clause-hosts : goal.returns-clause-hosts
+returns-clause-hosts c = hosts_fit
