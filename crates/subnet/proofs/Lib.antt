@@ -19,3 +19,4 @@ pub mod Rounds
 pub mod EventSteps
 pub mod Routed
 pub mod SiteHosts
+pub mod WholeRuns

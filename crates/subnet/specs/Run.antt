@@ -6,6 +6,7 @@ use Rattle.leader1822.specs.declared.event.NetEvent.{NetEvent}
 use Rattle.leader1822.specs.declared.message.HostMessage.{HostMessage}
 use Rattle.subnet.specs.Net.{Net}
 use Rattle.subnet.specs.Events.{offer_refusal, offer_out, take_refusal, take_in, step_refusal, stepped, quiet_round}
+use Rattle.subnet.specs.Routed.{IsHostMessage}
 
 pub data Call : Type 0 where
   Offer : (m : HostMessage) → Call
@@ -34,3 +35,9 @@ done_by (Some fault) n c = n
 abbrev pub ran : List Call → Net → Net
 ran [] n = n
 ran (c ∷ calls) n = done_by (refusal (ran calls n) c) (ran calls n) c
+
+-- each message that is offered is one that a host can have
+abbrev pub OffersMessages : List Call → Type 0
+OffersMessages [] = Unit {0}
+OffersMessages (Offer m ∷ calls) = IsHostMessage m × OffersMessages calls
+OffersMessages (c ∷ calls) = OffersMessages calls

@@ -28,7 +28,26 @@ ghost use Rattle.subnet.specs.Offers.{CanGoFrom};
 ghost use Rattle.subnet.specs.Opening.{Ends, AreHosts};
 ghost use Rattle.subnet.specs.Opening as start;
 ghost use Rattle.subnet.specs.Routed.{IsRouted, IsHostMessage};
+ghost use Rattle.subnet.specs.Run.{Call, OffersMessages, ran};
 ghost use Rattle.subnet.specs.Sound.{IsSound};
+
+/// The law of the subnet: for every topology of at most sixteen IMPs, with any lines, and for every list of offers,
+/// takings, events and quiet rounds from its opening on, of which some are refused, the log that the hosts see is
+/// a run of the mailboxes.
+pub fn whole_runs()
+    ensures run { (hosts : List Host) (sites : List (Option ℕ)) (ends : List Ends) (calls : List Call)
+        → AreHosts hosts sites
+        → length sites ≤ 17
+        → OffersMessages calls
+        → IsRun hosts (ran calls (start.opening hosts sites ends)).log }
+
+    // and the subnet is sound
+    ensures sound { (hosts : List Host) (sites : List (Option ℕ)) (ends : List Ends) (calls : List Call)
+        → AreHosts hosts sites
+        → length sites ≤ 17
+        → OffersMessages calls
+        → IsSound (ran calls (start.opening hosts sites ends)) }
+{}
 
 /// Which packets are in a subnet, in its IMPs and in live frames, after each event: those that were in it,
 /// and those that the rule of the event makes. Nothing else comes about.
