@@ -70,9 +70,9 @@ pub resets_closed_when_lost : refusal (answered (gone (served ready (request.Ech
 unfolding octets_of orders_of read_of command_of packed_count accepted refusal served served_notices next_out offered
 resets_closed_when_lost = refl
 
-pub resets_lost_drops_commands : next_out (delivered (heard (answered (served (gone (served ready (request.Echo second 65))) (request.Echo second 66)) answer.Dead second 0).0 second RST).0 second 0) ≡ None
+pub resets_as_at_the_opening : answered (served (gone (served ready (request.Echo second 65))) (request.Echo second 66)) answer.Dead second 0 ≡ (closed, notice.PairReset second ∷ [])
 unfolding octets_of orders_of read_of command_of packed_count accepted refusal served served_notices next_out offered
-resets_lost_drops_commands = refl
+resets_as_at_the_opening = refl
 
 pub resets_lost_drops_connections : refusal (answered (gone (served (first_in opened) (request.Interrupt 16))) answer.Dead second 0).0 (request.Grant 16 0 0) ≡ Some fault.NoSuchSocket
 unfolding octets_of orders_of read_of command_of packed_count accepted refusal served served_notices next_out offered

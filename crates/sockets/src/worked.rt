@@ -163,7 +163,7 @@ pub fn worked_resets()
     // so it is with a pair that is ready
     ensures lost_when_ready { (answered (gone (served ready (request.Echo second 65))) answer.Dead second 0).1 ≡ notice.PairReset second ∷ [] }
     ensures closed_when_lost { refusal (answered (gone (served ready (request.Echo second 65))) answer.Dead second 0).0 (request.Echo second 65) ≡ Some fault.NotContacted }
-    ensures lost_drops_commands { next_out (delivered (heard (answered (served (gone (served ready (request.Echo second 65))) (request.Echo second 66)) answer.Dead second 0).0 second RST).0 second 0) ≡ None }
+    ensures as_at_the_opening { answered (served (gone (served ready (request.Echo second 65))) (request.Echo second 66)) answer.Dead second 0 ≡ (closed, notice.PairReset second ∷ []) }
     ensures lost_drops_connections { refusal (answered (gone (served (first_in opened) (request.Interrupt 16))) answer.Dead second 0).0 (request.Grant 16 0 0) ≡ Some fault.NoSuchSocket }
     ensures reset_drops_connections { refusal (heard (first_in opened) second RST).0 (request.Grant 16 0 0) ≡ Some fault.NoSuchSocket }
     ensures lost_while_owing { (answered (heard (gone (served ready (request.Echo second 65))) second RST).0 answer.Dead second 0).1 ≡ [] }
