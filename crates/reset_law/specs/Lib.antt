@@ -1,0 +1,7 @@
+pub mod Events
+pub mod Boxes
+pub mod Phases
+pub mod Pairs
+pub mod Monitor
+pub mod Runs
+pub mod Example

@@ -1,0 +1,73 @@
+-- A host and one peer of it, as far as resets go.
+use Rattle.std.specs.Prelude.{◌≡◌, ◌≢◌, ◌⊎◌, ℕ, Bool, true, false, not, ◌||◌, List, [], ◌∷◌, Option, Some, None, if◌then◌else◌}
+use Rattle.leader1822.specs.Host.{Host}
+use Rattle.leader1822.specs.declared.crossing.Answer.{Answer}
+use Rattle.leader1822.specs.declared.crossing.Answer.TheVariants as answer
+use Rattle.reset_law.specs.Phases.{Phase, Closed, Want, Gone, Heard, Ready, reset_phase, reply_phase, rfnm_phase, failed_phase}
+use Rattle.reset_law.specs.Events.{Message, Reset, Reply, Other, Event, Part, Call, Send, Take, Hear, Begin, part_of}
+use Rattle.reset_law.specs.Boxes.{at_link}
+
+-- what is outstanding on a link
+pub data Kind : Type 0 where
+  Rst : Kind
+  Rrp : Kind
+  Plain : Kind
+
+abbrev pub kind_of : Message → Kind
+kind_of Reset = Rst
+kind_of Reply = Rrp
+kind_of (Other text) = Plain
+
+-- how far the reset has come, whether an RRP is owed, whether anything but RST and RRP went out since the connections of the
+-- pair were dropped last, and what is outstanding on each link
+pub record Pair : Type 0 where
+  pub phase : Phase
+  pub owed : Bool
+  pub begun : Bool
+  pub out : ℕ → Option Kind
+
+abbrev pub opening_pair : Pair
+opening_pair = record { phase = Closed; owed = false; begun = false; out = λ k. None }
+
+abbrev pub sent : ℕ → Message → Pair → Pair
+sent l Reset p = record p { phase = Gone false; out = at_link p.out l (Some Rst) }
+sent l Reply p = record p { owed = false; out = at_link p.out l (Some Rrp) }
+sent l (Other text) p = record p { begun = true; out = at_link p.out l (Some Plain) }
+
+abbrev pub took : Message → Pair → Pair
+took Reset p = record p { phase = reset_phase p.phase; owed = true; begun = false }
+took Reply p = record p { phase = reply_phase p.phase }
+took (Other text) p = p
+
+abbrev pub failed : ℕ → Pair → Pair
+failed l p = record { phase = failed_phase p.phase p.owed; owed = p.owed; begun = if p.owed then p.begun else false; out = at_link p.out l None }
+
+abbrev pub told : ℕ → Answer → Pair → Pair
+told l answer.Rfnm p = record p { phase = rfnm_phase l p.phase; out = at_link p.out l None }
+told l answer.Dead p = failed l p
+told l answer.Incomplete p = failed l p
+
+abbrev pub moved : Option Part → Pair → Pair
+moved None p = p
+moved (Some Call) p = record p { phase = Want; begun = false }
+moved (Some (Send l m)) p = sent l m p
+moved (Some (Take m)) p = took m p
+moved (Some (Hear l k)) p = told l k p
+moved (Some Begin) p = opening_pair
+
+-- host `a`'s side of the pair with `b`
+abbrev pub pair : Host → Host → List Event → Pair
+pair a b [] = opening_pair
+pair a b (e ∷ events) = moved (part_of a b e) (pair a b events)
+
+-- ---- what a host does by itself
+
+abbrev pub IsFree : (ℕ → Option Kind) → Type 0
+IsFree out = (k : ℕ) → out k ≡ None
+
+-- RST and RRP go alone, on link 0, the RST first. Nothing else goes while one of them waits, and nothing on a connection's
+-- link before a request went out
+abbrev pub MaySend : Pair → ℕ → Message → Type 0
+MaySend p l Reset = (l ≡ 0) × (p.phase ≡ Want) × IsFree p.out
+MaySend p l Reply = (l ≡ 0) × (p.owed ≡ true) × (p.phase ≢ Want) × IsFree p.out
+MaySend p l (Other text) = (p.phase ≡ Ready) × (p.owed ≡ false) × (p.out l ≡ None) × ((l ≡ 0) ⊎ (p.begun ≡ true))
