@@ -4,4 +4,5 @@ pub mod Phases
 pub mod Pairs
 pub mod Monitor
 pub mod Runs
+pub mod Invariant
 pub mod Example
