@@ -1,3 +1,5 @@
 pub mod Links
 pub mod Steps
 pub mod Answers
+pub mod Runs
+pub mod Fresh

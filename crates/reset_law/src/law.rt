@@ -1,13 +1,15 @@
 //! What becomes of a reset. The functions here do nothing: each clause is the law.
 
-ghost use Rattle.std.specs.Prelude.{◌≡◌, ℕ, Bool, true, List, [], ◌∷◌, Some, None};
+ghost use Rattle.std.specs.Prelude.{◌≡◌, ◌≢◌, ℕ, Bool, true, false, List, [], ◌∷◌, Some};
 ghost use Rattle.leader1822.specs.Host.{Host};
-ghost use Rattle.reset_law.specs.Boxes.{boxes, Waiting};
-ghost use Rattle.reset_law.specs.Events.{Other};
+ghost use Rattle.reset_law.specs.Boxes.{boxes, Empty, Waiting};
+ghost use Rattle.reset_law.specs.Events.{Event, In, Other, is_up};
 ghost use Rattle.reset_law.specs.Example.{one, two, reset, message};
+ghost use Rattle.reset_law.specs.Invariant.{kind_in, is_signal, Sound};
 ghost use Rattle.reset_law.specs.Monitor.{monitor};
-ghost use Rattle.reset_law.specs.Pairs.{pair};
+ghost use Rattle.reset_law.specs.Pairs.{pair, opening_pair};
 ghost use Rattle.reset_law.specs.Phases.{Ready};
+ghost use Rattle.reset_law.specs.Runs.{IsRun, WaitsAfterClean};
 
 /// A whole reset, step by step.
 pub fn worked_reset()
@@ -17,4 +19,20 @@ pub fn worked_reset()
 
     // what goes out next stands at place 5, after both
     ensures next { boxes one two message 0 ≡ Waiting 5 (Other (true ∷ [])) }
+{}
+
+/// Whatever happens to two hosts, in whatever order: resets that cross, fail, come late or are asked for again.
+pub fn clean_reset()
+    // a host that is through a reset takes of its peer only what went out after its last clean point for that peer
+    ensures clean { (hosts : List Host) (events : List Event) (a b : Host) (link : ℕ) (text : List Bool) → IsRun hosts (In a b link (Other text) ∷ events) → (pair b a events).phase ≡ Ready → WaitsAfterClean a b link text events }
+
+    // RST and RRP go on link 0, and while one of them waits or has no answer nothing else does
+    ensures signals { (hosts : List Host) (events : List Event) → IsRun hosts events → (a b : Host) (link : ℕ) → is_signal (kind_in (boxes a b events link)) ≡ true → link ≡ 0 }
+    ensures alone { (hosts : List Host) (events : List Event) → IsRun hosts events → (a b : Host) (link : ℕ) → is_signal (kind_in (boxes a b events 0)) ≡ true → link ≢ 0 → boxes a b events link ≡ Empty }
+
+    // a host that stopped has lost all its resets
+    ensures stopped { (hosts : List Host) (events : List Event) → IsRun hosts events → (a b : Host) → is_up hosts a events ≡ false → pair a b events ≡ opening_pair }
+
+    // what a host that is up knows of a peer, in each phase
+    ensures sound { (hosts : List Host) (events : List Event) → IsRun hosts events → (a b : Host) → is_up hosts a events ≡ true → Sound (pair a b events) (monitor a b events) (boxes a b events) }
 {}

@@ -1,0 +1,226 @@
+-- The invariant over whole lists of events.
+use Rattle.std.proofs.Common.{◌≡◌, ◌≢◌, ◌⊎◌, ℕ, ◌+◌, ◌<◌, Bool, true, false, ◌&&◌, List, [], ◌∷◌, Option, Some, None, refl, ap, sym, subst, ◌∙◌, inl, inr, if◌then◌else◌, arith}
+use Rattle.leader1822.specs.Host.{Host, same_host, is_host}
+use Rattle.leader1822.specs.declared.crossing.Answer.{Answer}
+use Rattle.leader1822.specs.declared.crossing.Answer.TheVariants as answer
+use Rattle.leader1822.proofs.Lists.{and_true, same_host-true}
+use Rattle.reset_law.specs.Phases.{Phase, Closed, Want, Gone, Heard, Ready}
+use Rattle.reset_law.specs.Events.{Message, Reset, Reply, Other, Event, Contact, Out, In, Told, Down, Up, Idle, Part, Call, Send, Take, Hear, Begin, when, are, part_of, place, is_up}
+use Rattle.reset_law.specs.Boxes.{Box, Empty, Waiting, Taken, Post, Put, Fetch, Clear, ClearAll, Fits, WaitsWith, fetched, posted, at_link, boxes}
+use Rattle.reset_law.specs.Pairs.{Kind, Pair, MaySend, opening_pair, moved, sent, pair}
+use Rattle.reset_law.specs.Monitor.{Monitor, monitored, monitor, counts}
+use Rattle.reset_law.specs.Invariant.{kind_in, is_signal, Outstanding, Sound}
+use Rattle.reset_law.specs.Runs.{IsRun}
+use Rattle.reset_law.proofs.Links.{at, boxed_at, boxed_fetched}
+use Rattle.reset_law.proofs.Steps.{sound_opening, sound_contact, sound_reset_sent, sound_reply_sent, sound_other_sent, sound_reset_taken, sound_reply_taken, sound_fetched}
+use Rattle.reset_law.proofs.Answers.{sound_told}
+
+-- ---- tests of hosts
+
+-- what is known of hosts x and y is known of a and b
+pub carry : (P : Host → Host → Type 0) (a b x y : Host) → are a b x y ≡ true → P x y → P a b
+carry P a b x y same h =
+    let t : (same_host a x ≡ true) × (same_host b y ≡ true) = and_true (same_host a x) (same_host b y) same in
+    let first : P a y = subst (λ (v : Host). P v y) (sym (same_host-true a x t.0)) h in
+    subst (λ (w : Host). P a w) (sym (same_host-true b y t.1)) first
+
+-- the same, for one host
+pub carry_one : (P : Host → Type 0) (a x : Host) → same_host a x ≡ true → P x → P a
+carry_one P a x same h = subst P (sym (same_host-true a x same)) h
+
+-- ---- one event more
+
+chosen_part : (t : Bool) (part : Part) (here : ℕ) (p : Pair) (m : Monitor) (bs : ℕ → Box) → (t ≡ true → Sound (moved (Some part) p) (monitored here (Some part) m) bs) → Sound p m bs
+    → Sound (moved (when t part) p) (monitored here (when t part) m) bs
+chosen_part true part here p m bs f h = f refl
+chosen_part false part here p m bs f h = h
+
+chosen_post : (t : Bool) (post : Post) (here : ℕ) (p : Pair) (m : Monitor) (bs : ℕ → Box) → (t ≡ true → Sound p m (posted here (Some post) bs)) → Sound p m bs
+    → Sound p m (posted here (when t post) bs)
+chosen_post true post here p m bs f h = f refl
+chosen_post false post here p m bs f h = h
+
+chosen_both : (t : Bool) (part : Part) (post : Post) (here : ℕ) (p : Pair) (m : Monitor) (bs : ℕ → Box)
+    → (t ≡ true → Sound (moved (Some part) p) (monitored here (Some part) m) (posted here (Some post) bs)) → Sound p m bs
+    → Sound (moved (when t part) p) (monitored here (when t part) m) (posted here (when t post) bs)
+chosen_both true part post here p m bs f h = f refl
+chosen_both false part post here p m bs f h = h
+
+-- a host that is up hasn't just stopped
+stayed_up : (t up : Bool) → (if t then false else up) ≡ true → (t ≡ false) × (up ≡ true)
+stayed_up true up h = absurd (cc)
+stayed_up false up h = (refl, h)
+
+not_stopped : (t : Bool) (here : ℕ) (p : Pair) (m : Monitor) (bs : ℕ → Box) → t ≡ false → Sound p m bs → Sound (moved (when t Begin) p) (monitored here (when t Begin) m) bs
+not_stopped true here p m bs no_stop h = absurd (cc)
+not_stopped false here p m bs no_stop h = h
+
+came_up : (t up : Bool) (here : ℕ) (p : Pair) (m : Monitor) (bs : ℕ → Box) → (if t then true else up) ≡ true → (up ≡ true → Sound p m bs)
+    → Sound (moved (when t Begin) p) (monitored here (when t Begin) m) (posted here (when t ClearAll) bs)
+came_up true up here p m bs e h = sound_opening
+came_up false up here p m bs e h = h e
+
+sound_sent : (here l : ℕ) (message : Message) (p : Pair) (m : Monitor) (bs : ℕ → Box) → MaySend p l message → Sound p m bs
+    → Sound (moved (Some (Send l message)) p) (monitored here (Some (Send l message)) m) (posted here (Some (Put l message)) bs)
+sound_sent here l Reset p m bs may s = sound_reset_sent here l p m bs may s
+sound_sent here l Reply p m bs may s = sound_reply_sent here l p m bs may s
+sound_sent here l (Other text) p m bs may s = sound_other_sent here l text p m bs may s
+
+sound_taken : (here : ℕ) (message : Message) (p : Pair) (m : Monitor) (bs : ℕ → Box) → Sound p m bs → Sound (moved (Some (Take message)) p) (monitored here (Some (Take message)) m) bs
+sound_taken here Reset p m bs s = sound_reset_taken here p m bs s
+sound_taken here Reply p m bs s = sound_reply_taken here p m bs s
+sound_taken here (Other text) p m bs s = s
+
+pub sound_run : (hosts : List Host) (events : List Event) → IsRun hosts events → (a b : Host) → is_up hosts a events ≡ true → Sound (pair a b events) (monitor a b events) (boxes a b events)
+sound_run hosts [] r a b up = sound_opening
+sound_run hosts (Contact x y ∷ events) r a b up =
+    let h : Sound (pair a b events) (monitor a b events) (boxes a b events) = sound_run hosts events r.2 a b up in
+    chosen_part (are a b x y) Call (place events) (pair a b events) (monitor a b events) (boxes a b events) (λ e. sound_contact (place events) (pair a b events) (monitor a b events) (boxes a b events) h) h
+sound_run hosts (Out x y l message ∷ events) r a b up =
+    let h : Sound (pair a b events) (monitor a b events) (boxes a b events) = sound_run hosts events r.2 a b up in
+    chosen_both (are a b x y) (Send l message) (Put l message) (place events) (pair a b events) (monitor a b events) (boxes a b events)
+    (λ e. sound_sent (place events) l message (pair a b events) (monitor a b events) (boxes a b events) (carry (λ v w. MaySend (pair v w events) l message) a b x y e r.1) h) h
+sound_run hosts (In x y l message ∷ events) r a b up =
+    let h : Sound (pair a b events) (monitor a b events) (boxes a b events) = sound_run hosts events r.2 a b up in
+    let bs : ℕ → Box = posted (place events) (when (are a b x y) (Fetch l)) (boxes a b events) in
+    let g : Sound (pair a b events) (monitor a b events) bs =
+    chosen_post (are a b x y) (Fetch l) (place events) (pair a b events) (monitor a b events) (boxes a b events) (λ e. sound_fetched l (pair a b events) (monitor a b events) (boxes a b events) h) h in
+    chosen_part (are a b y x) (Take message) (place events) (pair a b events) (monitor a b events) bs (λ e. sound_taken (place events) message (pair a b events) (monitor a b events) bs g) g
+sound_run hosts (Told x y l k ∷ events) r a b up =
+    let h : Sound (pair a b events) (monitor a b events) (boxes a b events) = sound_run hosts events r.2 a b up in
+    chosen_both (are a b x y) (Hear l k) (Clear l) (place events) (pair a b events) (monitor a b events) (boxes a b events)
+    (λ e. sound_told l k (pair a b events) (monitor a b events) (boxes a b events) (carry (λ v w. Fits k (boxes v w events l)) a b x y e r.0.1) h) h
+sound_run hosts (Down x ∷ events) r a b up =
+    let t : (same_host a x ≡ false) × (is_up hosts a events ≡ true) = stayed_up (same_host a x) (is_up hosts a events) up in
+    not_stopped (same_host a x) (place events) (pair a b events) (monitor a b events) (boxes a b events) t.0 (sound_run hosts events r.2 a b t.1)
+sound_run hosts (Up x ∷ events) r a b up =
+    came_up (same_host a x) (is_up hosts a events) (place events) (pair a b events) (monitor a b events) (boxes a b events) up (λ before. sound_run hosts events r.2 a b before)
+sound_run hosts (Idle ∷ events) r a b up = sound_run hosts events r.2 a b up
+
+-- ---- RST and RRP go alone
+
+-- a signal waits or is unanswered on link 0, and every other box is empty then
+pub record IsAlone (bs : ℕ → Box) : Type 0 where
+  pub on_zero : (k : ℕ) → is_signal (kind_in (bs k)) ≡ true → k ≡ 0
+  pub empty : is_signal (kind_in (bs 0)) ≡ true → (k : ℕ) → k ≢ 0 → bs k ≡ Empty
+
+empty_kind : (x : Box) → kind_in x ≡ None → x ≡ Empty
+empty_kind Empty e = refl
+empty_kind (Waiting p m) e = absurd (cc)
+empty_kind (Taken p m) e = absurd (cc)
+
+sound_alone : (p : Pair) (m : Monitor) (bs : ℕ → Box) → Sound p m bs → IsAlone bs
+sound_alone p m bs s =
+    let o : Outstanding p m bs = s.outstanding in
+    record {
+      on_zero = λ k signal. o.on_zero k (ap is_signal (o.boxed k) ∙ signal);
+      empty = λ signal k away. empty_kind (bs k) (sym (o.boxed k) ∙ o.alone (ap is_signal (o.boxed 0) ∙ signal) k away);
+    }
+
+-- fewer are outstanding, or as many
+record IsLess (new old : ℕ → Box) : Type 0 where
+  signal : (k : ℕ) → is_signal (kind_in (new k)) ≡ true → is_signal (kind_in (old k)) ≡ true
+  empty : (k : ℕ) → old k ≡ Empty → new k ≡ Empty
+
+alone_less : (new old : ℕ → Box) → IsLess new old → IsAlone old → IsAlone new
+alone_less new old less h = record { on_zero = λ k signal. h.on_zero k (less.signal k signal); empty = λ signal k away. less.empty k (h.empty (less.signal 0 signal) k away) }
+
+fetched_kind : (x : Box) → kind_in (fetched x) ≡ kind_in x
+fetched_kind Empty = refl
+fetched_kind (Waiting p m) = refl
+fetched_kind (Taken p m) = refl
+
+fetched_empty : (x : Box) → x ≡ Empty → fetched x ≡ Empty
+fetched_empty x e = ap fetched e
+
+less_fetched : (bs : ℕ → Box) (l : ℕ) → IsLess (at_link bs l (fetched (bs l))) bs
+less_fetched bs l = record {
+  signal = λ k e. elim (at bs l (fetched (bs l)) k) [
+    | inl t ↦ (ap (λ (j : ℕ). is_signal (kind_in (bs j))) t.0 ∙ ap is_signal (sym (fetched_kind (bs l))) ∙ ap (λ (x : Box). is_signal (kind_in x)) (sym t.1) ∙ e)
+    | inr t ↦ (ap (λ (x : Box). is_signal (kind_in x)) (sym t.1) ∙ e)
+  ];
+  empty = λ k e. elim (at bs l (fetched (bs l)) k) [
+    | inl t ↦ (t.1 ∙ fetched_empty (bs l) (ap bs (sym t.0) ∙ e))
+    | inr t ↦ (t.1 ∙ e)
+  ];
+}
+
+less_cleared : (bs : ℕ → Box) (l : ℕ) → IsLess (at_link bs l Empty) bs
+less_cleared bs l = record {
+  signal = λ k e. elim (at bs l Empty k) [
+    | inl t ↦ (let both : true ≡ false = sym e ∙ ap (λ (x : Box). is_signal (kind_in x)) t.1 in absurd (cc))
+    | inr t ↦ (ap (λ (x : Box). is_signal (kind_in x)) (sym t.1) ∙ e)
+  ];
+  empty = λ k e. elim (at bs l Empty k) [
+    | inl t ↦ t.1
+    | inr t ↦ (t.1 ∙ e)
+  ];
+}
+
+none_alone : IsAlone (λ k. Empty)
+none_alone = record { on_zero = λ k signal. absurd (cc); empty = λ signal k away. refl }
+
+alone_if : (t : Bool) (post : Post) (here : ℕ) (bs : ℕ → Box) → (t ≡ true → IsAlone (posted here (Some post) bs)) → IsAlone bs → IsAlone (posted here (when t post) bs)
+alone_if true post here bs f h = f refl
+alone_if false post here bs f h = h
+
+pub alone_run : (hosts : List Host) (events : List Event) → IsRun hosts events → (a b : Host) → IsAlone (boxes a b events)
+alone_run hosts [] r a b = none_alone
+alone_run hosts (Contact x y ∷ events) r a b = alone_run hosts events r.2 a b
+alone_run hosts (Out x y l message ∷ events) r a b =
+    alone_if (are a b x y) (Put l message) (place events) (boxes a b events)
+    (λ e.
+        (let up : is_up hosts a events ≡ true = carry (λ v w. is_up hosts v events ≡ true) a b x y e r.0.0 in
+        let may : MaySend (pair a b events) l message = carry (λ v w. MaySend (pair v w events) l message) a b x y e r.1 in
+        sound_alone (moved (Some (Send l message)) (pair a b events)) (monitored (place events) (Some (Send l message)) (monitor a b events)) (posted (place events) (Some (Put l message)) (boxes a b events))
+        (sound_sent (place events) l message (pair a b events) (monitor a b events) (boxes a b events) may (sound_run hosts events r.2 a b up))))
+    (alone_run hosts events r.2 a b)
+alone_run hosts (In x y l message ∷ events) r a b =
+    let h : IsAlone (boxes a b events) = alone_run hosts events r.2 a b in
+    alone_if (are a b x y) (Fetch l) (place events) (boxes a b events) (λ e. alone_less (at_link (boxes a b events) l (fetched (boxes a b events l))) (boxes a b events) (less_fetched (boxes a b events) l) h) h
+alone_run hosts (Told x y l k ∷ events) r a b =
+    let h : IsAlone (boxes a b events) = alone_run hosts events r.2 a b in
+    alone_if (are a b x y) (Clear l) (place events) (boxes a b events) (λ e. alone_less (at_link (boxes a b events) l Empty) (boxes a b events) (less_cleared (boxes a b events) l) h) h
+alone_run hosts (Down x ∷ events) r a b = alone_run hosts events r.2 a b
+alone_run hosts (Up x ∷ events) r a b = alone_if (same_host a x) ClearAll (place events) (boxes a b events) (λ e. none_alone) (alone_run hosts events r.2 a b)
+alone_run hosts (Idle ∷ events) r a b = alone_run hosts events r.2 a b
+
+-- ---- a host that is down is as at the opening
+
+opened_if : (t : Bool) (part : Part) (p : Pair) → (t ≡ true → ⊥) → p ≡ opening_pair → moved (when t part) p ≡ opening_pair
+opened_if true part p no_part e = absurd (no_part refl)
+opened_if false part p no_part e = e
+
+stopped_pair : (t up : Bool) (p : Pair) → (if t then false else up) ≡ false → (up ≡ false → p ≡ opening_pair) → moved (when t Begin) p ≡ opening_pair
+stopped_pair true up p e h = refl
+stopped_pair false up p e h = h e
+
+not_up : (t up : Bool) → (if t then true else up) ≡ false → (t ≡ false) × (up ≡ false)
+not_up true up e = absurd (cc)
+not_up false up e = (refl, e)
+
+up_and_down : (up : Bool) → up ≡ true → up ≡ false → ⊥
+up_and_down up e f = let both : true ≡ false = sym e ∙ f in absurd (cc)
+
+pub down_pair : (hosts : List Host) (events : List Event) → IsRun hosts events → (a b : Host) → is_up hosts a events ≡ false → pair a b events ≡ opening_pair
+down_pair hosts [] r a b down = refl
+down_pair hosts (Contact x y ∷ events) r a b down =
+    opened_if (are a b x y) Call (pair a b events) (λ e. up_and_down (is_up hosts a events) (carry (λ v w. is_up hosts v events ≡ true) a b x y e r.0) down) (down_pair hosts events r.2 a b down)
+down_pair hosts (Out x y l message ∷ events) r a b down =
+    opened_if (are a b x y) (Send l message) (pair a b events) (λ e. up_and_down (is_up hosts a events) (carry (λ v w. is_up hosts v events ≡ true) a b x y e r.0.0) down) (down_pair hosts events r.2 a b down)
+down_pair hosts (In x y l message ∷ events) r a b down =
+    opened_if (are a b y x) (Take message) (pair a b events) (λ e. up_and_down (is_up hosts a events) (carry (λ v w. is_up hosts v events ≡ true) a b y x e r.0.0) down) (down_pair hosts events r.2 a b down)
+down_pair hosts (Told x y l k ∷ events) r a b down =
+    opened_if (are a b x y) (Hear l k) (pair a b events) (λ e. up_and_down (is_up hosts a events) (carry (λ v w. is_up hosts v events ≡ true) a b x y e r.0.0) down) (down_pair hosts events r.2 a b down)
+down_pair hosts (Down x ∷ events) r a b down = stopped_pair (same_host a x) (is_up hosts a events) (pair a b events) down (λ before. down_pair hosts events r.2 a b before)
+down_pair hosts (Up x ∷ events) r a b down =
+    let t : (same_host a x ≡ false) × (is_up hosts a events ≡ false) = not_up (same_host a x) (is_up hosts a events) down in
+    opened_if (same_host a x) Begin (pair a b events) (λ e. up_and_down (same_host a x) e t.0) (down_pair hosts events r.2 a b t.1)
+down_pair hosts (Idle ∷ events) r a b down = down_pair hosts events r.2 a b down
+
+-- a host that is ready is up
+pub ready_up : (hosts : List Host) (events : List Event) → IsRun hosts events → (a b : Host) → (pair a b events).phase ≡ Ready → is_up hosts a events ≡ true
+ready_up hosts events r a b ready = by (is_up hosts a events) refl where
+  by : (up : Bool) → is_up hosts a events ≡ up → is_up hosts a events ≡ true
+  by true e = e
+  by false e = let both : Closed ≡ Ready = sym (ap (λ (p : Pair). p.phase) (down_pair hosts events r a b e)) ∙ ready in absurd (cc)
