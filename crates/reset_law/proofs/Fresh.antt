@@ -101,9 +101,9 @@ plain_ready (Hear l answer.Dead) here p m plain e = (ready_after_failure p.phase
 plain_ready (Hear l answer.Incomplete) here p m plain e = (ready_after_failure p.phase p.owed e, refl)
 plain_ready Begin here p m plain e = absurd (cc)
 
-plain_if : (t : Bool) (part : Part) (here : ℕ) (p : Pair) (m : Monitor) → IsPlain part → (moved (when t part) p).phase ≡ Ready → (p.phase ≡ Ready) × ((monitored here (when t part) m).clean ≡ m.clean)
-plain_if true part here p m plain e = plain_ready part here p m plain e
-plain_if false part here p m plain e = (e, refl)
+pub still_ready : (t : Bool) (part : Part) (here : ℕ) (p : Pair) (m : Monitor) → IsPlain part → (moved (when t part) p).phase ≡ Ready → (p.phase ≡ Ready) × ((monitored here (when t part) m).clean ≡ m.clean)
+still_ready true part here p m plain e = plain_ready part here p m plain e
+still_ready false part here p m plain e = (e, refl)
 
 -- ---- what waits
 
@@ -162,14 +162,14 @@ signal_alone bs l m o alone waits signal k p text e =
 
 -- ---- over whole lists of events
 
-both_true : (s t : Bool) → s ≡ true → t ≡ true → (s && t) ≡ true
+pub both_true : (s t : Bool) → s ≡ true → t ≡ true → (s && t) ≡ true
 both_true s t e f = rw (e, f) refl
 
-turned_about : (a b x y : Host) → are b a y x ≡ true → are a b x y ≡ true
+pub turned_about : (a b x y : Host) → are b a y x ≡ true → are a b x y ≡ true
 turned_about a b x y e = let t : (same_host b y ≡ true) × (same_host a x ≡ true) = and_true (same_host b y) (same_host a x) e in both_true (same_host a x) (same_host b y) t.1 t.0
 
 -- a host that is ready after a message is taken was ready before, with the same clean point, or took a signal
-ready_taken : (t : Bool) (message : Message) (here : ℕ) (p : Pair) (m : Monitor) → (moved (when t (Take message)) p).phase ≡ Ready
+pub ready_taken : (t : Bool) (message : Message) (here : ℕ) (p : Pair) (m : Monitor) → (moved (when t (Take message)) p).phase ≡ Ready
     → ((t ≡ true) × (is_signal (Some (kind_of message)) ≡ true)) ⊎ ((p.phase ≡ Ready) × ((monitored here (when t (Take message)) m).clean ≡ m.clean))
 ready_taken true Reset here p m e = inl (refl, refl)
 ready_taken true Reply here p m e = inl (refl, refl)
@@ -187,11 +187,11 @@ point_before hosts events r a b ready =
 pub fresh_run : (hosts : List Host) (events : List Event) → IsRun hosts events → (a b : Host) → (pair b a events).phase ≡ Ready → IsFresh (boxes a b events) (monitor b a events).clean
 fresh_run hosts [] r a b ready = absurd (cc)
 fresh_run hosts (Contact x y ∷ events) r a b ready =
-    let t : ((pair b a events).phase ≡ Ready) × ((monitor b a (Contact x y ∷ events)).clean ≡ (monitor b a events).clean) = plain_if (are b a x y) Call (place events) (pair b a events) (monitor b a events) tt ready in
+    let t : ((pair b a events).phase ≡ Ready) × ((monitor b a (Contact x y ∷ events)).clean ≡ (monitor b a events).clean) = still_ready (are b a x y) Call (place events) (pair b a events) (monitor b a events) tt ready in
     subst (λ (o : Option ℕ). IsFresh (boxes a b events) o) (sym t.1) (fresh_run hosts events r.2 a b t.0)
 fresh_run hosts (Out x y l message ∷ events) r a b ready =
     let t : ((pair b a events).phase ≡ Ready) × ((monitor b a (Out x y l message ∷ events)).clean ≡ (monitor b a events).clean) =
-    plain_if (are b a x y) (Send l message) (place events) (pair b a events) (monitor b a events) tt ready in
+    still_ready (are b a x y) (Send l message) (place events) (pair b a events) (monitor b a events) tt ready in
     subst (λ (o : Option ℕ). IsFresh (boxes a b (Out x y l message ∷ events)) o) (sym t.1)
     (fresh_if (are a b x y) (Put l message) (place events) (boxes a b events) (monitor b a events).clean
     (λ e. fresh_put (boxes a b events) l (place events) message (monitor b a events).clean (point_before hosts events r.2 b a t.0) (fresh_run hosts events r.2 a b t.0))
@@ -209,16 +209,16 @@ fresh_run hosts (In x y l message ∷ events) r a b ready = elim (ready_taken (a
 ]
 fresh_run hosts (Told x y l k ∷ events) r a b ready =
     let t : ((pair b a events).phase ≡ Ready) × ((monitor b a (Told x y l k ∷ events)).clean ≡ (monitor b a events).clean) =
-    plain_if (are b a x y) (Hear l k) (place events) (pair b a events) (monitor b a events) tt ready in
+    still_ready (are b a x y) (Hear l k) (place events) (pair b a events) (monitor b a events) tt ready in
     subst (λ (o : Option ℕ). IsFresh (boxes a b (Told x y l k ∷ events)) o) (sym t.1)
     (fresh_if (are a b x y) (Clear l) (place events) (boxes a b events) (monitor b a events).clean
     (λ e. fresh_cleared (boxes a b events) l (monitor b a events).clean (fresh_run hosts events r.2 a b t.0))
     (fresh_run hosts events r.2 a b t.0))
 fresh_run hosts (Down x ∷ events) r a b ready =
-    let t : ((pair b a events).phase ≡ Ready) × ((monitor b a (Down x ∷ events)).clean ≡ (monitor b a events).clean) = plain_if (same_host b x) Begin (place events) (pair b a events) (monitor b a events) tt ready in
+    let t : ((pair b a events).phase ≡ Ready) × ((monitor b a (Down x ∷ events)).clean ≡ (monitor b a events).clean) = still_ready (same_host b x) Begin (place events) (pair b a events) (monitor b a events) tt ready in
     subst (λ (o : Option ℕ). IsFresh (boxes a b events) o) (sym t.1) (fresh_run hosts events r.2 a b t.0)
 fresh_run hosts (Up x ∷ events) r a b ready =
-    let t : ((pair b a events).phase ≡ Ready) × ((monitor b a (Up x ∷ events)).clean ≡ (monitor b a events).clean) = plain_if (same_host b x) Begin (place events) (pair b a events) (monitor b a events) tt ready in
+    let t : ((pair b a events).phase ≡ Ready) × ((monitor b a (Up x ∷ events)).clean ≡ (monitor b a events).clean) = still_ready (same_host b x) Begin (place events) (pair b a events) (monitor b a events) tt ready in
     subst (λ (o : Option ℕ). IsFresh (boxes a b (Up x ∷ events)) o) (sym t.1)
     (fresh_if (same_host a x) ClearAll (place events) (boxes a b events) (monitor b a events).clean (λ e l p text waits. absurd (cc)) (fresh_run hosts events r.2 a b t.0))
 fresh_run hosts (Idle ∷ events) r a b ready = fresh_run hosts events r.2 a b ready

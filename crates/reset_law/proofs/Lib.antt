@@ -3,3 +3,4 @@ pub mod Steps
 pub mod Answers
 pub mod Runs
 pub mod Fresh
+pub mod Joint

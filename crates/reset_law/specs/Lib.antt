@@ -4,5 +4,6 @@ pub mod Phases
 pub mod Pairs
 pub mod Monitor
 pub mod Runs
+pub mod Stays
 pub mod Invariant
 pub mod Example
