@@ -84,7 +84,7 @@ fetched_kind Empty = refl
 fetched_kind (Waiting p m) = refl
 fetched_kind (Taken p m) = refl
 
-plain_fetched : (bs : ℕ → Box) (l : ℕ) → NoPlain bs → NoPlain (at_link bs l (fetched (bs l)))
+pub plain_fetched : (bs : ℕ → Box) (l : ℕ) → NoPlain bs → NoPlain (at_link bs l (fetched (bs l)))
 plain_fetched bs l h k e = elim (at bs l (fetched (bs l)) k) [
   | inl t ↦ h l (sym (fetched_kind (bs l)) ∙ ap kind_in (sym t.1) ∙ e)
   | inr t ↦ h k (ap kind_in (sym t.1) ∙ e)
@@ -102,12 +102,12 @@ plain_put bs l here m signal h k e = elim (at bs l (Waiting here m) k) [
   | inr t ↦ h k (ap kind_in (sym t.1) ∙ e)
 ]
 
-plain_if : (t : Bool) (post : Post) (here : ℕ) (bs : ℕ → Box) → (t ≡ true → NoPlain (posted here (Some post) bs)) → NoPlain bs → NoPlain (posted here (when t post) bs)
+pub plain_if : (t : Bool) (post : Post) (here : ℕ) (bs : ℕ → Box) → (t ≡ true → NoPlain (posted here (Some post) bs)) → NoPlain bs → NoPlain (posted here (when t post) bs)
 plain_if true post here bs f h = f refl
 plain_if false post here bs f h = h
 
 -- where a signal is taken nothing else is outstanding
-plain_alone : (bs : ℕ → Box) (l : ℕ) (m : Message) → IsAlone bs → WaitsWith (bs l) m → is_signal (Some (kind_of m)) ≡ true → NoPlain bs
+pub plain_alone : (bs : ℕ → Box) (l : ℕ) (m : Message) → IsAlone bs → WaitsWith (bs l) m → is_signal (Some (kind_of m)) ≡ true → NoPlain bs
 plain_alone bs l m alone waits signal k e =
     let there : is_signal (kind_in (bs l)) ≡ true = here (bs l) waits in
     let zero : l ≡ 0 = alone.on_zero l there in

@@ -4,3 +4,5 @@ pub mod Answers
 pub mod Runs
 pub mod Fresh
 pub mod Joint
+pub mod Words
+pub mod Stays

@@ -1,6 +1,6 @@
 //! What becomes of a reset. The functions here do nothing: each clause is the law.
 
-ghost use Rattle.std.specs.Prelude.{◌≡◌, ◌≢◌, ℕ, Bool, true, false, List, [], ◌∷◌, Some};
+ghost use Rattle.std.specs.Prelude.{◌≡◌, ◌≢◌, ℕ, Bool, true, false, List, [], ◌∷◌, ◌++◌, Some};
 ghost use Rattle.leader1822.specs.Host.{Host};
 ghost use Rattle.reset_law.specs.Boxes.{boxes, Empty, Waiting};
 ghost use Rattle.reset_law.specs.Events.{Event, In, Other, is_up};
@@ -10,6 +10,7 @@ ghost use Rattle.reset_law.specs.Monitor.{monitor};
 ghost use Rattle.reset_law.specs.Pairs.{pair, opening_pair};
 ghost use Rattle.reset_law.specs.Phases.{Ready};
 ghost use Rattle.reset_law.specs.Runs.{IsRun, WaitsAfterClean};
+ghost use Rattle.reset_law.specs.Stays.{joint, begins, stays, said, heard, waits_in, IsFront};
 
 /// A whole reset, step by step.
 pub fn worked_reset()
@@ -35,4 +36,21 @@ pub fn clean_reset()
 
     // what a host that is up knows of a peer, in each phase
     ensures sound { (hosts : List Host) (events : List Event) → IsRun hosts events → (a b : Host) → is_up hosts a events ≡ true → Sound (pair a b events) (monitor a b events) (boxes a b events) }
+{}
+
+/// What two hosts hear of one another, link by link, while they stay together. A stay begins where both hosts are through a
+/// reset, and ends for each of them where it leaves.
+pub fn stays()
+    // what a host heard of its peer in its stay is a front of what the peer said in its own, whoever has left meanwhile
+    ensures front { (hosts : List Host) (events : List Event) → IsRun hosts events → (a b : Host) (link : ℕ) → IsFront (heard a b link events) (said a b link events) }
+
+    // while the host stays, so is what it heard and what waits for it
+    ensures waiting { (hosts : List Host) (events : List Event) → IsRun hosts events → (a b : Host) (link : ℕ) → stays b a events ≡ true → IsFront (heard a b link events ++ waits_in (boxes a b events link)) (said a b link events) }
+
+    // while both are through a reset nothing is lost
+    ensures whole { (hosts : List Host) (events : List Event) → IsRun hosts events → (a b : Host) (link : ℕ) → joint a b events ≡ true → heard a b link events ++ waits_in (boxes a b events link) ≡ said a b link events }
+
+    // then both stay, and where that began nothing of an older contact waited, either way
+    ensures together { (hosts : List Host) (events : List Event) → IsRun hosts events → (a b : Host) → joint a b events ≡ true → stays a b events ≡ true }
+    ensures beginning { (hosts : List Host) (e : Event) (events : List Event) → IsRun hosts (e ∷ events) → (a b : Host) (link : ℕ) → begins a b e events ≡ true → (waits_in (boxes a b (e ∷ events) link) ≡ []) × (waits_in (boxes b a (e ∷ events) link) ≡ []) }
 {}
