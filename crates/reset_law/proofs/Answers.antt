@@ -1,13 +1,13 @@
 -- An answer that a host is told keeps the invariant.
-use Rattle.std.proofs.Common.{◌≡◌, ◌≢◌, ◌⊎◌, ℕ, Bool, true, false, not, ◌&&◌, ◌||◌, Option, Some, None, refl, ap, sym, subst, ◌∙◌, inl, inr, if◌then◌else◌, ◌==◌}
+use Rattle.std.proofs.Common.{◌≡◌, ◌≢◌, ◌⊎◌, ℕ, Bool, true, false, Option, Some, None, refl, ap, sym, subst, ◌∙◌, inl, inr, if◌then◌else◌, ◌==◌}
 use Rattle.std.specs.Prelude.{is_some}
 use Rattle.leader1822.specs.declared.crossing.Answer.{Answer}
 use Rattle.leader1822.specs.declared.crossing.Answer.TheVariants as answer
 use Rattle.reset_law.specs.Phases.{Phase, Closed, Want, Gone, Heard, Ready, rfnm_phase, failed_phase}
 use Rattle.reset_law.specs.Boxes.{Box, Empty, Waiting, Taken, Fits, at_link}
 use Rattle.reset_law.specs.Pairs.{Kind, Rst, Rrp, Plain, Pair, IsFree, told}
-use Rattle.reset_law.specs.Monitor.{Monitor, Unsent, OnItsWay, Received, monitor_told, monitor_failed, ends_contact}
-use Rattle.reset_law.specs.Invariant.{kind_in, is_signal, Outstanding, InClosed, InWant, InGone, InHeard, InReady, Shape, Sound}
+use Rattle.reset_law.specs.Monitor.{Monitor, OnItsWay, Received, monitor_told, monitor_failed}
+use Rattle.reset_law.specs.Invariant.{kind_in, is_signal, Outstanding, InGone, InHeard, InReady, Shape, Sound}
 use Rattle.reset_law.proofs.Links.{at, boxed_at}
 
 -- ---- what is outstanding
@@ -48,7 +48,6 @@ cleared l p m n boxes ph begun owed silent o =
 same_either : (b : Bool) (ph : Phase) → (if b then ph else ph) ≡ ph
 same_either true ph = refl
 same_either false ph = refl
-
 
 less_begun : (owed begun : Bool) → begun ≡ false → (if owed then begun else false) ≡ false
 less_begun true begun e = e

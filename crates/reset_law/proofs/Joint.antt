@@ -1,20 +1,19 @@
 -- Two hosts that are both through a reset: how that begins, and what it keeps.
-use Rattle.std.proofs.Common.{◌≡◌, ◌≢◌, ◌⊎◌, ℕ, Bool, true, false, not, ◌&&◌, ◌||◌, List, [], ◌∷◌, Option, Some, None, refl, ap, sym, subst, ◌∙◌, inl, inr, if◌then◌else◌, ◌==◌}
+use Rattle.std.proofs.Common.{◌≡◌, ◌≢◌, ◌⊎◌, ℕ, Bool, true, false, List, [], ◌∷◌, Option, Some, None, refl, ap, sym, subst, ◌∙◌, inl, inr}
 use Rattle.leader1822.specs.Host.{Host, same_host}
 use Rattle.leader1822.specs.declared.crossing.Answer.{Answer}
 use Rattle.leader1822.specs.declared.crossing.Answer.TheVariants as answer
-use Rattle.leader1822.proofs.Lists.{and_true}
-use Rattle.reset_law.specs.Phases.{Phase, Closed, Want, Gone, Heard, Ready, reset_phase, reply_phase}
-use Rattle.reset_law.specs.Events.{Message, Reset, Reply, Other, Event, Contact, Out, In, Told, Down, Up, Idle, Part, Call, Send, Take, Hear, Begin, when, are, place, is_up}
+use Rattle.reset_law.specs.Phases.{Phase, Closed, Want, Gone, Heard, Ready, reset_phase}
+use Rattle.reset_law.specs.Events.{Message, Reset, Reply, Other, Event, Contact, Out, In, Told, Down, Up, Idle, Call, Send, Take, Hear, Begin, when, are, place, is_up}
 use Rattle.reset_law.specs.Boxes.{Box, Empty, Waiting, Taken, WaitsWith, Post, Put, Fetch, Clear, ClearAll, fetched, posted, at_link, boxes}
-use Rattle.reset_law.specs.Pairs.{Kind, Rst, Rrp, Plain, kind_of, Pair, MaySend, moved, pair}
-use Rattle.reset_law.specs.Monitor.{Monitor, monitored, monitor}
-use Rattle.reset_law.specs.Invariant.{kind_in, is_signal, Outstanding, InHeard, Shape, Sound}
+use Rattle.reset_law.specs.Pairs.{Kind, Rst, Plain, kind_of, Pair, MaySend, moved, pair}
+use Rattle.reset_law.specs.Monitor.{Monitor, monitor}
+use Rattle.reset_law.specs.Invariant.{kind_in, is_signal, Outstanding, Shape, Sound}
 use Rattle.reset_law.specs.Runs.{IsRun}
-use Rattle.reset_law.specs.Stays.{is_ready, ready, joint, begins, takes_reset, stays, waits_in}
+use Rattle.reset_law.specs.Stays.{is_ready, ready, waits_in}
 use Rattle.reset_law.proofs.Links.{at}
 use Rattle.reset_law.proofs.Runs.{carry, IsAlone, sound_run, alone_run, ready_up}
-use Rattle.reset_law.proofs.Fresh.{turned_about, both_true, still_ready, ready_taken}
+use Rattle.reset_law.proofs.Fresh.{turned_about, still_ready, ready_taken}
 
 -- ---- tests
 

@@ -1,5 +1,5 @@
 -- Functions by link that are changed at one link.
-use Rattle.std.proofs.Common.{◌≡◌, ◌≢◌, ◌⊎◌, ℕ, Bool, true, false, Option, Some, None, refl, ap, sym, ◌∙◌, inl, inr, ◌==◌, if◌then◌else◌, eq-eqb}
+use Rattle.std.proofs.Common.{◌≡◌, ◌≢◌, ◌⊎◌, ℕ, Bool, true, false, Option, None, refl, ap, sym, ◌∙◌, inl, inr, ◌==◌, if◌then◌else◌, eq-eqb}
 use Rattle.std.proofs.lemmas.Bool.{eqb-true}
 use Rattle.reset_law.specs.Boxes.{Box, Empty, Waiting, Taken, fetched, at_link}
 use Rattle.reset_law.specs.Pairs.{Kind}

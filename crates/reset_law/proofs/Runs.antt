@@ -1,17 +1,15 @@
 -- The invariant over whole lists of events.
-use Rattle.std.proofs.Common.{◌≡◌, ◌≢◌, ◌⊎◌, ℕ, ◌+◌, ◌<◌, Bool, true, false, ◌&&◌, List, [], ◌∷◌, Option, Some, None, refl, ap, sym, subst, ◌∙◌, inl, inr, if◌then◌else◌, arith}
-use Rattle.leader1822.specs.Host.{Host, same_host, is_host}
-use Rattle.leader1822.specs.declared.crossing.Answer.{Answer}
-use Rattle.leader1822.specs.declared.crossing.Answer.TheVariants as answer
+use Rattle.std.proofs.Common.{◌≡◌, ◌≢◌, ℕ, Bool, true, false, List, [], ◌∷◌, Some, None, refl, ap, sym, subst, ◌∙◌, inl, inr, if◌then◌else◌}
+use Rattle.leader1822.specs.Host.{Host, same_host}
 use Rattle.leader1822.proofs.Lists.{and_true, same_host-true}
-use Rattle.reset_law.specs.Phases.{Phase, Closed, Want, Gone, Heard, Ready}
-use Rattle.reset_law.specs.Events.{Message, Reset, Reply, Other, Event, Contact, Out, In, Told, Down, Up, Idle, Part, Call, Send, Take, Hear, Begin, when, are, part_of, place, is_up}
-use Rattle.reset_law.specs.Boxes.{Box, Empty, Waiting, Taken, Post, Put, Fetch, Clear, ClearAll, Fits, WaitsWith, fetched, posted, at_link, boxes}
-use Rattle.reset_law.specs.Pairs.{Kind, Pair, MaySend, opening_pair, moved, sent, pair}
-use Rattle.reset_law.specs.Monitor.{Monitor, monitored, monitor, counts}
+use Rattle.reset_law.specs.Phases.{Closed, Ready}
+use Rattle.reset_law.specs.Events.{Message, Reset, Reply, Other, Event, Contact, Out, In, Told, Down, Up, Idle, Part, Call, Send, Take, Hear, Begin, when, are, place, is_up}
+use Rattle.reset_law.specs.Boxes.{Box, Empty, Waiting, Taken, Post, Put, Fetch, Clear, ClearAll, Fits, fetched, posted, at_link, boxes}
+use Rattle.reset_law.specs.Pairs.{Pair, MaySend, opening_pair, moved, pair}
+use Rattle.reset_law.specs.Monitor.{Monitor, monitored, monitor}
 use Rattle.reset_law.specs.Invariant.{kind_in, is_signal, Outstanding, Sound}
 use Rattle.reset_law.specs.Runs.{IsRun}
-use Rattle.reset_law.proofs.Links.{at, boxed_at, boxed_fetched}
+use Rattle.reset_law.proofs.Links.{at}
 use Rattle.reset_law.proofs.Steps.{sound_opening, sound_contact, sound_reset_sent, sound_reply_sent, sound_other_sent, sound_reset_taken, sound_reply_taken, sound_fetched}
 use Rattle.reset_law.proofs.Answers.{sound_told}
 
@@ -170,10 +168,10 @@ alone_run hosts (Contact x y ∷ events) r a b = alone_run hosts events r.2 a b
 alone_run hosts (Out x y l message ∷ events) r a b =
     alone_if (are a b x y) (Put l message) (place events) (boxes a b events)
     (λ e.
-        (let up : is_up hosts a events ≡ true = carry (λ v w. is_up hosts v events ≡ true) a b x y e r.0.0 in
-        let may : MaySend (pair a b events) l message = carry (λ v w. MaySend (pair v w events) l message) a b x y e r.1 in
-        sound_alone (moved (Some (Send l message)) (pair a b events)) (monitored (place events) (Some (Send l message)) (monitor a b events)) (posted (place events) (Some (Put l message)) (boxes a b events))
-        (sound_sent (place events) l message (pair a b events) (monitor a b events) (boxes a b events) may (sound_run hosts events r.2 a b up))))
+    (let up : is_up hosts a events ≡ true = carry (λ v w. is_up hosts v events ≡ true) a b x y e r.0.0 in
+    let may : MaySend (pair a b events) l message = carry (λ v w. MaySend (pair v w events) l message) a b x y e r.1 in
+    sound_alone (moved (Some (Send l message)) (pair a b events)) (monitored (place events) (Some (Send l message)) (monitor a b events)) (posted (place events) (Some (Put l message)) (boxes a b events))
+    (sound_sent (place events) l message (pair a b events) (monitor a b events) (boxes a b events) may (sound_run hosts events r.2 a b up))))
     (alone_run hosts events r.2 a b)
 alone_run hosts (In x y l message ∷ events) r a b =
     let h : IsAlone (boxes a b events) = alone_run hosts events r.2 a b in

@@ -1,23 +1,23 @@
 -- What a host heard of its peer while it stays is a front of what that peer said.
-use Rattle.std.proofs.Common.{◌≡◌, ◌≢◌, ◌⊎◌, ℕ, Bool, true, false, not, ◌&&◌, ◌||◌, List, [], ◌∷◌, ◌++◌, Option, Some, None, refl, ap, sym, subst, ◌∙◌, inl, inr, if◌then◌else◌, ◌==◌, eq-eqb, append-nil}
+use Rattle.std.proofs.Common.{◌≡◌, ◌≢◌, ◌⊎◌, ℕ, Bool, true, false, not, ◌&&◌, ◌||◌, List, [], ◌∷◌, ◌++◌, refl, ap, sym, subst, ◌∙◌, inl, inr, if◌then◌else◌, ◌==◌, eq-eqb, append-nil}
 use Rattle.std.proofs.lemmas.Bool.{eqb-true}
 use Rattle.leader1822.specs.Host.{Host, same_host}
 use Rattle.leader1822.specs.declared.crossing.Answer.{Answer}
 use Rattle.leader1822.specs.declared.crossing.Answer.TheVariants as answer
 use Rattle.leader1822.proofs.Lists.{and_true}
 use Rattle.reset_law.specs.Phases.{Phase, Closed, Want, Gone, Heard, Ready, reply_phase, failed_phase}
-use Rattle.reset_law.specs.Events.{Message, Reset, Reply, Other, Event, Contact, Out, In, Told, Down, Up, Idle, Part, Call, Send, Take, Hear, Begin, when, are, place, is_up}
-use Rattle.reset_law.specs.Boxes.{Box, Empty, Waiting, Taken, WaitsWith, Fits, Post, Put, Fetch, Clear, ClearAll, fetched, posted, at_link, boxes}
-use Rattle.reset_law.specs.Pairs.{Kind, Rst, Rrp, Plain, kind_of, Pair, MaySend, moved, pair}
-use Rattle.reset_law.specs.Monitor.{Monitor, monitored, monitor}
-use Rattle.reset_law.specs.Invariant.{kind_in, is_signal, Outstanding, InHeard, Shape, Sound}
+use Rattle.reset_law.specs.Events.{Message, Reset, Reply, Other, Event, Contact, Out, In, Told, Down, Up, Idle, Call, Send, Take, Hear, Begin, when, are, place, is_up}
+use Rattle.reset_law.specs.Boxes.{Box, Empty, Waiting, Taken, WaitsWith, Fits, Put, Fetch, Clear, ClearAll, fetched, posted, at_link, boxes}
+use Rattle.reset_law.specs.Pairs.{Pair, MaySend, moved, pair}
+use Rattle.reset_law.specs.Monitor.{monitor}
+use Rattle.reset_law.specs.Invariant.{InHeard, Shape, Sound}
 use Rattle.reset_law.specs.Runs.{IsRun}
 use Rattle.reset_law.specs.Stays.{is_ready, ready, joint, begins, takes_reset, stays, said_by, heard_by, said, heard, waits_in, IsFront}
 use Rattle.reset_law.proofs.Links.{at}
 use Rattle.reset_law.proofs.Runs.{carry, sound_run, alone_run, ready_up}
 use Rattle.reset_law.proofs.Fresh.{turned_about, still_ready, ready_taken}
 use Rattle.reset_law.proofs.Joint.{ready_phase, phase_ready, contradicts, reset_unready, NoPlain, nothing_waits, plain_fetched, plain_if, plain_alone, owes_run}
-use Rattle.reset_law.proofs.Words.{Tells, tells_as, tells_all, front_shorter, front_longer, tells_quiet, tells_heard, tells_said}
+use Rattle.reset_law.proofs.Words.{Tells, tells_as, tells_all, front_longer, tells_quiet, tells_heard, tells_said}
 
 -- ---- how a stay begins
 
@@ -50,9 +50,10 @@ became_quiet hosts (In x y l Reply) events r v w here before there = elim (ready
         let own : NoPlain (boxes v w events) = λ k plain. i.no_plain k (sound.outstanding.boxed k ∙ plain) in
         let same : are w v x y ≡ true = turned_about w v x y s.0 in
         let waits : WaitsWith (boxes w v events l) Reply = carry (λ i j. WaitsWith (boxes i j events l) Reply) w v x y same r.0.1 in
-        let other : NoPlain (boxes w v events) = plain_alone (boxes w v events) l Reply (alone_run hosts events r.2 w v) waits refl in
-        ( plain_if (are v w x y) (Fetch l) (place events) (boxes v w events) (λ e. plain_fetched (boxes v w events) l own) own
-        , plain_if (are w v x y) (Fetch l) (place events) (boxes w v events) (λ e. plain_fetched (boxes w v events) l other) other ))
+        let other : NoPlain (boxes w v events) = plain_alone (boxes w v events) l Reply (alone_run hosts events r.2 w v) waits refl in (
+          plain_if (are v w x y) (Fetch l) (place events) (boxes v w events) (λ e. plain_fetched (boxes v w events) l own) own,
+          plain_if (are w v x y) (Fetch l) (place events) (boxes w v events) (λ e. plain_fetched (boxes w v events) l other) other,
+        ))
     | inr old ↦ absurd (before old)
   ]
   | inr t ↦ absurd (before t.0)
@@ -313,16 +314,17 @@ told_step hosts x y k kind events a b l s r true same =
     let fits : Fits kind (boxes a b events k) = carry (λ v w. Fits kind (boxes v w events k)) a b x y same r.0.1 in
     elim (at (boxes a b events) k Empty l) [
       | inl u ↦
-          inr
-          ( ap waits_in (clear ∙ u.1)
-          , λ together.
-              (let own : ready a b (Told x y k kind ∷ events) ≡ true = (and_true (ready a b (Told x y k kind ∷ events)) (ready b a (Told x y k kind ∷ events)) together).0 in
-              let phase : (pair a b (Told x y k kind ∷ events)).phase ≡ Ready = ready_phase (pair a b (Told x y k kind ∷ events)).phase own in
-              let peer : (pair b a events).phase ≡ Ready = ready_phase (pair b a events).phase (stays_ready events b a s.stay) in
-              elim (told_owed (are a b x y) k kind (pair a b events) same phase) [
-                | inl rfnm ↦ (ap (λ (j : ℕ). waits_in (boxes a b events j)) u.0 ∙ rfnm_waits (boxes a b events k) (subst (λ (z : Answer). Fits z (boxes a b events k)) rfnm fits))
-                | inr owed ↦ nothing_waits (boxes a b events l) (owes_run hosts events s.run a b owed peer l)
-              ]) )
+          inr (
+            ap waits_in (clear ∙ u.1),
+            λ together.
+                (let own : ready a b (Told x y k kind ∷ events) ≡ true = (and_true (ready a b (Told x y k kind ∷ events)) (ready b a (Told x y k kind ∷ events)) together).0 in
+                let phase : (pair a b (Told x y k kind ∷ events)).phase ≡ Ready = ready_phase (pair a b (Told x y k kind ∷ events)).phase own in
+                let peer : (pair b a events).phase ≡ Ready = ready_phase (pair b a events).phase (stays_ready events b a s.stay) in
+                elim (told_owed (are a b x y) k kind (pair a b events) same phase) [
+                  | inl rfnm ↦ (ap (λ (j : ℕ). waits_in (boxes a b events j)) u.0 ∙ rfnm_waits (boxes a b events k) (subst (λ (z : Answer). Fits z (boxes a b events k)) rfnm fits))
+                  | inr owed ↦ nothing_waits (boxes a b events l) (owes_run hosts events s.run a b owed peer l)
+                ]),
+          )
       | inr u ↦ inl (ap waits_in (clear ∙ u.1))
     ]
 
@@ -355,9 +357,10 @@ stay_step hosts (Up x) events a b l s r kept h =
     (elim (up_step (same_host a x) (place events) l (pair a b events) (boxes a b events)) [
       | inl same ↦ inl same
       | inr lost ↦
-          inr
-          ( lost.0
-          , λ together. absurd (lost.1 (ready_phase (pair a b (Up x ∷ events)).phase (and_true (ready a b (Up x ∷ events)) (ready b a (Up x ∷ events)) together).0)) )
+          inr (
+            lost.0,
+            λ together. absurd (lost.1 (ready_phase (pair a b (Up x ∷ events)).phase (and_true (ready a b (Up x ∷ events)) (ready b a (Up x ∷ events)) together).0)),
+          )
     ]) h
 stay_step hosts Idle events a b l s r kept h = quiet hosts Idle events a b l (joint a b (Idle ∷ events)) s refl refl (inl refl) h
 

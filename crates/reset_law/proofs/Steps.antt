@@ -2,11 +2,11 @@
 use Rattle.std.proofs.Common.{◌≡◌, ◌≢◌, ◌⊎◌, ℕ, Bool, true, false, List, Option, Some, None, refl, ap, sym, subst, ◌∙◌, inl, inr}
 use Rattle.std.specs.Prelude.{is_some}
 use Rattle.reset_law.specs.Phases.{Phase, Closed, Want, Gone, Heard, Ready, reset_phase, reply_phase}
-use Rattle.reset_law.specs.Events.{Message, Reset, Reply, Other, Call, Send, Take, Begin}
+use Rattle.reset_law.specs.Events.{Reset, Reply, Other, Call}
 use Rattle.reset_law.specs.Boxes.{Box, Empty, Waiting, fetched, at_link}
-use Rattle.reset_law.specs.Pairs.{Kind, Rst, Rrp, Plain, kind_of, Pair, IsFree, MaySend, sent, took, moved, opening_pair}
-use Rattle.reset_law.specs.Monitor.{Monitor, Unsent, OnItsWay, Received, monitor_sent, monitor_took, monitored, opening_monitor}
-use Rattle.reset_law.specs.Invariant.{kind_in, is_signal, Outstanding, InClosed, InWant, InGone, InHeard, InReady, Shape, Sound}
+use Rattle.reset_law.specs.Pairs.{Kind, Rst, Rrp, Plain, Pair, IsFree, MaySend, sent, took, moved, opening_pair}
+use Rattle.reset_law.specs.Monitor.{Monitor, OnItsWay, Received, monitor_sent, monitor_took, monitored, opening_monitor}
+use Rattle.reset_law.specs.Invariant.{is_signal, Outstanding, InWant, InReady, Shape, Sound}
 use Rattle.reset_law.proofs.Links.{at, boxed_at, boxed_fetched, no_signal}
 
 -- ---- the opening

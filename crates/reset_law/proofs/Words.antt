@@ -1,5 +1,5 @@
 -- What was heard begins what was said: lists of texts alone.
-use Rattle.std.proofs.Common.{◌≡◌, ◌⊎◌, Bool, true, false, List, [], ◌∷◌, ◌++◌, refl, ap, sym, subst, ◌∙◌, inl, inr, if◌then◌else◌, append_assoc, append-nil}
+use Rattle.std.proofs.Common.{◌≡◌, ◌⊎◌, Bool, true, false, List, [], ◌++◌, refl, ap, sym, subst, ◌∙◌, inl, inr, if◌then◌else◌, append_assoc, append-nil}
 use Rattle.reset_law.specs.Stays.{IsFront}
 
 -- what was heard, and what waits, begins what was said; it is all of it where `all` holds

@@ -1,5 +1,5 @@
 -- Two hosts that reset: words for worked examples.
-use Rattle.std.specs.Prelude.{ℕ, Bool, true, List, [], ◌∷◌}
+use Rattle.std.specs.Prelude.{true, List, [], ◌∷◌}
 use Rattle.leader1822.specs.Host.{Host}
 use Rattle.leader1822.specs.declared.crossing.Answer.TheVariants as answer
 use Rattle.reset_law.specs.Events.{Reset, Reply, Other, Event, Contact, Out, In, Told}
@@ -17,3 +17,23 @@ reset =
 
 abbrev pub message : List Event
 message = Out one two 0 (Other (true ∷ [])) ∷ reset
+
+-- an RRP of an older reset comes before the RFNM of the new RST
+abbrev pub early_reply : List Event
+early_reply = In two one 0 Reply ∷ Out two one 0 Reply ∷ In one two 0 Reset ∷ Out one two 0 Reset ∷ Contact one two ∷ []
+
+-- both hosts ask at once, and their RSTs cross
+abbrev pub both_ask : List Event
+both_ask = In two one 0 Reset ∷ In one two 0 Reset ∷ Out two one 0 Reset ∷ Out one two 0 Reset ∷ Contact two one ∷ Contact one two ∷ []
+
+abbrev pub crossing : List Event
+crossing =
+    In two one 0 Reply ∷ In one two 0 Reply ∷ Out two one 0 Reply ∷ Out one two 0 Reply ∷ Told two one 0 answer.Rfnm ∷ Told one two 0 answer.Rfnm ∷ both_ask
+
+-- host `one` has a message outstanding, and `two` resets
+abbrev pub reset_beside : List Event
+reset_beside = In two one 0 Reset ∷ Out two one 0 Reset ∷ Contact two one ∷ message
+
+-- host `one` contacts anew while its message waits
+abbrev pub left : List Event
+left = Contact one two ∷ message

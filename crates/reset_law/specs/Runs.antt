@@ -1,8 +1,8 @@
 -- What may happen: what the mailboxes allow, and what host programs do by themselves.
 use Rattle.std.specs.Prelude.{◌≡◌, ℕ, Bool, true, false, List, [], ◌∷◌}
 use Rattle.leader1822.specs.Host.{Host, is_host}
-use Rattle.reset_law.specs.Events.{Message, Other, Event, Contact, Out, In, Told, Down, Up, Idle, is_up}
-use Rattle.reset_law.specs.Boxes.{Box, Empty, Waiting, WaitsWith, Fits, boxes}
+use Rattle.reset_law.specs.Events.{Other, Event, Contact, Out, In, Told, Down, Up, Idle, is_up}
+use Rattle.reset_law.specs.Boxes.{Empty, Waiting, WaitsWith, Fits, boxes}
 use Rattle.reset_law.specs.Pairs.{pair, MaySend}
 use Rattle.reset_law.specs.Monitor.{monitor, IsAfter}
 

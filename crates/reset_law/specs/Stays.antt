@@ -2,8 +2,8 @@
 -- them leaves (NIC 8246, RST: it closes all connections between two hosts).
 use Rattle.std.specs.Prelude.{◌≡◌, ℕ, Bool, true, false, not, ◌&&◌, ◌||◌, ◌==◌, List, [], ◌∷◌, ◌++◌, if◌then◌else◌}
 use Rattle.leader1822.specs.Host.{Host}
-use Rattle.reset_law.specs.Phases.{Phase, Closed, Want, Gone, Heard, Ready}
-use Rattle.reset_law.specs.Events.{Message, Reset, Reply, Other, Event, In, Out, are}
+use Rattle.reset_law.specs.Phases.{Phase, Ready}
+use Rattle.reset_law.specs.Events.{Reset, Other, Event, In, Out, are}
 use Rattle.reset_law.specs.Boxes.{Box, Waiting}
 use Rattle.reset_law.specs.Pairs.{pair}
 

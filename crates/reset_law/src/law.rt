@@ -1,16 +1,17 @@
 //! What becomes of a reset. The functions here do nothing: each clause is the law.
 
-ghost use Rattle.std.specs.Prelude.{◌≡◌, ◌≢◌, ℕ, Bool, true, false, List, [], ◌∷◌, ◌++◌, Some};
+ghost use Rattle.std.specs.Prelude.{◌≡◌, ◌≢◌, ℕ, Bool, true, false, List, [], ◌∷◌, ◌++◌, Some, None};
 ghost use Rattle.leader1822.specs.Host.{Host};
+ghost use Rattle.leader1822.specs.declared.crossing.Answer.TheVariants as answer;
 ghost use Rattle.reset_law.specs.Boxes.{boxes, Empty, Waiting};
-ghost use Rattle.reset_law.specs.Events.{Event, In, Other, is_up};
-ghost use Rattle.reset_law.specs.Example.{one, two, reset, message};
+ghost use Rattle.reset_law.specs.Events.{Event, Contact, Out, In, Told, Down, Up, Idle, Reset, Other, place, is_up};
+ghost use Rattle.reset_law.specs.Example.{one, two, reset, message, early_reply, both_ask, crossing, reset_beside, left};
 ghost use Rattle.reset_law.specs.Invariant.{kind_in, is_signal, Sound};
 ghost use Rattle.reset_law.specs.Monitor.{monitor};
 ghost use Rattle.reset_law.specs.Pairs.{pair, opening_pair};
-ghost use Rattle.reset_law.specs.Phases.{Ready};
+ghost use Rattle.reset_law.specs.Phases.{Closed, Want, Gone, Ready};
 ghost use Rattle.reset_law.specs.Runs.{IsRun, WaitsAfterClean};
-ghost use Rattle.reset_law.specs.Stays.{joint, begins, stays, said, heard, waits_in, IsFront};
+ghost use Rattle.reset_law.specs.Stays.{ready, joint, begins, stays, said, heard, waits_in, IsFront};
 
 /// A whole reset, step by step.
 pub fn worked_reset()
@@ -53,4 +54,53 @@ pub fn stays()
     // then both stay, and where that began nothing of an older contact waited, either way
     ensures together { (hosts : List Host) (events : List Event) → IsRun hosts events → (a b : Host) → joint a b events ≡ true → stays a b events ≡ true }
     ensures beginning { (hosts : List Host) (e : Event) (events : List Event) → IsRun hosts (e ∷ events) → (a b : Host) (link : ℕ) → begins a b e events ≡ true → (waits_in (boxes a b (e ∷ events) link) ≡ []) × (waits_in (boxes b a (e ∷ events) link) ≡ []) }
+{}
+
+/// Resets that cross, and an RRP that comes too early.
+pub fn worked_resets()
+    // an RRP before the RFNM of the own RST may belong to an older reset: after the RFNM another RST has to go out, and the RRP was no clean point
+    ensures early { ((pair one two early_reply).phase ≡ Gone true) × ((pair one two (Told one two 0 answer.Rfnm ∷ early_reply)).phase ≡ Want) × ((monitor one two (Told one two 0 answer.Rfnm ∷ early_reply)).clean ≡ None) }
+
+    // RSTs that cross leave both contacts waiting, and are no clean points
+    ensures crossed { ((pair one two both_ask).phase ≡ Gone false) × ((pair two one both_ask).phase ≡ Gone false) × ((monitor one two both_ask).clean ≡ None) × ((monitor two one both_ask).clean ≡ None) }
+
+    // each RRP then ends one contact, and is a clean point for the host that takes it
+    ensures both { ((pair one two crossing).phase ≡ Ready) × ((pair two one crossing).phase ≡ Ready) × ((monitor one two crossing).clean ≡ Some 9) × ((monitor two one crossing).clean ≡ Some 8) }
+
+    // an RST to a host that is ready leaves it so, drops what was begun, and is a clean point
+    ensures anew { ((pair one two reset_beside).phase ≡ Ready) × ((pair one two reset_beside).owed ≡ true) × ((pair one two reset_beside).begun ≡ false) × ((monitor one two reset_beside).clean ≡ Some 7) }
+
+    // contacts are no crossings, and a host's own wishes aren't either
+    ensures places { (place reset ≡ 5) × (place (Idle ∷ Contact two one ∷ reset) ≡ 5) }
+{}
+
+/// Messages that fail, and hosts that stop.
+pub fn worked_failures()
+    // an RST that fails ends its contact
+    ensures reset_fails { ((pair one two (Told one two 0 answer.Dead ∷ Out one two 0 Reset ∷ Contact one two ∷ [])).phase ≡ Closed) × ((monitor one two (Told one two 0 answer.Dead ∷ Out one two 0 Reset ∷ Contact one two ∷ [])).pending ≡ false) }
+
+    // a message that fails closes a pair, but not while an RRP is owed
+    ensures message_fails { (pair one two (Told one two 0 answer.Incomplete ∷ message)).phase ≡ Closed }
+    ensures owing { (pair one two (Told one two 0 answer.Incomplete ∷ reset_beside)).phase ≡ Ready }
+
+    // what a host had out is gone when it starts, and what waits for it stays
+    ensures starts { (boxes one two (Up one ∷ Down one ∷ message) 0 ≡ Empty) × (boxes one two (Up two ∷ Down two ∷ message) 0 ≡ Waiting 5 (Other (true ∷ []))) }
+    ensures forgets { ((pair two one (Down two ∷ reset)).phase ≡ Closed) × ((monitor two one (Up two ∷ Down two ∷ reset)).clean ≡ None) }
+    ensures down { (is_up (one ∷ two ∷ []) one (Down one ∷ reset) ≡ false) × (is_up (one ∷ two ∷ []) two (Down one ∷ reset) ≡ true) }
+{}
+
+/// What two hosts say and hear.
+pub fn worked_stays()
+    // what was said waits, and is heard when it is taken; on another link nothing is
+    ensures said { (said one two 0 message ≡ (true ∷ []) ∷ []) × (heard one two 0 message ≡ []) × (said one two 2 message ≡ []) }
+    ensures heard { heard one two 0 (In one two 0 (Other (true ∷ [])) ∷ message) ≡ (true ∷ []) ∷ [] }
+
+    // a host that contacts anew leaves; its peer stays, and hears what waits
+    ensures left { (stays one two left ≡ false) × (stays two one left ≡ true) × (heard one two 0 (In one two 0 (Other (true ∷ [])) ∷ left) ≡ (true ∷ []) ∷ []) }
+
+    // a host that takes an RST doesn't stay, though it is still ready
+    ensures reset { (ready one two reset_beside ≡ true) × (stays one two reset_beside ≡ false) × (stays two one reset_beside ≡ false) }
+
+    // where a stay begins, words begin anew
+    ensures anew { (said one two 0 reset ≡ []) × (stays one two reset ≡ true) × (stays two one reset ≡ true) × (stays two one (In one two 0 Reset ∷ Out one two 0 Reset ∷ Contact one two ∷ []) ≡ false) }
 {}

@@ -1,4 +1,4 @@
-use Rattle.reset_law.proofs.Runs.{IsAlone, sound_run, alone_run, down_pair}
+use Rattle.reset_law.proofs.Runs.{sound_run, alone_run, down_pair}
 use Rattle.reset_law.proofs.Fresh.{clean_run}
 use Rattle.reset_law.proofs.law.clean_reset.Goals as goal
 
