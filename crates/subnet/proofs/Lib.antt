@@ -19,4 +19,5 @@ pub mod Rounds
 pub mod EventSteps
 pub mod Routed
 pub mod SiteHosts
+pub mod Showing
 pub mod WholeRuns

@@ -4,8 +4,9 @@ use Rattle.std.specs.Prelude.{nat_lt, slice_index_or}
 use Rattle.std.specs.List.{list_any}
 use Rattle.std.proofs.lemmas.Bool.{cases_Bool}
 use Rattle.std.proofs.lemmas.Bool.Decides.{nat_tests}
-use Rattle.leader1822.specs.Host.{Host, same_host, is_host}
+use Rattle.leader1822.specs.Host.{Host, same_host, is_host, host_before, InOrder}
 use Rattle.leader1822.proofs.Lists.{both_ways, or_nothing, same_host-refl}
+use Rattle.leader1822.proofs.Order.{before_from_numbers}
 use Rattle.subnet.specs.Opening.{host_there, AreHosts, hosts_of_one, hosts_from}
 
 -- ---- tests of numbers
@@ -91,3 +92,33 @@ pub hosts_fit : (sites : List (Option ℕ)) → AreHosts (hosts_from 0 sites) si
 hosts_fit sites h =
     let number : h.imp ≡ 0 + h.imp = omega arith in
     ap (λ (j : ℕ). is_host (hosts_from 0 sites) (host_of j h.host)) number ∙ at_site 0 h.imp h.host sites
+
+-- ---- their order
+
+-- a host stands before the first of a list
+abbrev Before : Host → List Host → Type 0
+Before g [] = Unit {0}
+Before g (h ∷ hosts) = host_before g h ≡ true
+
+then_rest : (g : Host) (hosts : List Host) → Before g hosts → InOrder hosts → InOrder (g ∷ hosts)
+then_rest g [] before rest = tt
+then_rest g (h ∷ hosts) before rest = (before, rest)
+
+before_later : (g : Host) (j : ℕ) (sites : List (Option ℕ)) → g.imp < j → Before g (hosts_from j sites)
+before_later g j [] less = tt
+before_later g j (None ∷ sites) less = before_later g (j + 1) sites (omega (arith, less))
+before_later g j (Some zero ∷ sites) less = before_later g (j + 1) sites (omega (arith, less))
+before_later g j (Some (suc count) ∷ sites) less = before_from_numbers g (host_of j 0) (inl less)
+
+one_then : (i k count : ℕ) (rest : List Host) → ((x : ℕ) → Before (host_of i x) rest) → InOrder rest → InOrder (hosts_of_one i k count ++ rest)
+one_then i k zero rest before order = order
+one_then i k (suc zero) rest before order = then_rest (host_of i k) rest (before k) order
+one_then i k (suc (suc count)) rest before order = (before_from_numbers (host_of i k) (host_of i (k + 1)) (inr (refl, omega arith)), one_then i (k + 1) (suc count) rest before order)
+
+in_order_from : (i : ℕ) (sites : List (Option ℕ)) → InOrder (hosts_from i sites)
+in_order_from i [] = tt
+in_order_from i (None ∷ sites) = in_order_from (i + 1) sites
+in_order_from i (Some count ∷ sites) = one_then i 0 count (hosts_from (i + 1) sites) (λ x. before_later (host_of i x) (i + 1) sites (omega arith)) (in_order_from (i + 1) sites)
+
+pub hosts_ordered : (sites : List (Option ℕ)) → InOrder (hosts_from 0 sites)
+hosts_ordered sites = in_order_from 0 sites

@@ -1,23 +1,13 @@
 -- Whatever happens from the opening on, the subnet is sound, and so its log is a run of the mailboxes.
-use Rattle.std.proofs.Common.{◌≡◌, ℕ, ◌≤◌, List, [], ◌∷◌, length, Option, Some, None, refl, subst}
+use Rattle.std.proofs.Common.{◌≡◌, ℕ, ◌≤◌, List, [], ◌∷◌, length, Option, Some, None, refl, subst, ◌∙◌}
 use Rattle.leader1822.specs.Host.{Host}
 use Rattle.leader1822.specs.Mailboxes.{IsRun}
 use Rattle.leader1822.specs.declared.carrier.CarrierFault.{CarrierFault}
-use Rattle.leader1822.specs.declared.event.Direction.{Direction}
 use Rattle.leader1822.specs.declared.event.NetEvent.{NetEvent}
-use Rattle.leader1822.specs.declared.event.NetEvent.TheVariants as event
 use Rattle.leader1822.specs.declared.message.HostMessage.{HostMessage}
-use Rattle.imp_channel.specs.declared.frame.Frame.{Frame}
 use Rattle.flow_law.proofs.FollowLemmas.{sound_run}
-use Rattle.imp_node.specs.State.{State, Turn}
-use Rattle.imp_node.specs.Arrival.{from_line}
-use Rattle.imp_node.specs.Lines.{resend, route, end_down, end_up}
-use Rattle.imp_node.specs.Offering.{from_host}
-use Rattle.imp_node.specs.Stopping.{give_up, forget, abandon, host_down, host_up}
-use Rattle.imp_node.specs.Taking.{to_host}
-use Rattle.std.specs.Prelude.{slice_get}
-use Rattle.subnet.specs.Net.{Net, imp_at, wire_at, port_of, frames_on, far_end}
-use Rattle.subnet.specs.Events.{at_imp, delivered, deliver, quiet_round, stepped}
+use Rattle.subnet.specs.Net.{Net}
+use Rattle.subnet.specs.Events.{quiet_round}
 use Rattle.subnet.specs.Flows.{Alive, view}
 use Rattle.subnet.specs.Opening.{Ends, AreHosts, opening}
 use Rattle.subnet.specs.Routed.{IsHostMessage, IsRouted}
@@ -26,47 +16,10 @@ use Rattle.subnet.specs.Sound.{IsSound}
 use Rattle.subnet.proofs.EventSteps.{step_sound}
 use Rattle.subnet.proofs.Offers.{offer_sound}
 use Rattle.subnet.proofs.Openings.{opening_sound}
-use Rattle.subnet.proofs.Rounds.{round_keeps, quiet_round_sound}
+use Rattle.subnet.proofs.Rounds.{quiet_round_sound}
 use Rattle.subnet.proofs.Routed.{opening_routed, offer_routed, take_routed, step_routed, round_routed, can_go}
+use Rattle.subnet.proofs.Showing.{offer_same, take_same, step_same, round_same}
 use Rattle.subnet.proofs.Takes.{take_sound}
-
--- ---- the hosts of the network stay
-
-abbrev Hosts : List Host → Net → Type 0
-Hosts hosts n = n.hosts ≡ hosts
-
-call_hosts : (hosts : List Host) (o : Option State) (i : ℕ) (call : State → Turn) (n : Net) → Hosts hosts n → Hosts hosts (at_imp o i call n)
-call_hosts hosts None i call n same = same
-call_hosts hosts (Some s) i call n same = same
-
-deliver_hosts : (hosts : List Host) (n : Net) (l : ℕ) (d : Direction) (k : ℕ) → Hosts hosts n → Hosts hosts (deliver n l d k)
-deliver_hosts hosts n l d k same = by (slice_get (frames_on d (wire_at n.lines l)) k) where
-  by : (o : Option Frame) → Hosts hosts (delivered n l d o)
-  by None = same
-  by (Some f) = let i : ℕ = far_end d (wire_at n.lines l) in call_hosts hosts (imp_at n.imps i) i (λ s. from_line s (port_of n.lines i l) f) n same
-
-round_hosts : (hosts : List Host) (n : Net) → Hosts hosts n → Hosts hosts (quiet_round n)
-round_hosts hosts n same = round_keeps (Hosts hosts) (record {
-  route = λ m i. call_hosts hosts (imp_at m.imps i) i route m;
-  resend = λ m i. call_hosts hosts (imp_at m.imps i) i resend m;
-  deliver = deliver_hosts hosts;
-  drop = λ m l d k e. e;
-}) n same
-
-step_hosts : (hosts : List Host) (n : Net) (e : NetEvent) → Hosts hosts n → Hosts hosts (stepped n e)
-step_hosts hosts n (event.Deliver l d k) same = deliver_hosts hosts n l d k same
-step_hosts hosts n (event.Drop l d k) same = same
-step_hosts hosts n (event.Resend i) same = call_hosts hosts (imp_at n.imps i) i resend n same
-step_hosts hosts n (event.Route i) same = call_hosts hosts (imp_at n.imps i) i route n same
-step_hosts hosts n (event.EndDown i l) same = call_hosts hosts (imp_at n.imps i) i (λ s. end_down s (port_of n.lines i l)) n same
-step_hosts hosts n (event.EndUp i l) same = call_hosts hosts (imp_at n.imps i) i (λ s. end_up s (port_of n.lines i l)) n same
-step_hosts hosts n (event.ImpDown i) same = same
-step_hosts hosts n (event.ImpUp i) same = same
-step_hosts hosts n (event.HostDown h) same = call_hosts hosts (imp_at n.imps h.imp) h.imp (λ s. host_down s h.host) n same
-step_hosts hosts n (event.HostUp h) same = call_hosts hosts (imp_at n.imps h.imp) h.imp (λ s. host_up s h.host) n same
-step_hosts hosts n (event.GiveUp f) same = call_hosts hosts (imp_at n.imps f.source.imp) f.source.imp (λ s. give_up s f) n same
-step_hosts hosts n (event.Forget at from) same = call_hosts hosts (imp_at n.imps at) at (λ s. forget s from) n same
-step_hosts hosts n (event.Abandon f) same = call_hosts hosts (imp_at n.imps f.destination.imp) f.destination.imp (λ s. abandon s f) n same
 
 -- ---- what holds after every call
 
@@ -83,27 +36,27 @@ done hosts n c is accepted = by (refusal n c) accepted where
 
 offered : (hosts : List Host) (n : Net) (m : HostMessage) → IsHostMessage m → IsWhole hosts n → IsWhole hosts (done_by (refusal n (Offer m)) n (Offer m))
 offered hosts n m message is = done hosts n (Offer m) is (λ accepted. record {
-  same = call_hosts hosts (imp_at n.imps m.flow.source.imp) m.flow.source.imp (λ s. from_host s m) n is.same;
+  same = (offer_same n m).hosts ∙ is.same;
   sound = offer_sound n m (can_go n m is.routed is.sound message) accepted is.sound;
   routed = offer_routed n m is.routed;
 })
 
 taken : (hosts : List Host) (n : Net) (h : Host) → IsWhole hosts n → IsWhole hosts (done_by (refusal n (Take h)) n (Take h))
 taken hosts n h is = done hosts n (Take h) is (λ accepted. record {
-  same = call_hosts hosts (imp_at n.imps h.imp) h.imp (λ s. to_host s h.host) n is.same;
+  same = (take_same n h).hosts ∙ is.same;
   sound = take_sound n h accepted is.sound;
   routed = take_routed n h is.routed;
 })
 
 happened : (hosts : List Host) (n : Net) (e : NetEvent) → IsWhole hosts n → IsWhole hosts (done_by (refusal n (Happen e)) n (Happen e))
 happened hosts n e is = done hosts n (Happen e) is (λ accepted. record {
-  same = step_hosts hosts n e is.same;
+  same = (step_same n e).hosts ∙ is.same;
   sound = step_sound n e accepted is.sound;
   routed = step_routed n e is.routed;
 })
 
 rounded : (hosts : List Host) (n : Net) → IsWhole hosts n → IsWhole hosts (quiet_round n)
-rounded hosts n is = record { same = round_hosts hosts n is.same; sound = quiet_round_sound n is.sound; routed = round_routed n is.routed }
+rounded hosts n is = record { same = (round_same n).hosts ∙ is.same; sound = quiet_round_sound n is.sound; routed = round_routed n is.routed }
 
 ran_whole : (hosts : List Host) (n : Net) (calls : List Call) → OffersMessages calls → IsWhole hosts n → IsWhole hosts (ran calls n)
 ran_whole hosts n [] messages is = is

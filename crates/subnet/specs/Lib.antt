@@ -9,3 +9,4 @@ pub mod Making
 pub mod Sound
 pub mod Offers
 pub mod Routed
+pub mod Seen

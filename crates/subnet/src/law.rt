@@ -4,12 +4,14 @@
 //! The functions `worked_..` state the rules by examples: each row is one that another reading of its rule
 //! would fail.
 
-ghost use Rattle.std.specs.Prelude.{◌≡◌, ◌≤◌, ℕ, true, false, List, [], ◌∷◌, length, replicate, Option, Some, None};
-ghost use Rattle.leader1822.specs.Host.{Host};
-ghost use Rattle.leader1822.specs.Mailboxes.{IsRun};
+ghost use Rattle.std.specs.Prelude.{◌≡◌, ◌≤◌, ℕ, true, false, List, [], ◌∷◌, ◌++◌, length, replicate, Option, Some, None};
+ghost use Rattle.leader1822.specs.Calls.{IsFor, step_crossings};
+ghost use Rattle.leader1822.specs.Host.{Host, InOrder};
+ghost use Rattle.leader1822.specs.Mailboxes.{IsRun, is_up};
 ghost use Rattle.leader1822.specs.declared.address.Flow.{Flow};
 ghost use Rattle.leader1822.specs.declared.carrier.CarrierFault.TheVariants as fault;
 ghost use Rattle.leader1822.specs.declared.crossing.Crossing.TheVariants as crossing;
+ghost use Rattle.leader1822.specs.declared.crossing.Inbound.{Inbound};
 ghost use Rattle.leader1822.specs.declared.event.Direction.{Direction};
 ghost use Rattle.leader1822.specs.declared.event.Direction.TheVariants as way;
 ghost use Rattle.leader1822.specs.declared.event.NetEvent.{NetEvent};
@@ -20,8 +22,9 @@ ghost use Rattle.imp_node.specs.Examples.{host, flow, packets_to, no_acks, ack_f
 ghost use Rattle.imp_node.specs.Lines.{on_port};
 ghost use Rattle.imp_node.specs.State.{opening, no_host};
 ghost use Rattle.subnet.specs.Alive.{packets, messages, is_alive};
-ghost use Rattle.subnet.specs.Events.{offer_refusal, offer_out, take_refusal, take_in, deliver, drop_frame, giving_up_refusal, forgetting_refusal, starting_refusal, imp_stopped, imp_started, refreshed, quiet_round, step_refusal, stepped};
+ghost use Rattle.subnet.specs.Events.{offer_refusal, offer_out, take_refusal, taken, crossings_of, take_in, deliver, drop_frame, giving_up_refusal, forgetting_refusal, starting_refusal, imp_stopped, imp_started, refreshed, quiet_round, step_refusal, stepped};
 ghost use Rattle.subnet.specs.Examples.{ours, our_message, our_queued, data_frame, rfnm_frame, passing_frame, imp_1, imp_2, wire, pair, opened_pair, begun_up_to, expecting, one_host_down, serving_ours, keeping_ours, keeping_own, sending_ours, past_one, full_of, triangle};
+ghost use Rattle.subnet.specs.Flows.{host_is_up};
 ghost use Rattle.subnet.specs.Making.{NothingNew, OnlyNew, offer_makes, take_makes, deliver_makes, stop_makes};
 ghost use Rattle.subnet.specs.Net.{Net, imp_at, wire_at, port_of, line_from, put_one, frames_on};
 ghost use Rattle.subnet.specs.Offers.{CanGoFrom};
@@ -29,6 +32,7 @@ ghost use Rattle.subnet.specs.Opening.{Ends, AreHosts};
 ghost use Rattle.subnet.specs.Opening as start;
 ghost use Rattle.subnet.specs.Routed.{IsRouted, IsHostMessage};
 ghost use Rattle.subnet.specs.Run.{Call, OffersMessages, ran};
+ghost use Rattle.subnet.specs.Seen.{seen, IsListed, SameNetwork};
 ghost use Rattle.subnet.specs.Sound.{IsSound};
 
 /// The law of the subnet: for every topology of at most sixteen IMPs, with any lines, and for every list of offers,
@@ -47,6 +51,29 @@ pub fn whole_runs()
         → length sites ≤ 17
         → OffersMessages calls
         → IsSound (ran calls (start.opening hosts sites ends)) }
+{}
+
+/// What hosts see of each call of a subnet.
+pub fn shown()
+    // what the log of a sound subnet says of a host, up or down, is what its IMP says
+    ensures ups { (n : Net) (h : Host) → IsSound n → is_up n.hosts h n.log ≡ host_is_up (imp_at n.imps h.imp) h.host }
+
+    // the message that is offered crosses, and so does what is taken, which is for the host that takes
+    ensures offer_out { (n : Net) (m : HostMessage) → (offer_out n m).log ≡ crossing.Out m ∷ n.log }
+    ensures take_in { (n : Net) (h : Host) → (take_in n h).log ≡ crossings_of (taken n h) ++ n.log }
+    ensures taken { (n : Net) (h : Host) (i : Inbound) → IsSound n → taken n h ≡ Some i → IsFor h i }
+
+    // a host that stops or starts crosses, and so do the hosts of an IMP that stops, in order, if they are up
+    ensures step { (n : Net) (e : NetEvent) → step_refusal n e ≡ None → IsListed n → IsSound n → (stepped n e).log ≡ step_crossings (seen n) e ++ n.log }
+    ensures quiet_round { (n : Net) → (quiet_round n).log ≡ n.log }
+{}
+
+/// The hosts of the network and its sites are the same after each call.
+pub fn same_network()
+    ensures offer_out { (n : Net) (m : HostMessage) → SameNetwork n (offer_out n m) }
+    ensures take_in { (n : Net) (h : Host) → SameNetwork n (take_in n h) }
+    ensures step { (n : Net) (e : NetEvent) → SameNetwork n (stepped n e) }
+    ensures quiet_round { (n : Net) → SameNetwork n (quiet_round n) }
 {}
 
 /// Which packets are in a subnet, in its IMPs and in live frames, after each event: those that were in it,
@@ -83,6 +110,7 @@ pub fn at_the_opening()
 
     // the hosts that stand in the list of the IMPs, one after another, are those of its IMPs
     ensures hosts { (sites : List (Option ℕ)) → AreHosts (start.hosts_from 0 sites) sites }
+    ensures ordered { (sites : List (Option ℕ)) → InOrder (start.hosts_from 0 sites) }
 {}
 
 /// A sound subnet stays sound where hosts offer and take messages and where frames are delivered.

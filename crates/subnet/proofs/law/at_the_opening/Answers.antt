@@ -1,5 +1,5 @@
 use Rattle.subnet.proofs.Openings.{opening_sound, opening_empty}
-use Rattle.subnet.proofs.SiteHosts.{hosts_fit}
+use Rattle.subnet.proofs.SiteHosts.{hosts_fit, hosts_ordered}
 use Rattle.subnet.proofs.law.at_the_opening.Goals as goal
 
 pub returns-clause-sound : goal.returns-clause-sound
@@ -10,3 +10,6 @@ returns-clause-empty c = opening_empty
 
 pub returns-clause-hosts : goal.returns-clause-hosts
 returns-clause-hosts c = hosts_fit
+
+pub returns-clause-ordered : goal.returns-clause-ordered
+returns-clause-ordered c = hosts_ordered
