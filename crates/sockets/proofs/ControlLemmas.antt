@@ -9,6 +9,7 @@ use Rattle.ncp_control.specs.DataHeader.{data_bits, fields_of, header_of}
 use Rattle.ncp_control.specs.declared.data_header.DataHeader.{DataHeader}
 use Rattle.ncp_control.proofs.Headers.{octets_enough}
 use Rattle.sockets.specs.Accepting.{TurnState, orders_taken}
+use Rattle.sockets.specs.Memory.{said_by}
 use Rattle.sockets.specs.Control.{is_control, orders_by, orders_in, orders_of, orders_within}
 
 -- ---- octets
@@ -113,43 +114,68 @@ orders_of_none zero octets = refl
 orders_of_none (suc more) [] = refl
 orders_of_none (suc more) (octet ∷ octets) = orders_of_none (suc more) octets
 
--- the octets that are left to read: what they hold, taken from here on, comes to this
-pub record IsLeft (peer : Host) (stamp : ℕ) (octets : List ℕ) (now end : TurnState) : Type 0 where
+-- the octets that are left to read: what they hold, taken from here on, comes to this, and says no more than that
+pub record IsLeft (peer : Host) (stamp : ℕ) (octets : List ℕ) (now end : TurnState) (total : ℕ) : Type 0 where
   pub most : ℕ
   pub enough : length octets ≤ most
   pub same : orders_taken peer stamp (orders_within most octets) now ≡ end
+  pub said : said_by peer stamp (orders_within most octets) now ≤ total
 
-pub left_all : (peer : Host) (stamp : ℕ) (octets : List ℕ) (now : TurnState) → IsLeft peer stamp octets now (orders_taken peer stamp (orders_in octets) now)
-left_all peer stamp octets now = record { most = length octets; enough = omega arith; same = refl }
+pub left_all : (peer : Host) (stamp : ℕ) (octets : List ℕ) (now : TurnState)
+    → IsLeft peer stamp octets now (orders_taken peer stamp (orders_in octets) now) (said_by peer stamp (orders_in octets) now)
+left_all peer stamp octets now = record { most = length octets; enough = omega arith; same = refl; said = omega arith }
 
 left_none_of : (peer : Host) (stamp most : ℕ) (now end : TurnState) → orders_taken peer stamp (orders_within most []) now ≡ end → now ≡ end
 left_none_of peer stamp zero now end same = same
 left_none_of peer stamp (suc most) now end same = same
 
 -- nothing is left
-pub left_none : (peer : Host) (stamp : ℕ) (octets : List ℕ) (now end : TurnState) → length octets ≡ 0 → IsLeft peer stamp octets now end → now ≡ end
-left_none peer stamp [] now end none left = left_none_of peer stamp left.most now end left.same
-left_none peer stamp (octet ∷ octets) now end none left = absurd (omega (arith, none))
+pub left_none : (peer : Host) (stamp : ℕ) (octets : List ℕ) (now end : TurnState) (total : ℕ) → length octets ≡ 0 → IsLeft peer stamp octets now end total → now ≡ end
+left_none peer stamp [] now end total none left = left_none_of peer stamp left.most now end left.same
+left_none peer stamp (octet ∷ octets) now end total none left = absurd (omega (arith, none))
 
-left_after : (peer : Host) (stamp most read : ℕ) (octets rest : List ℕ) (now new end : TurnState) → length octets ≤ most → orders_taken peer stamp (orders_within most octets) now ≡ end
+left_after : (peer : Host) (stamp most read : ℕ) (octets rest : List ℕ) (now new end : TurnState) (total : ℕ) → length octets ≤ most
+    → orders_taken peer stamp (orders_within most octets) now ≡ end → said_by peer stamp (orders_within most octets) now ≤ total
     → 0 < read → read ≤ length octets → rest ≡ drop read octets
     → ((more : ℕ) → orders_taken peer stamp (orders_within (1 + more) octets) now ≡ orders_taken peer stamp (orders_within more (drop read octets)) new)
-    → IsLeft peer stamp rest new end
-left_after peer stamp zero read octets rest now new end enough same some there is first = absurd (omega arith)
-left_after peer stamp (suc most) read octets rest now new end enough same some there is first =
+    → ((more : ℕ) → said_by peer stamp (orders_within more (drop read octets)) new ≤ said_by peer stamp (orders_within (1 + more) octets) now)
+    → IsLeft peer stamp rest new end total
+left_after peer stamp zero read octets rest now new end total enough same said some there is first less = absurd (omega arith)
+left_after peer stamp (suc most) read octets rest now new end total enough same said some there is first less =
     let fewer : length (drop read octets) ≤ most = simp length-drop (omega arith) in
     let one : 1 + most ≡ suc most = omega arith in
     let whole : orders_taken peer stamp (orders_within (1 + most) octets) now ≡ end = ap (λ (k : ℕ). orders_taken peer stamp (orders_within k octets) now) one ∙ same in
+    let before : said_by peer stamp (orders_within (1 + most) octets) now ≡ said_by peer stamp (orders_within (suc most) octets) now =
+    ap (λ (k : ℕ). said_by peer stamp (orders_within k octets) now) one in
+    let here : said_by peer stamp (orders_within most (drop read octets)) new ≤ said_by peer stamp (orders_within (1 + most) octets) now = less most in
+    let still : said_by peer stamp (orders_within most (drop read octets)) new ≤ total = omega (arith, here, before, said) in
     record {
       most = most;
       enough = subst (λ (xs : List ℕ). length xs ≤ most) (sym is) fewer;
       same = subst (λ (xs : List ℕ). orders_taken peer stamp (orders_within most xs) new ≡ end) (sym is) (sym (first most) ∙ whole);
+      said = subst (λ (xs : List ℕ). said_by peer stamp (orders_within most xs) new ≤ total) (sym is) still;
     }
 
 -- one order is taken
-pub left_more : (peer : Host) (stamp read : ℕ) (octets rest : List ℕ) (now new end : TurnState) → IsLeft peer stamp octets now end
+pub left_more : (peer : Host) (stamp read : ℕ) (octets rest : List ℕ) (now new end : TurnState) (total : ℕ) → IsLeft peer stamp octets now end total
     → 0 < read → read ≤ length octets → rest ≡ drop read octets
     → ((more : ℕ) → orders_taken peer stamp (orders_within (1 + more) octets) now ≡ orders_taken peer stamp (orders_within more (drop read octets)) new)
-    → IsLeft peer stamp rest new end
-left_more peer stamp read octets rest now new end left some there is first =
-    left_after peer stamp left.most read octets rest now new end left.enough left.same some there is first
+    → ((more : ℕ) → said_by peer stamp (orders_within more (drop read octets)) new ≤ said_by peer stamp (orders_within (1 + more) octets) now)
+    → IsLeft peer stamp rest new end total
+left_more peer stamp read octets rest now new end total left some there is first less =
+    left_after peer stamp left.most read octets rest now new end total left.enough left.same left.said some there is first less
+
+wanted_of : (peer : Host) (stamp most : ℕ) (octets : List ℕ) (now : TurnState) (total : ℕ) → length octets ≤ most → said_by peer stamp (orders_within most octets) now ≤ total → 0 < length octets
+    → ((more : ℕ) → 0 < said_by peer stamp (orders_within (1 + more) octets) now) → 0 < total
+wanted_of peer stamp zero octets now total enough said some wants = absurd (omega arith)
+wanted_of peer stamp (suc most) octets now total enough said some wants =
+    let one : 1 + most ≡ suc most = omega arith in
+    let before : said_by peer stamp (orders_within (1 + most) octets) now ≡ said_by peer stamp (orders_within (suc most) octets) now =
+    ap (λ (k : ℕ). said_by peer stamp (orders_within k octets) now) one in
+    let here : 0 < said_by peer stamp (orders_within (1 + most) octets) now = wants most in
+    omega (arith, here, before, said)
+
+-- where the next order wants memory, the octets want it
+pub left_wanted : (peer : Host) (stamp : ℕ) (octets : List ℕ) (now end : TurnState) (total : ℕ) → IsLeft peer stamp octets now end total → 0 < length octets
+    → ((more : ℕ) → 0 < said_by peer stamp (orders_within (1 + more) octets) now) → 0 < total
+left_wanted peer stamp octets now end total left some wants = wanted_of peer stamp left.most octets now total left.enough left.said some wants

@@ -1,6 +1,7 @@
 //! Control messages of a peer, read command by command (NIC 8246, the control link and ERR).
 
-ghost use Rattle.std.specs.Prelude.{◌≡◌, ◌+◌, ◌<◌, ◌≤◌, ◌∷◌, [], OnOk, IfOk, MatchOption, ℕ, drop, length};
+ghost use Rattle.sockets.specs.Memory.{newly_said, said_by, said_by_message};
+ghost use Rattle.std.specs.Prelude.{◌≡◌, OnErr, ◌+◌, ◌<◌, ◌≤◌, ◌∷◌, [], OnOk, IfOk, MatchOption, ℕ, drop, length};
 ghost use Rattle.bit_messages.specs.Octets.{octets_of};
 ghost use Rattle.sockets.specs.Accepting as accepting;
 ghost use Rattle.sockets.specs.Control.{Wrong, error, orders_in, orders_of, orders_within};
@@ -41,7 +42,8 @@ fn control_octets(text: &Bits) -> Option<&[u8]>
 impl Turn {
     /// What can't be read is answered by an ERR that quotes it, while the pair is opened.
     fn answer_wrong(&mut self, code: u8, octets: &[u8]) -> Result<(), AllocError>
-        ensures { OnOk result (self.new ≡ accepting.if_ready (queued (error code octets.now)) self.old) }
+        ensures state { OnOk result (self.new ≡ accepting.if_ready (queued (error code octets.now)) self.old) }
+        ensures memory { OnErr result (0 < newly_said self.old (accepting.if_ready (queued (error code octets.now)) self.old)) }
     {
         if self.pair.phase.is_ready() {
             self.pair.queue.push(Command::error(code, octets))?;
@@ -61,6 +63,8 @@ impl Turn {
     ) -> Result<usize, AllocError>
         requires { 0 < length octets.now }
         ensures first { IfOk result (λ read. (more : ℕ) → accepting.orders_taken peer stamp (orders_within (1 + more) octets.now) self.old ≡ accepting.orders_taken peer stamp (orders_within more (drop read octets.now)) self.new) }
+        ensures said { IfOk result (λ read. (more : ℕ) → said_by peer stamp (orders_within more (drop read octets.now)) self.new ≤ said_by peer stamp (orders_within (1 + more) octets.now) self.old) }
+        ensures memory { OnErr result ((more : ℕ) → 0 < said_by peer stamp (orders_within (1 + more) octets.now) self.old) }
         ensures some { IfOk result (λ read. 0 < read) }
         ensures there { IfOk result (λ read. read ≤ length octets.now) }
     {
@@ -96,7 +100,8 @@ impl Turn {
         stamp: usize,
         octets: &[u8],
     ) -> Result<(), AllocError>
-        ensures { OnOk result (self.new ≡ accepting.orders_taken peer stamp (orders_in octets.now) self.old) }
+        ensures state { OnOk result (self.new ≡ accepting.orders_taken peer stamp (orders_in octets.now) self.old) }
+        ensures memory { OnErr result (0 < said_by peer stamp (orders_in octets.now) self.old) }
     {
         let mut rest = octets;
         'orders: while !rest.is_empty() {
@@ -114,7 +119,8 @@ impl Turn {
         stamp: usize,
         text: &Bits,
     ) -> Result<(), AllocError>
-        ensures { OnOk result (self.new ≡ accepting.orders_taken peer stamp (orders_of text.now) self.old) }
+        ensures state { OnOk result (self.new ≡ accepting.orders_taken peer stamp (orders_of text.now) self.old) }
+        ensures memory { OnErr result (0 < said_by peer stamp (orders_of text.now) self.old) }
     {
         match control_octets(text) {
             Some(octets) => self.take_orders(alloc, peer, stamp, octets),
@@ -131,7 +137,8 @@ impl Turn {
         link: u8,
         text: &Bits,
     ) -> Result<(), AllocError>
-        ensures { OnOk result (self.new ≡ accepting.message_taken peer stamp link text.now self.old) }
+        ensures state { OnOk result (self.new ≡ accepting.message_taken peer stamp link text.now self.old) }
+        ensures memory { OnErr result (0 < said_by_message peer stamp link text.now self.old) }
     {
         if link == 0 {
             self.take_control(alloc, peer, stamp, text)

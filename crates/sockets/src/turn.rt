@@ -1,6 +1,7 @@
 //! A pair of hosts while something of the peer is taken: its reset and its connections.
 
-ghost use Rattle.std.specs.Prelude.{◌≡◌, ◌++◌, ◌∷◌, [], OnOk, not, ◌==◌, filter};
+ghost use Rattle.sockets.specs.Memory.{newly_said, said_by_answer};
+ghost use Rattle.std.specs.Prelude.{◌≡◌, ◌<◌, OnErr, length, ◌++◌, ◌∷◌, [], OnOk, not, ◌==◌, filter};
 ghost use Rattle.sockets.specs.Accepting as accepting;
 ghost use Rattle.sockets.specs.Commands.{taken};
 ghost use Rattle.sockets.specs.Data.{data_taken};
@@ -60,7 +61,8 @@ impl Turn {
 
     /// Puts the pair's connections back, and tells what is to be told of them.
     fn restore(&mut self, desk: Desk) -> Result<(), AllocError>
-        ensures { OnOk result (self.new ≡ accepting.with_desk self.old desk) }
+        ensures state { OnOk result (self.new ≡ accepting.with_desk self.old desk) }
+        ensures memory { OnErr result (0 < length desk.notices) }
     {
         let Desk {
             entries,
@@ -82,7 +84,8 @@ impl Turn {
         stamp: usize,
         command: Command,
     ) -> Result<(), AllocError>
-        ensures { OnOk result (self.new ≡ accepting.if_ready (taken peer self.old.pair.busy stamp command) self.old) }
+        ensures state { OnOk result (self.new ≡ accepting.if_ready (taken peer self.old.pair.busy stamp command) self.old) }
+        ensures memory { OnErr result (0 < newly_said self.old (accepting.if_ready (taken peer self.old.pair.busy stamp command) self.old)) }
     {
         if !self.pair.phase.is_ready() {
             return Ok(());
@@ -94,7 +97,8 @@ impl Turn {
 
     /// A message of data is taken, while the pair is opened.
     pub fn hear_data(&mut self, alloc: Global, link: u8, text: &Bits) -> Result<(), AllocError>
-        ensures { OnOk result (self.new ≡ accepting.if_ready (data_taken link text.now) self.old) }
+        ensures state { OnOk result (self.new ≡ accepting.if_ready (data_taken link text.now) self.old) }
+        ensures memory { OnErr result (0 < newly_said self.old (accepting.if_ready (data_taken link text.now) self.old)) }
     {
         if !self.pair.phase.is_ready() {
             return Ok(());
@@ -106,7 +110,8 @@ impl Turn {
 
     /// Each end that waited for an answer and has it closes now.
     fn settle(&mut self, alloc: Global) -> Result<(), AllocError>
-        ensures { OnOk result (self.new ≡ accepting.settled_turn self.old) }
+        ensures state { OnOk result (self.new ≡ accepting.settled_turn self.old) }
+        ensures memory { OnErr result (0 < newly_said self.old (accepting.settled_turn self.old)) }
     {
         let mut desk = self.desk(alloc);
         desk.settle(&self.pair.busy)?;
@@ -127,7 +132,8 @@ impl Turn {
 
     /// An RST of the peer is taken: all of the pair's connections are gone, and an RRP is owed.
     fn take_reset(&mut self, alloc: Global, peer: HostAddr) -> Result<(), AllocError>
-        ensures { OnOk result (self.new ≡ accepting.reset_taken peer self.old) }
+        ensures state { OnOk result (self.new ≡ accepting.reset_taken peer self.old) }
+        ensures memory { OnErr result (0 < newly_said self.old (accepting.reset_taken peer self.old)) }
     {
         let before = self.pair.phase;
         self.pair.phase = before.after_reset();
@@ -142,7 +148,8 @@ impl Turn {
 
     /// An RRP of the peer is taken.
     fn take_reply(&mut self, peer: HostAddr) -> Result<(), AllocError>
-        ensures { OnOk result (self.new ≡ accepting.reply_taken peer self.old) }
+        ensures state { OnOk result (self.new ≡ accepting.reply_taken peer self.old) }
+        ensures memory { OnErr result (0 < newly_said self.old (accepting.reply_taken peer self.old)) }
     {
         let before = self.pair.phase;
         self.pair.phase = before.after_reply();
@@ -160,7 +167,8 @@ impl Turn {
         stamp: usize,
         command: Command,
     ) -> Result<(), AllocError>
-        ensures { OnOk result (self.new ≡ accepting.command_taken peer stamp command self.old) }
+        ensures state { OnOk result (self.new ≡ accepting.command_taken peer stamp command self.old) }
+        ensures memory { OnErr result (0 < newly_said self.old (accepting.command_taken peer stamp command self.old)) }
     {
         match command {
             Command::Rst => self.take_reset(alloc, peer),
@@ -182,7 +190,8 @@ fn free(busy: &mut Vec<u8>, link: u8)
 impl Turn {
     /// The pair is closed: its connections and what waits to be said are gone, and the user is told why.
     fn close(&mut self, alloc: Global, notice: Notice) -> Result<(), AllocError>
-        ensures { OnOk result (self.new ≡ accepting.closed (notice ∷ []) self.old) }
+        ensures state { OnOk result (self.new ≡ accepting.closed (notice ∷ []) self.old) }
+        ensures memory { OnErr result (0 < newly_said self.old (accepting.closed (notice ∷ []) self.old)) }
     {
         self.pair.phase = Phase::Closed;
         self.forget(alloc);
@@ -191,7 +200,8 @@ impl Turn {
 
     /// A message was lost, or the peer is dead: what that means by the phase.
     fn fail_by_phase(&mut self, alloc: Global, peer: HostAddr) -> Result<(), AllocError>
-        ensures { OnOk result (self.new ≡ accepting.failed_by peer self.old.pair.phase self.old) }
+        ensures state { OnOk result (self.new ≡ accepting.failed_by peer self.old.pair.phase self.old) }
+        ensures memory { OnErr result (0 < newly_said self.old (accepting.failed_by peer self.old.pair.phase self.old)) }
     {
         match self.pair.phase {
             Phase::Closed | Phase::Want => Ok(()),
@@ -203,7 +213,8 @@ impl Turn {
     /// A message was lost, or the peer is dead. An RST that failed ends the contact in any case; any other
     /// message's failure is passed over while an RRP is owed.
     fn fail(&mut self, alloc: Global, peer: HostAddr) -> Result<(), AllocError>
-        ensures { OnOk result (self.new ≡ accepting.failed peer self.old) }
+        ensures state { OnOk result (self.new ≡ accepting.failed peer self.old) }
+        ensures memory { OnErr result (0 < newly_said self.old (accepting.failed peer self.old)) }
     {
         let is_gone = matches!(self.pair.phase, Phase::Gone { .. });
         if is_gone || !self.pair.owed {
@@ -215,10 +226,35 @@ impl Turn {
 
     /// An RFNM is taken: the peer has the message.
     fn take_rfnm(&mut self, alloc: Global, link: u8) -> Result<(), AllocError>
-        ensures { OnOk result (self.new ≡ accepting.rfnm_taken link self.old) }
+        ensures state { OnOk result (self.new ≡ accepting.rfnm_taken link self.old) }
+        ensures memory { OnErr result (0 < newly_said self.old (accepting.rfnm_taken link self.old)) }
     {
         self.pair.phase = self.pair.phase.after_rfnm(link);
         self.settle(alloc)
+    }
+
+    /// What an answer means, once its link is free.
+    fn hear_answer(
+        &mut self,
+        alloc: Global,
+        peer: HostAddr,
+        kind: Answer,
+        link: u8,
+    ) -> Result<(), AllocError>
+        ensures state { OnOk result (self.new ≡ accepting.answer_taken peer kind link self.old) }
+        ensures memory { OnErr result (0 < newly_said self.old (accepting.answer_taken peer kind link self.old)) }
+    {
+        match kind {
+            Answer::Rfnm => self.take_rfnm(alloc, link),
+            Answer::Incomplete | Answer::Dead => self.fail(alloc, peer),
+        }
+    }
+
+    /// A link has no message outstanding any more.
+    fn free(&mut self, link: u8)
+        ensures { self.new ≡ record self.old { pair = accepting.freed link self.old.pair } }
+    {
+        free(&mut self.pair.busy, link);
     }
 
     /// An answer about a message that this host has out is taken: the link is free, and what follows by its
@@ -230,12 +266,10 @@ impl Turn {
         kind: Answer,
         link: u8,
     ) -> Result<(), AllocError>
-        ensures { OnOk result (self.new ≡ accepting.answered_turn peer kind link self.old) }
+        ensures state { OnOk result (self.new ≡ accepting.answered_turn peer kind link self.old) }
+        ensures memory { OnErr result (0 < said_by_answer peer kind link self.old) }
     {
-        free(&mut self.pair.busy, link);
-        match kind {
-            Answer::Rfnm => self.take_rfnm(alloc, link),
-            Answer::Incomplete | Answer::Dead => self.fail(alloc, peer),
-        }
+        self.free(link);
+        self.hear_answer(alloc, peer, kind, link)
     }
 }
