@@ -8,7 +8,7 @@ use Rattle.sockets.specs.Accepting.{accepted}
 use Rattle.sockets.specs.Control.{orders_of}
 use Rattle.sockets.specs.Requests.{served, refusal, served_notices}
 use Rattle.sockets.specs.Sending.{next_out, offered}
-use Rattle.sockets.specs.Worked.{first, second, message, control, heard, got, answered, gone, sending, opened, first_in, second_in, two_senders, ALL, GVB, RET, ECO, ERP, ERR}
+use Rattle.sockets.specs.Worked.{first, second, message, control, heard, got, answered, gone, sending, opened, first_in, second_in, two_senders, ALL, GVB, RET, INR, INS, ECO, ERP, ERR}
 use Rattle.sockets.specs.declared.notice.Notice.TheVariants as notice
 use Rattle.sockets.specs.declared.request.Request.TheVariants as request
 
@@ -95,6 +95,18 @@ data_in_order = refl
 pub data_what_is_left : next_out (heard (answered (gone (second_in (opened ++ sending))) answer.Rfnm first 2).0 first (ALL 2 0 4)).0 ≡ Some (message second first 2 (0 ∷ 8 ∷ 0 ∷ 1 ∷ 0 ∷ 13 ∷ []))
 unfolding octets_of orders_of read_of command_of packed_count accepted refusal served served_notices next_out offered
 data_what_is_left = refl
+
+pub data_nothing_sent : next_out (heard (served (second_in opened) (request.Send 33 [])) first (ALL 2 1 8)).0 ≡ None
+unfolding octets_of orders_of read_of command_of packed_count accepted refusal served served_notices next_out offered
+data_nothing_sent = refl
+
+pub data_interrupted_by_sender : (heard (first_in opened) second (INS 2)).1 ≡ notice.Interrupt 16 ∷ []
+unfolding octets_of orders_of read_of command_of packed_count accepted refusal served served_notices next_out offered
+data_interrupted_by_sender = refl
+
+pub data_interrupted_by_receiver : (heard (second_in opened) first (INR 2)).1 ≡ notice.Interrupt 33 ∷ []
+unfolding octets_of orders_of read_of command_of packed_count accepted refusal served served_notices next_out offered
+data_interrupted_by_receiver = refl
 
 pub data_lowest_link : next_out two_senders ≡ Some (message second first 4 (0 ∷ 8 ∷ 0 ∷ 1 ∷ 0 ∷ 66 ∷ []))
 unfolding octets_of orders_of read_of command_of packed_count accepted refusal served served_notices next_out offered

@@ -7,7 +7,7 @@ use Rattle.sockets.specs.Accepting.{accepted}
 use Rattle.sockets.specs.Control.{orders_of}
 use Rattle.sockets.specs.Requests.{refusal, served, served_notices}
 use Rattle.sockets.specs.Sending.{next_out, offered}
-use Rattle.sockets.specs.Worked.{first, second, heard, reset, many_opened, opened, first_in, second_in, closed, rst_out, rst_taken, ready, RTS, STR}
+use Rattle.sockets.specs.Worked.{first, second, third, heard, reset, many_opened, opened, first_in, second_in, closed, rst_out, rst_taken, ready, RTS, STR, RST}
 use Rattle.sockets.specs.declared.fault.NcpFault.TheVariants as fault
 use Rattle.sockets.specs.declared.request.Request.TheVariants as request
 
@@ -86,6 +86,10 @@ listening_receive_in_use = refl
 pub listening_receive_own_end : refusal (first_in opened) (request.OpenReceive second 16 35) ≡ Some fault.InUse
 unfolding octets_of orders_of read_of command_of packed_count accepted refusal served served_notices next_out offered
 listening_receive_own_end = refl
+
+pub listening_receive_with_another_peer : refusal (heard (first_in opened) third RST).0 (request.OpenReceive third 16 33) ≡ Some fault.InUse
+unfolding octets_of orders_of read_of command_of packed_count accepted refusal served served_notices next_out offered
+listening_receive_with_another_peer = refl
 
 pub listening_receive_in_use_first : refusal (first_in (reset ++ many_opened)) (request.OpenReceive second 16 33) ≡ Some fault.InUse
 unfolding octets_of orders_of read_of command_of packed_count accepted refusal served served_notices next_out offered

@@ -7,7 +7,7 @@ use Rattle.sockets.specs.Accepting.{accepted}
 use Rattle.sockets.specs.Control.{orders_of}
 use Rattle.sockets.specs.Requests.{served, refusal, served_notices}
 use Rattle.sockets.specs.Sending.{next_out, offered}
-use Rattle.sockets.specs.Worked.{first, second, talk, news, control, heard, got, reset, opened, closed_early, opening_by_sender, closed_unasked, first_in, second_in, ready, RTS, STR, CLS, ALL, INR, ERR}
+use Rattle.sockets.specs.Worked.{first, second, talk, news, control, heard, got, reset, opened, closed_early, opening_by_sender, closed_unasked, both_asking, first_in, second_in, ready, RTS, STR, CLS, ALL, GVB, RET, INR, INS, ERR}
 use Rattle.sockets.specs.declared.notice.Notice.TheVariants as notice
 use Rattle.sockets.specs.declared.request.Request.TheVariants as request
 
@@ -70,3 +70,27 @@ requests_closed_unasked_says = refl
 pub requests_closed_unasked_tells : news reset closed_unasked ≡ (first, notice.Ended 16 second 33) ∷ []
 unfolding octets_of orders_of read_of command_of packed_count accepted refusal served served_notices next_out offered
 requests_closed_unasked_tells = refl
+
+pub requests_both_ask : news reset both_asking ≡ (first, notice.Opened 16 second 33 6 8) ∷ (second, notice.Opened 33 first 16 7 10) ∷ []
+unfolding octets_of orders_of read_of command_of packed_count accepted refusal served served_notices next_out offered
+requests_both_ask = refl
+
+pub requests_asked_for : (heard (served ready (request.OpenReceive second 16 33)) second (STR 33 16 8)).1 ≡ []
+unfolding octets_of orders_of read_of command_of packed_count accepted refusal served served_notices next_out offered
+requests_asked_for = refl
+
+pub requests_asks_too : (offered (heard (served ready (request.OpenReceive second 16 33)) second (STR 33 16 8)).0 21).1 ≡ notice.Opened 16 second 33 21 20 ∷ []
+unfolding octets_of orders_of read_of command_of packed_count accepted refusal served served_notices next_out offered
+requests_asks_too = refl
+
+pub requests_commands_of_a_sender : next_out (heard (first_in opened) second (ALL 2 1 1 ++ GVB 2 1 1 ++ INR 2)).0 ≡ Some (control first second (ERR 5 (ALL 2 1 1) 2 ++ ERR 5 (GVB 2 1 1) 6 ++ ERR 5 (INR 2) 8))
+unfolding octets_of orders_of read_of command_of packed_count accepted refusal served served_notices next_out offered
+requests_commands_of_a_sender = refl
+
+pub requests_commands_of_a_receiver : next_out (heard (second_in opened) first (RET 2 0 0 ++ INS 2)).0 ≡ Some (control second first (ERR 5 (RET 2 0 0) 2 ++ ERR 5 (INS 2) 8))
+unfolding octets_of orders_of read_of command_of packed_count accepted refusal served served_notices next_out offered
+requests_commands_of_a_receiver = refl
+
+pub requests_data_to_a_sender : next_out (got (second_in opened) first 2 (0 ∷ 8 ∷ 0 ∷ 0 ∷ 0 ∷ [])).0 ≡ Some (control second first (ERR 5 (0 ∷ 8 ∷ 0 ∷ 0 ∷ 0 ∷ []) 5))
+unfolding octets_of orders_of read_of command_of packed_count accepted refusal served served_notices next_out offered
+requests_data_to_a_sender = refl

@@ -82,6 +82,14 @@ pub resets_reset_drops_connections : refusal (heard (first_in opened) second RST
 unfolding octets_of orders_of read_of command_of packed_count accepted refusal served served_notices next_out offered
 resets_reset_drops_connections = refl
 
+pub resets_reset_of_another_peer : refusal (heard (first_in opened) third RST).0 (request.Grant 16 0 0) ≡ None
+unfolding octets_of orders_of read_of command_of packed_count accepted refusal served served_notices next_out offered
+resets_reset_of_another_peer = refl
+
+pub resets_reply_lost : answered (gone (heard ready second RST).0) answer.Dead second 0 ≡ (closed, notice.PairReset second ∷ [])
+unfolding octets_of orders_of read_of command_of packed_count accepted refusal served served_notices next_out offered
+resets_reply_lost = refl
+
 pub resets_lost_while_owing : (answered (heard (gone (served ready (request.Echo second 65))) second RST).0 answer.Dead second 0).1 ≡ []
 unfolding octets_of orders_of read_of command_of packed_count accepted refusal served served_notices next_out offered
 resets_lost_while_owing = refl

@@ -210,6 +210,12 @@ closed_unasked =
     Ask first (request.OpenReceive second 16 33) ∷ Ask first (request.Close 16)
     ∷ Offer first ∷ Take second ∷ Offer second ∷ Take first ∷ Take first ∷ []
 
+-- each asks for the other's end, and nobody listens
+abbrev pub both_asking : List Step
+both_asking =
+    Ask first (request.OpenReceive second 16 33) ∷ Ask second (request.OpenSend first 33 16 8)
+    ∷ Offer first ∷ Offer second ∷ Take first ∷ Take second ∷ Take second ∷ Take first ∷ []
+
 -- the first asks for two connections; the second refuses the one to socket 16, and was listening for the other
 abbrev pub one_refused : List Step
 one_refused =

@@ -7,8 +7,8 @@ ghost use Rattle.bit_messages.specs.Octets.{bits_of};
 ghost use Rattle.sockets.specs.Accepting.{accepted};
 ghost use Rattle.sockets.specs.Control.{Legal, Wrong, orders_of, control_text};
 ghost use Rattle.sockets.specs.Requests.{refusal, served, served_notices};
-ghost use Rattle.sockets.specs.Sending.{next_out};
-ghost use Rattle.sockets.specs.Worked.{first, second, third, neighbour, talk, news, message, control, on_link, heard, got, answered, gone, delivered, reset, closing, sending, many_opened, twelve, opened, closed_early, opening_by_sender, closed_unasked, one_refused, refused_closed, draining, own_reset, own_opening, first_in, second_in, closed, want, rst_out, rst_taken, ready, want_again, two_senders, every_command, RTS, STR, CLS, ALL, GVB, RET, INR, INS, ECO, ERP, ERR, RST, RRP};
+ghost use Rattle.sockets.specs.Sending.{next_out, offered};
+ghost use Rattle.sockets.specs.Worked.{first, second, third, neighbour, talk, news, message, control, on_link, heard, got, answered, gone, delivered, reset, closing, sending, many_opened, twelve, opened, closed_early, opening_by_sender, closed_unasked, both_asking, one_refused, refused_closed, draining, own_reset, own_opening, first_in, second_in, closed, want, rst_out, rst_taken, ready, want_again, two_senders, every_command, RTS, STR, CLS, ALL, GVB, RET, INR, INS, ECO, ERP, ERR, RST, RRP};
 ghost use Rattle.leader1822.specs.declared.crossing.Answer.TheVariants as answer;
 ghost use Rattle.leader1822.specs.declared.crossing.Inbound.TheVariants as inbound;
 ghost use Rattle.ncp_control.specs.declared.command.Command.TheVariants as command;
@@ -46,6 +46,16 @@ pub fn worked_requests()
     // what is closed before its request has gone out sends both, and its end is told of; the refused end at the other host is not
     ensures closed_unasked_says { next_out (served (served ready (request.OpenReceive second 16 33)) (request.Close 16)) ≡ Some (control first second (RTS 16 33 2 ++ CLS 16 33)) }
     ensures closed_unasked_tells { news reset closed_unasked ≡ (first, notice.Ended 16 second 33) ∷ [] }
+
+    // ends that ask for each other need nobody who listens; an end opens when both requests have crossed, its own too
+    ensures both_ask { news reset both_asking ≡ (first, notice.Opened 16 second 33 6 8) ∷ (second, notice.Opened 33 first 16 7 10) ∷ [] }
+    ensures asked_for { (heard (served ready (request.OpenReceive second 16 33)) second (STR 33 16 8)).1 ≡ [] }
+    ensures asks_too { (offered (heard (served ready (request.OpenReceive second 16 33)) second (STR 33 16 8)).0 21).1 ≡ notice.Opened 16 second 33 21 20 ∷ [] }
+
+    // commands and data about the link of the other end's kind find no connection
+    ensures commands_of_a_sender { next_out (heard (first_in opened) second (ALL 2 1 1 ++ GVB 2 1 1 ++ INR 2)).0 ≡ Some (control first second (ERR 5 (ALL 2 1 1) 2 ++ ERR 5 (GVB 2 1 1) 6 ++ ERR 5 (INR 2) 8)) }
+    ensures commands_of_a_receiver { next_out (heard (second_in opened) first (RET 2 0 0 ++ INS 2)).0 ≡ Some (control second first (ERR 5 (RET 2 0 0) 2 ++ ERR 5 (INS 2) 8)) }
+    ensures data_to_a_sender { next_out (got (second_in opened) first 2 (0 ∷ 8 ∷ 0 ∷ 0 ∷ 0 ∷ [])).0 ≡ Some (control second first (ERR 5 (0 ∷ 8 ∷ 0 ∷ 0 ∷ 0 ∷ []) 5)) }
 {}
 
 /// Which link a receiving end has.
@@ -129,6 +139,11 @@ pub fn worked_data()
     // bits go out in the order of the calls, and what is left goes next
     ensures in_order { next_out (heard (served (served (second_in opened) (request.Send 33 (bits_of (65 ∷ [])))) (request.Send 33 (bits_of (66 ∷ [])))) first (ALL 2 1 8 ++ ALL 2 1 8)).0 ≡ Some (message second first 2 (0 ∷ 8 ∷ 0 ∷ 2 ∷ 0 ∷ 65 ∷ 66 ∷ [])) }
     ensures what_is_left { next_out (heard (answered (gone (second_in (opened ++ sending))) answer.Rfnm first 2).0 first (ALL 2 0 4)).0 ≡ Some (message second first 2 (0 ∷ 8 ∷ 0 ∷ 1 ∷ 0 ∷ 13 ∷ [])) }
+    ensures nothing_sent { next_out (heard (served (second_in opened) (request.Send 33 [])) first (ALL 2 1 8)).0 ≡ None }
+
+    // either end is told that the other interrupts
+    ensures interrupted_by_sender { (heard (first_in opened) second (INS 2)).1 ≡ notice.Interrupt 16 ∷ [] }
+    ensures interrupted_by_receiver { (heard (second_in opened) first (INR 2)).1 ≡ notice.Interrupt 33 ∷ [] }
 
     // of the ends that may send, that with the lowest link does, and each waits for its answer. Commands go first if link 0 is free
     ensures lowest_link { next_out two_senders ≡ Some (message second first 4 (0 ∷ 8 ∷ 0 ∷ 1 ∷ 0 ∷ 66 ∷ [])) }
@@ -166,6 +181,8 @@ pub fn worked_resets()
     ensures as_at_the_opening { answered (served (gone (served ready (request.Echo second 65))) (request.Echo second 66)) answer.Dead second 0 ≡ (closed, notice.PairReset second ∷ []) }
     ensures lost_drops_connections { refusal (answered (gone (served (first_in opened) (request.Interrupt 16))) answer.Dead second 0).0 (request.Grant 16 0 0) ≡ Some fault.NoSuchSocket }
     ensures reset_drops_connections { refusal (heard (first_in opened) second RST).0 (request.Grant 16 0 0) ≡ Some fault.NoSuchSocket }
+    ensures reset_of_another_peer { refusal (heard (first_in opened) third RST).0 (request.Grant 16 0 0) ≡ None }
+    ensures reply_lost { answered (gone (heard ready second RST).0) answer.Dead second 0 ≡ (closed, notice.PairReset second ∷ []) }
     ensures lost_while_owing { (answered (heard (gone (served ready (request.Echo second 65))) second RST).0 answer.Dead second 0).1 ≡ [] }
     ensures ready_while_owing { refusal (answered (heard (gone (served ready (request.Echo second 65))) second RST).0 answer.Dead second 0).0 (request.Echo second 65) ≡ None }
 
@@ -302,6 +319,7 @@ pub fn worked_listening()
     ensures receive_from_even { refusal (served ready (request.Listen 16 8)) (request.OpenReceive second 16 32) ≡ Some fault.WrongEnd }
     ensures receive_in_use { refusal (served ready (request.Listen 16 8)) (request.OpenReceive second 16 33) ≡ Some fault.InUse }
     ensures receive_own_end { refusal (first_in opened) (request.OpenReceive second 16 35) ≡ Some fault.InUse }
+    ensures receive_with_another_peer { refusal (heard (first_in opened) third RST).0 (request.OpenReceive third 16 33) ≡ Some fault.InUse }
     ensures receive_in_use_first { refusal (first_in (reset ++ many_opened)) (request.OpenReceive second 16 33) ≡ Some fault.InUse }
 
     // `echo`

@@ -1,4 +1,4 @@
-use Rattle.sockets.proofs.RowsData.{data_covered, data_more_than_announced, data_no_bytes, data_no_bytes_cost_a_message, data_past_the_bits, data_untold_past_the_bits, data_past_the_messages, data_another_size, data_too_short, data_too_much_returned, data_returned, data_nothing_granted, data_asked_back, data_nothing_given_back, data_nothing_returned, data_bits_are_used, data_grants_add_up, data_returned_once, data_given_back_once, data_in_order, data_what_is_left, data_lowest_link, data_next_link, data_no_link_left, data_commands_wait, data_commands_first}
+use Rattle.sockets.proofs.RowsData.{data_covered, data_more_than_announced, data_no_bytes, data_no_bytes_cost_a_message, data_past_the_bits, data_untold_past_the_bits, data_past_the_messages, data_another_size, data_too_short, data_too_much_returned, data_returned, data_nothing_granted, data_asked_back, data_nothing_given_back, data_nothing_returned, data_bits_are_used, data_grants_add_up, data_returned_once, data_given_back_once, data_in_order, data_what_is_left, data_nothing_sent, data_interrupted_by_sender, data_interrupted_by_receiver, data_lowest_link, data_next_link, data_no_link_left, data_commands_wait, data_commands_first}
 use Rattle.sockets.proofs.worked.worked_data.Goals as goal
 
 pub returns-clause-covered : goal.returns-clause-covered
@@ -63,6 +63,15 @@ returns-clause-in_order c = data_in_order
 
 pub returns-clause-what_is_left : goal.returns-clause-what_is_left
 returns-clause-what_is_left c = data_what_is_left
+
+pub returns-clause-nothing_sent : goal.returns-clause-nothing_sent
+returns-clause-nothing_sent c = data_nothing_sent
+
+pub returns-clause-interrupted_by_sender : goal.returns-clause-interrupted_by_sender
+returns-clause-interrupted_by_sender c = data_interrupted_by_sender
+
+pub returns-clause-interrupted_by_receiver : goal.returns-clause-interrupted_by_receiver
+returns-clause-interrupted_by_receiver c = data_interrupted_by_receiver
 
 pub returns-clause-lowest_link : goal.returns-clause-lowest_link
 returns-clause-lowest_link c = data_lowest_link

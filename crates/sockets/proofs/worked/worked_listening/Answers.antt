@@ -1,4 +1,4 @@
-use Rattle.sockets.proofs.RowsListening.{listening_contact, listening_listen_in_use, listening_listen_bad_size, listening_listen_on_refused, listening_send_on_refused, listening_send_to_refused, listening_receive_from_refused, listening_close_refused, listening_send_not_contacted, listening_send_from_even, listening_send_to_odd, listening_send_in_use, listening_send_own_end, listening_send_bad_size, listening_receive_not_contacted, listening_receive_at_odd, listening_receive_from_even, listening_receive_in_use, listening_receive_own_end, listening_receive_in_use_first, listening_echo_closed, listening_echo_not_yet}
+use Rattle.sockets.proofs.RowsListening.{listening_contact, listening_listen_in_use, listening_listen_bad_size, listening_listen_on_refused, listening_send_on_refused, listening_send_to_refused, listening_receive_from_refused, listening_close_refused, listening_send_not_contacted, listening_send_from_even, listening_send_to_odd, listening_send_in_use, listening_send_own_end, listening_send_bad_size, listening_receive_not_contacted, listening_receive_at_odd, listening_receive_from_even, listening_receive_in_use, listening_receive_own_end, listening_receive_with_another_peer, listening_receive_in_use_first, listening_echo_closed, listening_echo_not_yet}
 use Rattle.sockets.proofs.worked.worked_listening.Goals as goal
 
 pub returns-clause-contact : goal.returns-clause-contact
@@ -57,6 +57,9 @@ returns-clause-receive_in_use c = listening_receive_in_use
 
 pub returns-clause-receive_own_end : goal.returns-clause-receive_own_end
 returns-clause-receive_own_end c = listening_receive_own_end
+
+pub returns-clause-receive_with_another_peer : goal.returns-clause-receive_with_another_peer
+returns-clause-receive_with_another_peer c = listening_receive_with_another_peer
 
 pub returns-clause-receive_in_use_first : goal.returns-clause-receive_in_use_first
 returns-clause-receive_in_use_first c = listening_receive_in_use_first

@@ -1,4 +1,4 @@
-use Rattle.sockets.proofs.RowsRequests.{requests_taken_when_closed, requests_opens_nothing, requests_second_request, requests_second_after_refusal, requests_refused_without_link, requests_link_in_use, requests_link_of_closing, requests_listens_once, requests_opened_by_sender, requests_size_of_sender, requests_no_longer_listening, requests_receiver_not_open, requests_sender_not_open, requests_closed_unasked_says, requests_closed_unasked_tells}
+use Rattle.sockets.proofs.RowsRequests.{requests_taken_when_closed, requests_opens_nothing, requests_second_request, requests_second_after_refusal, requests_refused_without_link, requests_link_in_use, requests_link_of_closing, requests_listens_once, requests_opened_by_sender, requests_size_of_sender, requests_no_longer_listening, requests_receiver_not_open, requests_sender_not_open, requests_closed_unasked_says, requests_closed_unasked_tells, requests_both_ask, requests_asked_for, requests_asks_too, requests_commands_of_a_sender, requests_commands_of_a_receiver, requests_data_to_a_sender}
 use Rattle.sockets.proofs.worked.worked_requests.Goals as goal
 
 pub returns-clause-taken_when_closed : goal.returns-clause-taken_when_closed
@@ -45,3 +45,21 @@ returns-clause-closed_unasked_says c = requests_closed_unasked_says
 
 pub returns-clause-closed_unasked_tells : goal.returns-clause-closed_unasked_tells
 returns-clause-closed_unasked_tells c = requests_closed_unasked_tells
+
+pub returns-clause-both_ask : goal.returns-clause-both_ask
+returns-clause-both_ask c = requests_both_ask
+
+pub returns-clause-asked_for : goal.returns-clause-asked_for
+returns-clause-asked_for c = requests_asked_for
+
+pub returns-clause-asks_too : goal.returns-clause-asks_too
+returns-clause-asks_too c = requests_asks_too
+
+pub returns-clause-commands_of_a_sender : goal.returns-clause-commands_of_a_sender
+returns-clause-commands_of_a_sender c = requests_commands_of_a_sender
+
+pub returns-clause-commands_of_a_receiver : goal.returns-clause-commands_of_a_receiver
+returns-clause-commands_of_a_receiver c = requests_commands_of_a_receiver
+
+pub returns-clause-data_to_a_sender : goal.returns-clause-data_to_a_sender
+returns-clause-data_to_a_sender c = requests_data_to_a_sender
