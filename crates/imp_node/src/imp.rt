@@ -24,6 +24,9 @@ use std::marker::Model;
 const STORE_PLACES: usize = 32;
 
 /// One IMP of the subnet.
+///
+/// A call that answers `OutOfMemory` leaves it spent: nothing is said of what it keeps then, and no further
+/// call may be made. Every other fault leaves it as it was.
 #[derive(Drop)]
 pub struct Imp {
     pub(crate) hosts: Vec<Host>,
