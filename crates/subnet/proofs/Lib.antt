@@ -21,3 +21,11 @@ pub mod Routed
 pub mod SiteHosts
 pub mod Showing
 pub mod WholeRuns
+pub mod Owning
+pub mod Ending
+pub mod Carrying
+pub mod Living
+pub mod Putting
+pub mod Stepping
+pub mod Delivering
+pub mod Attempting

@@ -10,3 +10,5 @@ pub mod Sound
 pub mod Offers
 pub mod Routed
 pub mod Seen
+pub mod Calls
+pub mod Inside

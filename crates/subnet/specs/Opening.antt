@@ -3,12 +3,8 @@ use Rattle.std.specs.Prelude.{◌≡◌, ℕ, ◌+◌, zero, suc, Bool, false, L
 use Rattle.leader1822.specs.Host.{Host, is_host}
 use Rattle.imp_node.specs.State.{State}
 use Rattle.imp_node.specs.State as imp
+pub use Rattle.subnet.specs.declared.wire.Ends.{Ends}
 use Rattle.subnet.specs.Net.{Net, Wire, ends_at}
-
--- two IMPs that a line joins
-pub record Ends : Type 0 where
-  pub a : ℕ
-  pub b : ℕ
 
 abbrev pub empty_wire : Ends → Wire
 empty_wire e = record { a = e.a; b = e.b; forward = []; back = [] }

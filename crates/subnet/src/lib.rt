@@ -4,4 +4,15 @@
 //! is no code yet. The module `law` states them by examples.
 #![tactic(auto)]
 
+mod flow_events;
+mod imp_call;
 pub mod law;
+mod line_events;
+mod offering;
+mod parts;
+mod seeking;
+mod stops;
+mod taking;
+mod wire;
+
+pub use wire::Ends;

@@ -1,0 +1,84 @@
+-- How a call of a subnet ends, and which calls may want memory.
+use Rattle.std.specs.Prelude.{◌≡◌, ℕ, Bool, true, false, List, Option, Some, None, Result, Ok, Err, is_some, nat_lt, length, slice_get, ◌||◌}
+use Rattle.leader1822.specs.Calls.{is_memory}
+use Rattle.leader1822.specs.Host.{Host}
+use Rattle.leader1822.specs.declared.carrier.CarrierFault.{CarrierFault}
+use Rattle.leader1822.specs.declared.carrier.CarrierFault.TheVariants as fault
+use Rattle.leader1822.specs.declared.crossing.Inbound.{Inbound}
+use Rattle.leader1822.specs.declared.event.Direction.{Direction}
+use Rattle.leader1822.specs.declared.event.NetEvent.{NetEvent}
+use Rattle.leader1822.specs.declared.event.NetEvent.TheVariants as event
+use Rattle.leader1822.specs.declared.message.HostMessage.{HostMessage}
+use Rattle.imp_channel.specs.Holding.{bits_carried}
+use Rattle.imp_channel.specs.declared.frame.Frame.{Frame}
+use Rattle.imp_node.specs.State.{State}
+use Rattle.imp_node.specs.Turns.{resend_grows, route_grows, end_down_grows, end_up_grows, give_up_grows, forget_grows, abandon_grows, from_line_grows, to_host_grows}
+use Rattle.subnet.specs.Net.{Net, imp_at, wire_at, port_of, frames_on, far_end}
+use Rattle.subnet.specs.Events.{first_of, offer_refusal, offer_out, take_refusal, taken, take_in, step_refusal, stepped, quiet_round, downs_at}
+
+-- ---- a subnet that may have stopped
+
+-- a subnet, and whether want of memory has stopped it: nothing is said of what is in it then, save its hosts and its log
+pub record Kept : Type 0 where
+  pub net : Net
+  pub stopped : Bool
+
+abbrev pub running : Net → Kept
+running n = record { net = n; stopped = false }
+
+-- once it has stopped, every call is refused for that
+abbrev pub refusal_of : Kept → (Net → Option CarrierFault) → Option CarrierFault
+refusal_of k refusal = first_of k.stopped fault.Stopped (refusal k.net)
+
+-- after want of memory hosts and log are as before the call
+pub record HasHalted (old new : Kept) : Type 0 where
+  pub hosts : new.net.hosts ≡ old.net.hosts
+  pub log : new.net.log ≡ old.net.log
+  pub stopped : new.stopped ≡ true
+
+-- want of memory comes last; any other fault is the first refusal, and changes nothing
+abbrev pub Fails : Option CarrierFault → Bool → Bool → CarrierFault → Kept → Kept → Type 0
+Fails refusal grows true e old new = (refusal ≡ None) × (grows ≡ true) × HasHalted old new
+Fails refusal grows false e old new = (refusal ≡ Some e) × (new ≡ old)
+
+-- A call that is refused for `refusal`, and else gives a value with this property. It may want memory only where it is not
+-- refused and `grows` is true
+abbrev pub Decided : {T : Type 0} → Option CarrierFault → Bool → (T → Type 0) → Kept → Kept → Result T CarrierFault → Type 0
+Decided refusal grows Gives old new (Ok x) = (refusal ≡ None) × Gives x
+Decided refusal grows Gives old new (Err e) = Fails refusal grows (is_memory e) e old new
+
+-- ---- memory
+
+-- a call of an IMP that is up may want memory
+abbrev pub grows_at : Option State → (State → Bool) → Bool
+grows_at None grows = false
+grows_at (Some s) grows = grows s
+
+-- what a host takes is put on the log
+abbrev pub take_grows : Net → Host → Bool
+take_grows n h = is_some (taken n h) || grows_at (imp_at n.imps h.imp) (λ s. to_host_grows s h.host)
+
+-- a frame that is delivered is copied, since it stays on its line
+abbrev pub copy_grows : Frame → Bool
+copy_grows f = nat_lt 0 (length (bits_carried f.content))
+
+abbrev pub delivered_grows : Net → ℕ → Direction → Option Frame → Bool
+delivered_grows n l d None = false
+delivered_grows n l d (Some f) =
+    grows_at (imp_at n.imps (far_end d (wire_at n.lines l))) (λ s. copy_grows f || from_line_grows s (port_of n.lines (far_end d (wire_at n.lines l)) l) f)
+
+-- An event that is not refused may want memory where its IMP does, where something crosses, and where an IMP starts
+abbrev pub step_grows : Net → NetEvent → Bool
+step_grows n (event.Deliver l d k) = delivered_grows n l d (slice_get (frames_on d (wire_at n.lines l)) k)
+step_grows n (event.Drop l d k) = false
+step_grows n (event.Resend i) = grows_at (imp_at n.imps i) resend_grows
+step_grows n (event.Route i) = grows_at (imp_at n.imps i) route_grows
+step_grows n (event.EndDown i l) = grows_at (imp_at n.imps i) (λ s. end_down_grows s (port_of n.lines i l))
+step_grows n (event.EndUp i l) = grows_at (imp_at n.imps i) (λ s. end_up_grows s (port_of n.lines i l))
+step_grows n (event.ImpDown i) = nat_lt 0 (length (downs_at i (imp_at n.imps i)))
+step_grows n (event.ImpUp i) = true
+step_grows n (event.HostDown h) = true
+step_grows n (event.HostUp h) = true
+step_grows n (event.GiveUp f) = grows_at (imp_at n.imps f.source.imp) (λ s. give_up_grows s f)
+step_grows n (event.Forget at from) = grows_at (imp_at n.imps at) (λ s. forget_grows s from)
+step_grows n (event.Abandon f) = grows_at (imp_at n.imps f.destination.imp) (λ s. abandon_grows s f)

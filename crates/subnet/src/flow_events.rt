@@ -1,0 +1,87 @@
+//! What happens to flows.
+
+ghost use Rattle.std.specs.Prelude.{◌≡◌, OnOk};
+ghost use Rattle.leader1822.specs.declared.event.NetEvent.TheVariants as event;
+ghost use Rattle.subnet.specs.Net.{imp_at};
+ghost use Rattle.subnet.specs.Events.{give_up_alive, outstanding_at};
+ghost use Rattle.subnet.specs.Inside.Calling.{AreLive, Steps, SameLog};
+
+use crate::imp_call::ImpCall;
+use crate::parts::Parts;
+use crate::seeking::Sought;
+use leader1822::{CarrierFault, Flow, ImpNumber};
+use link_table::Number;
+
+impl Parts {
+    /// The destination's IMP throws away the pieces that it holds of a flow's message.
+    pub(crate) fn abandon(&mut self, flow: Flow) -> Result<(), CarrierFault>
+        requires { AreLive self.old.imps }
+        ensures step { Steps (event.Abandon flow) self.old self.new result }
+        ensures live { OnOk result (AreLive self.new.imps) }
+        ensures keeps { SameLog self.old self.new }
+    {
+        let imp = flow.destination.imp();
+        if !self.is_up(imp) {
+            return Err(CarrierFault::NoSuch);
+        }
+        self.at_imp(imp, ImpCall::Abandon(flow))
+    }
+
+    /// The source's IMP gives up the outstanding message of a flow.
+    pub(crate) fn give_up(&mut self, flow: Flow) -> Result<(), CarrierFault>
+        requires { AreLive self.old.imps }
+        ensures step { Steps (event.GiveUp flow) self.old self.new result }
+        ensures live { OnOk result (AreLive self.new.imps) }
+        ensures keeps { SameLog self.old self.new }
+    {
+        let source = flow.source;
+        if !self.is_there(&source) {
+            return Err(CarrierFault::NoSuch);
+        }
+        if self.is_outstanding_alive(&flow) {
+            return Err(CarrierFault::StillAlive);
+        }
+        self.at_imp(source.imp(), ImpCall::GiveUp(flow))
+    }
+
+    /// Whether the outstanding message of a flow is alive.
+    fn is_outstanding_alive(&self, flow: &Flow) -> bool
+        ensures { result ≡ give_up_alive self.now flow.now (outstanding_at (imp_at self.now.imps flow.now.source.imp) flow.now) }
+    {
+        let source = flow.source;
+        match self.imp(source.imp()) {
+            Some(imp) => self.is_number_alive(flow, imp.outstanding(flow)),
+            None => false,
+        }
+    }
+
+    /// Whether the message of a number, if there is one, is alive.
+    fn is_number_alive(&self, flow: &Flow, number: Option<Number>) -> bool
+        ensures { result ≡ give_up_alive self.now flow.now number }
+    {
+        match number {
+            Some(number) => self.is_alive(flow, number),
+            None => false,
+        }
+    }
+
+    /// An IMP drops the last numbers that it keeps of flows from another IMP.
+    #[tactic(auto, using(crate::proofs::Stepping::forget_step))]
+    pub(crate) fn forget(&mut self, at: ImpNumber, from: ImpNumber) -> Result<(), CarrierFault>
+        requires { AreLive self.old.imps }
+        ensures step { Steps (event.Forget at from) self.old self.new result }
+        ensures live { OnOk result (AreLive self.new.imps) }
+        ensures keeps { SameLog self.old self.new }
+    {
+        if !self.is_imp(at.number()) || !self.is_imp(from.number()) {
+            return Err(CarrierFault::NoSuch);
+        }
+        if at.number() == from.number() {
+            return Err(CarrierFault::NoSuch);
+        }
+        if self.finds(&Sought::Between(from, at)) {
+            return Err(CarrierFault::StillAlive);
+        }
+        self.at_imp(at.number(), ImpCall::Forget(from))
+    }
+}

@@ -1,0 +1,94 @@
+//! Calls of one IMP, as data.
+
+ghost use Rattle.std.specs.Prelude.{◌≡◌, ◌<◌, length, false, OnOk, IfSome};
+ghost use Rattle.imp_node.specs.Turns.{Turned, Takes};
+ghost use Rattle.subnet.specs.Events.{at_up};
+ghost use Rattle.subnet.specs.Calls.{grows_at};
+ghost use Rattle.subnet.specs.Net.{imp_at};
+ghost use Rattle.subnet.specs.Inside.Calling.{call_refusal, call_turn, call_grows, IsLive, AreLive, Ends, imp_by, imps_by, frames_by};
+
+use imp_channel::Frame;
+use imp_node::{Imp, Outgoing};
+use leader1822::{CarrierFault, Flow, HostMessage, ImpNumber};
+
+/// A call of an IMP that answers frames for its lines and nothing else.
+#[derive(Drop)]
+pub enum ImpCall {
+    /// A host hands over a message.
+    Offer(HostMessage),
+    /// A frame comes in at a port.
+    Arrive(u8, Frame),
+    /// What is not acknowledged is sent again.
+    Resend,
+    /// Distances are told.
+    Route,
+    /// The end of a line at a port stops.
+    EndDown(u8),
+    /// The end of a line at a port starts.
+    EndUp(u8),
+    /// The outstanding message of a flow is given up.
+    GiveUp(Flow),
+    /// The last numbers of flows from an IMP are dropped.
+    Forget(ImpNumber),
+    /// The slot of a flow is thrown away.
+    Abandon(Flow),
+    /// A host stops.
+    HostDown(u8),
+    /// A host starts.
+    HostUp(u8),
+}
+
+impl ImpCall {
+    /// Makes the call of an IMP.
+    fn make(self, imp: &mut Imp) -> Result<Vec<Outgoing>, CarrierFault>
+        requires { imp.old.spent ≡ false }
+        ensures turn { Turned (call_refusal self imp.old) (call_grows self imp.old) (λ frames. Takes (call_turn self imp.old) imp.new frames.items) imp.old imp.new result }
+        ensures live { OnOk result (imp.new.spent ≡ false) }
+    {
+        match self {
+            ImpCall::Offer(message) => imp.from_host(message),
+            ImpCall::Arrive(port, frame) => imp.from_line(port, frame),
+            ImpCall::Resend => imp.resend(),
+            ImpCall::Route => imp.route(),
+            ImpCall::EndDown(port) => imp.end_down(port),
+            ImpCall::EndUp(port) => imp.end_up(port),
+            ImpCall::GiveUp(flow) => imp.give_up(flow),
+            ImpCall::Forget(from) => imp.forget(from),
+            ImpCall::Abandon(flow) => imp.abandon(flow),
+            ImpCall::HostDown(host) => imp.host_down(host),
+            ImpCall::HostUp(host) => imp.host_up(host),
+        }
+    }
+
+    /// Makes the call of the IMP at a place, if one is up there.
+    #[tactic(auto, using(crate::proofs::Ending::ends_of_turned))]
+    fn make_at(self, imp: &mut Option<Imp>) -> Result<Vec<Outgoing>, CarrierFault>
+        requires { IfSome imp.old (λ s. s.spent ≡ false) }
+        ensures call { Ends (at_up imp.old (call_refusal self)) (grows_at imp.old (call_grows self)) (λ frames. (imp.new ≡ imp_by imp.old (call_turn self)) × (frames.items ≡ frames_by imp.old (call_turn self))) imp.old imp.new result }
+        ensures live { OnOk result (IfSome imp.new (λ s. s.spent ≡ false)) }
+    {
+        match imp {
+            Some(imp) => self.make(imp),
+            None => Err(CarrierFault::IsDown),
+        }
+    }
+}
+
+/// Makes a call of the IMP of this number, if it is up.
+///
+/// Errors: `IsDown` where it is down or not there, and then those of the call.
+pub(crate) fn call_imp(
+    imps: &mut [Option<Imp>],
+    imp: u8,
+    call: ImpCall,
+) -> Result<Vec<Outgoing>, CarrierFault>
+    requires { AreLive imps.old }
+    ensures call { Ends (at_up (imp_at imps.old imp) (call_refusal call)) (grows_at (imp_at imps.old imp) (call_grows call)) (λ frames. (imps.new ≡ imps_by imps.old imp (imp_at imps.old imp) (call_turn call)) × (frames.items ≡ frames_by (imp_at imps.old imp) (call_turn call))) imps.old imps.new result }
+    ensures live { OnOk result (AreLive imps.new) }
+{
+    let at = imp as usize;
+    if at >= imps.len() {
+        return Err(CarrierFault::IsDown);
+    }
+    call.make_at(&mut imps[at])
+}

@@ -1,0 +1,145 @@
+//! What happens on lines.
+
+ghost use Rattle.std.specs.Prelude.{◌≡◌, ◌<◌, length, slice_get, true, OnOk, OnErr};
+ghost use Rattle.leader1822.specs.declared.event.NetEvent.TheVariants as event;
+ghost use Rattle.subnet.specs.Net.{wire_at, frames_on};
+ghost use Rattle.subnet.specs.Events as events;
+ghost use Rattle.subnet.specs.Calls.{delivered_grows};
+ghost use Rattle.subnet.specs.Inside.Calling.{AreLive, Steps, SameLog};
+
+use crate::imp_call::ImpCall;
+use crate::parts::Parts;
+use leader1822::{CarrierFault, Direction, ImpNumber};
+use std::alloc::AllocError;
+
+impl Parts {
+    /// An IMP sends again what is not acknowledged.
+    pub(crate) fn resend(&mut self, imp: ImpNumber) -> Result<(), CarrierFault>
+        requires { AreLive self.old.imps }
+        ensures step { Steps (event.Resend imp) self.old self.new result }
+        ensures live { OnOk result (AreLive self.new.imps) }
+        ensures keeps { SameLog self.old self.new }
+    {
+        if !self.is_imp(imp.number()) {
+            return Err(CarrierFault::NoSuch);
+        }
+        self.at_imp(imp.number(), ImpCall::Resend)
+    }
+
+    /// An IMP tells its neighbours its distances.
+    pub(crate) fn route(&mut self, imp: ImpNumber) -> Result<(), CarrierFault>
+        requires { AreLive self.old.imps }
+        ensures step { Steps (event.Route imp) self.old self.new result }
+        ensures live { OnOk result (AreLive self.new.imps) }
+        ensures keeps { SameLog self.old self.new }
+    {
+        if !self.is_imp(imp.number()) {
+            return Err(CarrierFault::NoSuch);
+        }
+        self.at_imp(imp.number(), ImpCall::Route)
+    }
+
+    /// An IMP's end of a line goes down.
+    pub(crate) fn end_down(&mut self, imp: ImpNumber, line: u32) -> Result<(), CarrierFault>
+        requires { AreLive self.old.imps }
+        ensures step { Steps (event.EndDown imp line) self.old self.new result }
+        ensures live { OnOk result (AreLive self.new.imps) }
+        ensures keeps { SameLog self.old self.new }
+    {
+        let number = imp.number();
+        let at = line as usize;
+        if !self.has_end(number, at) {
+            return Err(CarrierFault::NoSuch);
+        }
+        let port = self.port(number, at);
+        self.at_imp(number, ImpCall::EndDown(port))
+    }
+
+    /// An IMP's end of a line comes up.
+    pub(crate) fn end_up(&mut self, imp: ImpNumber, line: u32) -> Result<(), CarrierFault>
+        requires { AreLive self.old.imps }
+        ensures step { Steps (event.EndUp imp line) self.old self.new result }
+        ensures live { OnOk result (AreLive self.new.imps) }
+        ensures keeps { SameLog self.old self.new }
+    {
+        let number = imp.number();
+        let at = line as usize;
+        if !self.has_end(number, at) {
+            return Err(CarrierFault::NoSuch);
+        }
+        let port = self.port(number, at);
+        self.at_imp(number, ImpCall::EndUp(port))
+    }
+
+    /// The frame at a place of a directed line is lost.
+    pub(crate) fn drop_frame(
+        &mut self,
+        line: u32,
+        direction: Direction,
+        frame: u32,
+    ) -> Result<(), CarrierFault>
+        requires { AreLive self.old.imps }
+        ensures step { Steps (event.Drop line direction frame) self.old self.new result }
+        ensures live { OnOk result (AreLive self.new.imps) }
+        ensures keeps { SameLog self.old self.new }
+    {
+        let at = line as usize;
+        let place = frame as usize;
+        if !self.has_frame(at, direction, place) {
+            return Err(CarrierFault::NoSuch);
+        }
+        self.lose(at, direction, place);
+        Ok(())
+    }
+
+    /// The frame at a place of a directed line comes in at the far end, and stays on the line.
+    pub(crate) fn deliver(
+        &mut self,
+        line: u32,
+        direction: Direction,
+        frame: u32,
+    ) -> Result<(), CarrierFault>
+        requires { AreLive self.old.imps }
+        ensures step { Steps (event.Deliver line direction frame) self.old self.new result }
+        ensures live { OnOk result (AreLive self.new.imps) }
+        ensures keeps { SameLog self.old self.new }
+    {
+        let at = line as usize;
+        let place = frame as usize;
+        if !self.has_frame(at, direction, place) {
+            return Err(CarrierFault::NoSuch);
+        }
+        if self.bring(at, direction, place).is_err() {
+            return Err(CarrierFault::OutOfMemory);
+        }
+        Ok(())
+    }
+
+    /// The frame at a place of a directed line comes in at the far end, if the IMP there is up.
+    ///
+    /// Errors: want of memory alone.
+    #[tactic(auto, using(crate::proofs::Delivering::not_brought, crate::proofs::Delivering::none_brought))]
+    pub(crate) fn bring(
+        &mut self,
+        line: usize,
+        direction: Direction,
+        place: usize,
+    ) -> Result<(), AllocError>
+        requires live { AreLive self.old.imps }
+        requires there { line < length self.old.lines }
+        ensures ok { OnOk result (self.new ≡ events.deliver self.old line direction place) }
+        ensures live { OnOk result (AreLive self.new.imps) }
+        ensures memory { OnErr result (delivered_grows self.old line direction (slice_get (frames_on direction (wire_at self.old.lines line)) place) ≡ true) }
+        ensures keeps { SameLog self.old self.new }
+    {
+        let imp = self.far_end(line, direction);
+        if !self.is_up(imp) {
+            return Ok(());
+        }
+        let port = self.port(imp, line);
+        match self.copied_frame(line, direction, place)? {
+            Some(frame) => self.attempt(imp, ImpCall::Arrive(port, frame)),
+            None => Ok(()),
+        }
+    }
+}

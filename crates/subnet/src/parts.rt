@@ -1,0 +1,199 @@
+//! What a subnet is made of, and what its calls do to that.
+
+ghost use Rattle.std.specs.Prelude.{◌≡◌, ◌<◌, ◌∷◌, [], Some, None, true, false, length, OnOk, OnErr, IfOk, if◌then◌else◌, option_copied, slice_get};
+ghost use Rattle.leader1822.specs.Host.{is_host};
+ghost use Rattle.leader1822.specs.declared.carrier.CarrierFault.TheVariants as fault;
+ghost use Rattle.subnet.specs.Net.{imp_at, wire_at, far_end, frames_on, port_of};
+ghost use Rattle.subnet.specs.Calls.{grows_at};
+ghost use Rattle.subnet.specs.Flows.{imp_is_up};
+ghost use Rattle.subnet.specs.Events as events;
+ghost use Rattle.subnet.specs.Events.{is_imp, has_end, logging};
+ghost use Rattle.subnet.specs.Inside.Calling.{call_turn, call_grows, AreLive, Makes, Ignores, SameLog, runs_out, copied_grows};
+
+use crate::imp_call::{ImpCall, call_imp};
+use crate::wire::{Wire, port_of, put_all};
+use imp_channel::Frame;
+use imp_node::Imp;
+use leader1822::{CarrierFault, Crossing, Direction, HostAddr};
+use std::alloc::{AllocError, Global};
+use std::marker::Model;
+
+/// The hosts, the IMPs and lines, and the log.
+///
+/// Any IMPs are allowed here, also those that were short of memory. Calls of an IMP ask that none was.
+#[derive(Drop)]
+pub(crate) struct Parts {
+    pub(crate) hosts: Vec<HostAddr>,
+    pub(crate) sites: Vec<Option<u8>>,
+    pub(crate) imps: Vec<Option<Imp>>,
+    pub(crate) lines: Vec<Wire>,
+    pub(crate) log: Vec<Crossing>,
+    pub(crate) alloc: Global,
+}
+
+impl Model for Parts {
+    ghost use Rattle.std.specs.Prelude.{reverse};
+    ghost use Rattle.std.specs.Coded.{codes};
+    ghost use Rattle.link_table.specs.Codes.{coded_sources, coded_destinations};
+    ghost use Rattle.subnet.specs.Net.{Net};
+    ghost use Rattle.subnet.specs.Inside.Calling.{AreParts};
+
+    ghost Value = { Net };
+
+    ghost coded = { Prim.hlevel (codes, coded_sources, coded_destinations) };
+
+    ghost view = { λ p. record { hosts = p.hosts.items; sites = p.sites.items; imps = p.imps.items; lines = p.lines.items; log = reverse p.log.items } };
+
+    ghost invariant = { λ p. AreParts p.imps.items p.sites.items p.lines.items };
+}
+
+impl Parts {
+    // ---- looking
+
+    /// Whether this is a host of the network.
+    pub(crate) fn is_there(&self, host: &HostAddr) -> bool
+        ensures { result ≡ is_host self.now.hosts host.now }
+    {
+        self.hosts.contains(host)
+    }
+
+    /// Whether there is an IMP of this number.
+    pub(crate) fn is_imp(&self, imp: u8) -> bool
+        ensures { result ≡ is_imp self.now imp }
+    {
+        let at = imp as usize;
+        at < self.sites.len() && self.sites[at].is_some()
+    }
+
+    /// The IMP of this number, if it is up.
+    pub(crate) fn imp(&self, imp: u8) -> Option<&Imp>
+        ensures { option_copied result ≡ imp_at self.now.imps imp }
+    {
+        let at = imp as usize;
+        if at < self.imps.len() {
+            self.imps[at].as_ref()
+        } else {
+            None
+        }
+    }
+
+    /// Whether the IMP of this number is up.
+    pub(crate) fn is_up(&self, imp: u8) -> bool
+        ensures { result ≡ imp_is_up (imp_at self.now.imps imp) }
+    {
+        self.imp(imp).is_some()
+    }
+
+    /// Whether a line has an end at an IMP that is there.
+    pub(crate) fn has_end(&self, imp: u8, line: usize) -> bool
+        ensures end { result ≡ has_end self.now imp line }
+        ensures line { result ≡ true → line < length self.now.lines }
+    {
+        self.is_imp(imp) && line < self.lines.len() && self.lines[line].ends_at(imp)
+    }
+
+    /// The port of an IMP that is its end of a line.
+    pub(crate) fn port(&self, imp: u8, line: usize) -> u8
+        ensures { result ≡ port_of self.now.lines imp line }
+    {
+        port_of(&self.lines, imp, line)
+    }
+
+    /// Whether a directed line has a frame at this place.
+    pub(crate) fn has_frame(&self, line: usize, direction: Direction, place: usize) -> bool
+        ensures frame { events.frame_refusal self.now line direction place ≡ (if result then None else Some fault.NoSuch) }
+        ensures line { result ≡ true → line < length self.now.lines }
+        ensures place { result ≡ true → place < length (frames_on direction (wire_at self.now.lines line)) }
+    {
+        line < self.lines.len() && place < self.lines[line].live(direction)
+    }
+
+    /// The IMP that the frames of a directed line go to.
+    pub(crate) fn far_end(&self, line: usize, direction: Direction) -> u8
+        requires { line < length self.now.lines }
+        ensures { result ≡ far_end direction (wire_at self.now.lines line) }
+    {
+        let wire = &self.lines[line];
+        wire.far_end(direction)
+    }
+
+    /// A copy of the frame at a place of a directed line, if there is one.
+    ///
+    /// Errors: want of memory alone.
+    pub(crate) fn copied_frame(
+        &self,
+        line: usize,
+        direction: Direction,
+        place: usize,
+    ) -> Result<Option<Frame>, AllocError>
+        requires { line < length self.now.lines }
+        ensures ok { IfOk result (λ frame. frame ≡ slice_get (frames_on direction (wire_at self.now.lines line)) place) }
+        ensures memory { OnErr result (copied_grows (slice_get (frames_on direction (wire_at self.now.lines line)) place) ≡ true) }
+    {
+        let wire = &self.lines[line];
+        wire.copy(direction, place)
+    }
+
+    /// The frame at a place of a directed line is lost.
+    pub(crate) fn lose(&mut self, line: usize, direction: Direction, place: usize)
+        requires line { line < length self.old.lines }
+        requires place { place < length (frames_on direction (wire_at self.old.lines line)) }
+        ensures { self.new ≡ events.drop_frame self.old line direction place }
+    {
+        let wire = &mut self.lines[line];
+        wire.lose(direction, place);
+    }
+
+    // ---- calls of one IMP
+
+    /// Makes a call of the IMP of this number, and puts its frames on lines.
+    ///
+    /// Errors: `IsDown` where it is down or not there, and then those of the call.
+    pub(crate) fn at_imp(&mut self, imp: u8, call: ImpCall) -> Result<(), CarrierFault>
+        requires { AreLive self.old.imps }
+        ensures call { Makes imp call self.old self.new result }
+        ensures live { OnOk result (AreLive self.new.imps) }
+        ensures keeps { SameLog self.old self.new }
+    {
+        let frames = call_imp(&mut self.imps, imp, call)?;
+        if put_all(&mut self.lines, imp, frames).is_err() {
+            return Err(CarrierFault::OutOfMemory);
+        }
+        Ok(())
+    }
+
+    /// Makes a call of the IMP of this number, if it is up and doesn't refuse it.
+    ///
+    /// Errors: want of memory alone.
+    #[tactic(auto, using(crate::proofs::Attempting::attempted, crate::proofs::Attempting::attempt_lives, crate::proofs::Attempting::attempt_grows))]
+    pub(crate) fn attempt(&mut self, imp: u8, call: ImpCall) -> Result<(), AllocError>
+        requires live { AreLive self.old.imps }
+        requires ignores { Ignores call }
+        ensures ok { OnOk result (self.new ≡ events.at_imp (imp_at self.old.imps imp) imp (call_turn call) self.old) }
+        ensures live { OnOk result (AreLive self.new.imps) }
+        ensures memory { OnErr result (grows_at (imp_at self.old.imps imp) (call_grows call) ≡ true) }
+        ensures keeps { SameLog self.old self.new }
+    {
+        let outcome = self.at_imp(imp, call);
+        if runs_out(&outcome) {
+            return Err(AllocError);
+        }
+        Ok(())
+    }
+
+    /// Puts a crossing on the log.
+    pub(crate) fn cross(&mut self, crossing: Crossing) -> Result<(), AllocError>
+        ensures ok { OnOk result (self.new ≡ logging (crossing ∷ []) self.old) }
+        ensures err { OnErr result (self.new ≡ self.old) }
+    {
+        self.log.push(crossing)?;
+        Ok(())
+    }
+}
+
+/// Whether memory was wanted.
+pub(crate) fn runs_out(outcome: &Result<(), CarrierFault>) -> bool
+    ensures { result ≡ runs_out outcome.now }
+{
+    matches!(outcome, Err(CarrierFault::OutOfMemory))
+}

@@ -1,0 +1,107 @@
+//! A host takes what came for it.
+
+ghost use Rattle.std.specs.Prelude.{◌≡◌, ◌∷◌, [], true, false, is_some, IfOk, IfSome, OnOk, OnErr};
+ghost use Rattle.leader1822.specs.Calls.{crossing_of};
+ghost use Rattle.imp_node.specs.Taking as taking;
+ghost use Rattle.imp_node.specs.Turns.{to_host_grows};
+ghost use Rattle.subnet.specs.Net.{imp_at};
+ghost use Rattle.subnet.specs.Events as events;
+ghost use Rattle.subnet.specs.Events.{at_up, logging, given_at, crossings_of};
+ghost use Rattle.subnet.specs.Calls.{grows_at, take_grows};
+ghost use Rattle.subnet.specs.Inside.Calling.{AreLive, Ends, SameLog, imp_by, imps_by, frames_by};
+
+use crate::parts::Parts;
+use crate::wire::put_all;
+use imp_node::{Imp, Outgoing};
+use leader1822::{CarrierFault, Crossing, HostAddr, Inbound};
+use std::alloc::AllocError;
+
+impl Parts {
+    /// A host takes the oldest of what waits for it. What it gets is put on the log.
+    pub(crate) fn take_in(&mut self, host: HostAddr) -> Result<Option<Inbound>, CarrierFault>
+        requires { AreLive self.old.imps }
+        ensures call { Ends (events.take_refusal self.old host) (take_grows self.old host) (λ given. (given ≡ events.taken self.old host) × (self.new ≡ events.take_in self.old host)) self.old self.new result }
+        ensures live { OnOk result (AreLive self.new.imps) }
+        ensures keeps { OnErr result (SameLog self.old self.new) }
+    {
+        if !self.is_there(&host) {
+            return Err(CarrierFault::NoSuch);
+        }
+        let given = self.take_from(host.imp(), host.host())?;
+        if self.cross_given(&given).is_err() {
+            return Err(CarrierFault::OutOfMemory);
+        }
+        Ok(given)
+    }
+
+    /// A host of an IMP takes what waits for it, and the IMP's frames go on lines.
+    ///
+    /// Errors: `IsDown` where the IMP is down, and then those of the IMP's call.
+    fn take_from(&mut self, imp: u8, host: u8) -> Result<Option<Inbound>, CarrierFault>
+        requires { AreLive self.old.imps }
+        ensures call { Ends (at_up (imp_at self.old.imps imp) (λ s. taking.to_host_refusal s host)) (grows_at (imp_at self.old.imps imp) (λ s. to_host_grows s host)) (λ given. (given ≡ given_at (imp_at self.old.imps imp) host) × (self.new ≡ events.at_imp (imp_at self.old.imps imp) imp (λ s. taking.to_host s host) self.old)) self.old self.new result }
+        ensures live { OnOk result (AreLive self.new.imps) }
+        ensures keeps { SameLog self.old self.new }
+    {
+        let (given, frames) = take_at_imp(&mut self.imps, imp, host)?;
+        if put_all(&mut self.lines, imp, frames).is_err() {
+            return Err(CarrierFault::OutOfMemory);
+        }
+        Ok(given)
+    }
+
+    /// Puts what a host gets on the log.
+    fn cross_given(&mut self, given: &Option<Inbound>) -> Result<(), AllocError>
+        ensures ok { OnOk result (self.new ≡ logging (crossings_of given.now) self.old) }
+        ensures err { OnErr result (self.new ≡ self.old) }
+        ensures memory { OnErr result (is_some given.now ≡ true) }
+    {
+        match given {
+            Some(inbound) => self.cross(crossing_of(inbound)?),
+            None => Ok(()),
+        }
+    }
+}
+
+/// What a host gets, as a crossing.
+fn crossing_of(inbound: &Inbound) -> Result<Crossing, AllocError>
+    ensures { IfOk result (λ crossing. crossing ≡ crossing_of inbound.now) }
+{
+    match inbound {
+        Inbound::Message(message) => Ok(Crossing::In(message.clone()?)),
+        Inbound::Answer(kind, flow) => Ok(Crossing::Answer(*kind, *flow)),
+    }
+}
+
+/// A host takes what waits for it at the IMP of a place, if one is up there.
+#[tactic(auto, using(crate::proofs::Ending::ends_of_turned))]
+fn take_at(
+    place: &mut Option<Imp>,
+    host: u8,
+) -> Result<(Option<Inbound>, Vec<Outgoing>), CarrierFault>
+    requires { IfSome place.old (λ s. s.spent ≡ false) }
+    ensures call { Ends (at_up place.old (λ s. taking.to_host_refusal s host)) (grows_at place.old (λ s. to_host_grows s host)) (λ given. (given.0 ≡ given_at place.old host) × (place.new ≡ imp_by place.old (λ s. taking.to_host s host)) × (given.1.items ≡ frames_by place.old (λ s. taking.to_host s host))) place.old place.new result }
+    ensures live { OnOk result (IfSome place.new (λ s. s.spent ≡ false)) }
+{
+    match place {
+        Some(imp) => imp.to_host(host),
+        None => Err(CarrierFault::IsDown),
+    }
+}
+
+/// A host takes what waits for it at the IMP of this number, if it is up.
+fn take_at_imp(
+    imps: &mut [Option<Imp>],
+    imp: u8,
+    host: u8,
+) -> Result<(Option<Inbound>, Vec<Outgoing>), CarrierFault>
+    requires { AreLive imps.old }
+    ensures call { Ends (at_up (imp_at imps.old imp) (λ s. taking.to_host_refusal s host)) (grows_at (imp_at imps.old imp) (λ s. to_host_grows s host)) (λ given. (given.0 ≡ given_at (imp_at imps.old imp) host) × (imps.new ≡ imps_by imps.old imp (imp_at imps.old imp) (λ s. taking.to_host s host)) × (given.1.items ≡ frames_by (imp_at imps.old imp) (λ s. taking.to_host s host))) imps.old imps.new result }
+    ensures live { OnOk result (AreLive imps.new) }
+{
+    let at = imp as usize;
+    if at >= imps.len() {
+        return Err(CarrierFault::IsDown);
+    }
+    take_at(&mut imps[at], host)
+}

@@ -1,0 +1,222 @@
+//! A line between two IMPs, and the frames that are live on it.
+
+ghost use Rattle.std.specs.Prelude.{◌≡◌, ◌<◌, length, slice_get, slice_set, IfOk, IfSome, OnOk, OnErr, true, option_copied};
+ghost use Rattle.subnet.specs.Net as net;
+ghost use Rattle.subnet.specs.Net.{ends_at, far_end, frames_on, followed_by, with_frame, dropping, port_of, line_from, put_one, put_all};
+ghost use Rattle.subnet.specs.Inside.Calling.{copied_grows};
+ghost use Rattle.subnet.specs.Opening as start;
+
+use imp_channel::Frame;
+use imp_node::Outgoing;
+use leader1822::Direction;
+use std::alloc::{AllocError, Global};
+use std::collections::VecDeque;
+use std::marker::Model;
+
+/// How many frames can be live on a line each way.
+const LINE_PLACES: usize = 256;
+
+/// The numbers of the two IMPs that a line joins.
+#[derive(Clone, Copy, Debug, PartialEq, Eq)]
+pub struct Ends {
+    /// The number of its first IMP.
+    pub a: u8,
+    /// The number of its second IMP.
+    pub b: u8,
+}
+
+/// A line between two IMPs, and the frames that are live on it each way, the oldest first.
+#[derive(Drop)]
+pub struct Wire {
+    ends: Ends,
+    forward: VecDeque<Frame>,
+    back: VecDeque<Frame>,
+}
+
+impl Model for Wire {
+    ghost use Rattle.subnet.specs.Net as net;
+
+    ghost Value = { net.Wire };
+
+    ghost view = { λ w. record { a = w.ends.a; b = w.ends.b; forward = w.forward.items; back = w.back.items } };
+}
+
+impl Wire {
+    /// A line without frames.
+    pub(crate) fn new(alloc: Global, ends: Ends) -> Wire
+        ensures { result ≡ start.empty_wire ends }
+    {
+        Wire {
+            ends,
+            forward: VecDeque::new(alloc),
+            back: VecDeque::new(alloc),
+        }
+    }
+
+    /// Whether it has an end at this IMP.
+    pub(crate) fn ends_at(&self, imp: u8) -> bool
+        ensures { result ≡ ends_at imp self.now }
+    {
+        self.ends.a == imp || self.ends.b == imp
+    }
+
+    /// The IMP that its frames of one direction go to.
+    pub(crate) fn far_end(&self, direction: Direction) -> u8
+        ensures { result ≡ far_end direction self.now }
+    {
+        match direction {
+            Direction::Forward => self.ends.b,
+            Direction::Back => self.ends.a,
+        }
+    }
+
+    /// The frames that are live one way, the oldest first.
+    pub(crate) fn frames(&self, direction: Direction) -> &VecDeque<Frame>
+        ensures { result.now.items ≡ frames_on direction self.now }
+    {
+        match direction {
+            Direction::Forward => &self.forward,
+            Direction::Back => &self.back,
+        }
+    }
+
+    /// How many frames are live one way.
+    pub(crate) fn live(&self, direction: Direction) -> usize
+        ensures { result ≡ length (frames_on direction self.now) }
+    {
+        match direction {
+            Direction::Forward => self.forward.len(),
+            Direction::Back => self.back.len(),
+        }
+    }
+
+    /// A copy of the frame at a place of those that go one way; `None` where there is none.
+    ///
+    /// Errors: want of memory alone.
+    pub(crate) fn copy(&self, direction: Direction, place: usize) -> Result<Option<Frame>, AllocError>
+        ensures ok { IfOk result (λ frame. frame ≡ slice_get (frames_on direction self.now) place) }
+        ensures memory { OnErr result (copied_grows (slice_get (frames_on direction self.now) place) ≡ true) }
+    {
+        match direction {
+            Direction::Forward => copied(&self.forward, place),
+            Direction::Back => copied(&self.back, place),
+        }
+    }
+
+    /// The frame at a place of those that go one way is lost.
+    pub(crate) fn lose(&mut self, direction: Direction, place: usize)
+        requires { place < length (frames_on direction self.old) }
+        ensures { self.new ≡ dropping direction place self.old }
+    {
+        match direction {
+            Direction::Forward => lose(&mut self.forward, place),
+            Direction::Back => lose(&mut self.back, place),
+        }
+    }
+
+    /// An IMP puts a frame on the line, behind the others that go the same way. On a full line the frame is
+    /// lost.
+    ///
+    /// Errors: want of memory alone.
+    pub(crate) fn put(&mut self, imp: u8, frame: Frame) -> Result<(), AllocError>
+        ensures { OnOk result (self.new ≡ with_frame imp frame self.old) }
+    {
+        if self.ends.a == imp {
+            follow(&mut self.forward, frame)
+        } else {
+            follow(&mut self.back, frame)
+        }
+    }
+}
+
+/// The frame at a place.
+fn frame_at(frames: &VecDeque<Frame>, place: usize) -> Option<&Frame>
+    ensures { option_copied result ≡ slice_get frames.now.items place }
+{
+    frames.get(place)
+}
+
+/// A copy of the frame at a place.
+#[tactic(auto, using(crate::proofs::Delivering::copy_wanted))]
+fn copied(frames: &VecDeque<Frame>, place: usize) -> Result<Option<Frame>, AllocError>
+    ensures ok { IfOk result (λ frame. frame ≡ slice_get frames.now.items place) }
+    ensures memory { OnErr result (copied_grows (slice_get frames.now.items place) ≡ true) }
+{
+    match frame_at(frames, place) {
+        Some(frame) => Ok(Some(frame.clone()?)),
+        None => Ok(None),
+    }
+}
+
+/// Takes the frame at a place out.
+fn lose(frames: &mut VecDeque<Frame>, place: usize)
+    requires { place < length frames.old.items }
+    ensures { frames.new.items ≡ net.without_at place frames.old.items }
+{
+    let _ = frames.remove(place);
+}
+
+/// Puts a frame behind the others, if there is a place for it.
+fn follow(frames: &mut VecDeque<Frame>, frame: Frame) -> Result<(), AllocError>
+    ensures { OnOk result (frames.new.items ≡ followed_by frames.old.items frame) }
+{
+    if frames.len() < LINE_PLACES {
+        frames.push_back(frame)?;
+    }
+    Ok(())
+}
+
+/// The port of an IMP that is its end of a line: its lines are its ports, in their order.
+pub(crate) fn port_of(lines: &[Wire], imp: u8, line: usize) -> u8
+    requires { length lines.now < 256 }
+    ensures { result ≡ port_of lines.now imp line }
+{
+    lines
+        .iter()
+        .take(line)
+        .filter(|wire| wire.ends_at(imp))
+        .count() as u8
+}
+
+/// The line at a port of an IMP.
+fn line_at(lines: &[Wire], imp: u8, port: u8) -> Option<usize>
+    ensures line { result ≡ line_from 0 lines.now imp port }
+    ensures there { IfSome result (λ line. line < length lines.now) }
+{
+    let mut left = port;
+    for (line, wire) in lines.iter().enumerate() {
+        if wire.ends_at(imp) {
+            if left == 0 {
+                return Some(line);
+            }
+            left -= 1;
+        }
+    }
+    None
+}
+
+/// An IMP puts a frame on the line at one of its ports.
+fn put_one(lines: &mut [Wire], imp: u8, outgoing: Outgoing) -> Result<(), AllocError>
+    ensures { OnOk result (lines.new ≡ put_one lines.old imp outgoing) }
+{
+    let Outgoing { port, frame } = outgoing;
+    match line_at(lines, imp, port) {
+        Some(line) => {
+            let wire = &mut lines[line];
+            wire.put(imp, frame)
+        }
+        None => Ok(()),
+    }
+}
+
+/// An IMP puts one frame after another on the lines at its ports.
+#[tactic(auto, using(crate::proofs::Putting::put_more))]
+pub(crate) fn put_all(lines: &mut [Wire], imp: u8, frames: Vec<Outgoing>) -> Result<(), AllocError>
+    ensures ok { OnOk result (lines.new ≡ put_all lines.old imp frames.items) }
+    ensures memory { OnErr result (0 < length frames.items) }
+{
+    for outgoing in frames {
+        put_one(lines, imp, outgoing)?;
+    }
+    Ok(())
+}
