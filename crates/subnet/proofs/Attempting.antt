@@ -1,15 +1,14 @@
 -- A call that is refused changes nothing, where the IMP's turn would change nothing.
 use Rattle.std.specs.Prelude.{if◌then◌else◌}
-use Rattle.std.proofs.Common.{◌≡◌, ℕ, ◌≤◌, Bool, true, false, List, [], get_or, set, length, nat_lt, Option, Some, None, Result, Ok, Err, OnOk, refl, ap, sym, subst, ◌∙◌, arith}
+use Rattle.std.proofs.Common.{◌≡◌, ℕ, ◌≤◌, Bool, true, false, List, set, length, nat_lt, Option, Some, None, Result, Ok, Err, OnOk, refl, ap, sym, subst, ◌∙◌, arith}
 use Rattle.std.proofs.lemmas.List.{set-get_or, get_or_past}
 use Rattle.std.proofs.lemmas.Bool.Decides.{nat_tests}
 use Rattle.leader1822.specs.Calls.{is_memory}
 use Rattle.leader1822.specs.declared.carrier.CarrierFault.{CarrierFault}
 use Rattle.leader1822.specs.declared.carrier.CarrierFault.TheVariants as fault
 use Rattle.imp_channel.specs.declared.frame.Frame.{Frame}
-use Rattle.imp_node.specs.declared.port.Port.{Port}
 use Rattle.imp_node.specs.State.{State, Turn, port_at, down_port}
-use Rattle.imp_node.specs.Arrival.{from_line, from_line_refusal, ignored}
+use Rattle.imp_node.specs.Arrival.{from_line, ignored}
 use Rattle.subnet.specs.Net.{Net, imp_at, with_turn}
 use Rattle.subnet.specs.Events.{at_up, at_imp}
 use Rattle.subnet.specs.Calls.{grows_at}

@@ -1,9 +1,8 @@
 -- Looking through live frames.
-use Rattle.std.proofs.Common.{◌≡◌, ℕ, Bool, true, false, ◌||◌, List, [], ◌∷◌, ◌++◌, refl, ap, sym, ◌∙◌}
-use Rattle.std.specs.List.{list_any, flat_map}
+use Rattle.std.proofs.Common.{◌≡◌, Bool, true, false, ◌||◌, List, [], ◌∷◌, ◌++◌, refl, ap, ◌∙◌}
+use Rattle.std.specs.List.{list_any}
 use Rattle.imp_channel.specs.Holding.{carried_by}
 use Rattle.imp_channel.specs.declared.frame.Frame.{Frame}
-use Rattle.packetiser.specs.PacketFields.{PacketFields}
 use Rattle.subnet.specs.declared.seeking.Sought.{Sought}
 use Rattle.subnet.specs.Alive.{packets_on, carries}
 use Rattle.subnet.specs.Net.{Wire}

@@ -46,8 +46,8 @@ none_brought n l d k none = ap (delivered n l d) (sym none)
 pub brought : (n new : Net) (l : ℕ) (d : Direction) (k i p : ℕ) (f : Frame) → slice_get (frames_on d (wire_at n.lines l)) k ≡ Some f → i ≡ far_end d (wire_at n.lines l) → p ≡ port_of n.lines i l → new ≡ at_imp (imp_at n.imps i) i (call_turn (call.Arrive p f)) n → new ≡ deliver n l d k
 brought n new l d k i p f there far port is =
     let come : at_imp (imp_at n.imps i) i (call_turn (call.Arrive p f)) n ≡ delivered n l d (Some f) =
-        subst (λ (q : ℕ). at_imp (imp_at n.imps i) i (call_turn (call.Arrive q f)) n ≡ delivered n l d (Some f)) (sym port)
-        (subst (λ (j : ℕ). at_imp (imp_at n.imps j) j (call_turn (call.Arrive (port_of n.lines j l) f)) n ≡ delivered n l d (Some f)) (sym far) refl)
+    subst (λ (q : ℕ). at_imp (imp_at n.imps i) i (call_turn (call.Arrive q f)) n ≡ delivered n l d (Some f)) (sym port)
+    (subst (λ (j : ℕ). at_imp (imp_at n.imps j) j (call_turn (call.Arrive (port_of n.lines j l) f)) n ≡ delivered n l d (Some f)) (sym far) refl)
     in
     is ∙ (come ∙ ap (delivered n l d) (sym there))
 
@@ -68,8 +68,8 @@ either_grows (Some s) a g h = or_grows a (g s) h
 bring_grows : (n : Net) (l : ℕ) (d : Direction) (k i p : ℕ) (f : Frame) → slice_get (frames_on d (wire_at n.lines l)) k ≡ Some f → i ≡ far_end d (wire_at n.lines l) → p ≡ port_of n.lines i l → grows_at (imp_at n.imps i) (call_grows (call.Arrive p f)) ≡ true → delivered_grows n l d (slice_get (frames_on d (wire_at n.lines l)) k) ≡ true
 bring_grows n l d k i p f there far port grows =
     let far_grows : delivered_grows n l d (Some f) ≡ true =
-        either_grows (imp_at n.imps (far_end d (wire_at n.lines l))) (copy_grows f) (λ s. from_line_grows s (port_of n.lines (far_end d (wire_at n.lines l)) l) f)
-        (subst (λ (j : ℕ). grows_at (imp_at n.imps j) (call_grows (call.Arrive (port_of n.lines j l) f)) ≡ true) far (subst (λ (q : ℕ). grows_at (imp_at n.imps i) (call_grows (call.Arrive q f)) ≡ true) port grows))
+    either_grows (imp_at n.imps (far_end d (wire_at n.lines l))) (copy_grows f) (λ s. from_line_grows s (port_of n.lines (far_end d (wire_at n.lines l)) l) f)
+    (subst (λ (j : ℕ). grows_at (imp_at n.imps j) (call_grows (call.Arrive (port_of n.lines j l) f)) ≡ true) far (subst (λ (q : ℕ). grows_at (imp_at n.imps i) (call_grows (call.Arrive q f)) ≡ true) port grows))
     in
     ap (delivered_grows n l d) there ∙ far_grows
 

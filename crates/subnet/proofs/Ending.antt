@@ -1,18 +1,12 @@
 -- How the call of an IMP ends, and what it leaves in the subnet.
-use Rattle.std.proofs.Common.{◌≡◌, ℕ, zero, suc, ◌<◌, Bool, true, false, List, [], ◌∷◌, get_or, set, length, Option, Some, None, Result, Ok, Err, refl, ap, sym, ◌∙◌, Vec, Global}
+use Rattle.std.proofs.Common.{◌≡◌, ℕ, Bool, true, false, List, get_or, set, Option, Some, None, Result, Ok, Err, refl, ap, sym, ◌∙◌}
 use Rattle.std.proofs.lemmas.List.{set-get_or}
-use Rattle.leader1822.specs.Calls.{is_memory}
 use Rattle.leader1822.specs.declared.carrier.CarrierFault.{CarrierFault}
 use Rattle.leader1822.specs.declared.carrier.CarrierFault.TheVariants as fault
-use Rattle.imp_node.specs.declared.outgoing.Outgoing.{Outgoing}
-use Rattle.imp_node.specs.State.{State, Turn, number}
-use Rattle.imp_node.specs.Turns.{Turned, Takes}
-use Rattle.subnet.specs.Net.{Net, imp_at}
-use Rattle.subnet.specs.Events.{at_up, at_imp}
-use Rattle.subnet.specs.Calls.{grows_at}
-use Rattle.subnet.specs.declared.imp_call.ImpCall.{ImpCall}
-use Rattle.subnet.specs.Inside.Calling.{call_refusal, call_turn, call_grows, IsLive, AreLive, Fails, Ends, imp_by, imps_by, frames_by}
-use Rattle.subnet.proofs.Owning.{call_own}
+use Rattle.imp_node.specs.State.{State, Turn}
+use Rattle.imp_node.specs.Turns.{Turned}
+use Rattle.subnet.specs.Net.{imp_at}
+use Rattle.subnet.specs.Inside.Calling.{Fails, Ends, imp_by, imps_by}
 
 -- an IMP's answer as that of what stands at its place
 pub ends_of_turned : {T : Type 0} (refusal : Option CarrierFault) (grows : Bool) (Gives : T → Type 0) (s t : State) (r : Result T CarrierFault) → Turned refusal grows Gives s t r → Ends refusal grows Gives (Some s) (Some t) r

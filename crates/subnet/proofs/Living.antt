@@ -1,9 +1,12 @@
 -- A call leaves each IMP that is up with its number, and with memory where it succeeds.
-use Rattle.std.proofs.Common.{◌≡◌, ℕ, ◌<◌, zero, suc, Bool, true, false, List, [], ◌∷◌, get_or, set, length, Option, Some, None, Result, Ok, Err, OnOk, refl, ap, sym, subst, ◌∙◌, arith}
+use Rattle.std.proofs.Common.{◌≡◌, ℕ, ◌<◌, zero, suc, Bool, false, List, [], ◌∷◌, get_or, set, length, Option, Some, None, Result, Ok, Err, OnOk, refl, sym, subst, ◌∙◌, arith}
 use Rattle.std.specs.Prelude.{IfSome}
 use Rattle.leader1822.specs.declared.carrier.CarrierFault.{CarrierFault}
 use Rattle.imp_node.specs.State.{State, Turn, number}
-use Rattle.imp_node.specs.Taking.{to_host}
+use Rattle.imp_node.specs.Taking.{to_host, to_host_refusal}
+use Rattle.imp_node.specs.Turns.{to_host_grows}
+use Rattle.subnet.specs.Events.{at_up}
+use Rattle.subnet.specs.Calls.{grows_at}
 use Rattle.subnet.specs.Net.{imp_at}
 use Rattle.subnet.specs.declared.imp_call.ImpCall.{ImpCall}
 use Rattle.subnet.specs.Inside.Calling.{call_turn, IsLive, AreLive, Ends, imp_by}
@@ -39,6 +42,12 @@ live_call (Ok y) imps i x c refusal grows Q live is unspent = live_set imps i x 
 live_call (Err e) imps i x c refusal grows Q live is unspent = tt
 
 -- a taking
-pub live_taking : {T : Type 0} (r : Result T CarrierFault) (imps : List (Option State)) (i h : ℕ) (x : Option State) (refusal : Option CarrierFault) (grows : Bool) (P Q : T → Type 0) → AreLive imps → Ends refusal grows (λ (y : T). P y × ((x ≡ imp_by (imp_at imps i) (λ s. to_host s h)) × Q y)) (imp_at imps i) x r → OnOk r (IfSome x (λ s. s.spent ≡ false)) → OnOk r (AreLive (set imps i x))
-live_taking (Ok y) imps i h x refusal grows P Q live is unspent = live_set imps i x (λ s. to_host s h) (λ s. to_host_own s h) live is.1.1.0 unspent
+pub live_taking : {T : Type 0} (r : Result T CarrierFault) (imps : List (Option State)) (i h : ℕ) (x : Option State) (refusal : Option CarrierFault) (grows : Bool) (P Q : T → Type 0) → AreLive imps → Ends refusal grows (λ (y : T). P y × (x ≡ imp_by (imp_at imps i) (λ s. to_host s h)) × Q y) (imp_at imps i) x r → OnOk r (IfSome x (λ s. s.spent ≡ false)) → OnOk r (AreLive (set imps i x))
+live_taking (Ok y) imps i h x refusal grows P Q live is unspent = live_set imps i x (λ s. to_host s h) (λ s. to_host_own s h) live is.1.1 unspent
 live_taking (Err e) imps i h x refusal grows P Q live is unspent = tt
+
+pub live_taking_read : {T : Type 0} (r : Result T CarrierFault) (imps : List (Option State)) (i h : ℕ) (x d : Option State) (P Q : Option State → T → Type 0) → i < length imps → AreLive imps → Ends (at_up (get_or imps i d) (λ s. to_host_refusal s h)) (grows_at (get_or imps i d) (λ s. to_host_grows s h)) (λ (y : T). P (get_or imps i d) y × (x ≡ imp_by (get_or imps i d) (λ s. to_host s h)) × Q (get_or imps i d) y) (get_or imps i d) x r → OnOk r (IfSome x (λ s. s.spent ≡ false)) → OnOk r (AreLive (set imps i x))
+live_taking_read {T} r imps i h x d P Q within live is unspent =
+    live_taking r imps i h x (at_up (imp_at imps i) (λ s. to_host_refusal s h)) (grows_at (imp_at imps i) (λ s. to_host_grows s h)) (P (imp_at imps i)) (Q (imp_at imps i)) live
+    (subst (λ (o : Option State). Ends (at_up o (λ s. to_host_refusal s h)) (grows_at o (λ s. to_host_grows s h)) (λ (y : T). P o y × (x ≡ imp_by o (λ s. to_host s h)) × Q o y) o x r) (read_alike imps i d None within) is)
+    unspent

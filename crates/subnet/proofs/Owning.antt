@@ -21,7 +21,7 @@ use Rattle.imp_node.specs.State.{State, Turn, number, host_at, with_host, port_a
 use Rattle.imp_node.specs.Flows.{answered_by}
 use Rattle.imp_node.specs.Arrival.{Arrival, Passing, Old, Undeliverable, Piece, NoSlot, Whole, Unmarked, Answering, arrival, arrived, arrival_has_room, taken, taken_frame, from_line}
 use Rattle.imp_node.specs.Offering.{Way, Nowhere, Here, Away, way_of, offered}
-use Rattle.imp_node.specs.Stopping.{returned, all_returned, stopped, host_down}
+use Rattle.imp_node.specs.Stopping.{returned, all_returned, stopped}
 use Rattle.imp_node.specs.Taking.{is_from_here, replied, reply_has_room, taken_by, to_host}
 use Rattle.subnet.specs.declared.imp_call.ImpCall.{ImpCall}
 use Rattle.subnet.specs.declared.imp_call.ImpCall.TheVariants as call

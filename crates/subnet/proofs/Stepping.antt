@@ -1,5 +1,5 @@
 -- An event as the call of one IMP that it is.
-use Rattle.std.proofs.Common.{◌≡◌, ℕ, ◌==◌, ◌&&◌, Bool, true, false, not, Option, Some, None, Result, Ok, Err, refl, ap, sym, subst, ◌∙◌, arith}
+use Rattle.std.proofs.Common.{◌≡◌, ℕ, ◌==◌, ◌&&◌, Bool, true, false, not, Option, Some, None, Result, Err, refl, ap, subst, arith}
 use Rattle.std.proofs.lemmas.Bool.Decides.{nat_tests}
 use Rattle.leader1822.specs.declared.carrier.CarrierFault.{CarrierFault}
 use Rattle.leader1822.specs.declared.carrier.CarrierFault.TheVariants as fault
@@ -13,7 +13,6 @@ use Rattle.leader1822.specs.declared.message.HostMessage.{HostMessage}
 use Rattle.subnet.specs.Alive.{has_data}
 use Rattle.subnet.specs.Calls.{grows_at}
 use Rattle.subnet.specs.Events.{first_of, has_end, at_up, at_imp, accepted, is_imp, offer_alive, offer_refusal, offer_out, host_stopped, host_started}
-use Rattle.subnet.specs.declared.imp_call.ImpCall.{ImpCall}
 use Rattle.subnet.specs.declared.imp_call.ImpCall.TheVariants as call
 use Rattle.subnet.specs.Inside.Calling.{call_turn, call_grows, IsLive, AreLive, Fails, Ends, Makes, Steps}
 

@@ -1,20 +1,18 @@
 -- How a call of a subnet ends, and which calls may want memory.
-use Rattle.std.specs.Prelude.{◌≡◌, ℕ, Bool, true, false, List, Option, Some, None, Result, Ok, Err, is_some, nat_lt, length, slice_get, ◌||◌}
+use Rattle.std.specs.Prelude.{◌≡◌, ℕ, Bool, true, false, Option, Some, None, Result, Ok, Err, is_some, nat_lt, length, slice_get, ◌||◌}
 use Rattle.leader1822.specs.Calls.{is_memory}
 use Rattle.leader1822.specs.Host.{Host}
 use Rattle.leader1822.specs.declared.carrier.CarrierFault.{CarrierFault}
 use Rattle.leader1822.specs.declared.carrier.CarrierFault.TheVariants as fault
-use Rattle.leader1822.specs.declared.crossing.Inbound.{Inbound}
 use Rattle.leader1822.specs.declared.event.Direction.{Direction}
 use Rattle.leader1822.specs.declared.event.NetEvent.{NetEvent}
 use Rattle.leader1822.specs.declared.event.NetEvent.TheVariants as event
-use Rattle.leader1822.specs.declared.message.HostMessage.{HostMessage}
 use Rattle.imp_channel.specs.Holding.{bits_carried}
 use Rattle.imp_channel.specs.declared.frame.Frame.{Frame}
 use Rattle.imp_node.specs.State.{State}
 use Rattle.imp_node.specs.Turns.{resend_grows, route_grows, end_down_grows, end_up_grows, give_up_grows, forget_grows, abandon_grows, from_line_grows, to_host_grows}
 use Rattle.subnet.specs.Net.{Net, imp_at, wire_at, port_of, frames_on, far_end}
-use Rattle.subnet.specs.Events.{first_of, offer_refusal, offer_out, take_refusal, taken, take_in, step_refusal, stepped, quiet_round, downs_at}
+use Rattle.subnet.specs.Events.{first_of, taken, downs_at}
 
 -- ---- a subnet that may have stopped
 

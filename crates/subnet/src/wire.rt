@@ -93,7 +93,11 @@ impl Wire {
     /// A copy of the frame at a place of those that go one way; `None` where there is none.
     ///
     /// Errors: want of memory alone.
-    pub(crate) fn copy(&self, direction: Direction, place: usize) -> Result<Option<Frame>, AllocError>
+    pub(crate) fn copy(
+        &self,
+        direction: Direction,
+        place: usize,
+    ) -> Result<Option<Frame>, AllocError>
         ensures ok { IfOk result (λ frame. frame ≡ slice_get (frames_on direction self.now) place) }
         ensures memory { OnErr result (copied_grows (slice_get (frames_on direction self.now) place) ≡ true) }
     {

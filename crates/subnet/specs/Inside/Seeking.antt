@@ -1,5 +1,5 @@
 -- What is looked for in a subnet, in one form for all questions.
-use Rattle.std.specs.Prelude.{ℕ, Bool, List, ◌||◌, ◌==◌}
+use Rattle.std.specs.Prelude.{Bool}
 use Rattle.std.specs.List.{list_any}
 use Rattle.packetiser.specs.PacketFields.{PacketFields}
 use Rattle.imp_channel.specs.Holding.{carried_by}

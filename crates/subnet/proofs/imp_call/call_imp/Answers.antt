@@ -1,5 +1,4 @@
-use Rattle.std.proofs.Common.{◌≡◌, List, Option, Some, None, Bool, subst, OnOk, Vec, Global, ◌∙◌}
-use Rattle.leader1822.specs.declared.carrier.CarrierFault.{CarrierFault}
+use Rattle.std.proofs.Common.{◌≡◌, Option, None, subst, Vec, Global}
 use Rattle.imp_node.specs.State.{State}
 use Rattle.imp_node.specs.declared.outgoing.Outgoing.{Outgoing}
 use Rattle.subnet.specs.Events.{at_up}

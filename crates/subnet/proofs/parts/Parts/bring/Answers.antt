@@ -1,5 +1,4 @@
-use Rattle.std.proofs.Common.{◌≡◌, Some, sym, ◌∙◌, slice_get}
-use Rattle.subnet.specs.Net.{wire_at, frames_on}
+use Rattle.std.proofs.Common.{sym, ◌∙◌}
 use Rattle.subnet.proofs.Delivering.{brought_ok, bring_grows_on}
 use Rattle.subnet.proofs.parts.Parts.bring.Goals as goal
 
