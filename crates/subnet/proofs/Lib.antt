@@ -29,3 +29,4 @@ pub mod Putting
 pub mod Stepping
 pub mod Delivering
 pub mod Attempting
+pub mod Carries

@@ -10,6 +10,7 @@ pub mod law;
 mod line_events;
 mod offering;
 mod parts;
+mod quiet_rounds;
 mod seeking;
 mod stops;
 mod taking;

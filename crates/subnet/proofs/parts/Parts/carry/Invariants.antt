@@ -1,0 +1,12 @@
+use Rattle.std.proofs.Common.{◌≡◌, ◌-◌}
+use Rattle.subnet.specs.Events.{carried}
+use Rattle.subnet.specs.Inside.Calling.{AreLive, SameLog}
+use Rattle.subnet.proofs.parts.Parts.carry.Given as goal
+
+-- the frames that are left, after those so far
+abbrev pub invariant-loop : goal.invariant-loop
+invariant-loop l = record {
+  live : AreLive l.self.imps;
+  state : carried (l.count - l.counter) l.line l.direction l.self ≡ carried l.count l.line l.direction l.fn.self;
+  keeps : SameLog l.fn.self l.self;
+}

@@ -1,0 +1,13 @@
+use Rattle.std.proofs.Common.{◌≡◌, ◌-◌}
+use Rattle.std.specs.List.{range_with_len}
+use Rattle.subnet.specs.Events.{all_refreshed}
+use Rattle.subnet.specs.Inside.Calling.{AreLive, SameLog}
+use Rattle.subnet.proofs.parts.Parts.refresh_all.Given as goal
+
+-- the IMPs that are left, after those so far
+abbrev pub invariant-loop-imp : goal.invariant-loop-imp
+invariant-loop-imp l = record {
+  live : AreLive l.self.imps;
+  state : all_refreshed (range_with_len l.imp (l.places - l.imp)) l.self ≡ all_refreshed (range_with_len 0 l.places) l.fn.self;
+  keeps : SameLog l.fn.self l.self;
+}

@@ -1,0 +1,148 @@
+//! Quiet rounds.
+
+ghost use Rattle.std.specs.Prelude.{◌≡◌, length, OnOk};
+ghost use Rattle.std.specs.List.{range_with_len};
+ghost use Rattle.subnet.specs.Net.{wire_at, frames_on};
+ghost use Rattle.subnet.specs.Events as events;
+ghost use Rattle.subnet.specs.Inside.Calling.{AreLive, SameLog, carried_first};
+
+use crate::imp_call::ImpCall;
+use crate::parts::Parts;
+use leader1822::Direction;
+use std::alloc::AllocError;
+
+impl Parts {
+    /// Each IMP that is up tells its distances and sends again. Then the frames of each line are delivered and
+    /// dropped, one way after the other.
+    ///
+    /// Errors: want of memory alone.
+    pub(crate) fn quiet_round(&mut self) -> Result<(), AllocError>
+        requires { AreLive self.old.imps }
+        ensures ok { OnOk result (self.new ≡ events.quiet_round self.old) }
+        ensures live { OnOk result (AreLive self.new.imps) }
+        ensures keeps { SameLog self.old self.new }
+    {
+        let imps = self.imp_places();
+        let lines = self.line_count();
+        self.refresh_all(imps)?;
+        self.turn_all(lines)
+    }
+
+    /// How many places there are for IMPs.
+    fn imp_places(&self) -> u8
+        ensures { result ≡ length self.now.imps }
+    {
+        self.imps.len() as u8
+    }
+
+    /// How many lines there are.
+    fn line_count(&self) -> usize
+        ensures { result ≡ length self.now.lines }
+    {
+        self.lines.len()
+    }
+
+    /// Each IMP that is up tells its distances and sends again.
+    #[tactic(auto, using(crate::proofs::Carries::range_more))]
+    fn refresh_all(&mut self, places: u8) -> Result<(), AllocError>
+        requires { AreLive self.old.imps }
+        ensures ok { OnOk result (self.new ≡ events.all_refreshed (range_with_len 0 places) self.old) }
+        ensures live { OnOk result (AreLive self.new.imps) }
+        ensures keeps { SameLog self.old self.new }
+    {
+        for imp in 0..places {
+            self.refresh(imp)?;
+        }
+        Ok(())
+    }
+
+    /// An IMP tells its distances and sends again, if it is up.
+    #[tactic(auto, using(crate::proofs::Attempting::resend_ignores, crate::proofs::Attempting::route_ignores))]
+    fn refresh(&mut self, imp: u8) -> Result<(), AllocError>
+        requires { AreLive self.old.imps }
+        ensures ok { OnOk result (self.new ≡ events.refreshed self.old imp) }
+        ensures live { OnOk result (AreLive self.new.imps) }
+        ensures keeps { SameLog self.old self.new }
+    {
+        self.attempt(imp, ImpCall::Route)?;
+        self.attempt(imp, ImpCall::Resend)
+    }
+
+    /// The frames of each of so many lines are delivered and dropped, one way after the other.
+    #[tactic(auto, using(crate::proofs::Carries::range_more))]
+    fn turn_all(&mut self, lines: usize) -> Result<(), AllocError>
+        requires { AreLive self.old.imps }
+        ensures ok { OnOk result (self.new ≡ events.all_turns (range_with_len 0 lines) self.old) }
+        ensures live { OnOk result (AreLive self.new.imps) }
+        ensures keeps { SameLog self.old self.new }
+    {
+        for line in 0..lines {
+            self.turn(line, Direction::Forward)?;
+            self.turn(line, Direction::Back)?;
+        }
+        Ok(())
+    }
+
+    /// The frames of a directed line that are live now are delivered and dropped.
+    fn turn(&mut self, line: usize, direction: Direction) -> Result<(), AllocError>
+        requires { AreLive self.old.imps }
+        ensures ok { OnOk result (self.new ≡ events.turn_of line direction self.old) }
+        ensures live { OnOk result (AreLive self.new.imps) }
+        ensures keeps { SameLog self.old self.new }
+    {
+        let live = self.live(line, direction);
+        self.carry(live, line, direction)
+    }
+
+    /// How many frames are live on a directed line.
+    fn live(&self, line: usize, direction: Direction) -> usize
+        ensures { result ≡ length (frames_on direction (wire_at self.now.lines line)) }
+    {
+        if line < self.lines.len() {
+            self.lines[line].live(direction)
+        } else {
+            0
+        }
+    }
+
+    /// So many frames of a directed line, the oldest first, are each delivered once and dropped.
+    #[tactic(auto, using(crate::proofs::Carries::carried_more))]
+    fn carry(&mut self, count: usize, line: usize, direction: Direction) -> Result<(), AllocError>
+        requires { AreLive self.old.imps }
+        ensures ok { OnOk result (self.new ≡ events.carried count line direction self.old) }
+        ensures live { OnOk result (AreLive self.new.imps) }
+        ensures keeps { SameLog self.old self.new }
+    {
+        for _ in 0..count {
+            self.carry_first(line, direction)?;
+        }
+        Ok(())
+    }
+
+    /// The oldest frame of a directed line, if there is one, is delivered and dropped.
+    #[tactic(auto, using(crate::proofs::Carries::delivered_none))]
+    fn carry_first(&mut self, line: usize, direction: Direction) -> Result<(), AllocError>
+        requires { AreLive self.old.imps }
+        ensures ok { OnOk result (self.new ≡ carried_first line direction self.old) }
+        ensures live { OnOk result (AreLive self.new.imps) }
+        ensures keeps { SameLog self.old self.new }
+    {
+        if self.has_frame(line, direction, 0) {
+            self.bring(line, direction, 0)?;
+        }
+        self.lose_first(line, direction);
+        Ok(())
+    }
+
+    /// The oldest frame of a directed line, if there is one, is lost.
+    #[tactic(auto, using(crate::proofs::Carries::lost_none))]
+    fn lose_first(&mut self, line: usize, direction: Direction)
+        ensures lost { self.new ≡ events.drop_frame self.old line direction 0 }
+        ensures imps { self.new.imps ≡ self.old.imps }
+        ensures keeps { SameLog self.old self.new }
+    {
+        if self.has_frame(line, direction, 0) {
+            self.lose(line, direction, 0);
+        }
+    }
+}
