@@ -30,3 +30,4 @@ pub mod Stepping
 pub mod Delivering
 pub mod Attempting
 pub mod Carries
+pub mod Working

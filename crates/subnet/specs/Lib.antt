@@ -12,3 +12,4 @@ pub mod Routed
 pub mod Seen
 pub mod Calls
 pub mod Inside
+pub mod Working

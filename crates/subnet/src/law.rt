@@ -4,11 +4,12 @@
 //! The functions `worked_..` state the rules by examples: each row is one that another reading of its rule
 //! would fail.
 
-ghost use Rattle.std.specs.Prelude.{◌≡◌, ◌≤◌, ℕ, true, false, List, [], ◌∷◌, ◌++◌, length, replicate, Option, Some, None};
-ghost use Rattle.leader1822.specs.Calls.{IsFor, step_crossings};
+ghost use Rattle.std.specs.Prelude.{◌≡◌, ◌≤◌, ℕ, true, false, List, [], ◌∷◌, ◌++◌, length, replicate, Option, Some, None, Result};
+ghost use Rattle.leader1822.specs.Calls.{IsFor, step_crossings, ShowsOffer, ShowsTake, ShowsStep, ShowsRound};
 ghost use Rattle.leader1822.specs.Host.{Host, InOrder};
 ghost use Rattle.leader1822.specs.Mailboxes.{IsRun, is_up};
 ghost use Rattle.leader1822.specs.declared.address.Flow.{Flow};
+ghost use Rattle.leader1822.specs.declared.carrier.CarrierFault.{CarrierFault};
 ghost use Rattle.leader1822.specs.declared.carrier.CarrierFault.TheVariants as fault;
 ghost use Rattle.leader1822.specs.declared.crossing.Crossing.TheVariants as crossing;
 ghost use Rattle.leader1822.specs.declared.crossing.Inbound.{Inbound};
@@ -21,6 +22,7 @@ ghost use Rattle.imp_channel.specs.declared.frame.Content.TheVariants as content
 ghost use Rattle.imp_node.specs.Examples.{host, flow, packets_to, no_acks, ack_frame};
 ghost use Rattle.imp_node.specs.Lines.{on_port};
 ghost use Rattle.imp_node.specs.State.{opening, no_host};
+ghost use Rattle.subnet.specs.Calls.{Kept, running};
 ghost use Rattle.subnet.specs.Alive.{packets, messages, is_alive};
 ghost use Rattle.subnet.specs.Events.{offer_refusal, offer_out, take_refusal, taken, crossings_of, take_in, deliver, drop_frame, giving_up_refusal, forgetting_refusal, starting_refusal, imp_stopped, imp_started, refreshed, quiet_round, step_refusal, stepped};
 ghost use Rattle.subnet.specs.Examples.{ours, our_message, our_queued, data_frame, rfnm_frame, passing_frame, imp_1, imp_2, wire, pair, opened_pair, begun_up_to, expecting, one_host_down, serving_ours, keeping_ours, keeping_own, sending_ours, past_one, full_of, triangle};
@@ -34,6 +36,7 @@ ghost use Rattle.subnet.specs.Routed.{IsRouted, IsHostMessage};
 ghost use Rattle.subnet.specs.Run.{Call, OffersMessages, ran};
 ghost use Rattle.subnet.specs.Seen.{seen, IsListed, SameNetwork};
 ghost use Rattle.subnet.specs.Sound.{IsSound};
+ghost use Rattle.subnet.specs.Working.{IsWorking, SubnetOffer, SubnetTake, SubnetStep, SubnetRound, seen_of};
 
 /// The law of the subnet: for every topology of at most sixteen IMPs, with any lines, and for every list of offers,
 /// takings, events and quiet rounds from its opening on, of which some are refused, the log that the hosts see is
@@ -66,6 +69,22 @@ pub fn shown()
     // a host that stops or starts crosses, and so do the hosts of an IMP that stops, in order, if they are up
     ensures step { (n : Net) (e : NetEvent) → step_refusal n e ≡ None → IsListed n → IsSound n → (stepped n e).log ≡ step_crossings (seen n) e ++ n.log }
     ensures quiet_round { (n : Net) → (quiet_round n).log ≡ n.log }
+{}
+
+/// A subnet as a carrier: each call, whether it succeeds, is refused or wants memory, keeps what holds of a subnet
+/// always, and shows what every carrier's calls show.
+pub fn carrier()
+    ensures offer_out { (old new : Kept) (m : HostMessage) (result : Result Unit CarrierFault) → IsHostMessage m → SubnetOffer old m result new → IsWorking old → IsWorking new }
+    ensures offer_shown { (old new : Kept) (m : HostMessage) (result : Result Unit CarrierFault) → SubnetOffer old m result new → ShowsOffer (seen_of old) m result (seen_of new) }
+    ensures take_in { (old new : Kept) (h : Host) (result : Result (Option Inbound) CarrierFault) → SubnetTake old h result new → IsWorking old → IsWorking new }
+    ensures take_shown { (old new : Kept) (h : Host) (result : Result (Option Inbound) CarrierFault) → IsWorking old → SubnetTake old h result new → ShowsTake (seen_of old) h result (seen_of new) }
+    ensures step { (old new : Kept) (e : NetEvent) (result : Result Unit CarrierFault) → SubnetStep old e result new → IsWorking old → IsWorking new }
+    ensures step_shown { (old new : Kept) (e : NetEvent) (result : Result Unit CarrierFault) → IsWorking old → SubnetStep old e result new → ShowsStep (seen_of old) e result (seen_of new) }
+    ensures quiet_round { (old new : Kept) (result : Result Unit CarrierFault) → SubnetRound old result new → IsWorking old → IsWorking new }
+    ensures round_shown { (old new : Kept) (result : Result Unit CarrierFault) → SubnetRound old result new → ShowsRound (seen_of old) result (seen_of new) }
+
+    // at its opening it is so
+    ensures opening { (sites : List (Option ℕ)) (ends : List Ends) → length sites ≤ 17 → IsWorking (running (start.opening (start.hosts_from 0 sites) sites ends)) }
 {}
 
 /// The hosts of the network and its sites are the same after each call.

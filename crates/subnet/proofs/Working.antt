@@ -1,0 +1,278 @@
+-- A subnet as a carrier: what each call keeps, and what it shows.
+use Rattle.std.proofs.Common.{◌≡◌, ℕ, ◌≤◌, length, Bool, true, false, not, List, [], ◌∷◌, ◌++◌, Option, Some, None, Result, Ok, Err, is_some, is_none, refl, ap, sym, subst, ◌∙◌, if◌then◌else◌, ◌&&◌, ◌==◌}
+use Rattle.std.specs.Prelude.{OnErr}
+use Rattle.leader1822.specs.Calls.{Seen, InOrder, IsFor, grown, halted, is_memory, is_halt, step_crossings, crossing_of, ShowsRefusal, ShowsCrossings, ShowsOffer, ShowsTake, ShowsStep, ShowsRound}
+use Rattle.leader1822.specs.Host.{Host, is_host}
+use Rattle.leader1822.specs.Mailboxes.{IsRun}
+use Rattle.leader1822.specs.declared.address.Flow.{Flow}
+use Rattle.leader1822.specs.declared.carrier.CarrierFault.{CarrierFault}
+use Rattle.leader1822.specs.declared.carrier.CarrierFault.TheVariants as fault
+use Rattle.leader1822.specs.declared.crossing.Crossing.{Crossing}
+use Rattle.leader1822.specs.declared.crossing.Crossing.TheVariants as crossing
+use Rattle.leader1822.specs.declared.crossing.Inbound.{Inbound}
+use Rattle.leader1822.specs.declared.event.NetEvent.{NetEvent}
+use Rattle.leader1822.specs.declared.event.NetEvent.TheVariants as event
+use Rattle.leader1822.specs.declared.message.HostMessage.{HostMessage}
+use Rattle.leader1822.proofs.Lists.{guard}
+use Rattle.flow_law.proofs.FollowLemmas.{sound_run}
+use Rattle.imp_node.specs.State.{State, number, host_at, is_there, is_up, port_at}
+use Rattle.imp_node.specs.Flows.{is_idle}
+use Rattle.imp_node.specs.Offering.{is_own, way_of, way_has_room, from_host_refusal}
+use Rattle.imp_node.specs.Taking.{host_refusal, taking_has_room, to_host_refusal}
+use Rattle.imp_node.specs.Lines.{end_down_refusal, end_up_refusal}
+use Rattle.imp_node.specs.Stopping.{give_up_refusal, abandon_refusal, host_down_refusal, host_up_refusal}
+use Rattle.subnet.specs.Net.{Net, imp_at}
+use Rattle.subnet.specs.Calls.{Kept, running, refusal_of, HasHalted, Fails, Decided, take_grows, step_grows}
+use Rattle.subnet.specs.Events.{at_up, first_of, accepted, is_imp, offer_refusal, offer_out, take_refusal, taken, crossings_of, take_in, frame_refusal, imp_refusal, at_end_refusal, at_host_refusal, starting_refusal, abandoning_refusal, giving_up_refusal, forgetting_refusal, step_refusal, stepped, quiet_round}
+use Rattle.subnet.specs.Flows.{Alive, view}
+use Rattle.subnet.specs.Opening.{Ends, hosts_from, opening}
+use Rattle.subnet.specs.Routed.{IsHostMessage}
+use Rattle.subnet.specs.Seen.{seen, IsListed, SameNetwork}
+use Rattle.subnet.specs.Sound.{IsSound}
+use Rattle.subnet.specs.Working.{IsWhole, IsWorking, seen_of, SubnetOffer, SubnetTake, SubnetStep, SubnetRound}
+use Rattle.subnet.proofs.EventSteps.{step_sound}
+use Rattle.subnet.proofs.Offers.{offer_sound}
+use Rattle.subnet.proofs.Openings.{opening_sound}
+use Rattle.subnet.proofs.Rounds.{quiet_round_sound}
+use Rattle.subnet.proofs.Routed.{opening_routed, offer_routed, take_routed, step_routed, round_routed, can_go}
+use Rattle.subnet.proofs.Showing.{offer_log, take_log, step_log, round_log, take_for, offer_same, take_same, step_same, round_same}
+use Rattle.subnet.proofs.SiteHosts.{hosts_fit, hosts_ordered}
+use Rattle.subnet.proofs.Takes.{take_sound}
+
+-- ---- no refusal of a subnet is Stopped
+
+abbrev Plain : Option CarrierFault → Type 0
+Plain None = Unit {0}
+Plain (Some e) = is_halt e ≡ false
+
+first_plain : (b : Bool) (e : CarrierFault) (rest : Option CarrierFault) → is_halt e ≡ false → Plain rest → Plain (if b then Some e else rest)
+first_plain true e rest plain others = plain
+first_plain false e rest plain others = others
+
+last_plain : (b : Bool) (e : CarrierFault) → is_halt e ≡ false → Plain (if b then None else Some e)
+last_plain true e plain = tt
+last_plain false e plain = plain
+
+end_plain : (b : Bool) (others : Option CarrierFault) → Plain others → Plain (if b then others else Some fault.NoSuch)
+end_plain true others plain = plain
+end_plain false others plain = refl
+
+up_plain : (o : Option State) (refusal : State → Option CarrierFault) → ((s : State) → Plain (refusal s)) → Plain (at_up o refusal)
+up_plain None refusal plain = refl
+up_plain (Some s) refusal plain = plain s
+
+from_host_plain : (m : HostMessage) (s : State) → Plain (from_host_refusal s m)
+from_host_plain m s =
+    first_plain (not (is_own s m.flow.source)) fault.NoSuch _ refl
+    (first_plain (not (is_up s m.flow.source.host)) fault.IsDown _ refl
+    (first_plain (not (is_idle s m.flow)) fault.Blocked _ refl
+    (first_plain (not (way_has_room (way_of s m.flow) s m)) fault.NoRoom None refl tt)))
+
+host_plain : (s : State) (h : ℕ) (rest : Option CarrierFault) → Plain rest → Plain (host_refusal s h rest)
+host_plain s h rest plain = first_plain (not (is_there s h)) fault.NoSuch _ refl (first_plain (not (is_up s h)) fault.IsDown rest refl plain)
+
+offer_plain : (m : HostMessage) (n : Net) → Plain (offer_refusal n m)
+offer_plain m n =
+    first_plain (not (is_host n.hosts m.flow.source)) fault.NoSuch _ refl
+    (first_plain _ fault.StillAlive _ refl
+    (up_plain (imp_at n.imps m.flow.source.imp) (λ s. from_host_refusal s m) (from_host_plain m)))
+
+take_plain : (h : Host) (n : Net) → Plain (take_refusal n h)
+take_plain h n =
+    first_plain (not (is_host n.hosts h)) fault.NoSuch _ refl
+    (up_plain (imp_at n.imps h.imp) (λ s. to_host_refusal s h.host) (λ s. host_plain s h.host _ (last_plain (taking_has_room (host_at s h.host).answers (host_at s h.host).queue s) fault.NoRoom refl)))
+
+imp_plain : (n : Net) (i : ℕ) → Plain (imp_refusal n i)
+imp_plain n i = first_plain (not (is_imp n i)) fault.NoSuch _ refl (up_plain (imp_at n.imps i) accepted (λ s. tt))
+
+at_host_plain : (n : Net) (h : Host) (refusal : State → ℕ → Option CarrierFault) → ((s : State) → Plain (refusal s h.host)) → Plain (at_host_refusal n h refusal)
+at_host_plain n h refusal plain = first_plain (not (is_host n.hosts h)) fault.NoSuch _ refl (up_plain (imp_at n.imps h.imp) (λ s. refusal s h.host) plain)
+
+abandoning_plain : (o : Option State) (f : Flow) → Plain (abandoning_refusal o f)
+abandoning_plain None f = refl
+abandoning_plain (Some s) f = last_plain _ fault.NoSuch refl
+
+step_plain : (e : NetEvent) (n : Net) → Plain (step_refusal n e)
+step_plain (event.Deliver l d k) n = last_plain _ fault.NoSuch refl
+step_plain (event.Drop l d k) n = last_plain _ fault.NoSuch refl
+step_plain (event.Resend i) n = imp_plain n i
+step_plain (event.Route i) n = imp_plain n i
+step_plain (event.EndDown i l) n = first_plain _ fault.NoSuch _ refl (up_plain (imp_at n.imps i) _ (λ s. end_plain _ _ (last_plain _ fault.IsDown refl)))
+step_plain (event.EndUp i l) n = first_plain _ fault.NoSuch _ refl (up_plain (imp_at n.imps i) _ (λ s. end_plain _ _ (first_plain _ fault.IsUp None refl tt)))
+step_plain (event.ImpDown i) n = imp_plain n i
+step_plain (event.ImpUp i) n = first_plain _ fault.NoSuch _ refl (first_plain _ fault.StillAlive _ refl (first_plain _ fault.StillAlive _ refl (first_plain (is_some (imp_at n.imps i)) fault.IsUp None refl tt)))
+step_plain (event.HostDown h) n = at_host_plain n h host_down_refusal (λ s. host_plain s h.host None tt)
+step_plain (event.HostUp h) n = at_host_plain n h host_up_refusal (λ s. first_plain _ fault.NoSuch _ refl (first_plain _ fault.IsUp _ refl (first_plain _ fault.Unsettled None refl tt)))
+step_plain (event.GiveUp f) n =
+    first_plain _ fault.NoSuch _ refl (first_plain _ fault.StillAlive _ refl
+    (up_plain (imp_at n.imps f.source.imp) _ (λ s. first_plain _ fault.NoSuch _ refl (first_plain _ fault.NotOutstanding None refl tt))))
+step_plain (event.Forget at from) n =
+    first_plain _ fault.NoSuch _ refl (first_plain (at == from) fault.NoSuch _ refl (first_plain _ fault.StillAlive _ refl (up_plain (imp_at n.imps at) accepted (λ s. tt))))
+step_plain (event.Abandon f) n = abandoning_plain (imp_at n.imps f.destination.imp) f
+
+-- ---- calls that fail
+
+memory_goes_on : (e : CarrierFault) → is_memory e ≡ true → is_halt e ≡ false
+memory_goes_on fault.OutOfMemory memory = refl
+memory_goes_on fault.Stopped memory = absurd (cc)
+memory_goes_on fault.NoSuch memory = refl
+memory_goes_on fault.StillAlive memory = refl
+memory_goes_on fault.IsDown memory = refl
+memory_goes_on fault.IsUp memory = refl
+memory_goes_on fault.Unsettled memory = refl
+memory_goes_on fault.NotOutstanding memory = refl
+memory_goes_on fault.Blocked memory = refl
+memory_goes_on fault.NoRoom memory = refl
+
+same_seen : (gs hs : List Host) (ls ks : List Crossing) (s t : Bool) → gs ≡ hs → ls ≡ ks → s ≡ t
+    → (let a : Seen = record { hosts = gs; log = ls; stopped = s } in let b : Seen = record { hosts = hs; log = ks; stopped = t } in a ≡ b)
+same_seen gs hs ls ks s t e f g = rw (e, f, g) refl
+
+refused_by : (stopped : Bool) (o : Option CarrierFault) (e : CarrierFault) → Plain o → first_of stopped fault.Stopped o ≡ Some e → stopped ≡ is_halt e
+refused_by true o e plain is = let same : fault.Stopped ≡ e = cc in ap is_halt same
+refused_by false None e plain is = absurd (cc)
+refused_by false (Some f) e plain is = let same : f ≡ e = cc in sym (ap is_halt (sym same) ∙ plain)
+
+fails_shown : (refusal : Net → Option CarrierFault) (grows : Bool) (e : CarrierFault) (old new : Kept) → Plain (refusal old.net) → (b : Bool) → is_memory e ≡ b → Fails (refusal_of old refusal) grows b e old new
+    → ShowsRefusal (seen_of old) e (seen_of new)
+fails_shown refusal grows e old new plain true memory fails =
+    let goes : (old.stopped ≡ false) × (refusal old.net ≡ None) = guard old.stopped fault.Stopped (refusal old.net) fails.0 in
+    let h : HasHalted old new = fails.1.1 in
+    record {
+      when_stopped = goes.0 ∙ sym (memory_goes_on e memory);
+      shown = same_seen new.net.hosts old.net.hosts new.net.log old.net.log new.stopped true h.hosts h.log h.stopped ∙ ap (λ (b : Bool). if b then halted (seen_of old) else seen_of old) (sym memory);
+    }
+fails_shown refusal grows e old new plain false memory fails = record {
+  when_stopped = refused_by old.stopped (refusal old.net) e plain fails.0;
+  shown = ap seen_of fails.1 ∙ ap (λ (b : Bool). if b then halted (seen_of old) else seen_of old) (sym memory);
+}
+
+fails_working : (refusal : Option CarrierFault) (grows : Bool) (e : CarrierFault) (old new : Kept) → (b : Bool) → Fails refusal grows b e old new → IsWorking old → IsWorking new
+fails_working refusal grows e old new true fails is =
+    let h : HasHalted old new = fails.1.1 in
+    record {
+      run = subst (λ (hs : List Host). IsRun hs new.net.log) (sym h.hosts) (subst (λ (log : List Crossing). IsRun old.net.hosts log) (sym h.log) is.run);
+      ordered = subst InOrder (sym h.hosts) is.ordered;
+      whole = λ goes. (let no : true ≡ false = sym h.stopped ∙ goes in absurd (cc));
+    }
+fails_working refusal grows e old new false fails is = subst IsWorking (sym fails.1) is
+
+-- ---- calls that succeed
+
+goes_on : (old : Kept) (refusal : Net → Option CarrierFault) → refusal_of old refusal ≡ None → (old.stopped ≡ false) × (refusal old.net ≡ None)
+goes_on old refusal is = guard old.stopped fault.Stopped (refusal old.net) is
+
+whole_working : (old : Kept) (n : Net) → SameNetwork old.net n → IsWhole n → IsWorking old → IsWorking (running n)
+whole_working old n same whole is = record {
+  run = sound_run n.hosts n.log (view n) (Alive n) whole.sound.flows;
+  ordered = subst InOrder (sym same.hosts) is.ordered;
+  whole = λ goes. whole;
+}
+
+still_listed : (n m : Net) → SameNetwork n m → IsListed n → IsListed m
+still_listed n m same listed = same.hosts ∙ listed ∙ ap (hosts_from 0) (sym same.sites)
+
+crossed : (old new : Kept) (n : Net) (entries : List Crossing) → old.stopped ≡ false → new ≡ running n → SameNetwork old.net n → n.log ≡ entries ++ old.net.log → ShowsCrossings (seen_of old) entries (seen_of new)
+crossed old new n entries goes is same log = record {
+  running = goes;
+  shown = ap seen_of is ∙ same_seen n.hosts old.net.hosts n.log (entries ++ old.net.log) false old.stopped same.hosts log (sym goes);
+}
+
+-- ---- the opening
+
+pub opening_working : (sites : List (Option ℕ)) (ends : List Ends) → length sites ≤ 17 → IsWorking (running (opening (hosts_from 0 sites) sites ends))
+opening_working sites ends few = record {
+  run = tt;
+  ordered = hosts_ordered sites;
+  whole = λ goes. record { listed = refl; sound = opening_sound (hosts_from 0 sites) sites ends (hosts_fit sites); routed = opening_routed (hosts_from 0 sites) sites ends few };
+}
+
+-- ---- the calls
+
+pub offer_working : (old : Kept) (m : HostMessage) (r : Result (Unit {0}) CarrierFault) (new : Kept) → IsHostMessage m → SubnetOffer old m r new → IsWorking old → IsWorking new
+offer_working old m (Ok done) new message went is =
+    let goes : (old.stopped ≡ false) × (offer_refusal old.net m ≡ None) = goes_on old (λ n. offer_refusal n m) went.0 in
+    let whole : IsWhole old.net = is.whole goes.0 in
+    subst IsWorking (sym went.1) (whole_working old (offer_out old.net m) (offer_same old.net m) (record {
+      listed = still_listed old.net (offer_out old.net m) (offer_same old.net m) whole.listed;
+      sound = offer_sound old.net m (can_go old.net m whole.routed whole.sound message) goes.1 whole.sound;
+      routed = offer_routed old.net m whole.routed;
+    }) is)
+offer_working old m (Err e) new message went is = fails_working _ true e old new (is_memory e) went is
+
+pub offer_shown : (old : Kept) (m : HostMessage) (r : Result (Unit {0}) CarrierFault) (new : Kept) → SubnetOffer old m r new → ShowsOffer (seen_of old) m r (seen_of new)
+offer_shown old m (Ok done) new went = crossed old new (offer_out old.net m) (crossing.Out m ∷ []) (goes_on old (λ n. offer_refusal n m) went.0).0 went.1 (offer_same old.net m) (offer_log old.net m)
+offer_shown old m (Err e) new went = fails_shown (λ n. offer_refusal n m) true e old new (offer_plain m old.net) (is_memory e) refl went
+
+pub take_working : (old : Kept) (h : Host) (r : Result (Option Inbound) CarrierFault) (new : Kept) → SubnetTake old h r new → IsWorking old → IsWorking new
+take_working old h (Ok given) new went is =
+    let goes : (old.stopped ≡ false) × (take_refusal old.net h ≡ None) = goes_on old (λ n. take_refusal n h) went.0 in
+    let whole : IsWhole old.net = is.whole goes.0 in
+    subst IsWorking (sym went.1.1) (whole_working old (take_in old.net h) (take_same old.net h) (record {
+      listed = still_listed old.net (take_in old.net h) (take_same old.net h) whole.listed;
+      sound = take_sound old.net h goes.1 whole.sound;
+      routed = take_routed old.net h whole.routed;
+    }) is)
+take_working old h (Err e) new went is = fails_working _ (take_grows old.net h) e old new (is_memory e) went is
+
+pub take_shown : (old : Kept) (h : Host) (r : Result (Option Inbound) CarrierFault) (new : Kept) → IsWorking old → SubnetTake old h r new → ShowsTake (seen_of old) h r (seen_of new)
+take_shown old h (Ok None) new is went =
+    let log : (take_in old.net h).log ≡ old.net.log = take_log old.net h ∙ ap (λ (o : Option Inbound). crossings_of o ++ old.net.log) (sym went.1.0) in
+    crossed old new (take_in old.net h) [] (goes_on old (λ n. take_refusal n h) went.0).0 went.1.1 (take_same old.net h) log
+take_shown old h (Ok (Some i)) new is went =
+    let goes : (old.stopped ≡ false) × (take_refusal old.net h ≡ None) = goes_on old (λ n. take_refusal n h) went.0 in
+    let log : (take_in old.net h).log ≡ crossing_of i ∷ old.net.log = take_log old.net h ∙ ap (λ (o : Option Inbound). crossings_of o ++ old.net.log) (sym went.1.0) in
+    (crossed old new (take_in old.net h) (crossing_of i ∷ []) goes.0 went.1.1 (take_same old.net h) log, take_for old.net h i (is.whole goes.0).sound (sym went.1.0))
+take_shown old h (Err e) new is went = fails_shown (λ n. take_refusal n h) (take_grows old.net h) e old new (take_plain h old.net) (is_memory e) refl went
+
+pub step_working : (old : Kept) (e : NetEvent) (r : Result (Unit {0}) CarrierFault) (new : Kept) → SubnetStep old e r new → IsWorking old → IsWorking new
+step_working old e (Ok done) new went is =
+    let goes : (old.stopped ≡ false) × (step_refusal old.net e ≡ None) = goes_on old (λ n. step_refusal n e) went.0 in
+    let whole : IsWhole old.net = is.whole goes.0 in
+    subst IsWorking (sym went.1) (whole_working old (stepped old.net e) (step_same old.net e) (record {
+      listed = still_listed old.net (stepped old.net e) (step_same old.net e) whole.listed;
+      sound = step_sound old.net e goes.1 whole.sound;
+      routed = step_routed old.net e whole.routed;
+    }) is)
+step_working old e (Err f) new went is = fails_working _ (step_grows old.net e) f old new (is_memory f) went is
+
+-- what an event shows doesn't ask whether the carrier has stopped
+same_crossings : (hosts : List Host) (log : List Crossing) (s : Bool) (e : NetEvent)
+    → (let a : Seen = record { hosts = hosts; log = log; stopped = s } in let b : Seen = record { hosts = hosts; log = log; stopped = false } in step_crossings b e ≡ step_crossings a e)
+same_crossings hosts log s (event.Deliver l d k) = refl
+same_crossings hosts log s (event.Drop l d k) = refl
+same_crossings hosts log s (event.Resend i) = refl
+same_crossings hosts log s (event.Route i) = refl
+same_crossings hosts log s (event.EndDown i l) = refl
+same_crossings hosts log s (event.EndUp i l) = refl
+same_crossings hosts log s (event.ImpDown i) = refl
+same_crossings hosts log s (event.ImpUp i) = refl
+same_crossings hosts log s (event.HostDown h) = refl
+same_crossings hosts log s (event.HostUp h) = refl
+same_crossings hosts log s (event.GiveUp f) = refl
+same_crossings hosts log s (event.Forget at from) = refl
+same_crossings hosts log s (event.Abandon f) = refl
+
+pub step_shown : (old : Kept) (e : NetEvent) (r : Result (Unit {0}) CarrierFault) (new : Kept) → IsWorking old → SubnetStep old e r new → ShowsStep (seen_of old) e r (seen_of new)
+step_shown old e (Ok done) new is went =
+    let goes : (old.stopped ≡ false) × (step_refusal old.net e ≡ None) = goes_on old (λ n. step_refusal n e) went.0 in
+    let whole : IsWhole old.net = is.whole goes.0 in
+    let log : (stepped old.net e).log ≡ step_crossings (seen_of old) e ++ old.net.log =
+    step_log old.net e goes.1 whole.listed whole.sound ∙ ap (λ (cs : List Crossing). cs ++ old.net.log) (same_crossings old.net.hosts old.net.log old.stopped e) in
+    crossed old new (stepped old.net e) (step_crossings (seen_of old) e) goes.0 went.1 (step_same old.net e) log
+step_shown old e (Err f) new is went = fails_shown (λ n. step_refusal n e) (step_grows old.net e) f old new (step_plain e old.net) (is_memory f) refl went
+
+pub round_working : (old : Kept) (r : Result (Unit {0}) CarrierFault) (new : Kept) → SubnetRound old r new → IsWorking old → IsWorking new
+round_working old (Ok done) new went is =
+    let goes : (old.stopped ≡ false) × (let none : Option CarrierFault = None in none ≡ None) = goes_on old (λ n. None) went.0 in
+    let whole : IsWhole old.net = is.whole goes.0 in
+    subst IsWorking (sym went.1) (whole_working old (quiet_round old.net) (round_same old.net) (record {
+      listed = still_listed old.net (quiet_round old.net) (round_same old.net) whole.listed;
+      sound = quiet_round_sound old.net whole.sound;
+      routed = round_routed old.net whole.routed;
+    }) is)
+round_working old (Err e) new went is = fails_working _ true e old new (is_memory e) went is
+
+pub round_shown : (old : Kept) (r : Result (Unit {0}) CarrierFault) (new : Kept) → SubnetRound old r new → ShowsRound (seen_of old) r (seen_of new)
+round_shown old (Ok done) new went = crossed old new (quiet_round old.net) [] (goes_on old (λ n. None) went.0).0 went.1 (round_same old.net) (round_log old.net)
+round_shown old (Err e) new went = fails_shown (λ n. None) true e old new tt (is_memory e) refl went
