@@ -1,6 +1,6 @@
 -- A subnet as a carrier: what each call keeps, and what it shows.
 use Rattle.std.proofs.Common.{◌≡◌, ℕ, ◌≤◌, length, Bool, true, false, not, List, [], ◌∷◌, ◌++◌, Option, Some, None, Result, Ok, Err, is_some, is_none, refl, ap, sym, subst, ◌∙◌, if◌then◌else◌, ◌&&◌, ◌==◌}
-use Rattle.std.specs.Prelude.{OnErr}
+use Rattle.std.specs.Prelude.{nat_lt}
 use Rattle.leader1822.specs.Calls.{Seen, InOrder, IsFor, grown, halted, is_memory, is_halt, step_crossings, crossing_of, ShowsRefusal, ShowsCrossings, ShowsOffer, ShowsTake, ShowsStep, ShowsRound}
 use Rattle.leader1822.specs.Host.{Host, is_host}
 use Rattle.leader1822.specs.Mailboxes.{IsRun}
@@ -10,20 +10,25 @@ use Rattle.leader1822.specs.declared.carrier.CarrierFault.TheVariants as fault
 use Rattle.leader1822.specs.declared.crossing.Crossing.{Crossing}
 use Rattle.leader1822.specs.declared.crossing.Crossing.TheVariants as crossing
 use Rattle.leader1822.specs.declared.crossing.Inbound.{Inbound}
+use Rattle.leader1822.specs.declared.event.Direction.{Direction}
 use Rattle.leader1822.specs.declared.event.NetEvent.{NetEvent}
 use Rattle.leader1822.specs.declared.event.NetEvent.TheVariants as event
 use Rattle.leader1822.specs.declared.message.HostMessage.{HostMessage}
 use Rattle.leader1822.proofs.Lists.{guard}
 use Rattle.flow_law.proofs.FollowLemmas.{sound_run}
+use Rattle.link_table.specs.Flows.{has_outstanding}
+use Rattle.packetiser.specs.Slots.{slot_of}
 use Rattle.imp_node.specs.State.{State, number, host_at, is_there, is_up, port_at}
 use Rattle.imp_node.specs.Flows.{is_idle}
 use Rattle.imp_node.specs.Offering.{is_own, way_of, way_has_room, from_host_refusal}
 use Rattle.imp_node.specs.Taking.{host_refusal, taking_has_room, to_host_refusal}
+use Rattle.imp_node.specs.Queries.{outstanding}
 use Rattle.imp_node.specs.Lines.{end_down_refusal, end_up_refusal}
-use Rattle.imp_node.specs.Stopping.{give_up_refusal, abandon_refusal, host_down_refusal, host_up_refusal}
-use Rattle.subnet.specs.Net.{Net, imp_at}
+use Rattle.imp_node.specs.Stopping.{own_host, give_up_refusal, abandon_refusal, host_down_refusal, host_up_refusal}
+use Rattle.subnet.specs.Net.{Net, imp_at, wire_at, port_of, frames_on}
+use Rattle.subnet.specs.Alive.{has_data, has_flow, is_remembered}
 use Rattle.subnet.specs.Calls.{Kept, running, refusal_of, HasHalted, Fails, Decided, take_grows, step_grows}
-use Rattle.subnet.specs.Events.{at_up, first_of, accepted, is_imp, offer_refusal, offer_out, take_refusal, taken, crossings_of, take_in, frame_refusal, imp_refusal, at_end_refusal, at_host_refusal, starting_refusal, abandoning_refusal, giving_up_refusal, forgetting_refusal, step_refusal, stepped, quiet_round}
+use Rattle.subnet.specs.Events.{at_up, first_of, accepted, is_imp, has_end, give_up_alive, outstanding_at, offer_refusal, offer_out, take_refusal, taken, crossings_of, take_in, frame_refusal, imp_refusal, at_end_refusal, at_host_refusal, starting_refusal, abandoning_refusal, giving_up_refusal, forgetting_refusal, step_refusal, stepped, quiet_round}
 use Rattle.subnet.specs.Flows.{Alive, view}
 use Rattle.subnet.specs.Opening.{Ends, hosts_from, opening}
 use Rattle.subnet.specs.Routed.{IsHostMessage}
@@ -90,24 +95,70 @@ at_host_plain n h refusal plain = first_plain (not (is_host n.hosts h)) fault.No
 
 abandoning_plain : (o : Option State) (f : Flow) → Plain (abandoning_refusal o f)
 abandoning_plain None f = refl
-abandoning_plain (Some s) f = last_plain _ fault.NoSuch refl
+abandoning_plain (Some s) f = last_plain (is_some (slot_of s.slots f)) fault.NoSuch refl
+
+end_down_plain : (s : State) (k : ℕ) → Plain (end_down_refusal s k)
+end_down_plain s k = end_plain (nat_lt k (length s.ports)) (if (port_at s.ports k).up then None else Some fault.IsDown) (last_plain (port_at s.ports k).up fault.IsDown refl)
+
+end_up_plain : (s : State) (k : ℕ) → Plain (end_up_refusal s k)
+end_up_plain s k = end_plain (nat_lt k (length s.ports)) (if (port_at s.ports k).up then Some fault.IsUp else None) (first_plain (port_at s.ports k).up fault.IsUp None refl tt)
+
+at_end_plain : (n : Net) (i l : ℕ) (refusal : State → ℕ → Option CarrierFault) → ((s : State) (k : ℕ) → Plain (refusal s k)) → Plain (at_end_refusal n i l refusal)
+at_end_plain n i l refusal plain =
+    first_plain (not (has_end n i l)) fault.NoSuch (at_up (imp_at n.imps i) (λ s. refusal s (port_of n.lines i l))) refl
+    (up_plain (imp_at n.imps i) (λ s. refusal s (port_of n.lines i l)) (λ s. plain s (port_of n.lines i l)))
+
+host_up_plain : (h : ℕ) (s : State) → Plain (host_up_refusal s h)
+host_up_plain h s =
+    let settled : Bool = has_outstanding (own_host s h) s.sources in
+    first_plain (not (is_there s h)) fault.NoSuch (if is_up s h then Some fault.IsUp else (if settled then Some fault.Unsettled else None)) refl
+    (first_plain (is_up s h) fault.IsUp (if settled then Some fault.Unsettled else None) refl (first_plain settled fault.Unsettled None refl tt))
+
+starting_plain : (n : Net) (i : ℕ) → Plain (starting_refusal n i)
+starting_plain n i =
+    let last : Option CarrierFault = if is_some (imp_at n.imps i) then Some fault.IsUp else None in
+    let third : Option CarrierFault = first_of (is_remembered n i) fault.StillAlive last in
+    let second : Option CarrierFault = first_of (has_flow n i) fault.StillAlive third in
+    first_plain (not (is_imp n i)) fault.NoSuch second refl
+    (first_plain (has_flow n i) fault.StillAlive third refl
+    (first_plain (is_remembered n i) fault.StillAlive last refl (first_plain (is_some (imp_at n.imps i)) fault.IsUp None refl tt)))
+
+give_up_plain : (f : Flow) (s : State) → Plain (give_up_refusal s f)
+give_up_plain f s =
+    let last : Option CarrierFault = if is_none (outstanding s f) then Some fault.NotOutstanding else None in
+    first_plain (not (is_own s f.source)) fault.NoSuch last refl (first_plain (is_none (outstanding s f)) fault.NotOutstanding None refl tt)
+
+giving_up_plain : (n : Net) (f : Flow) → Plain (giving_up_refusal n f)
+giving_up_plain n f =
+    let last : Option CarrierFault = at_up (imp_at n.imps f.source.imp) (λ s. give_up_refusal s f) in
+    let alive : Bool = give_up_alive n f (outstanding_at (imp_at n.imps f.source.imp) f) in
+    first_plain (not (is_host n.hosts f.source)) fault.NoSuch (first_of alive fault.StillAlive last) refl
+    (first_plain alive fault.StillAlive last refl (up_plain (imp_at n.imps f.source.imp) (λ s. give_up_refusal s f) (give_up_plain f)))
+
+forgetting_plain : (n : Net) (at from : ℕ) → Plain (forgetting_refusal n at from)
+forgetting_plain n at from =
+    let last : Option CarrierFault = at_up (imp_at n.imps at) accepted in
+    let third : Option CarrierFault = first_of (has_data n from at) fault.StillAlive last in
+    first_plain (not (is_imp n at && is_imp n from)) fault.NoSuch (first_of (at == from) fault.NoSuch third) refl
+    (first_plain (at == from) fault.NoSuch third refl
+    (first_plain (has_data n from at) fault.StillAlive last refl (up_plain (imp_at n.imps at) accepted (λ s. tt))))
+
+frame_plain : (n : Net) (l : ℕ) (d : Direction) (k : ℕ) → Plain (frame_refusal n l d k)
+frame_plain n l d k = last_plain (nat_lt l (length n.lines) && nat_lt k (length (frames_on d (wire_at n.lines l)))) fault.NoSuch refl
 
 step_plain : (e : NetEvent) (n : Net) → Plain (step_refusal n e)
-step_plain (event.Deliver l d k) n = last_plain _ fault.NoSuch refl
-step_plain (event.Drop l d k) n = last_plain _ fault.NoSuch refl
+step_plain (event.Deliver l d k) n = frame_plain n l d k
+step_plain (event.Drop l d k) n = frame_plain n l d k
 step_plain (event.Resend i) n = imp_plain n i
 step_plain (event.Route i) n = imp_plain n i
-step_plain (event.EndDown i l) n = first_plain _ fault.NoSuch _ refl (up_plain (imp_at n.imps i) _ (λ s. end_plain _ _ (last_plain _ fault.IsDown refl)))
-step_plain (event.EndUp i l) n = first_plain _ fault.NoSuch _ refl (up_plain (imp_at n.imps i) _ (λ s. end_plain _ _ (first_plain _ fault.IsUp None refl tt)))
+step_plain (event.EndDown i l) n = at_end_plain n i l end_down_refusal end_down_plain
+step_plain (event.EndUp i l) n = at_end_plain n i l end_up_refusal end_up_plain
 step_plain (event.ImpDown i) n = imp_plain n i
-step_plain (event.ImpUp i) n = first_plain _ fault.NoSuch _ refl (first_plain _ fault.StillAlive _ refl (first_plain _ fault.StillAlive _ refl (first_plain (is_some (imp_at n.imps i)) fault.IsUp None refl tt)))
+step_plain (event.ImpUp i) n = starting_plain n i
 step_plain (event.HostDown h) n = at_host_plain n h host_down_refusal (λ s. host_plain s h.host None tt)
-step_plain (event.HostUp h) n = at_host_plain n h host_up_refusal (λ s. first_plain _ fault.NoSuch _ refl (first_plain _ fault.IsUp _ refl (first_plain _ fault.Unsettled None refl tt)))
-step_plain (event.GiveUp f) n =
-    first_plain _ fault.NoSuch _ refl (first_plain _ fault.StillAlive _ refl
-    (up_plain (imp_at n.imps f.source.imp) _ (λ s. first_plain _ fault.NoSuch _ refl (first_plain _ fault.NotOutstanding None refl tt))))
-step_plain (event.Forget at from) n =
-    first_plain _ fault.NoSuch _ refl (first_plain (at == from) fault.NoSuch _ refl (first_plain _ fault.StillAlive _ refl (up_plain (imp_at n.imps at) accepted (λ s. tt))))
+step_plain (event.HostUp h) n = at_host_plain n h host_up_refusal (host_up_plain h.host)
+step_plain (event.GiveUp f) n = giving_up_plain n f
+step_plain (event.Forget at from) n = forgetting_plain n at from
 step_plain (event.Abandon f) n = abandoning_plain (imp_at n.imps f.destination.imp) f
 
 -- ---- calls that fail
@@ -137,7 +188,7 @@ fails_shown : (refusal : Net → Option CarrierFault) (grows : Bool) (e : Carrie
     → ShowsRefusal (seen_of old) e (seen_of new)
 fails_shown refusal grows e old new plain true memory fails =
     let goes : (old.stopped ≡ false) × (refusal old.net ≡ None) = guard old.stopped fault.Stopped (refusal old.net) fails.0 in
-    let h : HasHalted old new = fails.1.1 in
+    let h : HasHalted old new = fails.2 in
     record {
       when_stopped = goes.0 ∙ sym (memory_goes_on e memory);
       shown = same_seen new.net.hosts old.net.hosts new.net.log old.net.log new.stopped true h.hosts h.log h.stopped ∙ ap (λ (b : Bool). if b then halted (seen_of old) else seen_of old) (sym memory);
@@ -149,7 +200,7 @@ fails_shown refusal grows e old new plain false memory fails = record {
 
 fails_working : (refusal : Option CarrierFault) (grows : Bool) (e : CarrierFault) (old new : Kept) → (b : Bool) → Fails refusal grows b e old new → IsWorking old → IsWorking new
 fails_working refusal grows e old new true fails is =
-    let h : HasHalted old new = fails.1.1 in
+    let h : HasHalted old new = fails.2 in
     record {
       run = subst (λ (hs : List Host). IsRun hs new.net.log) (sym h.hosts) (subst (λ (log : List Crossing). IsRun old.net.hosts log) (sym h.log) is.run);
       ordered = subst InOrder (sym h.hosts) is.ordered;
