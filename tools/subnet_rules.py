@@ -1,0 +1,233 @@
+"""The subnet: its rules, read a second time.
+
+It was written from docs/subnet.md over the second reading of one IMP, in another language and another form than the
+definitions. `check-model` compares the program with it. Each event prints what crosses, or why it is refused.
+"""
+
+from imp_rules import DATA, Imp, Refused, spell_flow, spell_host
+
+PLACES = 256  # frames that are live on a line, each way
+TAKES = 16  # takings of a host in a round of `calm`
+
+
+class Subnet:
+    """IMPs by number, and lines with the frames that are live each way, the oldest first."""
+
+    def __init__(self, imps, lines):
+        self.sites = dict(sorted(imps))
+        self.ends = lines
+        self.imps = {number: self.imp_of(number) for number in self.sites}
+        self.live = [{"+": [], "-": []} for _ in lines]
+        self.printed = []
+
+    def imp_of(self, number):
+        return Imp(number, self.sites[number], sum(number in ends for ends in self.ends))
+
+    # ---- lines
+
+    def port_of(self, number, line):
+        """An IMP's ports are its lines in their order."""
+        return sum(number in ends for ends in self.ends[:line])
+
+    def lines_of(self, number):
+        return [line for line, ends in enumerate(self.ends) if number in ends]
+
+    def call(self, number, call):
+        """Lets an IMP make a call and pump, and puts its frames on its lines."""
+        imp = self.imps[number]
+        imp.frames = []
+        given = call(imp)
+        imp.pump()
+        lines = self.lines_of(number)
+        for port, acknowledged, content in imp.frames:
+            way = self.live[lines[port]]["+" if self.ends[lines[port]][0] == number else "-"]
+            if len(way) < PLACES:
+                way.append((acknowledged, content))
+        return given
+
+    # ---- what is alive
+
+    def alive(self):
+        """Flow, number and whether it is data, of all that IMPs hold and live frames carry."""
+        held = [entry for imp in self.imps.values() if imp is not None for entry in imp.everything()]
+        frames = [content for ways in self.live for way in ways.values() for _, content in way]
+        packets = [content[3] for content in frames if content is not None and content[0] == "packet"]
+        return held + [(packet[1], packet[2], packet[0] == DATA) for packet in packets]
+
+    def is_alive(self, flow, number):
+        return any(entry[:2] == (flow, number) for entry in self.alive())
+
+    # ---- what is there
+
+    def up(self, number):
+        """An IMP, which has to be up."""
+        imp = self.imps[number]
+        if imp is None:
+            raise Refused("IsDown")
+        return imp
+
+    def site(self, number):
+        if number not in self.sites:
+            raise Refused("NoSuch")
+
+    def host(self, host):
+        number, imp = host
+        if number >= self.sites.get(imp, 0):
+            raise Refused("NoSuch")
+
+    def end(self, imp, line):
+        self.site(imp)
+        if line >= len(self.ends) or imp not in self.ends[line]:
+            raise Refused("NoSuch")
+
+    def way(self, line, direction):
+        return self.live[line][direction] if line < len(self.live) else []
+
+    # ---- events
+
+    def happen(self, kind, *parts):
+        """Lets an event happen, and prints what crosses or why it is refused."""
+        try:
+            getattr(self, kind)(*parts)
+        except Refused as refused:
+            self.printed.append(f"refused {refused}")
+
+    def out(self, flow, text):
+        source = flow[0]
+        self.host(source)
+        imp = self.imps[source[1]]
+        if imp is not None and imp.begins(flow) and flow in imp.last:
+            if self.is_alive(flow, (imp.last[flow] - 127) % 256):
+                raise Refused("StillAlive")
+        self.up(source[1])
+        self.call(source[1], lambda imp: imp.from_host(flow, text))
+        self.printed.append(f"out {spell_flow(flow)} {len(text)}")
+
+    def take(self, host):
+        """Whether something was there."""
+        self.host(host)
+        self.up(host[1])
+        given = self.call(host[1], lambda imp: imp.to_host(host[0]))
+        if given is None:
+            return False
+        if given[0] == "message":
+            self.printed.append(f"in {spell_flow(given[1])} {len(given[2])}")
+        else:
+            self.printed.append(f"answer {given[0]} {spell_flow(given[1])}")
+        return True
+
+    def deliver(self, line, direction, place):
+        way = self.way(line, direction)
+        if place >= len(way):
+            raise Refused("NoSuch")
+        far = self.ends[line]["+-".index(direction) ^ 1]
+        if self.imps[far] is not None:
+            port = self.port_of(far, line)
+            self.call(far, lambda imp: imp.from_line(port, *way[place]))
+
+    def drop(self, line, direction, place):
+        way = self.way(line, direction)
+        if place >= len(way):
+            raise Refused("NoSuch")
+        del way[place]
+
+    def resend(self, number):
+        self.site(number)
+        self.up(number)
+        self.call(number, Imp.resend)
+
+    def route(self, number):
+        self.site(number)
+        self.up(number)
+        self.call(number, Imp.tell_routes)
+
+    def enddown(self, number, line):
+        self.end(number, line)
+        self.up(number)
+        self.call(number, lambda imp: imp.end_down(self.port_of(number, line)))
+
+    def endup(self, number, line):
+        self.end(number, line)
+        self.up(number)
+        self.call(number, lambda imp: imp.end_up(self.port_of(number, line)))
+
+    def impdown(self, number):
+        self.site(number)
+        for place, host in enumerate(self.up(number).hosts):
+            if host.is_up:
+                self.printed.append(f"down {spell_host((place, number))}")
+        self.imps[number] = None
+
+    def impup(self, number):
+        self.site(number)
+        others = [imp for other, imp in self.imps.items() if imp is not None and other != number]
+        kept = any(flow[0][1] == number for imp in others for flow in imp.kept)
+        if kept or any(number in (flow[0][1], flow[1][1]) for flow, _, _ in self.alive()):
+            raise Refused("StillAlive")
+        if self.imps[number] is not None:
+            raise Refused("IsUp")
+        self.imps[number] = self.imp_of(number)
+        for host in self.imps[number].hosts:
+            host.is_up = False
+
+    def hostdown(self, host):
+        self.host(host)
+        self.up(host[1])
+        self.call(host[1], lambda imp: imp.host_down(host[0]))
+        self.printed.append(f"down {spell_host(host)}")
+
+    def hostup(self, host):
+        self.host(host)
+        self.up(host[1])
+        self.call(host[1], lambda imp: imp.host_up(host[0]))
+        self.printed.append(f"up {spell_host(host)}")
+
+    def giveup(self, flow):
+        source = flow[0]
+        self.host(source)
+        imp = self.imps[source[1]]
+        if imp is not None and flow in imp.outstanding and self.is_alive(flow, imp.outstanding[flow]):
+            raise Refused("StillAlive")
+        self.up(source[1])
+        self.call(source[1], lambda imp: imp.give_up(flow))
+
+    def forget(self, at, other):
+        self.site(at)
+        self.site(other)
+        if at == other:
+            raise Refused("NoSuch")
+        if any(is_data and (flow[0][1], flow[1][1]) == (other, at) for flow, _, is_data in self.alive()):
+            raise Refused("StillAlive")
+        self.up(at)
+        self.call(at, lambda imp: imp.forget(other))
+
+    def abandon(self, flow):
+        if self.imps.get(flow[1][1]) is None:
+            raise Refused("NoSuch")
+        self.call(flow[1][1], lambda imp: imp.abandon(flow))
+
+    # ---- rounds
+
+    def quiet_round(self):
+        for number, imp in self.imps.items():
+            if imp is not None:
+                self.call(number, Imp.tell_routes)
+                self.call(number, Imp.resend)
+        for line in range(len(self.ends)):
+            for direction in "+-":
+                for _ in range(len(self.live[line][direction])):
+                    self.deliver(line, direction, 0)
+                    self.drop(line, direction, 0)
+
+    def calm(self, rounds):
+        """Rounds, in each of which every host that is up then takes what waits. Refusals are not printed."""
+        for _ in range(rounds):
+            self.quiet_round()
+            for number, imp in self.imps.items():
+                for place, host in enumerate(imp.hosts if imp is not None else []):
+                    for _ in range(TAKES if host.is_up else 0):
+                        try:
+                            if not self.take((place, number)):
+                                break
+                        except Refused:
+                            break
