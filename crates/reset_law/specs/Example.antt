@@ -37,3 +37,15 @@ reset_beside = In two one 0 Reset ∷ Out two one 0 Reset ∷ Contact two one �
 -- host `one` contacts anew while its message waits
 abbrev pub left : List Event
 left = Contact one two ∷ message
+
+-- the same, with a message on a connection's link
+abbrev pub reset_beside_data : List Event
+reset_beside_data = In two one 0 Reset ∷ Out two one 0 Reset ∷ Contact two one ∷ Out one two 2 (Other (true ∷ [])) ∷ reset
+
+-- host `two` takes the first RST, and owes an RRP
+abbrev pub owing_reply : List Event
+owing_reply = In one two 0 Reset ∷ Out one two 0 Reset ∷ Contact one two ∷ []
+
+-- it asks for a reset itself, while host `one` awaits its RRP
+abbrev pub asked_back : List Event
+asked_back = In two one 0 Reset ∷ Out two one 0 Reset ∷ Contact two one ∷ Told one two 0 answer.Rfnm ∷ owing_reply

@@ -4,12 +4,12 @@ ghost use Rattle.std.specs.Prelude.{◌≡◌, ◌≢◌, ℕ, Bool, true, false
 ghost use Rattle.leader1822.specs.Host.{Host};
 ghost use Rattle.leader1822.specs.declared.crossing.Answer.TheVariants as answer;
 ghost use Rattle.reset_law.specs.Boxes.{boxes, Empty, Waiting};
-ghost use Rattle.reset_law.specs.Events.{Event, Contact, Out, In, Told, Down, Up, Idle, Reset, Other, place, is_up};
-ghost use Rattle.reset_law.specs.Example.{one, two, reset, message, early_reply, both_ask, crossing, reset_beside, left};
+ghost use Rattle.reset_law.specs.Events.{Event, Contact, Out, In, Told, Down, Up, Idle, Reset, Reply, Other, place, is_up};
+ghost use Rattle.reset_law.specs.Example.{one, two, reset, message, early_reply, both_ask, crossing, reset_beside, reset_beside_data, owing_reply, asked_back, left};
 ghost use Rattle.reset_law.specs.Invariant.{kind_in, is_signal, Sound};
 ghost use Rattle.reset_law.specs.Monitor.{monitor};
-ghost use Rattle.reset_law.specs.Pairs.{pair, opening_pair};
-ghost use Rattle.reset_law.specs.Phases.{Closed, Want, Gone, Ready};
+ghost use Rattle.reset_law.specs.Pairs.{pair, opening_pair, MaySend};
+ghost use Rattle.reset_law.specs.Phases.{Closed, Want, Gone, Heard, Ready};
 ghost use Rattle.reset_law.specs.Runs.{IsRun, WaitsAfterClean};
 ghost use Rattle.reset_law.specs.Stays.{ready, joint, begins, stays, said, heard, waits_in, IsFront};
 
@@ -61,6 +61,12 @@ pub fn worked_resets()
     // an RRP before the RFNM of the own RST may belong to an older reset: after the RFNM another RST has to go out, and the RRP was no clean point
     ensures early { ((pair one two early_reply).phase ≡ Gone true) × ((pair one two (Told one two 0 answer.Rfnm ∷ early_reply)).phase ≡ Want) × ((monitor one two (Told one two 0 answer.Rfnm ∷ early_reply)).clean ≡ None) }
 
+    // nor is one that comes after that RFNM, and before the other RST
+    ensures late { (monitor one two (In two one 0 Reply ∷ Out two one 0 Reply ∷ Told one two 0 answer.Rfnm ∷ early_reply)).clean ≡ None }
+
+    // an RST doesn't end a contact that awaits its RRP
+    ensures awaited { ((pair one two asked_back).phase ≡ Heard) × ((monitor one two asked_back).clean ≡ None) }
+
     // RSTs that cross leave both contacts waiting, and are no clean points
     ensures crossed { ((pair one two both_ask).phase ≡ Gone false) × ((pair two one both_ask).phase ≡ Gone false) × ((monitor one two both_ask).clean ≡ None) × ((monitor two one both_ask).clean ≡ None) }
 
@@ -72,6 +78,16 @@ pub fn worked_resets()
 
     // contacts are no crossings, and a host's own wishes aren't either
     ensures places { (place reset ≡ 5) × (place (Idle ∷ Contact two one ∷ reset) ≡ 5) }
+{}
+
+/// What has to wait.
+pub fn worked_sending()
+    // an RRP, while a message is outstanding on any link
+    ensures reply_waits { MaySend (pair one two reset_beside_data) 0 Reply → ⊥ }
+
+    // any other message, while an RRP is owed
+    ensures message_waits { MaySend (pair two one owing_reply) 0 (Other (true ∷ [])) → ⊥ }
+    ensures reply_goes { MaySend (pair two one owing_reply) 0 Reply }
 {}
 
 /// Messages that fail, and hosts that stop.
