@@ -3,7 +3,7 @@
 ghost use Rattle.std.specs.Prelude.{◌≡◌, ◌≢◌, ℕ, Bool, true, false, List, [], ◌∷◌, ◌++◌, Some, None};
 ghost use Rattle.leader1822.specs.Host.{Host};
 ghost use Rattle.leader1822.specs.declared.crossing.Answer.TheVariants as answer;
-ghost use Rattle.reset_law.specs.Boxes.{boxes, Empty, Waiting};
+ghost use Rattle.reset_law.specs.Boxes.{boxes, Empty, Waiting, Taken};
 ghost use Rattle.reset_law.specs.Events.{Event, Contact, Out, In, Told, Down, Up, Idle, Reset, Reply, Other, place, is_up};
 ghost use Rattle.reset_law.specs.Example.{one, two, reset, message, early_reply, both_ask, crossing, reset_beside, reset_beside_data, owing_reply, asked_back, left};
 ghost use Rattle.reset_law.specs.Invariant.{kind_in, is_signal, Sound};
@@ -99,7 +99,8 @@ pub fn worked_failures()
     ensures message_fails { (pair one two (Told one two 0 answer.Incomplete ∷ message)).phase ≡ Closed }
     ensures owing { (pair one two (Told one two 0 answer.Incomplete ∷ reset_beside)).phase ≡ Ready }
 
-    // what a host had out is gone when it starts, and what waits for it stays
+    // what a host had out is gone when it starts, and not before; what waits for it stays
+    ensures stops { boxes one two (Down one ∷ message) 0 ≡ Waiting 5 (Other (true ∷ [])) }
     ensures starts { (boxes one two (Up one ∷ Down one ∷ message) 0 ≡ Empty) × (boxes one two (Up two ∷ Down two ∷ message) 0 ≡ Waiting 5 (Other (true ∷ []))) }
     ensures forgets { ((pair two one (Down two ∷ reset)).phase ≡ Closed) × ((monitor two one (Up two ∷ Down two ∷ reset)).clean ≡ None) }
     ensures down { (is_up (one ∷ two ∷ []) one (Down one ∷ reset) ≡ false) × (is_up (one ∷ two ∷ []) two (Down one ∷ reset) ≡ true) }
@@ -107,6 +108,9 @@ pub fn worked_failures()
 
 /// What two hosts say and hear.
 pub fn worked_stays()
+    // a message that was taken is outstanding until its answer comes
+    ensures taken { (boxes one two (In one two 0 (Other (true ∷ [])) ∷ message) 0 ≡ Taken 5 (Other (true ∷ []))) × (boxes one two (Told one two 0 answer.Rfnm ∷ In one two 0 (Other (true ∷ [])) ∷ message) 0 ≡ Empty) }
+
     // what was said waits, and is heard when it is taken; on another link nothing is
     ensures said { (said one two 0 message ≡ (true ∷ []) ∷ []) × (heard one two 0 message ≡ []) × (said one two 2 message ≡ []) }
     ensures heard { heard one two 0 (In one two 0 (Other (true ∷ [])) ∷ message) ≡ (true ∷ []) ∷ [] }
