@@ -5,6 +5,7 @@ pub mod Pairs
 pub mod Peers
 pub mod Control
 pub mod Commands
+pub mod Found
 pub mod Data
 pub mod Accepting
 pub mod Memory

@@ -13,9 +13,10 @@ use crate::Notice;
 use crate::desk::Desk;
 use crate::ends::{
     ask_on_link, ask_with_size, close, close_by_partner, free_link, give_back, grant, place,
-    queue_closings, receiver_place, sender_place, sweep, take_back, tell_endings,
+    queue_closings, sweep, take_back, tell_endings,
 };
 use crate::entry::Entry;
+use crate::found::{Found, receiver_on, sender_on};
 use crate::listener::{listener_on, stop_listening};
 use leader1822::HostAddr;
 use ncp_control::{ByteSize, Command, ConnectionLink, ReceiveSocket, SendSocket};
@@ -279,6 +280,13 @@ impl Desk {
 // ---- allocation and interrupts
 
 impl Desk {
+    /// The sender on a link may send more.
+    fn grant(&mut self, link: u8, messages: u16, bits: u32)
+        ensures { self.new ≡ commands.changed (sends_on link) (commands.granted messages bits) self.old }
+    {
+        grant(&mut self.entries, link, messages, bits);
+    }
+
     /// ALL is taken: the receiver grants more.
     fn take_all(
         &mut self,
@@ -295,18 +303,14 @@ impl Desk {
             messages,
             bits,
         };
-        let Some(at) = sender_place(&self.entries, link) else {
-            return self.fault(alloc, NOT_CONNECTED, &command);
-        };
-        let entry = &self.entries[at];
-        if !entry.is_open() {
-            if entry.is_ending() {
-                return Ok(());
+        match sender_on(&self.entries, link) {
+            Found::Open(_) => {
+                self.grant(link, messages, bits);
+                Ok(())
             }
-            return self.fault(alloc, NOT_CONNECTED, &command);
+            Found::Ending => Ok(()),
+            Found::Unconnected => self.fault(alloc, NOT_CONNECTED, &command),
         }
-        grant(&mut self.entries, link, messages, bits);
-        Ok(())
     }
 
     /// GVB is taken: the receiver asks for parts of the allocation back, and a RET returns them.
@@ -325,16 +329,11 @@ impl Desk {
             messages,
             bits,
         };
-        let Some(at) = sender_place(&self.entries, link) else {
-            return self.fault(alloc, NOT_CONNECTED, &command);
+        let at = match sender_on(&self.entries, link) {
+            Found::Open(at) => at,
+            Found::Ending => return Ok(()),
+            Found::Unconnected => return self.fault(alloc, NOT_CONNECTED, &command),
         };
-        let entry = &self.entries[at];
-        if !entry.is_open() {
-            if entry.is_ending() {
-                return Ok(());
-            }
-            return self.fault(alloc, NOT_CONNECTED, &command);
-        }
         let mut allocation = self.entries[at].allocation;
         let (given_messages, given_bits) = allocation.give_back(messages, bits);
         give_back(&mut self.entries, link, messages, bits);
@@ -361,16 +360,11 @@ impl Desk {
             messages,
             bits,
         };
-        let Some(at) = receiver_place(&self.entries, link) else {
-            return self.fault(alloc, NOT_CONNECTED, &command);
+        let at = match receiver_on(&self.entries, link) {
+            Found::Open(at) => at,
+            Found::Ending => return Ok(()),
+            Found::Unconnected => return self.fault(alloc, NOT_CONNECTED, &command),
         };
-        let entry = &self.entries[at];
-        if !entry.is_open() {
-            if entry.is_ending() {
-                return Ok(());
-            }
-            return self.fault(alloc, NOT_CONNECTED, &command);
-        }
         let allocation = self.entries[at].allocation;
         if messages > allocation.messages || bits > allocation.bits {
             return self.fault(alloc, ERRONEOUS, &command);
@@ -390,16 +384,11 @@ impl Desk {
         ensures memory { OnErr result (said self.old < said (commands.at_end (command.Inr link) commands.interrupted (commands.sender_on link self.old) self.old)) }
     {
         let command = Command::Inr { link };
-        let Some(at) = sender_place(&self.entries, link) else {
-            return self.fault(alloc, NOT_CONNECTED, &command);
+        let at = match sender_on(&self.entries, link) {
+            Found::Open(at) => at,
+            Found::Ending => return Ok(()),
+            Found::Unconnected => return self.fault(alloc, NOT_CONNECTED, &command),
         };
-        let entry = &self.entries[at];
-        if !entry.is_open() {
-            if entry.is_ending() {
-                return Ok(());
-            }
-            return self.fault(alloc, NOT_CONNECTED, &command);
-        }
         let socket = self.entries[at].own;
         self.tell(Notice::Interrupt { socket })
     }
@@ -410,16 +399,11 @@ impl Desk {
         ensures memory { OnErr result (said self.old < said (commands.at_end (command.Ins link) commands.interrupted (commands.receiver_on link self.old) self.old)) }
     {
         let command = Command::Ins { link };
-        let Some(at) = receiver_place(&self.entries, link) else {
-            return self.fault(alloc, NOT_CONNECTED, &command);
+        let at = match receiver_on(&self.entries, link) {
+            Found::Open(at) => at,
+            Found::Ending => return Ok(()),
+            Found::Unconnected => return self.fault(alloc, NOT_CONNECTED, &command),
         };
-        let entry = &self.entries[at];
-        if !entry.is_open() {
-            if entry.is_ending() {
-                return Ok(());
-            }
-            return self.fault(alloc, NOT_CONNECTED, &command);
-        }
         let socket = self.entries[at].own;
         self.tell(Notice::Interrupt { socket })
     }

@@ -11,8 +11,9 @@ ghost use Rattle.sockets.specs.declared.notice.Notice.TheVariants as notice;
 use crate::Notice;
 use crate::commands::{ERRONEOUS, NOT_CONNECTED};
 use crate::desk::Desk;
-use crate::ends::{receiver_place, spend};
+use crate::ends::spend;
 use crate::entry::Entry;
+use crate::found::{Found, receiver_on};
 use bit_messages::Bits;
 use ncp_control::{Command, DataHeader, HEADER_BITS};
 use std::alloc::{AllocError, Global};
@@ -47,16 +48,12 @@ impl Desk {
         ensures state { OnOk result (self.new ≡ texts.data_taken link text.now self.old) }
         ensures memory { OnErr result (said self.old < said (texts.data_taken link text.now self.old)) }
     {
-        let Some(at) = receiver_place(&self.entries, link) else {
-            return self.fault_text(NOT_CONNECTED, text);
+        let at = match receiver_on(&self.entries, link) {
+            Found::Open(at) => at,
+            Found::Ending => return Ok(()),
+            Found::Unconnected => return self.fault_text(NOT_CONNECTED, text),
         };
         let entry = &self.entries[at];
-        if !entry.is_open() {
-            if entry.is_ending() {
-                return Ok(());
-            }
-            return self.fault_text(NOT_CONNECTED, text);
-        }
         match DataHeader::read(text) {
             Some(header) if entry.accepts(&header) => {
                 let socket = entry.own;

@@ -15,6 +15,7 @@ mod desk;
 mod ends;
 mod entry;
 mod fault;
+mod found;
 pub mod law;
 mod listener;
 mod notice;
