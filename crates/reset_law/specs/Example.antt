@@ -49,3 +49,9 @@ owing_reply = In one two 0 Reset ∷ Out one two 0 Reset ∷ Contact one two ∷
 -- it asks for a reset itself, while host `one` awaits its RRP
 abbrev pub asked_back : List Event
 asked_back = In two one 0 Reset ∷ Out two one 0 Reset ∷ Contact two one ∷ Told one two 0 answer.Rfnm ∷ owing_reply
+
+-- the message is taken and answered, and host `one` resets once more
+abbrev pub reset_again : List Event
+reset_again =
+    In two one 0 Reply ∷ Out two one 0 Reply ∷ Told one two 0 answer.Rfnm ∷ In one two 0 Reset ∷ Out one two 0 Reset ∷ Contact one two
+    ∷ Told one two 0 answer.Rfnm ∷ In one two 0 (Other (true ∷ [])) ∷ Told two one 0 answer.Rfnm ∷ message

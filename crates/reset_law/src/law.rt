@@ -5,7 +5,7 @@ ghost use Rattle.leader1822.specs.Host.{Host};
 ghost use Rattle.leader1822.specs.declared.crossing.Answer.TheVariants as answer;
 ghost use Rattle.reset_law.specs.Boxes.{boxes, Empty, Waiting, Taken};
 ghost use Rattle.reset_law.specs.Events.{Event, Contact, Out, In, Told, Down, Up, Idle, Reset, Reply, Other, place, is_up};
-ghost use Rattle.reset_law.specs.Example.{one, two, reset, message, early_reply, both_ask, crossing, reset_beside, reset_beside_data, owing_reply, asked_back, left};
+ghost use Rattle.reset_law.specs.Example.{one, two, reset, message, early_reply, both_ask, crossing, reset_beside, reset_beside_data, owing_reply, asked_back, left, reset_again};
 ghost use Rattle.reset_law.specs.Invariant.{kind_in, is_signal, Sound};
 ghost use Rattle.reset_law.specs.Monitor.{monitor};
 ghost use Rattle.reset_law.specs.Pairs.{pair, opening_pair, MaySend};
@@ -80,6 +80,15 @@ pub fn worked_resets()
     ensures places { (place reset ≡ 5) × (place (Idle ∷ Contact two one ∷ reset) ≡ 5) }
 {}
 
+/// Lists of events that may be.
+pub fn worked_runs()
+    // a reset and a message: so the laws don't speak of nothing
+    ensures whole { IsRun (one ∷ two ∷ []) message }
+
+    // a message goes out also while its destination is down
+    ensures to_a_host_that_is_down { IsRun (one ∷ two ∷ []) (Out one two 0 Reset ∷ Contact one two ∷ Down two ∷ []) }
+{}
+
 /// What has to wait.
 pub fn worked_sending()
     // an RRP, while a message is outstanding on any link
@@ -121,6 +130,7 @@ pub fn worked_stays()
     // a host that takes an RST doesn't stay, though it is still ready
     ensures reset { (ready one two reset_beside ≡ true) × (stays one two reset_beside ≡ false) × (stays two one reset_beside ≡ false) }
 
-    // where a stay begins, words begin anew
+    // where a stay begins, words begin anew, whatever was said before
+    ensures again { (said one two 0 reset_again ≡ []) × (heard one two 0 reset_again ≡ []) × (stays one two reset_again ≡ true) }
     ensures anew { (said one two 0 reset ≡ []) × (stays one two reset ≡ true) × (stays two one reset ≡ true) × (stays two one (In one two 0 Reset ∷ Out one two 0 Reset ∷ Contact one two ∷ []) ≡ false) }
 {}
