@@ -22,11 +22,13 @@ use leader1822::HostAddr;
 use ncp_control::{ByteSize, Command, ConnectionLink, ReceiveSocket, SendSocket};
 use std::alloc::{AllocError, Global};
 
-/// The codes with which an ERR tells what was wrong.
+/// The code of an ERR about fields that are out of range or don't fit what stands (NIC 8246, ERR).
 pub(crate) const ERRONEOUS: u8 = 3;
 
-pub(crate) const NO_SOCKET: u8 = 4;
+/// The code of an ERR about a CLS of two sockets that have no end here.
+const NO_SOCKET: u8 = 4;
 
+/// The code of an ERR about a link that no open end has.
 pub(crate) const NOT_CONNECTED: u8 = 5;
 
 // ---- requests

@@ -15,7 +15,7 @@ use leader1822::HostAddr;
 use ncp_control::{Command, ControlFault, DataHeader, HEADER_BITS, MAX_CONTROL_OCTETS, read_one};
 use std::alloc::{AllocError, Global};
 
-/// The code of an ERR about a command that doesn't exist.
+/// The code of an ERR about a command that doesn't exist (NIC 8246, ERR).
 const ILLEGAL_CODE: u8 = 1;
 
 /// The code of an ERR about a command that ends too soon.
