@@ -120,6 +120,10 @@ pub data_no_link_left : next_out (gone (gone two_senders)) ≡ None
 unfolding octets_of orders_of read_of command_of packed_count accepted refusal served served_notices next_out offered
 data_no_link_left = refl
 
+pub data_waits_for_the_answer : next_out (heard (gone (second_in (opened ++ sending))) first (ALL 2 0 4)).0 ≡ None
+unfolding octets_of orders_of read_of command_of packed_count accepted refusal served served_notices next_out offered
+data_waits_for_the_answer = refl
+
 pub data_commands_wait : next_out (heard two_senders first (ECO 65)).0 ≡ Some (message second first 4 (0 ∷ 8 ∷ 0 ∷ 1 ∷ 0 ∷ 66 ∷ []))
 unfolding octets_of orders_of read_of command_of packed_count accepted refusal served served_notices next_out offered
 data_commands_wait = refl

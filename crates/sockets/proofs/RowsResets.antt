@@ -174,6 +174,10 @@ pub resets_contact_drops : refusal (served (first_in opened) (request.Contact se
 unfolding octets_of orders_of read_of command_of packed_count accepted refusal served served_notices next_out offered
 resets_contact_drops = refl
 
+pub resets_contact_drops_commands : next_out (heard (delivered (served (served ready (request.Echo second 65)) (request.Contact second)) second 0) second RRP).0 ≡ None
+unfolding octets_of orders_of read_of command_of packed_count accepted refusal served served_notices next_out offered
+resets_contact_drops_commands = refl
+
 pub resets_peers_in_order : next_out (served (served closed (request.Contact neighbour)) (request.Contact second)) ≡ Some (control first second RST)
 unfolding octets_of orders_of read_of command_of packed_count accepted refusal served served_notices next_out offered
 resets_peers_in_order = refl

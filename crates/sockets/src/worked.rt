@@ -149,6 +149,7 @@ pub fn worked_data()
     ensures lowest_link { next_out two_senders ≡ Some (message second first 4 (0 ∷ 8 ∷ 0 ∷ 1 ∷ 0 ∷ 66 ∷ [])) }
     ensures next_link { next_out (gone two_senders) ≡ Some (message second first 9 (0 ∷ 8 ∷ 0 ∷ 1 ∷ 0 ∷ 65 ∷ [])) }
     ensures no_link_left { next_out (gone (gone two_senders)) ≡ None }
+    ensures waits_for_the_answer { next_out (heard (gone (second_in (opened ++ sending))) first (ALL 2 0 4)).0 ≡ None }
     ensures commands_wait { next_out (heard two_senders first (ECO 65)).0 ≡ Some (message second first 4 (0 ∷ 8 ∷ 0 ∷ 1 ∷ 0 ∷ 66 ∷ [])) }
     ensures commands_first { next_out (heard (answered two_senders answer.Rfnm first 0).0 first (ECO 65)).0 ≡ Some (control second first (ERP 65)) }
 {}
@@ -218,6 +219,7 @@ pub fn worked_resets()
     // a contact with a ready pair drops its connections, which the user is told
     ensures contact_tells { served_notices (first_in opened) (request.Contact second) ≡ notice.PairReset second ∷ [] }
     ensures contact_drops { refusal (served (first_in opened) (request.Contact second)) (request.Grant 16 0 0) ≡ Some fault.NoSuchSocket }
+    ensures contact_drops_commands { next_out (heard (delivered (served (served ready (request.Echo second 65)) (request.Contact second)) second 0) second RRP).0 ≡ None }
 
     // peers come in order of their address octets: host 1 at IMP 1 has 65
     ensures peers_in_order { next_out (served (served closed (request.Contact neighbour)) (request.Contact second)) ≡ Some (control first second RST) }

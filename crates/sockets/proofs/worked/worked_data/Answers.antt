@@ -1,4 +1,4 @@
-use Rattle.sockets.proofs.RowsData.{data_covered, data_more_than_announced, data_no_bytes, data_no_bytes_cost_a_message, data_past_the_bits, data_untold_past_the_bits, data_past_the_messages, data_another_size, data_too_short, data_too_much_returned, data_returned, data_nothing_granted, data_asked_back, data_nothing_given_back, data_nothing_returned, data_bits_are_used, data_grants_add_up, data_returned_once, data_given_back_once, data_in_order, data_what_is_left, data_nothing_sent, data_interrupted_by_sender, data_interrupted_by_receiver, data_lowest_link, data_next_link, data_no_link_left, data_commands_wait, data_commands_first}
+use Rattle.sockets.proofs.RowsData.{data_covered, data_more_than_announced, data_no_bytes, data_no_bytes_cost_a_message, data_past_the_bits, data_untold_past_the_bits, data_past_the_messages, data_another_size, data_too_short, data_too_much_returned, data_returned, data_nothing_granted, data_asked_back, data_nothing_given_back, data_nothing_returned, data_bits_are_used, data_grants_add_up, data_returned_once, data_given_back_once, data_in_order, data_what_is_left, data_nothing_sent, data_interrupted_by_sender, data_interrupted_by_receiver, data_lowest_link, data_next_link, data_no_link_left, data_waits_for_the_answer, data_commands_wait, data_commands_first}
 use Rattle.sockets.proofs.worked.worked_data.Goals as goal
 
 pub returns-clause-covered : goal.returns-clause-covered
@@ -81,6 +81,9 @@ returns-clause-next_link c = data_next_link
 
 pub returns-clause-no_link_left : goal.returns-clause-no_link_left
 returns-clause-no_link_left c = data_no_link_left
+
+pub returns-clause-waits_for_the_answer : goal.returns-clause-waits_for_the_answer
+returns-clause-waits_for_the_answer c = data_waits_for_the_answer
 
 pub returns-clause-commands_wait : goal.returns-clause-commands_wait
 returns-clause-commands_wait c = data_commands_wait
