@@ -1,11 +1,12 @@
 -- The first element of a list that passes a test, found by its place and changed there.
-use Rattle.std.proofs.Common.{◌≡◌, ℕ, ◌+◌, ◌<◌, ◌≤◌, Bool, true, false, cond, List, [], ◌∷◌, length, Option, Some, None, MatchOption, slice_set, slice_index_or, refl, ap, sym, ◌∙◌, arith, suc, nat_lt}
+use Rattle.std.proofs.Common.{◌≡◌, ℕ, ◌+◌, ◌<◌, ◌≤◌, Bool, true, false, cond, List, [], ◌∷◌, length, Option, Some, None, is_some, MatchOption, slice_set, slice_index_or, refl, ap, sym, ◌∙◌, arith, suc, nat_lt}
 use Rattle.std.specs.List.{position_or_len, position, find, slice_get}
 use Rattle.std.proofs.lemmas.List.Folds.{find_at}
 use Rattle.std.proofs.lemmas.List.{get_or_default}
 use Rattle.std.proofs.lemmas.Option.{slice_get_read, slice_get_past}
 use Rattle.std.proofs.lemmas.Bool.{ltb-true, ltb-false}
-use Rattle.sockets.specs.Entries.{changed_first}
+use Rattle.sockets.specs.Entries.{changed_first, entry_at, is_at, new_entry}
+use Rattle.sockets.specs.declared.entry.Entry.{Entry}
 
 record IsPlace (n len k : ℕ) : Type 0 where
   same : n ≡ k
@@ -75,3 +76,10 @@ pub found_by_place : {A : Type 0} (test : A → Bool) (xs : List A) (place : Opt
     → MatchOption place (find test xs ≡ None) (λ at. (d : A) → find test xs ≡ Some (slice_index_or xs at d))
 found_by_place test xs None e = none_found test xs (sym e)
 found_by_place test xs (Some at) e = λ d. one_found test at d xs (sym e)
+
+-- whether something is found
+pub found_some : (own foreign : ℕ) (xs : List Entry) (place : Option ℕ)
+    → MatchOption place (find (is_at own foreign) xs ≡ None) (λ at. (d : Entry) → find (is_at own foreign) xs ≡ Some (slice_index_or xs at d))
+    → is_some place ≡ is_some (entry_at own foreign xs)
+found_some own foreign xs None e = rw e refl
+found_some own foreign xs (Some at) e = rw (e (new_entry own foreign)) refl

@@ -11,5 +11,6 @@ pub mod Accepting
 pub mod Memory
 pub mod Sending
 pub mod Requests
+pub mod Calls
 pub mod Dialogue
 pub mod Worked

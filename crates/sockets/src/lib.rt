@@ -8,6 +8,8 @@
 //! Nothing here knows of IMPs, of the log or of programs above the sockets.
 #![tactic(auto)]
 
+mod accepting;
+mod calls;
 mod commands;
 mod control;
 mod data;
@@ -18,15 +20,19 @@ mod fault;
 mod found;
 pub mod law;
 mod listener;
+mod ncp;
 mod notice;
 mod pair;
 mod peer;
 mod peers;
 mod phase;
+mod refusals;
 mod request;
+mod requests;
 mod turn;
 pub mod worked;
 
 pub use fault::NcpFault;
+pub use ncp::Ncp;
 pub use notice::Notice;
 pub use request::Request;

@@ -1,0 +1,23 @@
+-- How a call ends that is served by what was done to a peer.
+use Rattle.std.proofs.Common.{◌≡◌, ℕ, true, false, List, [], Result, Ok, Err, OnOk, MatchResult, refl, sym, ◌∙◌}
+use Rattle.std.specs.declared.alloc.AllocError.{AllocError}
+use Rattle.sockets.specs.Calls.{IsSpent}
+use Rattle.sockets.specs.Pairs.{NcpState, listens_on, owner_of}
+use Rattle.leader1822.specs.Host.{Host}
+use Rattle.sockets.specs.Requests.{at_owner, closed_end, closed_socket, with_peer}
+use Rattle.sockets.specs.declared.fault.NcpFault.{NcpFault}
+use Rattle.sockets.specs.declared.fault.NcpFault.TheVariants as fault
+use Rattle.sockets.specs.declared.notice.Notice.{Notice}
+
+-- what was done is what is to be served
+pub ended : (done : Result (Unit {0}) AllocError) (result : Result (Unit {0}) NcpFault) (mid new found target : NcpState)
+    → OnOk done (mid ≡ found) → target ≡ found
+    → MatchResult done (λ x. (result ≡ Ok x) × (new ≡ mid)) (λ e. (result ≡ Err fault.OutOfMemory) × (new.spent ≡ true))
+    → MatchResult result (λ x. (new ≡ target) × ((let none : List Notice = [] in none) ≡ [])) (λ f. IsSpent f new)
+ended (Ok x) result mid new found target state is ends = rw (ends.0) (ends.1 ∙ state ∙ sym is, refl)
+ended (Err e) result mid new found target state is ends = rw (ends.0) (refl, ends.1)
+
+-- a socket that doesn't listen is closed with its peer
+pub closed_found : (s : NcpState) (socket : ℕ) (peer : Host) → listens_on socket s.listening ≡ false
+    → at_owner s (owner_of socket s.peers) (λ e. closed_end socket) ≡ with_peer s peer (closed_end socket) → closed_socket s socket ≡ with_peer s peer (closed_end socket)
+closed_found s socket peer silent is = rw silent is

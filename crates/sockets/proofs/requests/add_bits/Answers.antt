@@ -1,0 +1,11 @@
+use Rattle.std.proofs.Common.{sym, rules}
+use Rattle.sockets.specs.Requests.{with_more_bits}
+use Rattle.sockets.specs.Entries.{is_mine_on}
+use Rattle.sockets.proofs.EntryLemmas.{one_changed, none_changed}
+use Rattle.sockets.proofs.requests.add_bits.Goals as goal
+
+pub returns-in-Ok : goal.returns-in-Ok
+returns-in-Ok c = one_changed (is_mine_on c.args.socket) c.in-Some.at (with_more_bits c.args.bits.now) c.index-entries-at.result _ _ (search rules) (search rules)
+
+pub returns-in_default : goal.returns-in_default
+returns-in_default c = sym (none_changed (is_mine_on c.args.socket) (with_more_bits c.args.bits.now) _ (search rules))

@@ -1,0 +1,109 @@
+//! What comes in from the IMP: messages of peers, and answers to what this host has sent.
+
+ghost use Rattle.std.specs.Prelude.{◌≡◌, [], false, IfOk};
+ghost use Rattle.sockets.specs.Accepting as accepting;
+ghost use Rattle.sockets.specs.Accepting.{TurnState};
+ghost use Rattle.sockets.specs.Calls.{Turns};
+ghost use Rattle.sockets.specs.Entries.{is_busy};
+ghost use Rattle.sockets.specs.Pairs.{pair_with};
+
+use crate::entry::is_busy;
+use crate::ncp::Ncp;
+use crate::turn::Turn;
+use crate::{NcpFault, Notice};
+use leader1822::{Answer, Flow, HostAddr, HostMessage, Inbound};
+use std::alloc::AllocError;
+use std::mem;
+
+impl Ncp {
+    /// Takes what is known of a peer out, to be worked on.
+    fn begin(&mut self, peer: HostAddr) -> Turn
+        ensures turn { result ≡ accepting.turn_of self.old peer }
+        ensures rest { (turn : TurnState) → accepting.turned self.new peer turn ≡ accepting.turned self.old peer turn }
+    {
+        Turn {
+            pair: self.peers.take(self.alloc, peer),
+            listening: mem::replace(&mut self.listening, Vec::new(self.alloc)),
+            notices: Vec::new(self.alloc),
+        }
+    }
+
+    /// Puts what is known of a peer back, and gives what is told.
+    fn finish(&mut self, peer: HostAddr, turn: Turn) -> Result<Vec<Notice>, AllocError>
+        ensures { IfOk result (λ notices. accepting.turned self.old peer turn ≡ (self.new, notices.items)) }
+    {
+        let Turn {
+            pair,
+            listening,
+            notices,
+        } = turn;
+        self.listening = listening;
+        self.peers.put(peer, pair)?;
+        Ok(notices)
+    }
+
+    /// A message comes in.
+    fn accept_message(
+        &mut self,
+        message: &HostMessage,
+        stamp: usize,
+    ) -> Result<Vec<Notice>, AllocError>
+        ensures { IfOk result (λ notices. accepting.accepted_message self.old message.now stamp ≡ (self.new, notices.items)) }
+    {
+        let Flow {
+            source,
+            destination,
+            link,
+        } = message.flow;
+        if self.own != destination {
+            return Ok(Vec::new(self.alloc));
+        }
+        let mut turn = self.begin(source);
+        turn.take_message(self.alloc, source, stamp, link.0, message.text.bits())?;
+        self.finish(source, turn)
+    }
+
+    /// Whether a message to a peer has no answer yet.
+    fn is_busy(&self, peer: HostAddr, link: u8) -> bool
+        ensures { result ≡ is_busy (pair_with peer self.now.peers).busy link }
+    {
+        match self.peers.pair(peer) {
+            Some(pair) => is_busy(&pair.busy, link),
+            None => false,
+        }
+    }
+
+    /// An answer comes in.
+    fn accept_answer(&mut self, kind: Answer, flow: Flow) -> Result<Vec<Notice>, AllocError>
+        ensures { IfOk result (λ notices. accepting.accepted_answer self.old kind flow ≡ (self.new, notices.items)) }
+    {
+        let Flow {
+            source,
+            destination,
+            link,
+        } = flow;
+        if self.own != source || !self.is_busy(destination, link.0) {
+            return Ok(Vec::new(self.alloc));
+        }
+        let mut turn = self.begin(destination);
+        turn.take_answer(self.alloc, destination, kind, link.0)?;
+        self.finish(destination, turn)
+    }
+
+    /// Takes what comes in from the IMP, with its place in the log, and returns what is told of it.
+    ///
+    /// A message for another host, and an answer to a message that isn't out, change nothing.
+    ///
+    /// Errors: `OutOfMemory`.
+    #[tactic(auto, unfolding(crate::specs::Accepting::accepted))]
+    pub fn accept(&mut self, inbound: Inbound, stamp: usize) -> Result<Vec<Notice>, NcpFault>
+        requires live { self.old.spent ≡ false }
+        ensures turn { Turns (λ notices. notices.items) (accepting.accepted self.old inbound stamp) result self.new }
+    {
+        let done = match inbound {
+            Inbound::Message(message) => self.accept_message(&message, stamp),
+            Inbound::Answer(kind, flow) => self.accept_answer(kind, flow),
+        };
+        self.end(done)
+    }
+}
