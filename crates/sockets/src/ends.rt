@@ -5,6 +5,7 @@ ghost use Rattle.std.specs.List.{flat_map, list_any};
 ghost use Rattle.sockets.specs.declared.entry.Entry.{Entry};
 ghost use Rattle.sockets.specs.Commands.{asked_on_link, asked_with_size, granted, given_back, returned};
 ghost use Rattle.sockets.specs.Data.{spent};
+ghost use Rattle.sockets.specs.Sending.{asked_at, cls_sent};
 ghost use Rattle.sockets.specs.Entries.{is_at, entry_at, sends_on, receives_on, is_mine_on, changed_first, changed_at, closed_by_partner, must_close, closed_when, cls_of, is_over, ending, free_link};
 
 use crate::Notice;
@@ -140,6 +141,26 @@ pub(crate) fn ask_with_size(
         let entry = &mut entries[at];
         entry.partner = Some(stamp);
         entry.size = Some(size);
+    }
+}
+
+/// This host's request for an end has gone out.
+pub(crate) fn ask(entries: &mut [Entry], own: u32, foreign: u32, stamp: usize)
+    ensures { entries.new ≡ changed_at own foreign (asked_at stamp) entries.old }
+{
+    if let Some(at) = place(entries, own, foreign) {
+        let entry = &mut entries[at];
+        entry.asked = Some(stamp);
+    }
+}
+
+/// This host's CLS for an end has gone out.
+pub(crate) fn send_cls(entries: &mut [Entry], own: u32, foreign: u32)
+    ensures { entries.new ≡ changed_at own foreign cls_sent entries.old }
+{
+    if let Some(at) = place(entries, own, foreign) {
+        let entry = &mut entries[at];
+        entry.closing = Closing::Sent;
     }
 }
 

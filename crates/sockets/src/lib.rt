@@ -18,6 +18,7 @@ mod ends;
 mod entry;
 mod fault;
 mod found;
+mod gone;
 pub mod law;
 mod listener;
 mod ncp;
