@@ -93,12 +93,14 @@ impl Imp {
         (host as usize) < self.hosts.len()
     }
 
-    /// Whether its host of this number is up; a host that isn't there is not.
-    pub(crate) fn is_up(&self, host: u8) -> bool
+    /// Whether its host of this number is up. A host that isn't there is not up; an IMP has at most four, 0
+    /// to 3. This takes no memory.
+    pub fn is_up(&self, host: u8) -> bool
         ensures up { result ≡ states.is_up self.now host }
         ensures there { result ≡ true → host < length self.now.hosts }
+        ensures few { length self.now.hosts ≤ 4 }
     {
-        self.is_there(host) && self.hosts[host as usize].is_up()
+        (host as usize) < self.hosts.len() && self.hosts[host as usize].is_up()
     }
 
     /// Whether this is one of its hosts.
