@@ -31,3 +31,4 @@ pub mod Delivering
 pub mod Attempting
 pub mod Carries
 pub mod Working
+pub mod Starts

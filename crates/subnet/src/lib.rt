@@ -12,6 +12,7 @@ mod offering;
 mod parts;
 mod quiet_rounds;
 mod seeking;
+mod starting;
 mod stops;
 mod taking;
 mod wire;

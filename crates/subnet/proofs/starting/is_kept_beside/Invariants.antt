@@ -1,0 +1,8 @@
+use Rattle.std.proofs.Common.{◌≡◌, drop}
+use Rattle.std.specs.List.{list_any}
+use Rattle.subnet.proofs.Starts.{is_beside}
+use Rattle.subnet.proofs.starting.is_kept_beside.Given as goal
+
+-- none of the IMPs so far
+abbrev pub invariant-loop-at : goal.invariant-loop-at
+invariant-loop-at l = list_any (is_beside l.imp) (drop l.at l.imps) ≡ list_any (is_beside l.imp) l.imps
