@@ -32,3 +32,4 @@ pub mod Attempting
 pub mod Carries
 pub mod Working
 pub mod Starts
+pub mod Stopping

@@ -65,7 +65,7 @@ delivered_grows n l d None = false
 delivered_grows n l d (Some f) =
     grows_at (imp_at n.imps (far_end d (wire_at n.lines l))) (λ s. copy_grows f || from_line_grows s (port_of n.lines (far_end d (wire_at n.lines l)) l) f)
 
--- An event that is not refused may want memory where its IMP does, where something crosses, and where an IMP starts
+-- An event that is not refused may want memory where its IMP does, where something crosses, and where an IMP starts or stops
 abbrev pub step_grows : Net → NetEvent → Bool
 step_grows n (event.Deliver l d k) = delivered_grows n l d (slice_get (frames_on d (wire_at n.lines l)) k)
 step_grows n (event.Drop l d k) = false
@@ -73,7 +73,7 @@ step_grows n (event.Resend i) = grows_at (imp_at n.imps i) resend_grows
 step_grows n (event.Route i) = grows_at (imp_at n.imps i) route_grows
 step_grows n (event.EndDown i l) = grows_at (imp_at n.imps i) (λ s. end_down_grows s (port_of n.lines i l))
 step_grows n (event.EndUp i l) = grows_at (imp_at n.imps i) (λ s. end_up_grows s (port_of n.lines i l))
-step_grows n (event.ImpDown i) = nat_lt 0 (length (downs_at i (imp_at n.imps i)))
+step_grows n (event.ImpDown i) = true
 step_grows n (event.ImpUp i) = true
 step_grows n (event.HostDown h) = true
 step_grows n (event.HostUp h) = true

@@ -1,12 +1,20 @@
-//! Hosts that stop and start.
+//! Hosts that stop and start, and IMPs that stop.
 
-ghost use Rattle.std.specs.Prelude.{◌≡◌, OnOk, OnErr};
+ghost use Rattle.std.specs.Prelude.{◌≡◌, ◌<◌, ◌≤◌, ◌++◌, length, None, reverse, slice_set, IfOk, OnOk, OnErr};
 ghost use Rattle.leader1822.specs.declared.event.NetEvent.TheVariants as event;
-ghost use Rattle.subnet.specs.Inside.Calling.{AreLive, Steps, SameLog};
+ghost use Rattle.subnet.specs.Net.{imp_at};
+ghost use Rattle.subnet.specs.Events.{logging, downs_at, downs_from};
+ghost use Rattle.subnet.specs.Inside.Calling.{AreLive, Steps, SameLog, down_of};
+ghost use Rattle.imp_node.specs.State.{host_at};
 
 use crate::imp_call::ImpCall;
 use crate::parts::Parts;
-use leader1822::{CarrierFault, Crossing, HostAddr};
+use imp_node::Imp;
+use leader1822::{CarrierFault, Crossing, HostAddr, ImpNumber};
+use std::alloc::{AllocError, Global};
+
+/// How many hosts an IMP has at most.
+const MOST_HOSTS: u8 = 4;
 
 impl Parts {
     /// A host stops.
@@ -41,5 +49,97 @@ impl Parts {
             return Err(CarrierFault::OutOfMemory);
         }
         Ok(())
+    }
+
+    /// An IMP stops, and its hosts with it. What it held is gone; frames on its lines stay.
+    #[tactic(auto, using(crate::proofs::Stopping::stopped_lives))]
+    pub(crate) fn imp_down(&mut self, imp: ImpNumber) -> Result<(), CarrierFault>
+        requires { AreLive self.old.imps }
+        ensures step { Steps (event.ImpDown imp) self.old self.new result }
+        ensures live { OnOk result (AreLive self.new.imps) }
+        ensures keeps { OnErr result (SameLog self.old self.new) }
+    {
+        let number = imp.number();
+        if !self.is_imp(number) {
+            return Err(CarrierFault::NoSuch);
+        }
+        if !self.is_up(number) {
+            return Err(CarrierFault::IsDown);
+        }
+        if self.cross_downs(imp).is_err() {
+            return Err(CarrierFault::OutOfMemory);
+        }
+        self.take_imp(number);
+        Ok(())
+    }
+
+    /// Puts on the log that the hosts of an IMP go down, in their order.
+    #[tactic(auto, using(crate::proofs::Stopping::all_crossed))]
+    fn cross_downs(&mut self, imp: ImpNumber) -> Result<(), AllocError>
+        ensures ok { OnOk result (self.new ≡ logging (downs_at imp (imp_at self.old.imps imp)) self.old) }
+        ensures err { OnErr result (self.new ≡ self.old) }
+    {
+        let mut downs = self.downs(imp)?;
+        self.log.append(&mut downs)
+    }
+
+    /// The crossings of an IMP's hosts that go down with it, the oldest first.
+    fn downs(&self, imp: ImpNumber) -> Result<Vec<Crossing>, AllocError>
+        ensures { IfOk result (λ downs. downs.items ≡ reverse (downs_at imp (imp_at self.now.imps imp))) }
+    {
+        match self.imp(imp.number()) {
+            Some(up) => downs_of(self.alloc, imp, up),
+            None => Ok(Vec::new(self.alloc)),
+        }
+    }
+
+    /// Takes an IMP away.
+    fn take_imp(&mut self, imp: u8)
+        ensures { self.new ≡ record self.old { imps = slice_set self.old.imps imp None } }
+    {
+        let at = imp as usize;
+        if at < self.imps.len() {
+            self.imps[at] = None;
+        }
+    }
+}
+
+/// The crossings of an IMP's hosts that are up, as they go down, the oldest first.
+#[tactic(auto, using(crate::proofs::Stopping::in_order_is))]
+fn downs_of(alloc: Global, imp: ImpNumber, up: &Imp) -> Result<Vec<Crossing>, AllocError>
+    ensures { IfOk result (λ downs. downs.items ≡ reverse (downs_from imp 0 up.now.hosts)) }
+{
+    let mut downs = Vec::new(alloc);
+    for host in 0..MOST_HOSTS {
+        push_down(&mut downs, imp, up, host)?;
+    }
+    Ok(downs)
+}
+
+/// Puts the crossing of one host behind the others, if that host is up.
+fn push_down(
+    downs: &mut Vec<Crossing>,
+    imp: ImpNumber,
+    up: &Imp,
+    host: u8,
+) -> Result<(), AllocError>
+    requires { host < 4 }
+    ensures ok { OnOk result (downs.new.items ≡ downs.old.items ++ down_of imp host (host_at up.now host)) }
+    ensures few { length up.now.hosts ≤ 4 }
+{
+    if up.is_up(host) {
+        downs.push(Crossing::Down(host_of(imp, host)))?;
+    }
+    Ok(())
+}
+
+/// A host of an IMP.
+fn host_of(imp: ImpNumber, host: u8) -> HostAddr
+    requires { host < 4 }
+    ensures { result ≡ record { imp = imp; host = host } }
+{
+    match HostAddr::new(host, imp.number()) {
+        Some(address) => address,
+        None => unreachable!(),
     }
 }

@@ -1,12 +1,14 @@
 -- Calls of one IMP as data, and what they leave in the subnet.
-use Rattle.std.specs.Prelude.{◌≡◌, ℕ, ◌≤◌, ◌<◌, Bool, true, false, List, [], length, Option, Some, None, Result, Ok, Err, slice_set, All, IfSome}
+use Rattle.std.specs.Prelude.{◌≡◌, ℕ, ◌≤◌, ◌<◌, Bool, true, false, List, [], ◌∷◌, ◌++◌, ◌+◌, if◌then◌else◌, length, Option, Some, None, Result, Ok, Err, slice_set, All, IfSome}
 use Rattle.leader1822.specs.Calls.{is_memory}
 use Rattle.leader1822.specs.declared.carrier.CarrierFault.{CarrierFault}
+use Rattle.leader1822.specs.declared.crossing.Crossing.{Crossing}
+use Rattle.leader1822.specs.declared.crossing.Crossing.TheVariants as crossing
 use Rattle.leader1822.specs.declared.event.NetEvent.{NetEvent}
 use Rattle.leader1822.specs.declared.event.Direction.{Direction}
 use Rattle.imp_channel.specs.declared.frame.Frame.{Frame}
 use Rattle.imp_node.specs.declared.outgoing.Outgoing.{Outgoing}
-use Rattle.imp_node.specs.State.{State, Turn, number}
+use Rattle.imp_node.specs.State.{State, HostState, Turn, number}
 use Rattle.imp_node.specs.Arrival.{from_line, from_line_refusal, ignored}
 use Rattle.imp_node.specs.Offering.{from_host, from_host_refusal, from_host_grows}
 use Rattle.imp_node.specs.Lines.{resend, route, end_down, end_down_refusal, end_up, end_up_refusal}
@@ -127,6 +129,15 @@ copied_grows (Some f) = copy_grows f
 -- the oldest frame of a directed line is delivered and dropped
 abbrev pub carried_first : ℕ → Direction → Net → Net
 carried_first l d n = drop_frame (deliver n l d 0) l d 0
+
+-- ---- hosts that go down with their IMP, in their order
+
+abbrev pub down_of : ℕ → ℕ → HostState → List Crossing
+down_of i k h = if h.up then crossing.Down (record { imp = i; host = k }) ∷ [] else []
+
+abbrev pub downs_in_order : ℕ → ℕ → List HostState → List Crossing
+downs_in_order i k [] = []
+downs_in_order i k (h ∷ hosts) = down_of i k h ++ downs_in_order i (k + 1) hosts
 
 -- ---- what a subnet's parts keep
 

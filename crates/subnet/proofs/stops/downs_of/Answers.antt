@@ -1,0 +1,14 @@
+use Rattle.std.proofs.Common.{◌≡◌, ◌+◌, ◌++◌, List, drop, ap, sym, ◌∙◌, arith}
+use Rattle.leader1822.specs.declared.crossing.Crossing.{Crossing}
+use Rattle.subnet.specs.Inside.Calling.{downs_in_order}
+use Rattle.subnet.proofs.Stopping.{one_more, no_more, in_order_is}
+use Rattle.subnet.proofs.stops.downs_of.Goals as goal
+
+pub loop-host-preserved : goal.loop-host-preserved
+loop-host-preserved c = record {
+  state =
+      ap (λ (xs : List Crossing). xs ++ downs_in_order c.args.imp (c.loop-host.host + 1) (drop (c.loop-host.host + 1) c.args.up.now.hosts)) c.in_ok-push_down.ensures.ok
+      ∙ one_more c.args.up.now.hosts c.args.imp c.loop-host.host c.loop-host.downs.items
+      ∙ c.loop-host.invariant.state;
+  few = λ some. c.in_ok-push_down.ensures.few;
+}
