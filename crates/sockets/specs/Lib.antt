@@ -14,3 +14,4 @@ pub mod Requests
 pub mod Calls
 pub mod Dialogue
 pub mod Worked
+pub mod Others

@@ -1,14 +1,24 @@
-//! What the definitions of the network control program come to, on worked dialogues.
+//! What the definitions of the network control program come to: laws of one host, and worked dialogues.
 
-ghost use Rattle.std.specs.Prelude.{◌≡◌, ℕ, List, [], ◌∷◌, ◌++◌, Option, Some, None, replicate, true};
+ghost use Rattle.std.specs.Prelude.{◌≡◌, ℕ, List, [], ◌∷◌, ◌++◌, Option, Some, None, replicate, true, false, if◌then◌else◌};
 ghost use Rattle.bit_messages.specs.Octets.{bits_of};
+ghost use Rattle.leader1822.specs.Host.{Host, same_host};
+ghost use Rattle.leader1822.specs.declared.address.Flow.{Flow};
+ghost use Rattle.leader1822.specs.declared.crossing.Answer.{Answer};
+ghost use Rattle.leader1822.specs.declared.crossing.Inbound.TheVariants as inbound;
 ghost use Rattle.leader1822.specs.declared.message.HostMessage.{HostMessage};
+ghost use Rattle.sockets.specs.Accepting.{accepted};
 ghost use Rattle.sockets.specs.Dialogue.{state_of, Ask};
+ghost use Rattle.sockets.specs.Others.{MayGo, peer_of, is_about};
+ghost use Rattle.sockets.specs.Pair.{PairState};
+ghost use Rattle.sockets.specs.Pairs.{NcpState, pair_with, with_pair};
 ghost use Rattle.sockets.specs.Requests.{refusal, served};
-ghost use Rattle.sockets.specs.Sending.{next_out, offered};
+ghost use Rattle.sockets.specs.declared.peer.Peer.{Peer};
+ghost use Rattle.sockets.specs.Sending.{Parcel, Reset, Reply, message_for, next_in, next_of, next_out, offered};
 ghost use Rattle.sockets.specs.Worked.{first, second, third, talk, message, control, reset, opening, closing, crossing, failing, sending, asking_back, giving_back, many_opened, twelve, second_after};
 ghost use Rattle.sockets.specs.declared.fault.NcpFault.TheVariants as fault;
 ghost use Rattle.sockets.specs.declared.notice.Notice.TheVariants as notice;
+ghost use Rattle.sockets.specs.declared.request.Request.{Request};
 ghost use Rattle.sockets.specs.declared.request.Request.TheVariants as request;
 
 /// Dialogues of two hosts, and what each of them is told.
@@ -75,4 +85,33 @@ pub fn worked_refusals()
 
     // where several refusals apply, the first of the list is given
     ensures in_order { refusal (state_of (talk (reset ++ opening)) first) (request.OpenSend third 16 33 0) ≡ Some fault.NotContacted }
+{}
+
+/// What is about one peer leaves the other pairs as they are.
+pub fn others()
+    // a pair that is changed is found as it is now, and every other as it was
+    ensures changed { (g h : Host) (q : PairState) (peers : List Peer) → pair_with h (with_pair g q peers) ≡ if same_host h g then q else pair_with h peers }
+
+    // a message is about its source, an answer about the destination of what is answered
+    ensures message { (s : NcpState) (m : HostMessage) (stamp : ℕ) (h : Host) → same_host h m.flow.source ≡ false → pair_with h (accepted s (inbound.Message m) stamp).0.peers ≡ pair_with h s.peers }
+    ensures answer { (s : NcpState) (kind : Answer) (f : Flow) (stamp : ℕ) (h : Host) → same_host h f.destination ≡ false → pair_with h (accepted s (inbound.Answer kind f) stamp).0.peers ≡ pair_with h s.peers }
+
+    // what goes out is about the peer that it goes to, a call about the peer that it names or whose connection it is
+    ensures offer { (s : NcpState) (stamp : ℕ) (p : Peer) (parcel : Parcel) (h : Host) → next_in s.peers ≡ Some (p, parcel) → same_host h p.host ≡ false → pair_with h (offered s stamp).0.peers ≡ pair_with h s.peers }
+    ensures call { (s : NcpState) (r : Request) (h : Host) → is_about h (peer_of s r) ≡ false → pair_with h (served s r).peers ≡ pair_with h s.peers }
+{}
+
+/// What goes out of a pair, and when.
+pub fn parcels()
+    // an RST or an RRP only while nothing is outstanding, and the RST first; all else only of a pair that is ready and owes
+    // nothing: commands if link 0 is free, data of an open sending end whose last message is answered, within what waits, what was
+    // granted and what one message holds
+    ensures goes { (q : PairState) (parcel : Parcel) → next_of q ≡ Some parcel → MayGo q parcel }
+
+    // what goes out of a host goes out of the pair with the peer that it goes to
+    ensures next { (p : Peer) (parcel : Parcel) (peers : List Peer) → next_in peers ≡ Some (p, parcel) → next_of p.pair ≡ Some parcel }
+
+    // an RST or an RRP is a message of one octet on link 0
+    ensures reset { (own : Host) (p : Peer) → message_for own p Reset ≡ control own p.host (12 ∷ []) }
+    ensures reply { (own : Host) (p : Peer) → message_for own p Reply ≡ control own p.host (13 ∷ []) }
 {}
