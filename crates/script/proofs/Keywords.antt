@@ -1,15 +1,22 @@
--- Events as lines.
-use Rattle.std.proofs.Common.{◌≡◌, ◌≢◌, ℕ, ◌==◌, Bool, true, false, List, [], ◌∷◌, ◌++◌, codes, refl, sym, ap, ◌∙◌, subst, eqb}
+-- Events as lines: a keyword, and what stands behind it.
+use Rattle.std.proofs.Common.{◌≡◌, ◌≢◌, ℕ, ◌==◌, Bool, true, false, List, [], ◌∷◌, ◌++◌, codes, refl, sym, ap, ◌∙◌, subst, eqb, Option, Some, None, if◌then◌else◌}
 use Rattle.std.proofs.lemmas.Bool.{false≢true, or_parts, eq-eqb}
 use Rattle.std.proofs.lemmas.List.Elements.{All-nil, All-cons}
+use Rattle.std.specs.Fmt.{decimal}
 use Rattle.std.specs.List.{list_any}
-use Rattle.std.specs.Cmp.Lexicographic.{pointwise}
+use Rattle.std.specs.Cmp.Lexicographic.{pointwise, same_text}
+use Rattle.std.specs.Str.{bytes_eq}
+use Rattle.leader1822.specs.Host.{Host}
 use Rattle.leader1822.specs.Printed.{host_text, flow_text}
+use Rattle.leader1822.specs.declared.address.Flow.{Flow}
+use Rattle.leader1822.specs.declared.event.Direction.{Direction}
+use Rattle.leader1822.specs.declared.event.NetEvent.{NetEvent}
 use Rattle.leader1822.specs.declared.event.NetEvent.TheVariants as net
+use Rattle.leader1822.specs.declared.message.HostMessage.{HostMessage}
 use Rattle.script.specs.declared.event.Event.{Event}
 use Rattle.script.specs.declared.event.Event.TheVariants as event
-use Rattle.script.specs.Spelling.{spelling, IsEvent, message_text}
-use Rattle.script.specs.Steps.{Lacks}
+use Rattle.script.specs.Spelling.{ReadsAs, spelling, net_spelling, IsEvent, IsNetEvent, IsMessage, IsHost, IsFlow, IsImp, message_text}
+use Rattle.script.specs.Steps.{Lacks, IsOfHosts, IsOfImps, IsOfLines, frame_text, IsFrame, pair_text, IsEnd, AreImps}
 use Rattle.script.proofs.Words.{SameCut, same_cut, uncut}
 
 pub unmarked_where : (mark : ℕ) (xs : List ℕ) → list_any (λ x. x == mark) xs ≡ false → Lacks mark xs
@@ -27,43 +34,316 @@ pub differs : (word key : List ℕ) (slice : List ℕ) (test : Bool) → test �
 differs word key slice test compared is unlike e =
     false≢true (sym unlike ∙ compared ∙ ap (λ xs. pointwise eqb word xs) (is ∙ sym e) ∙ same_octets word)
 
+-- and one that is the same
+pub is_key : (word key : List ℕ) (slice : List ℕ) (test : Bool) → test ≡ pointwise eqb word slice → slice ≡ key → test ≡ true → word ≡ key
+is_key word key slice test compared is alike = same_text word slice (sym alike ∙ compared) ∙ is
+
+-- ---- a keyword, and an operand of its kind
+
+pub data Kind : Type 0 where
+  Messages : Kind
+  Hosts : Kind
+  Flows : Kind
+  Imps : Kind
+  Twos : Kind
+  Frames : Kind
+  Ends : Kind
+
+abbrev pub OperandOf : Kind → Type 0
+OperandOf Messages = HostMessage
+OperandOf Hosts = Host
+OperandOf Flows = Flow
+OperandOf Imps = ℕ
+OperandOf Twos = ℕ × ℕ
+OperandOf Frames = ℕ × Direction × ℕ
+OperandOf Ends = ℕ × ℕ
+
+abbrev pub text_of : (k : Kind) → OperandOf k → List ℕ
+text_of Messages m = message_text m
+text_of Hosts h = host_text h
+text_of Flows f = flow_text f
+text_of Imps i = decimal i
+text_of Twos p = pair_text p
+text_of Frames f = frame_text f
+text_of Ends p = pair_text p
+
+abbrev pub IsMeant : (k : Kind) → OperandOf k → Type 0
+IsMeant Messages m = IsMessage m
+IsMeant Hosts h = IsHost h
+IsMeant Flows f = IsFlow f
+IsMeant Imps i = IsImp i
+IsMeant Twos p = AreImps p
+IsMeant Frames f = IsFrame f
+IsMeant Ends p = IsEnd p
+
+abbrev pub keyword : Event → List ℕ
+keyword (event.Out m) = codes "out"
+keyword (event.Take h) = codes "take"
+keyword (event.Net (net.HostDown h)) = codes "hostdown"
+keyword (event.Net (net.HostUp h)) = codes "hostup"
+keyword (event.Net (net.GiveUp f)) = codes "giveup"
+keyword (event.Net (net.Abandon f)) = codes "abandon"
+keyword (event.Net (net.Resend i)) = codes "resend"
+keyword (event.Net (net.Route i)) = codes "route"
+keyword (event.Net (net.ImpDown i)) = codes "impdown"
+keyword (event.Net (net.ImpUp i)) = codes "impup"
+keyword (event.Net (net.Forget at from)) = codes "forget"
+keyword (event.Net (net.Deliver l d k)) = codes "deliver"
+keyword (event.Net (net.Drop l d k)) = codes "drop"
+keyword (event.Net (net.EndDown i l)) = codes "enddown"
+keyword (event.Net (net.EndUp i l)) = codes "endup"
+
+-- the kind of a keyword's operand, and the event that they make
+abbrev pub made : List ℕ → (k : Kind) × (OperandOf k → Event)
+made word =
+    if bytes_eq word (codes "out") then (Messages, λ x. event.Out x) else (
+    if bytes_eq word (codes "take") then (Hosts, λ x. event.Take x) else (
+    if bytes_eq word (codes "hostdown") then (Hosts, λ x. event.Net (net.HostDown x)) else (
+    if bytes_eq word (codes "hostup") then (Hosts, λ x. event.Net (net.HostUp x)) else (
+    if bytes_eq word (codes "giveup") then (Flows, λ x. event.Net (net.GiveUp x)) else (
+    if bytes_eq word (codes "abandon") then (Flows, λ x. event.Net (net.Abandon x)) else (
+    if bytes_eq word (codes "resend") then (Imps, λ x. event.Net (net.Resend x)) else (
+    if bytes_eq word (codes "route") then (Imps, λ x. event.Net (net.Route x)) else (
+    if bytes_eq word (codes "impdown") then (Imps, λ x. event.Net (net.ImpDown x)) else (
+    if bytes_eq word (codes "impup") then (Imps, λ x. event.Net (net.ImpUp x)) else (
+    if bytes_eq word (codes "forget") then (Twos, λ x. event.Net (net.Forget x.0 x.1)) else (
+    if bytes_eq word (codes "deliver") then (Frames, λ x. event.Net (net.Deliver x.0 x.1 x.2)) else (
+    if bytes_eq word (codes "drop") then (Frames, λ x. event.Net (net.Drop x.0 x.1 x.2)) else (
+    if bytes_eq word (codes "enddown") then (Ends, λ x. event.Net (net.EndDown x.0 x.1)) else (
+    (Ends, λ x. event.Net (net.EndUp x.0 x.1))))))))))))))))
+
+abbrev pub operand : (e : Event) → OperandOf (made (keyword e)).0
+operand (event.Out m) = m
+operand (event.Take h) = h
+operand (event.Net (net.HostDown h)) = h
+operand (event.Net (net.HostUp h)) = h
+operand (event.Net (net.GiveUp f)) = f
+operand (event.Net (net.Abandon f)) = f
+operand (event.Net (net.Resend i)) = i
+operand (event.Net (net.Route i)) = i
+operand (event.Net (net.ImpDown i)) = i
+operand (event.Net (net.ImpUp i)) = i
+operand (event.Net (net.Forget at from)) = (at, from)
+operand (event.Net (net.Deliver l d k)) = (l, d, k)
+operand (event.Net (net.Drop l d k)) = (l, d, k)
+operand (event.Net (net.EndDown i l)) = (i, l)
+operand (event.Net (net.EndUp i l)) = (i, l)
+
+pub made_again : (e : Event) → (made (keyword e)).1 (operand e) ≡ e
+made_again (event.Out m) = refl
+made_again (event.Take h) = refl
+made_again (event.Net (net.HostDown h)) = refl
+made_again (event.Net (net.HostUp h)) = refl
+made_again (event.Net (net.GiveUp f)) = refl
+made_again (event.Net (net.Abandon f)) = refl
+made_again (event.Net (net.Resend i)) = refl
+made_again (event.Net (net.Route i)) = refl
+made_again (event.Net (net.ImpDown i)) = refl
+made_again (event.Net (net.ImpUp i)) = refl
+made_again (event.Net (net.Forget at from)) = refl
+made_again (event.Net (net.Deliver l d k)) = refl
+made_again (event.Net (net.Drop l d k)) = refl
+made_again (event.Net (net.EndDown i l)) = refl
+made_again (event.Net (net.EndUp i l)) = refl
+
+pub spelled : (e : Event) → spelling e ≡ keyword e ++ 32 ∷ text_of (made (keyword e)).0 (operand e)
+spelled (event.Out m) = refl
+spelled (event.Take h) = refl
+spelled (event.Net (net.HostDown h)) = refl
+spelled (event.Net (net.HostUp h)) = refl
+spelled (event.Net (net.GiveUp f)) = refl
+spelled (event.Net (net.Abandon f)) = refl
+spelled (event.Net (net.Resend i)) = refl
+spelled (event.Net (net.Route i)) = refl
+spelled (event.Net (net.ImpDown i)) = refl
+spelled (event.Net (net.ImpUp i)) = refl
+spelled (event.Net (net.Forget at from)) = refl
+spelled (event.Net (net.Deliver l d k)) = refl
+spelled (event.Net (net.Drop l d k)) = refl
+spelled (event.Net (net.EndDown i l)) = refl
+spelled (event.Net (net.EndUp i l)) = refl
+
+pub is_meant : (e : Event) → IsEvent e → IsMeant (made (keyword e)).0 (operand e)
+is_meant (event.Out m) is = is
+is_meant (event.Take h) is = is
+is_meant (event.Net (net.HostDown h)) is = is
+is_meant (event.Net (net.HostUp h)) is = is
+is_meant (event.Net (net.GiveUp f)) is = is
+is_meant (event.Net (net.Abandon f)) is = is
+is_meant (event.Net (net.Resend i)) is = is
+is_meant (event.Net (net.Route i)) is = is
+is_meant (event.Net (net.ImpDown i)) is = is
+is_meant (event.Net (net.ImpUp i)) is = is
+is_meant (event.Net (net.Forget at from)) is = is
+is_meant (event.Net (net.Deliver l d k)) is = is
+is_meant (event.Net (net.Drop l d k)) is = is
+is_meant (event.Net (net.EndDown i l)) is = is
+is_meant (event.Net (net.EndUp i l)) is = is
+
+pub plain : (e : Event) → list_any (λ x. x == 32) (keyword e) ≡ false
+plain (event.Out m) = refl
+plain (event.Take h) = refl
+plain (event.Net (net.HostDown h)) = refl
+plain (event.Net (net.HostUp h)) = refl
+plain (event.Net (net.GiveUp f)) = refl
+plain (event.Net (net.Abandon f)) = refl
+plain (event.Net (net.Resend i)) = refl
+plain (event.Net (net.Route i)) = refl
+plain (event.Net (net.ImpDown i)) = refl
+plain (event.Net (net.ImpUp i)) = refl
+plain (event.Net (net.Forget at from)) = refl
+plain (event.Net (net.Deliver l d k)) = refl
+plain (event.Net (net.Drop l d k)) = refl
+plain (event.Net (net.EndDown i l)) = refl
+plain (event.Net (net.EndUp i l)) = refl
+
+-- ---- lines that are no events
+
 -- a line without a space is no event
 pub no_space : (line : List ℕ) → Lacks 32 line → (x : Event) → IsEvent x → line ≢ spelling x
-no_space line h (event.Out m) meant e = uncut 32 (codes "out") (message_text m) (subst (Lacks 32) e h)
-no_space line h (event.Take g) meant e = uncut 32 (codes "take") (host_text g) (subst (Lacks 32) e h)
-no_space line h (event.Net (net.HostDown g)) meant e = uncut 32 (codes "hostdown") (host_text g) (subst (Lacks 32) e h)
-no_space line h (event.Net (net.HostUp g)) meant e = uncut 32 (codes "hostup") (host_text g) (subst (Lacks 32) e h)
-no_space line h (event.Net (net.GiveUp f)) meant e = uncut 32 (codes "giveup") (flow_text f) (subst (Lacks 32) e h)
-no_space line h (event.Net (net.Deliver l d k)) meant e = absurd meant
-no_space line h (event.Net (net.Drop l d k)) meant e = absurd meant
-no_space line h (event.Net (net.Resend i)) meant e = absurd meant
-no_space line h (event.Net (net.Route i)) meant e = absurd meant
-no_space line h (event.Net (net.EndDown i l)) meant e = absurd meant
-no_space line h (event.Net (net.EndUp i l)) meant e = absurd meant
-no_space line h (event.Net (net.ImpDown i)) meant e = absurd meant
-no_space line h (event.Net (net.ImpUp i)) meant e = absurd meant
-no_space line h (event.Net (net.Forget i j)) meant e = absurd meant
-no_space line h (event.Net (net.Abandon f)) meant e = absurd meant
+no_space line h x meant e = uncut 32 (keyword x) (text_of (made (keyword x)).0 (operand x)) (subst (Lacks 32) (e ∙ spelled x) h)
 
-first_word : (word rest key back : List ℕ) → Lacks 32 word → list_any (λ x. x == 32) key ≡ false → word ++ 32 ∷ rest ≡ key ++ 32 ∷ back → word ≡ key
-first_word word rest key back h plain e =
-    let cut : SameCut word rest key back = same_cut 32 word rest key back h (unmarked_where 32 key plain) e in
+-- a line begins with its event's keyword
+pub first_word : (word rest : List ℕ) (x : Event) → Lacks 32 word → word ++ 32 ∷ rest ≡ spelling x → word ≡ keyword x
+first_word word rest x h e =
+    let cut : SameCut word rest (keyword x) (text_of (made (keyword x)).0 (operand x)) = same_cut 32 word rest (keyword x) (text_of (made (keyword x)).0 (operand x)) h (unmarked_where 32 (keyword x) (plain x)) (e ∙ spelled x) in
     cut.front
 
--- a line with another first word is no event
-pub no_keyword : (word rest : List ℕ) → Lacks 32 word → word ≢ codes "out" → word ≢ codes "take" → word ≢ codes "giveup" → word ≢ codes "hostdown" → word ≢ codes "hostup" → (x : Event) → IsEvent x → word ++ 32 ∷ rest ≢ spelling x
-no_keyword word rest h out take giveup down up (event.Out m) meant e = out (first_word word rest (codes "out") (message_text m) h refl e)
-no_keyword word rest h out take giveup down up (event.Take g) meant e = take (first_word word rest (codes "take") (host_text g) h refl e)
-no_keyword word rest h out take giveup down up (event.Net (net.HostDown g)) meant e = down (first_word word rest (codes "hostdown") (host_text g) h refl e)
-no_keyword word rest h out take giveup down up (event.Net (net.HostUp g)) meant e = up (first_word word rest (codes "hostup") (host_text g) h refl e)
-no_keyword word rest h out take giveup down up (event.Net (net.GiveUp f)) meant e = giveup (first_word word rest (codes "giveup") (flow_text f) h refl e)
-no_keyword word rest h out take giveup down up (event.Net (net.Deliver l d k)) meant e = absurd meant
-no_keyword word rest h out take giveup down up (event.Net (net.Drop l d k)) meant e = absurd meant
-no_keyword word rest h out take giveup down up (event.Net (net.Resend i)) meant e = absurd meant
-no_keyword word rest h out take giveup down up (event.Net (net.Route i)) meant e = absurd meant
-no_keyword word rest h out take giveup down up (event.Net (net.EndDown i l)) meant e = absurd meant
-no_keyword word rest h out take giveup down up (event.Net (net.EndUp i l)) meant e = absurd meant
-no_keyword word rest h out take giveup down up (event.Net (net.ImpDown i)) meant e = absurd meant
-no_keyword word rest h out take giveup down up (event.Net (net.ImpUp i)) meant e = absurd meant
-no_keyword word rest h out take giveup down up (event.Net (net.Forget i j)) meant e = absurd meant
-no_keyword word rest h out take giveup down up (event.Net (net.Abandon f)) meant e = absurd meant
+-- a line whose operand spells none of its keyword's kind is no event
+pub no_operand : (key word rest : List ℕ) → word ≡ key → Lacks 32 word → ((z : OperandOf (made key).0) → IsMeant (made key).0 z → rest ≢ text_of (made key).0 z) → (x : NetEvent) → IsNetEvent x → word ++ 32 ∷ rest ≢ net_spelling x
+no_operand key word rest is h none x meant e =
+    let y : Event = event.Net x in
+    let cut : SameCut word rest (keyword y) (text_of (made (keyword y)).0 (operand y)) = same_cut 32 word rest (keyword y) (text_of (made (keyword y)).0 (operand y)) h (unmarked_where 32 (keyword y) (plain y)) (e ∙ spelled y) in
+    let F : List ℕ → Type 0 = λ w. (z : OperandOf (made w).0) → IsMeant (made w).0 z → rest ≢ text_of (made w).0 z in
+    let there : F (keyword y) = subst F (sym is ∙ cut.front) none in
+    there (operand y) (is_meant y meant) cut.back
+
+-- a line with another first word is none of these events
+pub no_host_event : (word rest : List ℕ) → Lacks 32 word → word ≢ codes "giveup" → word ≢ codes "abandon" → word ≢ codes "hostdown" → word ≢ codes "hostup"
+    → (x : NetEvent) → IsOfHosts x → word ++ 32 ∷ rest ≢ net_spelling x
+no_host_event word rest h giveup abandon hostdown hostup x meant e = by x meant (first_word word rest (event.Net x) h e) where
+  by : (y : NetEvent) → IsOfHosts y → word ≡ keyword (event.Net y) → ⊥
+  by (net.HostDown h) meant same = hostdown same
+  by (net.HostUp h) meant same = hostup same
+  by (net.GiveUp f) meant same = giveup same
+  by (net.Abandon f) meant same = abandon same
+  by (net.Resend i) meant same = absurd meant
+  by (net.Route i) meant same = absurd meant
+  by (net.ImpDown i) meant same = absurd meant
+  by (net.ImpUp i) meant same = absurd meant
+  by (net.Forget at from) meant same = absurd meant
+  by (net.Deliver l d k) meant same = absurd meant
+  by (net.Drop l d k) meant same = absurd meant
+  by (net.EndDown i l) meant same = absurd meant
+  by (net.EndUp i l) meant same = absurd meant
+
+-- a line with another first word is none of these events
+pub no_imp_event : (word rest : List ℕ) → Lacks 32 word → word ≢ codes "resend" → word ≢ codes "route" → word ≢ codes "impdown" → word ≢ codes "impup" → word ≢ codes "forget"
+    → (x : NetEvent) → IsOfImps x → word ++ 32 ∷ rest ≢ net_spelling x
+no_imp_event word rest h resend route impdown impup forget x meant e = by x meant (first_word word rest (event.Net x) h e) where
+  by : (y : NetEvent) → IsOfImps y → word ≡ keyword (event.Net y) → ⊥
+  by (net.HostDown h) meant same = absurd meant
+  by (net.HostUp h) meant same = absurd meant
+  by (net.GiveUp f) meant same = absurd meant
+  by (net.Abandon f) meant same = absurd meant
+  by (net.Resend i) meant same = resend same
+  by (net.Route i) meant same = route same
+  by (net.ImpDown i) meant same = impdown same
+  by (net.ImpUp i) meant same = impup same
+  by (net.Forget at from) meant same = forget same
+  by (net.Deliver l d k) meant same = absurd meant
+  by (net.Drop l d k) meant same = absurd meant
+  by (net.EndDown i l) meant same = absurd meant
+  by (net.EndUp i l) meant same = absurd meant
+
+-- a line with another first word is none of these events
+pub no_line_event : (word rest : List ℕ) → Lacks 32 word → word ≢ codes "deliver" → word ≢ codes "drop" → word ≢ codes "enddown" → word ≢ codes "endup"
+    → (x : NetEvent) → IsOfLines x → word ++ 32 ∷ rest ≢ net_spelling x
+no_line_event word rest h deliver drop enddown endup x meant e = by x meant (first_word word rest (event.Net x) h e) where
+  by : (y : NetEvent) → IsOfLines y → word ≡ keyword (event.Net y) → ⊥
+  by (net.HostDown h) meant same = absurd meant
+  by (net.HostUp h) meant same = absurd meant
+  by (net.GiveUp f) meant same = absurd meant
+  by (net.Abandon f) meant same = absurd meant
+  by (net.Resend i) meant same = absurd meant
+  by (net.Route i) meant same = absurd meant
+  by (net.ImpDown i) meant same = absurd meant
+  by (net.ImpUp i) meant same = absurd meant
+  by (net.Forget at from) meant same = absurd meant
+  by (net.Deliver l d k) meant same = deliver same
+  by (net.Drop l d k) meant same = drop same
+  by (net.EndDown i l) meant same = enddown same
+  by (net.EndUp i l) meant same = endup same
+
+-- what is none of the three is no event inside a network
+pub no_net_event : (line : List ℕ) → ((x : NetEvent) → IsOfHosts x → line ≢ net_spelling x) → ((x : NetEvent) → IsOfImps x → line ≢ net_spelling x) → ((x : NetEvent) → IsOfLines x → line ≢ net_spelling x)
+    → (x : NetEvent) → IsNetEvent x → line ≢ net_spelling x
+no_net_event line host imp lines (net.HostDown h) meant = host (net.HostDown h) meant
+no_net_event line host imp lines (net.HostUp h) meant = host (net.HostUp h) meant
+no_net_event line host imp lines (net.GiveUp f) meant = host (net.GiveUp f) meant
+no_net_event line host imp lines (net.Abandon f) meant = host (net.Abandon f) meant
+no_net_event line host imp lines (net.Resend i) meant = imp (net.Resend i) meant
+no_net_event line host imp lines (net.Route i) meant = imp (net.Route i) meant
+no_net_event line host imp lines (net.ImpDown i) meant = imp (net.ImpDown i) meant
+no_net_event line host imp lines (net.ImpUp i) meant = imp (net.ImpUp i) meant
+no_net_event line host imp lines (net.Forget at from) meant = imp (net.Forget at from) meant
+no_net_event line host imp lines (net.Deliver l d k) meant = lines (net.Deliver l d k) meant
+no_net_event line host imp lines (net.Drop l d k) meant = lines (net.Drop l d k) meant
+no_net_event line host imp lines (net.EndDown i l) meant = lines (net.EndDown i l) meant
+no_net_event line host imp lines (net.EndUp i l) meant = lines (net.EndUp i l) meant
+
+pub is_host_event : (x : NetEvent) → IsOfHosts x → IsNetEvent x
+is_host_event (net.HostDown h) meant = meant
+is_host_event (net.HostUp h) meant = meant
+is_host_event (net.GiveUp f) meant = meant
+is_host_event (net.Abandon f) meant = meant
+is_host_event (net.Resend i) meant = absurd meant
+is_host_event (net.Route i) meant = absurd meant
+is_host_event (net.ImpDown i) meant = absurd meant
+is_host_event (net.ImpUp i) meant = absurd meant
+is_host_event (net.Forget at from) meant = absurd meant
+is_host_event (net.Deliver l d k) meant = absurd meant
+is_host_event (net.Drop l d k) meant = absurd meant
+is_host_event (net.EndDown i l) meant = absurd meant
+is_host_event (net.EndUp i l) meant = absurd meant
+
+pub is_imp_event : (x : NetEvent) → IsOfImps x → IsNetEvent x
+is_imp_event (net.HostDown h) meant = absurd meant
+is_imp_event (net.HostUp h) meant = absurd meant
+is_imp_event (net.GiveUp f) meant = absurd meant
+is_imp_event (net.Abandon f) meant = absurd meant
+is_imp_event (net.Resend i) meant = meant
+is_imp_event (net.Route i) meant = meant
+is_imp_event (net.ImpDown i) meant = meant
+is_imp_event (net.ImpUp i) meant = meant
+is_imp_event (net.Forget at from) meant = meant
+is_imp_event (net.Deliver l d k) meant = absurd meant
+is_imp_event (net.Drop l d k) meant = absurd meant
+is_imp_event (net.EndDown i l) meant = absurd meant
+is_imp_event (net.EndUp i l) meant = absurd meant
+
+pub is_line_event : (x : NetEvent) → IsOfLines x → IsNetEvent x
+is_line_event (net.HostDown h) meant = absurd meant
+is_line_event (net.HostUp h) meant = absurd meant
+is_line_event (net.GiveUp f) meant = absurd meant
+is_line_event (net.Abandon f) meant = absurd meant
+is_line_event (net.Resend i) meant = absurd meant
+is_line_event (net.Route i) meant = absurd meant
+is_line_event (net.ImpDown i) meant = absurd meant
+is_line_event (net.ImpUp i) meant = absurd meant
+is_line_event (net.Forget at from) meant = absurd meant
+is_line_event (net.Deliver l d k) meant = meant
+is_line_event (net.Drop l d k) meant = meant
+is_line_event (net.EndDown i l) meant = meant
+is_line_event (net.EndUp i l) meant = meant
+
+-- a line with another first word than `out` and `take` is an event inside a network, or none
+pub no_event : (word rest : List ℕ) → Lacks 32 word → word ≢ codes "out" → word ≢ codes "take" → ((x : NetEvent) → IsNetEvent x → word ++ 32 ∷ rest ≢ net_spelling x) → (x : Event) → IsEvent x → word ++ 32 ∷ rest ≢ spelling x
+no_event word rest h out take none (event.Out m) meant e = out (first_word word rest (event.Out m) h e)
+no_event word rest h out take none (event.Take g) meant e = take (first_word word rest (event.Take g) h e)
+no_event word rest h out take none (event.Net x) meant e = none x meant e
+
+-- what no reader of hosts and IMPs took is read by the reader of lines
+pub net_read : (line : List ℕ) (o : Option NetEvent) → ReadsAs net_spelling IsOfHosts line None → ReadsAs net_spelling IsOfImps line None → ReadsAs net_spelling IsOfLines line o → ReadsAs net_spelling IsNetEvent line o
+net_read line (Some x) host imp read = (read.0, is_line_event x read.1)
+net_read line None host imp read = no_net_event line host imp read

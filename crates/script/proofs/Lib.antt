@@ -8,3 +8,4 @@ pub mod OneReading
 mod Parts
 mod Texts
 mod Words
+pub mod Places

@@ -1,27 +1,28 @@
 -- What is read is one thing: no two events are spelled alike, and an input is parted in one way.
-use Rattle.std.proofs.Common.{◌≡◌, ◌≢◌, ℕ, ◌<◌, ◌≤◌, Bool, false, List, [], ◌∷◌, ◌++◌, ◌+◌, ◌==◌, ◌⊎◌, inl, inr, count_by, Ok, length, take, map, codes, refl, sym, ap, ap₂, ◌∙◌, arith, lit<}
+use Rattle.std.proofs.Common.{◌≡◌, ◌≢◌, ℕ, ◌<◌, ◌≤◌, Bool, List, [], ◌∷◌, ◌++◌, ◌+◌, ◌^◌, ◌==◌, ◌⊎◌, inl, inr, count_by, Ok, length, take, map, codes, refl, sym, ap, ap₂, ◌∙◌, arith, lit<, subst}
 use Rattle.std.proofs.lemmas.Bool.{false≢true}
+use Rattle.std.proofs.lemmas.Bool.Decides.{nat_tests}
 use Rattle.std.proofs.lemmas.Fmt.{decimal_injective}
-use Rattle.std.proofs.lemmas.Slice.Eq.{bytes_eq-Decides}
 use Rattle.std.proofs.lemmas.List.Elements.{All-head, All-tail}
 use Rattle.std.specs.Fmt.{decimal}
 use Rattle.std.proofs.lemmas.List.Splits.{length-slice_split}
 use Rattle.std.specs.List.{All, flat_map, list_any}
-use Rattle.std.specs.Str.{bytes_eq}
 use Rattle.hex.proofs.HexLemmas.{decode_of-encode_upper}
 use Rattle.hex.specs.Hex.{decode_of}
 use Rattle.bit_messages.specs.Octets.{bits_of, octets_of}
 use Rattle.leader1822.specs.Host.{Host}
 use Rattle.leader1822.specs.Printed.{flow_text, host_text}
 use Rattle.leader1822.specs.declared.address.Flow.{Flow}
-use Rattle.leader1822.specs.declared.event.NetEvent.TheVariants as net
+use Rattle.leader1822.specs.declared.event.Direction.{Direction}
+use Rattle.leader1822.specs.declared.event.Direction.TheVariants as way
 use Rattle.leader1822.specs.declared.message.HostMessage.{HostMessage}
 use Rattle.script.specs.Input.{IsParted, ended}
 use Rattle.script.specs.Script.{AskFor, lines_of}
-use Rattle.script.specs.Spelling.{IsEvent, IsFlow, IsHost, IsMessage, message_text, octets_text, spelling}
+use Rattle.script.specs.Spelling.{IsEvent, IsFlow, IsHost, IsImp, IsMessage, direction_text, message_text, octets_text, spelling}
+use Rattle.script.specs.Steps.{IsFrame, frame_text, pair_text}
 use Rattle.script.specs.declared.event.Event.{Event}
-use Rattle.script.specs.declared.event.Event.TheVariants as event
-use Rattle.script.proofs.Keywords.{unmarked_where}
+use Rattle.script.proofs.Keywords.{unmarked_where, Kind, Messages, Hosts, Flows, Imps, Twos, Frames, Ends, OperandOf, text_of, IsMeant, keyword, made, operand, made_again, spelled, is_meant, plain}
+use Rattle.script.proofs.Places.{direction_unmarked}
 use Rattle.script.proofs.Hosts.{front_unmarked, host_range, host_unmarked}
 use Rattle.script.proofs.Messages.{message_words}
 use Rattle.script.proofs.Numbers.{All-unmarked_decimal}
@@ -85,101 +86,81 @@ message_once m n ms ns e =
     let text : m.text ≡ n.text = text_once m.text n.text long inner.third in
     λ i. record { flow = flow i; text = text i }
 
+-- ---- numbers
+
+imp_small : (n : ℕ) → IsImp n → n ≤ 63
+imp_small n is = grind (arith, nat_tests)
+
+record SamePair (a b c d : ℕ) : Type 0 where
+  first : a ≡ c
+  second : b ≡ d
+
+pair_once : (a b c d : ℕ) → a < 2 ^ 64 → b < 2 ^ 64 → c < 2 ^ 64 → d < 2 ^ 64 → pair_text (a, b) ≡ pair_text (c, d) → SamePair a b c d
+pair_once a b c d la lb lc ld e =
+    let cut : SameCut (decimal a) (decimal b) (decimal c) (decimal d) = same_cut 32 (decimal a) (decimal b) (decimal c) (decimal d) (All-unmarked_decimal 32 a (lit< tt) la) (All-unmarked_decimal 32 c (lit< tt) lc) e in
+    record { first = decimal_injective a c la lc cut.front; second = decimal_injective b d lb ld cut.back }
+
+abbrev is_back : List ℕ → Bool
+is_back word = list_any (λ x. x == 45) word
+
+direction_once : (c d : Direction) → direction_text c ≡ direction_text d → c ≡ d
+direction_once way.Forward way.Forward e = refl
+direction_once way.Forward way.Back e = absurd (false≢true (ap is_back e))
+direction_once way.Back way.Forward e = absurd (false≢true (ap is_back (sym e)))
+direction_once way.Back way.Back e = refl
+
+frame_once : (a b : ℕ × Direction × ℕ) → IsFrame a → IsFrame b → frame_text a ≡ frame_text b → a ≡ b
+frame_once (l, c, k) (m, d, n) p q e =
+    let small : l < 2 ^ 32 = p.0 in
+    let few : m < 2 ^ 32 = q.0 in
+    let low : k < 2 ^ 32 = p.1 in
+    let less : n < 2 ^ 32 = q.1 in
+    let same : SameThree (decimal l) (direction_text c) (decimal k) (decimal m) (direction_text d) (decimal n) =
+    same_three 32 (decimal l) (direction_text c) (decimal k) (decimal m) (direction_text d) (decimal n) (All-unmarked_decimal 32 l (lit< tt) (omega arith)) (direction_unmarked c) (All-unmarked_decimal 32 m (lit< tt) (omega arith)) (direction_unmarked d) e in
+    let line : l ≡ m = decimal_injective l m (omega arith) (omega arith) same.first in
+    let place : k ≡ n = decimal_injective k n (omega arith) (omega arith) same.third in
+    λ i. (line i, direction_once c d same.second i, place i)
+
 -- ---- events
 
-other_key : (a b : List ℕ) → bytes_eq a b ≡ false → a ≡ b → ⊥
-other_key a b differs e = false≢true (sym differs ∙ (bytes_eq-Decides a b).1 e)
+-- two operands of one kind
+operand_once : (k : Kind) (x y : OperandOf k) → IsMeant k x → IsMeant k y → text_of k x ≡ text_of k y → x ≡ y
+operand_once Messages x y p q e = message_once x y p q e
+operand_once Hosts x y p q e = host_once x y p q e
+operand_once Flows x y p q e = flow_once x y p q e
+operand_once Imps x y p q e =
+    let small : x ≤ 63 = imp_small x p in
+    let few : y ≤ 63 = imp_small y q in
+    decimal_injective x y (omega arith) (omega arith) e
+operand_once Twos (a, b) (c, d) p q e =
+    let la : a ≤ 63 = imp_small a p.0 in
+    let lb : b ≤ 63 = imp_small b p.1 in
+    let lc : c ≤ 63 = imp_small c q.0 in
+    let ld : d ≤ 63 = imp_small d q.1 in
+    let same : SamePair a b c d = pair_once a b c d (omega arith) (omega arith) (omega arith) (omega arith) e in
+    λ i. (same.first i, same.second i)
+operand_once Frames x y p q e = frame_once x y p q e
+operand_once Ends (a, b) (c, d) p q e =
+    let la : a ≤ 63 = imp_small a p.0 in
+    let lb : b < 2 ^ 32 = p.1 in
+    let lc : c ≤ 63 = imp_small c q.0 in
+    let ld : d < 2 ^ 32 = q.1 in
+    let same : SamePair a b c d = pair_once a b c d (omega arith) (omega arith) (omega arith) (omega arith) e in
+    λ i. (same.first i, same.second i)
 
--- two lines that are alike have one first word, and one rest
-alike : (key other : List ℕ) (rest more : List ℕ) → list_any (λ x. x == 32) key ≡ false → list_any (λ x. x == 32) other ≡ false → key ++ 32 ∷ rest ≡ other ++ 32 ∷ more → SameCut key rest other more
-alike key other rest more plain plainly e = same_cut 32 key rest other more (unmarked_where 32 key plain) (unmarked_where 32 other plainly) e
+-- one keyword with operands that are spelled alike makes one event
+made_once : (word other : List ℕ) → word ≡ other → (x : OperandOf (made word).0) (y : OperandOf (made other).0) → IsMeant (made word).0 x → IsMeant (made other).0 y
+    → text_of (made word).0 x ≡ text_of (made other).0 y → (made word).1 x ≡ (made other).1 y
+made_once word other same x y p q e =
+    let F : List ℕ → Type 0 = λ w. (z : OperandOf (made w).0) → IsMeant (made w).0 z → text_of (made word).0 x ≡ text_of (made w).0 z → (made word).1 x ≡ (made w).1 z in
+    let here : F word = λ z is alike. ap (made word).1 (operand_once (made word).0 x z p is alike) in
+    subst F same here y q e
 
 event_once : (d e : Event) → IsEvent d → IsEvent e → spelling d ≡ spelling e → d ≡ e
-event_once (event.Out x) (event.Out y) p q e = ap (λ z. event.Out z) (message_once x y p q (alike (codes "out") (codes "out") (message_text x) (message_text y) refl refl e).back)
-event_once (event.Out x) (event.Take y) p q e = absurd (other_key (codes "out") (codes "take") refl (alike (codes "out") (codes "take") (message_text x) (host_text y) refl refl e).front)
-event_once (event.Out x) (event.Net (net.HostDown y)) p q e = absurd (other_key (codes "out") (codes "hostdown") refl (alike (codes "out") (codes "hostdown") (message_text x) (host_text y) refl refl e).front)
-event_once (event.Out x) (event.Net (net.HostUp y)) p q e = absurd (other_key (codes "out") (codes "hostup") refl (alike (codes "out") (codes "hostup") (message_text x) (host_text y) refl refl e).front)
-event_once (event.Out x) (event.Net (net.GiveUp y)) p q e = absurd (other_key (codes "out") (codes "giveup") refl (alike (codes "out") (codes "giveup") (message_text x) (flow_text y) refl refl e).front)
-event_once (event.Out x) (event.Net (net.Deliver l d k)) p q e = absurd q
-event_once (event.Out x) (event.Net (net.Drop l d k)) p q e = absurd q
-event_once (event.Out x) (event.Net (net.Resend i)) p q e = absurd q
-event_once (event.Out x) (event.Net (net.Route i)) p q e = absurd q
-event_once (event.Out x) (event.Net (net.EndDown i l)) p q e = absurd q
-event_once (event.Out x) (event.Net (net.EndUp i l)) p q e = absurd q
-event_once (event.Out x) (event.Net (net.ImpDown i)) p q e = absurd q
-event_once (event.Out x) (event.Net (net.ImpUp i)) p q e = absurd q
-event_once (event.Out x) (event.Net (net.Forget i j)) p q e = absurd q
-event_once (event.Out x) (event.Net (net.Abandon f)) p q e = absurd q
-event_once (event.Take x) (event.Out y) p q e = absurd (other_key (codes "take") (codes "out") refl (alike (codes "take") (codes "out") (host_text x) (message_text y) refl refl e).front)
-event_once (event.Take x) (event.Take y) p q e = ap (λ z. event.Take z) (host_once x y p q (alike (codes "take") (codes "take") (host_text x) (host_text y) refl refl e).back)
-event_once (event.Take x) (event.Net (net.HostDown y)) p q e = absurd (other_key (codes "take") (codes "hostdown") refl (alike (codes "take") (codes "hostdown") (host_text x) (host_text y) refl refl e).front)
-event_once (event.Take x) (event.Net (net.HostUp y)) p q e = absurd (other_key (codes "take") (codes "hostup") refl (alike (codes "take") (codes "hostup") (host_text x) (host_text y) refl refl e).front)
-event_once (event.Take x) (event.Net (net.GiveUp y)) p q e = absurd (other_key (codes "take") (codes "giveup") refl (alike (codes "take") (codes "giveup") (host_text x) (flow_text y) refl refl e).front)
-event_once (event.Take x) (event.Net (net.Deliver l d k)) p q e = absurd q
-event_once (event.Take x) (event.Net (net.Drop l d k)) p q e = absurd q
-event_once (event.Take x) (event.Net (net.Resend i)) p q e = absurd q
-event_once (event.Take x) (event.Net (net.Route i)) p q e = absurd q
-event_once (event.Take x) (event.Net (net.EndDown i l)) p q e = absurd q
-event_once (event.Take x) (event.Net (net.EndUp i l)) p q e = absurd q
-event_once (event.Take x) (event.Net (net.ImpDown i)) p q e = absurd q
-event_once (event.Take x) (event.Net (net.ImpUp i)) p q e = absurd q
-event_once (event.Take x) (event.Net (net.Forget i j)) p q e = absurd q
-event_once (event.Take x) (event.Net (net.Abandon f)) p q e = absurd q
-event_once (event.Net (net.HostDown x)) (event.Out y) p q e = absurd (other_key (codes "hostdown") (codes "out") refl (alike (codes "hostdown") (codes "out") (host_text x) (message_text y) refl refl e).front)
-event_once (event.Net (net.HostDown x)) (event.Take y) p q e = absurd (other_key (codes "hostdown") (codes "take") refl (alike (codes "hostdown") (codes "take") (host_text x) (host_text y) refl refl e).front)
-event_once (event.Net (net.HostDown x)) (event.Net (net.HostDown y)) p q e = ap (λ z. event.Net (net.HostDown z)) (host_once x y p q (alike (codes "hostdown") (codes "hostdown") (host_text x) (host_text y) refl refl e).back)
-event_once (event.Net (net.HostDown x)) (event.Net (net.HostUp y)) p q e = absurd (other_key (codes "hostdown") (codes "hostup") refl (alike (codes "hostdown") (codes "hostup") (host_text x) (host_text y) refl refl e).front)
-event_once (event.Net (net.HostDown x)) (event.Net (net.GiveUp y)) p q e = absurd (other_key (codes "hostdown") (codes "giveup") refl (alike (codes "hostdown") (codes "giveup") (host_text x) (flow_text y) refl refl e).front)
-event_once (event.Net (net.HostDown x)) (event.Net (net.Deliver l d k)) p q e = absurd q
-event_once (event.Net (net.HostDown x)) (event.Net (net.Drop l d k)) p q e = absurd q
-event_once (event.Net (net.HostDown x)) (event.Net (net.Resend i)) p q e = absurd q
-event_once (event.Net (net.HostDown x)) (event.Net (net.Route i)) p q e = absurd q
-event_once (event.Net (net.HostDown x)) (event.Net (net.EndDown i l)) p q e = absurd q
-event_once (event.Net (net.HostDown x)) (event.Net (net.EndUp i l)) p q e = absurd q
-event_once (event.Net (net.HostDown x)) (event.Net (net.ImpDown i)) p q e = absurd q
-event_once (event.Net (net.HostDown x)) (event.Net (net.ImpUp i)) p q e = absurd q
-event_once (event.Net (net.HostDown x)) (event.Net (net.Forget i j)) p q e = absurd q
-event_once (event.Net (net.HostDown x)) (event.Net (net.Abandon f)) p q e = absurd q
-event_once (event.Net (net.HostUp x)) (event.Out y) p q e = absurd (other_key (codes "hostup") (codes "out") refl (alike (codes "hostup") (codes "out") (host_text x) (message_text y) refl refl e).front)
-event_once (event.Net (net.HostUp x)) (event.Take y) p q e = absurd (other_key (codes "hostup") (codes "take") refl (alike (codes "hostup") (codes "take") (host_text x) (host_text y) refl refl e).front)
-event_once (event.Net (net.HostUp x)) (event.Net (net.HostDown y)) p q e = absurd (other_key (codes "hostup") (codes "hostdown") refl (alike (codes "hostup") (codes "hostdown") (host_text x) (host_text y) refl refl e).front)
-event_once (event.Net (net.HostUp x)) (event.Net (net.HostUp y)) p q e = ap (λ z. event.Net (net.HostUp z)) (host_once x y p q (alike (codes "hostup") (codes "hostup") (host_text x) (host_text y) refl refl e).back)
-event_once (event.Net (net.HostUp x)) (event.Net (net.GiveUp y)) p q e = absurd (other_key (codes "hostup") (codes "giveup") refl (alike (codes "hostup") (codes "giveup") (host_text x) (flow_text y) refl refl e).front)
-event_once (event.Net (net.HostUp x)) (event.Net (net.Deliver l d k)) p q e = absurd q
-event_once (event.Net (net.HostUp x)) (event.Net (net.Drop l d k)) p q e = absurd q
-event_once (event.Net (net.HostUp x)) (event.Net (net.Resend i)) p q e = absurd q
-event_once (event.Net (net.HostUp x)) (event.Net (net.Route i)) p q e = absurd q
-event_once (event.Net (net.HostUp x)) (event.Net (net.EndDown i l)) p q e = absurd q
-event_once (event.Net (net.HostUp x)) (event.Net (net.EndUp i l)) p q e = absurd q
-event_once (event.Net (net.HostUp x)) (event.Net (net.ImpDown i)) p q e = absurd q
-event_once (event.Net (net.HostUp x)) (event.Net (net.ImpUp i)) p q e = absurd q
-event_once (event.Net (net.HostUp x)) (event.Net (net.Forget i j)) p q e = absurd q
-event_once (event.Net (net.HostUp x)) (event.Net (net.Abandon f)) p q e = absurd q
-event_once (event.Net (net.GiveUp x)) (event.Out y) p q e = absurd (other_key (codes "giveup") (codes "out") refl (alike (codes "giveup") (codes "out") (flow_text x) (message_text y) refl refl e).front)
-event_once (event.Net (net.GiveUp x)) (event.Take y) p q e = absurd (other_key (codes "giveup") (codes "take") refl (alike (codes "giveup") (codes "take") (flow_text x) (host_text y) refl refl e).front)
-event_once (event.Net (net.GiveUp x)) (event.Net (net.HostDown y)) p q e = absurd (other_key (codes "giveup") (codes "hostdown") refl (alike (codes "giveup") (codes "hostdown") (flow_text x) (host_text y) refl refl e).front)
-event_once (event.Net (net.GiveUp x)) (event.Net (net.HostUp y)) p q e = absurd (other_key (codes "giveup") (codes "hostup") refl (alike (codes "giveup") (codes "hostup") (flow_text x) (host_text y) refl refl e).front)
-event_once (event.Net (net.GiveUp x)) (event.Net (net.GiveUp y)) p q e = ap (λ z. event.Net (net.GiveUp z)) (flow_once x y p q (alike (codes "giveup") (codes "giveup") (flow_text x) (flow_text y) refl refl e).back)
-event_once (event.Net (net.GiveUp x)) (event.Net (net.Deliver l d k)) p q e = absurd q
-event_once (event.Net (net.GiveUp x)) (event.Net (net.Drop l d k)) p q e = absurd q
-event_once (event.Net (net.GiveUp x)) (event.Net (net.Resend i)) p q e = absurd q
-event_once (event.Net (net.GiveUp x)) (event.Net (net.Route i)) p q e = absurd q
-event_once (event.Net (net.GiveUp x)) (event.Net (net.EndDown i l)) p q e = absurd q
-event_once (event.Net (net.GiveUp x)) (event.Net (net.EndUp i l)) p q e = absurd q
-event_once (event.Net (net.GiveUp x)) (event.Net (net.ImpDown i)) p q e = absurd q
-event_once (event.Net (net.GiveUp x)) (event.Net (net.ImpUp i)) p q e = absurd q
-event_once (event.Net (net.GiveUp x)) (event.Net (net.Forget i j)) p q e = absurd q
-event_once (event.Net (net.GiveUp x)) (event.Net (net.Abandon f)) p q e = absurd q
-event_once (event.Net (net.Deliver l d k)) y p q e = absurd p
-event_once (event.Net (net.Drop l d k)) y p q e = absurd p
-event_once (event.Net (net.Resend i)) y p q e = absurd p
-event_once (event.Net (net.Route i)) y p q e = absurd p
-event_once (event.Net (net.EndDown i l)) y p q e = absurd p
-event_once (event.Net (net.EndUp i l)) y p q e = absurd p
-event_once (event.Net (net.ImpDown i)) y p q e = absurd p
-event_once (event.Net (net.ImpUp i)) y p q e = absurd p
-event_once (event.Net (net.Forget i j)) y p q e = absurd p
-event_once (event.Net (net.Abandon f)) y p q e = absurd p
+event_once d e p q same =
+    let cut : SameCut (keyword d) (text_of (made (keyword d)).0 (operand d)) (keyword e) (text_of (made (keyword e)).0 (operand e)) =
+    same_cut 32 (keyword d) (text_of (made (keyword d)).0 (operand d)) (keyword e) (text_of (made (keyword e)).0 (operand e)) (unmarked_where 32 (keyword d) (plain d)) (unmarked_where 32 (keyword e) (plain e)) (sym (spelled d) ∙ same ∙ spelled e) in
+    sym (made_again d) ∙ made_once (keyword d) (keyword e) cut.front (operand d) (operand e) (is_meant d p) (is_meant e q) cut.back ∙ made_again e
 
 events_once : (ds es : List Event) → All IsEvent ds → All IsEvent es → map spelling ds ≡ map spelling es → ds ≡ es
 events_once [] [] p q e = refl

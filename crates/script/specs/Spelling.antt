@@ -1,10 +1,10 @@
 -- How events are spelled in a script: words with single spaces between.
-use Rattle.std.specs.Prelude.{◌≡◌, ◌≢◌, ℕ, ◌+◌, ◌*◌, ◌/◌, ◌<◌, ◌≤◌, nat_le, Bool, true, false, ◌&&◌, ◌||◌, List, [], ◌∷◌, ◌++◌, ◌⊎◌, length, take, replicate, codes, Option, Some, None, Ok}
+use Rattle.std.specs.Prelude.{◌≡◌, ◌≢◌, ℕ, ◌+◌, ◌*◌, ◌/◌, ◌^◌, ◌<◌, ◌≤◌, nat_le, Bool, true, false, ◌&&◌, ◌||◌, List, [], ◌∷◌, ◌++◌, ◌⊎◌, length, take, replicate, codes, Option, Some, None, Ok}
 use Rattle.std.specs.List.{list_all}
 use Rattle.std.specs.Fmt.{decimal}
 use Rattle.hex.specs.Hex.{decode_of, encode_upper}
 use Rattle.bit_messages.specs.Octets.{octets_of, bits_of, spare_bits}
-use Rattle.leader1822.specs.Host.{Host, host_at}
+use Rattle.leader1822.specs.Host.{Host, host_at, imp_at}
 use Rattle.leader1822.specs.Printed.{host_text, flow_text}
 use Rattle.leader1822.specs.declared.address.Flow.{Flow}
 use Rattle.leader1822.specs.declared.event.Direction.{Direction}
@@ -84,12 +84,29 @@ spelling (event.Out m) = codes "out " ++ message_text m
 spelling (event.Take h) = codes "take " ++ host_text h
 spelling (event.Net e) = net_spelling e
 
--- of the events inside a network a script may ask for these: a message is given up, a host stops, a host starts
+-- a valid number of an IMP: 1 to 63
+abbrev pub IsImp : ℕ → Type 0
+IsImp n = imp_at n ≡ Some n
+
+-- a valid number of a line, or place of a frame: one of 32 bits
+abbrev pub IsIndex : ℕ → Type 0
+IsIndex n = n < 2 ^ 32
+
+-- the events inside a network are valid where the hosts, IMPs, links and numbers are that they name
 abbrev pub IsNetEvent : NetEvent → Type 0
+IsNetEvent (net.Deliver line way frame) = IsIndex line × IsIndex frame
+IsNetEvent (net.Drop line way frame) = IsIndex line × IsIndex frame
+IsNetEvent (net.Resend imp) = IsImp imp
+IsNetEvent (net.Route imp) = IsImp imp
+IsNetEvent (net.EndDown imp line) = IsImp imp × IsIndex line
+IsNetEvent (net.EndUp imp line) = IsImp imp × IsIndex line
+IsNetEvent (net.ImpDown imp) = IsImp imp
+IsNetEvent (net.ImpUp imp) = IsImp imp
 IsNetEvent (net.HostDown h) = IsHost h
 IsNetEvent (net.HostUp h) = IsHost h
 IsNetEvent (net.GiveUp f) = IsFlow f
-IsNetEvent e = ⊥
+IsNetEvent (net.Forget at from) = IsImp at × IsImp from
+IsNetEvent (net.Abandon f) = IsFlow f
 
 -- the events that a script may ask for
 abbrev pub IsEvent : Event → Type 0

@@ -1,12 +1,15 @@
 -- What the contracts of private functions say. No public clause cites this file.
-use Rattle.std.specs.Prelude.{◌≡◌, ℕ, ◌==◌, ◌&&◌, ◌||◌, nat_lt, Bool, true, false, List, [], ◌∷◌, Option, Some, None, length}
+use Rattle.std.specs.Prelude.{◌≡◌, ◌++◌, codes, ℕ, ◌==◌, ◌&&◌, ◌||◌, nat_lt, Bool, true, false, List, [], ◌∷◌, Option, Some, None, length}
 use Rattle.std.specs.Borrow.{Bor}
 use Rattle.std.specs.Fmt.{decimal}
 use Rattle.std.specs.List.{All}
 use Rattle.leader1822.specs.Printed.{host_text}
 use Rattle.leader1822.specs.declared.address.Flow.{Flow}
 use Rattle.script.specs.Script.{lines_of}
-use Rattle.script.specs.Spelling.{IsFlow}
+use Rattle.leader1822.specs.declared.event.Direction.{Direction}
+use Rattle.leader1822.specs.declared.event.NetEvent.{NetEvent}
+use Rattle.leader1822.specs.declared.event.NetEvent.TheVariants as net
+use Rattle.script.specs.Spelling.{IsHost, IsFlow, IsImp, IsIndex, direction_text}
 
 -- the lines after a line, where there are any
 abbrev pub lines_after : Option (Bor (List ℕ)) → List (List ℕ)
@@ -26,3 +29,53 @@ ReadsFlow source destination link None = (f : Flow) → IsFlow f → source ≡ 
 abbrev pub begins_wrong : List ℕ → Bool
 begins_wrong [] = true
 begins_wrong (c ∷ cs) = c == 43 || (c == 48 && nat_lt 0 (length cs))
+
+-- ---- events inside a network, by what they name
+
+-- a host or a flow
+abbrev pub IsOfHosts : NetEvent → Type 0
+IsOfHosts (net.HostDown h) = IsHost h
+IsOfHosts (net.HostUp h) = IsHost h
+IsOfHosts (net.GiveUp f) = IsFlow f
+IsOfHosts (net.Abandon f) = IsFlow f
+IsOfHosts e = ⊥
+
+-- IMPs alone
+abbrev pub IsOfImps : NetEvent → Type 0
+IsOfImps (net.Resend imp) = IsImp imp
+IsOfImps (net.Route imp) = IsImp imp
+IsOfImps (net.ImpDown imp) = IsImp imp
+IsOfImps (net.ImpUp imp) = IsImp imp
+IsOfImps (net.Forget at from) = IsImp at × IsImp from
+IsOfImps e = ⊥
+
+-- a line
+abbrev pub IsOfLines : NetEvent → Type 0
+IsOfLines (net.Deliver line way frame) = IsIndex line × IsIndex frame
+IsOfLines (net.Drop line way frame) = IsIndex line × IsIndex frame
+IsOfLines (net.EndDown imp line) = IsImp imp × IsIndex line
+IsOfLines (net.EndUp imp line) = IsImp imp × IsIndex line
+IsOfLines e = ⊥
+
+-- a frame: its line, its way and its place
+abbrev pub frame_text : ℕ × Direction × ℕ → List ℕ
+frame_text f = decimal f.0 ++ (codes " " ++ (direction_text f.1 ++ (codes " " ++ decimal f.2)))
+
+abbrev pub IsFrame : ℕ × Direction × ℕ → Type 0
+IsFrame f = IsIndex f.0 × IsIndex f.2
+
+-- two numbers
+abbrev pub pair_text : ℕ × ℕ → List ℕ
+pair_text p = decimal p.0 ++ (codes " " ++ decimal p.1)
+
+-- an IMP and a line
+abbrev pub IsEnd : ℕ × ℕ → Type 0
+IsEnd p = IsImp p.0 × IsIndex p.1
+
+-- two IMPs
+abbrev pub AreImps : ℕ × ℕ → Type 0
+AreImps p = IsImp p.0 × IsImp p.1
+
+-- each direction has a sign
+abbrev pub IsDirection : Direction → Type 0
+IsDirection way = Unit {0}

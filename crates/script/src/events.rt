@@ -9,8 +9,9 @@ ghost use Rattle.script.specs.Steps.{ReadsFlow, Lacks};
 use crate::event::Event;
 use crate::fault::LineFault;
 use crate::input::{MAX_INPUT, first_line};
+use crate::network::read_net;
 use crate::word::{cut, read_count, read_host, read_octet, read_text};
-use leader1822::{Flow, HostMessage, Link, NetEvent};
+use leader1822::{Flow, HostMessage, Link};
 use std::alloc::{AllocError, Global};
 
 /// The events of a script, in order. Empty lines and lines that begin with `#` are passed over, but they are
@@ -73,20 +74,13 @@ fn read_plain(word: &[u8], rest: &[u8]) -> Option<Event>
     ensures { ReadsAs spelling IsEvent (word.now ++ 32 ∷ rest.now) result }
 {
     if word == b"take".as_slice() {
-        Some(Event::Take(read_host(rest)?))
-    } else if word == b"giveup".as_slice() {
-        Some(Event::Net(NetEvent::GiveUp(read_three(rest)?)))
-    } else if word == b"hostdown".as_slice() {
-        Some(Event::Net(NetEvent::HostDown(read_host(rest)?)))
-    } else if word == b"hostup".as_slice() {
-        Some(Event::Net(NetEvent::HostUp(read_host(rest)?)))
-    } else {
-        None
+        return Some(Event::Take(read_host(rest)?));
     }
+    Some(Event::Net(read_net(word, rest)?))
 }
 
 /// The first two words, and what stands after them.
-fn cut_twice(words: &[u8]) -> Option<(&[u8], &[u8], &[u8])>
+pub(crate) fn cut_twice(words: &[u8]) -> Option<(&[u8], &[u8], &[u8])>
     ensures { MatchOption result ((a b c : List ℕ) → words.now ≢ a ++ 32 ∷ (b ++ 32 ∷ c)) (λ parts. (words.now ≡ parts.0.now ++ 32 ∷ (parts.1.now ++ 32 ∷ parts.2.now)) × Lacks 32 parts.0.now × Lacks 32 parts.1.now) }
 {
     let (first, rest) = cut(words, b' ')?;
@@ -106,7 +100,7 @@ fn read_flow(source: &[u8], destination: &[u8], link: &[u8]) -> Option<Flow>
 }
 
 /// The flow that is spelled `source destination link`.
-fn read_three(words: &[u8]) -> Option<Flow>
+pub(crate) fn read_three(words: &[u8]) -> Option<Flow>
     ensures { ReadsAs flow_text IsFlow words.now result }
 {
     let (source, destination, link) = cut_twice(words)?;

@@ -12,6 +12,7 @@ mod fault;
 mod hexadecimal;
 mod input;
 pub mod law;
+mod network;
 mod word;
 
 pub use event::Event;

@@ -5,12 +5,12 @@ ghost use Rattle.std.specs.List.{All};
 ghost use Rattle.std.specs.Fmt.{decimal};
 ghost use Rattle.bit_messages.specs.Octets.{bits_of};
 ghost use Rattle.leader1822.specs.Printed.{host_text};
-ghost use Rattle.script.specs.Steps.{begins_wrong};
-ghost use Rattle.script.specs.Spelling.{ReadsAs, IsHost, IsHex, octets_text};
+ghost use Rattle.script.specs.Steps.{begins_wrong, IsDirection};
+ghost use Rattle.script.specs.Spelling.{ReadsAs, IsHost, IsImp, IsHex, direction_text, octets_text};
 
 use crate::hexadecimal::read_octets;
 use bit_messages::{BitFault, Bits, MAX_TEXT_BITS};
-use leader1822::{HostAddr, Text};
+use leader1822::{Direction, HostAddr, ImpNumber, Text};
 use std::alloc::{AllocError, Global};
 use std::str;
 
@@ -31,7 +31,7 @@ pub(crate) fn read_number(word: &[u8], most: u32) -> Option<u32>
 }
 
 /// The number of 32 bits that a word spells.
-fn plain_number(word: &[u8]) -> Option<u32>
+pub(crate) fn plain_number(word: &[u8]) -> Option<u32>
     ensures { ReadsAs decimal (λ n. n < 2 ^ 32) word.now result }
 {
     if begins_wrong(word) {
@@ -59,6 +59,26 @@ pub(crate) fn read_octet(word: &[u8]) -> Option<u8>
 {
     let number = read_number(word, 255)?;
     u8::try_from(number).ok()
+}
+
+/// The IMP that a word spells by its number, 1 to 63.
+pub(crate) fn read_imp(word: &[u8]) -> Option<ImpNumber>
+    ensures { ReadsAs decimal IsImp word.now result }
+{
+    ImpNumber::new(read_octet(word)?)
+}
+
+/// The direction of a line that a word spells: `+` is from its first IMP to its second, `-` is back.
+pub(crate) fn read_direction(word: &[u8]) -> Option<Direction>
+    ensures { ReadsAs direction_text IsDirection word.now result }
+{
+    if word == b"+".as_slice() {
+        Some(Direction::Forward)
+    } else if word == b"-".as_slice() {
+        Some(Direction::Back)
+    } else {
+        None
+    }
 }
 
 /// The host that a word spells as `host/imp`.

@@ -32,7 +32,7 @@ fn bad_topologies(rt: HostRuntime) {
 }
 
 /// Lines that are no events. The marker line is one too, after the first that parts the input.
-const NO_EVENTS: [&str; 34] = [
+const NO_EVENTS: [&str; 44] = [
     " ",
     "jump",
     "take",
@@ -64,7 +64,17 @@ const NO_EVENTS: [&str; 34] = [
     "out 0/1 0/2 5 08 FF",
     "giveup 0/1 0/2",
     "giveup 0/1 0/2 256",
-    "impdown 1",
+    "impdown 0",
+    "impup 64",
+    "resend",
+    "route 1 2",
+    "deliver 0 * 0",
+    "deliver 0 + -1",
+    "drop 4294967296 - 0",
+    "enddown 1",
+    "endup 0 1",
+    "forget 2 0",
+    "abandon 0/1 0/2",
     "%",
     "calm 1",
 ];

@@ -3,7 +3,7 @@
 use super::*;
 
 /// Scripts over two IMPs with a host each, and their output.
-const RUNS: [(&[u8], &[u8]); 5] = [
+const RUNS: [(&[u8], &[u8]); 6] = [
     (
         b"out 0/1 0/2 5 24 414243\nout 0/1 0/2 5 8 FF\ntake 0/2\ntake 0/1\ntake 0/1\n",
         b"out 0/1 0/2 5 24\nrefused Blocked\nin 0/1 0/2 5 24\nanswer rfnm 0/1 0/2 5\nend\n",
@@ -19,6 +19,10 @@ const RUNS: [(&[u8], &[u8]); 5] = [
     (
         b"out 0/1 0/2 255 0 -\ntake 0/2\n",
         b"out 0/1 0/2 255 0\nin 0/1 0/2 255 0\nend\n",
+    ),
+    (
+        b"deliver 0 + 0\ndrop 4294967295 - 12\nresend 1\nroute 63\nenddown 1 0\nendup 2 0\nimpdown 1\nimpup 1\nforget 2 1\nabandon 0/1 0/2 5\nhostdown 0/2\n",
+        b"refused NoSuch\nrefused NoSuch\nrefused NoSuch\nrefused NoSuch\nrefused NoSuch\nrefused NoSuch\nrefused NoSuch\nrefused NoSuch\nrefused NoSuch\nrefused NoSuch\ndown 0/2\nend\n",
     ),
     (b"", b"end\n"),
 ];

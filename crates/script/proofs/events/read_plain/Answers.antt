@@ -1,11 +1,9 @@
 use Rattle.std.proofs.Common.{codes}
-use Rattle.script.proofs.Keywords.{no_keyword, differs}
+use Rattle.script.proofs.Keywords.{no_event, differs}
 use Rattle.script.proofs.events.read_plain.Goals as goal
 
-pub returns-else-eq-4 : goal.returns-else-eq-4
-returns-else-eq-4 c =
-    no_keyword c.args.word.now c.args.rest.now c.requires.word c.requires.not_out
+pub returns-in_err-read_net : goal.returns-in_err-read_net
+returns-in_err-read_net c =
+    rw c.from_residual-in_err-read_net.ensures (no_event c.args.word.now c.args.rest.now c.requires.word c.requires.not_out
     (differs c.args.word.now (codes "take") c.as_slice.result.now c.eq.result c.eq.ensures c.as_slice.ensures c.if-eq.false)
-    (differs c.args.word.now (codes "giveup") c.as_slice-else-eq.result.now c.eq-else-eq.result c.eq-else-eq.ensures c.as_slice-else-eq.ensures c.if-eq-2.false)
-    (differs c.args.word.now (codes "hostdown") c.as_slice-else-eq-2.result.now c.eq-else-eq-2.result c.eq-else-eq-2.ensures c.as_slice-else-eq-2.ensures c.if-eq-3.false)
-    (differs c.args.word.now (codes "hostup") c.as_slice-else-eq-3.result.now c.eq-else-eq-3.result c.eq-else-eq-3.ensures c.as_slice-else-eq-3.ensures c.if-eq-4.false)
+    c.in_err-read_net.ensures)

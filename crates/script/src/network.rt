@@ -1,0 +1,120 @@
+//! Lines of what happens inside a network.
+
+ghost use Rattle.std.specs.Prelude.{ℕ, ◌∷◌, ◌++◌};
+ghost use Rattle.script.specs.Spelling.{ReadsAs, IsNetEvent, net_spelling};
+ghost use Rattle.script.specs.Steps.{Lacks, IsOfHosts, IsOfImps, IsOfLines, frame_text, IsFrame, pair_text, IsEnd, AreImps};
+
+use crate::events::{cut_twice, read_three};
+use crate::word::{cut, plain_number, read_direction, read_host, read_imp};
+use leader1822::{Direction, ImpNumber, NetEvent};
+
+/// What happens inside a network by a line, from its first word and what follows it.
+pub(crate) fn read_net(word: &[u8], rest: &[u8]) -> Option<NetEvent>
+    requires { Lacks 32 word.now }
+    ensures { ReadsAs net_spelling IsNetEvent (word.now ++ 32 ∷ rest.now) result }
+{
+    if let Some(event) = read_host_event(word, rest) {
+        return Some(event);
+    }
+    if let Some(event) = read_imp_event(word, rest) {
+        return Some(event);
+    }
+    read_line_event(word, rest)
+}
+
+/// The event that a line names by a host or a flow.
+fn read_host_event(word: &[u8], rest: &[u8]) -> Option<NetEvent>
+    requires { Lacks 32 word.now }
+    ensures { ReadsAs net_spelling IsOfHosts (word.now ++ 32 ∷ rest.now) result }
+{
+    if word == b"giveup".as_slice() {
+        Some(NetEvent::GiveUp(read_three(rest)?))
+    } else if word == b"abandon".as_slice() {
+        Some(NetEvent::Abandon(read_three(rest)?))
+    } else if word == b"hostdown".as_slice() {
+        Some(NetEvent::HostDown(read_host(rest)?))
+    } else if word == b"hostup".as_slice() {
+        Some(NetEvent::HostUp(read_host(rest)?))
+    } else {
+        None
+    }
+}
+
+/// The event that a line names by IMPs alone.
+fn read_imp_event(word: &[u8], rest: &[u8]) -> Option<NetEvent>
+    requires { Lacks 32 word.now }
+    ensures { ReadsAs net_spelling IsOfImps (word.now ++ 32 ∷ rest.now) result }
+{
+    if word == b"resend".as_slice() {
+        Some(NetEvent::Resend(read_imp(rest)?))
+    } else if word == b"route".as_slice() {
+        Some(NetEvent::Route(read_imp(rest)?))
+    } else if word == b"impdown".as_slice() {
+        Some(NetEvent::ImpDown(read_imp(rest)?))
+    } else if word == b"impup".as_slice() {
+        Some(NetEvent::ImpUp(read_imp(rest)?))
+    } else if word == b"forget".as_slice() {
+        let (at, from) = read_two_imps(rest)?;
+        Some(NetEvent::Forget { at, from })
+    } else {
+        None
+    }
+}
+
+/// The event that a line names by a line of the network.
+fn read_line_event(word: &[u8], rest: &[u8]) -> Option<NetEvent>
+    requires { Lacks 32 word.now }
+    ensures { ReadsAs net_spelling IsOfLines (word.now ++ 32 ∷ rest.now) result }
+{
+    if word == b"deliver".as_slice() {
+        let (line, direction, frame) = read_frame(rest)?;
+        Some(NetEvent::Deliver {
+            line,
+            direction,
+            frame,
+        })
+    } else if word == b"drop".as_slice() {
+        let (line, direction, frame) = read_frame(rest)?;
+        Some(NetEvent::Drop {
+            line,
+            direction,
+            frame,
+        })
+    } else if word == b"enddown".as_slice() {
+        let (imp, line) = read_end(rest)?;
+        Some(NetEvent::EndDown { imp, line })
+    } else if word == b"endup".as_slice() {
+        let (imp, line) = read_end(rest)?;
+        Some(NetEvent::EndUp { imp, line })
+    } else {
+        None
+    }
+}
+
+/// The frame that is spelled `line direction place`.
+fn read_frame(words: &[u8]) -> Option<(u32, Direction, u32)>
+    ensures { ReadsAs frame_text IsFrame words.now result }
+{
+    let (line, direction, frame) = cut_twice(words)?;
+    Some((
+        plain_number(line)?,
+        read_direction(direction)?,
+        plain_number(frame)?,
+    ))
+}
+
+/// The end of a line that is spelled `imp line`.
+fn read_end(words: &[u8]) -> Option<(ImpNumber, u32)>
+    ensures { ReadsAs pair_text IsEnd words.now result }
+{
+    let (imp, line) = cut(words, b' ')?;
+    Some((read_imp(imp)?, plain_number(line)?))
+}
+
+/// The two IMPs that are spelled `imp imp`.
+fn read_two_imps(words: &[u8]) -> Option<(ImpNumber, ImpNumber)>
+    ensures { ReadsAs pair_text AreImps words.now result }
+{
+    let (first, second) = cut(words, b' ')?;
+    Some((read_imp(first)?, read_imp(second)?))
+}
