@@ -1,5 +1,5 @@
 -- Events as lines: a keyword, and what stands behind it.
-use Rattle.std.proofs.Common.{◌≡◌, ◌≢◌, ℕ, ◌==◌, Bool, true, false, List, [], ◌∷◌, ◌++◌, codes, refl, sym, ap, ◌∙◌, subst, eqb, Option, Some, None, if◌then◌else◌}
+use Rattle.std.proofs.Common.{◌≡◌, ◌≢◌, ℕ, ◌==◌, Bool, true, false, List, [], ◌∷◌, ◌++◌, codes, refl, sym, ap, ◌∙◌, subst, eqb, if◌then◌else◌}
 use Rattle.std.proofs.lemmas.Bool.{false≢true, or_parts, eq-eqb}
 use Rattle.std.proofs.lemmas.List.Elements.{All-nil, All-cons}
 use Rattle.std.specs.Fmt.{decimal}
@@ -15,7 +15,7 @@ use Rattle.leader1822.specs.declared.event.NetEvent.TheVariants as net
 use Rattle.leader1822.specs.declared.message.HostMessage.{HostMessage}
 use Rattle.script.specs.declared.event.Event.{Event}
 use Rattle.script.specs.declared.event.Event.TheVariants as event
-use Rattle.script.specs.Spelling.{ReadsAs, spelling, net_spelling, IsEvent, IsNetEvent, IsMessage, IsHost, IsFlow, IsImp, message_text}
+use Rattle.script.specs.Spelling.{spelling, net_spelling, IsEvent, IsNetEvent, IsMessage, IsHost, IsFlow, IsImp, message_text}
 use Rattle.script.specs.Steps.{Lacks, IsOfHosts, IsOfImps, IsOfLines, frame_text, IsFrame, pair_text, IsEnd, AreImps}
 use Rattle.script.proofs.Words.{SameCut, same_cut, uncut}
 
@@ -275,38 +275,7 @@ no_line_event word rest h deliver drop enddown endup x meant e = by x meant (fir
   by (net.EndDown i l) meant same = enddown same
   by (net.EndUp i l) meant same = endup same
 
--- what is none of the three is no event inside a network
-pub no_net_event : (line : List ℕ) → ((x : NetEvent) → IsOfHosts x → line ≢ net_spelling x) → ((x : NetEvent) → IsOfImps x → line ≢ net_spelling x) → ((x : NetEvent) → IsOfLines x → line ≢ net_spelling x)
-    → (x : NetEvent) → IsNetEvent x → line ≢ net_spelling x
-no_net_event line host imp lines (net.HostDown h) meant = host (net.HostDown h) meant
-no_net_event line host imp lines (net.HostUp h) meant = host (net.HostUp h) meant
-no_net_event line host imp lines (net.GiveUp f) meant = host (net.GiveUp f) meant
-no_net_event line host imp lines (net.Abandon f) meant = host (net.Abandon f) meant
-no_net_event line host imp lines (net.Resend i) meant = imp (net.Resend i) meant
-no_net_event line host imp lines (net.Route i) meant = imp (net.Route i) meant
-no_net_event line host imp lines (net.ImpDown i) meant = imp (net.ImpDown i) meant
-no_net_event line host imp lines (net.ImpUp i) meant = imp (net.ImpUp i) meant
-no_net_event line host imp lines (net.Forget at from) meant = imp (net.Forget at from) meant
-no_net_event line host imp lines (net.Deliver l d k) meant = lines (net.Deliver l d k) meant
-no_net_event line host imp lines (net.Drop l d k) meant = lines (net.Drop l d k) meant
-no_net_event line host imp lines (net.EndDown i l) meant = lines (net.EndDown i l) meant
-no_net_event line host imp lines (net.EndUp i l) meant = lines (net.EndUp i l) meant
-
-pub is_host_event : (x : NetEvent) → IsOfHosts x → IsNetEvent x
-is_host_event (net.HostDown h) meant = meant
-is_host_event (net.HostUp h) meant = meant
-is_host_event (net.GiveUp f) meant = meant
-is_host_event (net.Abandon f) meant = meant
-is_host_event (net.Resend i) meant = absurd meant
-is_host_event (net.Route i) meant = absurd meant
-is_host_event (net.ImpDown i) meant = absurd meant
-is_host_event (net.ImpUp i) meant = absurd meant
-is_host_event (net.Forget at from) meant = absurd meant
-is_host_event (net.Deliver l d k) meant = absurd meant
-is_host_event (net.Drop l d k) meant = absurd meant
-is_host_event (net.EndDown i l) meant = absurd meant
-is_host_event (net.EndUp i l) meant = absurd meant
-
+-- the events by what they name are events inside a network
 pub is_imp_event : (x : NetEvent) → IsOfImps x → IsNetEvent x
 is_imp_event (net.HostDown h) meant = absurd meant
 is_imp_event (net.HostUp h) meant = absurd meant
@@ -342,8 +311,3 @@ pub no_event : (word rest : List ℕ) → Lacks 32 word → word ≢ codes "out"
 no_event word rest h out take none (event.Out m) meant e = out (first_word word rest (event.Out m) h e)
 no_event word rest h out take none (event.Take g) meant e = take (first_word word rest (event.Take g) h e)
 no_event word rest h out take none (event.Net x) meant e = none x meant e
-
--- what no reader of hosts and IMPs took is read by the reader of lines
-pub net_read : (line : List ℕ) (o : Option NetEvent) → ReadsAs net_spelling IsOfHosts line None → ReadsAs net_spelling IsOfImps line None → ReadsAs net_spelling IsOfLines line o → ReadsAs net_spelling IsNetEvent line o
-net_read line (Some x) host imp read = (read.0, is_line_event x read.1)
-net_read line None host imp read = no_net_event line host imp read
