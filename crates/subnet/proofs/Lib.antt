@@ -33,3 +33,4 @@ pub mod Carries
 pub mod Working
 pub mod Starts
 pub mod Stopping
+pub mod Opens

@@ -1,16 +1,15 @@
 -- An IMP starts.
-use Rattle.std.proofs.Common.{◌≡◌, ℕ, ◌+◌, ◌-◌, ◌<◌, ◌≤◌, zero, suc, ◌==◌, ◌&&◌, ◌||◌, not, Bool, true, false, List, [], ◌∷◌, ◌++◌, length, take, drop, replicate, get_or, set, count_by, Option, Some, None, is_some, refl, ap, sym, subst, ◌∙◌, arith, All, append-nil, eqb-true, eq-eqb, inl, inr}
+use Rattle.std.proofs.Common.{◌≡◌, ℕ, ◌+◌, ◌-◌, ◌<◌, ◌≤◌, zero, suc, ◌==◌, ◌&&◌, not, Bool, true, false, List, [], ◌∷◌, ◌++◌, length, replicate, get_or, set, count_by, Option, Some, None, is_some, refl, ap, sym, subst, ◌∙◌, arith, All, append-nil, eqb-true, eq-eqb, inl, inr}
 use Rattle.std.proofs.lemmas.Bool.{cases_Bool}
 use Rattle.std.specs.Prelude.{IfSome}
-use Rattle.std.specs.List.{list_any}
 use Rattle.std.proofs.lemmas.List.Elements.{All-head, All-tail}
 use Rattle.std.proofs.Math.Seq.{take-length}
-use Rattle.imp_node.specs.State.{State, HostState, Turn, number, host_at, no_host, up_host, opening}
+use Rattle.imp_node.specs.State.{State, HostState, number, host_at, no_host, up_host, opening}
 use Rattle.imp_node.specs.Queries as queries
 use Rattle.imp_node.specs.Stopping.{host_down}
-use Rattle.subnet.specs.Net.{Wire, Net, imp_at, ends_at, port_of}
+use Rattle.subnet.specs.Net.{Wire, Net, ends_at, port_of}
 use Rattle.subnet.specs.Alive.{says}
-use Rattle.subnet.specs.Events.{started_imp, hosts_at, site_at, is_imp}
+use Rattle.subnet.specs.Events.{started_imp, hosts_at, is_imp}
 use Rattle.subnet.specs.Inside.Calling.{IsLive, AreLive}
 use Rattle.subnet.proofs.Living.{all_set}
 

@@ -1,5 +1,5 @@
 -- An IMP stops.
-use Rattle.std.proofs.Common.{◌≡◌, ℕ, ◌+◌, zero, suc, Bool, true, false, List, [], ◌∷◌, ◌++◌, drop, reverse, get_or, set, Option, Some, None, refl, ap, sym, ◌∙◌, ◌≤◌, length, arith, append_assoc, append-nil}
+use Rattle.std.proofs.Common.{◌≡◌, ℕ, ◌+◌, zero, suc, Bool, true, false, List, [], ◌∷◌, ◌++◌, drop, reverse, get_or, set, Option, None, refl, ap, sym, ◌∙◌, ◌≤◌, length, arith, append_assoc, append-nil}
 use Rattle.std.specs.Prelude.{if◌then◌else◌}
 use Rattle.std.proofs.lemmas.List.{reverse-append, reverse-reverse}
 use Rattle.leader1822.specs.declared.crossing.Crossing.{Crossing}

@@ -12,7 +12,7 @@ use Rattle.imp_channel.specs.declared.frame.Frame.{Frame}
 use Rattle.imp_node.specs.State.{State}
 use Rattle.imp_node.specs.Turns.{resend_grows, route_grows, end_down_grows, end_up_grows, give_up_grows, forget_grows, abandon_grows, from_line_grows, to_host_grows}
 use Rattle.subnet.specs.Net.{Net, imp_at, wire_at, port_of, frames_on, far_end}
-use Rattle.subnet.specs.Events.{first_of, taken, downs_at}
+use Rattle.subnet.specs.Events.{first_of, taken}
 
 -- ---- a subnet that may have stopped
 

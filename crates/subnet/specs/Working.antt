@@ -1,5 +1,5 @@
 -- A subnet as a carrier: what holds of it, and how its calls may go.
-use Rattle.std.specs.Prelude.{◌≡◌, Bool, true, false, Option, None, Result}
+use Rattle.std.specs.Prelude.{◌≡◌, true, false, Option, None, Result}
 use Rattle.leader1822.specs.Calls.{Seen, InOrder}
 use Rattle.leader1822.specs.Host.{Host}
 use Rattle.leader1822.specs.Mailboxes.{IsRun}

@@ -9,6 +9,7 @@ mod imp_call;
 pub mod law;
 mod line_events;
 mod offering;
+mod opening;
 mod parts;
 mod quiet_rounds;
 mod seeking;

@@ -1,4 +1,4 @@
-use Rattle.std.proofs.Common.{◌≡◌, Option, None, sym, subst, ◌∙◌}
+use Rattle.std.proofs.Common.{Option, None, sym, subst, ◌∙◌}
 use Rattle.imp_node.specs.State.{State}
 use Rattle.subnet.specs.Inside.Calling.{IsLive}
 use Rattle.subnet.proofs.Living.{read_alike}

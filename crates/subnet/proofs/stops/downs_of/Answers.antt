@@ -1,7 +1,7 @@
-use Rattle.std.proofs.Common.{◌≡◌, ◌+◌, ◌++◌, List, drop, ap, sym, ◌∙◌, arith}
+use Rattle.std.proofs.Common.{◌+◌, ◌++◌, List, drop, ap, ◌∙◌}
 use Rattle.leader1822.specs.declared.crossing.Crossing.{Crossing}
 use Rattle.subnet.specs.Inside.Calling.{downs_in_order}
-use Rattle.subnet.proofs.Stopping.{one_more, no_more, in_order_is}
+use Rattle.subnet.proofs.Stopping.{one_more}
 use Rattle.subnet.proofs.stops.downs_of.Goals as goal
 
 pub loop-host-preserved : goal.loop-host-preserved

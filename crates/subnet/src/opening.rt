@@ -1,0 +1,93 @@
+//! A subnet opens.
+
+ghost use Rattle.std.specs.Prelude.{◌≡◌, ◌≤◌, ◌<◌, None, length, map, count_by, slice_index_or, All, IfOk, IfSome};
+ghost use Rattle.packetiser.specs.Limits.{greatest_imp};
+ghost use Rattle.subnet.specs.Net.{ends_at};
+ghost use Rattle.subnet.specs.Opening as start;
+ghost use Rattle.subnet.specs.Inside.Calling.{AreLive};
+
+use crate::parts::Parts;
+use crate::wire::{Ends, Wire, port_of};
+use imp_node::Imp;
+use leader1822::{HostAddr, ImpNumber};
+use std::alloc::{AllocError, Global};
+
+impl Parts {
+    /// A subnet at its opening: its hosts, how many hosts the IMP of each number has, if there is one, and the
+    /// ends of its lines. All IMPs, ends of lines and hosts are up.
+    ///
+    /// Errors: want of memory alone.
+    #[tactic(auto, using(crate::proofs::Opens::places_opened, crate::proofs::Opens::opened_live, crate::proofs::Opens::lines_opened))]
+    pub(crate) fn open(
+        alloc: Global,
+        hosts: Vec<HostAddr>,
+        sites: Vec<Option<u8>>,
+        ends: &[Ends],
+    ) -> Result<Parts, AllocError>
+        requires none { slice_index_or sites.items 0 None ≡ None }
+        requires numbers { length sites.items ≤ 17 }
+        requires hosts { All (λ site. IfSome site (λ count. count ≤ 4)) sites.items }
+        requires few { length ends.now < 256 }
+        ensures opened { IfOk result (λ parts. parts ≡ start.opening hosts.items sites.items ends.now) }
+        ensures live { IfOk result (λ parts. AreLive parts.imps) }
+    {
+        let lines = empty_lines(alloc, ends)?;
+        let imps = opened_imps(alloc, &sites, &lines)?;
+        Ok(Parts {
+            hosts,
+            sites,
+            imps,
+            lines,
+            log: Vec::new(alloc),
+            alloc,
+        })
+    }
+}
+
+/// Lines without frames, with these ends.
+fn empty_lines(alloc: Global, ends: &[Ends]) -> Result<Vec<Wire>, AllocError>
+    ensures lines { IfOk result (λ lines. lines.items ≡ map start.empty_wire ends.now) }
+    ensures count { IfOk result (λ lines. length lines.items ≡ length ends.now) }
+{
+    let mut lines = Vec::new(alloc);
+    for end in ends {
+        lines.push(Wire::new(alloc, *end))?;
+    }
+    Ok(lines)
+}
+
+/// The IMPs of these sites, with the ports that the lines give them.
+#[tactic(auto, using(crate::proofs::Opens::site_fits, crate::proofs::Opens::all_ports))]
+fn opened_imps(
+    alloc: Global,
+    sites: &[Option<u8>],
+    lines: &[Wire],
+) -> Result<Vec<Option<Imp>>, AllocError>
+    requires none { slice_index_or sites.now 0 None ≡ None }
+    requires numbers { length sites.now ≤ 17 }
+    requires hosts { All (λ site. IfSome site (λ count. count ≤ 4)) sites.now }
+    requires few { length lines.now < 256 }
+    ensures { IfOk result (λ imps. imps.items ≡ start.opened_from 0 sites.now (λ i. count_by (ends_at i) lines.now)) }
+{
+    let mut imps = Vec::new(alloc);
+    for (at, site) in sites.iter().enumerate() {
+        let number = at as u8;
+        let ports = port_of(lines, number, lines.len());
+        imps.push(opened(alloc, number, *site, ports)?)?;
+    }
+    Ok(imps)
+}
+
+/// The IMP of a site, if there is one.
+fn opened(alloc: Global, number: u8, site: Option<u8>, ports: u8) -> Result<Option<Imp>, AllocError>
+    requires { IfSome site (λ count. (1 ≤ number) × (number ≤ greatest_imp) × (count ≤ 4)) }
+    ensures { IfOk result (λ imp. imp ≡ start.opened number site ports) }
+{
+    let Some(hosts) = site else {
+        return Ok(None);
+    };
+    match ImpNumber::new(number) {
+        Some(own) => Ok(Some(Imp::new(alloc, own, hosts, ports)?)),
+        None => unreachable!(),
+    }
+}
