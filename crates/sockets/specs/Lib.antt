@@ -12,6 +12,7 @@ pub mod Memory
 pub mod Sending
 pub mod Requests
 pub mod Calls
+pub mod Outgoing
 pub mod Dialogue
 pub mod Worked
 pub mod Others

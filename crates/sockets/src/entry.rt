@@ -218,7 +218,7 @@ pub(crate) fn is_busy(busy: &[u8], link: u8) -> bool
 }
 
 /// Whether all messages on a link, where it is known, are answered.
-fn is_answered(busy: &[u8], link: Option<ConnectionLink>) -> bool
+pub(crate) fn is_answered(busy: &[u8], link: Option<ConnectionLink>) -> bool
     ensures { result ≡ entries.is_answered busy.now link }
 {
     match link {

@@ -23,6 +23,7 @@ pub mod law;
 mod listener;
 mod ncp;
 mod notice;
+mod outgoing;
 mod pair;
 mod peer;
 mod peers;
@@ -30,6 +31,7 @@ mod phase;
 mod refusals;
 mod request;
 mod requests;
+mod sending;
 mod turn;
 pub mod worked;
 

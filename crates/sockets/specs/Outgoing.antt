@@ -1,0 +1,24 @@
+-- What goes out next, as the program names it: an end by its place.
+use Rattle.std.specs.Prelude.{ℕ, ◌<◌, List, length, slice_index_or}
+use Rattle.sockets.specs.Entries.{new_entry}
+use Rattle.sockets.specs.Sending.{Parcel, Reset, Reply, Commands, Bytes}
+use Rattle.sockets.specs.declared.entry.Entry.{Entry}
+use Rattle.sockets.specs.declared.outgoing.Outgoing.{Outgoing}
+use Rattle.sockets.specs.declared.outgoing.Outgoing.TheVariants as outgoing
+
+-- the end at a place
+abbrev pub end_at : List Entry → ℕ → Entry
+end_at entries at = slice_index_or entries at (new_entry 0 0)
+
+abbrev pub parcel_of : List Entry → Outgoing → Parcel
+parcel_of entries outgoing.Reset = Reset
+parcel_of entries outgoing.Reply = Reply
+parcel_of entries (outgoing.Commands count) = Commands count
+parcel_of entries (outgoing.Bytes at size count) = Bytes (end_at entries at) size count
+
+-- the end that it names is there
+abbrev pub IsThere : List Entry → Outgoing → Type 0
+IsThere entries outgoing.Reset = Unit {0}
+IsThere entries outgoing.Reply = Unit {0}
+IsThere entries (outgoing.Commands count) = Unit {0}
+IsThere entries (outgoing.Bytes at size count) = at < length entries
