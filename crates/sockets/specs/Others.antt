@@ -1,5 +1,5 @@
 -- Whom a request is about, and what may go out of a pair: words for the laws of one host.
-use Rattle.std.specs.Prelude.{◌≡◌, ℕ, ◌*◌, ◌<◌, ◌≤◌, Bool, true, false, [], length, if◌then◌else◌, Option, Some, None}
+use Rattle.std.specs.Prelude.{◌≡◌, ℕ, ◌*◌, ◌<◌, ◌≤◌, Bool, true, false, List, [], ◌∷◌, length, if◌then◌else◌, Option, Some, None}
 use Rattle.leader1822.specs.Host.{Host, same_host}
 use Rattle.ncp_control.specs.Packing.{packed_count}
 use Rattle.sockets.specs.Entries.{is_receiving, is_open, is_answered, is_busy}
@@ -8,6 +8,8 @@ use Rattle.sockets.specs.Pairs.{NcpState, listens_on, owner_of}
 use Rattle.sockets.specs.Phases.{is_want}
 use Rattle.sockets.specs.Sending.{Parcel, Reset, Reply, Commands, Bytes}
 use Rattle.sockets.specs.declared.entry.Entry.{Entry}
+use Rattle.sockets.specs.declared.notice.Notice.{Notice}
+use Rattle.sockets.specs.declared.notice.Notice.TheVariants as notice
 use Rattle.sockets.specs.declared.phase.Phase.TheVariants as phase
 use Rattle.sockets.specs.declared.request.Request.{Request}
 use Rattle.sockets.specs.declared.request.Request.TheVariants as request
@@ -34,6 +36,26 @@ peer_of s (request.Echo peer octet) = Some peer
 abbrev pub is_about : Host → Option Host → Bool
 is_about h None = false
 is_about h (Some g) = same_host h g
+
+-- ---- whom a notice is about
+
+-- a notice that names a peer names this one; any other names a socket of this host
+abbrev pub IsAbout : Host → Notice → Type 0
+IsAbout peer (notice.Ready p) = p ≡ peer
+IsAbout peer (notice.ContactFailed p) = p ≡ peer
+IsAbout peer (notice.PairReset p) = p ≡ peer
+IsAbout peer (notice.Opened socket p foreign own partner) = p ≡ peer
+IsAbout peer (notice.Ended socket p foreign) = p ≡ peer
+IsAbout peer (notice.Sent socket bits) = Unit {0}
+IsAbout peer (notice.Arrived socket bits) = Unit {0}
+IsAbout peer (notice.Returned socket messages bits) = Unit {0}
+IsAbout peer (notice.Interrupt socket) = Unit {0}
+IsAbout peer (notice.Echoed p octet) = p ≡ peer
+IsAbout peer (notice.RemoteError p code detail) = p ≡ peer
+
+abbrev pub AreAbout : Host → List Notice → Type 0
+AreAbout peer [] = Unit {0}
+AreAbout peer (n ∷ ns) = IsAbout peer n × AreAbout peer ns
 
 -- ---- what may go out of a pair
 

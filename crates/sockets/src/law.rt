@@ -9,10 +9,10 @@ ghost use Rattle.leader1822.specs.declared.crossing.Inbound.TheVariants as inbou
 ghost use Rattle.leader1822.specs.declared.message.HostMessage.{HostMessage};
 ghost use Rattle.sockets.specs.Accepting.{accepted};
 ghost use Rattle.sockets.specs.Dialogue.{state_of, Ask};
-ghost use Rattle.sockets.specs.Others.{MayGo, peer_of, is_about};
+ghost use Rattle.sockets.specs.Others.{AreAbout, MayGo, peer_of, is_about};
 ghost use Rattle.sockets.specs.Pair.{PairState};
 ghost use Rattle.sockets.specs.Pairs.{NcpState, pair_with, with_pair};
-ghost use Rattle.sockets.specs.Requests.{refusal, served};
+ghost use Rattle.sockets.specs.Requests.{refusal, served, served_notices};
 ghost use Rattle.sockets.specs.declared.peer.Peer.{Peer};
 ghost use Rattle.sockets.specs.Sending.{Parcel, Reset, Reply, message_for, next_in, next_of, next_out, offered};
 ghost use Rattle.sockets.specs.Worked.{first, second, third, talk, message, control, reset, opening, closing, crossing, failing, sending, asking_back, giving_back, many_opened, twelve, second_after};
@@ -114,4 +114,15 @@ pub fn parcels()
     // an RST or an RRP is a message of one octet on link 0
     ensures reset { (own : Host) (p : Peer) → message_for own p Reset ≡ control own p.host (12 ∷ []) }
     ensures reply { (own : Host) (p : Peer) → message_for own p Reply ≡ control own p.host (13 ∷ []) }
+{}
+
+/// Whom the host's user is told of.
+pub fn notices()
+    // what a message tells is about its source, what an answer tells about the destination of what is answered
+    ensures message { (s : NcpState) (m : HostMessage) (stamp : ℕ) → AreAbout m.flow.source (accepted s (inbound.Message m) stamp).1 }
+    ensures answer { (s : NcpState) (kind : Answer) (f : Flow) (stamp : ℕ) → AreAbout f.destination (accepted s (inbound.Answer kind f) stamp).1 }
+
+    // what goes out tells about the peer that it goes to, and a contact about its peer
+    ensures offer { (s : NcpState) (stamp : ℕ) (p : Peer) (parcel : Parcel) → next_in s.peers ≡ Some (p, parcel) → AreAbout p.host (offered s stamp).1 }
+    ensures contact { (s : NcpState) (peer : Host) → AreAbout peer (served_notices s (request.Contact peer)) }
 {}
