@@ -12,7 +12,7 @@ ghost use Rattle.sockets.specs.declared.request.Request.TheVariants as request;
 use crate::entry::Entry;
 use crate::listener::{Listener, listens_on, stop_listening};
 use crate::ncp::Ncp;
-use crate::{NcpFault, Notice};
+use crate::{NcpFault, Notice, Request};
 use bit_messages::Bits;
 use leader1822::HostAddr;
 use ncp_control::Command;
@@ -294,5 +294,44 @@ impl Ncp {
         }
         let done = self.command(peer, Command::Eco { octet });
         self.end(done)
+    }
+
+    /// Runs a request, as the programs above the sockets make them, and returns what is told of it.
+    ///
+    /// Errors: those of the request's own call.
+    #[tactic(auto, unfolding(crate::specs::Requests::served_notices))]
+    pub fn ask(&mut self, request: Request) -> Result<Vec<Notice>, NcpFault>
+        requires live { self.old.spent ≡ false }
+        ensures refused { IsRefused self.old request result self.new }
+        ensures served { IsServed (λ notices. notices.items) self.old request result self.new }
+    {
+        match request {
+            Request::Contact { peer } => return self.contact(peer),
+            Request::Listen { socket, size } => self.listen(socket, size)?,
+            Request::OpenSend {
+                peer,
+                own,
+                foreign,
+                size,
+            } => self.open_send(peer, own, foreign, size)?,
+            Request::OpenReceive { peer, own, foreign } => {
+                self.open_receive(peer, own, foreign)?;
+            }
+            Request::Send { socket, bits } => self.send(socket, bits)?,
+            Request::Grant {
+                socket,
+                messages,
+                bits,
+            } => self.grant(socket, messages, bits)?,
+            Request::AskBack {
+                socket,
+                messages,
+                bits,
+            } => self.ask_back(socket, messages, bits)?,
+            Request::Interrupt { socket } => self.interrupt(socket)?,
+            Request::Close { socket } => self.close(socket)?,
+            Request::Echo { peer, octet } => self.echo(peer, octet)?,
+        }
+        Ok(Vec::new(self.alloc))
     }
 }
