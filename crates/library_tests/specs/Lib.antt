@@ -1,1 +1,2 @@
 pub mod FlowTables
+pub mod Memory

@@ -18,6 +18,8 @@ mod control;
 #[cfg(test)]
 mod flow_tables;
 #[cfg(test)]
+mod imps;
+#[cfg(test)]
 mod lines;
 #[cfg(test)]
 mod numbers;
