@@ -13,6 +13,7 @@ pub mod Sending
 pub mod Requests
 pub mod Calls
 pub mod Outgoing
+pub mod Gone
 pub mod Dialogue
 pub mod Worked
 pub mod Others

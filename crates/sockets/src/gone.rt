@@ -10,12 +10,12 @@ use leader1822::HostAddr;
 use ncp_control::Command;
 use std::alloc::AllocError;
 
-/// So many commands from the front wait no longer.
+/// So many commands from the front, or all of them, wait no longer.
+#[tactic(auto, using(std::proofs::lemmas::List::drop_min))]
 fn drop_front(queue: &mut Vec<Command>, count: usize)
-    requires { count ≤ length queue.old.items }
     ensures { queue.new.items ≡ drop count queue.old.items }
 {
-    for _done in 0..count {
+    for _done in 0..count.min(queue.len()) {
         let _ = queue.remove(0);
     }
 }
@@ -69,18 +69,18 @@ impl Desk {
         }
     }
 
-    /// So many of the commands that wait have gone out in one message.
+    /// So many of the commands that wait, or all of them, have gone out in one message.
+    #[tactic(auto, using(crate::proofs::GoneLemmas::none_behind))]
     pub fn commands_gone(
         &mut self,
         peer: HostAddr,
         stamp: usize,
         count: usize,
     ) -> Result<(), AllocError>
-        requires { count ≤ length self.old.queue }
         ensures state { OnOk result (self.new ≡ sending.unqueued count (sending.commands_gone peer stamp (take count self.old.queue) self.old)) }
         ensures listening { OnOk result (self.new.listening ≡ self.old.listening) }
     {
-        for at in 0..count {
+        for at in 0..count.min(self.queue.len()) {
             let command = self.queue[at];
             self.command_gone(peer, stamp, command)?;
         }

@@ -9,6 +9,7 @@
 #![tactic(auto)]
 
 mod accepting;
+mod bits_gone;
 mod calls;
 mod commands;
 mod control;
@@ -33,6 +34,7 @@ mod request;
 mod requests;
 mod sending;
 mod turn;
+mod turn_gone;
 pub mod worked;
 
 pub use fault::NcpFault;

@@ -47,7 +47,7 @@ impl Turn {
     }
 
     /// Takes the pair's connections out, to be worked on.
-    fn desk(&mut self, alloc: Global) -> Desk
+    pub fn desk(&mut self, alloc: Global) -> Desk
         ensures desk { result ≡ desk_of self.old.pair self.old.listening }
         ensures rest { self.new ≡ record { pair = record self.old.pair { entries = []; queue = [] }; listening = []; notices = self.old.notices } }
     {
@@ -60,7 +60,7 @@ impl Turn {
     }
 
     /// Puts the pair's connections back, and tells what is to be told of them.
-    fn restore(&mut self, desk: Desk) -> Result<(), AllocError>
+    pub fn restore(&mut self, desk: Desk) -> Result<(), AllocError>
         ensures state { OnOk result (self.new ≡ accepting.with_desk self.old desk) }
         ensures memory { OnErr result (0 < length desk.notices) }
     {
