@@ -1,7 +1,7 @@
 -- A subnet as a carrier: what each call keeps, and what it shows.
 use Rattle.std.proofs.Common.{◌≡◌, ℕ, ◌≤◌, length, Bool, true, false, not, List, [], ◌∷◌, ◌++◌, Option, Some, None, Result, Ok, Err, is_some, is_none, refl, ap, sym, subst, ◌∙◌, if◌then◌else◌, ◌&&◌, ◌==◌}
-use Rattle.std.specs.Prelude.{nat_lt}
-use Rattle.leader1822.specs.Calls.{Seen, InOrder, halted, is_memory, is_halt, step_crossings, crossing_of, ShowsRefusal, ShowsCrossings, ShowsOffer, ShowsTake, ShowsStep, ShowsRound}
+use Rattle.std.specs.Prelude.{nat_lt, OnErr}
+use Rattle.leader1822.specs.Calls.{Seen, InOrder, IsFor, grown, halted, is_memory, is_halt, step_crossings, crossing_of, ShowsRefusal, ShowsCrossings, ShowsOffer, ShowsTake, ShowsStep, ShowsRound}
 use Rattle.leader1822.specs.Host.{Host, is_host}
 use Rattle.leader1822.specs.Mailboxes.{IsRun}
 use Rattle.leader1822.specs.declared.address.Flow.{Flow}
@@ -18,21 +18,24 @@ use Rattle.leader1822.proofs.Lists.{guard}
 use Rattle.flow_law.proofs.FollowLemmas.{sound_run}
 use Rattle.link_table.specs.Flows.{has_outstanding}
 use Rattle.packetiser.specs.Slots.{slot_of}
-use Rattle.imp_node.specs.State.{State, host_at, is_there, is_up, port_at}
+use Rattle.imp_node.specs.State.{State, number, host_at, is_there, is_up, port_at}
 use Rattle.imp_node.specs.Flows.{is_idle}
 use Rattle.imp_node.specs.Offering.{is_own, way_of, way_has_room, from_host_refusal}
 use Rattle.imp_node.specs.Taking.{host_refusal, taking_has_room, to_host_refusal}
 use Rattle.imp_node.specs.Queries.{outstanding}
 use Rattle.imp_node.specs.Lines.{end_down_refusal, end_up_refusal}
-use Rattle.imp_node.specs.Stopping.{own_host, give_up_refusal, host_down_refusal, host_up_refusal}
+use Rattle.imp_node.specs.Stopping.{own_host, give_up_refusal, abandon_refusal, host_down_refusal, host_up_refusal}
 use Rattle.subnet.specs.Net.{Net, imp_at, wire_at, port_of, frames_on}
 use Rattle.subnet.specs.Alive.{has_data, has_flow, is_remembered}
-use Rattle.subnet.specs.Calls.{Kept, running, refusal_of, HasHalted, Fails, take_grows, step_grows}
-use Rattle.subnet.specs.Events.{at_up, first_of, accepted, is_imp, has_end, give_up_alive, outstanding_at, offer_refusal, offer_out, take_refusal, crossings_of, take_in, frame_refusal, imp_refusal, at_end_refusal, at_host_refusal, starting_refusal, abandoning_refusal, giving_up_refusal, forgetting_refusal, step_refusal, stepped, quiet_round}
+use Rattle.subnet.specs.Calls.{Kept, running, refusal_of, HasHalted, Fails, Decided, take_grows, step_grows}
+use Rattle.subnet.specs.Events.{at_up, first_of, accepted, is_imp, has_end, give_up_alive, outstanding_at, offer_refusal, offer_out, take_refusal, taken, crossings_of, take_in, frame_refusal, imp_refusal, at_end_refusal, at_host_refusal, starting_refusal, abandoning_refusal, giving_up_refusal, forgetting_refusal, step_refusal, stepped, quiet_round}
 use Rattle.subnet.specs.Flows.{Alive, view}
 use Rattle.subnet.specs.Opening.{Ends, hosts_from, opening}
 use Rattle.subnet.specs.Routed.{IsHostMessage}
-use Rattle.subnet.specs.Seen.{IsListed, SameNetwork}
+use Rattle.subnet.specs.Seen.{seen, IsListed, SameNetwork}
+use Rattle.subnet.specs.Inside.Calling as ends
+use Rattle.subnet.specs.Inside.Calling.{IsLive, AreLive, SameLog, runs_out}
+use Rattle.subnet.specs.Sound.{IsAt, IsSound}
 use Rattle.subnet.specs.Working.{IsWhole, IsWorking, seen_of, SubnetOffer, SubnetTake, SubnetStep, SubnetRound}
 use Rattle.subnet.proofs.EventSteps.{step_sound}
 use Rattle.subnet.proofs.Offers.{offer_sound}
@@ -326,3 +329,73 @@ round_working old (Err e) new went is = fails_working _ true e old new (is_memor
 pub round_shown : (old : Kept) (r : Result (Unit {0}) CarrierFault) (new : Kept) → SubnetRound old r new → ShowsRound (seen_of old) r (seen_of new)
 round_shown old (Ok done) new went = crossed old new (quiet_round old.net) [] (goes_on old (λ n. None) went.0).0 went.1 (round_same old.net) (round_log old.net)
 round_shown old (Err e) new went = fails_shown (λ n. None) true e old new tt (is_memory e) refl went
+
+-- ---- calls of the parts
+
+failed : (refusal : Net → Option CarrierFault) (grows : Bool) (e : CarrierFault) (old : Kept) (n : Net) (b : Bool) → is_memory e ≡ b → old.stopped ≡ false → ends.Fails (refusal old.net) grows b e old.net n → SameLog old.net n
+    → Fails (refusal_of old refusal) grows b e old (record { net = n; stopped = is_memory e })
+failed refusal grows e old n true memory goes fails same =
+    (ap (λ (s : Bool). first_of s fault.Stopped (refusal old.net)) goes ∙ fails.0, fails.1, record { hosts = same.hosts; log = same.log; stopped = memory })
+failed refusal grows e old n false memory goes fails same =
+    let at : Net → Bool → Kept = λ m s. record { net = m; stopped = s } in
+    (ap (λ (s : Bool). first_of s fault.Stopped (refusal old.net)) goes ∙ fails.0, ap (λ (m : Net). at m (is_memory e)) fails.1 ∙ ap (at old.net) (memory ∙ sym goes))
+
+went_on : (refusal : Net → Option CarrierFault) (old : Kept) → old.stopped ≡ false → refusal old.net ≡ None → refusal_of old refusal ≡ None
+went_on refusal old goes none = ap (λ (s : Bool). first_of s fault.Stopped (refusal old.net)) goes ∙ none
+
+-- the subnet that stops where its parts were short of memory
+abbrev pub kept_by : {T : Type 0} → Net → Result T CarrierFault → Kept
+kept_by n r = record { net = n; stopped = runs_out r }
+
+pub offer_done : (old : Kept) (m : HostMessage) (n : Net) (r : Result (Unit {0}) CarrierFault) → old.stopped ≡ false → ends.Ends (offer_refusal old.net m) true (λ done. n ≡ offer_out old.net m) old.net n r → OnErr r (SameLog old.net n)
+    → SubnetOffer old m r (kept_by n r)
+offer_done old m n (Ok done) goes ends same = (went_on (λ k. offer_refusal k m) old goes ends.0, ap running ends.1)
+offer_done old m n (Err e) goes ends same = failed (λ k. offer_refusal k m) true e old n (is_memory e) refl goes ends same
+
+pub take_done : (old : Kept) (h : Host) (n : Net) (r : Result (Option Inbound) CarrierFault) → old.stopped ≡ false
+    → ends.Ends (take_refusal old.net h) (take_grows old.net h) (λ given. (given ≡ taken old.net h) × (n ≡ take_in old.net h)) old.net n r → OnErr r (SameLog old.net n) → SubnetTake old h r (kept_by n r)
+take_done old h n (Ok given) goes ends same = (went_on (λ k. take_refusal k h) old goes ends.0, (ends.1.0, ap running ends.1.1))
+take_done old h n (Err e) goes ends same = failed (λ k. take_refusal k h) (take_grows old.net h) e old n (is_memory e) refl goes ends same
+
+pub step_done : (old : Kept) (e : NetEvent) (n : Net) (r : Result (Unit {0}) CarrierFault) → old.stopped ≡ false → ends.Steps e old.net n r → OnErr r (SameLog old.net n) → SubnetStep old e r (kept_by n r)
+step_done old e n (Ok done) goes ends same = (went_on (λ k. step_refusal k e) old goes ends.0, ap running ends.1)
+step_done old e n (Err f) goes ends same = failed (λ k. step_refusal k e) (step_grows old.net e) f old n (is_memory f) refl goes ends same
+
+-- the IMPs of a subnet that goes on were not short of memory
+pub live : (k : Kept) → k.stopped ≡ false → IsWorking k → AreLive k.net.imps
+live k goes is i = by (imp_at k.net.imps i) ((is.whole goes).sound.imps i) where
+  by : (o : Option State) → IsAt i o → IsLive i o
+  by None at = tt
+  by (Some s) at = (at.own, at.live)
+
+-- ---- what the fields of the subnet keep
+
+pub offer_invariant : (old : Kept) (m : HostMessage) (n : Net) (r : Result (Unit {0}) CarrierFault) (s : Bool) → s ≡ runs_out r → old.stopped ≡ false → IsHostMessage m
+    → ends.Ends (offer_refusal old.net m) true (λ done. n ≡ offer_out old.net m) old.net n r → OnErr r (SameLog old.net n) → IsWorking old → (let new : Kept = record { net = n; stopped = s } in IsWorking new)
+offer_invariant old m n r s stops goes message ends same is =
+    let at : Bool → Kept = λ b. record { net = n; stopped = b } in
+    subst (λ (b : Bool). IsWorking (at b)) (sym stops) (offer_working old m r (kept_by n r) message (offer_done old m n r goes ends same) is)
+
+pub take_invariant : (old : Kept) (h : Host) (n : Net) (r : Result (Option Inbound) CarrierFault) (s : Bool) → s ≡ runs_out r → old.stopped ≡ false
+    → ends.Ends (take_refusal old.net h) (take_grows old.net h) (λ given. (given ≡ taken old.net h) × (n ≡ take_in old.net h)) old.net n r → OnErr r (SameLog old.net n) → IsWorking old
+    → (let new : Kept = record { net = n; stopped = s } in IsWorking new)
+take_invariant old h n r s stops goes ends same is =
+    let at : Bool → Kept = λ b. record { net = n; stopped = b } in
+    subst (λ (b : Bool). IsWorking (at b)) (sym stops) (take_working old h r (kept_by n r) (take_done old h n r goes ends same) is)
+
+pub step_invariant : (old : Kept) (e : NetEvent) (n : Net) (r : Result (Unit {0}) CarrierFault) (s : Bool) → s ≡ runs_out r → old.stopped ≡ false → ends.Steps e old.net n r → OnErr r (SameLog old.net n) → IsWorking old
+    → (let new : Kept = record { net = n; stopped = s } in IsWorking new)
+step_invariant old e n r s stops goes ends same is =
+    let at : Bool → Kept = λ b. record { net = n; stopped = b } in
+    subst (λ (b : Bool). IsWorking (at b)) (sym stops) (step_working old e r (kept_by n r) (step_done old e n r goes ends same) is)
+
+-- a quiet round fails only for want of memory
+pub round_done : (old : Kept) (n : Net) (failed : Bool) → old.stopped ≡ false → (failed ≡ false → n ≡ quiet_round old.net) → SameLog old.net n
+    → (let new : Kept = record { net = n; stopped = failed } in SubnetRound old (if failed then Err fault.OutOfMemory else Ok tt) new)
+round_done old n true goes round same = (went_on (λ k. None) old goes refl, refl, record { hosts = same.hosts; log = same.log; stopped = refl })
+round_done old n false goes round same = (went_on (λ k. None) old goes refl, ap running (round refl))
+
+pub round_invariant : (old : Kept) (n : Net) (failed : Bool) → old.stopped ≡ false → (failed ≡ false → n ≡ quiet_round old.net) → SameLog old.net n → IsWorking old → (let new : Kept = record { net = n; stopped = failed } in IsWorking new)
+round_invariant old n failed goes round same is =
+    let new : Kept = record { net = n; stopped = failed } in
+    round_working old (if failed then Err fault.OutOfMemory else Ok tt) new (round_done old n failed goes round same) is

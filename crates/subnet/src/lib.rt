@@ -15,7 +15,9 @@ mod quiet_rounds;
 mod seeking;
 mod starting;
 mod stops;
+mod subnet;
 mod taking;
 mod wire;
 
+pub use subnet::Subnet;
 pub use wire::Ends;

@@ -1,0 +1,7 @@
+use Rattle.subnet.proofs.Working.{offer_invariant}
+use Rattle.subnet.proofs.subnet.Subnet.offer.Goals as goal
+
+pub invariant_of-self : goal.invariant_of-self
+invariant_of-self c =
+    offer_invariant (record { net = c.self.inside.parts; stopped = c.self.inside.stopped }) c.args.message c.offer_out-outcome.new.self c.offer_out-outcome.result c.runs_out-self-inside.result c.runs_out-self-inside.ensures
+    c.if-self.false c.known.ensures c.offer_out-outcome.ensures.call c.offer_out-outcome.ensures.keeps c.self.invariant
