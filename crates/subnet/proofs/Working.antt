@@ -1,7 +1,7 @@
 -- A subnet as a carrier: what each call keeps, and what it shows.
 use Rattle.std.proofs.Common.{◌≡◌, ℕ, ◌≤◌, length, Bool, true, false, not, List, [], ◌∷◌, ◌++◌, Option, Some, None, Result, Ok, Err, is_some, is_none, refl, ap, sym, subst, ◌∙◌, if◌then◌else◌, ◌&&◌, ◌==◌}
 use Rattle.std.specs.Prelude.{nat_lt, OnErr}
-use Rattle.leader1822.specs.Calls.{Seen, InOrder, IsFor, grown, halted, is_memory, is_halt, step_crossings, crossing_of, ShowsRefusal, ShowsCrossings, ShowsOffer, ShowsTake, ShowsStep, ShowsRound}
+use Rattle.leader1822.specs.Calls.{Seen, InOrder, halted, is_memory, is_halt, step_crossings, crossing_of, ShowsRefusal, ShowsCrossings, ShowsOffer, ShowsTake, ShowsStep, ShowsRound}
 use Rattle.leader1822.specs.Host.{Host, is_host}
 use Rattle.leader1822.specs.Mailboxes.{IsRun}
 use Rattle.leader1822.specs.declared.address.Flow.{Flow}
@@ -18,24 +18,24 @@ use Rattle.leader1822.proofs.Lists.{guard}
 use Rattle.flow_law.proofs.FollowLemmas.{sound_run}
 use Rattle.link_table.specs.Flows.{has_outstanding}
 use Rattle.packetiser.specs.Slots.{slot_of}
-use Rattle.imp_node.specs.State.{State, number, host_at, is_there, is_up, port_at}
+use Rattle.imp_node.specs.State.{State, host_at, is_there, is_up, port_at}
 use Rattle.imp_node.specs.Flows.{is_idle}
 use Rattle.imp_node.specs.Offering.{is_own, way_of, way_has_room, from_host_refusal}
 use Rattle.imp_node.specs.Taking.{host_refusal, taking_has_room, to_host_refusal}
 use Rattle.imp_node.specs.Queries.{outstanding}
 use Rattle.imp_node.specs.Lines.{end_down_refusal, end_up_refusal}
-use Rattle.imp_node.specs.Stopping.{own_host, give_up_refusal, abandon_refusal, host_down_refusal, host_up_refusal}
+use Rattle.imp_node.specs.Stopping.{own_host, give_up_refusal, host_down_refusal, host_up_refusal}
 use Rattle.subnet.specs.Net.{Net, imp_at, wire_at, port_of, frames_on}
 use Rattle.subnet.specs.Alive.{has_data, has_flow, is_remembered}
-use Rattle.subnet.specs.Calls.{Kept, running, refusal_of, HasHalted, Fails, Decided, take_grows, step_grows}
+use Rattle.subnet.specs.Calls.{Kept, running, refusal_of, HasHalted, Fails, take_grows, step_grows}
 use Rattle.subnet.specs.Events.{at_up, first_of, accepted, is_imp, has_end, give_up_alive, outstanding_at, offer_refusal, offer_out, take_refusal, taken, crossings_of, take_in, frame_refusal, imp_refusal, at_end_refusal, at_host_refusal, starting_refusal, abandoning_refusal, giving_up_refusal, forgetting_refusal, step_refusal, stepped, quiet_round}
 use Rattle.subnet.specs.Flows.{Alive, view}
 use Rattle.subnet.specs.Opening.{Ends, hosts_from, opening}
 use Rattle.subnet.specs.Routed.{IsHostMessage}
-use Rattle.subnet.specs.Seen.{seen, IsListed, SameNetwork}
+use Rattle.subnet.specs.Seen.{IsListed, SameNetwork}
 use Rattle.subnet.specs.Inside.Calling as ends
 use Rattle.subnet.specs.Inside.Calling.{IsLive, AreLive, SameLog, runs_out}
-use Rattle.subnet.specs.Sound.{IsAt, IsSound}
+use Rattle.subnet.specs.Sound.{IsAt}
 use Rattle.subnet.specs.Working.{IsWhole, IsWorking, seen_of, SubnetOffer, SubnetTake, SubnetStep, SubnetRound}
 use Rattle.subnet.proofs.EventSteps.{step_sound}
 use Rattle.subnet.proofs.Offers.{offer_sound}
@@ -239,6 +239,12 @@ opening_working sites ends few = record {
   ordered = hosts_ordered sites;
   whole = λ goes. record { listed = refl; sound = opening_sound (hosts_from 0 sites) sites ends (hosts_fit sites); routed = opening_routed (hosts_from 0 sites) sites ends few };
 }
+
+pub opened_working : (hosts : List Host) (sites : List (Option ℕ)) (ends : List Ends) (n : Net) → n ≡ opening hosts sites ends → hosts ≡ hosts_from 0 sites → length sites ≤ 17
+    → (let new : Kept = record { net = n; stopped = false } in IsWorking new)
+opened_working hosts sites ends n is listed few =
+    let at : List Host → Net = λ hs. opening hs sites ends in
+    subst (λ (m : Net). IsWorking (running m)) (sym is) (subst (λ (hs : List Host). IsWorking (running (at hs))) (sym listed) (opening_working sites ends few))
 
 -- ---- the calls
 

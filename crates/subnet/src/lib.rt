@@ -1,9 +1,11 @@
 //! All IMPs and lines of the subnet.
 //!
-//! What a subnet is, what is alive in it, and what becomes of it with each event are definitions so far; there
-//! is no code yet. The module `law` states them by examples.
+//! [`Subnet`] is a carrier: hosts offer messages to it and take them from it, and frames are delivered and lost,
+//! and IMPs, hosts and lines stop and start as its events say. Whatever happens, its log is a run of the mailboxes.
+//! The module `law` says so of its definitions, and has worked rows.
 #![tactic(auto)]
 
+mod events;
 mod flow_events;
 mod imp_call;
 pub mod law;

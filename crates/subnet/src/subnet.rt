@@ -1,12 +1,17 @@
 //! A packet subnet.
 
-ghost use Rattle.std.specs.Prelude.{◌≡◌, ◌<◌, false, OnOk, OnErr};
-ghost use Rattle.subnet.specs.Inside.Calling.{runs_out};
+ghost use Rattle.std.specs.Prelude.{◌≡◌, ◌<◌, ◌≤◌, false, reverse, None, All, IfSome, IfOk, length, slice_index_or};
+ghost use Rattle.subnet.specs.Inside.Calling.{AreLive, SameLog, runs_out};
 ghost use Rattle.subnet.specs.Routed.{IsHostMessage};
-ghost use Rattle.subnet.specs.Working.{SubnetOffer, SubnetTake};
+ghost use Rattle.subnet.specs.Calls.{running};
+ghost use Rattle.subnet.specs.Events as events;
+ghost use Rattle.subnet.specs.Opening as start;
+ghost use Rattle.subnet.specs.Working.{IsWorking, seen_of, SubnetOffer, SubnetTake, SubnetStep, SubnetRound};
 
 use crate::parts::{Parts, runs_out};
-use leader1822::{CarrierFault, HostAddr, HostMessage, Inbound};
+use crate::wire::Ends;
+use leader1822::{Carrier, CarrierFault, Crossing, HostAddr, HostMessage, Inbound, NetEvent};
+use std::alloc::{AllocError, Global};
 use std::marker::Model;
 
 /// All IMPs and lines of a network, and what is on its way in them.
@@ -36,6 +41,38 @@ impl Model for Subnet {
 }
 
 impl Subnet {
+    /// The subnet of these IMPs and lines at its opening: all IMPs, ends of lines and hosts are up. `sites` says by
+    /// number how many hosts an IMP has, 0 to 4, where there is one: there is none of the number 0, and none above
+    /// 16. `hosts` are the hosts of all IMPs, one after another. There are fewer than 256 lines.
+    ///
+    /// Errors: want of memory alone.
+    pub fn new(
+        alloc: Global,
+        hosts: Vec<HostAddr>,
+        sites: Vec<Option<u8>>,
+        ends: &[Ends],
+    ) -> Result<Subnet, AllocError>
+        requires none { slice_index_or sites.items 0 None ≡ None }
+        requires numbers { length sites.items ≤ 17 }
+        requires counts { All (λ site. IfSome site (λ count. count ≤ 4)) sites.items }
+        requires listed { hosts.items ≡ start.hosts_from 0 sites.items }
+        requires few { length ends.now < 256 }
+        ensures { IfOk result (λ subnet. subnet ≡ running (start.opening hosts.items sites.items ends.now)) }
+    {
+        Ok(Subnet {
+            parts: Parts::open(alloc, hosts, sites, ends)?,
+            stopped: false,
+        })
+    }
+
+    /// Whether want of memory has stopped it. Its log is a run, and until then it is whole.
+    fn has_stopped(&self) -> bool
+        ensures same { result ≡ self.now.stopped }
+        ensures working { IsWorking self.now }
+    {
+        self.stopped
+    }
+
     /// A message goes from its source to the subnet.
     fn offer(&mut self, message: HostMessage) -> Result<(), CarrierFault>
         ensures { SubnetOffer self.old message result self.new }
@@ -59,6 +96,116 @@ impl Subnet {
         let outcome = self.parts.take_in(host);
         self.stopped = has_run_out(&outcome);
         outcome
+    }
+
+    /// Something happens in the subnet.
+    fn happen(&mut self, event: NetEvent) -> Result<(), CarrierFault>
+        ensures { SubnetStep self.old event result self.new }
+    {
+        if self.stopped {
+            return Err(CarrierFault::Stopped);
+        }
+        let outcome = self.parts.step(event);
+        self.stopped = runs_out(&outcome);
+        outcome
+    }
+
+    /// A round in which what is on its way moves on.
+    #[tactic(auto, using(crate::proofs::Working::round_done))]
+    fn round(&mut self) -> Result<(), CarrierFault>
+        ensures { SubnetRound self.old result self.new }
+    {
+        if self.stopped {
+            return Err(CarrierFault::Stopped);
+        }
+        let failed = self.parts.fails_in_round();
+        self.stopped = failed;
+        if failed {
+            Err(CarrierFault::OutOfMemory)
+        } else {
+            Ok(())
+        }
+    }
+}
+
+impl Carrier for Subnet {
+    ghost seen = { seen_of };
+
+    ghost offers = { SubnetOffer };
+
+    ghost takes = { SubnetTake };
+
+    ghost steps = { SubnetStep };
+
+    ghost rounds = { SubnetRound };
+
+    /// The message is cut into packets, which go out to the IMP of its destination; where no route leads
+    /// there, Dead waits for the source at once.
+    ///
+    /// Errors: `NoSuch` where the source isn't a host of the network, `StillAlive` while the number 127 before
+    /// the flow's last one is alive, `IsDown` where the source or its IMP is down, `Blocked` while a message of
+    /// the flow is outstanding or an answer about it waits, `NoRoom` where its IMP has no place for it.
+    #[tactic(auto, using(crate::proofs::Working::offer_shown))]
+    fn offer_out(&mut self, message: HostMessage) -> Result<(), CarrierFault> {
+        self.offer(message)
+    }
+
+    /// The host gets the oldest answer that waits for it, else the oldest message, else `None`. With a message,
+    /// RFNM goes to its source.
+    ///
+    /// Errors: `NoSuch` where it isn't a host of the network, `IsDown` where it or its IMP is down, `NoRoom`
+    /// where the RFNM has no place.
+    #[tactic(auto, using(crate::proofs::Working::take_shown))]
+    fn take_in(&mut self, host: HostAddr) -> Result<Option<Inbound>, CarrierFault> {
+        let _ = self.has_stopped();
+        self.take(host)
+    }
+
+    /// Each event is a step of one IMP, of one line or of one host, as the definitions of `specs/Events` say,
+    /// with its refusals in their order.
+    #[tactic(auto, using(crate::proofs::Working::step_shown))]
+    fn step(&mut self, event: NetEvent) -> Result<(), CarrierFault> {
+        let _ = self.has_stopped();
+        self.happen(event)
+    }
+
+    /// Each IMP that is up tells its distances and sends again; then each live frame is delivered and dropped.
+    #[tactic(auto, using(crate::proofs::Working::round_shown))]
+    fn quiet_round(&mut self) -> Result<(), CarrierFault> {
+        self.round()
+    }
+
+    fn log(&self) -> &[Crossing] {
+        self.parts.log()
+    }
+
+    fn hosts(&self) -> &[HostAddr] {
+        self.parts.hosts()
+    }
+}
+
+impl Parts {
+    /// A quiet round, which may fail for want of memory.
+    fn fails_in_round(&mut self) -> bool
+        requires { AreLive self.old.imps }
+        ensures round { result ≡ false → self.new ≡ events.quiet_round self.old }
+        ensures keeps { SameLog self.old self.new }
+    {
+        self.quiet_round().is_err()
+    }
+
+    /// All crossings so far, the oldest first.
+    fn log(&self) -> &[Crossing]
+        ensures { result.now ≡ reverse self.now.log }
+    {
+        &self.log
+    }
+
+    /// The hosts of the network.
+    fn hosts(&self) -> &[HostAddr]
+        ensures { result.now ≡ self.now.hosts }
+    {
+        &self.hosts
     }
 }
 
@@ -84,5 +231,4 @@ fn known(message: &HostMessage)
 /// A link is an octet.
 fn is_octet(link: u8)
     ensures { link < 256 }
-{
-}
+{}
