@@ -1,37 +1,15 @@
 -- The map that a list of entries makes.
 use Rattle.std.proofs.Common.{◌≡◌, ℕ, Bool, true, false, not, List, [], ◌∷◌, ◌||◌, Option, Some, None, refl, ap, sym, ◌∙◌, cond, map, length, arith}
 use Rattle.std.specs.List.{list_any, filter}
-use Rattle.std.specs.Map.{lookup}
-use Rattle.std.specs.BTreeMap.{is_at}
 use Rattle.std.specs.declared.cmp.Ordering.{Ordering}
 use Rattle.std.specs.declared.cmp.Ordering.TheVariants.{Less, Equal, Greater}
-use Rattle.std.specs.Cmp.{eq_by_cmp_equiv}
-use Rattle.std.specs.FinMap.{find, from_entries, get, insert, same_map, get-from_entries, get-insert}
+use Rattle.std.specs.FinMap.{find, from_entries, same_map, get-from_entries}
 use Rattle.leader1822.specs.declared.address.Flow.{Flow}
 use Rattle.std.specs.FinMap.Entries.{find-where_key, put, by_order}
 use Rattle.std.specs.FinMap.{entries, entries-insert, get-retain_keys, empty, len-entries, len-empty}
 use Rattle.std.specs.Map.{keys_of}
 use Rattle.leader1822.proofs.Order.{flows_total, exact_flows}
 use Rattle.link_table.specs.Keys.{flow_cmp, is_from, drop_from, has_from}
-
--- what a list of entries has at a flow
-abbrev pub value_at : {V : Type 0} → List (Flow × V) → Flow → Option V
-value_at es f = lookup (is_at (flow_cmp f)) es
-
-find_flow : {V : Type 0} (es : List (Flow × V)) (f : Flow) → find flow_cmp f es ≡ value_at es f
-find_flow [] f = refl
-find_flow (e ∷ es) f = ap (cond (is_at (flow_cmp f) e.0) (Some e.1)) (find_flow es f)
-
--- what the map that the entries make has at a flow
-pub get_flow : {V : Type 0} (es : List (Flow × V)) (f : Flow) → get (from_entries {R = flow_cmp} es) f ≡ value_at es f
-get_flow es f = get-from_entries flows_total es f ∙ find_flow es f
-
--- entries that differ at one flow make maps that differ there
-pub one_set : {V : Type 0} (es ds : List (Flow × V)) (f : Flow) (v : V)
-    → ((g : Flow) → value_at ds g ≡ cond (is_at (flow_cmp f) g) (Some v) (value_at es g)) → from_entries {R = flow_cmp} ds ≡ insert (from_entries es) f v
-one_set es ds f v h = same_map flows_total exact_flows _ _ (λ g.
-    get_flow ds g ∙ h g ∙ ap (λ b. cond b (Some v) (value_at es g)) ((eq_by_cmp_equiv flows_total).symm f g)
-    ∙ sym (get-insert flows_total (from_entries es) f v g ∙ ap (cond (is_at (flow_cmp g) f) (Some v)) (get_flow es g)))
 
 -- flows that compare alike are from the same IMP
 from_alike : (imp : ℕ) (f g : Flow) → flow_cmp f g ≡ Equal → is_from imp g ≡ is_from imp f
