@@ -138,7 +138,7 @@ fn made(alloc: Global, imps: &str, ends: &str) -> Option<Subnet> {
         let (a, b) = word.split_once('-')?;
         lines.push(Ends { a: a.parse::<u8>().ok()?, b: b.parse::<u8>().ok()? }).ok()?;
     }
-    Subnet::new(alloc, hosts, sites, lines).ok()
+    Subnet::new(alloc, hosts, sites, &lines).ok()
 }
 
 /// What became of a line; `None` where it can't be read.
