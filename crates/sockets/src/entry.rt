@@ -9,7 +9,7 @@ use std::alloc::Global;
 
 /// How far this host's closing of a connection has come.
 #[derive(Clone, Copy, Debug, PartialEq, Eq)]
-pub(crate) enum Closing {
+pub enum Closing {
     /// It isn't to be closed.
     No,
     /// It is to be closed when what it has sent is answered.
@@ -22,7 +22,7 @@ pub(crate) enum Closing {
 
 /// One end of a connection, from the first request that was sent or taken until both CLS have passed.
 #[derive(Debug, Drop)]
-pub(crate) struct Entry {
+pub struct Entry {
     /// The socket at this host: an even one receives, an odd one sends.
     pub own: u32,
     /// The socket at the peer.
@@ -94,7 +94,7 @@ impl Entry {
     }
 
     /// A sending end, with bytes of this size.
-    pub fn sending(alloc: Global, own: u32, foreign: u32, size: ByteSize) -> Entry
+    pub(crate) fn sending(alloc: Global, own: u32, foreign: u32, size: ByteSize) -> Entry
         ensures { result ≡ entries.sending_end own foreign size }
     {
         let mut entry = Entry::new(alloc, own, foreign);
@@ -103,7 +103,7 @@ impl Entry {
     }
 
     /// A receiving end, on this link.
-    pub fn receiving(alloc: Global, own: u32, foreign: u32, link: ConnectionLink) -> Entry
+    pub(crate) fn receiving(alloc: Global, own: u32, foreign: u32, link: ConnectionLink) -> Entry
         ensures { result ≡ entries.receiving_end own foreign link }
     {
         let mut entry = Entry::new(alloc, own, foreign);
@@ -112,7 +112,7 @@ impl Entry {
     }
 
     /// The end of a request that is refused.
-    pub fn refused(alloc: Global, own: u32, foreign: u32, stamp: usize) -> Entry
+    pub(crate) fn refused(alloc: Global, own: u32, foreign: u32, stamp: usize) -> Entry
         ensures { result ≡ entries.refused_end own foreign stamp }
     {
         let mut entry = Entry::new(alloc, own, foreign);
@@ -123,7 +123,7 @@ impl Entry {
     }
 
     /// Whether it receives: its socket is even.
-    pub fn is_receiving(&self) -> bool
+    pub(crate) fn is_receiving(&self) -> bool
         ensures { result ≡ entries.is_receiving self.now }
     {
         self.own % 2 == 0
@@ -137,21 +137,21 @@ impl Entry {
     }
 
     /// Whether it sends on this link.
-    pub fn sends_on(&self, link: u8) -> bool
+    pub(crate) fn sends_on(&self, link: u8) -> bool
         ensures { result ≡ entries.sends_on link self.now }
     {
         !self.is_receiving() && self.has_link(link)
     }
 
     /// Whether it receives on this link.
-    pub fn receives_on(&self, link: u8) -> bool
+    pub(crate) fn receives_on(&self, link: u8) -> bool
         ensures { result ≡ entries.receives_on link self.now }
     {
         self.is_receiving() && self.has_link(link)
     }
 
     /// Whether a CLS was queued or taken.
-    pub fn is_ending(&self) -> bool
+    pub(crate) fn is_ending(&self) -> bool
         ensures { result ≡ entries.is_ending self.now }
     {
         self.closing.has_cls() || self.partner_closed
@@ -159,21 +159,21 @@ impl Entry {
 
     /// Whether it is open: its own request has gone out, the partner's was taken, and no CLS was queued or
     /// taken.
-    pub fn is_open(&self) -> bool
+    pub(crate) fn is_open(&self) -> bool
         ensures { result ≡ entries.is_open self.now }
     {
         self.asked.is_some() && self.partner.is_some() && !self.is_ending()
     }
 
     /// Whether it was closed at this end or at the other.
-    pub fn was_closed(&self) -> bool
+    pub(crate) fn was_closed(&self) -> bool
         ensures { result ≡ entries.was_closed self.now }
     {
         self.closing.is_called_off() || self.partner_closed
     }
 
     /// Whether both CLS have passed.
-    pub fn is_over(&self) -> bool
+    pub(crate) fn is_over(&self) -> bool
         ensures { result ≡ entries.is_over self.now }
     {
         self.closing == Closing::Sent && self.partner_closed
@@ -187,21 +187,21 @@ impl Entry {
     }
 
     /// Whether its CLS is queued now.
-    pub fn must_close(&self, busy: &[u8]) -> bool
+    pub(crate) fn must_close(&self, busy: &[u8]) -> bool
         ensures { result ≡ entries.must_close busy.now self.now }
     {
         self.closing == Closing::Due && self.is_drained(busy)
     }
 
     /// It is to be closed.
-    pub fn call_off(&mut self)
+    pub(crate) fn call_off(&mut self)
         ensures { self.new ≡ entries.called_off self.old }
     {
         self.closing = self.closing.due();
     }
 
     /// The partner's CLS was taken.
-    pub fn close_by_partner(&mut self, alloc: Global)
+    pub(crate) fn close_by_partner(&mut self, alloc: Global)
         ensures { self.new ≡ entries.closed_by_partner self.old }
     {
         self.closing = self.closing.due();

@@ -37,7 +37,12 @@ mod turn;
 mod turn_gone;
 pub mod worked;
 
+pub use entry::{Closing, Entry};
 pub use fault::NcpFault;
+pub use listener::Listener;
 pub use ncp::Ncp;
 pub use notice::Notice;
+pub use pair::Pair;
+pub use peer::Peer;
+pub use phase::Phase;
 pub use request::Request;

@@ -12,11 +12,16 @@ use std::marker::Model;
 /// This host and one peer: how far the reset has come, whether an RRP is owed, the links on which a message
 /// has no answer yet, the ends of their connections, and the commands that wait to go out.
 #[derive(Drop)]
-pub(crate) struct Pair {
+pub struct Pair {
+    /// How far the reset has come.
     pub phase: Phase,
+    /// Whether an RRP is owed to the peer.
     pub owed: bool,
+    /// The links on which a message of this host has no answer yet.
     pub busy: Vec<u8>,
+    /// The ends of connections with the peer, the oldest first.
     pub entries: Vec<Entry>,
+    /// The commands that wait to go out, the oldest first.
     pub queue: Vec<Command>,
 }
 
@@ -30,7 +35,7 @@ impl Model for Pair {
 
 impl Pair {
     /// A pair of hosts that never spoke to each other.
-    pub fn new(alloc: Global) -> Pair
+    pub(crate) fn new(alloc: Global) -> Pair
         ensures { result ≡ opening_pair }
     {
         Pair {
@@ -43,7 +48,7 @@ impl Pair {
     }
 
     /// Whether it is as at the opening.
-    pub fn is_opening(&self) -> bool
+    pub(crate) fn is_opening(&self) -> bool
         ensures { result ≡ is_opening self.now }
     {
         self.phase == Phase::Closed

@@ -5,7 +5,7 @@ use leader1822::HostAddr;
 
 /// Another host, and what this one knows of it.
 #[derive(Drop)]
-pub(crate) struct Peer {
+pub struct Peer {
     /// Its address.
     pub host: HostAddr,
     /// How far the two hosts have come.

@@ -5,7 +5,7 @@ ghost use Rattle.sockets.specs.Phases as phases;
 
 /// How far this host's reset with a peer has come (NIC 8246, RST and RRP).
 #[derive(Clone, Copy, Debug, PartialEq, Eq)]
-pub(crate) enum Phase {
+pub enum Phase {
     /// Nothing is asked for, and nothing may be said but the answer to an RST.
     Closed,
     /// A contact is asked for, and its RST hasn't gone out.
@@ -23,21 +23,21 @@ pub(crate) enum Phase {
 
 impl Phase {
     /// Whether the two hosts may speak of connections.
-    pub fn is_ready(self) -> bool
+    pub(crate) fn is_ready(self) -> bool
         ensures { result ≡ phases.is_ready self }
     {
         matches!(self, Phase::Ready)
     }
 
     /// Whether an RST waits to go out.
-    pub fn is_want(self) -> bool
+    pub(crate) fn is_want(self) -> bool
         ensures { result ≡ phases.is_want self }
     {
         matches!(self, Phase::Want)
     }
 
     /// The phase after an RST of the peer.
-    pub fn after_reset(self) -> Phase
+    pub(crate) fn after_reset(self) -> Phase
         ensures { result ≡ phases.reset_phase self }
     {
         match self {
@@ -47,7 +47,7 @@ impl Phase {
     }
 
     /// The phase after an RRP of the peer.
-    pub fn after_reply(self) -> Phase
+    pub(crate) fn after_reply(self) -> Phase
         ensures { result ≡ phases.reply_phase self }
     {
         match self {
@@ -58,7 +58,7 @@ impl Phase {
     }
 
     /// The phase after an RFNM on a link. The RST went out on link 0.
-    pub fn after_rfnm(self, link: u8) -> Phase
+    pub(crate) fn after_rfnm(self, link: u8) -> Phase
         ensures { result ≡ phases.rfnm_phase link self }
     {
         match self {

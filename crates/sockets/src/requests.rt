@@ -53,7 +53,7 @@ fn call_off(entries: &mut [Entry], socket: u32)
 
 impl Pair {
     /// All that was with the peer is gone, and an RST will go out.
-    pub fn contact(&mut self, alloc: Global)
+    pub(crate) fn contact(&mut self, alloc: Global)
         ensures { self.new ≡ requests.contacted self.old }
     {
         self.phase = Phase::Want;
@@ -62,7 +62,7 @@ impl Pair {
     }
 
     /// A new end, and its request.
-    pub fn request(&mut self, entry: Entry, command: Command) -> Result<(), AllocError>
+    pub(crate) fn request(&mut self, entry: Entry, command: Command) -> Result<(), AllocError>
         ensures { OnOk result (self.new ≡ requests.requested entry command self.old) }
     {
         self.entries.push(entry)?;
@@ -71,7 +71,7 @@ impl Pair {
     }
 
     /// A command waits to go out.
-    pub fn command(&mut self, command: Command) -> Result<(), AllocError>
+    pub(crate) fn command(&mut self, command: Command) -> Result<(), AllocError>
         ensures { OnOk result (self.new ≡ requests.commanded command self.old) }
     {
         self.queue.push(command)?;
@@ -79,14 +79,14 @@ impl Pair {
     }
 
     /// Bits of a socket wait to be sent.
-    pub fn add_bits(&mut self, socket: u32, bits: &Bits) -> Result<(), AllocError>
+    pub(crate) fn add_bits(&mut self, socket: u32, bits: &Bits) -> Result<(), AllocError>
         ensures { OnOk result (self.new ≡ with_end socket (with_more_bits bits.now) self.old) }
     {
         add_bits(&mut self.entries, socket, bits)
     }
 
     /// The sender to a socket is granted so much more, and an ALL will tell it.
-    pub fn grant(
+    pub(crate) fn grant(
         &mut self,
         socket: u32,
         messages: u16,
@@ -100,7 +100,7 @@ impl Pair {
     }
 
     /// The connection of a socket closes, at once or when it is drained.
-    pub fn close(&mut self, socket: u32) -> Result<(), AllocError>
+    pub(crate) fn close(&mut self, socket: u32) -> Result<(), AllocError>
         ensures { OnOk result (self.new ≡ requests.closed_end socket self.old) }
     {
         call_off(&mut self.entries, socket);

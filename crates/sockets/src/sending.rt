@@ -73,7 +73,7 @@ fn data_text(alloc: Global, size: u8, count: u16, bits: &Bits) -> Result<Bits, A
 
 impl Pair {
     /// The link of what goes out.
-    pub fn link_for(&self, out: &Outgoing) -> u8
+    pub(crate) fn link_for(&self, out: &Outgoing) -> u8
         requires { IsThere self.now.entries out.now }
         ensures { result ≡ sending.link_for (parcel_of self.now.entries out.now) }
     {
