@@ -28,7 +28,7 @@ alike true b f g = sym (f refl)
 alike false true f g = g refl
 alike false false f g = refl
 
-abbrev place_of : ℕ → Host
+abbrev pub place_of : ℕ → Host
 place_of n = record { imp = n / 4 + 1; host = n % 4 }
 
 -- a host at a place is there if its IMP has it

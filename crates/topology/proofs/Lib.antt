@@ -1,3 +1,5 @@
 mod Documents
 mod Hosts
 mod Order
+mod Sites
+mod Ports

@@ -1,7 +1,7 @@
 -- Topologies: a network's IMPs, hosts and lines, and the documents that describe them.
-use Rattle.std.specs.Prelude.{◌≡◌, ℕ, zero, suc, ◌+◌, ◌*◌, ◌/◌, ◌%◌, ◌<◌, ◌==◌, ◌&&◌, ◌||◌, nat_le, nat_lt, not, Bool, true, false, List, [], ◌∷◌, ◌++◌, length, codes, Option, Some, None, option_and_then, is_some, if◌then◌else◌, ℤ, pos, negsuc, count_by, nat_eq}
+use Rattle.std.specs.Prelude.{◌≡◌, ℕ, zero, suc, ◌+◌, ◌*◌, ◌/◌, ◌%◌, ◌<◌, ◌≤◌, ◌==◌, ◌&&◌, ◌||◌, nat_le, nat_lt, not, Bool, true, false, List, [], ◌∷◌, ◌++◌, All, length, map, codes, Option, Some, None, option_and_then, option_map, IfSome, slice_index_or, is_some, if◌then◌else◌, ℤ, pos, negsuc, count_by, nat_eq}
 use Rattle.std.specs.Cmp.Lexicographic.{pointwise}
-use Rattle.std.specs.List.{list_any, list_all, find, cons_option}
+use Rattle.std.specs.List.{list_any, list_all, find, cons_option, range_with_len}
 use Rattle.toml.specs.Data.{Data, Items, no_items, item, Members, no_members, member, table, get, as_integer, as_str, as_bool, as_array, as_table}
 use Rattle.toml.specs.Parse.{parse_document}
 use Rattle.leader1822.specs.Host.{Host}
@@ -240,3 +240,29 @@ hosts_below imps (suc place) = hosts_below imps place ++ host_if (has_host imps 
 -- all hosts of a topology, in order: four places for each of sixteen IMPs
 abbrev pub hosts_of : TopologyFields → List Host
 hosts_of t = hosts_below t.imps (most_imps * most_hosts)
+
+-- ---- sites
+
+-- how many hosts the IMP of this number has, where there is one
+abbrev pub site_of : List ImpHosts → ℕ → Option ℕ
+site_of imps number = option_map (λ (i : ImpHosts). i.hosts) (imp_of_number imps number)
+
+-- that of each number from 0 to 16, in order
+abbrev pub sites_of : TopologyFields → List (Option ℕ)
+sites_of t = map (site_of t.imps) (range_with_len 0 (most_imps + 1))
+
+-- so many hosts of the IMP with this number, from host 0 on
+abbrev pub hosts_at : ℕ → Option ℕ → List Host
+hosts_at number None = []
+hosts_at number (Some count) = map (λ k. record { imp = number; host = k }) (range_with_len 0 count)
+
+-- the hosts of sites, of which the first has this number: those of one IMP after the other
+abbrev pub hosts_from : ℕ → List (Option ℕ) → List Host
+hosts_from number [] = []
+hosts_from number (site ∷ sites) = hosts_at number site ++ hosts_from (number + 1) sites
+
+-- no IMP has the number 0, the others go up to 16, and none has more than four hosts
+pub record AreSites (sites : List (Option ℕ)) : Type 0 where
+  pub none : slice_index_or sites 0 None ≡ None
+  pub numbers : length sites ≡ most_imps + 1
+  pub counts : All (λ site. IfSome site (λ count. count ≤ most_hosts)) sites

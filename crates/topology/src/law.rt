@@ -1,11 +1,33 @@
-//! What topologies promise, as a law over their definitions. The function here does nothing: its clause is the
-//! law.
+//! What topologies promise, as laws over their definitions. The functions here do nothing: their clauses are the
+//! laws.
 
-ghost use Rattle.std.specs.Prelude.{◌≡◌};
+ghost use Rattle.std.specs.Prelude.{◌≡◌, ◌≤◌, length, take, true, Some, None, ◌∷◌, []};
 ghost use Rattle.leader1822.specs.Host.{Host, is_host};
-ghost use Rattle.topology.specs.Topology.{TopologyFields, IsTopology, hosts_of, has_host};
+ghost use Rattle.topology.specs.declared.network.CarrierKind.{CarrierKind};
+ghost use Rattle.topology.specs.Topology.{AreSites, TopologyFields, IsTopology, hosts_from, hosts_of, has_host, sites_of};
 
 /// The hosts of a topology are those that its IMPs have.
 pub fn hosts_of_imps()
     ensures { (t : TopologyFields) (h : Host) → IsTopology t → is_host (hosts_of t) h ≡ has_host t.imps h.imp h.host }
+{}
+
+/// The hosts of a topology are those that its sites list, one IMP after the other.
+pub fn hosts_of_sites()
+    ensures { (t : TopologyFields) → IsTopology t → hosts_of t ≡ hosts_from 0 (sites_of t) }
+{}
+
+/// No IMP has the number 0, the others go up to 16, and none has more than four hosts.
+pub fn sites()
+    ensures { (t : TopologyFields) → IsTopology t → AreSites (sites_of t) }
+{}
+
+/// IMPs 1 and 3 with one host and two: there is no site 2, and host 1 of IMP 3 comes last.
+pub fn worked_sites()
+    ensures sites { (carrier : CarrierKind) → take 5 (sites_of (record { carrier = carrier; raw = true; imps = record { imp = 1; hosts = 1 } ∷ record { imp = 3; hosts = 2 } ∷ []; lines = [] })) ≡ None ∷ Some 1 ∷ None ∷ Some 2 ∷ None ∷ [] }
+    ensures hosts { hosts_from 0 (None ∷ Some 1 ∷ None ∷ Some 2 ∷ []) ≡ record { imp = 1; host = 0 } ∷ record { imp = 3; host = 0 } ∷ record { imp = 3; host = 1 } ∷ [] }
+{}
+
+/// There are at most 40 lines: each has two ends, and sixteen IMPs have five ends at most.
+pub fn few_lines()
+    ensures { (t : TopologyFields) → IsTopology t → length t.lines ≤ 40 }
 {}

@@ -1,12 +1,12 @@
 //! Which IMPs, hosts and lines a network has.
 
-ghost use Rattle.std.specs.Prelude.{◌≡◌, ◌≢◌, ◌↔◌, ◌==◌, ◌*◌, ◌≤◌, not, true, Some, None, Err, ◌/◌, ◌%◌, ◌+◌, ◌<◌, ◌++◌, [], IfOk, IfErr, OnOk, codes};
+ghost use Rattle.std.specs.Prelude.{◌≡◌, ◌≢◌, ◌↔◌, ◌==◌, ◌*◌, ◌≤◌, not, true, Some, None, Err, ◌/◌, ◌%◌, ◌+◌, ◌<◌, ◌++◌, [], IfOk, IfErr, OnOk, codes, length};
 ghost use Rattle.std.specs.List.{list_any, list_all, cons_option};
 ghost use Rattle.toml.specs.View.{view, items_view};
 ghost use Rattle.toml.specs.Data.{get};
 ghost use Rattle.toml.specs.Errors.{IsBlank, IsMemory};
 ghost use Rattle.leader1822.specs.Calls.{InOrder};
-ghost use Rattle.topology.specs.Topology.{TopologyFields, hosts_of, has_host, topology_in, topology_of, size, has, one_if, known_members, carrier_of, raw_of, number_at, host_if, is_imp, is_line, each_of, imp_of, line_of, imps_of, lines_of, are_imps, is_there, are_lines, are_apart, joins_same, has_ports, line_count, by_number, imp_of_number};
+ghost use Rattle.topology.specs.Topology.{TopologyFields, hosts_of, has_host, topology_in, topology_of, size, has, one_if, known_members, carrier_of, raw_of, number_at, host_if, hosts_from, site_of, sites_of, AreSites, is_imp, is_line, each_of, imp_of, line_of, imps_of, lines_of, are_imps, is_there, are_lines, are_apart, joins_same, has_ports, line_count, by_number, imp_of_number};
 ghost use Rattle.topology.specs.Reading.{Described, DescribedIn};
 
 use leader1822::HostAddr;
@@ -180,9 +180,25 @@ impl Topology {
         Ok(hosts)
     }
 
-    /// The lines, in the order of the document. They are numbered from 0.
+    /// By number, from 0 to 16: how many hosts the IMP of that number has, where there is one.
+    ///
+    /// Errors: `AllocError`.
+    pub fn sites(&self, alloc: Global) -> Result<Vec<Option<u8>>, AllocError>
+        ensures all { IfOk result (λ sites. sites.items ≡ sites_of self.now) }
+        ensures kept { IfOk result (λ sites. AreSites sites.items) }
+        ensures listed { IfOk result (λ sites. hosts_of self.now ≡ hosts_from 0 sites.items) }
+    {
+        let mut sites = Vec::new(alloc);
+        for number in 0..=MOST_IMPS as u8 {
+            sites.push(site_of(&self.imps, number))?;
+        }
+        Ok(sites)
+    }
+
+    /// The lines, in the order of the document: 40 at most. They are numbered from 0.
     pub fn lines(&self) -> &[Ends]
-        ensures { result.now ≡ self.now.lines }
+        ensures all { result.now ≡ self.now.lines }
+        ensures few { length result.now ≤ 40 }
     {
         &self.lines
     }
@@ -456,6 +472,13 @@ fn imp_of_number(imps: &[ImpHosts], number: u8) -> Option<ImpHosts>
     ensures { result ≡ imp_of_number imps.now number }
 {
     imps.iter().copied().find(|imp| imp.imp == number)
+}
+
+/// How many hosts the IMP with this number has, where there is one.
+fn site_of(imps: &[ImpHosts], number: u8) -> Option<u8>
+    ensures { result ≡ site_of imps.now number }
+{
+    imp_of_number(imps, number).map(|imp| imp.hosts)
 }
 
 /// Whether there is an IMP with this number that has a host with this number.
