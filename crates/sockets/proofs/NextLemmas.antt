@@ -1,9 +1,11 @@
 -- The peer that something goes to stands among the peers with its pair.
 use Rattle.std.proofs.Common.{◌≡◌, ℕ, ◌<◌, Bool, true, false, List, [], ◌∷◌, Option, Some, None, refl, ap, subst, arith, eq-eqb}
 use Rattle.leader1822.specs.Host.{Host, same_host, address_octet}
+use Rattle.sockets.specs.Outgoing.{IsThere, parcel_of}
 use Rattle.sockets.specs.Pairs.{pair_with}
 use Rattle.sockets.specs.Peers.{StandAbove, AreInOrder}
 use Rattle.sockets.specs.Sending.{Parcel, next_of, next_in}
+use Rattle.sockets.specs.declared.outgoing.Outgoing.{Outgoing}
 use Rattle.sockets.specs.declared.peer.Peer.{Peer}
 use Rattle.sockets.proofs.PeerLemmas.{same_octet}
 
@@ -48,3 +50,14 @@ next_pair_by n (q ∷ qs) p x s is = pair_at n q qs p x s (λ e. next_pair_by (a
 
 pub next_pair : (ps : List Peer) (p : Peer) (x : Parcel) → AreInOrder ps → next_in ps ≡ Some (p, x) → pair_with p.host ps ≡ p.pair
 next_pair ps p x s is = next_pair_by 0 ps p x s is
+
+-- what was found, and the pair of its host
+pub record IsNext (ps : List Peer) (h : Host) (out : Outgoing) : Type 0 where
+  pub found : next_in ps ≡ Some (record { host = h; pair = pair_with h ps }, parcel_of (pair_with h ps).entries out)
+  pub there : IsThere (pair_with h ps).entries out
+
+pub next_by_host : (ps : List Peer) (p : Peer) (out : Outgoing) → AreInOrder ps → next_in ps ≡ Some (p, parcel_of p.pair.entries out)
+    → IsThere p.pair.entries out → IsNext ps p.host out
+next_by_host ps p out s e t =
+    let pair : pair_with p.host ps ≡ p.pair = next_pair ps p (parcel_of p.pair.entries out) s e in
+    record { found = rw pair e; there = rw pair t }

@@ -1,5 +1,5 @@
 -- What goes out of a pair, and when it may.
-use Rattle.std.proofs.Common.{◌≡◌, ℕ, ◌*◌, ◌/◌, ◌<◌, ◌≤◌, ◌==◌, ◌&&◌, Bool, true, false, not, min, nat_lt, List, [], ◌∷◌, length, find, filter, Option, Some, None, refl, ap, sym, subst, ◌∙◌, arith, zero, suc}
+use Rattle.std.proofs.Common.{◌≡◌, ℕ, ◌*◌, ◌/◌, ◌<◌, ◌≤◌, ◌==◌, ◌&&◌, Bool, true, false, not, min, nat_lt, List, [], ◌∷◌, length, find, filter, Option, Some, None, is_some, refl, ap, sym, subst, ◌∙◌, arith, zero, suc}
 use Rattle.std.proofs.Math.Nat.{min-le_left, min-le_right, mul-div-le, mul-le-mul_left}
 use Rattle.std.proofs.lemmas.Bool.{ltb-true}
 use Rattle.ncp_control.specs.Allocation as counters
@@ -70,24 +70,26 @@ find_passes : {A : Type 0} (test : A → Bool) (x : A) (xs : List A) → find te
 find_passes test x [] h = absurd (cc)
 find_passes test x (y ∷ ys) h = find_step test x y ys (test y) refl h (find_passes test x ys)
 
-may_parts : (busy : List ℕ) (e : Entry) → may_send busy e ≡ true → (is_receiving e ≡ false) × (is_open e ≡ true) × (is_answered busy e.link ≡ true) × (0 < sendable e)
+may_parts : (busy : List ℕ) (e : Entry) → may_send busy e ≡ true → (is_receiving e ≡ false) × (is_open e ≡ true) × (is_some e.link ≡ true) × (is_answered busy e.link ≡ true) × (0 < sendable e)
 may_parts busy e h =
-    let a : ((not (is_receiving e) && is_open e && is_answered busy e.link) ≡ true) × (nat_lt 0 (sendable e) ≡ true) = both _ _ h in
-    let b : ((not (is_receiving e) && is_open e) ≡ true) × (is_answered busy e.link ≡ true) = both _ _ a.0 in
-    let c : (not (is_receiving e) ≡ true) × (is_open e ≡ true) = both _ _ b.0 in
-    (not_is (is_receiving e) c.0, c.1, b.1, ltb-true 0 (sendable e) a.1)
+    let a : ((not (is_receiving e) && is_open e && is_some e.link && is_answered busy e.link) ≡ true) × (nat_lt 0 (sendable e) ≡ true) = both _ _ h in
+    let b : ((not (is_receiving e) && is_open e && is_some e.link) ≡ true) × (is_answered busy e.link ≡ true) = both _ _ a.0 in
+    let c : ((not (is_receiving e) && is_open e) ≡ true) × (is_some e.link ≡ true) = both _ _ b.0 in
+    let d : (not (is_receiving e) ≡ true) × (is_open e ≡ true) = both _ _ c.0 in
+    (not_is (is_receiving e) d.0, d.1, c.1, b.1, ltb-true 0 (sendable e) a.1)
 
 send_by : (q : PairState) (e : Entry) (size : ℕ) → may_send q.busy e ≡ true → e.size ≡ Some size → MaySend q e size (sendable e)
 send_by q e size h z =
-    let p : (is_receiving e ≡ false) × (is_open e ≡ true) × (is_answered q.busy e.link ≡ true) × (0 < sendable e) = may_parts q.busy e h in
+    let p : (is_receiving e ≡ false) × (is_open e ≡ true) × (is_some e.link ≡ true) × (is_answered q.busy e.link ≡ true) × (0 < sendable e) = may_parts q.busy e h in
     let n : sendable e ≡ counters.may_send e.allocation size (length e.bits / size) = ap (λ (s : Option ℕ). sendable_by s e) z in
-    let w : IsWithin e.allocation size (length e.bits / size) (sendable e) = within_by e.allocation size (length e.bits / size) (sendable e) n p.3 (e.allocation.messages == 0) refl in
+    let w : IsWithin e.allocation size (length e.bits / size) (sendable e) = within_by e.allocation size (length e.bits / size) (sendable e) n p.4 (e.allocation.messages == 0) refl in
     record {
       sends = p.0;
       is_opened = p.1;
-      answered = p.2;
+      linked = p.2;
+      answered = p.3;
       bytes = z;
-      some = p.3;
+      some = p.4;
       waits = bits_within size (sendable e) (length e.bits) w.waits;
       granted_bits = bits_within size (sendable e) e.allocation.bits w.bits;
       granted_message = w.messages;

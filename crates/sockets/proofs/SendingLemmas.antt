@@ -1,5 +1,5 @@
 -- The lowest of links, found from the front.
-use Rattle.std.proofs.Common.{◌≡◌, ℕ, ◌*◌, Bool, min, suc, length, take, ◌++◌, List, [], ◌∷◌, Option, Some, None, refl, ap, arith}
+use Rattle.std.proofs.Common.{◌≡◌, ℕ, ◌*◌, Bool, suc, length, take, ◌++◌, List, [], ◌∷◌, Option, Some, None, refl, ap, arith}
 use Rattle.bit_messages.specs.Octets.{bits_of, octet_bits}
 use Rattle.sockets.specs.Sending.{lower}
 

@@ -1,5 +1,5 @@
 -- Whom a request is about, and what may go out of a pair: words for the laws of one host.
-use Rattle.std.specs.Prelude.{◌≡◌, ℕ, ◌*◌, ◌<◌, ◌≤◌, Bool, true, false, List, [], ◌∷◌, length, if◌then◌else◌, Option, Some, None}
+use Rattle.std.specs.Prelude.{◌≡◌, ℕ, ◌*◌, ◌<◌, ◌≤◌, Bool, true, false, List, [], ◌∷◌, length, if◌then◌else◌, Option, Some, None, is_some}
 use Rattle.leader1822.specs.Host.{Host, same_host}
 use Rattle.ncp_control.specs.Packing.{packed_count}
 use Rattle.sockets.specs.Entries.{is_receiving, is_open, is_answered, is_busy}
@@ -75,10 +75,11 @@ pub record MaySpeak (q : PairState) : Type 0 where
   pub ready : q.phase ≡ phase.Ready
   pub owes : q.owed ≡ false
 
--- so many bytes go of an open sending end, if its last message is answered: no more than wait, than were granted, and than one message holds
+-- so many bytes go of an open sending end with a link, if its last message is answered: no more than wait, than were granted, and than one message holds
 pub record MaySend (q : PairState) (e : Entry) (size count : ℕ) : Type 0 where
   pub sends : is_receiving e ≡ false
   pub is_opened : is_open e ≡ true
+  pub linked : is_some e.link ≡ true
   pub answered : is_answered q.busy e.link ≡ true
   pub bytes : e.size ≡ Some size
   pub some : 0 < count

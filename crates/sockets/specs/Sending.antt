@@ -1,5 +1,5 @@
 -- What goes out next (NIC 8246: RST and RRP go alone, control messages hold 120 octets, data go within the allocation).
-use Rattle.std.specs.Prelude.{ℕ, ◌*◌, ◌/◌, ◌==◌, ◌&&◌, not, Bool, false, nat_lt, min, if◌then◌else◌, List, [], ◌∷◌, length, take, drop, filter, find, Option, Some, None}
+use Rattle.std.specs.Prelude.{ℕ, ◌*◌, ◌/◌, ◌==◌, ◌&&◌, not, Bool, false, nat_lt, min, if◌then◌else◌, List, [], ◌∷◌, length, take, drop, filter, find, Option, Some, None, is_some}
 use Rattle.leader1822.specs.Host.{Host}
 use Rattle.leader1822.specs.declared.message.HostMessage.{HostMessage}
 use Rattle.ncp_control.specs.Allocation as counters
@@ -38,9 +38,9 @@ sendable_by (Some size) e = counters.may_send e.allocation size (length e.bits /
 abbrev pub sendable : Entry → ℕ
 sendable e = sendable_by e.size e
 
--- an open sending end whose link is free, with something to send
+-- an open sending end whose link is known and free, with something to send
 abbrev pub may_send : List ℕ → Entry → Bool
-may_send busy e = not (is_receiving e) && is_open e && is_answered busy e.link && nat_lt 0 (sendable e)
+may_send busy e = not (is_receiving e) && is_open e && is_some e.link && is_answered busy e.link && nat_lt 0 (sendable e)
 
 abbrev pub link_of : Option ℕ → ℕ
 link_of None = 0

@@ -17,7 +17,7 @@ use std::mem;
 
 impl Ncp {
     /// Takes what is known of a peer out, to be worked on.
-    fn begin(&mut self, peer: HostAddr) -> Turn
+    pub(crate) fn begin(&mut self, peer: HostAddr) -> Turn
         ensures turn { result ≡ accepting.turn_of self.old peer }
         ensures rest { (turn : TurnState) → accepting.turned self.new peer turn ≡ accepting.turned self.old peer turn }
     {
@@ -29,7 +29,7 @@ impl Ncp {
     }
 
     /// Puts what is known of a peer back, and gives what is told.
-    fn finish(&mut self, peer: HostAddr, turn: Turn) -> Result<Vec<Notice>, AllocError>
+    pub(crate) fn finish(&mut self, peer: HostAddr, turn: Turn) -> Result<Vec<Notice>, AllocError>
         ensures { IfOk result (λ notices. accepting.turned self.old peer turn ≡ (self.new, notices.items)) }
     {
         let Turn {

@@ -24,6 +24,7 @@ pub mod law;
 mod listener;
 mod ncp;
 mod notice;
+mod offering;
 mod outgoing;
 mod pair;
 mod peer;

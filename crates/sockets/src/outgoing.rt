@@ -50,6 +50,7 @@ impl Entry {
     {
         !self.is_receiving()
             && self.is_open()
+            && self.link.is_some()
             && is_answered(busy, self.link)
             && self.sendable() > 0
     }

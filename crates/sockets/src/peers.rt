@@ -59,7 +59,8 @@ impl Peers {
 
     /// The peers, in order of their address octets.
     pub fn as_slice(&self) -> &[Peer]
-        ensures { result.now ≡ self.now }
+        ensures value { result.now ≡ self.now }
+        ensures order { AreInOrder self.now }
     {
         &self.peers
     }

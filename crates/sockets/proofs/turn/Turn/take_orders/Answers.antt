@@ -1,4 +1,4 @@
-use Rattle.std.proofs.Common.{◌<◌, length, arith, rules}
+use Rattle.std.proofs.Common.{◌<◌, length, rules}
 use Rattle.sockets.proofs.ControlLemmas.{left_more, left_wanted}
 use Rattle.sockets.proofs.turn.Turn.take_orders.Goals as goal
 

@@ -1,0 +1,56 @@
+//! What changes once the carrier has taken the message that goes out next.
+
+ghost use Rattle.std.specs.Prelude.{◌≡◌, false, IfOk, IfSome, MatchOption, None, Some};
+ghost use Rattle.sockets.specs.Calls.{Turns};
+ghost use Rattle.sockets.specs.Outgoing.{IsThere, parcel_of};
+ghost use Rattle.sockets.specs.Pairs.{pair_with};
+ghost use Rattle.sockets.specs.Sending as sending;
+
+use crate::ncp::Ncp;
+use crate::outgoing::Outgoing;
+use crate::peers::Peers;
+use crate::sending::next_in;
+use crate::{NcpFault, Notice};
+use leader1822::HostAddr;
+use std::alloc::AllocError;
+
+impl Peers {
+    /// The first peer that something goes to, and what.
+    fn next(&self) -> Option<(HostAddr, Outgoing)>
+        ensures next { MatchOption result (sending.next_in self.now ≡ None) (λ found. sending.next_in self.now ≡ Some (record { host = found.0; pair = pair_with found.0 self.now }, parcel_of (pair_with found.0 self.now).entries found.1)) }
+        ensures there { IfSome result (λ found. IsThere (pair_with found.0 self.now).entries found.1) }
+    {
+        let Some((peer, out)) = next_in(self.as_slice()) else {
+            return None;
+        };
+        let host = peer.host;
+        Some((host, out))
+    }
+}
+
+impl Ncp {
+    /// What goes out next has gone out.
+    #[tactic(auto, unfolding(crate::specs::Sending::offered))]
+    fn leave(&mut self, stamp: usize) -> Result<Vec<Notice>, AllocError>
+        ensures { IfOk result (λ notices. sending.offered self.old stamp ≡ (self.new, notices.items)) }
+    {
+        let Some((host, out)) = self.peers.next() else {
+            return Ok(Vec::new(self.alloc));
+        };
+        let mut turn = self.begin(host);
+        turn.gone(self.alloc, host, stamp, out)?;
+        self.finish(host, turn)
+    }
+
+    /// Tells the program that the carrier has taken the message of [`Ncp::next_out`], with its place in the log:
+    /// the link has a message outstanding, and what went out waits no longer. Returns what is told of it.
+    ///
+    /// Errors: `OutOfMemory`, which leaves the program spent.
+    pub fn offered(&mut self, stamp: usize) -> Result<Vec<Notice>, NcpFault>
+        requires live { self.old.spent ≡ false }
+        ensures turn { Turns (λ notices. notices.items) (sending.offered self.old stamp) result self.new }
+    {
+        let done = self.leave(stamp);
+        self.end(done)
+    }
+}
