@@ -23,7 +23,7 @@ struct Tables {
 impl Model for Tables {
     ghost use Rattle.std.specs.Coded.{codes};
     ghost use Rattle.link_table.specs.Codes.{coded_sources, coded_destinations};
-    ghost use Rattle.library_tests.specs.FlowTables.{FlowTables};
+    ghost use Rattle.packet_tests.specs.FlowTables.{FlowTables};
 
     ghost Value = { FlowTables };
 

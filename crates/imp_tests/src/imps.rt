@@ -4,7 +4,7 @@
 //! Each IMP has hosts 0 and 1.
 
 ghost use Rattle.std.specs.Prelude.{◌≡◌, ◌≤◌, true, false, IfOk, OnOk};
-ghost use Rattle.library_tests.specs.Memory.{has_memory};
+ghost use Rattle.imp_tests.specs.Memory.{has_memory};
 
 use crate::values::flow;
 use bit_messages::Bits;

@@ -1,2 +1,1 @@
 pub mod FlowTables
-pub mod Memory

@@ -1,0 +1,19 @@
+//! The worked rows of frames, lines, distances and route tables.
+//!
+//! `message_tests` says why there are such rows.
+//!
+//! The rows call what any caller can call. They stand here and not beside the calls because a crate with
+//! tests is proved twice, with them and without them. This crate has no code but tests, and nothing stands
+//! above it.
+#![tactic(auto)]
+
+#[cfg(test)]
+mod lines;
+#[cfg(test)]
+mod routes;
+#[cfg(test)]
+mod settled;
+#[cfg(test)]
+mod values;
+#[cfg(test)]
+mod vectors;

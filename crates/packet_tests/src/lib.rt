@@ -1,0 +1,17 @@
+//! The worked rows of packets, reassembly and message numbers.
+//!
+//! `message_tests` says why there are such rows.
+//!
+//! The rows call what any caller can call. They stand here and not beside the calls because a crate with
+//! tests is proved twice, with them and without them. This crate has no code but tests, and nothing stands
+//! above it.
+#![tactic(auto)]
+
+#[cfg(test)]
+mod flow_tables;
+#[cfg(test)]
+mod numbers;
+#[cfg(test)]
+mod packets;
+#[cfg(test)]
+mod values;
