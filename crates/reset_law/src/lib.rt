@@ -5,7 +5,7 @@
 //! cross, fail or are answered late, a host that is through a reset takes only what went out after its last
 //! clean point. The mailboxes are all that is asked of the network.
 //!
-//! The host program (crate `sockets`) is not tied to these phases yet. There is no code: the laws are the
+//! The crate `net_sim` ties the host program (crate `sockets`) to these phases. There is no code: the laws are the
 //! contracts of functions that do nothing.
 #![tactic(auto)]
 

@@ -1,0 +1,42 @@
+//! What follows for hosts that run the network control program, whatever carries their messages. The functions here
+//! do nothing: each clause is a law.
+
+ghost use Rattle.std.specs.Prelude.{◌≡◌, ℕ, true, Some, is_some};
+ghost use Rattle.leader1822.specs.Host.{Host, same_host};
+ghost use Rattle.leader1822.specs.declared.address.Flow.{Flow};
+ghost use Rattle.leader1822.specs.declared.crossing.Answer.{Answer};
+ghost use Rattle.leader1822.specs.declared.crossing.Crossing.TheVariants as crossing;
+ghost use Rattle.leader1822.specs.declared.crossing.Inbound.TheVariants as inbound;
+ghost use Rattle.leader1822.specs.declared.message.HostMessage.{HostMessage};
+ghost use Rattle.net_sim.specs.Projection.{Agrees, IsApart, Speaks, event_of, event_by, message_on};
+ghost use Rattle.reset_law.specs.Events.{part_of};
+ghost use Rattle.reset_law.specs.Pairs as pairs;
+ghost use Rattle.reset_law.specs.Pairs.{Pair, MaySend, moved};
+ghost use Rattle.sockets.specs.Accepting.{accepted};
+ghost use Rattle.sockets.specs.Pairs.{NcpState, opening_state, pair_with};
+ghost use Rattle.sockets.specs.Peers.{AreInOrder};
+ghost use Rattle.sockets.specs.Requests.{served};
+ghost use Rattle.sockets.specs.Sending.{Parcel, link_for, text_for, message_for, next_in, offered};
+ghost use Rattle.sockets.specs.declared.peer.Peer.{Peer};
+ghost use Rattle.sockets.specs.declared.request.Request.{Request};
+
+/// Each call of a host's program is, for each peer `h`, a step of the law of resets: where program and law agree on the pair
+/// before it, they agree on it after it.
+pub fn resets()
+    // a program that starts knows of nobody
+    ensures opening { (own h : Host) → Agrees (pair_with h (opening_state own).peers) pairs.opening_pair }
+
+    // of what a user asks a contact is a step, and all else none
+    ensures request { (s : NcpState) (r : Request) (h : Host) (p : Pair) → Agrees (pair_with h s.peers) p → Agrees (pair_with h (served s r).peers) (moved (part_of s.own h (event_by s.own r)) p) }
+
+    // a message that has RST and RRP alone, or neither, is what the law says of an RST, of an RRP or of any other text
+    ensures message { (s : NcpState) (m : HostMessage) (stamp : ℕ) (h : Host) (p : Pair) → IsApart m.flow.link.0 m.text (message_on m.flow.link.0 m.text) → Agrees (pair_with h s.peers) p → Agrees (pair_with h (accepted s (inbound.Message m) stamp).0.peers) (moved (part_of s.own h (event_of (crossing.In m))) p) }
+
+    // an answer about a message that is outstanding
+    ensures answer { (s : NcpState) (kind : Answer) (f : Flow) (stamp : ℕ) (h : Host) (p : Pair) → (same_host s.own f.source ≡ true → same_host h f.destination ≡ true → is_some (p.out f.link.0) ≡ true) → Agrees (pair_with h s.peers) p → Agrees (pair_with h (accepted s (inbound.Answer kind f) stamp).0.peers) (moved (part_of s.own h (event_of (crossing.Answer kind f))) p) }
+
+    // what goes out may go by the law, has RST and RRP alone or neither, and the pair is then where the law has it
+    ensures may { (s : NcpState) (g : Peer) (x : Parcel) (p : Pair) → AreInOrder s.peers → next_in s.peers ≡ Some (g, x) → Speaks g.pair x → Agrees (pair_with g.host s.peers) p → MaySend p (link_for x) (message_on (link_for x) (text_for g.pair x)) }
+    ensures apart { (s : NcpState) (g : Peer) (x : Parcel) (p : Pair) → AreInOrder s.peers → next_in s.peers ≡ Some (g, x) → Speaks g.pair x → Agrees (pair_with g.host s.peers) p → IsApart (link_for x) (text_for g.pair x) (message_on (link_for x) (text_for g.pair x)) }
+    ensures offer { (s : NcpState) (stamp : ℕ) (g : Peer) (x : Parcel) (h : Host) (p : Pair) → AreInOrder s.peers → next_in s.peers ≡ Some (g, x) → Speaks g.pair x → Agrees (pair_with h s.peers) p → Agrees (pair_with h (offered s stamp).0.peers) (moved (part_of s.own h (event_of (crossing.Out (message_for s.own g x)))) p) }
+{}
