@@ -1,0 +1,252 @@
+//! Makes the calls on hosts' programs that standard input names, a line each, and prints what each answers.
+//!
+//! The first line has the hosts, as `HOST/IMP`. Every other line has the place of a host in it and a call with its arguments,
+//! as `0 listen 33 8`; with `ask` before it the call is made as a request. What comes in is written `accept STAMP message FLOW BITS OCTETS` or `accept STAMP rfnm FLOW`. Octets are
+//! in upper case hexadecimal, `-` for none. Printed are `ok` or `refused NAME`, each notice, and what `next_out` gives then.
+//! `check-hosts` compares all this with a second reading of the rules.
+#![tactic(auto)]
+
+use bit_messages::Bits;
+use leader1822::{Answer, Flow, HostAddr, HostMessage, Inbound, Link, Text};
+use sockets::{Ncp, NcpFault, Notice, Request};
+use std::alloc::Global;
+use std::io::Read;
+
+/// The words of a line.
+#[derive(Drop)]
+struct Words<'a> {
+    rest: &'a str,
+}
+
+impl<'a> Words<'a> {
+    /// The next word.
+    fn word(&mut self) -> Option<&'a str> {
+        if self.rest.is_empty() {
+            return None;
+        }
+        match self.rest.split_once(' ') {
+            Some((word, rest)) => {
+                self.rest = rest;
+                Some(word)
+            }
+            None => {
+                let word = self.rest;
+                self.rest = "";
+                Some(word)
+            }
+        }
+    }
+
+    /// The next word as a number of eight bits.
+    fn octet(&mut self) -> Option<u8> {
+        self.word()?.parse::<u8>().ok()
+    }
+
+    /// The next word as a number of messages.
+    fn messages(&mut self) -> Option<u16> {
+        self.word()?.parse::<u16>().ok()
+    }
+
+    /// The next word as a socket or a number of bits.
+    fn number(&mut self) -> Option<u32> {
+        self.word()?.parse::<u32>().ok()
+    }
+
+    /// The next word as a place.
+    fn place(&mut self) -> Option<usize> {
+        self.word()?.parse::<usize>().ok()
+    }
+
+    /// The next word as a host.
+    fn host(&mut self) -> Option<HostAddr> {
+        let (host, imp) = self.word()?.split_once('/')?;
+        HostAddr::new(host.parse::<u8>().ok()?, imp.parse::<u8>().ok()?)
+    }
+
+    /// The next three words as a flow.
+    fn flow(&mut self) -> Option<Flow> {
+        Some(Flow {
+            source: self.host()?,
+            destination: self.host()?,
+            link: Link(self.octet()?),
+        })
+    }
+
+    /// The next two words as bits: their count, and their octets.
+    fn bits(&mut self, alloc: Global) -> Option<Bits> {
+        let count = self.place()?;
+        let word = self.word()?;
+        if word == "-" {
+            return Some(Bits::new(alloc));
+        }
+        let octets = hex::decode(alloc, word.as_bytes()).ok()?;
+        Bits::from_octets(alloc, &octets, count).ok()
+    }
+}
+
+fn main(rt: HostRuntime) {
+    let mut octets = Vec::new(rt.alloc());
+    let mut reader = rt.reader();
+    if reader.read_to_end(&mut octets).is_err() {
+        return;
+    }
+    let Ok(text) = str::from_utf8(&octets) else {
+        return;
+    };
+    let mut lines = text.lines();
+    let Some(line) = lines.next() else {
+        return;
+    };
+    let Some(mut hosts) = made(rt.alloc(), line) else {
+        return;
+    };
+    for line in lines {
+        let answer = answered(rt.alloc(), &mut hosts, line).unwrap_or_else(|| String::new(rt.alloc()));
+        let _ = println!(rt; "{answer}");
+    }
+}
+
+/// The programs of the hosts that the first line names.
+fn made(alloc: Global, line: &str) -> Option<Vec<Ncp>> {
+    let mut hosts = Vec::new(alloc);
+    let mut words = Words { rest: line };
+    while !words.rest.is_empty() {
+        hosts.push(Ncp::new(alloc, words.host()?)).ok()?;
+    }
+    Some(hosts)
+}
+
+/// What a line is answered; `None` where it is no call, or memory ran out.
+fn answered(alloc: Global, hosts: &mut Vec<Ncp>, line: &str) -> Option<String> {
+    let mut words = Words { rest: line };
+    let host = hosts.get_mut(words.place()?)?;
+    let mut answer = String::new(alloc);
+    match called(alloc, host, words)? {
+        Ok(notices) => {
+            answer.push_str("ok").ok()?;
+            for notice in &notices {
+                answer.push_str(";").ok()?;
+                tell(&mut answer, notice)?;
+            }
+        }
+        Err(fault) => write!(answer, "refused {fault:?}").ok()?,
+    }
+    match host.next_out().ok()? {
+        None => answer.push_str(" next nothing").ok()?,
+        Some(message) => {
+            write!(answer, " next {} ", message.flow).ok()?;
+            tell_bits(&mut answer, message.text.bits())?;
+        }
+    }
+    Some(answer)
+}
+
+/// Makes a call.
+fn called(alloc: Global, host: &mut Ncp, mut words: Words<'_>) -> Option<Result<Vec<Notice>, NcpFault>> {
+    let name = words.word()?;
+    match name {
+        "offered" => Some(host.offered(words.place()?)),
+        "accept" => {
+            let stamp = words.place()?;
+            Some(host.accept(inbound(alloc, words)?, stamp))
+        }
+        "ask" => Some(host.ask(request(alloc, words)?)),
+        "contact" => Some(host.contact(words.host()?)),
+        _ => {
+            let done = asked(alloc, host, name, words)?;
+            Some(done.map(|_| Vec::new(alloc)))
+        }
+    }
+}
+
+/// Makes a call of the user that tells nothing.
+fn asked(alloc: Global, host: &mut Ncp, name: &str, mut words: Words<'_>) -> Option<Result<(), NcpFault>> {
+    Some(match name {
+        "listen" => host.listen(words.number()?, words.octet()?),
+        "open_send" => host.open_send(words.host()?, words.number()?, words.number()?, words.octet()?),
+        "open_receive" => host.open_receive(words.host()?, words.number()?, words.number()?),
+        "send" => host.send(words.number()?, words.bits(alloc)?),
+        "grant" => host.grant(words.number()?, words.messages()?, words.number()?),
+        "ask_back" => host.ask_back(words.number()?, words.octet()?, words.octet()?),
+        "interrupt" => host.interrupt(words.number()?),
+        "close" => host.close(words.number()?),
+        "echo" => host.echo(words.host()?, words.octet()?),
+        _ => return None,
+    })
+}
+
+/// A call of the user as a request.
+fn request(alloc: Global, mut words: Words<'_>) -> Option<Request> {
+    let name = words.word()?;
+    Some(match name {
+        "contact" => Request::Contact { peer: words.host()? },
+        "listen" => Request::Listen { socket: words.number()?, size: words.octet()? },
+        "open_send" => {
+            Request::OpenSend { peer: words.host()?, own: words.number()?, foreign: words.number()?, size: words.octet()? }
+        }
+        "open_receive" => Request::OpenReceive { peer: words.host()?, own: words.number()?, foreign: words.number()? },
+        "send" => Request::Send { socket: words.number()?, bits: words.bits(alloc)? },
+        "grant" => Request::Grant { socket: words.number()?, messages: words.messages()?, bits: words.number()? },
+        "ask_back" => Request::AskBack { socket: words.number()?, messages: words.octet()?, bits: words.octet()? },
+        "interrupt" => Request::Interrupt { socket: words.number()? },
+        "close" => Request::Close { socket: words.number()? },
+        "echo" => Request::Echo { peer: words.host()?, octet: words.octet()? },
+        _ => return None,
+    })
+}
+
+/// What comes in.
+fn inbound(alloc: Global, mut words: Words<'_>) -> Option<Inbound> {
+    let kind = words.word()?;
+    let flow = words.flow()?;
+    Some(match kind {
+        "message" => Inbound::Message(HostMessage { flow, text: Text::new(words.bits(alloc)?)? }),
+        "rfnm" => Inbound::Answer(Answer::Rfnm, flow),
+        "incomplete" => Inbound::Answer(Answer::Incomplete, flow),
+        "dead" => Inbound::Answer(Answer::Dead, flow),
+        _ => return None,
+    })
+}
+
+/// A notice.
+fn tell(answer: &mut String, notice: &Notice) -> Option<()> {
+    match notice {
+        Notice::Ready { peer } => write!(answer, "ready {peer}").ok(),
+        Notice::ContactFailed { peer } => write!(answer, "contactfailed {peer}").ok(),
+        Notice::PairReset { peer } => write!(answer, "pairreset {peer}").ok(),
+        Notice::Opened { socket, peer, foreign, own_stamp, partner_stamp } => {
+            write!(answer, "opened {socket} {peer} {foreign} {own_stamp} {partner_stamp}").ok()
+        }
+        Notice::Ended { socket, peer, foreign } => write!(answer, "ended {socket} {peer} {foreign}").ok(),
+        Notice::Sent { socket, bits } => {
+            write!(answer, "sent {socket} ").ok()?;
+            tell_bits(answer, bits)
+        }
+        Notice::Arrived { socket, bits } => {
+            write!(answer, "arrived {socket} ").ok()?;
+            tell_bits(answer, bits)
+        }
+        Notice::Returned { socket, messages, bits } => write!(answer, "returned {socket} {messages} {bits}").ok(),
+        Notice::Interrupt { socket } => write!(answer, "interrupt {socket}").ok(),
+        Notice::Echoed { peer, octet } => write!(answer, "echoed {peer} {octet}").ok(),
+        Notice::RemoteError { peer, code, detail } => {
+            write!(answer, "error {peer} {code} ").ok()?;
+            for octet in detail.iter() {
+                write!(answer, "{octet:02X}").ok()?;
+            }
+            Some(())
+        }
+    }
+}
+
+/// Bits, as their count and their octets.
+fn tell_bits(answer: &mut String, bits: &Bits) -> Option<()> {
+    write!(answer, "{} ", bits.len()).ok()?;
+    if bits.is_empty() {
+        return answer.push_str("-").ok();
+    }
+    for octet in bits.as_octets() {
+        write!(answer, "{octet:02X}").ok()?;
+    }
+    Some(())
+}
