@@ -1,5 +1,6 @@
 -- Frames that are delivered.
 use Rattle.std.proofs.Common.{◌≡◌, ℕ, ◌+◌, Bool, true, false, List, [], ◌∷◌, length, nat_lt, slice_get, Option, Some, None, Result, Ok, Err, OnOk, OnErr, ◌||◌, refl, ap, sym, subst, ◌∙◌, add-one, arith}
+use Rattle.std.proofs.lemmas.Bool.{or_right}
 use Rattle.std.proofs.lemmas.Bool.Decides.{nat_tests}
 use Rattle.leader1822.specs.declared.event.Direction.{Direction}
 use Rattle.imp_node.specs.State.{State, Turn}
@@ -57,13 +58,9 @@ brought_ok (Err e) n new l d k i p f there far port is = tt
 
 -- ---- memory
 
-or_grows : (a b : Bool) → b ≡ true → (a || b) ≡ true
-or_grows true b h = refl
-or_grows false b h = h
-
 either_grows : (o : Option State) (a : Bool) (g : State → Bool) → grows_at o g ≡ true → grows_at o (λ s. a || g s) ≡ true
 either_grows None a g h = h
-either_grows (Some s) a g h = or_grows a (g s) h
+either_grows (Some s) a g h = or_right a (g s) h
 
 bring_grows : (n : Net) (l : ℕ) (d : Direction) (k i p : ℕ) (f : Frame) → slice_get (frames_on d (wire_at n.lines l)) k ≡ Some f → i ≡ far_end d (wire_at n.lines l) → p ≡ port_of n.lines i l → grows_at (imp_at n.imps i) (call_grows (call.Arrive p f)) ≡ true → delivered_grows n l d (slice_get (frames_on d (wire_at n.lines l)) k) ≡ true
 bring_grows n l d k i p f there far port grows =

@@ -30,6 +30,7 @@ pub mod Stepping
 pub mod Delivering
 pub mod Attempting
 pub mod Carries
+pub mod RoundMemory
 pub mod Working
 pub mod Starts
 pub mod Stopping

@@ -1,7 +1,6 @@
 -- Distances are told of the subnet's IMPs alone.
 use Rattle.std.proofs.Common.{◌≡◌, ℕ, zero, suc, ◌+◌, ◌-◌, ◌<◌, ◌≤◌, ◌==◌, Bool, true, false, List, [], ◌∷◌, ◌++◌, length, map, min, take, drop, Option, Some, None, Result, Ok, Err, refl, ap, sym, ◌∙◌, subst, inl, inr, eqb-true, eq-eqb, cond, arith, All, if◌then◌else◌}
 use Rattle.std.specs.Prelude.{nat_lt, is_some, slice_get, slice_set, count_by}
-use Rattle.std.specs.List.{range_with_len}
 use Rattle.std.proofs.lemmas.Bool.{cases_Bool, cases_lt}
 use Rattle.std.proofs.lemmas.List.{get_or_past, length-set}
 use Rattle.std.proofs.lemmas.List.Elements.{All-nil, All-cons, All-head, All-tail, All-append, All-push, All-set, All-take, All-drop, All-replicate, All-map}
@@ -49,11 +48,12 @@ use Rattle.imp_node.specs.Stopping.{give_up, forget, abandon, returned, all_retu
 use Rattle.imp_node.specs.Taking.{is_from_here, reply_has_room, replied, taken_by, to_host}
 use Rattle.subnet.specs.Net.{Net, Wire, imp_at, wire_at, ends_at, port_of, line_places, line_from, followed_by, with_frame, put_on, put_one, put_all, with_turn, frames_on, far_end, without_at, dropping}
 use Rattle.subnet.specs.Events as events
-use Rattle.subnet.specs.Events.{at_imp, logging, offer_out, crossings_of, take_in, delivered, deliver, drop_frame, refreshed, all_refreshed, carried, turn_of, all_turns, quiet_round, host_stopped, host_started, started_imp, hosts_at, site_at, imp_stopped, imp_started, downs_at, stepped}
+use Rattle.subnet.specs.Events.{at_imp, logging, offer_out, crossings_of, take_in, delivered, deliver, drop_frame, quiet_round, host_stopped, host_started, started_imp, hosts_at, site_at, imp_stopped, imp_started, downs_at, stepped}
 use Rattle.subnet.specs.Offers.{IsCarriable, CanGo, CanGoFrom}
 use Rattle.subnet.specs.Opening.{Ends, empty_wire, opened, opened_from, opening}
 use Rattle.subnet.specs.Routed.{TellsVector, FrameTells, WireTells, HeardVector, ImpHeard, IsRouted, IsHostMessage}
 use Rattle.subnet.specs.Sound.{IsAt, IsSound}
+use Rattle.subnet.proofs.Rounds.{round_keeps}
 
 -- ---- frames of one IMP
 
@@ -335,26 +335,8 @@ step_routed n (event.Abandon f) is = call_routed n f.destination.imp (λ s. aban
 
 -- ---- a quiet round
 
-refreshed_routed : (n : Net) (i : ℕ) → IsRouted n → IsRouted (refreshed n i)
-refreshed_routed n i is = resend_routed (at_imp (imp_at n.imps i) i route n) i (route_routed n i is)
-
-all_refreshed_routed : (numbers : List ℕ) (n : Net) → IsRouted n → IsRouted (all_refreshed numbers n)
-all_refreshed_routed [] n is = is
-all_refreshed_routed (i ∷ numbers) n is = all_refreshed_routed numbers (refreshed n i) (refreshed_routed n i is)
-
-carried_routed : (count : ℕ) (l : ℕ) (d : Direction) (n : Net) → IsRouted n → IsRouted (carried count l d n)
-carried_routed zero l d n is = is
-carried_routed (suc count) l d n is = carried_routed count l d (drop_frame (deliver n l d 0) l d 0) (drop_routed (deliver n l d 0) l d 0 (deliver_routed n l d 0 is))
-
-turn_of_routed : (l : ℕ) (d : Direction) (n : Net) → IsRouted n → IsRouted (turn_of l d n)
-turn_of_routed l d n is = carried_routed (length (frames_on d (wire_at n.lines l))) l d n is
-
-all_turns_routed : (lines : List ℕ) (n : Net) → IsRouted n → IsRouted (all_turns lines n)
-all_turns_routed [] n is = is
-all_turns_routed (l ∷ lines) n is = all_turns_routed lines (turn_of l way.Back (turn_of l way.Forward n)) (turn_of_routed l way.Back (turn_of l way.Forward n) (turn_of_routed l way.Forward n is))
-
 pub round_routed : (n : Net) → IsRouted n → IsRouted (quiet_round n)
-round_routed n is = all_turns_routed (range_with_len 0 (length n.lines)) (all_refreshed (range_with_len 0 (length n.imps)) n) (all_refreshed_routed (range_with_len 0 (length n.imps)) n is)
+round_routed n is = round_keeps IsRouted (record { route = route_routed; resend = resend_routed; deliver = deliver_routed; drop = drop_routed }) n is
 
 -- ---- the opening
 

@@ -1,5 +1,5 @@
 -- An IMP stops.
-use Rattle.std.proofs.Common.{◌≡◌, ℕ, ◌+◌, zero, suc, Bool, true, false, List, [], ◌∷◌, ◌++◌, drop, reverse, get_or, set, Option, None, refl, ap, sym, ◌∙◌, ◌≤◌, length, arith, append_assoc, append-nil}
+use Rattle.std.proofs.Common.{◌≡◌, ℕ, ◌+◌, zero, suc, Bool, true, false, List, [], ◌∷◌, ◌++◌, drop, reverse, get_or, set, Option, None, refl, ap, sym, ◌∙◌, ◌≤◌, ◌<◌, length, arith, append_assoc, append-nil}
 use Rattle.std.specs.Prelude.{if◌then◌else◌}
 use Rattle.std.proofs.lemmas.List.{reverse-append, reverse-reverse}
 use Rattle.leader1822.specs.declared.crossing.Crossing.{Crossing}
@@ -55,3 +55,20 @@ one_more hosts i k items =
 pub no_more : (hosts : List HostState) (i k : ℕ) (items : List Crossing) → length hosts ≤ k → items ++ downs_in_order i k (drop k hosts) ≡ items
 no_more hosts i k items past =
     ap (λ (xs : List HostState). items ++ downs_in_order i k xs) (drop_past hosts k past) ∙ append-nil items
+
+-- ---- memory
+
+more_behind : (xs ys : List Crossing) → 0 < length xs → 0 < length (xs ++ ys)
+more_behind [] ys some = absurd (omega arith)
+more_behind (x ∷ xs) ys some = omega arith
+
+one_behind : (xs : List Crossing) (c : Crossing) (up : Bool) → up ≡ true → 0 < length (xs ++ (if up then c ∷ [] else []))
+one_behind [] c true is = omega arith
+one_behind (x ∷ xs) c true is = omega arith
+one_behind xs c false is = cc
+
+-- a host that is up crosses
+pub up_crosses : (hosts : List HostState) (i n k : ℕ) → (get_or hosts k no_host).up ≡ true → 0 < length (downs_from i n hosts)
+up_crosses [] i n k up = cc
+up_crosses (h ∷ hosts) i n zero up = one_behind (downs_from i (n + 1) hosts) (crossing.Down (record { imp = i; host = n })) h.up up
+up_crosses (h ∷ hosts) i n (suc k) up = more_behind (downs_from i (n + 1) hosts) (down_of i n h) (up_crosses hosts i (n + 1) k up)

@@ -27,7 +27,7 @@ use Rattle.imp_node.specs.Lines.{end_down_refusal, end_up_refusal}
 use Rattle.imp_node.specs.Stopping.{own_host, give_up_refusal, host_down_refusal, host_up_refusal}
 use Rattle.subnet.specs.Net.{Net, imp_at, wire_at, port_of, frames_on}
 use Rattle.subnet.specs.Alive.{has_data, has_flow, is_remembered}
-use Rattle.subnet.specs.Calls.{Kept, running, refusal_of, HasHalted, Fails, take_grows, step_grows}
+use Rattle.subnet.specs.Calls.{Kept, running, refusal_of, HasHalted, Fails, take_grows, step_grows, round_grows}
 use Rattle.subnet.specs.Events.{at_up, first_of, accepted, is_imp, has_end, give_up_alive, outstanding_at, offer_refusal, offer_out, take_refusal, taken, crossings_of, take_in, frame_refusal, imp_refusal, at_end_refusal, at_host_refusal, starting_refusal, abandoning_refusal, giving_up_refusal, forgetting_refusal, step_refusal, stepped, quiet_round}
 use Rattle.subnet.specs.Flows.{Alive, view}
 use Rattle.subnet.specs.Opening.{Ends, hosts_from, opening}
@@ -330,11 +330,11 @@ round_working old (Ok done) new went is =
       sound = quiet_round_sound old.net whole.sound;
       routed = round_routed old.net whole.routed;
     }) is)
-round_working old (Err e) new went is = fails_working _ true e old new (is_memory e) went is
+round_working old (Err e) new went is = fails_working _ (round_grows old.net) e old new (is_memory e) went is
 
 pub round_shown : (old : Kept) (r : Result (Unit {0}) CarrierFault) (new : Kept) → SubnetRound old r new → ShowsRound (seen_of old) r (seen_of new)
 round_shown old (Ok done) new went = crossed old new (quiet_round old.net) [] (goes_on old (λ n. None) went.0).0 went.1 (round_same old.net) (round_log old.net)
-round_shown old (Err e) new went = fails_shown (λ n. None) true e old new tt (is_memory e) refl went
+round_shown old (Err e) new went = fails_shown (λ n. None) (round_grows old.net) e old new tt (is_memory e) refl went
 
 -- ---- calls of the parts
 
@@ -396,12 +396,12 @@ step_invariant old e n r s stops goes ends same is =
     subst (λ (b : Bool). IsWorking (at b)) (sym stops) (step_working old e r (kept_by n r) (step_done old e n r goes ends same) is)
 
 -- a quiet round fails only for want of memory
-pub round_done : (old : Kept) (n : Net) (failed : Bool) → old.stopped ≡ false → (failed ≡ false → n ≡ quiet_round old.net) → SameLog old.net n
+pub round_done : (old : Kept) (n : Net) (failed : Bool) → old.stopped ≡ false → (failed ≡ false → n ≡ quiet_round old.net) → (failed ≡ true → round_grows old.net ≡ true) → SameLog old.net n
     → (let new : Kept = record { net = n; stopped = failed } in SubnetRound old (if failed then Err fault.OutOfMemory else Ok tt) new)
-round_done old n true goes round same = (went_on (λ k. None) old goes refl, refl, record { hosts = same.hosts; log = same.log; stopped = refl })
-round_done old n false goes round same = (went_on (λ k. None) old goes refl, ap running (round refl))
+round_done old n true goes round grows same = (went_on (λ k. None) old goes refl, grows refl, record { hosts = same.hosts; log = same.log; stopped = refl })
+round_done old n false goes round grows same = (went_on (λ k. None) old goes refl, ap running (round refl))
 
-pub round_invariant : (old : Kept) (n : Net) (failed : Bool) → old.stopped ≡ false → (failed ≡ false → n ≡ quiet_round old.net) → SameLog old.net n → IsWorking old → (let new : Kept = record { net = n; stopped = failed } in IsWorking new)
-round_invariant old n failed goes round same is =
+pub round_invariant : (old : Kept) (n : Net) (failed : Bool) → old.stopped ≡ false → (failed ≡ false → n ≡ quiet_round old.net) → (failed ≡ true → round_grows old.net ≡ true) → SameLog old.net n → IsWorking old → (let new : Kept = record { net = n; stopped = failed } in IsWorking new)
+round_invariant old n failed goes round grows same is =
     let new : Kept = record { net = n; stopped = failed } in
-    round_working old (if failed then Err fault.OutOfMemory else Ok tt) new (round_done old n failed goes round same) is
+    round_working old (if failed then Err fault.OutOfMemory else Ok tt) new (round_done old n failed goes round grows same) is

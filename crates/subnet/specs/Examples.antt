@@ -9,7 +9,7 @@ use Rattle.packetiser.specs.declared.packet.PacketKind.TheVariants as kind
 use Rattle.imp_channel.specs.Line as line
 use Rattle.imp_channel.specs.declared.frame.Frame.{Frame}
 use Rattle.imp_node.specs.declared.waiting.Message.{Message}
-use Rattle.imp_node.specs.State.{State, no_host, up_host}
+use Rattle.imp_node.specs.State.{State, no_host, up_host, down_port}
 use Rattle.imp_node.specs.Flows.{answer_packet}
 use Rattle.imp_node.specs.Pump.{pump}
 use Rattle.imp_node.specs.Examples.{host, flow, only_packet, packet_frame, ack_frame, empty_message, from_1, from_2, imp}
@@ -79,6 +79,14 @@ expecting = record imp_1 { sources = begun map.empty ours }
 -- IMP 1 with host 0 down
 abbrev pub one_host_down : State
 one_host_down = record imp_1 { hosts = no_host ∷ up_host ∷ [] }
+
+-- IMP 1 with both hosts down
+abbrev pub hosts_down : State
+hosts_down = record imp_1 { hosts = no_host ∷ no_host ∷ [] }
+
+-- IMP 2 with its end of the line down
+abbrev pub cut_off : State
+cut_off = record imp_2 { ports = down_port ∷ [] }
 
 -- IMP 2 with our message 0 in the queue of its host
 abbrev pub serving_ours : State

@@ -8,7 +8,7 @@ use Rattle.leader1822.specs.declared.crossing.Inbound.{Inbound}
 use Rattle.leader1822.specs.declared.event.NetEvent.{NetEvent}
 use Rattle.leader1822.specs.declared.message.HostMessage.{HostMessage}
 use Rattle.subnet.specs.Net.{Net}
-use Rattle.subnet.specs.Calls.{Kept, running, refusal_of, Decided, take_grows, step_grows}
+use Rattle.subnet.specs.Calls.{Kept, running, refusal_of, Decided, take_grows, step_grows, round_grows}
 use Rattle.subnet.specs.Events.{offer_refusal, offer_out, take_refusal, taken, take_in, step_refusal, stepped, quiet_round}
 use Rattle.subnet.specs.Routed.{IsRouted}
 use Rattle.subnet.specs.Seen.{IsListed}
@@ -42,4 +42,4 @@ abbrev pub SubnetStep : Kept → NetEvent → Result (Unit {0}) CarrierFault →
 SubnetStep old e result new = Decided (refusal_of old (λ n. step_refusal n e)) (step_grows old.net e) (λ done. new ≡ running (stepped old.net e)) old new result
 
 abbrev pub SubnetRound : Kept → Result (Unit {0}) CarrierFault → Kept → Type 0
-SubnetRound old result new = Decided (refusal_of old (λ n. None)) true (λ done. new ≡ running (quiet_round old.net)) old new result
+SubnetRound old result new = Decided (refusal_of old (λ n. None)) (round_grows old.net) (λ done. new ≡ running (quiet_round old.net)) old new result

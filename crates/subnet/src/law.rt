@@ -22,10 +22,10 @@ ghost use Rattle.imp_channel.specs.declared.frame.Content.TheVariants as content
 ghost use Rattle.imp_node.specs.Examples.{host, flow, packets_to, no_acks, ack_frame};
 ghost use Rattle.imp_node.specs.Lines.{on_port};
 ghost use Rattle.imp_node.specs.State.{opening, no_host};
-ghost use Rattle.subnet.specs.Calls.{Kept, running};
+ghost use Rattle.subnet.specs.Calls.{Kept, running, step_grows, round_grows};
 ghost use Rattle.subnet.specs.Alive.{packets, messages, is_alive};
 ghost use Rattle.subnet.specs.Events.{offer_refusal, offer_out, take_refusal, taken, crossings_of, take_in, deliver, drop_frame, giving_up_refusal, forgetting_refusal, starting_refusal, imp_stopped, imp_started, refreshed, quiet_round, step_refusal, stepped};
-ghost use Rattle.subnet.specs.Examples.{ours, our_message, our_queued, data_frame, rfnm_frame, passing_frame, imp_1, imp_2, wire, pair, opened_pair, begun_up_to, expecting, one_host_down, serving_ours, keeping_ours, keeping_own, sending_ours, past_one, full_of, triangle};
+ghost use Rattle.subnet.specs.Examples.{ours, our_message, our_queued, data_frame, rfnm_frame, passing_frame, imp_1, imp_2, wire, pair, opened_pair, begun_up_to, expecting, one_host_down, hosts_down, cut_off, serving_ours, keeping_ours, keeping_own, sending_ours, past_one, full_of, triangle};
 ghost use Rattle.subnet.specs.Flows.{host_is_up};
 ghost use Rattle.subnet.specs.Making.{NothingNew, OnlyNew, offer_makes, take_makes, deliver_makes, stop_makes};
 ghost use Rattle.subnet.specs.Net.{Net, imp_at, wire_at, port_of, line_from, put_one, frames_on};
@@ -202,6 +202,12 @@ pub fn sound_steps()
     ensures quiet_round { (n : Net) → IsSound n → IsSound (quiet_round n) }
 {}
 
+/// When a quiet round may want memory.
+pub fn round_memory()
+    // never where no IMP is up, whatever frames are live
+    ensures no_imp { (n : Net) → ((i : ℕ) → imp_at n.imps i ≡ None) → round_grows n ≡ false }
+{}
+
 /// Lines and their ends.
 pub fn worked_lines()
     // a line takes 256 frames each way; one more is lost, whatever it carries, and those that are there stay
@@ -334,4 +340,17 @@ pub fn worked_rounds()
 
     // an IMP that is down tells nothing, and frames to it are dropped
     ensures down { quiet_round (pair (Some imp_1) None (data_frame 0 ∷ []) []) ≡ pair (Some imp_1) None [] [] }
+{}
+
+/// When memory may be wanted.
+pub fn worked_memory()
+    // an IMP that stops: only where a host goes down with it
+    ensures stops { (step_grows (pair (Some one_host_down) (Some imp_2) [] []) (event.ImpDown 1) ≡ true) × (step_grows (pair (Some hosts_down) (Some imp_2) [] []) (event.ImpDown 1) ≡ false) }
+
+    // a quiet round: an IMP that is up tells its distances. A frame that goes to an IMP that is down is dropped, and not copied
+    ensures told { round_grows (pair (Some imp_1) None [] []) ≡ true }
+    ensures ignored { round_grows (pair None None (data_frame 0 ∷ []) (rfnm_frame 0 ∷ [])) ≡ false }
+
+    // where an IMP's only end of a line is down nothing goes out: an acknowledgement has no bits to copy, but a packet has
+    ensures end_down { (round_grows (pair None (Some cut_off) (ack_frame ∷ []) []) ≡ false) × (round_grows (pair None (Some cut_off) (data_frame 0 ∷ []) []) ≡ true) }
 {}

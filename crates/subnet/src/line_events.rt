@@ -1,6 +1,7 @@
 //! What happens on lines.
 
-ghost use Rattle.std.specs.Prelude.{◌≡◌, ◌<◌, length, slice_get, true, OnOk, OnErr};
+ghost use Rattle.std.specs.Prelude.{◌≡◌, ◌<◌, length, slice_get, Some, None, is_some, if◌then◌else◌, true, IfSome, OnOk, OnErr};
+ghost use Rattle.leader1822.specs.declared.carrier.CarrierFault.TheVariants as fault;
 ghost use Rattle.leader1822.specs.declared.event.NetEvent.TheVariants as event;
 ghost use Rattle.subnet.specs.Net.{wire_at, frames_on};
 ghost use Rattle.subnet.specs.Events as events;
@@ -71,6 +72,22 @@ impl Parts {
         self.at_imp(number, ImpCall::EndUp(port))
     }
 
+    /// The line and the place of the frame that an event names, if that is there.
+    fn place_of(&self, line: u32, direction: Direction, frame: u32) -> Option<(usize, usize)>
+        ensures frame { events.frame_refusal self.now line direction frame ≡ (if is_some result then None else Some fault.NoSuch) }
+        ensures same { IfSome result (λ at. (at.0 ≡ line) × (at.1 ≡ frame)) }
+        ensures line { is_some result ≡ true → line < length self.now.lines }
+        ensures place { is_some result ≡ true → frame < length (frames_on direction (wire_at self.now.lines line)) }
+    {
+        let at = line as usize;
+        let place = frame as usize;
+        if self.has_frame(at, direction, place) {
+            Some((at, place))
+        } else {
+            None
+        }
+    }
+
     /// The frame at a place of a directed line is lost.
     pub(crate) fn drop_frame(
         &mut self,
@@ -83,11 +100,9 @@ impl Parts {
         ensures live { OnOk result (AreLive self.new.imps) }
         ensures keeps { SameLog self.old self.new }
     {
-        let at = line as usize;
-        let place = frame as usize;
-        if !self.has_frame(at, direction, place) {
+        let Some((at, place)) = self.place_of(line, direction, frame) else {
             return Err(CarrierFault::NoSuch);
-        }
+        };
         self.lose(at, direction, place);
         Ok(())
     }
@@ -104,11 +119,9 @@ impl Parts {
         ensures live { OnOk result (AreLive self.new.imps) }
         ensures keeps { SameLog self.old self.new }
     {
-        let at = line as usize;
-        let place = frame as usize;
-        if !self.has_frame(at, direction, place) {
+        let Some((at, place)) = self.place_of(line, direction, frame) else {
             return Err(CarrierFault::NoSuch);
-        }
+        };
         if self.bring(at, direction, place).is_err() {
             return Err(CarrierFault::OutOfMemory);
         }

@@ -1,8 +1,9 @@
 //! Hosts that stop and start, and IMPs that stop.
 
-ghost use Rattle.std.specs.Prelude.{◌≡◌, ◌<◌, ◌≤◌, ◌++◌, length, None, reverse, slice_set, IfOk, OnOk, OnErr};
+ghost use Rattle.std.specs.Prelude.{◌≡◌, ◌<◌, ◌≤◌, ◌++◌, length, None, true, reverse, slice_set, IfOk, OnOk, OnErr};
 ghost use Rattle.leader1822.specs.declared.event.NetEvent.TheVariants as event;
 ghost use Rattle.subnet.specs.Net.{imp_at};
+ghost use Rattle.subnet.specs.Calls.{stop_grows};
 ghost use Rattle.subnet.specs.Events.{logging, downs_at, downs_from};
 ghost use Rattle.subnet.specs.Inside.Calling.{AreLive, Steps, SameLog, down_of};
 ghost use Rattle.imp_node.specs.State.{host_at};
@@ -78,14 +79,19 @@ impl Parts {
     fn cross_downs(&mut self, imp: ImpNumber) -> Result<(), AllocError>
         ensures ok { OnOk result (self.new ≡ logging (downs_at imp (imp_at self.old.imps imp)) self.old) }
         ensures err { OnErr result (self.new ≡ self.old) }
+        ensures memory { OnErr result (stop_grows self.old imp ≡ true) }
     {
         let mut downs = self.downs(imp)?;
+        if downs.is_empty() {
+            return Ok(());
+        }
         self.log.append(&mut downs)
     }
 
     /// The crossings of an IMP's hosts that go down with it, the oldest first.
     fn downs(&self, imp: ImpNumber) -> Result<Vec<Crossing>, AllocError>
-        ensures { IfOk result (λ downs. downs.items ≡ reverse (downs_at imp (imp_at self.now.imps imp))) }
+        ensures downs { IfOk result (λ downs. downs.items ≡ reverse (downs_at imp (imp_at self.now.imps imp))) }
+        ensures memory { OnErr result (0 < length (downs_at imp (imp_at self.now.imps imp))) }
     {
         match self.imp(imp.number()) {
             Some(up) => downs_of(self.alloc, imp, up),
@@ -107,7 +113,8 @@ impl Parts {
 /// The crossings of an IMP's hosts that are up, as they go down, the oldest first.
 #[tactic(auto, using(crate::proofs::Stopping::in_order_is))]
 fn downs_of(alloc: Global, imp: ImpNumber, up: &Imp) -> Result<Vec<Crossing>, AllocError>
-    ensures { IfOk result (λ downs. downs.items ≡ reverse (downs_from imp 0 up.now.hosts)) }
+    ensures downs { IfOk result (λ downs. downs.items ≡ reverse (downs_from imp 0 up.now.hosts)) }
+    ensures memory { OnErr result (0 < length (downs_from imp 0 up.now.hosts)) }
 {
     let mut downs = Vec::new(alloc);
     for host in 0..MOST_HOSTS {
@@ -126,6 +133,7 @@ fn push_down(
     requires { host < 4 }
     ensures ok { OnOk result (downs.new.items ≡ downs.old.items ++ down_of imp host (host_at up.now host)) }
     ensures few { length up.now.hosts ≤ 4 }
+    ensures memory { OnErr result ((host_at up.now host).up ≡ true) }
 {
     if up.is_up(host) {
         downs.push(Crossing::Down(host_of(imp, host)))?;

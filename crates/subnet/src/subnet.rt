@@ -1,16 +1,18 @@
 //! A packet subnet.
 
-ghost use Rattle.std.specs.Prelude.{◌≡◌, ◌<◌, ◌≤◌, false, reverse, None, All, IfSome, IfOk, length, slice_index_or};
+ghost use Rattle.std.specs.Prelude.{◌≡◌, ◌<◌, ◌≤◌, true, false, reverse, None, All, IfSome, IfOk, length, slice_index_or};
 ghost use Rattle.subnet.specs.Inside.Calling.{AreLive, SameLog, runs_out};
 ghost use Rattle.subnet.specs.Routed.{IsHostMessage};
-ghost use Rattle.subnet.specs.Calls.{running};
+ghost use Rattle.subnet.specs.Alive.{is_alive};
+ghost use Rattle.subnet.specs.Calls.{running, round_grows};
 ghost use Rattle.subnet.specs.Events as events;
 ghost use Rattle.subnet.specs.Opening as start;
 ghost use Rattle.subnet.specs.Working.{IsWorking, seen_of, SubnetOffer, SubnetTake, SubnetStep, SubnetRound};
 
 use crate::parts::{Parts, runs_out};
 use crate::wire::Ends;
-use leader1822::{Carrier, CarrierFault, Crossing, HostAddr, HostMessage, Inbound, NetEvent};
+use leader1822::{Carrier, CarrierFault, Crossing, Flow, HostAddr, HostMessage, Inbound, NetEvent};
+use link_table::Number;
 use std::alloc::{AllocError, Global};
 use std::marker::Model;
 
@@ -63,6 +65,16 @@ impl Subnet {
             parts: Parts::open(alloc, hosts, sites, ends)?,
             stopped: false,
         })
+    }
+
+    /// Whether a packet or message of this flow and number is alive: a packet in a store, a channel, a slot or a
+    /// live frame, or a whole message that waits for its host. An answer that waits for its host does not count.
+    ///
+    /// It takes no memory. After want of memory has stopped the subnet, nothing is known of what is alive.
+    pub fn alive(&self, flow: &Flow, number: Number) -> bool
+        ensures { result ≡ is_alive self.now.net flow.now number }
+    {
+        self.parts.is_alive(flow, number)
     }
 
     /// Whether want of memory has stopped it. Its log is a run, and until then it is whole.
@@ -189,6 +201,7 @@ impl Parts {
     fn fails_in_round(&mut self) -> bool
         requires { AreLive self.old.imps }
         ensures round { result ≡ false → self.new ≡ events.quiet_round self.old }
+        ensures memory { result ≡ true → round_grows self.old ≡ true }
         ensures keeps { SameLog self.old self.new }
     {
         self.quiet_round().is_err()

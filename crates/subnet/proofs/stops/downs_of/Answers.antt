@@ -1,7 +1,8 @@
 use Rattle.std.proofs.Common.{◌+◌, ◌++◌, List, drop, ap, ◌∙◌}
+use Rattle.std.proofs.lemmas.Result.{err_from_is_err_and}
 use Rattle.leader1822.specs.declared.crossing.Crossing.{Crossing}
 use Rattle.subnet.specs.Inside.Calling.{downs_in_order}
-use Rattle.subnet.proofs.Stopping.{one_more}
+use Rattle.subnet.proofs.Stopping.{one_more, up_crosses}
 use Rattle.subnet.proofs.stops.downs_of.Goals as goal
 
 pub loop-host-preserved : goal.loop-host-preserved
@@ -12,3 +13,8 @@ loop-host-preserved c = record {
       ∙ c.loop-host.invariant.state;
   few = λ some. c.in_ok-push_down.ensures.few;
 }
+
+pub returns-in_err-push_down-clause-memory : goal.returns-in_err-push_down-clause-memory
+returns-in_err-push_down-clause-memory c =
+    let p = err_from_is_err_and c.from_residual.result c.from_residual.ensures.1 in
+    rw p.1 (up_crosses c.args.up.now.hosts c.args.imp 0 c.loop-host.host c.in_err-push_down.ensures.memory)
