@@ -1,17 +1,17 @@
 -- What the simulator writes.
 use Rattle.std.specs.Prelude.{◌≡◌, ℕ, List, ◌++◌, reverse, Option, codes}
 use Rattle.std.specs.Io.KnownBytes.{Appends}
-use Rattle.leader1822.specs.Boxes.{Boxes, BoxesOffer, BoxesStep, BoxesTake, opening_boxes, seen_of}
+use Rattle.leader1822.specs.Boxes.{Boxes, BoxesOffer, BoxesRound, BoxesStep, BoxesTake, opening_boxes, seen_of}
 use Rattle.leader1822.specs.Host.{Host}
 use Rattle.leader1822.specs.Messages.{SafeMessages}
 use Rattle.replay.specs.Output.{Shown, crossings_of, output}
-use Rattle.replay.specs.Replay.{Calls, Replays}
+use Rattle.replay.specs.Replay.{Calls, EndsIn, Replays, StopsIn}
 use Rattle.script.specs.declared.event.Event.{Event}
 use Rattle.command_line.specs.Input.{IsInput}
 
 -- how the calls of plain mailboxes go
 abbrev pub plain_calls : Calls Boxes
-plain_calls = record { seen = seen_of; offers = BoxesOffer; takes = BoxesTake; steps = BoxesStep }
+plain_calls = record { seen = seen_of; offers = BoxesOffer; takes = BoxesTake; steps = BoxesStep; rounds = BoxesRound }
 
 -- events are replayed over plain mailboxes between hosts, which shows these lines; the lines have all that crossed, and that
 -- is a log that every host may rely on
@@ -27,13 +27,14 @@ pub record ReplaysPlain (hosts : List Host) (events : List Event) (before after 
   pub shows : PlainShows hosts events shown
   pub written : Appends before after (output shown ++ codes "end\n")
 
--- memory ran out: what the first of the events show is written, and nothing else
+-- memory ran out at one of the events: what the events before it show is written, of a calm also what crossed before that, and
+-- nothing else
 pub record StopsPlain (hosts : List Host) (events : List Event) (before after : Option (List ℕ)) : Type 0 where
-  pub done : List Event
-  pub left : List Event
-  pub parts : events ≡ done ++ left
   pub shown : List Shown
-  pub shows : PlainShows hosts done shown
+  pub last : Boxes
+  pub stopped : EndsIn plain_calls StopsIn (opening_boxes hosts) events last shown
+  pub crossed : last.log ≡ reverse (crossings_of shown)
+  pub messages : SafeMessages last.log
   pub written : Appends before after (output shown)
 
 -- the script of an input is replayed between the hosts of its topology

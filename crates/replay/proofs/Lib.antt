@@ -1,2 +1,4 @@
+pub mod Passing
 pub mod Replays
+pub mod Settled
 pub mod Shown

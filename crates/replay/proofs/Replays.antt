@@ -1,11 +1,11 @@
 -- A replay goes on, and ends.
-use Rattle.std.proofs.Common.{◌≡◌, ℕ, ◌+◌, ◌<◌, ◌≤◌, List, [], ◌∷◌, ◌++◌, Option, Some, None, length, get_or, drop, reverse, refl, ap, sym, subst, ◌∙◌}
+use Rattle.std.proofs.Common.{◌≡◌, ℕ, ◌+◌, ◌<◌, ◌≤◌, List, [], ◌∷◌, ◌++◌, Option, length, get_or, drop, reverse, refl, ap, sym, subst, ◌∙◌}
 use Rattle.std.proofs.lemmas.List.{append_assoc, append-nil, drop_more, drop_all, reverse-append}
-use Rattle.std.specs.Io.KnownBytes.{Appends, Keeps}
+use Rattle.std.specs.Io.KnownBytes.{Appends}
 use Rattle.replay.specs.Output.{Shown, Writes, crossings_of, output}
-use Rattle.replay.specs.Replay.{Calls, EndsIn, Happens, Replays}
+use Rattle.replay.specs.Replay.{Calls, EndsIn, Happens, Replays, StopsIn}
 use Rattle.script.specs.declared.event.Event.{Event}
-use Rattle.replay.proofs.Shown.{appends_more, appends_none, crossings_of-append, happens_shows, output-append}
+use Rattle.replay.proofs.Shown.{appends_more, appends_none, crossings_again, crossings_of-append, happens_shows, output-append}
 
 -- events up to one of them are done, and what they showed is written: whatever is done behind them goes on from there
 pub record SoFar {C : Type 0} (calls : Calls C) (first : C) (events left : List Event) (now : C) (before after : Option (List ℕ)) : Type 0 where
@@ -54,31 +54,28 @@ all_replayed {C} calls first last events i a b le so_far =
     }
 
 -- the replay ends in this event
-pub ends_in : {C : Type 0} (calls : Calls C) (Goes : Calls C → C → Event → C → Type 0) (first mid new : C) (events : List Event) (i : ℕ) (e : Event) (a b : Option (List ℕ))
-    → i < length events → e ≡ get_or events i e → (so_far : SoFar calls first events (drop i events) mid a b) → Goes calls mid e new → EndsIn calls Goes first events new so_far.shown
-ends_in calls Goes first mid new events i e a b lt is so_far goes = record {
+pub ends_in : {C : Type 0} (calls : Calls C) (Goes : Calls C → C → Event → C → List Shown → Type 0) (first mid new : C) (events : List Event) (i : ℕ) (e : Event) (own : List Shown) (a b : Option (List ℕ))
+    → i < length events → e ≡ get_or events i e → (so_far : SoFar calls first events (drop i events) mid a b) → Goes calls mid e new own → EndsIn calls Goes first events new (so_far.shown ++ own)
+ends_in calls Goes first mid new events i e own a b lt is so_far goes = record {
   done = so_far.done;
   last = e;
   left = drop (i + 1) events;
   parts = so_far.parts ∙ ap (λ es. so_far.done ++ es) (cut_at events i e lt is);
   mid = mid;
+  front = so_far.shown;
   before = done_replayed calls first mid events (drop i events) a b so_far;
+  own = own;
   goes = goes;
+  lines = refl;
 }
 
-appends_kept : (a b c : Option (List ℕ)) (xs : List ℕ) → Appends a b xs → Keeps b c → Appends a c xs
-appends_kept None b c xs h k = tt
-appends_kept (Some a) None c xs h k = absurd h
-appends_kept (Some a) (Some b) None xs h k = absurd k
-appends_kept (Some a) (Some b) (Some c) xs h k = k ∙ h
-
--- the replay ends in this event, of which nothing is written
-pub ends_unwritten : {C : Type 0} (calls : Calls C) (Goes : Calls C → C → Event → C → Type 0) (first mid new : C) (events : List Event) (i : ℕ) (e : Event) (a b c : Option (List ℕ))
-    → i < length events → e ≡ get_or events i e → SoFar calls first events (drop i events) mid a b → Goes calls mid e new → Keeps b c → Writes (EndsIn calls Goes first events new) a c
-ends_unwritten calls Goes first mid new events i e a b c lt is so_far goes kept = record {
-  shown = so_far.shown;
-  is_shown = ends_in calls Goes first mid new events i e a b lt is so_far goes;
-  written = appends_kept a b c (output so_far.shown) so_far.written kept;
+-- the replay ends in this event, of which these lines are written
+pub ends_written : {C : Type 0} (calls : Calls C) (Goes : Calls C → C → Event → C → List Shown → Type 0) (first mid new : C) (events : List Event) (i : ℕ) (e : Event) (a b c : Option (List ℕ))
+    → i < length events → e ≡ get_or events i e → SoFar calls first events (drop i events) mid a b → Writes (Goes calls mid e new) b c → Writes (EndsIn calls Goes first events new) a c
+ends_written calls Goes first mid new events i e a b c lt is so_far last = record {
+  shown = so_far.shown ++ last.shown;
+  is_shown = ends_in calls Goes first mid new events i e last.shown a b lt is so_far last.is_shown;
+  written = subst (Appends a c) (sym (output-append so_far.shown last.shown)) (appends_more a b c (output so_far.shown) (output last.shown) so_far.written last.written);
 }
 
 -- what a replay shows is what its log gained
@@ -91,3 +88,14 @@ replays_show calls old new (e ∷ events) shown (mid, first, rest, happens, more
     ∙ ap (λ log. reverse (crossings_of rest) ++ log) (happens_shows calls old mid e first happens)
     ∙ sym (append_assoc (reverse (crossings_of rest)) (reverse (crossings_of first)) (calls.seen old).log)
     ∙ ap (λ cs. cs ++ (calls.seen old).log) (sym (reverse-append (crossings_of first) (crossings_of rest)) ∙ ap reverse (sym all))
+
+-- what a replay that ended for want of memory shows is what its log gained
+pub stops_show : {C : Type 0} (calls : Calls C) (old new : C) (events : List Event) (shown : List Shown) → EndsIn calls StopsIn old events new shown
+    → (calls.seen new).log ≡ reverse (crossings_of shown) ++ (calls.seen old).log
+stops_show calls old new events shown h =
+    let all : crossings_of shown ≡ crossings_of h.front ++ h.goes.crossings =
+    ap crossings_of h.lines ∙ crossings_of-append h.front h.own ∙ ap (λ cs. crossings_of h.front ++ cs) (ap crossings_of h.goes.lines ∙ crossings_again h.goes.crossings) in
+    h.goes.grown
+    ∙ ap (λ log. reverse h.goes.crossings ++ log) (replays_show calls old h.mid h.done h.front h.before)
+    ∙ sym (append_assoc (reverse h.goes.crossings) (reverse (crossings_of h.front)) (calls.seen old).log)
+    ∙ ap (λ cs. cs ++ (calls.seen old).log) (sym (reverse-append (crossings_of h.front) h.goes.crossings) ∙ ap reverse (sym all))

@@ -1,41 +1,73 @@
 -- What a replay shows, call by call.
-use Rattle.std.proofs.Common.{◌≡◌, ℕ, ◌<◌, ◌+◌, Bool, true, false, List, [], ◌∷◌, ◌++◌, length, get_or, take, drop, reverse, Option, Some, None, Result, Ok, Err, if◌then◌else◌, refl, sym, ap, ◌∙◌, subst, arith, IfErr, OnOk, IsOk}
+use Rattle.std.proofs.Common.{◌≡◌, ℕ, ◌<◌, ◌+◌, Bool, true, false, List, [], ◌∷◌, ◌++◌, length, get_or, take, drop, reverse, Option, Some, None, Result, Ok, Err, if◌then◌else◌, inl, inr, refl, sym, ap, ◌∙◌, subst, arith, IfErr, OnOk, IsOk}
 use Rattle.std.proofs.lemmas.List.{append_assoc, append-nil, take_more, drop_all, drop_at, reverse-append, reverse-reverse}
 use Rattle.std.proofs.lemmas.Bool.{false≢true}
 use Rattle.std.proofs.lemmas.Grind.{flat_map-append}
 use Rattle.std.specs.Io.KnownBytes.{Appends, Keeps}
 use Rattle.leader1822.specs.Host.{Host}
 use Rattle.leader1822.specs.Printed.{crossing_text}
-use Rattle.leader1822.specs.Calls.{Seen, halted, is_memory, crossing_of, ShowsRefusal, ShowsCrossings, ShowsOffer, ShowsTake}
+use Rattle.leader1822.specs.Calls.{Seen, halted, is_memory, crossing_of, step_crossings, ShowsRefusal, ShowsCrossings, ShowsOffer, ShowsRound, ShowsStep, ShowsTake}
 use Rattle.leader1822.specs.declared.carrier.CarrierFault.{CarrierFault}
 use Rattle.leader1822.specs.declared.crossing.Crossing.{Crossing}
 use Rattle.leader1822.specs.declared.crossing.Crossing.TheVariants as crossing
 use Rattle.leader1822.specs.declared.crossing.Inbound.{Inbound}
+use Rattle.leader1822.specs.declared.event.NetEvent.{NetEvent}
 use Rattle.leader1822.specs.declared.message.HostMessage.{HostMessage}
 use Rattle.script.specs.Input.{ended}
 use Rattle.replay.specs.Output.{Shown, Writes, Crossed, Refused, shown_text, output, crossings_of, shown_crossings, shown_refusal}
-use Rattle.replay.specs.Steps.{Grew}
-use Rattle.replay.specs.Replay.{Calls, EventGives, GoesOn, Halts, Happens}
+use Rattle.replay.specs.Steps.{EventEnds, Grew, PrintEnds}
+use Rattle.replay.specs.Replay.{BeginsWith, Calls, EventGives, GoesOn, Halts, Happens, StopsIn, outcome_of}
+use Rattle.replay.specs.declared.events.ReplayFault.{ReplayFault}
+use Rattle.replay.specs.declared.events.ReplayFault.TheVariants as fault
 use Rattle.script.specs.declared.event.Event.{Event}
+use Rattle.script.specs.declared.event.Event.TheVariants as event
 
+same_seen : (b : Bool) (s : Seen) → Grew s (if b then halted s else s)
+same_seen true s = record { crossings = []; grown = refl; hosts = refl }
+same_seen false s = record { crossings = []; grown = refl; hosts = refl }
+
+pub grew_refusal : (old : Seen) (e : CarrierFault) (new : Seen) → ShowsRefusal old e new → Grew old new
+grew_refusal old e new h = subst (Grew old) (sym h.shown) (same_seen (is_memory e) old)
+
+grew_by : (old : Seen) (crossings : List Crossing) (new : Seen) → ShowsCrossings old crossings new → Grew old new
+grew_by old crossings new h = record { crossings = crossings; grown = ap (λ (s : Seen). s.log) h.shown; hosts = ap (λ (s : Seen). s.hosts) h.shown }
+
+pub grew_offer : (old : Seen) (m : HostMessage) (r : Result (Unit {0}) CarrierFault) (new : Seen) → ShowsOffer old m r new → Grew old new
+grew_offer old m (Ok done) new h = grew_by old (crossing.Out m ∷ []) new h
+grew_offer old m (Err e) new h = grew_refusal old e new h
+
+pub grew_take : (old : Seen) (host : Host) (r : Result (Option Inbound) CarrierFault) (new : Seen) → ShowsTake old host r new → Grew old new
+grew_take old host (Ok None) new h = grew_by old [] new h
+grew_take old host (Ok (Some i)) new h = grew_by old (crossing_of i ∷ []) new h.0
+grew_take old host (Err e) new h = grew_refusal old e new h
+
+pub grew_step : (old : Seen) (e : NetEvent) (r : Result (Unit {0}) CarrierFault) (new : Seen) → ShowsStep old e r new → Grew old new
+grew_step old e (Ok done) new h = grew_by old (step_crossings old e) new h
+grew_step old e (Err f) new h = grew_refusal old f new h
+
+pub grew_round : (old : Seen) (r : Result (Unit {0}) CarrierFault) (new : Seen) → ShowsRound old r new → Grew old new
+grew_round old (Ok done) new h = grew_by old [] new h
+grew_round old (Err e) new h = grew_refusal old e new h
+
+-- nothing crosses in a call that is refused
 same_log : (b : Bool) (s : Seen) → (if b then halted s else s).log ≡ s.log
 same_log true s = refl
 same_log false s = refl
 
-grew_refusal : (old : Seen) (e : CarrierFault) (new : Seen) → ShowsRefusal old e new → Grew old.log new.log
-grew_refusal old e new h = record { crossings = []; grown = ap (λ (s : Seen). s.log) h.shown ∙ same_log (is_memory e) old }
+refused : (old : Seen) (e : CarrierFault) (new : Seen) → ShowsRefusal old e new → new.log ≡ old.log
+refused old e new h = ap (λ (s : Seen). s.log) h.shown ∙ same_log (is_memory e) old
 
-grew_by : (old : Seen) (crossings : List Crossing) (new : Seen) → ShowsCrossings old crossings new → Grew old.log new.log
-grew_by old crossings new h = record { crossings = crossings; grown = ap (λ (s : Seen). s.log) h.shown }
+pub refused_offer : (old : Seen) (m : HostMessage) (r : Result (Unit {0}) CarrierFault) (new : Seen) → ShowsOffer old m r new → IfErr r (λ f. new.log ≡ old.log)
+refused_offer old m (Ok done) new h = tt
+refused_offer old m (Err e) new h = refused old e new h
 
-pub grew_offer : (old : Seen) (m : HostMessage) (r : Result (Unit {0}) CarrierFault) (new : Seen) → ShowsOffer old m r new → Grew old.log new.log
-grew_offer old m (Ok done) new h = grew_by old (crossing.Out m ∷ []) new h
-grew_offer old m (Err e) new h = grew_refusal old e new h
+pub refused_take : (old : Seen) (host : Host) (r : Result (Option Inbound) CarrierFault) (new : Seen) → ShowsTake old host r new → IfErr (outcome_of r) (λ f. new.log ≡ old.log)
+refused_take old host (Ok taken) new h = tt
+refused_take old host (Err e) new h = refused old e new h
 
-pub grew_take : (old : Seen) (host : Host) (r : Result (Option Inbound) CarrierFault) (new : Seen) → ShowsTake old host r new → Grew old.log new.log
-grew_take old host (Ok None) new h = grew_by old [] new h
-grew_take old host (Ok (Some i)) new h = grew_by old (crossing_of i ∷ []) new h.0
-grew_take old host (Err e) new h = grew_refusal old e new h
+pub refused_step : (old : Seen) (e : NetEvent) (r : Result (Unit {0}) CarrierFault) (new : Seen) → ShowsStep old e r new → IfErr r (λ f. new.log ≡ old.log)
+refused_step old e (Ok done) new h = tt
+refused_step old e (Err f) new h = refused old f new h
 
 -- what is written after what was written
 pub appends_more : (a b c : Option (List ℕ)) (xs ys : List ℕ) → Appends a b xs → Appends b c ys → Appends a c (xs ++ ys)
@@ -53,19 +85,10 @@ keeps_none None b h = tt
 keeps_none (Some a) None h = absurd h
 keeps_none (Some a) (Some b) h = h ∙ append-nil a
 
--- nothing is written of an event in which the carrier stops
-pub keeps_halted : (outcome : Result (Unit {0}) CarrierFault) (old new before after : List Crossing) (a b : Option (List ℕ)) → Halts outcome → IfErr outcome (λ f. new ≡ old)
-    → before ≡ reverse old → after ≡ reverse new → Appends a b (output (shown_crossings (drop (length before) after))) → Keeps a b
-keeps_halted (Ok done) old new before after a b halts same was is written = absurd halts
-keeps_halted (Err f) old new before after a b halts same was is written =
-    let one : after ≡ before = is ∙ ap reverse same ∙ sym was in
-    let none : drop (length before) after ≡ [] = ap (drop (length before)) one ∙ drop_all (length before) before (omega arith) in
-    keeps_none a b (subst (λ cs. Appends a b (output (shown_crossings cs))) none written)
-
 pub output-append : (xs ys : List Shown) → output (xs ++ ys) ≡ output xs ++ output ys
 output-append xs ys = flat_map-append (λ s. ended (shown_text s)) xs ys
 
-shown_crossings-append : (xs ys : List Crossing) → shown_crossings (xs ++ ys) ≡ shown_crossings xs ++ shown_crossings ys
+pub shown_crossings-append : (xs ys : List Crossing) → shown_crossings (xs ++ ys) ≡ shown_crossings xs ++ shown_crossings ys
 shown_crossings-append [] ys = refl
 shown_crossings-append (x ∷ xs) ys = ap (λ zs. Crossed x ∷ zs) (shown_crossings-append xs ys)
 
@@ -82,7 +105,7 @@ crossings_of-append [] ys = refl
 crossings_of-append (Crossed c ∷ xs) ys = ap (λ cs. c ∷ cs) (crossings_of-append xs ys)
 crossings_of-append (Refused f ∷ xs) ys = crossings_of-append xs ys
 
-crossings_again : (cs : List Crossing) → crossings_of (shown_crossings cs) ≡ cs
+pub crossings_again : (cs : List Crossing) → crossings_of (shown_crossings cs) ≡ cs
 crossings_again [] = refl
 crossings_again (c ∷ cs) = ap (λ xs. c ∷ xs) (crossings_again cs)
 
@@ -90,28 +113,71 @@ no_crossing : (r : Result (Unit {0}) CarrierFault) → crossings_of (shown_refus
 no_crossing (Ok done) = refl
 no_crossing (Err f) = refl
 
--- one event: its crossings, and then its refusal
-pub event_writes : {C : Type 0} (calls : Calls C) (old new : C) (e : Event) (r : Result (Unit {0}) CarrierFault) (a b c : Option (List ℕ)) (before after : List Crossing)
-    → EventGives calls old e r new → GoesOn r → Grew (calls.seen old).log (calls.seen new).log → before ≡ reverse (calls.seen old).log → after ≡ reverse (calls.seen new).log
-    → Appends a b (output (shown_crossings (drop (length before) after))) → Appends b c (output (shown_refusal r)) → Writes (Happens calls old e new) a c
-event_writes calls old new e r a b c before after gives goes_on grew was is crossed refused =
+-- crossings were printed, and then a refusal
+pub print_ends : {W : Type 0} (contents : W → Option (List ℕ)) (crossings : List Crossing) (outcome : Result (Unit {0}) CarrierFault) (printed : Result (Unit {0}) ReplayFault) (a : Option (List ℕ)) (mid new : W)
+    → Appends a (contents mid) (output (shown_crossings crossings)) → OnOk printed (Appends (contents mid) (contents new) (output (shown_refusal outcome))) → OnOk printed (GoesOn outcome)
+    → (printed ≡ Err fault.OutOfMemory → Halts outcome × (new ≡ mid)) → PrintEnds crossings outcome printed a (contents new)
+print_ends contents crossings outcome (Ok done) a mid new crossed refusal goes memory = (
+  goes,
+  subst (Appends a (contents new)) (sym (output-append (shown_crossings crossings) (shown_refusal outcome)))
+      (appends_more a (contents mid) (contents new) (output (shown_crossings crossings)) (output (shown_refusal outcome)) crossed refusal),
+)
+print_ends contents crossings outcome (Err fault.OutOfMemory) a mid new crossed refusal goes memory =
+    let out = memory refl in
+    (out.0, subst (λ w. Appends a (contents w) (output (shown_crossings crossings))) (sym out.1) crossed)
+print_ends contents crossings outcome (Err fault.CannotWrite) a mid new crossed refusal goes memory = tt
+
+-- what a log gained is what stands behind the crossings of before
+pub gained : (old new : Seen) (before after : List Crossing) → Grew old new → before ≡ reverse old.log → after ≡ reverse new.log → new.log ≡ reverse (drop (length before) after) ++ old.log
+gained old new before after grew was is =
     let back : after ≡ before ++ reverse grew.crossings =
-    is ∙ ap reverse grew.grown ∙ reverse-append grew.crossings (calls.seen old).log ∙ ap (λ xs. xs ++ reverse grew.crossings) (sym was) in
+    is ∙ ap reverse grew.grown ∙ reverse-append grew.crossings old.log ∙ ap (λ xs. xs ++ reverse grew.crossings) (sym was) in
     let fresh : drop (length before) after ≡ reverse grew.crossings = ap (drop (length before)) back ∙ drop_at before (reverse grew.crossings) (length before) refl in
-    let shown : List Shown = shown_crossings (drop (length before) after) ++ shown_refusal r in
+    grew.grown ∙ ap (λ cs. cs ++ old.log) (sym (reverse-reverse grew.crossings) ∙ ap reverse (sym fresh))
+
+-- nothing is gained where the log stands
+none_gained : (old new : Seen) (before after : List Crossing) → new.log ≡ old.log → before ≡ reverse old.log → after ≡ reverse new.log → drop (length before) after ≡ []
+none_gained old new before after same was is =
+    let one : after ≡ before = is ∙ ap reverse same ∙ sym was in
+    ap (drop (length before)) one ∙ drop_all (length before) before (omega arith)
+
+-- one event: its crossings, and then its refusal
+event_writes : {C : Type 0} (calls : Calls C) (old new : C) (e : Event) (r : Result (Unit {0}) CarrierFault) (crossings : List Crossing) (a b : Option (List ℕ))
+    → EventGives calls old e r new → GoesOn r → (calls.seen new).log ≡ reverse crossings ++ (calls.seen old).log → Appends a b (output (shown_crossings crossings ++ shown_refusal r)) → Writes (Happens calls old e new) a b
+event_writes calls old new e r crossings a b gives goes_on grown written = record {
+  shown = shown_crossings crossings ++ shown_refusal r;
+  is_shown = record { outcome = r; gives = gives; goes_on = goes_on; crossings = crossings; grown = grown; lines = refl };
+  written = written;
+}
+
+halted_log : (r : Result (Unit {0}) CarrierFault) (old new : Seen) → Halts r → IfErr r (λ f. new.log ≡ old.log) → new.log ≡ old.log
+halted_log (Ok done) old new halts same = absurd halts
+halted_log (Err f) old new halts same = same
+
+-- an event of one call ends as its printing ends
+pub call_ends : {C : Type 0} (calls : Calls C) (old new : C) (e : Event) (r : Result (Unit {0}) CarrierFault) (printed : Result (Unit {0}) ReplayFault) (before after : List Crossing) (a b : Option (List ℕ))
+    → BeginsWith e e → EventGives calls old e r new → Grew (calls.seen old) (calls.seen new) → IfErr r (λ f. (calls.seen new).log ≡ (calls.seen old).log)
+    → before ≡ reverse (calls.seen old).log → after ≡ reverse (calls.seen new).log
+    → PrintEnds (drop (length before) after) r printed a b → EventEnds calls old e printed new a b
+call_ends calls old new e r (Ok done) before after a b whole gives grew same was is h =
+    event_writes calls old new e r (drop (length before) after) a b gives h.0 (gained (calls.seen old) (calls.seen new) before after grew was is) h.1
+call_ends calls old new e r (Err fault.OutOfMemory) before after a b whole gives grew same was is h =
+    let none : drop (length before) after ≡ [] = none_gained (calls.seen old) (calls.seen new) before after (halted_log r (calls.seen old) (calls.seen new) h.0 same) was is in
     record {
-      shown = shown;
-      is_shown = record {
-        outcome = r;
-        gives = gives;
-        goes_on = goes_on;
-        crossings = drop (length before) after;
-        grown = grew.grown ∙ ap (λ cs. cs ++ (calls.seen old).log) (sym (reverse-reverse grew.crossings) ∙ ap reverse (sym fresh));
-        lines = refl;
-      };
-      written = subst (Appends a c) (sym (output-append (shown_crossings (drop (length before) after)) (shown_refusal r)))
-          (appends_more a b c (output (shown_crossings (drop (length before) after))) (output (shown_refusal r)) crossed refused);
+      shown = [];
+      is_shown = record { runs_out = inr (r, gives, h.0); crossings = []; grown = halted_log r (calls.seen old) (calls.seen new) h.0 same; lines = refl; no_lines = λ one. refl };
+      written = subst (λ cs. Appends a b (output (shown_crossings cs))) none h.1;
     }
+call_ends calls old new e r (Err fault.CannotWrite) before after a b whole gives grew same was is h =
+    ([], record { processed = e; begins = whole; outcome = r; gives = gives; unknown = refl })
+
+-- memory ran out before the message was offered
+pub not_copied : {C : Type 0} (calls : Calls C) (old : C) (m : HostMessage) (a : Option (List ℕ)) → Writes (StopsIn calls old (event.Out m) old) a a
+not_copied calls old m a = record {
+  shown = [];
+  is_shown = record { runs_out = inl (tt, refl); crossings = []; grown = refl; lines = refl; no_lines = λ one. refl };
+  written = appends_none a;
+}
 
 -- what an event shows is what its log gained
 pub happens_shows : {C : Type 0} (calls : Calls C) (old new : C) (e : Event) (shown : List Shown) → Happens calls old e new shown

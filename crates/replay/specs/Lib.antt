@@ -1,3 +1,4 @@
 pub mod Output
 pub mod Replay
+pub mod Settled
 pub mod Steps

@@ -1,5 +1,5 @@
 -- A script's events over a carrier, whatever it is made of.
-use Rattle.std.specs.Prelude.{◌≡◌, true, false, ◌||◌, ◌⊎◌, List, [], ◌∷◌, ◌++◌, Option, Result, Ok, Err, reverse}
+use Rattle.std.specs.Prelude.{◌≡◌, ℕ, zero, suc, true, false, ◌||◌, if◌then◌else◌, ◌⊎◌, ◌≤◌, List, [], ◌∷◌, ◌++◌, Option, Some, None, Result, Ok, Err, reverse}
 use Rattle.leader1822.specs.Host.{Host}
 use Rattle.leader1822.specs.Calls.{Seen, is_halt, is_memory}
 use Rattle.leader1822.specs.declared.CarrierFault.{CarrierFault}
@@ -17,17 +17,75 @@ pub record Calls (C : Type 0) : Type 1 where
   pub offers : C → HostMessage → Result (Unit {0}) CarrierFault → C → Type 0
   pub takes : C → Host → Result (Option Inbound) CarrierFault → C → Type 0
   pub steps : C → NetEvent → Result (Unit {0}) CarrierFault → C → Type 0
+  pub rounds : C → Result (Unit {0}) CarrierFault → C → Type 0
 
 -- a taking's refusal, where it was refused
 abbrev pub outcome_of : Result (Option Inbound) CarrierFault → Result (Unit {0}) CarrierFault
 outcome_of (Ok taken) = Ok tt
 outcome_of (Err e) = Err e
 
+-- ---- a calm: rounds in which the network is left alone, and its hosts take what comes
+
+-- how a part of a calm may go: the carrier before, the want of memory that ended it, if any did, and the carrier after
+abbrev pub Part : Type 0 → Type 1
+Part C = C → Result (Unit {0}) CarrierFault → C → Type 0
+
+abbrev pub Nothing : {C : Type 0} → Part C
+Nothing old r new = (r ≡ Ok tt) × (new ≡ old)
+
+-- where the first part ended for want of memory, the next one doesn't begin
+abbrev pub Onward : {C : Type 0} → Part C → Result (Unit {0}) CarrierFault → Part C
+Onward Next (Ok done) mid r new = Next mid r new
+Onward Next (Err f) mid r new = (r ≡ Err f) × (new ≡ mid)
+
+-- one part, and then the next
+abbrev pub Chain : {C : Type 0} → Part C → Part C → Part C
+Chain {C} First Next old r new = (first : Result (Unit {0}) CarrierFault) × (mid : C) × First old first mid × Onward Next first mid r new
+
+-- a calm passes over a refusal and doesn't tell it, but want of memory ends it
+abbrev pub calmly : Result (Unit {0}) CarrierFault → Result (Unit {0}) CarrierFault
+calmly (Ok done) = Ok done
+calmly (Err f) = if is_halt f || is_memory f then Err f else Ok tt
+
+-- after a taking that gave something, and after any other
+abbrev pub IfGiven : Result (Option Inbound) CarrierFault → Type 0 → Type 0 → Type 0
+IfGiven (Ok (Some given)) More End = More
+IfGiven (Ok None) More End = End
+IfGiven (Err f) More End = End
+
+-- a host takes until nothing waits for it, until it is refused, or so many times
+abbrev pub Takings : {C : Type 0} → Calls C → Host → ℕ → Part C
+Takings {C} calls h zero old r new = Nothing old r new
+Takings {C} calls h (suc times) old r new =
+    (answer : Result (Option Inbound) CarrierFault) × (mid : C) × calls.takes old h answer mid
+    × IfGiven answer (Takings calls h times mid r new) ((r ≡ calmly (outcome_of answer)) × (new ≡ mid))
+
+-- these hosts take one after the other, each 16 times at most
+abbrev pub AllTake : {C : Type 0} → Calls C → List Host → Part C
+AllTake {C} calls [] old r new = Nothing old r new
+AllTake {C} calls (h ∷ hosts) old r new = Chain (Takings calls h 16) (AllTake calls hosts) old r new
+
+-- a quiet round of the network
+abbrev pub Quiet : {C : Type 0} → Calls C → Part C
+Quiet {C} calls old r new = (answer : Result (Unit {0}) CarrierFault) × calls.rounds old answer new × (r ≡ calmly answer)
+
+-- a round of a calm: a quiet round, and then all hosts take, in order of IMP and host; one that is down is refused
+abbrev pub Round : {C : Type 0} → Calls C → Part C
+Round calls old r new = Chain (Quiet calls) (AllTake calls (calls.seen old).hosts) old r new
+
+-- so many rounds
+abbrev pub Rounds : {C : Type 0} → Calls C → ℕ → Part C
+Rounds {C} calls zero old r new = Nothing old r new
+Rounds {C} calls (suc times) old r new = Chain (Round calls) (Rounds calls times) old r new
+
+-- ---- events
+
 -- how one event may go: the carrier before, the event, whether it was refused, and the carrier after
 abbrev pub EventGives : {C : Type 0} → Calls C → C → Event → Result (Unit {0}) CarrierFault → C → Type 0
 EventGives calls old (event.Out m) r new = calls.offers old m r new
 EventGives calls old (event.Take h) r new = (answer : Result (Option Inbound) CarrierFault) × calls.takes old h answer new × (r ≡ outcome_of answer)
 EventGives calls old (event.Net e) r new = calls.steps old e r new
+EventGives calls old (event.Calm rounds) r new = Rounds calls rounds old r new
 
 -- a replay goes on after an event that was done and after one that was refused, but not after want of memory
 abbrev pub GoesOn : Result (Unit {0}) CarrierFault → Type 0
@@ -56,26 +114,57 @@ Replays {C} calls old (e ∷ events) new shown =
 
 -- ---- a replay that ends early, in one of its events
 
--- the carrier processed this event, and may have answered anything
-abbrev pub MayDo : {C : Type 0} → Calls C → C → Event → C → Type 0
-MayDo calls old e new = (outcome : Result (Unit {0}) CarrierFault) × EventGives calls old e outcome new
+-- the first rounds of a calm; any other event is whole
+abbrev pub BeginsWith : Event → Event → Type 0
+BeginsWith (event.Out m) first = first ≡ event.Out m
+BeginsWith (event.Take h) first = first ≡ event.Take h
+BeginsWith (event.Net e) first = first ≡ event.Net e
+BeginsWith (event.Calm rounds) first = (fewer : ℕ) × (first ≡ event.Calm fewer) × (fewer ≤ rounds)
+
+-- the carrier processed this event, or the first rounds of a calm, and may have answered anything; how much was written of
+-- what it showed the writer alone knows
+pub record MayDo {C : Type 0} (calls : Calls C) (old : C) (e : Event) (new : C) (shown : List Shown) : Type 0 where
+  pub processed : Event
+  pub begins : BeginsWith e processed
+  pub outcome : Result (Unit {0}) CarrierFault
+  pub gives : EventGives calls old processed outcome new
+  pub unknown : shown ≡ []
 
 -- a message is copied before it is offered; no other event takes memory outside of the carrier
 abbrev pub IsCopied : Event → Type 0
 IsCopied (event.Out m) = Unit {0}
 IsCopied (event.Take h) = ⊥
 IsCopied (event.Net e) = ⊥
+IsCopied (event.Calm rounds) = ⊥
 
--- memory ran out at this event: before the carrier saw its message, or in the carrier, which stopped
-abbrev pub StopsIn : {C : Type 0} → Calls C → C → Event → C → Type 0
-StopsIn calls old e new = (IsCopied e × (new ≡ old)) ⊎ ((outcome : Result (Unit {0}) CarrierFault) × EventGives calls old e outcome new × Halts outcome)
+-- a calm is many calls of the carrier, and any other event one
+abbrev pub IsOneCall : Event → Type 0
+IsOneCall (event.Out m) = Unit {0}
+IsOneCall (event.Take h) = Unit {0}
+IsOneCall (event.Net e) = Unit {0}
+IsOneCall (event.Calm rounds) = ⊥
 
--- the events before the last one happened and showed these lines, and the last one went as is said
-pub record EndsIn {C : Type 0} (calls : Calls C) (Goes : Calls C → C → Event → C → Type 0) (old : C) (events : List Event) (new : C) (shown : List Shown) : Type 0 where
+-- memory ran out: before the carrier saw the event's message, or in the carrier, which stopped
+abbrev pub RunsOut : {C : Type 0} → Calls C → C → Event → C → Type 0
+RunsOut calls old e new = (IsCopied e × (new ≡ old)) ⊎ ((outcome : Result (Unit {0}) CarrierFault) × EventGives calls old e outcome new × Halts outcome)
+
+-- memory ran out at this event: a calm shows what crossed before that, and a single call nothing
+pub record StopsIn {C : Type 0} (calls : Calls C) (old : C) (e : Event) (new : C) (shown : List Shown) : Type 0 where
+  pub runs_out : RunsOut calls old e new
+  pub crossings : List Crossing
+  pub grown : (calls.seen new).log ≡ reverse crossings ++ (calls.seen old).log
+  pub lines : shown ≡ shown_crossings crossings
+  pub no_lines : IsOneCall e → shown ≡ []
+
+-- the events before the last one happened, the last one went as is said, and these lines were shown by then
+pub record EndsIn {C : Type 0} (calls : Calls C) (Goes : Calls C → C → Event → C → List Shown → Type 0) (old : C) (events : List Event) (new : C) (shown : List Shown) : Type 0 where
   pub done : List Event
   pub last : Event
   pub left : List Event
   pub parts : events ≡ done ++ last ∷ left
   pub mid : C
-  pub before : Replays calls old done mid shown
-  pub goes : Goes calls mid last new
+  pub front : List Shown
+  pub before : Replays calls old done mid front
+  pub own : List Shown
+  pub goes : Goes calls mid last new own
+  pub lines : shown ≡ front ++ own

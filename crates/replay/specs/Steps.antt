@@ -1,8 +1,29 @@
 -- What the contracts of private functions say. No public clause cites this file.
-use Rattle.std.specs.Prelude.{◌≡◌, List, ◌++◌}
+use Rattle.std.specs.Prelude.{◌≡◌, ℕ, List, ◌++◌, Option, Result, Ok, Err}
+use Rattle.std.specs.Io.KnownBytes.{Appends}
+use Rattle.leader1822.specs.Calls.{Seen}
+use Rattle.leader1822.specs.declared.CarrierFault.{CarrierFault}
 use Rattle.leader1822.specs.declared.crossing.Crossing.{Crossing}
+use Rattle.replay.specs.Output.{Shown, Writes, output, shown_crossings, shown_refusal}
+use Rattle.replay.specs.Replay.{Calls, GoesOn, Halts, Happens, MayDo, StopsIn}
+use Rattle.replay.specs.declared.events.ReplayFault.{ReplayFault}
+use Rattle.replay.specs.declared.events.ReplayFault.TheVariants as fault
+use Rattle.script.specs.declared.event.Event.{Event}
 
--- a log that only grew
-pub record Grew (old_log new_log : List Crossing) : Type 0 where
+-- a log that only grew, between the same hosts
+pub record Grew (old new : Seen) : Type 0 where
   pub crossings : List Crossing
-  pub grown : new_log ≡ crossings ++ old_log
+  pub grown : new.log ≡ crossings ++ old.log
+  pub hosts : new.hosts ≡ old.hosts
+
+-- crossings were printed, and behind them a refusal, or memory had run out
+abbrev pub PrintEnds : List Crossing → Result (Unit {0}) CarrierFault → Result (Unit {0}) ReplayFault → Option (List ℕ) → Option (List ℕ) → Type 0
+PrintEnds crossings outcome (Ok done) before after = GoesOn outcome × Appends before after (output (shown_crossings crossings ++ shown_refusal outcome))
+PrintEnds crossings outcome (Err fault.OutOfMemory) before after = Halts outcome × Appends before after (output (shown_crossings crossings))
+PrintEnds crossings outcome (Err fault.CannotWrite) before after = Unit {0}
+
+-- how the replay of one event may end
+abbrev pub EventEnds : {C : Type 0} → Calls C → C → Event → Result (Unit {0}) ReplayFault → C → Option (List ℕ) → Option (List ℕ) → Type 0
+EventEnds {C} calls old e (Ok done) new before after = Writes (Happens calls old e new) before after
+EventEnds {C} calls old e (Err fault.OutOfMemory) new before after = Writes (StopsIn calls old e new) before after
+EventEnds {C} calls old e (Err fault.CannotWrite) new before after = (shown : List Shown) × MayDo calls old e new shown

@@ -1,16 +1,17 @@
 //! Replaying a script's events over a carrier.
 
-ghost use Rattle.std.specs.Prelude.{◌≡◌, ◌↔◌, Err, OnOk, IfErr, IfOk, IfSome, drop, length, ◌≤◌, List, IsOk, IsSome};
-ghost use Rattle.std.specs.Io.KnownBytes.{Appends, Keeps};
+ghost use Rattle.std.specs.Prelude.{◌≡◌, Err, OnOk, List};
 ghost use Rattle.leader1822.specs.Messages.{SafeMessages};
-ghost use Rattle.replay.specs.Replay.{EndsIn, EventGives, GoesOn, Halts, Happens, IsCopied, MayDo, Replays, StopsIn};
-ghost use Rattle.replay.specs.Output.{Shown, Writes, output, shown_refusal, shown_crossings, fault_name};
-ghost use Rattle.replay.specs.Steps.{Grew};
+ghost use Rattle.replay.specs.Replay.{EndsIn, MayDo, Replays, StopsIn, outcome_of};
+ghost use Rattle.replay.specs.Output.{Shown, Writes};
+ghost use Rattle.replay.specs.Steps.{EventEnds};
+ghost use Rattle.script.specs.declared.event.Event.TheVariants as script_event;
 
-use leader1822::{Carrier, CarrierFault, Crossing};
+use crate::calm::replay_calm;
+use crate::print::print_outcome;
+use leader1822::{Carrier, CarrierFault, HostAddr, HostMessage, Inbound, NetEvent};
 use script::Event;
 use std::alloc::AllocError;
-use std::io;
 use std::io::Write;
 use thiserror::Error;
 
@@ -38,15 +39,19 @@ impl From<AllocError> for ReplayFault {
 /// Hands each event to the carrier in order, and prints each crossing and each refusal as it comes, one line
 /// each.
 ///
-/// A refused event changes nothing, and the replay continues with the next one. However it ends, each RFNM
-/// belongs to one message that was taken exactly once (BBN Report 1822: a link carries one message at a
-/// time).
+/// A refused event changes nothing, and the replay continues with the next one. A calm of `n` rounds is many
+/// calls: in each round the carrier has a quiet round, and then each of its hosts takes, in order of IMP and
+/// host, until nothing waits for it, until it is refused, or 16 times. Its refusals are not printed.
+///
+/// However it ends, each RFNM belongs to one message that was taken exactly once (BBN Report 1822: a link
+/// carries one message at a time).
 ///
 /// Errors:
 /// - `OutOfMemory`: memory ran out at one event. The lines of the events before it were written, and no line
-///   of its own.
-/// - `CannotWrite`: a write failed. The carrier had already processed the event whose line it was. The
-///   writer alone knows how much of its last lines it wrote.
+///   of its own, save that of a calm what crossed before memory ran out was written.
+/// - `CannotWrite`: a write failed. The carrier had already processed the event whose line it was, or of a
+///   calm all rounds up to the one whose line it was. The writer alone knows how much of its last lines it
+///   wrote.
 pub fn replay_events<C: Carrier, W: Write>(
     carrier: &mut C,
     events: &[Event],
@@ -57,13 +62,14 @@ pub fn replay_events<C: Carrier, W: Write>(
 
     // each event in turn went as the carrier says that its calls may go, and what it showed was printed: what
     // crossed, and then its refusal
-    ensures replayed { OnOk result (Writes (Replays (record { seen = C.seen; offers = C.offers; takes = C.takes; steps = C.steps }) carrier.old events.now carrier.new) (W.contents writer.old) (W.contents writer.new)) }
+    ensures replayed { OnOk result (Writes (Replays (record { seen = C.seen; offers = C.offers; takes = C.takes; steps = C.steps; rounds = C.rounds }) carrier.old events.now carrier.new) (W.contents writer.old) (W.contents writer.new)) }
 
-    // memory ran out at one event: what the events before it showed was printed, and nothing of that event
-    ensures memory { result ≡ Err ReplayFault.OutOfMemory → Writes (EndsIn (record { seen = C.seen; offers = C.offers; takes = C.takes; steps = C.steps }) StopsIn carrier.old events.now carrier.new) (W.contents writer.old) (W.contents writer.new) }
+    // memory ran out at one event: what the events before it showed was printed, and nothing of that event, save what crossed in
+    // a calm before memory ran out
+    ensures memory { result ≡ Err ReplayFault.OutOfMemory → Writes (EndsIn (record { seen = C.seen; offers = C.offers; takes = C.takes; steps = C.steps; rounds = C.rounds }) StopsIn carrier.old events.now carrier.new) (W.contents writer.old) (W.contents writer.new) }
 
-    // a write failed: the carrier had already processed that event
-    ensures cannot_write { result ≡ Err ReplayFault.CannotWrite → (shown : List Shown) × EndsIn (record { seen = C.seen; offers = C.offers; takes = C.takes; steps = C.steps }) MayDo carrier.old events.now carrier.new shown }
+    // a write failed: the carrier had already processed that event, or the rounds of a calm of which it wrote
+    ensures cannot_write { result ≡ Err ReplayFault.CannotWrite → (shown : List Shown) × EndsIn (record { seen = C.seen; offers = C.offers; takes = C.takes; steps = C.steps; rounds = C.rounds }) MayDo carrier.old events.now carrier.new shown }
 {
     let outcome = replay_in_turn(carrier, events, writer);
     let _log = carrier.log();
@@ -76,9 +82,9 @@ fn replay_in_turn<C: Carrier, W: Write>(
     events: &[Event],
     writer: &mut W,
 ) -> Result<(), ReplayFault>
-    ensures replayed { OnOk result (Writes (Replays (record { seen = C.seen; offers = C.offers; takes = C.takes; steps = C.steps }) carrier.old events.now carrier.new) (W.contents writer.old) (W.contents writer.new)) }
-    ensures memory { result ≡ Err ReplayFault.OutOfMemory → Writes (EndsIn (record { seen = C.seen; offers = C.offers; takes = C.takes; steps = C.steps }) StopsIn carrier.old events.now carrier.new) (W.contents writer.old) (W.contents writer.new) }
-    ensures cannot_write { result ≡ Err ReplayFault.CannotWrite → (shown : List Shown) × EndsIn (record { seen = C.seen; offers = C.offers; takes = C.takes; steps = C.steps }) MayDo carrier.old events.now carrier.new shown }
+    ensures replayed { OnOk result (Writes (Replays (record { seen = C.seen; offers = C.offers; takes = C.takes; steps = C.steps; rounds = C.rounds }) carrier.old events.now carrier.new) (W.contents writer.old) (W.contents writer.new)) }
+    ensures memory { result ≡ Err ReplayFault.OutOfMemory → Writes (EndsIn (record { seen = C.seen; offers = C.offers; takes = C.takes; steps = C.steps; rounds = C.rounds }) StopsIn carrier.old events.now carrier.new) (W.contents writer.old) (W.contents writer.new) }
+    ensures cannot_write { result ≡ Err ReplayFault.CannotWrite → (shown : List Shown) × EndsIn (record { seen = C.seen; offers = C.offers; takes = C.takes; steps = C.steps; rounds = C.rounds }) MayDo carrier.old events.now carrier.new shown }
 {
     for event in events {
         replay_event(carrier, event, writer)?;
@@ -86,99 +92,67 @@ fn replay_in_turn<C: Carrier, W: Write>(
     Ok(())
 }
 
-/// Hands one event to the carrier, and prints what crossed and the refusal.
+/// Hands one event to the carrier, and prints what it shows.
 fn replay_event<C: Carrier, W: Write>(
     carrier: &mut C,
     event: &Event,
     writer: &mut W,
 ) -> Result<(), ReplayFault>
-    ensures happens { OnOk result (Writes (Happens (record { seen = C.seen; offers = C.offers; takes = C.takes; steps = C.steps }) carrier.old event.now carrier.new) (W.contents writer.old) (W.contents writer.new)) }
-    ensures memory { result ≡ Err ReplayFault.OutOfMemory → StopsIn (record { seen = C.seen; offers = C.offers; takes = C.takes; steps = C.steps }) carrier.old event.now carrier.new × Keeps (W.contents writer.old) (W.contents writer.new) }
-    ensures cannot_write { result ≡ Err ReplayFault.CannotWrite → MayDo (record { seen = C.seen; offers = C.offers; takes = C.takes; steps = C.steps }) carrier.old event.now carrier.new }
-{
-    let booked = carrier.log().len();
-    let outcome = apply(carrier, event)?;
-    print_crossings(carrier.log(), booked, writer)?;
-    print_refusal(outcome, writer)
-}
-
-/// Hands one event to the carrier. The inner result is the carrier's answer.
-///
-/// Errors: `AllocError` where a message can't be copied.
-fn apply<C: Carrier>(carrier: &mut C, event: &Event) -> Result<Result<(), CarrierFault>, AllocError>
-    ensures event { IfOk result (λ r. EventGives (record { seen = C.seen; offers = C.offers; takes = C.takes; steps = C.steps }) carrier.old event.now r carrier.new) }
-    ensures grew { Grew (C.seen carrier.old).log (C.seen carrier.new).log }
-    ensures refused { IfOk result (λ r. IfErr r (λ f. (C.seen carrier.new).log ≡ (C.seen carrier.old).log)) }
-    ensures memory { IfErr result (λ f. IsCopied event.now × (carrier.new ≡ carrier.old)) }
+    ensures { EventEnds (record { seen = C.seen; offers = C.offers; takes = C.takes; steps = C.steps; rounds = C.rounds }) carrier.old event.now result carrier.new (W.contents writer.old) (W.contents writer.new) }
 {
     match event {
-        Event::Out(message) => Ok(carrier.offer_out(message.clone()?)),
-        Event::Take(host) => match carrier.take_in(*host) {
-            Ok(_) => Ok(Ok(())),
-            Err(fault) => Ok(Err(fault)),
-        },
-        Event::Net(event) => Ok(carrier.step(*event)),
+        Event::Out(message) => replay_offer(carrier, message.clone()?, writer),
+        Event::Take(host) => replay_taking(carrier, *host, writer),
+        Event::Net(event) => replay_step(carrier, *event, writer),
+        Event::Calm(rounds) => replay_calm(carrier, *rounds, writer),
     }
 }
 
-/// Prints the crossings of a log after its first `booked` ones.
-fn print_crossings<W: Write>(
-    log: &[Crossing],
-    booked: usize,
+/// Offers a message, and prints that it crossed, or the refusal.
+fn replay_offer<C: Carrier, W: Write>(
+    carrier: &mut C,
+    message: HostMessage,
     writer: &mut W,
 ) -> Result<(), ReplayFault>
-    requires { booked ≤ length log.now }
-    ensures written { OnOk result (Appends (W.contents writer.old) (W.contents writer.new) (output (shown_crossings (drop booked log.now)))) }
-    ensures fault { IfErr result (λ f. f ≡ ReplayFault.CannotWrite) }
+    ensures { EventEnds (record { seen = C.seen; offers = C.offers; takes = C.takes; steps = C.steps; rounds = C.rounds }) carrier.old (script_event.Out message) result carrier.new (W.contents writer.old) (W.contents writer.new) }
 {
-    let (_, crossings) = log.split_at(booked);
-    for crossing in crossings {
-        check_written(writeln!(writer, "{crossing}"))?;
-    }
-    Ok(())
+    let booked = carrier.log().len();
+    let outcome = carrier.offer_out(message);
+    print_outcome(carrier.log(), booked, outcome, writer)
 }
 
-/// Prints the name of a refusal. It prints nothing for an event that was not refused.
-fn print_refusal<W: Write>(
-    outcome: Result<(), CarrierFault>,
+/// Lets a host take, and prints what crossed, or the refusal.
+fn replay_taking<C: Carrier, W: Write>(
+    carrier: &mut C,
+    host: HostAddr,
     writer: &mut W,
 ) -> Result<(), ReplayFault>
-    ensures shown { OnOk result (Appends (W.contents writer.old) (W.contents writer.new) (output (shown_refusal outcome))) }
-    ensures goes_on { OnOk result (GoesOn outcome) }
-    ensures memory { result ≡ Err ReplayFault.OutOfMemory → Halts outcome × (writer.new ≡ writer.old) }
+    ensures { EventEnds (record { seen = C.seen; offers = C.offers; takes = C.takes; steps = C.steps; rounds = C.rounds }) carrier.old (script_event.Take host) result carrier.new (W.contents writer.old) (W.contents writer.new) }
 {
-    let Err(fault) = outcome else {
-        return Ok(());
-    };
-    let name = match name_of(fault) {
-        Some(name) => name,
-        None => return Err(ReplayFault::OutOfMemory),
-    };
-    check_written(writeln!(writer, "refused {name}"))
+    let booked = carrier.log().len();
+    let outcome = outcome_of(carrier.take_in(host));
+    print_outcome(carrier.log(), booked, outcome, writer)
 }
 
-/// The name of a refusal. `None` where want of memory has stopped the carrier.
-fn name_of(fault: CarrierFault) -> Option<&'static str>
-    ensures name { IfSome result (λ name. name.now ≡ fault_name fault) }
-    ensures goes_on { IsSome result ↔ GoesOn (Err fault) }
+/// Whether a taking was refused.
+fn outcome_of(answer: Result<Option<Inbound>, CarrierFault>) -> Result<(), CarrierFault>
+    ensures { result ≡ outcome_of answer }
 {
-    match fault {
-        CarrierFault::NoSuch => Some("NoSuch"),
-        CarrierFault::StillAlive => Some("StillAlive"),
-        CarrierFault::IsDown => Some("IsDown"),
-        CarrierFault::IsUp => Some("IsUp"),
-        CarrierFault::Unsettled => Some("Unsettled"),
-        CarrierFault::NotOutstanding => Some("NotOutstanding"),
-        CarrierFault::Blocked => Some("Blocked"),
-        CarrierFault::NoRoom => Some("NoRoom"),
-        CarrierFault::Stopped | CarrierFault::OutOfMemory => None,
+    match answer {
+        Ok(_) => Ok(()),
+        Err(fault) => Err(fault),
     }
 }
 
-/// A write's result, with its error told as `CannotWrite`.
-fn check_written(outcome: io::Result<()>) -> Result<(), ReplayFault>
-    ensures ok { IsOk result ↔ IsOk outcome }
-    ensures fault { IfErr result (λ f. f ≡ ReplayFault.CannotWrite) }
+/// Lets something happen inside the network, and prints what crossed, or the refusal.
+fn replay_step<C: Carrier, W: Write>(
+    carrier: &mut C,
+    event: NetEvent,
+    writer: &mut W,
+) -> Result<(), ReplayFault>
+    ensures { EventEnds (record { seen = C.seen; offers = C.offers; takes = C.takes; steps = C.steps; rounds = C.rounds }) carrier.old (script_event.Net event) result carrier.new (W.contents writer.old) (W.contents writer.new) }
 {
-    outcome.map_err(|_| ReplayFault::CannotWrite)
+    let booked = carrier.log().len();
+    let outcome = carrier.step(event);
+    print_outcome(carrier.log(), booked, outcome, writer)
 }

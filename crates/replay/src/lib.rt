@@ -4,12 +4,15 @@
 //! interface between a host and its IMP, and one line for each refusal.
 //!
 //! A caller may rely on three things. Each event goes as the carrier says that its calls may go. What is
-//! written is what the events showed. Where memory runs out, the output ends after the last event that was
-//! replayed whole.
+//! written is what the events showed. Where memory runs out, the output is the first part of that: it ends
+//! after the last event that was replayed whole, or within a calm after what crossed in it.
 //!
 //! Nothing here knows what a carrier is made of, where the events come from, or who reads the output.
 #![tactic(auto)]
 
+mod calm;
 mod events;
+pub mod law;
+mod print;
 
 pub use events::{ReplayFault, replay_events};

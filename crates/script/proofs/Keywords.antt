@@ -15,7 +15,7 @@ use Rattle.leader1822.specs.declared.event.NetEvent.TheVariants as net
 use Rattle.leader1822.specs.declared.message.HostMessage.{HostMessage}
 use Rattle.script.specs.declared.event.Event.{Event}
 use Rattle.script.specs.declared.event.Event.TheVariants as event
-use Rattle.script.specs.Spelling.{spelling, net_spelling, IsEvent, IsNetEvent, IsMessage, IsHost, IsFlow, IsImp, message_text}
+use Rattle.script.specs.Spelling.{spelling, net_spelling, IsEvent, IsNetEvent, IsMessage, IsHost, IsFlow, IsImp, IsIndex, message_text}
 use Rattle.script.specs.Steps.{Lacks, IsOfHosts, IsOfImps, IsOfLines, frame_text, IsFrame, pair_text, IsEnd, AreImps}
 use Rattle.script.proofs.Words.{SameCut, same_cut, uncut}
 
@@ -48,6 +48,7 @@ pub data Kind : Type 0 where
   Twos : Kind
   Frames : Kind
   Ends : Kind
+  Counts : Kind
 
 abbrev pub OperandOf : Kind → Type 0
 OperandOf Messages = HostMessage
@@ -57,6 +58,7 @@ OperandOf Imps = ℕ
 OperandOf Twos = ℕ × ℕ
 OperandOf Frames = ℕ × Direction × ℕ
 OperandOf Ends = ℕ × ℕ
+OperandOf Counts = ℕ
 
 abbrev pub text_of : (k : Kind) → OperandOf k → List ℕ
 text_of Messages m = message_text m
@@ -66,6 +68,7 @@ text_of Imps i = decimal i
 text_of Twos p = pair_text p
 text_of Frames f = frame_text f
 text_of Ends p = pair_text p
+text_of Counts n = decimal n
 
 abbrev pub IsMeant : (k : Kind) → OperandOf k → Type 0
 IsMeant Messages m = IsMessage m
@@ -75,10 +78,12 @@ IsMeant Imps i = IsImp i
 IsMeant Twos p = AreImps p
 IsMeant Frames f = IsFrame f
 IsMeant Ends p = IsEnd p
+IsMeant Counts n = IsIndex n
 
 abbrev pub keyword : Event → List ℕ
 keyword (event.Out m) = codes "out"
 keyword (event.Take h) = codes "take"
+keyword (event.Calm n) = codes "calm"
 keyword (event.Net (net.HostDown h)) = codes "hostdown"
 keyword (event.Net (net.HostUp h)) = codes "hostup"
 keyword (event.Net (net.GiveUp f)) = codes "giveup"
@@ -98,6 +103,7 @@ abbrev pub made : List ℕ → (k : Kind) × (OperandOf k → Event)
 made word =
     if bytes_eq word (codes "out") then (Messages, λ x. event.Out x) else (
     if bytes_eq word (codes "take") then (Hosts, λ x. event.Take x) else (
+    if bytes_eq word (codes "calm") then (Counts, λ x. event.Calm x) else (
     if bytes_eq word (codes "hostdown") then (Hosts, λ x. event.Net (net.HostDown x)) else (
     if bytes_eq word (codes "hostup") then (Hosts, λ x. event.Net (net.HostUp x)) else (
     if bytes_eq word (codes "giveup") then (Flows, λ x. event.Net (net.GiveUp x)) else (
@@ -110,11 +116,12 @@ made word =
     if bytes_eq word (codes "deliver") then (Frames, λ x. event.Net (net.Deliver x.0 x.1 x.2)) else (
     if bytes_eq word (codes "drop") then (Frames, λ x. event.Net (net.Drop x.0 x.1 x.2)) else (
     if bytes_eq word (codes "enddown") then (Ends, λ x. event.Net (net.EndDown x.0 x.1)) else (
-    (Ends, λ x. event.Net (net.EndUp x.0 x.1))))))))))))))))
+    (Ends, λ x. event.Net (net.EndUp x.0 x.1)))))))))))))))))
 
 abbrev pub operand : (e : Event) → OperandOf (made (keyword e)).0
 operand (event.Out m) = m
 operand (event.Take h) = h
+operand (event.Calm n) = n
 operand (event.Net (net.HostDown h)) = h
 operand (event.Net (net.HostUp h)) = h
 operand (event.Net (net.GiveUp f)) = f
@@ -132,6 +139,7 @@ operand (event.Net (net.EndUp i l)) = (i, l)
 pub made_again : (e : Event) → (made (keyword e)).1 (operand e) ≡ e
 made_again (event.Out m) = refl
 made_again (event.Take h) = refl
+made_again (event.Calm n) = refl
 made_again (event.Net (net.HostDown h)) = refl
 made_again (event.Net (net.HostUp h)) = refl
 made_again (event.Net (net.GiveUp f)) = refl
@@ -149,6 +157,7 @@ made_again (event.Net (net.EndUp i l)) = refl
 pub spelled : (e : Event) → spelling e ≡ keyword e ++ 32 ∷ text_of (made (keyword e)).0 (operand e)
 spelled (event.Out m) = refl
 spelled (event.Take h) = refl
+spelled (event.Calm n) = refl
 spelled (event.Net (net.HostDown h)) = refl
 spelled (event.Net (net.HostUp h)) = refl
 spelled (event.Net (net.GiveUp f)) = refl
@@ -166,6 +175,7 @@ spelled (event.Net (net.EndUp i l)) = refl
 pub is_meant : (e : Event) → IsEvent e → IsMeant (made (keyword e)).0 (operand e)
 is_meant (event.Out m) is = is
 is_meant (event.Take h) is = is
+is_meant (event.Calm n) is = is
 is_meant (event.Net (net.HostDown h)) is = is
 is_meant (event.Net (net.HostUp h)) is = is
 is_meant (event.Net (net.GiveUp f)) is = is
@@ -183,6 +193,7 @@ is_meant (event.Net (net.EndUp i l)) is = is
 pub plain : (e : Event) → list_any (λ x. x == 32) (keyword e) ≡ false
 plain (event.Out m) = refl
 plain (event.Take h) = refl
+plain (event.Calm n) = refl
 plain (event.Net (net.HostDown h)) = refl
 plain (event.Net (net.HostUp h)) = refl
 plain (event.Net (net.GiveUp f)) = refl
@@ -306,8 +317,9 @@ is_line_event (net.Drop l d k) meant = meant
 is_line_event (net.EndDown i l) meant = meant
 is_line_event (net.EndUp i l) meant = meant
 
--- a line with another first word than `out` and `take` is an event inside a network, or none
-pub no_event : (word rest : List ℕ) → Lacks 32 word → word ≢ codes "out" → word ≢ codes "take" → ((x : NetEvent) → IsNetEvent x → word ++ 32 ∷ rest ≢ net_spelling x) → (x : Event) → IsEvent x → word ++ 32 ∷ rest ≢ spelling x
-no_event word rest h out take none (event.Out m) meant e = out (first_word word rest (event.Out m) h e)
-no_event word rest h out take none (event.Take g) meant e = take (first_word word rest (event.Take g) h e)
-no_event word rest h out take none (event.Net x) meant e = none x meant e
+-- a line with another first word than `out`, `take` and `calm` is an event inside a network, or none
+pub no_event : (word rest : List ℕ) → Lacks 32 word → word ≢ codes "out" → word ≢ codes "take" → word ≢ codes "calm" → ((x : NetEvent) → IsNetEvent x → word ++ 32 ∷ rest ≢ net_spelling x) → (x : Event) → IsEvent x → word ++ 32 ∷ rest ≢ spelling x
+no_event word rest h out take calm none (event.Out m) meant e = out (first_word word rest (event.Out m) h e)
+no_event word rest h out take calm none (event.Take g) meant e = take (first_word word rest (event.Take g) h e)
+no_event word rest h out take calm none (event.Calm n) meant e = calm (first_word word rest (event.Calm n) h e)
+no_event word rest h out take calm none (event.Net x) meant e = none x meant e

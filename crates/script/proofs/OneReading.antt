@@ -21,7 +21,7 @@ use Rattle.script.specs.Script.{AskFor, lines_of}
 use Rattle.script.specs.Spelling.{IsEvent, IsFlow, IsHost, IsImp, IsMessage, direction_text, message_text, octets_text, spelling}
 use Rattle.script.specs.Steps.{IsFrame, frame_text, pair_text}
 use Rattle.script.specs.declared.event.Event.{Event}
-use Rattle.script.proofs.Keywords.{unmarked_where, Kind, Messages, Hosts, Flows, Imps, Twos, Frames, Ends, OperandOf, text_of, IsMeant, keyword, made, operand, made_again, spelled, is_meant, plain}
+use Rattle.script.proofs.Keywords.{unmarked_where, Kind, Messages, Hosts, Flows, Imps, Twos, Frames, Ends, Counts, OperandOf, text_of, IsMeant, keyword, made, operand, made_again, spelled, is_meant, plain}
 use Rattle.script.proofs.Places.{direction_unmarked}
 use Rattle.script.proofs.Hosts.{front_unmarked, host_range, host_unmarked}
 use Rattle.script.proofs.Messages.{message_words}
@@ -140,6 +140,7 @@ operand_once Twos (a, b) (c, d) p q e =
     let same : SamePair a b c d = pair_once a b c d (omega arith) (omega arith) (omega arith) (omega arith) e in
     λ i. (same.first i, same.second i)
 operand_once Frames x y p q e = frame_once x y p q e
+operand_once Counts x y p q e = decimal_injective x y (omega (arith, p)) (omega (arith, q)) e
 operand_once Ends (a, b) (c, d) p q e =
     let la : a ≤ 63 = imp_small a p.0 in
     let lb : b < 2 ^ 32 = p.1 in

@@ -83,12 +83,13 @@ abbrev pub spelling : Event → List ℕ
 spelling (event.Out m) = codes "out " ++ message_text m
 spelling (event.Take h) = codes "take " ++ host_text h
 spelling (event.Net e) = net_spelling e
+spelling (event.Calm rounds) = codes "calm " ++ decimal rounds
 
 -- a valid number of an IMP: 1 to 63
 abbrev pub IsImp : ℕ → Type 0
 IsImp n = imp_at n ≡ Some n
 
--- a valid number of a line, or place of a frame: one of 32 bits
+-- a valid number of a line, place of a frame, or number of rounds: one of 32 bits
 abbrev pub IsIndex : ℕ → Type 0
 IsIndex n = n < 2 ^ 32
 
@@ -113,6 +114,7 @@ abbrev pub IsEvent : Event → Type 0
 IsEvent (event.Out m) = IsMessage m
 IsEvent (event.Take h) = IsHost h
 IsEvent (event.Net e) = IsNetEvent e
+IsEvent (event.Calm rounds) = IsIndex rounds
 
 -- ---- memory
 

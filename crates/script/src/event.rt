@@ -11,4 +11,6 @@ pub enum Event {
     Take(HostAddr),
     /// This happens inside the network.
     Net(NetEvent),
+    /// So many rounds pass. In each the network has a quiet round, and then each host takes what waits for it.
+    Calm(u32),
 }

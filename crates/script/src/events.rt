@@ -10,7 +10,7 @@ use crate::event::Event;
 use crate::fault::LineFault;
 use crate::input::{MAX_INPUT, first_line};
 use crate::network::read_net;
-use crate::word::{cut, read_count, read_host, read_octet, read_text};
+use crate::word::{cut, plain_number, read_count, read_host, read_octet, read_text};
 use leader1822::{Flow, HostMessage, Link};
 use std::alloc::{AllocError, Global};
 
@@ -75,6 +75,9 @@ fn read_plain(word: &[u8], rest: &[u8]) -> Option<Event>
 {
     if word == b"take".as_slice() {
         return Some(Event::Take(read_host(rest)?));
+    }
+    if word == b"calm".as_slice() {
+        return Some(Event::Calm(plain_number(rest)?));
     }
     Some(Event::Net(read_net(word, rest)?))
 }

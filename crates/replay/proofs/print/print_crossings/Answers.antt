@@ -3,7 +3,7 @@ use Rattle.std.specs.Io.KnownBytes.{Appends}
 use Rattle.leader1822.specs.Printed.{crossing_text}
 use Rattle.script.specs.Input.{ended}
 use Rattle.replay.proofs.Shown.{crossing_written, was_ok}
-use Rattle.replay.proofs.events.print_crossings.Goals as goal
+use Rattle.replay.proofs.print.print_crossings.Goals as goal
 
 pub loop-crossing-preserved : goal.loop-crossing-preserved
 loop-crossing-preserved g c =

@@ -1,0 +1,76 @@
+//! A calm: rounds in which the network is left alone, and its hosts take what comes.
+
+ghost use Rattle.std.specs.Prelude.{◌≡◌, Err, IfErr};
+ghost use Rattle.replay.specs.Replay.{Halts, Round, Takings, calmly};
+ghost use Rattle.replay.specs.Steps.{EventEnds, Grew};
+ghost use Rattle.script.specs.declared.event.Event.TheVariants as script_event;
+
+use crate::events::ReplayFault;
+use crate::print::print_outcome;
+use leader1822::{Carrier, CarrierFault, HostAddr};
+use std::io::Write;
+
+/// How often a host takes in one round at most.
+const TAKINGS: u8 = 16;
+
+/// Lets so many rounds pass, and prints after each what crossed in it. Refusals are not printed.
+pub(crate) fn replay_calm<C: Carrier, W: Write>(
+    carrier: &mut C,
+    rounds: u32,
+    writer: &mut W,
+) -> Result<(), ReplayFault>
+    ensures { EventEnds (record { seen = C.seen; offers = C.offers; takes = C.takes; steps = C.steps; rounds = C.rounds }) carrier.old (script_event.Calm rounds) result carrier.new (W.contents writer.old) (W.contents writer.new) }
+{
+    for _ in 0..rounds {
+        let booked = carrier.log().len();
+        let outcome = pass_round(carrier);
+        print_outcome(carrier.log(), booked, outcome, writer)?;
+    }
+    Ok(())
+}
+
+/// Lets one round pass: a quiet round, and then each host takes.
+///
+/// Errors: `OutOfMemory` and `Stopped`, which end the round.
+fn pass_round<C: Carrier>(carrier: &mut C) -> Result<(), CarrierFault>
+    ensures round { Round (record { seen = C.seen; offers = C.offers; takes = C.takes; steps = C.steps; rounds = C.rounds }) carrier.old result carrier.new }
+    ensures grew { Grew (C.seen carrier.old) (C.seen carrier.new) }
+    ensures told { IfErr result (λ f. Halts (Err f)) }
+{
+    calmly(carrier.quiet_round())?;
+    let hosts = carrier.hosts().len();
+    for index in 0..hosts {
+        let host = carrier.hosts()[index];
+        take_all(carrier, host)?;
+    }
+    Ok(())
+}
+
+/// Lets a host take until nothing waits for it, until it is refused, or 16 times.
+///
+/// Errors: `OutOfMemory` and `Stopped`.
+fn take_all<C: Carrier>(carrier: &mut C, host: HostAddr) -> Result<(), CarrierFault>
+    ensures takings { Takings (record { seen = C.seen; offers = C.offers; takes = C.takes; steps = C.steps; rounds = C.rounds }) host 16 carrier.old result carrier.new }
+    ensures grew { Grew (C.seen carrier.old) (C.seen carrier.new) }
+    ensures told { IfErr result (λ f. Halts (Err f)) }
+{
+    for _ in 0..TAKINGS {
+        match carrier.take_in(host) {
+            Ok(Some(_)) => {}
+            Ok(None) => return Ok(()),
+            Err(fault) => return calmly(Err(fault)),
+        }
+    }
+    Ok(())
+}
+
+/// What a calm tells of an outcome: it passes over a refusal, but not over want of memory.
+fn calmly(outcome: Result<(), CarrierFault>) -> Result<(), CarrierFault>
+    ensures calm { result ≡ calmly outcome }
+    ensures told { IfErr result (λ f. Halts (Err f)) }
+{
+    match outcome {
+        Err(CarrierFault::Stopped | CarrierFault::OutOfMemory) => outcome,
+        _ => Ok(()),
+    }
+}
