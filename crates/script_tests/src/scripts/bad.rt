@@ -32,7 +32,7 @@ fn bad_topologies(rt: HostRuntime) {
 }
 
 /// Lines that are no events. The marker line is one too, after the first that parts the input.
-const NO_EVENTS: [&str; 44] = [
+const NO_EVENTS: [&str; 48] = [
     " ",
     "jump",
     "take",
@@ -76,7 +76,11 @@ const NO_EVENTS: [&str; 44] = [
     "forget 2 0",
     "abandon 0/1 0/2",
     "%",
-    "calm 1",
+    "calm",
+    "calm ",
+    "calm 01",
+    "calm 1 2",
+    "calm 4294967296",
 ];
 
 #[test]
