@@ -1,1 +1,6 @@
 pub mod Projection
+pub mod Book
+pub mod Safe
+pub mod World
+pub mod Carriers
+pub mod Worked

@@ -1,13 +1,17 @@
 //! What follows for hosts that run the network control program, whatever carries their messages. The functions here
 //! do nothing: each clause is a law.
 
-ghost use Rattle.std.specs.Prelude.{◌≡◌, ℕ, true, Some, is_some};
+ghost use Rattle.std.specs.Prelude.{◌≡◌, ℕ, true, List, [], Some, Result, is_some};
 ghost use Rattle.leader1822.specs.Host.{Host, same_host};
 ghost use Rattle.leader1822.specs.declared.address.Flow.{Flow};
 ghost use Rattle.leader1822.specs.declared.crossing.Answer.{Answer};
 ghost use Rattle.leader1822.specs.declared.crossing.Crossing.TheVariants as crossing;
 ghost use Rattle.leader1822.specs.declared.crossing.Inbound.TheVariants as inbound;
 ghost use Rattle.leader1822.specs.declared.message.HostMessage.{HostMessage};
+ghost use Rattle.leader1822.specs.Mailboxes.{IsRun};
+ghost use Rattle.leader1822.specs.Messages.{SafeMessages};
+ghost use Rattle.net_sim.specs.Carriers.{shown, IsBooked};
+ghost use Rattle.net_sim.specs.World.{WorldState, WorldFault, Event, opening_world, StepGives, RunGives, CalmGives};
 ghost use Rattle.net_sim.specs.Projection.{Agrees, IsApart, Speaks, event_of, event_by, message_on};
 ghost use Rattle.reset_law.specs.Events.{part_of};
 ghost use Rattle.reset_law.specs.Pairs as pairs;
@@ -19,6 +23,8 @@ ghost use Rattle.sockets.specs.Requests.{served};
 ghost use Rattle.sockets.specs.Sending.{Parcel, link_for, text_for, message_for, next_in, offered};
 ghost use Rattle.sockets.specs.declared.peer.Peer.{Peer};
 ghost use Rattle.sockets.specs.declared.request.Request.{Request};
+
+use leader1822::Carrier;
 
 /// Each call of a host's program is, for each peer `h`, a step of the law of resets: where program and law agree on the pair
 /// before it, they agree on it after it.
@@ -39,4 +45,20 @@ pub fn resets()
     ensures may { (s : NcpState) (g : Peer) (x : Parcel) (p : Pair) → AreInOrder s.peers → next_in s.peers ≡ Some (g, x) → Speaks g.pair x → Agrees (pair_with g.host s.peers) p → MaySend p (link_for x) (message_on (link_for x) (text_for g.pair x)) }
     ensures apart { (s : NcpState) (g : Peer) (x : Parcel) (p : Pair) → AreInOrder s.peers → next_in s.peers ≡ Some (g, x) → Speaks g.pair x → Agrees (pair_with g.host s.peers) p → IsApart (link_for x) (text_for g.pair x) (message_on (link_for x) (text_for g.pair x)) }
     ensures offer { (s : NcpState) (stamp : ℕ) (g : Peer) (x : Parcel) (h : Host) (p : Pair) → AreInOrder s.peers → next_in s.peers ≡ Some (g, x) → Speaks g.pair x → Agrees (pair_with h s.peers) p → Agrees (pair_with h (offered s stamp).0.peers) (moved (part_of s.own h (event_of (crossing.Out (message_for s.own g x)))) p) }
+{}
+
+/// What stands in the book of a world, whatever its carrier is made of: all that crossed, but for the event in which memory ran
+/// out, after every list of events.
+pub fn books<C: Carrier>()
+    // over a carrier that hasn't been used
+    ensures opening { (c : C) → (C.seen c).log ≡ [] → IsBooked C.seen (opening_world (shown (record { seen = C.seen; offers = C.offers; takes = C.takes; steps = C.steps; rounds = C.rounds })) c) }
+
+    // one event, a list of events, and so many quiet rounds with all that the hosts take and say between them
+    ensures step { (old new : WorldState C) (e : Event) (r : Result (Unit {0}) WorldFault) → IsBooked C.seen old → StepGives (shown (record { seen = C.seen; offers = C.offers; takes = C.takes; steps = C.steps; rounds = C.rounds })) old e r new → IsBooked C.seen new }
+    ensures run { (old new : WorldState C) (events : List Event) (r : Result (Unit {0}) WorldFault) → IsBooked C.seen old → RunGives (shown (record { seen = C.seen; offers = C.offers; takes = C.takes; steps = C.steps; rounds = C.rounds })) old events r new → IsBooked C.seen new }
+    ensures calm { (old new : WorldState C) (times : ℕ) (r : Result (Unit {0}) WorldFault) → IsBooked C.seen old → CalmGives (shown (record { seen = C.seen; offers = C.offers; takes = C.takes; steps = C.steps; rounds = C.rounds })) times old r new → IsBooked C.seen new }
+
+    // and where the carrier's log is a run of the mailboxes, a message answered by RFNM was taken exactly once, and none is taken
+    // twice: the message clause of the safe book
+    ensures messages { (w : WorldState C) → IsBooked C.seen w → IsRun (C.seen w.carrier).hosts (C.seen w.carrier).log → SafeMessages w.kept.book.crossings }
 {}

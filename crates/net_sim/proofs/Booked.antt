@@ -1,0 +1,224 @@
+-- The book has what crossed, after every list of events.
+use Rattle.std.proofs.Common.{◌≡◌, inl, inr, ℕ, Bool, true, false, if◌then◌else◌, zero, suc, List, [], ◌∷◌, ◌++◌, length, nat_lt, Option, Some, None, Result, Ok, Err, refl, ap, sym, subst, ◌∙◌}
+use Rattle.std.specs.Bool.{MatchBool}
+use Rattle.leader1822.specs.Calls.{Seen, ShowsOffer, ShowsTake, ShowsStep, ShowsRound, ShowsRefusal, ShowsCrossings, halted, is_memory, crossing_of, step_crossings}
+use Rattle.leader1822.specs.Host.{Host}
+use Rattle.leader1822.specs.Mailboxes.{IsRun}
+use Rattle.leader1822.specs.Messages.{SafeMessages}
+use Rattle.leader1822.specs.declared.carrier.CarrierFault.{CarrierFault}
+use Rattle.leader1822.specs.declared.carrier.CarrierFault.TheVariants as fault
+use Rattle.leader1822.specs.declared.crossing.Crossing.{Crossing}
+use Rattle.leader1822.specs.declared.crossing.Crossing.TheVariants as crossing
+use Rattle.leader1822.specs.declared.crossing.Inbound.{Inbound}
+use Rattle.leader1822.specs.declared.event.NetEvent.{NetEvent}
+use Rattle.leader1822.specs.declared.message.HostMessage.{HostMessage}
+use Rattle.leader1822.proofs.MessageLaw.{run_below, safe_messages}
+use Rattle.sockets.specs.Pairs.{NcpState}
+use Rattle.sockets.specs.Requests.{refusal, served_notices}
+use Rattle.sockets.specs.Sending.{next_out, offered}
+use Rattle.sockets.specs.Accepting.{accepted}
+use Rattle.sockets.specs.declared.fault.NcpFault.{NcpFault}
+use Rattle.sockets.specs.declared.notice.Notice.{Notice}
+use Rattle.sockets.specs.declared.request.Request.{Request}
+use Rattle.net_sim.specs.Book.{Kept, crossed, all_crossed, told, all_told, asked}
+use Rattle.net_sim.specs.Carriers.{shown, IsBooked}
+use Rattle.net_sim.specs.World.{Calls, WorldState, WorldFault, Carrier, Program, Event, Net, Quiet, Offer, Take, Ask, Seat, opening_world, seat_of, with_carrier, moved, changed, served_at, Refuses, Does, Halts, Passes, OfferEnds, OfferGives, TakeEnds, TakeGives, NetEnds, QuietEnds, AskGives, AtProgram, AtSeat, EventGives, StepGives, stops, Runs, RunGives, Repeats, TurnsOf, up_in, Calms, CalmGives}
+
+-- ---- the crossings of what is kept
+
+told_crossings : (h : Host) (ns : List Notice) (k : Kept) → (all_told h ns k).book.crossings ≡ k.book.crossings
+told_crossings h [] k = refl
+told_crossings h (n ∷ ns) k = told_crossings h ns (told h n k)
+
+crossed_crossings : (cs : List Crossing) (k : Kept) → (all_crossed cs k).book.crossings ≡ cs ++ k.book.crossings
+crossed_crossings [] k = refl
+crossed_crossings (c ∷ cs) k = ap (λ (xs : List Crossing). c ∷ xs) (crossed_crossings cs k)
+
+-- a refusal crosses nothing
+same_log : (b : Bool) (s : Seen) → (if b then halted s else s).log ≡ s.log
+same_log true s = refl
+same_log false s = refl
+
+refused_log : (old : Seen) (e : CarrierFault) (new : Seen) → ShowsRefusal old e new → new.log ≡ old.log
+refused_log old e new s = ap (λ (x : Seen). x.log) s.shown ∙ same_log (is_memory e) old
+
+grown_log : (old : Seen) (cs : List Crossing) (new : Seen) → ShowsCrossings old cs new → new.log ≡ cs ++ old.log
+grown_log old cs new s = ap (λ (x : Seen). x.log) s.shown
+
+-- ---- one event
+
+module _ {C : Type 0} (own : Calls C) where
+  abbrev calls : Calls C
+  calls = shown own
+
+  -- what is done books what crossed
+  done_books : (old : WorldState C) (c : C) (cs : List Crossing) (done : WorldState C) (r : Result (Unit {0}) WorldFault) (new : WorldState C) → IsBooked own.seen old → old.stopped ≡ false
+      → (calls.seen c).log ≡ cs ++ (calls.seen old.carrier).log → done.carrier ≡ c → done.kept.book.crossings ≡ cs ++ old.kept.book.crossings
+      → Does done r new → IsBooked own.seen new
+  done_books old c cs done r new b running log carrier kept d =
+      let mine : (calls.seen old.carrier).log ≡ old.kept.book.crossings = b.book ∙ ap (λ (xs : List Crossing). xs ++ old.kept.book.crossings) (b.all running) in
+      let now : IsBooked own.seen done = record {
+        unbooked = [];
+        book = ap (λ (x : C). (calls.seen x).log) carrier ∙ log ∙ ap (λ (xs : List Crossing). cs ++ xs) mine ∙ sym kept;
+        all = λ running. refl;
+      } in
+      subst (λ (w : WorldState C). IsBooked own.seen w) (sym d.1) now
+
+  halt_books : (old : WorldState C) (c : C) (cs : List Crossing) (r : Result (Unit {0}) WorldFault) (new : WorldState C) → IsBooked own.seen old → old.stopped ≡ false
+      → (calls.seen c).log ≡ cs ++ (calls.seen old.carrier).log → Halts c old r new → IsBooked own.seen new
+  halt_books old c cs r new b running log h =
+      let mine : (calls.seen old.carrier).log ≡ old.kept.book.crossings = b.book ∙ ap (λ (xs : List Crossing). xs ++ old.kept.book.crossings) (b.all running) in
+      record {
+        unbooked = cs;
+        book = ap (λ (x : C). (calls.seen x).log) h.carrier ∙ log ∙ ap (λ (xs : List Crossing). cs ++ xs) mine ∙ ap (λ (k : Kept). cs ++ k.book.crossings) (sym h.kept);
+        all = λ running. absurd (let t : true ≡ false = sym h.stopped ∙ running in cc);
+      }
+
+  refused_books : (f : WorldFault) (old : WorldState C) (r : Result (Unit {0}) WorldFault) (new : WorldState C) → IsBooked own.seen old → Refuses f old r new → IsBooked own.seen new
+  refused_books f old r new b h = subst (λ (w : WorldState C). IsBooked own.seen w) (sym h.1) b
+
+  passed_books : (e : CarrierFault) (c : C) (old : WorldState C) (r : Result (Unit {0}) WorldFault) (new : WorldState C) → IsBooked own.seen old → old.stopped ≡ false
+      → (calls.seen c).log ≡ (calls.seen old.carrier).log → Passes e c old r new → IsBooked own.seen new
+  passed_books e c old r new b running log h =
+      let mine : (calls.seen old.carrier).log ≡ old.kept.book.crossings = b.book ∙ ap (λ (xs : List Crossing). xs ++ old.kept.book.crossings) (b.all running) in
+      let now : IsBooked own.seen (record old { carrier = c; stopped = is_memory e }) = record { unbooked = []; book = log ∙ mine; all = λ running. refl } in
+      subst (λ (w : WorldState C). IsBooked own.seen w) (sym h.1) now
+
+  offer_ends : (h : Host) (s : NcpState) (m : HostMessage) (answer : Result (Unit {0}) CarrierFault) (c : C) (old : WorldState C) (r : Result (Unit {0}) WorldFault) (new : WorldState C)
+      → IsBooked own.seen old → old.stopped ≡ false → ShowsOffer (calls.seen old.carrier) m answer (calls.seen c) → OfferEnds h s m answer c old r new → IsBooked own.seen new
+  offer_ends h s m (Ok done) c old r new b running shows ends = elim ends [
+    | inl d ↦ done_books old c (crossing.Out m ∷ []) (moved c h (crossing.Out m) (offered s (length old.kept.book.crossings)) old) r new b running (grown_log (calls.seen old.carrier) (crossing.Out m ∷ []) (calls.seen c) shows) refl
+        (told_crossings h (offered s (length old.kept.book.crossings)).1 (crossed (crossing.Out m) old.kept)) d
+    | inr x ↦ halt_books old c (crossing.Out m ∷ []) r new b running (grown_log (calls.seen old.carrier) (crossing.Out m ∷ []) (calls.seen c) shows) x
+  ]
+  offer_ends h s m (Err e) c old r new b running shows ends = passed_books e c old r new b running (refused_log (calls.seen old.carrier) e (calls.seen c) shows) ends
+
+  offer_books : (h : Host) (s : NcpState) (o : Option HostMessage) (old : WorldState C) (r : Result (Unit {0}) WorldFault) (new : WorldState C) → IsBooked own.seen old → old.stopped ≡ false
+      → OfferGives calls h s o old r new → IsBooked own.seen new
+  offer_books h s None old r new b running gives = subst (λ (w : WorldState C). IsBooked own.seen w) (sym gives.1) b
+  offer_books h s (Some m) old r new b running gives = elim gives [
+    | inl x ↦ halt_books old old.carrier [] r new b running refl x
+    | inr t ↦ offer_ends h s m t.0 t.1 old r new b running t.2.1 t.3
+  ]
+
+  take_ends : (h : Host) (s : NcpState) (answer : Result (Option Inbound) CarrierFault) (c : C) (old : WorldState C) (r : Result (Unit {0}) WorldFault) (new : WorldState C)
+      → IsBooked own.seen old → old.stopped ≡ false → ShowsTake (calls.seen old.carrier) h answer (calls.seen c) → TakeEnds h s answer c old r new → IsBooked own.seen new
+  take_ends h s (Ok None) c old r new b running shows ends =
+      done_books old c [] (with_carrier c old) r new b running (grown_log (calls.seen old.carrier) [] (calls.seen c) shows) refl refl ends
+  take_ends h s (Ok (Some i)) c old r new b running shows ends = elim ends [
+    | inl d ↦ done_books old c (crossing_of i ∷ []) (moved c h (crossing_of i) (accepted s i (length old.kept.book.crossings)) old) r new b running (grown_log (calls.seen old.carrier) (crossing_of i ∷ []) (calls.seen c) shows.0) refl
+        (told_crossings h (accepted s i (length old.kept.book.crossings)).1 (crossed (crossing_of i) old.kept)) d
+    | inr x ↦ halt_books old c (crossing_of i ∷ []) r new b running (grown_log (calls.seen old.carrier) (crossing_of i ∷ []) (calls.seen c) shows.0) x
+  ]
+  take_ends h s (Err e) c old r new b running shows ends = passed_books e c old r new b running (refused_log (calls.seen old.carrier) e (calls.seen c) shows) ends
+
+  net_ends : (e : NetEvent) (answer : Result (Unit {0}) CarrierFault) (c : C) (old : WorldState C) (r : Result (Unit {0}) WorldFault) (new : WorldState C)
+      → IsBooked own.seen old → old.stopped ≡ false → ShowsStep (calls.seen old.carrier) e answer (calls.seen c) → NetEnds (calls.seen old.carrier) e answer c old r new → IsBooked own.seen new
+  net_ends e (Ok done) c old r new b running shows ends = elim ends [
+    | inl d ↦ done_books old c (step_crossings (calls.seen old.carrier) e) (changed c (step_crossings (calls.seen old.carrier) e) old) r new b running
+        (grown_log (calls.seen old.carrier) (step_crossings (calls.seen old.carrier) e) (calls.seen c) shows) refl (crossed_crossings (step_crossings (calls.seen old.carrier) e) old.kept) d
+    | inr x ↦ halt_books old c (step_crossings (calls.seen old.carrier) e) r new b running (grown_log (calls.seen old.carrier) (step_crossings (calls.seen old.carrier) e) (calls.seen c) shows) x
+  ]
+  net_ends e (Err f) c old r new b running shows ends = passed_books f c old r new b running (refused_log (calls.seen old.carrier) f (calls.seen c) shows) ends
+
+  quiet_ends : (answer : Result (Unit {0}) CarrierFault) (c : C) (old : WorldState C) (r : Result (Unit {0}) WorldFault) (new : WorldState C)
+      → IsBooked own.seen old → old.stopped ≡ false → ShowsRound (calls.seen old.carrier) answer (calls.seen c) → QuietEnds answer c old r new → IsBooked own.seen new
+  quiet_ends (Ok done) c old r new b running shows ends =
+      done_books old c [] (with_carrier c old) r new b running (grown_log (calls.seen old.carrier) [] (calls.seen c) shows) refl refl ends
+  quiet_ends (Err f) c old r new b running shows ends = passed_books f c old r new b running (refused_log (calls.seen old.carrier) f (calls.seen c) shows) ends
+
+  ask_books : (h : Host) (q : Request) (s : NcpState) (o : Option NcpFault) (old : WorldState C) (r : Result (Unit {0}) WorldFault) (new : WorldState C) → IsBooked own.seen old → old.stopped ≡ false
+      → AskGives h q s o old r new → IsBooked own.seen new
+  ask_books h q s (Some f) old r new b running gives = refused_books (Program f) old r new b gives
+  ask_books h q s None old r new b running gives = elim gives [
+    | inl d ↦ done_books old old.carrier [] (served_at h q s old) r new b running refl refl (told_crossings h (served_notices s q) (asked h q old.kept)) d
+    | inr x ↦ halt_books old old.carrier [] r new b running refl x
+  ]
+
+  at_program : (Gives : NcpState → Type 0) (o : Option NcpState) (old : WorldState C) (r : Result (Unit {0}) WorldFault) (new : WorldState C) → IsBooked own.seen old
+      → ((s : NcpState) → Gives s → IsBooked own.seen new) → AtProgram Gives o old r new → IsBooked own.seen new
+  at_program Gives None old r new b k h = refused_books (Carrier fault.IsDown) old r new b h
+  at_program Gives (Some s) old r new b k h = k s h
+
+  at_seat : (Gives : NcpState → Type 0) (o : Option Seat) (old : WorldState C) (r : Result (Unit {0}) WorldFault) (new : WorldState C) → IsBooked own.seen old
+      → ((s : NcpState) → Gives s → IsBooked own.seen new) → AtSeat Gives o old r new → IsBooked own.seen new
+  at_seat Gives None old r new b k h = refused_books (Carrier fault.NoSuch) old r new b h
+  at_seat Gives (Some seat) old r new b k h = at_program Gives seat.program old r new b k h
+
+  event_books : (e : Event) (old : WorldState C) (r : Result (Unit {0}) WorldFault) (new : WorldState C) → IsBooked own.seen old → old.stopped ≡ false → EventGives calls old e r new → IsBooked own.seen new
+  event_books (Net e) old r new b running t = net_ends e t.0 t.1 old r new b running t.2.1 t.3
+  event_books Quiet old r new b running t = quiet_ends t.0 t.1 old r new b running t.2.1 t.3
+  event_books (Offer h) old r new b running t = at_seat (λ s. OfferGives calls h s (next_out s) old r new) (seat_of h old.seats) old r new b (λ s g. offer_books h s (next_out s) old r new b running g) t
+  event_books (Take h) old r new b running t = at_seat (λ s. TakeGives calls h s old r new) (seat_of h old.seats) old r new b
+      (λ s g. take_ends h s g.0 g.1 old r new b running g.2.1 g.3) t
+  event_books (Ask h q) old r new b running t = at_seat (λ s. AskGives h q s (refusal s q) old r new) (seat_of h old.seats) old r new b (λ s g. ask_books h q s (refusal s q) old r new b running g) t
+
+  if_stopped : (P : Type 0) (old : WorldState C) (r : Result (Unit {0}) WorldFault) (new : WorldState C) → IsBooked own.seen old → (old.stopped ≡ false → P → IsBooked own.seen new)
+      → (b : Bool) → old.stopped ≡ b → MatchBool b (Refuses (Carrier fault.Stopped) old r new) P → IsBooked own.seen new
+  if_stopped P old r new b k true e h = refused_books (Carrier fault.Stopped) old r new b h
+  if_stopped P old r new b k false e h = k e h
+
+  pub step_books : (e : Event) (old : WorldState C) (r : Result (Unit {0}) WorldFault) (new : WorldState C) → IsBooked own.seen old → StepGives calls old e r new → IsBooked own.seen new
+  step_books e old r new b h = if_stopped (EventGives calls old e r new) old r new b (λ running g. event_books e old r new b running g) old.stopped refl h
+
+  -- ---- several events
+
+  goes_on : (P : Type 0) (answer : Result (Unit {0}) WorldFault) (mid : WorldState C) (r : Result (Unit {0}) WorldFault) (new : WorldState C) → IsBooked own.seen mid → (P → IsBooked own.seen new)
+      → (b : Bool) → MatchBool b ((r ≡ answer) × (new ≡ mid)) P → IsBooked own.seen new
+  goes_on P answer mid r new b k true h = subst (λ (w : WorldState C). IsBooked own.seen w) (sym h.1) b
+  goes_on P answer mid r new b k false h = k h
+
+  runs_book : (events : List Event) (old : WorldState C) (r : Result (Unit {0}) WorldFault) (new : WorldState C) → IsBooked own.seen old → Runs calls old events r new → IsBooked own.seen new
+  runs_book [] old r new b h = subst (λ (w : WorldState C). IsBooked own.seen w) (sym h.1) b
+  runs_book (e ∷ events) old r new b h =
+      let m : IsBooked own.seen h.1 = step_books e old h.0 h.1 b h.2 in goes_on (Runs calls h.1 events r new) h.0 h.1 r new m (runs_book events h.1 r new m) (stops h.0) h.3
+
+  pub run_books : (events : List Event) (old : WorldState C) (r : Result (Unit {0}) WorldFault) (new : WorldState C) → IsBooked own.seen old → RunGives calls old events r new → IsBooked own.seen new
+  run_books events old r new b h = if_stopped (Runs calls old events r new) old r new b (λ running g. runs_book events old r new b g) old.stopped refl h
+
+  goes_again : (P : Type 0) (mid : WorldState C) (r : Result (Unit {0}) WorldFault) (new : WorldState C) → IsBooked own.seen mid → (P → IsBooked own.seen new)
+      → (b : Bool) → MatchBool b P (Does mid r new) → IsBooked own.seen new
+  goes_again P mid r new b k true h = k h
+  goes_again P mid r new b k false h = subst (λ (w : WorldState C). IsBooked own.seen w) (sym h.1) b
+
+  repeats_book : (e : Event) (times : ℕ) (old : WorldState C) (r : Result (Unit {0}) WorldFault) (new : WorldState C) → IsBooked own.seen old → Repeats calls e times old r new → IsBooked own.seen new
+  repeats_book e zero old r new b h = subst (λ (w : WorldState C). IsBooked own.seen w) (sym h.1) b
+  repeats_book e (suc times) old r new b h =
+      let m : IsBooked own.seen h.1 = step_books e old h.0 h.1 b h.2 in
+      let Again : Type 0 = MatchBool (nat_lt (length old.kept.book.crossings) (length h.1.kept.book.crossings)) (Repeats calls e times h.1 r new) (Does h.1 r new) in
+      goes_on Again h.0 h.1 r new m
+      (λ g. goes_again (Repeats calls e times h.1 r new) h.1 r new m (repeats_book e times h.1 r new m) (nat_lt (length old.kept.book.crossings) (length h.1.kept.book.crossings)) g) (stops h.0) h.3
+
+  turns_book : (hosts : List Host) (old : WorldState C) (r : Result (Unit {0}) WorldFault) (new : WorldState C) → IsBooked own.seen old → TurnsOf calls hosts old r new → IsBooked own.seen new
+  turns_book [] old r new b h = subst (λ (w : WorldState C). IsBooked own.seen w) (sym h.1) b
+  turns_book (x ∷ hosts) old r new b h =
+      let m : IsBooked own.seen h.1 = repeats_book (Take x) 16 old h.0 h.1 b h.2 in
+      let Sends : Type 0 = (second : Result (Unit {0}) WorldFault) × (sent : WorldState C) × Repeats calls (Offer x) 32 h.1 second sent
+      × MatchBool (stops second) ((r ≡ second) × (new ≡ sent)) (TurnsOf calls hosts sent r new) in
+      goes_on Sends h.0 h.1 r new m
+      (λ g. (let n : IsBooked own.seen g.1 = repeats_book (Offer x) 32 h.1 g.0 g.1 m g.2 in
+      goes_on (TurnsOf calls hosts g.1 r new) g.0 g.1 r new n (turns_book hosts g.1 r new n) (stops g.0) g.3)) (stops h.0) h.3
+
+  calms_book : (times : ℕ) (old : WorldState C) (r : Result (Unit {0}) WorldFault) (new : WorldState C) → IsBooked own.seen old → Calms calls times old r new → IsBooked own.seen new
+  calms_book zero old r new b h = subst (λ (w : WorldState C). IsBooked own.seen w) (sym h.1) b
+  calms_book (suc times) old r new b h =
+      let m : IsBooked own.seen h.1 = step_books Quiet old h.0 h.1 b h.2 in
+      let Turns : Type 0 = (second : Result (Unit {0}) WorldFault) × (turned : WorldState C) × TurnsOf calls (up_in h.1.seats) h.1 second turned
+      × MatchBool (stops second) ((r ≡ second) × (new ≡ turned)) (Calms calls times turned r new) in
+      goes_on Turns h.0 h.1 r new m
+      (λ g. (let n : IsBooked own.seen g.1 = turns_book (up_in h.1.seats) h.1 g.0 g.1 m g.2 in
+      goes_on (Calms calls times g.1 r new) g.0 g.1 r new n (calms_book times g.1 r new n) (stops g.0) g.3)) (stops h.0) h.3
+
+  pub calm_books : (times : ℕ) (old : WorldState C) (r : Result (Unit {0}) WorldFault) (new : WorldState C) → IsBooked own.seen old → CalmGives calls times old r new → IsBooked own.seen new
+  calm_books times old r new b h = if_stopped (Calms calls times old r new) old r new b (λ running g. calms_book times old r new b g) old.stopped refl h
+
+  -- ---- the opening, and the messages
+
+  pub opening_booked : (c : C) → (own.seen c).log ≡ [] → IsBooked own.seen (opening_world calls c)
+  opening_booked c none = record { unbooked = []; book = none; all = λ running. refl }
+
+  pub booked_messages : (w : WorldState C) → IsBooked own.seen w → IsRun (own.seen w.carrier).hosts (own.seen w.carrier).log → SafeMessages w.kept.book.crossings
+  booked_messages w b is =
+      let hosts : List Host = (own.seen w.carrier).hosts in
+      let run : IsRun hosts (b.unbooked ++ w.kept.book.crossings) = subst (λ (log : List Crossing). IsRun hosts log) b.book is in
+      safe_messages hosts w.kept.book.crossings (run_below hosts b.unbooked w.kept.book.crossings run)

@@ -1,0 +1,88 @@
+-- Books that aren't safe.
+use Rattle.std.proofs.Common.{◌≡◌, ◌⊎◌, ◌≤◌, true, false, List, [], ◌∷◌, ◌++◌, Some, zero, suc, inl, inr, refl, ap, sym, subst, ◌∙◌, arith}
+use Rattle.std.specs.List.{Contains}
+use Rattle.leader1822.specs.declared.crossing.Answer.TheVariants as answer
+use Rattle.leader1822.specs.declared.crossing.Crossing.{Crossing}
+use Rattle.leader1822.specs.declared.crossing.Crossing.TheVariants as crossing
+use Rattle.sockets.specs.Worked.{first, second, on_link}
+use Rattle.net_sim.specs.Book.{Life}
+use Rattle.net_sim.specs.Safe.{SafeBook, IsGranted, Source, Match, IsFront, sends, own_request, partner_request}
+use Rattle.net_sim.specs.Worked.{eight, four, crossings, message, receiver, taker, giver}
+
+-- ---- where a life stands
+
+one_there : (x y : Life) → Contains (x ∷ []) y → x ≡ y
+one_there x y (zero, lt, e) = e
+one_there x y (suc k, lt, e) = absurd (omega (arith, lt))
+
+two_there : (x y z : Life) → Contains (x ∷ y ∷ []) z → (x ≡ z) ⊎ (y ≡ z)
+two_there x y z (zero, lt, e) = inl e
+two_there x y z (suc zero, lt, e) = inr e
+two_there x y z (suc (suc k), lt, e) = absurd (omega (arith, lt))
+
+-- the receiving life is none that sends
+not_sending : (x : Life) → sends taker ≡ sends x → sends x ≡ true → ⊥
+not_sending x same s = let both : false ≡ true = same ∙ s in absurd (cc)
+
+-- ---- messages
+
+since : List Crossing
+since =
+    crossing.In (message first second 0) ∷ crossing.Answer answer.Rfnm (on_link second first 0) ∷ crossing.In (message second first 0) ∷ crossing.Answer answer.Rfnm (on_link first second 0)
+    ∷ crossing.Out (message second first 0) ∷ crossing.In (message first second 0) ∷ []
+
+pub twice : SafeBook (crossing.In (message first second 0) ∷ crossings) [] [] → ⊥
+unfolding since
+twice b = elim (b.messages.once [] since [] (message first second 0) refl refl) [
+  | inl none ↦ absurd (cc)
+  | inr one ↦ absurd (cc)
+]
+
+-- ---- allocation
+
+pub granted_bits : SafeBook crossings (giver ∷ record taker { granted = record { messages = 2; bits = 11 } } ∷ []) (eight ∷ [] ∷ []) → ⊥
+granted_bits b =
+    let g : IsGranted (record taker { granted = record { messages = 2; bits = 11 } }) 1 8 = b.grants.taken (record taker { granted = record { messages = 2; bits = 11 } }) (1, omega arith, refl) refl in
+    let le : 12 ≤ 11 = g.bits in omega (arith, le)
+
+pub granted_messages : SafeBook crossings (giver ∷ record taker { granted = record { messages = 1; bits = 100 } } ∷ []) (eight ∷ [] ∷ []) → ⊥
+granted_messages b =
+    let g : IsGranted (record taker { granted = record { messages = 1; bits = 100 } }) 1 8 = b.grants.taken (record taker { granted = record { messages = 1; bits = 100 } }) (1, omega arith, refl) refl in
+    let le : 2 ≤ 1 = g.messages in omega (arith, le)
+
+pub sent_bits : SafeBook crossings (record giver { bits = eight ++ eight } ∷ record taker { granted = record { messages = 2; bits = 19 } } ∷ []) ((eight ++ eight) ∷ [] ∷ []) → ⊥
+sent_bits b =
+    let r : Life = record taker { granted = record { messages = 2; bits = 19 } } in
+    let s : Life = record giver { bits = eight ++ eight } in
+    let m : Match crossings r s = record { receiving = refl; sending = refl; peers = (refl, refl); sockets = (refl, refl); asked = refl; answered = refl } in
+    let g : IsGranted r 1 16 = b.grants.sent r s (1, omega arith, refl) (0, omega arith, refl) m in
+    let le : 20 ≤ 19 = g.bits in omega (arith, le)
+
+-- ---- partners
+
+pub own_twice : SafeBook crossings (giver ∷ taker ∷ taker ∷ []) (eight ∷ [] ∷ [] ∷ []) → ⊥
+own_twice b = b.partners.own_once taker taker (giver ∷ [], [], [], refl) refl
+
+pub partner_twice : SafeBook crossings (giver ∷ taker ∷ record receiver { own_stamp = 7 } ∷ []) (eight ∷ [] ∷ [] ∷ []) → ⊥
+partner_twice b = b.partners.partner_once taker (record receiver { own_stamp = 7 }) (own_request giver) (giver ∷ [], [], [], refl) refl refl
+
+pub one_way : SafeBook crossings (record giver { partner_stamp = 0 } ∷ taker ∷ []) (eight ∷ [] ∷ []) → ⊥
+one_way b =
+    let x : Life = record giver { partner_stamp = 0 } in
+    let back : partner_request crossings x ≡ Some (own_request taker) = b.partners.both_ways taker x (1, omega arith, refl) (0, omega arith, refl) refl in absurd (cc)
+
+-- ---- streams
+
+pub from_nobody : SafeBook crossings (taker ∷ []) ([] ∷ []) → ⊥
+from_nobody b =
+    let s : Source crossings (taker ∷ []) taker = b.streams.source taker (0, omega arith, refl) refl (λ none. absurd (cc)) in
+    not_sending s.sender (ap sends (one_there taker s.sender s.there)) s.matches.sending
+
+pub other_bits : SafeBook crossings (record giver { bits = four } ∷ taker ∷ []) (four ∷ [] ∷ []) → ⊥
+other_bits b =
+    let x : Life = record giver { bits = four } in
+    let s : Source crossings (x ∷ taker ∷ []) taker = b.streams.source taker (1, omega arith, refl) refl (λ none. absurd (cc)) in
+    elim (two_there x taker s.sender s.there) [
+      | inl is ↦ (let f : IsFront eight four = subst (λ (y : Life). IsFront eight y.bits) (sym is) s.front in (let e : eight ++ f.0 ≡ four = f.1 in absurd (cc)))
+      | inr is ↦ not_sending s.sender (ap sends is) s.matches.sending
+    ]

@@ -1,0 +1,29 @@
+use Rattle.net_sim.proofs.Unsafe as unsafe
+use Rattle.net_sim.proofs.worked.unsafe_books.Goals as goal
+
+pub returns-clause-twice : goal.returns-clause-twice
+returns-clause-twice c = unsafe.twice
+
+pub returns-clause-granted_bits : goal.returns-clause-granted_bits
+returns-clause-granted_bits c = unsafe.granted_bits
+
+pub returns-clause-granted_messages : goal.returns-clause-granted_messages
+returns-clause-granted_messages c = unsafe.granted_messages
+
+pub returns-clause-sent_bits : goal.returns-clause-sent_bits
+returns-clause-sent_bits c = unsafe.sent_bits
+
+pub returns-clause-own_twice : goal.returns-clause-own_twice
+returns-clause-own_twice c = unsafe.own_twice
+
+pub returns-clause-partner_twice : goal.returns-clause-partner_twice
+returns-clause-partner_twice c = unsafe.partner_twice
+
+pub returns-clause-one_way : goal.returns-clause-one_way
+returns-clause-one_way c = unsafe.one_way
+
+pub returns-clause-from_nobody : goal.returns-clause-from_nobody
+returns-clause-from_nobody c = unsafe.from_nobody
+
+pub returns-clause-other_bits : goal.returns-clause-other_bits
+returns-clause-other_bits c = unsafe.other_bits

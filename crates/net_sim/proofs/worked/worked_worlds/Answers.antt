@@ -1,0 +1,16 @@
+use Rattle.std.proofs.Common.{refl}
+use Rattle.sockets.specs.Requests.{refusal, served_notices}
+use Rattle.sockets.specs.Sending.{next_out}
+use Rattle.net_sim.proofs.worked.worked_worlds.Goals as goal
+
+pub returns-clause-refused : goal.returns-clause-refused
+unfolding refusal
+returns-clause-refused c r new h = h
+
+pub returns-clause-nothing : goal.returns-clause-nothing
+unfolding next_out
+returns-clause-nothing c r new h = h
+
+pub returns-clause-asked : goal.returns-clause-asked
+unfolding served_notices
+returns-clause-asked c = refl

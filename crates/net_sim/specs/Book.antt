@@ -1,0 +1,188 @@
+-- What a world keeps of its hosts: the crossings, what each user was told, the contacts, and a life for each opened end of a
+-- connection (NIC 8246).
+use Rattle.std.specs.Prelude.{ℕ, ◌+◌, ◌==◌, ◌&&◌, Bool, true, false, not, if◌then◌else◌, List, [], ◌∷◌, ◌++◌, map, length}
+use Rattle.leader1822.specs.Host.{Host, same_host}
+use Rattle.leader1822.specs.declared.crossing.Crossing.{Crossing}
+use Rattle.leader1822.specs.declared.crossing.Crossing.TheVariants as crossing
+use Rattle.sockets.specs.declared.notice.Notice.{Notice}
+use Rattle.sockets.specs.declared.notice.Notice.TheVariants as notice
+use Rattle.sockets.specs.declared.request.Request.{Request}
+use Rattle.sockets.specs.declared.request.Request.TheVariants as request
+
+-- ---- lives
+
+pub record Amount : Type 0 where
+  pub messages : ℕ
+  pub bits : ℕ
+
+-- one end of a connection from its opening on: its host and socket, and those of its partner; where its own request went out
+-- and where its partner's was taken; what it has sent, or taken, in how many messages; what a receiver granted, and what was
+-- returned to it; and whether it has ended
+pub record Life : Type 0 where
+  pub host : Host
+  pub socket : ℕ
+  pub peer : Host
+  pub foreign : ℕ
+  pub own_stamp : ℕ
+  pub partner_stamp : ℕ
+  pub bits : List Bool
+  pub messages : ℕ
+  pub granted : Amount
+  pub returned : Amount
+  pub ended : Bool
+
+abbrev pub nothing : Amount
+nothing = record { messages = 0; bits = 0 }
+
+abbrev pub more : ℕ → ℕ → Amount → Amount
+more messages bits a = record { messages = a.messages + messages; bits = a.bits + bits }
+
+abbrev pub new_life : Host → ℕ → Host → ℕ → ℕ → ℕ → Life
+new_life host socket peer foreign own partner = record {
+  host = host;
+  socket = socket;
+  peer = peer;
+  foreign = foreign;
+  own_stamp = own;
+  partner_stamp = partner;
+  bits = [];
+  messages = 0;
+  granted = nothing;
+  returned = nothing;
+  ended = false;
+}
+
+-- a message more was sent or taken, with these bits
+abbrev pub carried : List Bool → Life → Life
+carried bits x = record x { bits = x.bits ++ bits; messages = x.messages + 1 }
+
+abbrev pub granted : ℕ → ℕ → Life → Life
+granted messages bits x = record x { granted = more messages bits x.granted }
+
+abbrev pub returned : ℕ → ℕ → Life → Life
+returned messages bits x = record x { returned = more messages bits x.returned }
+
+abbrev pub ended : Life → Life
+ended x = record x { ended = true }
+
+-- the life of a host's socket: the one there that hasn't ended
+abbrev pub lives_at : Host → ℕ → Life → Bool
+lives_at h socket x = same_host h x.host && x.socket == socket && not x.ended
+
+-- the life of this end
+abbrev pub lives_between : Host → ℕ → Host → ℕ → Life → Bool
+lives_between h socket peer foreign x = lives_at h socket x && same_host peer x.peer && x.foreign == foreign
+
+-- a life of a host with this peer
+abbrev pub lives_with : Host → Host → Life → Bool
+lives_with h peer x = same_host h x.host && same_host peer x.peer && not x.ended
+
+abbrev pub lives_on : Host → Life → Bool
+lives_on h x = same_host h x.host && not x.ended
+
+abbrev pub where_it : (Life → Bool) → (Life → Life) → List Life → List Life
+where_it test change lives = map (λ x. if test x then change x else x) lives
+
+-- what a notice of a host does to the lives: one begins when its end is open, and ends when its end does, or when all
+-- connections with its peer are gone
+abbrev pub lives_told : Host → Notice → List Life → List Life
+lives_told h (notice.Opened socket peer foreign own partner) lives = lives ++ new_life h socket peer foreign own partner ∷ []
+lives_told h (notice.Ended socket peer foreign) lives = where_it (lives_between h socket peer foreign) ended lives
+lives_told h (notice.PairReset peer) lives = where_it (lives_with h peer) ended lives
+lives_told h (notice.Sent socket bits) lives = where_it (lives_at h socket) (carried bits) lives
+lives_told h (notice.Arrived socket bits) lives = where_it (lives_at h socket) (carried bits) lives
+lives_told h (notice.Returned socket messages bits) lives = where_it (lives_at h socket) (returned messages bits) lives
+lives_told h (notice.Ready peer) lives = lives
+lives_told h (notice.ContactFailed peer) lives = lives
+lives_told h (notice.Interrupt socket) lives = lives
+lives_told h (notice.Echoed peer octet) lives = lives
+lives_told h (notice.RemoteError peer code detail) lives = lives
+
+-- what a user asks for changes the lives by what it grants
+abbrev pub lives_asked : Host → Request → List Life → List Life
+lives_asked h (request.Grant socket messages bits) lives = where_it (lives_at h socket) (granted messages bits) lives
+lives_asked h r lives = lives
+
+-- a host that stops ends its lives
+abbrev pub lives_crossed : Crossing → List Life → List Life
+lives_crossed (crossing.Down h) lives = where_it (lives_on h) ended lives
+lives_crossed c lives = lives
+
+-- ---- what was handed over to be sent, a list of bits for each life
+
+abbrev pub handed_to : (Life → Bool) → List Bool → List Life → List (List Bool) → List (List Bool)
+handed_to test bits [] handed = handed
+handed_to test bits (x ∷ lives) [] = []
+handed_to test bits (x ∷ lives) (h ∷ handed) = (if test x then h ++ bits else h) ∷ handed_to test bits lives handed
+
+abbrev pub handed_told : Notice → List (List Bool) → List (List Bool)
+handed_told (notice.Opened socket peer foreign own partner) handed = handed ++ [] ∷ []
+handed_told n handed = handed
+
+abbrev pub handed_asked : Host → Request → List Life → List (List Bool) → List (List Bool)
+handed_asked h (request.Send socket bits) lives handed = handed_to (lives_at h socket) bits lives handed
+handed_asked h r lives handed = handed
+
+-- ---- the book
+
+-- a host was told this when there were so many crossings
+pub record Told : Type 0 where
+  pub host : Host
+  pub place : ℕ
+  pub notice : Notice
+
+-- the user of a host asked for a contact when there were so many crossings
+pub record Called : Type 0 where
+  pub host : Host
+  pub place : ℕ
+  pub peer : Host
+
+-- the crossings newest first; all else oldest first
+pub record Book : Type 0 where
+  pub crossings : List Crossing
+  pub notices : List Told
+  pub contacts : List Called
+  pub lives : List Life
+
+abbrev pub opening_book : Book
+opening_book = record { crossings = []; notices = []; contacts = []; lives = [] }
+
+-- ---- the book and what was handed over, together
+
+pub record Kept : Type 0 where
+  pub book : Book
+  pub handed : List (List Bool)
+
+abbrev pub opening_kept : Kept
+opening_kept = record { book = opening_book; handed = [] }
+
+-- something crossed
+abbrev pub crossed : Crossing → Kept → Kept
+crossed c k = record k { book = record k.book { crossings = c ∷ k.book.crossings; lives = lives_crossed c k.book.lives } }
+
+-- several crossings, newest first
+abbrev pub all_crossed : List Crossing → Kept → Kept
+all_crossed [] k = k
+all_crossed (c ∷ cs) k = crossed c (all_crossed cs k)
+
+-- a host was told something
+abbrev pub told : Host → Notice → Kept → Kept
+told h n k = record {
+  book = record k.book { notices = k.book.notices ++ record { host = h; place = length k.book.crossings; notice = n } ∷ []; lives = lives_told h n k.book.lives };
+  handed = handed_told n k.handed;
+}
+
+abbrev pub all_told : Host → List Notice → Kept → Kept
+all_told h [] k = k
+all_told h (n ∷ ns) k = all_told h ns (told h n k)
+
+abbrev pub contacts_asked : Host → ℕ → Request → List Called
+contacts_asked h place (request.Contact peer) = record { host = h; place = place; peer = peer } ∷ []
+contacts_asked h place r = []
+
+-- the user of a host asked for something, and wasn't refused
+abbrev pub asked : Host → Request → Kept → Kept
+asked h r k = record {
+  book = record k.book { contacts = k.book.contacts ++ contacts_asked h (length k.book.crossings) r; lives = lives_asked h r k.book.lives };
+  handed = handed_asked h r k.book.lives k.handed;
+}

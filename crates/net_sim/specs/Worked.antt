@@ -1,0 +1,110 @@
+-- Small books and small worlds: words for worked examples.
+use Rattle.std.specs.Prelude.{ℕ, Bool, true, false, List, [], ◌∷◌, replicate}
+use Rattle.leader1822.specs.Calls.{Seen, ShowsOffer, ShowsTake, ShowsStep, ShowsRound}
+use Rattle.leader1822.specs.Host.{Host}
+use Rattle.leader1822.specs.declared.crossing.Answer.TheVariants as answer
+use Rattle.leader1822.specs.declared.crossing.Crossing.{Crossing}
+use Rattle.leader1822.specs.declared.crossing.Crossing.TheVariants as crossing
+use Rattle.leader1822.specs.declared.message.HostMessage.{HostMessage}
+use Rattle.sockets.specs.Pairs.{opening_state}
+use Rattle.sockets.specs.declared.notice.Notice.TheVariants as notice
+use Rattle.sockets.specs.declared.request.Request.TheVariants as request
+use Rattle.sockets.specs.Worked.{first, second, on_link}
+use Rattle.net_sim.specs.Book.{Life, Kept, Told, opening_kept, all_crossed, told, asked}
+use Rattle.net_sim.specs.World.{Calls, WorldState, opening_world, changed, served_at}
+
+-- ---- books
+
+-- eight bits, four bits
+abbrev pub eight : List Bool
+eight = replicate 8 true
+
+abbrev pub four : List Bool
+four = replicate 4 false
+
+abbrev pub message : Host → Host → ℕ → HostMessage
+message from to link = record { flow = on_link from to link; text = eight }
+
+-- newest first: a control message of the first host to the second, and one back; both are taken and answered
+abbrev pub crossings : List Crossing
+crossings =
+    crossing.Answer answer.Rfnm (on_link second first 0) ∷ crossing.In (message second first 0) ∷ crossing.Answer answer.Rfnm (on_link first second 0)
+    ∷ crossing.Out (message second first 0) ∷ crossing.In (message first second 0) ∷ crossing.Out (message first second 0) ∷ []
+
+-- after them a connection is open from the second's socket 33 to the first's socket 16
+abbrev pub opened : Kept
+opened =
+    told first (notice.Opened 16 second 33 0 4) (told second (notice.Opened 33 first 16 2 1) (all_crossed crossings opening_kept))
+
+-- and two messages and 100 bits are granted, eight bits are handed over, sent and taken, and one message and 4 bits are returned
+abbrev pub used : Kept
+used =
+    told first (notice.Returned 16 1 4) (told first (notice.Arrived 16 eight) (told second (notice.Sent 33 eight)
+    (asked second (request.Send 33 eight) (asked first (request.Grant 16 2 100) opened))))
+
+-- the lives that begin so
+abbrev pub receiver : Life
+receiver = record {
+  host = first;
+  socket = 16;
+  peer = second;
+  foreign = 33;
+  own_stamp = 0;
+  partner_stamp = 4;
+  bits = [];
+  messages = 0;
+  granted = record { messages = 0; bits = 0 };
+  returned = record { messages = 0; bits = 0 };
+  ended = false;
+}
+
+abbrev pub sender : Life
+sender = record {
+  host = second;
+  socket = 33;
+  peer = first;
+  foreign = 16;
+  own_stamp = 2;
+  partner_stamp = 1;
+  bits = [];
+  messages = 0;
+  granted = record { messages = 0; bits = 0 };
+  returned = record { messages = 0; bits = 0 };
+  ended = false;
+}
+
+-- and as they are at last
+abbrev pub taker : Life
+taker = record receiver { bits = eight; messages = 1; granted = record { messages = 2; bits = 100 }; returned = record { messages = 1; bits = 4 } }
+
+abbrev pub giver : Life
+giver = record sender { bits = eight; messages = 1 }
+
+abbrev pub over : Life → Life
+over x = record x { ended = true }
+
+-- who was told when
+abbrev pub stamp_of : Told → Host × ℕ
+stamp_of n = (n.host, n.place)
+
+-- ---- worlds
+
+-- a carrier of which no more is known than what it shows
+abbrev pub any_carrier : Calls Seen
+any_carrier = record { seen = λ s. s; offers = ShowsOffer; takes = ShowsTake; steps = ShowsStep; rounds = ShowsRound }
+
+-- two hosts that nobody has spoken to
+abbrev pub fresh : WorldState Seen
+fresh = opening_world any_carrier (record { hosts = first ∷ second ∷ []; log = []; stopped = false })
+
+-- the second is down
+abbrev pub down : WorldState Seen
+down = changed fresh.carrier (crossing.Down second ∷ []) fresh
+
+-- the first's user has asked for a contact
+abbrev pub busy : WorldState Seen
+busy = served_at first (request.Contact second) (opening_state first) fresh
+
+-- memory has run out
+abbrev pub halted : WorldState Seen
+halted = record fresh { stopped = true }

@@ -1,0 +1,239 @@
+-- Hosts with their programs over a carrier, whatever it is made of, and each event of them.
+use Rattle.std.specs.Prelude.{◌≡◌, ◌⊎◌, ℕ, ◌||◌, Bool, true, false, if◌then◌else◌, zero, suc, List, [], ◌∷◌, map, filter, length, find, nat_lt, Option, Some, None, Result, Ok, Err, is_some}
+use Rattle.std.specs.Bool.{MatchBool}
+use Rattle.leader1822.specs.Calls.{Seen, crossing_of, step_crossings, is_memory, is_halt}
+use Rattle.leader1822.specs.Host.{Host, same_host}
+use Rattle.leader1822.specs.declared.carrier.CarrierFault.{CarrierFault}
+use Rattle.leader1822.specs.declared.carrier.CarrierFault.TheVariants as fault
+use Rattle.leader1822.specs.declared.crossing.Crossing.{Crossing}
+use Rattle.leader1822.specs.declared.crossing.Crossing.TheVariants as crossing
+use Rattle.leader1822.specs.declared.crossing.Inbound.{Inbound}
+use Rattle.leader1822.specs.declared.event.NetEvent.{NetEvent}
+use Rattle.leader1822.specs.declared.message.HostMessage.{HostMessage}
+use Rattle.sockets.specs.Accepting.{accepted}
+use Rattle.sockets.specs.Pairs.{NcpState, opening_state}
+use Rattle.sockets.specs.Requests.{refusal, served, served_notices}
+use Rattle.sockets.specs.Sending.{next_out, offered}
+use Rattle.sockets.specs.declared.fault.NcpFault.{NcpFault}
+use Rattle.sockets.specs.declared.fault.NcpFault.TheVariants as problem
+use Rattle.sockets.specs.declared.notice.Notice.{Notice}
+use Rattle.sockets.specs.declared.request.Request.{Request}
+use Rattle.net_sim.specs.Book.{Kept, opening_kept, crossed, all_crossed, all_told, asked}
+
+-- what a carrier shows, and how each of its calls may go
+pub record Calls (C : Type 0) : Type 1 where
+  pub seen : C → Seen
+  pub offers : C → HostMessage → Result (Unit {0}) CarrierFault → C → Type 0
+  pub takes : C → Host → Result (Option Inbound) CarrierFault → C → Type 0
+  pub steps : C → NetEvent → Result (Unit {0}) CarrierFault → C → Type 0
+  pub rounds : C → Result (Unit {0}) CarrierFault → C → Type 0
+
+-- what may happen
+pub data Event : Type 0 where
+  -- something inside the network, or to a host
+  Net : (event : NetEvent) → Event
+  -- a quiet round of the network
+  Quiet : Event
+  -- a host's next message goes to the network
+  Offer : (host : Host) → Event
+  -- a host takes what came for it
+  Take : (host : Host) → Event
+  -- a host's user asks for something
+  Ask : (host : Host) → (request : Request) → Event
+
+-- why an event is refused: by the world or its carrier, or by the host's program
+pub data WorldFault : Type 0 where
+  Carrier : CarrierFault → WorldFault
+  Program : NcpFault → WorldFault
+
+-- ---- the hosts
+
+-- a host of the network, and its program while it is up
+pub record Seat : Type 0 where
+  pub host : Host
+  pub program : Option NcpState
+
+abbrev pub opening_seats : List Host → List Seat
+opening_seats hosts = map (λ h. record { host = h; program = Some (opening_state h) }) hosts
+
+abbrev pub seat_of : Host → List Seat → Option Seat
+seat_of h seats = find (λ s. same_host h s.host) seats
+
+abbrev pub with_program : Bool → Option NcpState → Seat → Seat
+with_program here program s = if here then record { host = s.host; program = program } else s
+
+-- a host's program is now this one
+abbrev pub seated : Host → Option NcpState → List Seat → List Seat
+seated h program seats = map (λ s. with_program (same_host h s.host) program s) seats
+
+-- a host that stops loses its program, and one that starts has a new one
+abbrev pub turned : Crossing → List Seat → List Seat
+turned (crossing.Down h) seats = seated h None seats
+turned (crossing.Up h) seats = seated h (Some (opening_state h)) seats
+turned c seats = seats
+
+-- several crossings, newest first
+abbrev pub all_turned : List Crossing → List Seat → List Seat
+all_turned [] seats = seats
+all_turned (c ∷ cs) seats = turned c (all_turned cs seats)
+
+-- ---- the world
+
+-- the carrier, the hosts in the carrier's order, what is kept of them, and whether want of memory has stopped all
+pub record WorldState (C : Type 0) : Type 0 where
+  pub carrier : C
+  pub seats : List Seat
+  pub kept : Kept
+  pub stopped : Bool
+
+-- over a carrier that hasn't been used
+abbrev pub opening_world : {C : Type 0} → Calls C → C → WorldState C
+opening_world calls c = record { carrier = c; seats = opening_seats (calls.seen c).hosts; kept = opening_kept; stopped = false }
+
+-- the carrier is as a call left it, and nothing else changed
+abbrev pub with_carrier : {C : Type 0} → C → WorldState C → WorldState C
+with_carrier c w = record w { carrier = c }
+
+-- a host's program after this crossing, and what it told, at a world whose carrier is now this one
+abbrev pub moved : {C : Type 0} → C → Host → Crossing → NcpState × List Notice → WorldState C → WorldState C
+moved c h x turn w = record w { carrier = c; seats = seated h (Some turn.0) w.seats; kept = all_told h turn.1 (crossed x w.kept) }
+
+-- after crossings of the network itself, newest first
+abbrev pub changed : {C : Type 0} → C → List Crossing → WorldState C → WorldState C
+changed c crossings w = record w { carrier = c; seats = all_turned crossings w.seats; kept = all_crossed crossings w.kept }
+
+-- after something that a user asked for
+abbrev pub served_at : {C : Type 0} → Host → Request → NcpState → WorldState C → WorldState C
+served_at h r s w = record w { seats = seated h (Some (served s r)) w.seats; kept = all_told h (served_notices s r) (asked h r w.kept) }
+
+-- ---- how an event ends
+
+abbrev pub wants_memory : WorldFault → Bool
+wants_memory (Carrier f) = is_memory f
+wants_memory (Program problem.OutOfMemory) = true
+wants_memory (Program f) = false
+
+-- it is refused, and nothing changes
+abbrev pub Refuses : {C : Type 0} → WorldFault → WorldState C → Result (Unit {0}) WorldFault → WorldState C → Type 0
+Refuses f old r new = (r ≡ Err f) × (new ≡ old)
+
+-- it is done
+abbrev pub Does : {C : Type 0} → WorldState C → Result (Unit {0}) WorldFault → WorldState C → Type 0
+Does done r new = (r ≡ Ok tt) × (new ≡ done)
+
+-- want of memory stops the world, with its carrier as its last call left it. What is kept stands as it was
+pub record Halts {C : Type 0} (c : C) (old : WorldState C) (r : Result (Unit {0}) WorldFault) (new : WorldState C) : Type 0 where
+  pub fault : WorldFault
+  pub answer : r ≡ Err fault
+  pub memory : wants_memory fault ≡ true
+  pub carrier : new.carrier ≡ c
+  pub kept : new.kept ≡ old.kept
+  pub stopped : new.stopped ≡ true
+
+-- the carrier refused: so does the world, and want of memory stops both
+abbrev pub Passes : {C : Type 0} → CarrierFault → C → WorldState C → Result (Unit {0}) WorldFault → WorldState C → Type 0
+Passes e c old r new = (r ≡ Err (Carrier e)) × (new ≡ record old { carrier = c; stopped = is_memory e })
+
+-- ---- one event
+
+-- the carrier took the message, or not
+abbrev pub OfferEnds : {C : Type 0} → Host → NcpState → HostMessage → Result (Unit {0}) CarrierFault → C → WorldState C → Result (Unit {0}) WorldFault → WorldState C → Type 0
+OfferEnds h s m (Ok done) c old r new = Does (moved c h (crossing.Out m) (offered s (length old.kept.book.crossings)) old) r new ⊎ Halts c old r new
+OfferEnds h s m (Err e) c old r new = Passes e c old r new
+
+-- a host's next message goes out, if it has one. Memory may run out before the carrier is asked
+abbrev pub OfferGives : {C : Type 0} → Calls C → Host → NcpState → Option HostMessage → WorldState C → Result (Unit {0}) WorldFault → WorldState C → Type 0
+OfferGives calls h s None old r new = Does old r new
+OfferGives {C} calls h s (Some m) old r new =
+    Halts old.carrier old r new ⊎ ((answer : Result (Unit {0}) CarrierFault) × (c : C) × calls.offers old.carrier m answer c × OfferEnds h s m answer c old r new)
+
+-- the carrier gave something, nothing, or refused
+abbrev pub TakeEnds : {C : Type 0} → Host → NcpState → Result (Option Inbound) CarrierFault → C → WorldState C → Result (Unit {0}) WorldFault → WorldState C → Type 0
+TakeEnds h s (Ok None) c old r new = Does (with_carrier c old) r new
+TakeEnds h s (Ok (Some i)) c old r new = Does (moved c h (crossing_of i) (accepted s i (length old.kept.book.crossings)) old) r new ⊎ Halts c old r new
+TakeEnds h s (Err e) c old r new = Passes e c old r new
+
+abbrev pub TakeGives : {C : Type 0} → Calls C → Host → NcpState → WorldState C → Result (Unit {0}) WorldFault → WorldState C → Type 0
+TakeGives {C} calls h s old r new = (answer : Result (Option Inbound) CarrierFault) × (c : C) × calls.takes old.carrier h answer c × TakeEnds h s answer c old r new
+
+abbrev pub NetEnds : {C : Type 0} → Seen → NetEvent → Result (Unit {0}) CarrierFault → C → WorldState C → Result (Unit {0}) WorldFault → WorldState C → Type 0
+NetEnds seen e (Ok done) c old r new = Does (changed c (step_crossings seen e) old) r new ⊎ Halts c old r new
+NetEnds seen e (Err f) c old r new = Passes f c old r new
+
+abbrev pub QuietEnds : {C : Type 0} → Result (Unit {0}) CarrierFault → C → WorldState C → Result (Unit {0}) WorldFault → WorldState C → Type 0
+QuietEnds (Ok done) c old r new = Does (with_carrier c old) r new
+QuietEnds (Err f) c old r new = Passes f c old r new
+
+-- a user's request is refused by the program, or served
+abbrev pub AskGives : {C : Type 0} → Host → Request → NcpState → Option NcpFault → WorldState C → Result (Unit {0}) WorldFault → WorldState C → Type 0
+AskGives h q s (Some f) old r new = Refuses (Program f) old r new
+AskGives h q s None old r new = Does (served_at h q s old) r new ⊎ Halts old.carrier old r new
+
+-- a host that isn't there and one that is down are refused before anything else
+abbrev pub AtProgram : {C : Type 0} → (NcpState → Type 0) → Option NcpState → WorldState C → Result (Unit {0}) WorldFault → WorldState C → Type 0
+AtProgram Gives None old r new = Refuses (Carrier fault.IsDown) old r new
+AtProgram Gives (Some s) old r new = Gives s
+
+abbrev pub AtSeat : {C : Type 0} → (NcpState → Type 0) → Option Seat → WorldState C → Result (Unit {0}) WorldFault → WorldState C → Type 0
+AtSeat Gives None old r new = Refuses (Carrier fault.NoSuch) old r new
+AtSeat Gives (Some seat) old r new = AtProgram Gives seat.program old r new
+
+abbrev pub EventGives : {C : Type 0} → Calls C → WorldState C → Event → Result (Unit {0}) WorldFault → WorldState C → Type 0
+EventGives {C} calls old (Net e) r new = (answer : Result (Unit {0}) CarrierFault) × (c : C) × calls.steps old.carrier e answer c × NetEnds (calls.seen old.carrier) e answer c old r new
+EventGives {C} calls old Quiet r new = (answer : Result (Unit {0}) CarrierFault) × (c : C) × calls.rounds old.carrier answer c × QuietEnds answer c old r new
+EventGives calls old (Offer h) r new = AtSeat (λ s. OfferGives calls h s (next_out s) old r new) (seat_of h old.seats) old r new
+EventGives calls old (Take h) r new = AtSeat (λ s. TakeGives calls h s old r new) (seat_of h old.seats) old r new
+EventGives calls old (Ask h q) r new = AtSeat (λ s. AskGives h q s (refusal s q) old r new) (seat_of h old.seats) old r new
+
+-- after want of memory nothing is done any more
+abbrev pub StepGives : {C : Type 0} → Calls C → WorldState C → Event → Result (Unit {0}) WorldFault → WorldState C → Type 0
+StepGives calls old e r new = MatchBool old.stopped (Refuses (Carrier fault.Stopped) old r new) (EventGives calls old e r new)
+
+-- ---- several events
+
+abbrev pub stops : Result (Unit {0}) WorldFault → Bool
+stops (Ok done) = false
+stops (Err (Carrier f)) = is_memory f || is_halt f
+stops (Err (Program f)) = wants_memory (Program f)
+
+-- one event after the other: a refused one is passed over, and want of memory ends it
+abbrev pub Runs : {C : Type 0} → Calls C → WorldState C → List Event → Result (Unit {0}) WorldFault → WorldState C → Type 0
+Runs calls old [] r new = Does old r new
+Runs {C} calls old (e ∷ events) r new =
+    (answer : Result (Unit {0}) WorldFault) × (mid : WorldState C) × StepGives calls old e answer mid × MatchBool (stops answer) ((r ≡ answer) × (new ≡ mid)) (Runs calls mid events r new)
+
+abbrev pub RunGives : {C : Type 0} → Calls C → WorldState C → List Event → Result (Unit {0}) WorldFault → WorldState C → Type 0
+RunGives calls old events r new = MatchBool old.stopped (Refuses (Carrier fault.Stopped) old r new) (Runs calls old events r new)
+
+-- an event again and again, at most so many times, until nothing crosses by it
+abbrev pub Repeats : {C : Type 0} → Calls C → Event → ℕ → WorldState C → Result (Unit {0}) WorldFault → WorldState C → Type 0
+Repeats calls e zero old r new = Does old r new
+Repeats {C} calls e (suc times) old r new =
+    (answer : Result (Unit {0}) WorldFault) × (mid : WorldState C) × StepGives calls old e answer mid
+    × MatchBool (stops answer) ((r ≡ answer) × (new ≡ mid))
+    (MatchBool (nat_lt (length old.kept.book.crossings) (length mid.kept.book.crossings)) (Repeats calls e times mid r new) (Does mid r new))
+
+-- each of these hosts takes up to 16 times, and then offers up to 32 times
+abbrev pub TurnsOf : {C : Type 0} → Calls C → List Host → WorldState C → Result (Unit {0}) WorldFault → WorldState C → Type 0
+TurnsOf calls [] old r new = Does old r new
+TurnsOf {C} calls (h ∷ hosts) old r new =
+    (first : Result (Unit {0}) WorldFault) × (taken : WorldState C) × Repeats calls (Take h) 16 old first taken
+    × MatchBool (stops first) ((r ≡ first) × (new ≡ taken))
+    ((second : Result (Unit {0}) WorldFault) × (sent : WorldState C) × Repeats calls (Offer h) 32 taken second sent
+    × MatchBool (stops second) ((r ≡ second) × (new ≡ sent)) (TurnsOf calls hosts sent r new))
+
+-- the hosts that are up, in order
+abbrev pub up_in : List Seat → List Host
+up_in seats = map (λ s. s.host) (filter (λ s. is_some s.program) seats)
+
+-- so many times: a quiet round, and then each host that is up
+abbrev pub Calms : {C : Type 0} → Calls C → ℕ → WorldState C → Result (Unit {0}) WorldFault → WorldState C → Type 0
+Calms calls zero old r new = Does old r new
+Calms {C} calls (suc times) old r new =
+    (first : Result (Unit {0}) WorldFault) × (quiet : WorldState C) × StepGives calls old Quiet first quiet
+    × MatchBool (stops first) ((r ≡ first) × (new ≡ quiet))
+    ((second : Result (Unit {0}) WorldFault) × (turned : WorldState C) × TurnsOf calls (up_in quiet.seats) quiet second turned
+    × MatchBool (stops second) ((r ≡ second) × (new ≡ turned)) (Calms calls times turned r new))
+
+abbrev pub CalmGives : {C : Type 0} → Calls C → ℕ → WorldState C → Result (Unit {0}) WorldFault → WorldState C → Type 0
+CalmGives calls times old r new = MatchBool old.stopped (Refuses (Carrier fault.Stopped) old r new) (Calms calls times old r new)

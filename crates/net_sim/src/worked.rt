@@ -1,0 +1,143 @@
+//! Worked examples of books and worlds. The functions here do nothing: each clause is a row, computed over the definitions.
+
+ghost use Rattle.std.specs.Prelude.{◌≡◌, ℕ, List, [], ◌∷◌, ◌++◌, Some, None, Ok, Err, Result, map, false, true};
+ghost use Rattle.leader1822.specs.Calls.{Seen};
+ghost use Rattle.leader1822.specs.Messages.{SafeMessages};
+ghost use Rattle.leader1822.specs.declared.carrier.CarrierFault.TheVariants as fault;
+ghost use Rattle.leader1822.specs.declared.crossing.Answer.TheVariants as answer;
+ghost use Rattle.leader1822.specs.declared.crossing.Crossing.TheVariants as crossing;
+ghost use Rattle.leader1822.specs.declared.event.NetEvent.TheVariants as event;
+ghost use Rattle.net_sim.specs.Book.{opening_kept, told, asked, crossed, all_crossed};
+ghost use Rattle.net_sim.specs.Safe.{SafeBook, SafePartners, SafeStreams, SafeGrants, Match, own_request, partner_request, last_out, before, control_flow};
+ghost use Rattle.net_sim.specs.Worked.{eight, four, crossings, message, opened, used, receiver, sender, taker, giver, over, any_carrier, fresh, down, busy, halted, stamp_of};
+ghost use Rattle.net_sim.specs.World.{WorldState, WorldFault, Carrier, Program, Net, Quiet, Offer, Take, Ask, StepGives, RunGives, all_turned, seat_of, up_in, served_at, changed};
+ghost use Rattle.sockets.specs.Pairs.{opening_state};
+ghost use Rattle.sockets.specs.Requests.{served};
+ghost use Rattle.sockets.specs.Worked.{first, second, third, on_link};
+ghost use Rattle.sockets.specs.declared.fault.NcpFault.TheVariants as problem;
+ghost use Rattle.sockets.specs.declared.notice.Notice.TheVariants as notice;
+ghost use Rattle.sockets.specs.declared.request.Request.TheVariants as request;
+
+/// What becomes of a life.
+pub fn worked_lives()
+    // one begins at each host when its end is open, in the order in which they are told
+    ensures opened { opened.book.lives ≡ sender ∷ receiver ∷ [] }
+
+    // it has what was sent or taken, what was granted and what was returned
+    ensures used { used.book.lives ≡ giver ∷ taker ∷ [] }
+    ensures more { (told first (notice.Arrived 16 four) (asked first (request.Grant 16 1 10) used)).book.lives ≡ giver ∷ record taker { bits = eight ++ four; messages = 2; granted = record { messages = 3; bits = 110 } } ∷ [] }
+    ensures returned_again { (told first (notice.Returned 16 1 6) used).book.lives ≡ giver ∷ record taker { returned = record { messages = 2; bits = 10 } } ∷ [] }
+
+    // what is told to one host is about its own sockets
+    ensures own_socket { (told second (notice.Arrived 16 four) used).book.lives ≡ giver ∷ taker ∷ [] }
+
+    // it ends with its end, and the partner's life goes on until it is told too
+    ensures ended { (told first (notice.Ended 16 second 33) used).book.lives ≡ giver ∷ over taker ∷ [] }
+
+    // an end of the same socket with another partner isn't meant
+    ensures another_end { (told first (notice.Ended 16 second 35) used).book.lives ≡ giver ∷ taker ∷ [] }
+    ensures another_peer { (told first (notice.Ended 16 third 33) used).book.lives ≡ giver ∷ taker ∷ [] }
+
+    // it ends with a reset of its pair at its host, whichever of the two that is
+    ensures reset { (told second (notice.PairReset first) used).book.lives ≡ over giver ∷ taker ∷ [] }
+    ensures another_pair { (told second (notice.PairReset third) used).book.lives ≡ giver ∷ taker ∷ [] }
+    ensures contact_failed { (told second (notice.ContactFailed first) used).book.lives ≡ giver ∷ taker ∷ [] }
+
+    // it ends with its host, which ends no life of another
+    ensures down { (crossed (crossing.Down first) used).book.lives ≡ giver ∷ over taker ∷ [] }
+    ensures up { (crossed (crossing.Up first) used).book.lives ≡ giver ∷ taker ∷ [] }
+
+    // what comes later belongs to a new life of the socket, and not to the one that has ended
+    ensures again { (told first (notice.Arrived 16 four) (told first (notice.Opened 16 second 33 7 8) (told first (notice.Ended 16 second 33) opened))).book.lives ≡ sender ∷ over receiver ∷ record receiver { own_stamp = 7; partner_stamp = 8; bits = four; messages = 1 } ∷ [] }
+    ensures granted_again { (asked first (request.Grant 16 2 100) (told first (notice.PairReset second) opened)).book.lives ≡ sender ∷ over receiver ∷ [] }
+{}
+
+/// What else a book has, and what was handed over.
+pub fn worked_books()
+    // one list of bits for each life, in their order; nothing is handed over in a receiving life
+    ensures handed { used.handed ≡ eight ∷ [] ∷ [] }
+    ensures handed_more { (asked second (request.Send 33 four) used).handed ≡ (eight ++ four) ∷ [] ∷ [] }
+    ensures handed_anew { (asked second (request.Send 33 four) (told second (notice.Opened 33 first 16 7 8) (told second (notice.Ended 33 first 16) used))).handed ≡ eight ∷ [] ∷ four ∷ [] }
+
+    // bits that are handed over aren't sent yet
+    ensures unsent { (asked second (request.Send 33 four) used).book.lives ≡ giver ∷ taker ∷ [] }
+
+    // a notice stands behind the crossing that it comes of, in its order
+    ensures notices { map stamp_of used.book.notices ≡ (second, 6) ∷ (first, 6) ∷ (second, 6) ∷ (first, 6) ∷ (first, 6) ∷ [] }
+    ensures placed { map (λ n. n.place) (told first (notice.Ready second) (crossed (crossing.Up first) used)).book.notices ≡ 6 ∷ 6 ∷ 6 ∷ 6 ∷ 6 ∷ 7 ∷ [] }
+
+    // a contact stands in it with its host, its peer and its place, and no other request does
+    ensures contact { (asked second (request.Contact first) used).book.contacts ≡ record { host = second; place = 6; peer = first } ∷ [] }
+    ensures others { (asked second (request.Echo first 65) used).book.contacts ≡ [] }
+
+    // the crossings stand in it, the newest first
+    ensures crossings { used.book.crossings ≡ crossings }
+{}
+
+/// Which request a life is about.
+pub fn worked_requests()
+    // a request is named by where it went out: the partner's by the last message of the peer on link 0 before it was taken
+    ensures own { own_request taker ≡ record { place = 0; own = 16; foreign = 33 } }
+    ensures partner { (partner_request crossings taker ≡ Some (own_request giver)) × (partner_request crossings giver ≡ Some (own_request taker)) }
+
+    // a message of another flow isn't meant, nor a later one
+    ensures another_link { last_out (control_flow first second) (crossing.Out (message first second 2) ∷ crossings) ≡ Some 0 }
+    ensures another_way { last_out (control_flow second first) crossings ≡ Some 2 }
+    ensures later { partner_request (crossing.Out (message second first 0) ∷ crossings) taker ≡ Some (own_request giver) }
+
+    // the In itself isn't before its place
+    ensures before { before 4 crossings ≡ crossing.Answer answer.Rfnm (on_link first second 0) ∷ crossing.Out (message second first 0) ∷ crossing.In (message first second 0) ∷ crossing.Out (message first second 0) ∷ [] }
+
+    // where the peer has said nothing there is none
+    ensures none { partner_request [] taker ≡ None }
+{}
+
+/// Which books aren't safe: each has one thing wrong with the book of a connection on which a message was taken.
+pub fn unsafe_books()
+    // a message is taken twice
+    ensures twice { SafeBook (crossing.In (message first second 0) ∷ crossings) [] [] → ⊥ }
+
+    // more is taken, or sent, than was granted less what was returned
+    ensures granted_bits { SafeBook crossings (giver ∷ record taker { granted = record { messages = 2; bits = 11 } } ∷ []) (eight ∷ [] ∷ []) → ⊥ }
+    ensures granted_messages { SafeBook crossings (giver ∷ record taker { granted = record { messages = 1; bits = 100 } } ∷ []) (eight ∷ [] ∷ []) → ⊥ }
+    ensures sent_bits { SafeBook crossings (record giver { bits = eight ++ eight } ∷ record taker { granted = record { messages = 2; bits = 19 } } ∷ []) ((eight ++ eight) ∷ [] ∷ []) → ⊥ }
+
+    // one request opens two ends
+    ensures own_twice { SafeBook crossings (giver ∷ taker ∷ taker ∷ []) (eight ∷ [] ∷ [] ∷ []) → ⊥ }
+    ensures partner_twice { SafeBook crossings (giver ∷ taker ∷ record receiver { own_stamp = 7 } ∷ []) (eight ∷ [] ∷ [] ∷ []) → ⊥ }
+
+    // a receiver has a partner that has another
+    ensures one_way { SafeBook crossings (record giver { partner_stamp = 0 } ∷ taker ∷ []) (eight ∷ [] ∷ []) → ⊥ }
+
+    // something is sent that wasn't handed over, or not in that order
+    ensures unhanded { SafeBook crossings (giver ∷ taker ∷ []) (four ∷ [] ∷ []) → ⊥ }
+    ensures too_few { SafeBook crossings (giver ∷ taker ∷ []) (eight ∷ []) → ⊥ }
+
+    // a receiver takes what nobody sent
+    ensures from_nobody { SafeBook crossings (taker ∷ []) ([] ∷ []) → ⊥ }
+    ensures other_bits { SafeBook crossings (record giver { bits = four } ∷ taker ∷ []) (four ∷ [] ∷ []) → ⊥ }
+{}
+
+/// Why an event is refused, and what it does.
+pub fn worked_worlds()
+    // a host that isn't there and one that is down come before what the program says
+    ensures nobody { (r : Result (Unit {0}) WorldFault) (new : WorldState Seen) → StepGives any_carrier fresh (Ask third (request.Echo second 65)) r new → (r ≡ Err (Carrier fault.NoSuch)) × (new ≡ fresh) }
+    ensures is_down { (r : Result (Unit {0}) WorldFault) (new : WorldState Seen) → StepGives any_carrier down (Ask second (request.Echo first 65)) r new → (r ≡ Err (Carrier fault.IsDown)) × (new ≡ down) }
+    ensures refused { (r : Result (Unit {0}) WorldFault) (new : WorldState Seen) → StepGives any_carrier fresh (Ask second (request.Echo first 65)) r new → (r ≡ Err (Program problem.NotContacted)) × (new ≡ fresh) }
+
+    // after want of memory nothing comes before Stopped
+    ensures stopped { (r : Result (Unit {0}) WorldFault) (new : WorldState Seen) → StepGives any_carrier halted (Ask third (request.Echo second 65)) r new → (r ≡ Err (Carrier fault.Stopped)) × (new ≡ halted) }
+
+    // a host that has nothing to say offers nothing
+    ensures nothing { (r : Result (Unit {0}) WorldFault) (new : WorldState Seen) → StepGives any_carrier fresh (Offer first) r new → (r ≡ Ok tt) × (new ≡ fresh) }
+
+    // a host that stops has no program, and its user's connections are over; one that starts has a new program
+    ensures stops { (seat_of second down.seats ≡ Some (record { host = second; program = None })) × (up_in down.seats ≡ first ∷ []) }
+    ensures starts { seat_of second (changed fresh.carrier (crossing.Up second ∷ []) down).seats ≡ Some (record { host = second; program = Some (opening_state second) }) }
+    ensures both { up_in (changed fresh.carrier (crossing.Down second ∷ crossing.Down first ∷ []) fresh).seats ≡ [] }
+    ensures anew { seat_of first (changed fresh.carrier (crossing.Up first ∷ crossing.Down first ∷ []) busy).seats ≡ Some (record { host = first; program = Some (opening_state first) }) }
+
+    // what a user asks for stands in the book before what it is told of it, and changes its own host alone
+    ensures asked { busy.kept.book.contacts ≡ record { host = first; place = 0; peer = second } ∷ [] }
+    ensures served { (seat_of first busy.seats ≡ Some (record { host = first; program = Some (served (opening_state first) (request.Contact second)) })) × (seat_of second busy.seats ≡ seat_of second fresh.seats) }
+{}
