@@ -57,6 +57,25 @@ within_by a size bytes count e lt false z =
 bits_within : (size count n : ℕ) → count ≤ n / size → size * count ≤ n
 bits_within size count n le = omega (arith, mul-le-mul_left size le, mul-div-le n size)
 
+sendable_at : (a : Allocation) (size bytes : ℕ) → (b : Bool) → (a.messages == 0) ≡ b → (counters.may_send a size bytes ≤ bytes) × (counters.may_send a size bytes ≤ 8023 / size)
+sendable_at a size bytes true z = rw z (omega arith, omega arith)
+sendable_at a size bytes false z =
+    rw z (
+      omega (arith, min-le_left bytes (min (a.bits / size) (8023 / size))),
+      omega (arith, min-le_right bytes (min (a.bits / size) (8023 / size)), min-le_right (a.bits / size) (8023 / size)),
+    )
+
+-- what an end may send has room in one message, and is there
+pub within_message : (e : Entry) (size : ℕ) → e.size ≡ Some size → size * sendable e ≤ 8023
+within_message e size z =
+    let n : sendable e ≡ counters.may_send e.allocation size (length e.bits / size) = ap (λ (s : Option ℕ). sendable_by s e) z in
+    rw n (bits_within size _ 8023 (sendable_at e.allocation size (length e.bits / size) (e.allocation.messages == 0) refl).1)
+
+pub within_bits : (e : Entry) (size : ℕ) → e.size ≡ Some size → size * sendable e ≤ length e.bits
+within_bits e size z =
+    let n : sendable e ≡ counters.may_send e.allocation size (length e.bits / size) = ap (λ (s : Option ℕ). sendable_by s e) z in
+    rw n (bits_within size _ (length e.bits) (sendable_at e.allocation size (length e.bits / size) (e.allocation.messages == 0) refl).0)
+
 -- ---- data
 
 some_is : {A : Type 0} (x y : A) → Some x ≡ Some y → x ≡ y

@@ -1,5 +1,6 @@
 pub mod Phases
 pub mod Entries
+pub mod Queue
 pub mod Pair
 pub mod Pairs
 pub mod Peers

@@ -1,14 +1,20 @@
 -- Whom a request is about, and what may go out of a pair: words for the laws of one host.
-use Rattle.std.specs.Prelude.{◌≡◌, ℕ, ◌*◌, ◌<◌, ◌≤◌, Bool, true, false, List, [], ◌∷◌, length, if◌then◌else◌, Option, Some, None, is_some}
+use Rattle.std.specs.Prelude.{◌≡◌, map, take, ℕ, ◌*◌, ◌<◌, ◌≤◌, Bool, true, false, List, [], ◌∷◌, length, if◌then◌else◌, Option, Some, None, is_some}
 use Rattle.leader1822.specs.Host.{Host, same_host}
+use Rattle.leader1822.specs.declared.message.HostMessage.{HostMessage}
 use Rattle.ncp_control.specs.Packing.{packed_count}
+use Rattle.ncp_control.specs.declared.command.Command.{Command}
+use Rattle.ncp_control.specs.declared.command.Command.TheVariants as command
+use Rattle.sockets.specs.Control.{Legal, orders_of}
 use Rattle.sockets.specs.Entries.{is_receiving, is_open, is_answered, is_busy}
 use Rattle.sockets.specs.Pair.{PairState}
 use Rattle.sockets.specs.Pairs.{NcpState, listens_on, owner_of}
 use Rattle.sockets.specs.Phases.{is_want}
+use Rattle.sockets.specs.Queue.{are_joint}
 use Rattle.sockets.specs.Sending.{Parcel, Reset, Reply, Commands, Bytes}
 use Rattle.sockets.specs.declared.entry.Entry.{Entry}
 use Rattle.sockets.specs.declared.notice.Notice.{Notice}
+use Rattle.sockets.specs.declared.peer.Peer.{Peer}
 use Rattle.sockets.specs.declared.notice.Notice.TheVariants as notice
 use Rattle.sockets.specs.declared.phase.Phase.TheVariants as phase
 use Rattle.sockets.specs.declared.request.Request.{Request}
@@ -98,3 +104,25 @@ MayGo q Reset = MayReset q
 MayGo q Reply = MayReply q
 MayGo q (Commands count) = MaySpeak q × MayCommand q count
 MayGo q (Bytes e size count) = MaySpeak q × MaySend q e size count
+
+-- ---- what is read again
+
+-- the commands in the message that this goes out in
+abbrev pub commands_of : PairState → Parcel → List Command
+commands_of q Reset = command.Rst ∷ []
+commands_of q Reply = command.Rrp ∷ []
+commands_of q (Commands count) = take count q.queue
+commands_of q (Bytes e size count) = []
+
+-- whoever takes a control message reads just these commands in it; and with others goes neither an RST nor an RRP
+abbrev pub IsReadAs : PairState → Parcel → List Bool → Type 0
+IsReadAs q Reset text = orders_of text ≡ map Legal (commands_of q Reset)
+IsReadAs q Reply text = orders_of text ≡ map Legal (commands_of q Reply)
+IsReadAs q (Commands count) text = (orders_of text ≡ map Legal (commands_of q (Commands count))) × (are_joint q.queue ≡ true)
+IsReadAs q (Bytes e size count) text = Unit {0}
+
+-- the message of what goes out to a peer
+abbrev pub IsReadFrom : Option (Peer × Parcel) → Option HostMessage → Type 0
+IsReadFrom None message = Unit {0}
+IsReadFrom (Some found) None = ⊥
+IsReadFrom (Some found) (Some m) = IsReadAs found.0.pair found.1 m.text

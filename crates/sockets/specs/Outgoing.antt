@@ -1,5 +1,7 @@
 -- What goes out next, as the program names it: an end by its place.
-use Rattle.std.specs.Prelude.{ℕ, ◌<◌, List, length, slice_index_or}
+use Rattle.std.specs.Prelude.{◌≡◌, ℕ, ◌*◌, ◌<◌, ◌≤◌, List, length, slice_index_or}
+use Rattle.ncp_control.specs.Packing.{packed_count}
+use Rattle.ncp_control.specs.declared.command.Command.{Command}
 use Rattle.sockets.specs.Entries.{new_entry}
 use Rattle.sockets.specs.Sending.{Parcel, Reset, Reply, Commands, Bytes}
 use Rattle.sockets.specs.declared.entry.Entry.{Entry}
@@ -22,3 +24,10 @@ IsThere entries outgoing.Reset = Unit {0}
 IsThere entries outgoing.Reply = Unit {0}
 IsThere entries (outgoing.Commands count) = Unit {0}
 IsThere entries (outgoing.Bytes at size count) = at < length entries
+
+-- one message holds it: as many commands as have room together, and no more bits than wait and than one message has room for
+abbrev pub HasRoom : List Entry → List Command → Outgoing → Type 0
+HasRoom entries queue outgoing.Reset = Unit {0}
+HasRoom entries queue outgoing.Reply = Unit {0}
+HasRoom entries queue (outgoing.Commands count) = count ≡ packed_count queue
+HasRoom entries queue (outgoing.Bytes at size count) = (size * count ≤ 8023) × (size * count ≤ length (end_at entries at).bits)

@@ -2,6 +2,7 @@
 //! ALL, GVB, INR, INS, ECO and RST go out by them).
 
 ghost use Rattle.std.specs.Prelude.{◌≡◌, ◌++◌, ◌∷◌, [], false, OnOk, IfOk};
+ghost use Rattle.ncp_control.specs.Command.{is_alone};
 ghost use Rattle.sockets.specs.Calls.{IsRefused, IsServed};
 ghost use Rattle.sockets.specs.Commands.{granted};
 ghost use Rattle.sockets.specs.Pairs.{pair_with};
@@ -38,6 +39,7 @@ impl Ncp {
 
     /// A new end with a peer, and its request.
     fn request(&mut self, peer: HostAddr, entry: Entry, command: Command) -> Result<(), AllocError>
+        requires joint { is_alone command ≡ false }
         ensures { OnOk result (self.new ≡ with_peer self.old peer (requests.requested entry command)) }
     {
         let mut pair = self.peers.take(self.alloc, peer);
@@ -47,6 +49,7 @@ impl Ncp {
 
     /// A command waits to go out to a peer.
     fn command(&mut self, peer: HostAddr, command: Command) -> Result<(), AllocError>
+        requires joint { is_alone command ≡ false }
         ensures { OnOk result (self.new ≡ with_peer self.old peer (requests.commanded command)) }
     {
         let mut pair = self.peers.take(self.alloc, peer);
@@ -72,6 +75,7 @@ impl Ncp {
         bits: u32,
         command: Command,
     ) -> Result<(), AllocError>
+        requires joint { is_alone command ≡ false }
         ensures { OnOk result (self.new ≡ with_peer self.old peer (λ q. requests.commanded command (with_end socket (granted messages bits) q))) }
     {
         let mut pair = self.peers.take(self.alloc, peer);

@@ -1,8 +1,8 @@
 //! The connections of an opened pair, while something of the peer or of the user is done to them.
 
-ghost use Rattle.std.specs.Prelude.{◌≡◌, ◌++◌, ◌∷◌, [], OnOk, ◌<◌, OnErr};
+ghost use Rattle.std.specs.Prelude.{◌≡◌, ◌++◌, ◌∷◌, [], OnOk, ◌<◌, OnErr, false};
 ghost use Rattle.sockets.specs.Memory.{said};
-ghost use Rattle.ncp_control.specs.Command.{spelling};
+ghost use Rattle.ncp_control.specs.Command.{is_alone, spelling};
 ghost use Rattle.sockets.specs.Control.{error};
 ghost use Rattle.sockets.specs.Commands.{faulted, joined};
 ghost use Rattle.sockets.specs.Pairs.{queued, told};
@@ -10,6 +10,7 @@ ghost use Rattle.sockets.specs.Pairs.{queued, told};
 use crate::Notice;
 use crate::entry::Entry;
 use crate::listener::Listener;
+use crate::queue::Queue;
 use ncp_control::Command;
 use std::alloc::{AllocError, Global};
 use std::marker::Model;
@@ -19,7 +20,7 @@ use std::marker::Model;
 #[derive(Drop)]
 pub(crate) struct Desk {
     pub entries: Vec<Entry>,
-    pub queue: Vec<Command>,
+    pub queue: Queue,
     pub listening: Vec<Listener>,
     pub notices: Vec<Notice>,
 }
@@ -29,17 +30,17 @@ impl Model for Desk {
 
     ghost Value = { DeskState };
 
-    ghost view = { λ d. record { entries = d.entries.items; queue = d.queue.items; listening = d.listening.items; notices = d.notices.items } };
+    ghost view = { λ d. record { entries = d.entries.items; queue = d.queue; listening = d.listening.items; notices = d.notices.items } };
 }
 
 impl Desk {
     /// Puts a command behind those that wait.
     pub(crate) fn queue(&mut self, command: Command) -> Result<(), AllocError>
+        requires joint { is_alone command ≡ false }
         ensures state { OnOk result (self.new ≡ queued command self.old) }
         ensures memory { OnErr result (said self.old < said (queued command self.old)) }
     {
-        self.queue.push(command)?;
-        Ok(())
+        self.queue.push(command)
     }
 
     /// Tells the user something.

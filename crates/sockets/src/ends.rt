@@ -10,6 +10,7 @@ ghost use Rattle.sockets.specs.Entries.{is_at, entry_at, sends_on, receives_on, 
 
 use crate::Notice;
 use crate::entry::{Closing, Entry};
+use crate::queue::Queue;
 use leader1822::HostAddr;
 use ncp_control::{ByteSize, Command, ConnectionLink};
 use std::alloc::{AllocError, Global};
@@ -221,10 +222,10 @@ pub(crate) fn spend(entries: &mut [Entry], link: u8, bits: u32)
 pub(crate) fn queue_closings(
     entries: &[Entry],
     busy: &[u8],
-    queue: &mut Vec<Command>,
+    queue: &mut Queue,
 ) -> Result<(), AllocError>
-    ensures state { OnOk result (queue.new.items ≡ queue.old.items ++ map cls_of (filter (must_close busy.now) entries.now)) }
-    ensures memory { OnErr result (length queue.old.items < length (queue.old.items ++ map cls_of (filter (must_close busy.now) entries.now))) }
+    ensures state { OnOk result (queue.new ≡ queue.old ++ map cls_of (filter (must_close busy.now) entries.now)) }
+    ensures memory { OnErr result (length queue.old < length (queue.old ++ map cls_of (filter (must_close busy.now) entries.now))) }
 {
     for entry in entries {
         if entry.must_close(busy) {

@@ -1,6 +1,6 @@
 //! What the going out of a parcel changes in the connections of a pair (NIC 8246, RTS, STR and CLS).
 
-ghost use Rattle.std.specs.Prelude.{◌≡◌, ◌≤◌, ◌<◌, OnOk, OnErr, drop, length, take};
+ghost use Rattle.std.specs.Prelude.{◌≡◌, ◌≤◌, ◌<◌, OnOk, OnErr, length, take};
 ghost use Rattle.ncp_control.specs.declared.command.Command.TheVariants as command;
 ghost use Rattle.sockets.specs.Sending as sending;
 
@@ -9,16 +9,6 @@ use crate::ends::{ask, send_cls};
 use leader1822::HostAddr;
 use ncp_control::Command;
 use std::alloc::AllocError;
-
-/// So many commands from the front, or all of them, wait no longer.
-#[tactic(auto, using(std::proofs::lemmas::List::drop_min))]
-fn drop_front(queue: &mut Vec<Command>, count: usize)
-    ensures { queue.new.items ≡ drop count queue.old.items }
-{
-    for _done in 0..count.min(queue.len()) {
-        let _ = queue.remove(0);
-    }
-}
 
 impl Desk {
     /// A request of this host has gone out, and the connection may be open by it.
@@ -81,10 +71,10 @@ impl Desk {
         ensures listening { OnOk result (self.new.listening ≡ self.old.listening) }
     {
         for at in 0..count.min(self.queue.len()) {
-            let command = self.queue[at];
+            let command = self.queue.as_slice()[at];
             self.command_gone(peer, stamp, command)?;
         }
-        drop_front(&mut self.queue, count);
+        self.queue.drop_front(count);
         Ok(())
     }
 }

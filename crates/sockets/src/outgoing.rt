@@ -2,9 +2,10 @@
 //! within the allocation).
 
 ghost use Rattle.std.specs.Prelude.{◌≡◌, ◌==◌, if◌then◌else◌, length, MatchOption, IfSome, Some, None, List, filter, find, position, slice_index_or};
-ghost use Rattle.sockets.specs.Outgoing.{IsThere, parcel_of};
+ghost use Rattle.sockets.specs.Outgoing.{HasRoom, IsThere, parcel_of};
 ghost use Rattle.sockets.specs.Sending as sending;
 ghost use Rattle.sockets.specs.Sending.{may_send_on};
+ghost use Rattle.ncp_control.specs.declared.command.Command.{Command};
 ghost use Rattle.sockets.specs.declared.entry.Entry.{Entry};
 
 use crate::entry::{Entry, is_answered, is_busy};
@@ -103,9 +104,11 @@ fn first_sending(entries: &[Entry], busy: &[u8], link: u8) -> Option<usize>
 }
 
 /// Of the ends that may send, that with the lowest link does.
+#[tactic(auto, using(crate::proofs::ParcelLemmas::within_message, crate::proofs::ParcelLemmas::within_bits))]
 fn next_bytes(entries: &[Entry], busy: &[u8]) -> Option<Outgoing>
     ensures next { MatchOption result (sending.next_bytes busy.now entries.now ≡ None) (λ out. sending.next_bytes busy.now entries.now ≡ Some (parcel_of entries.now out)) }
     ensures there { IfSome result (IsThere entries.now) }
+    ensures room { (queue : List Command) → IfSome result (HasRoom entries.now queue) }
 {
     let link = lowest_link(entries, busy)?;
     let at = sending_place(entries, busy, link)?;
@@ -123,10 +126,11 @@ impl Pair {
     fn next_of_ready(&self) -> Option<Outgoing>
         ensures next { MatchOption result (sending.next_of_ready self.now ≡ None) (λ out. sending.next_of_ready self.now ≡ Some (parcel_of self.now.entries out)) }
         ensures there { IfSome result (IsThere self.now.entries) }
+        ensures room { IfSome result (HasRoom self.now.entries self.now.queue) }
     {
         if !self.queue.is_empty() && !is_busy(&self.busy, 0) {
             return Some(Outgoing::Commands {
-                count: packed_count(&self.queue),
+                count: packed_count(self.queue.as_slice()),
             });
         }
         next_bytes(&self.entries, &self.busy)
@@ -137,6 +141,7 @@ impl Pair {
     pub(crate) fn next(&self) -> Option<Outgoing>
         ensures next { MatchOption result (sending.next_of self.now ≡ None) (λ out. sending.next_of self.now ≡ Some (parcel_of self.now.entries out)) }
         ensures there { IfSome result (IsThere self.now.entries) }
+        ensures room { IfSome result (HasRoom self.now.entries self.now.queue) }
     {
         if self.phase.is_want() {
             return self.if_silent(Outgoing::Reset);

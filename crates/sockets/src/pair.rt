@@ -5,7 +5,7 @@ ghost use Rattle.sockets.specs.Pair.{opening_pair, is_opening};
 
 use crate::entry::Entry;
 use crate::phase::Phase;
-use ncp_control::Command;
+use crate::queue::Queue;
 use std::alloc::Global;
 use std::marker::Model;
 
@@ -22,7 +22,7 @@ pub struct Pair {
     /// The ends of connections with the peer, the oldest first.
     pub entries: Vec<Entry>,
     /// The commands that wait to go out, the oldest first.
-    pub queue: Vec<Command>,
+    pub queue: Queue,
 }
 
 impl Model for Pair {
@@ -30,7 +30,7 @@ impl Model for Pair {
 
     ghost Value = { PairState };
 
-    ghost view = { λ p. record { phase = p.phase; owed = p.owed; busy = p.busy.items; entries = p.entries.items; queue = p.queue.items } };
+    ghost view = { λ p. record { phase = p.phase; owed = p.owed; busy = p.busy.items; entries = p.entries.items; queue = p.queue } };
 }
 
 impl Pair {
@@ -43,7 +43,7 @@ impl Pair {
             owed: false,
             busy: Vec::new(alloc),
             entries: Vec::new(alloc),
-            queue: Vec::new(alloc),
+            queue: Queue::new(alloc),
         }
     }
 

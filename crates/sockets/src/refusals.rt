@@ -1,6 +1,6 @@
 //! Why a request of the user is refused.
 
-ghost use Rattle.std.specs.Prelude.{◌≡◌, MatchResult, Option, Some, None, is_some, ℕ};
+ghost use Rattle.std.specs.Prelude.{◌≡◌, MatchResult, Option, Some, None, is_some, ℕ, IfOk, false};
 ghost use Rattle.sockets.specs.Pairs.{pair_with, owner_of};
 ghost use Rattle.sockets.specs.Phases.{is_ready};
 ghost use Rattle.sockets.specs.Requests as requests;
@@ -8,6 +8,7 @@ ghost use Rattle.sockets.specs.Requests.{at_owner, with_peer, interrupt_of};
 ghost use Rattle.sockets.specs.Sending.{link_of};
 ghost use Rattle.sockets.specs.Pair.{PairState};
 ghost use Rattle.sockets.specs.Entries.{entry_at, free_link};
+ghost use Rattle.ncp_control.specs.Command.{is_alone};
 ghost use Rattle.ncp_control.specs.declared.command.Command.{Command};
 ghost use Rattle.sockets.specs.declared.entry.Entry.{Entry};
 ghost use Rattle.sockets.specs.declared.fault.NcpFault.{NcpFault};
@@ -191,7 +192,8 @@ impl Ncp {
 
     /// The peer that is interrupted, and the command that does it.
     pub(crate) fn check_interrupt(&self, socket: u32) -> Result<(HostAddr, Command), NcpFault>
-        ensures { MatchResult result (λ found. (requests.interrupt_refusal self.now socket ≡ None) × ((change : Command → PairState → PairState) → at_owner self.now (owner_of socket self.now.peers) (λ e. change (interrupt_of e)) ≡ with_peer self.now found.0 (change found.1))) (λ f. requests.interrupt_refusal self.now socket ≡ Some f) }
+        ensures joint { IfOk result (λ found. is_alone found.1 ≡ false) }
+        ensures checked { MatchResult result (λ found. (requests.interrupt_refusal self.now socket ≡ None) × ((change : Command → PairState → PairState) → at_owner self.now (owner_of socket self.now.peers) (λ e. change (interrupt_of e)) ≡ with_peer self.now found.0 (change found.1))) (λ f. requests.interrupt_refusal self.now socket ≡ Some f) }
     {
         let (peer, entry) = match self.open_end(socket) {
             Ok(found) => found,
@@ -256,7 +258,8 @@ impl Entry {
 
     /// The command that interrupts the other end.
     fn interrupt(&self) -> Command
-        ensures { result ≡ interrupt_of self.now }
+        ensures command { result ≡ interrupt_of self.now }
+        ensures joint { is_alone result ≡ false }
     {
         let link = self.link_number();
         if self.is_receiving() {

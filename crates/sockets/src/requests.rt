@@ -1,6 +1,7 @@
 //! What a request of the user does to a pair of hosts.
 
-ghost use Rattle.std.specs.Prelude.{◌≡◌, OnOk};
+ghost use Rattle.std.specs.Prelude.{◌≡◌, OnOk, false};
+ghost use Rattle.ncp_control.specs.Command.{is_alone};
 ghost use Rattle.sockets.specs.Commands.{granted};
 ghost use Rattle.sockets.specs.Entries.{called_off, changed_first, is_mine_on};
 ghost use Rattle.sockets.specs.Requests as requests;
@@ -10,6 +11,7 @@ use crate::ends::{close, own_place, queue_closings};
 use crate::entry::Entry;
 use crate::pair::Pair;
 use crate::phase::Phase;
+use crate::queue::Queue;
 use bit_messages::Bits;
 use ncp_control::Command;
 use std::alloc::{AllocError, Global};
@@ -58,24 +60,24 @@ impl Pair {
     {
         self.phase = Phase::Want;
         self.entries = Vec::new(alloc);
-        self.queue = Vec::new(alloc);
+        self.queue = Queue::new(alloc);
     }
 
     /// A new end, and its request.
     pub(crate) fn request(&mut self, entry: Entry, command: Command) -> Result<(), AllocError>
+        requires joint { is_alone command ≡ false }
         ensures { OnOk result (self.new ≡ requests.requested entry command self.old) }
     {
         self.entries.push(entry)?;
-        self.queue.push(command)?;
-        Ok(())
+        self.queue.push(command)
     }
 
     /// A command waits to go out.
     pub(crate) fn command(&mut self, command: Command) -> Result<(), AllocError>
+        requires joint { is_alone command ≡ false }
         ensures { OnOk result (self.new ≡ requests.commanded command self.old) }
     {
-        self.queue.push(command)?;
-        Ok(())
+        self.queue.push(command)
     }
 
     /// Bits of a socket wait to be sent.
@@ -93,6 +95,7 @@ impl Pair {
         bits: u32,
         command: Command,
     ) -> Result<(), AllocError>
+        requires joint { is_alone command ≡ false }
         ensures { OnOk result (self.new ≡ requests.commanded command (with_end socket (granted messages bits) self.old)) }
     {
         grant(&mut self.entries, socket, messages, bits);

@@ -12,6 +12,7 @@ use crate::desk::Desk;
 use crate::listener::Listener;
 use crate::pair::Pair;
 use crate::phase::Phase;
+use crate::queue::Queue;
 use bit_messages::Bits;
 use leader1822::{Answer, HostAddr};
 use ncp_control::Command;
@@ -53,7 +54,7 @@ impl Turn {
     {
         Desk {
             entries: mem::replace(&mut self.pair.entries, Vec::new(alloc)),
-            queue: mem::replace(&mut self.pair.queue, Vec::new(alloc)),
+            queue: mem::replace(&mut self.pair.queue, Queue::new(alloc)),
             listening: mem::replace(&mut self.listening, Vec::new(alloc)),
             notices: Vec::new(alloc),
         }
@@ -127,7 +128,7 @@ impl Turn {
         ensures { self.new ≡ record self.old { pair = record self.old.pair { entries = []; queue = [] } } }
     {
         self.pair.entries = Vec::new(alloc);
-        self.pair.queue = Vec::new(alloc);
+        self.pair.queue = Queue::new(alloc);
     }
 
     /// An RST of the peer is taken: all of the pair's connections are gone, and an RRP is owed.

@@ -4,5 +4,5 @@ use Rattle.sockets.proofs.ends.queue_closings.Given as goal
 
 abbrev pub invariant-loop-entry : goal.invariant-loop-entry
 invariant-loop-entry l =
-    (l.queue.items ++ map cls_of (filter (must_close l.busy) (drop l.entry-index l.entries)) ≡ l.fn.queue.items ++ map cls_of (filter (must_close l.busy) l.entries))
-    × (length l.fn.queue.items ≤ length l.queue.items)
+    (l.queue ++ map cls_of (filter (must_close l.busy) (drop l.entry-index l.entries)) ≡ l.fn.queue ++ map cls_of (filter (must_close l.busy) l.entries))
+    × (length l.fn.queue ≤ length l.queue)

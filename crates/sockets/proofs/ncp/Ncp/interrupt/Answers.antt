@@ -5,4 +5,4 @@ use Rattle.sockets.proofs.ncp.Ncp.interrupt.Goals as goal
 
 pub returns-clause-served : goal.returns-clause-served
 unfolding requests.served requests.served_notices
-returns-clause-served c = λ none. ended c.command-done.result c.end.result c.command-done.new.self c.end.new.self _ _ c.command-done.ensures (c.in_ok-peer.ensures.1 (λ (what : Command). requests.commanded what)) c.end.ensures
+returns-clause-served c = λ none. ended c.command-done.result c.end.result c.command-done.new.self c.end.new.self _ _ c.command-done.ensures (c.in_ok-peer.ensures.checked.1 (λ (what : Command). requests.commanded what)) c.end.ensures
