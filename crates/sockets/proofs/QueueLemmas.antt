@@ -1,5 +1,5 @@
 -- RST and RRP never wait.
-use Rattle.std.proofs.Common.{◌≡◌, ℕ, ◌++◌, ◌&&◌, Bool, true, false, not, List, [], ◌∷◌, drop, zero, suc, refl}
+use Rattle.std.proofs.Common.{◌≡◌, ℕ, ◌++◌, true, false, not, List, [], ◌∷◌, drop, zero, suc, refl}
 use Rattle.std.proofs.lemmas.List.Folds.{list_all-append}
 use Rattle.ncp_control.specs.Command.{is_alone}
 use Rattle.ncp_control.specs.declared.command.Command.{Command}
