@@ -730,6 +730,29 @@ fn a_host_that_stops_gives_dead(rt: HostRuntime) -> Result<(), Fail> {
     Ok(())
 }
 
+/// Which of the hosts 0, 1 and 2 are up.
+fn up(imp: &Imp) -> [bool; 3] {
+    [imp.is_up(0), imp.is_up(1), imp.is_up(2)]
+}
+
+/// Which are up at an IMP with two hosts: as it opens, once host 1 has stopped, and once it has started.
+fn up_in_turn(alloc: Global) -> Result<[[bool; 3]; 3], CarrierFault> {
+    let mut imp = opened(alloc, 1, 0)?;
+    let opening = up(&imp);
+    imp.host_down(1)?;
+    let stopped = up(&imp);
+    imp.host_up(1)?;
+    Ok([opening, stopped, up(&imp)])
+}
+
+#[test]
+fn a_host_is_up_until_it_stops(rt: HostRuntime) -> Result<(), Fail> {
+    let both = [true, true, false];
+    let first_alone = [true, false, false];
+    assert_eq!(rt; up_in_turn(rt.alloc())?, [both, first_alone, both]);
+    Ok(())
+}
+
 #[test]
 fn a_host_comes_up_once_its_messages_are_settled(rt: HostRuntime) -> Result<(), Fail> {
     let own = here(4);
