@@ -4,3 +4,5 @@ pub mod Calls
 pub mod Offers
 pub mod Booked
 pub mod Unsafe
+pub mod SafeRow
+pub mod Refusals

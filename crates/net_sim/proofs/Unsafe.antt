@@ -15,13 +15,13 @@ one_there : (x y : Life) → Contains (x ∷ []) y → x ≡ y
 one_there x y (zero, lt, e) = e
 one_there x y (suc k, lt, e) = absurd (omega (arith, lt))
 
-two_there : (x y z : Life) → Contains (x ∷ y ∷ []) z → (x ≡ z) ⊎ (y ≡ z)
+pub two_there : (x y z : Life) → Contains (x ∷ y ∷ []) z → (x ≡ z) ⊎ (y ≡ z)
 two_there x y z (zero, lt, e) = inl e
 two_there x y z (suc zero, lt, e) = inr e
 two_there x y z (suc (suc k), lt, e) = absurd (omega (arith, lt))
 
 -- the receiving life is none that sends
-not_sending : (x : Life) → sends taker ≡ sends x → sends x ≡ true → ⊥
+pub not_sending : (x : Life) → sends taker ≡ sends x → sends x ≡ true → ⊥
 not_sending x same s = let both : false ≡ true = same ∙ s in absurd (cc)
 
 -- ---- messages

@@ -1,7 +1,7 @@
 //! What follows for hosts that run the network control program, whatever carries their messages. The functions here
 //! do nothing: each clause is a law.
 
-ghost use Rattle.std.specs.Prelude.{◌≡◌, ℕ, true, List, [], Some, Result, is_some};
+ghost use Rattle.std.specs.Prelude.{◌≡◌, ℕ, true, List, [], Some, Result, Err, is_some};
 ghost use Rattle.leader1822.specs.Host.{Host, same_host};
 ghost use Rattle.leader1822.specs.declared.address.Flow.{Flow};
 ghost use Rattle.leader1822.specs.declared.crossing.Answer.{Answer};
@@ -52,6 +52,9 @@ pub fn resets()
 pub fn books<C: Carrier>()
     // over a carrier that hasn't been used
     ensures opening { (c : C) → (C.seen c).log ≡ [] → IsBooked C.seen (opening_world (shown (record { seen = C.seen; offers = C.offers; takes = C.takes; steps = C.steps; rounds = C.rounds })) c) }
+
+    // an event that is refused, or in which memory runs out, leaves the book and what was handed over as they were
+    ensures refused { (old new : WorldState C) (e : Event) (r : Result (Unit {0}) WorldFault) (f : WorldFault) → r ≡ Err f → StepGives (shown (record { seen = C.seen; offers = C.offers; takes = C.takes; steps = C.steps; rounds = C.rounds })) old e r new → new.kept ≡ old.kept }
 
     // one event, a list of events, and so many quiet rounds with all that the hosts take and say between them
     ensures step { (old new : WorldState C) (e : Event) (r : Result (Unit {0}) WorldFault) → IsBooked C.seen old → StepGives (shown (record { seen = C.seen; offers = C.offers; takes = C.takes; steps = C.steps; rounds = C.rounds })) old e r new → IsBooked C.seen new }

@@ -1,7 +1,10 @@
-//! Hosts that talk over a carrier.
+//! Hosts with their programs over a carrier, and the book of all that happens to them.
 //!
-//! Each host's program (crate `sockets`) is tied here to the law of resets (crate `reset_law`): each of its calls is
-//! a step that the law allows.
+//! A world runs the program of each host (crate `sockets`) over any carrier (crate `leader1822`). Here it is defined, with
+//! its book and what that book is to promise of all connections. Proved are the promise's part about messages, for every
+//! carrier, and that each call of a host's program is a step that the law of resets (crate `reset_law`) allows.
+//!
+//! There is no code yet: the laws and the rows are the contracts of functions that do nothing.
 #![tactic(auto)]
 
 pub mod law;

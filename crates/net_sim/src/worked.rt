@@ -92,6 +92,11 @@ pub fn worked_requests()
     ensures none { partner_request [] taker ≡ None }
 {}
 
+/// The book of a connection on which a message was taken is safe: so the safe book can be.
+pub fn safe_books()
+    ensures { SafeBook crossings (giver ∷ taker ∷ []) (eight ∷ [] ∷ []) }
+{}
+
 /// Which books aren't safe: each has one thing wrong with the book of a connection on which a message was taken.
 pub fn unsafe_books()
     // a message is taken twice

@@ -1,0 +1,5 @@
+use Rattle.net_sim.proofs.SafeRow.{safe}
+use Rattle.net_sim.proofs.worked.safe_books.Goals as goal
+
+pub returns : goal.returns
+returns c = safe
