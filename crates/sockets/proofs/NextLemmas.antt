@@ -1,5 +1,5 @@
 -- The peer that something goes to stands among the peers with its pair.
-use Rattle.std.proofs.Common.{◌≡◌, ℕ, ◌<◌, Bool, true, false, List, [], ◌∷◌, Option, Some, None, refl, ap, subst, arith, eq-eqb}
+use Rattle.std.proofs.Common.{◌≡◌, ℕ, ◌<◌, Bool, true, false, List, [], ◌∷◌, Option, Some, None, refl, ap, subst, arith}
 use Rattle.leader1822.specs.Host.{Host, same_host, address_octet}
 use Rattle.sockets.specs.Outgoing.{IsThere, parcel_of}
 use Rattle.sockets.specs.Pairs.{pair_with}
@@ -7,14 +7,11 @@ use Rattle.sockets.specs.Peers.{StandAbove, AreInOrder}
 use Rattle.sockets.specs.Sending.{Parcel, next_of, next_in}
 use Rattle.sockets.specs.declared.outgoing.Outgoing.{Outgoing}
 use Rattle.sockets.specs.declared.peer.Peer.{Peer}
-use Rattle.sockets.proofs.PeerLemmas.{same_octet}
+use Rattle.sockets.proofs.PeerLemmas.{same_octet, same_self}
 
 abbrev peer_or : Peer → Option (Peer × Parcel) → Peer
 peer_or d None = d
 peer_or d (Some found) = found.0
-
-same_self : (h : Host) → same_host h h ≡ true
-same_self h = rw (eq-eqb h.imp h.imp refl, eq-eqb h.host h.host refl) refl
 
 above_at : (n : ℕ) (q : Peer) (qs : List Peer) (p : Peer) (x : Parcel) → StandAbove n (q ∷ qs)
     → ((m : ℕ) → StandAbove m qs → next_in qs ≡ Some (p, x) → m < address_octet p.host)

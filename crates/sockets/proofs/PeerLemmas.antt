@@ -208,6 +208,68 @@ put_again h q ps s false e = rw e (placed_again 0 (record { host = h; pair = q }
 pub with_pair_again : (h : Host) (q : PairState) (ps : List Peer) → StandAbove 0 ps → with_pair h q (without_peer h ps) ≡ with_pair h q ps
 with_pair_again h q ps s = put_again h q ps s (is_opening q) refl
 
+-- ---- what is left in a peer's place
+
+pub same_self : (h : Host) → same_host h h ≡ true
+same_self h = rw (eq-eqb h.imp h.imp refl, eq-eqb h.host h.host refl) refl
+
+abbrev peer_at : Host → PairState → Peer
+peer_at h q = record { host = h; pair = q }
+
+placed_over : (h : Host) (o q : PairState) (ps : List Peer) → placed (peer_at h q) (peer_at h o ∷ ps) ≡ peer_at h q ∷ ps
+placed_over h o q ps = rw (not_less (address_octet h) (address_octet h) (omega arith), same_self h) refl
+
+placed_step : (h : Host) (o q : PairState) (p : Peer) (ps : List Peer) → placed (peer_at h q) (placed (peer_at h o) ps) ≡ placed (peer_at h q) ps
+    → (below same : Bool) → nat_lt (address_octet p.host) (address_octet h) ≡ below → same_host h p.host ≡ same
+    → placed (peer_at h q) (placed (peer_at h o) (p ∷ ps)) ≡ placed (peer_at h q) (p ∷ ps)
+placed_step h o q p ps rest true same e f =
+    rw e (let more : placed (peer_at h q) (p ∷ placed (peer_at h o) ps) ≡ p ∷ placed (peer_at h q) ps = rw e (ap (λ (qs : List Peer). p ∷ qs) rest) in more)
+placed_step h o q p ps rest false true e f = rw (e, f) (placed_over h o q ps)
+placed_step h o q p ps rest false false e f = rw (e, f) (placed_over h o q (p ∷ ps))
+
+placed_twice : (h : Host) (o q : PairState) (ps : List Peer) → placed (peer_at h q) (placed (peer_at h o) ps) ≡ placed (peer_at h q) ps
+placed_twice h o q [] = placed_over h o q []
+placed_twice h o q (p ∷ ps) = placed_step h o q p ps (placed_twice h o q ps) (nat_lt (address_octet p.host) (address_octet h)) (same_host h p.host) refl refl
+
+without_over : (h : Host) (o : PairState) (ps : List Peer) → without_peer h (peer_at h o ∷ ps) ≡ without_peer h ps
+without_over h o ps = rw (same_self h) refl
+
+without_step : (h : Host) (o : PairState) (p : Peer) (ps : List Peer) → without_peer h (placed (peer_at h o) ps) ≡ without_peer h ps
+    → (below same : Bool) → nat_lt (address_octet p.host) (address_octet h) ≡ below → same_host h p.host ≡ same
+    → without_peer h (placed (peer_at h o) (p ∷ ps)) ≡ without_peer h (p ∷ ps)
+without_step h o p ps rest true true e f = rw (e, f) rest
+without_step h o p ps rest true false e f = rw (e, f) (ap (λ (qs : List Peer). p ∷ qs) rest)
+without_step h o p ps rest false true e f = rw (e, f) (without_over h o ps)
+without_step h o p ps rest false false e f = rw (e, f) (without_over h o (p ∷ ps) ∙ (let kept : without_peer h (p ∷ ps) ≡ p ∷ without_peer h ps = rw f refl in kept))
+
+without_placed : (h : Host) (o : PairState) (ps : List Peer) → without_peer h (placed (peer_at h o) ps) ≡ without_peer h ps
+without_placed h o [] = without_over h o []
+without_placed h o (p ∷ ps) = without_step h o p ps (without_placed h o ps) (nat_lt (address_octet p.host) (address_octet h)) (same_host h p.host) refl refl
+
+swapped_by : (h : Host) (o q : PairState) (ps : List Peer) → (b : Bool) → is_opening q ≡ b → with_pair h q (placed (peer_at h o) ps) ≡ with_pair h q ps
+swapped_by h o q ps true e = rw e (without_placed h o ps)
+swapped_by h o q ps false e = rw e (placed_twice h o q ps)
+
+-- what stood in a peer's place doesn't matter once the peer is put back
+pub again_swapped : (h : Host) (o q : PairState) (ps qs : List Peer) → qs ≡ placed (peer_at h o) ps → with_pair h q qs ≡ with_pair h q ps
+again_swapped h o q ps qs e = ap (λ (rs : List Peer). with_pair h q rs) e ∙ swapped_by h o q ps (is_opening q) refl
+
+more_step : (h : Host) (q : PairState) (p : Peer) (ps : List Peer) → find (λ (p : Peer). same_host h p.host) (p ∷ ps) ≡ None
+    → (find (λ (p : Peer). same_host h p.host) ps ≡ None → length ps < length (placed (peer_at h q) ps))
+    → (below same : Bool) → nat_lt (address_octet p.host) (address_octet h) ≡ below → same_host h p.host ≡ same → length (p ∷ ps) < length (placed (peer_at h q) (p ∷ ps))
+more_step h q p ps none rest below true e f = absurd (let some : Some p ≡ None = rw f at none in cc)
+more_step h q p ps none rest true false e f =
+    let later : find (λ (p : Peer). same_host h p.host) ps ≡ None = rw f at none in
+    let more : length ps < length (placed (peer_at h q) ps) = rest later in
+    rw e (omega (arith, more))
+more_step h q p ps none rest false false e f = rw (e, f) (omega arith)
+
+-- one host more is known
+pub missing_more : (h : Host) (q : PairState) (ps : List Peer) → find (λ (p : Peer). same_host h p.host) ps ≡ None → length ps < length (placed (record { host = h; pair = q }) ps)
+missing_more h q [] none = omega arith
+missing_more h q (p ∷ ps) none =
+    more_step h q p ps none (λ later. missing_more h q ps later) (nat_lt (address_octet p.host) (address_octet h)) (same_host h p.host) refl refl
+
 -- ---- the search
 
 each_above : (n : ℕ) (ps : List Peer) → StandAbove n ps → (j : ℕ) (d : Peer) → j < length ps → n < address_octet (slice_index_or ps j d).host

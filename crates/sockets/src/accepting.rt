@@ -1,11 +1,14 @@
 //! What comes in from the IMP: messages of peers, and answers to what this host has sent.
 
-ghost use Rattle.std.specs.Prelude.{◌≡◌, [], false, IfOk};
+ghost use Rattle.std.specs.Prelude.{◌≡◌, ◌+◌, ◌<◌, [], false, IfErr, IfOk, OnErr, length};
+ghost use Rattle.leader1822.specs.declared.crossing.Inbound.TheVariants as inbound;
 ghost use Rattle.sockets.specs.Accepting as accepting;
 ghost use Rattle.sockets.specs.Accepting.{TurnState};
 ghost use Rattle.sockets.specs.Calls.{Turns};
 ghost use Rattle.sockets.specs.Entries.{is_busy};
-ghost use Rattle.sockets.specs.Pairs.{pair_with};
+ghost use Rattle.sockets.specs.Memory.{newly_known, said_by_inbound};
+ghost use Rattle.sockets.specs.Pair.{PairState};
+ghost use Rattle.sockets.specs.Pairs.{pair_with, with_pair};
 
 use crate::entry::is_busy;
 use crate::ncp::Ncp;
@@ -19,6 +22,8 @@ impl Ncp {
     /// Takes what is known of a peer out, to be worked on.
     pub(crate) fn begin(&mut self, peer: HostAddr) -> Turn
         ensures turn { result ≡ accepting.turn_of self.old peer }
+        ensures known { length self.new.peers ≡ length self.old.peers }
+        ensures again { (pair : PairState) → with_pair peer pair self.new.peers ≡ with_pair peer pair self.old.peers }
         ensures rest { (turn : TurnState) → accepting.turned self.new peer turn ≡ accepting.turned self.old peer turn }
     {
         Turn {
@@ -30,7 +35,8 @@ impl Ncp {
 
     /// Puts what is known of a peer back, and gives what is told.
     pub(crate) fn finish(&mut self, peer: HostAddr, turn: Turn) -> Result<Vec<Notice>, AllocError>
-        ensures { IfOk result (λ notices. accepting.turned self.old peer turn ≡ (self.new, notices.items)) }
+        ensures state { IfOk result (λ notices. accepting.turned self.old peer turn ≡ (self.new, notices.items)) }
+        ensures memory { OnErr result (length self.old.peers < length (with_pair peer turn.pair self.old.peers)) }
     {
         let Turn {
             pair,
@@ -48,7 +54,8 @@ impl Ncp {
         message: &HostMessage,
         stamp: usize,
     ) -> Result<Vec<Notice>, AllocError>
-        ensures { IfOk result (λ notices. accepting.accepted_message self.old message.now stamp ≡ (self.new, notices.items)) }
+        ensures state { IfOk result (λ notices. accepting.accepted_message self.old message.now stamp ≡ (self.new, notices.items)) }
+        ensures memory { OnErr result (0 < said_by_inbound self.old (inbound.Message message.now) stamp + newly_known self.old (accepting.accepted_message self.old message.now stamp).0) }
     {
         let Flow {
             source,
@@ -75,7 +82,8 @@ impl Ncp {
 
     /// An answer comes in.
     fn accept_answer(&mut self, kind: Answer, flow: Flow) -> Result<Vec<Notice>, AllocError>
-        ensures { IfOk result (λ notices. accepting.accepted_answer self.old kind flow ≡ (self.new, notices.items)) }
+        ensures state { IfOk result (λ notices. accepting.accepted_answer self.old kind flow ≡ (self.new, notices.items)) }
+        ensures memory { OnErr result (0 < said_by_inbound self.old (inbound.Answer kind flow) 0 + newly_known self.old (accepting.accepted_answer self.old kind flow).0) }
     {
         let Flow {
             source,
@@ -94,11 +102,13 @@ impl Ncp {
     ///
     /// A message for another host, and an answer to a message that isn't out, change nothing.
     ///
-    /// Errors: `OutOfMemory`.
+    /// Errors: `OutOfMemory`, only where more is to be said than before, to a peer or to the user, or where a
+    /// host comes to be known.
     #[tactic(auto, unfolding(crate::specs::Accepting::accepted))]
     pub fn accept(&mut self, inbound: Inbound, stamp: usize) -> Result<Vec<Notice>, NcpFault>
         requires live { self.old.spent ≡ false }
         ensures turn { Turns (λ notices. notices.items) (accepting.accepted self.old inbound stamp) result self.new }
+        ensures memory { IfErr result (λ f. 0 < said_by_inbound self.old inbound stamp + newly_known self.old (accepting.accepted self.old inbound stamp).0) }
     {
         let done = match inbound {
             Inbound::Message(message) => self.accept_message(&message, stamp),

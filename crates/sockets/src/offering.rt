@@ -1,6 +1,6 @@
 //! What changes once the carrier has taken the message that goes out next.
 
-ghost use Rattle.std.specs.Prelude.{◌≡◌, false, IfOk, IfSome, MatchOption, None, Some};
+ghost use Rattle.std.specs.Prelude.{◌≡◌, false, true, is_some, IfErr, IfOk, OnErr, IfSome, MatchOption, None, Some};
 ghost use Rattle.sockets.specs.Calls.{Turns};
 ghost use Rattle.sockets.specs.Outgoing.{IsThere, parcel_of};
 ghost use Rattle.sockets.specs.Pairs.{pair_with};
@@ -32,7 +32,8 @@ impl Ncp {
     /// What goes out next has gone out.
     #[tactic(auto, unfolding(crate::specs::Sending::offered))]
     fn leave(&mut self, stamp: usize) -> Result<Vec<Notice>, AllocError>
-        ensures { IfOk result (λ notices. sending.offered self.old stamp ≡ (self.new, notices.items)) }
+        ensures state { IfOk result (λ notices. sending.offered self.old stamp ≡ (self.new, notices.items)) }
+        ensures memory { OnErr result (is_some (sending.next_in self.old.peers) ≡ true) }
     {
         let Some((host, out)) = self.peers.next() else {
             return Ok(Vec::new(self.alloc));
@@ -45,10 +46,11 @@ impl Ncp {
     /// Tells the program that the carrier has taken the message of [`Ncp::next_out`], with its place in the log:
     /// the link has a message outstanding, and what went out waits no longer. Returns what is told of it.
     ///
-    /// Errors: `OutOfMemory`, which leaves the program spent.
+    /// Errors: `OutOfMemory`, only where something goes out, and then the program is spent.
     pub fn offered(&mut self, stamp: usize) -> Result<Vec<Notice>, NcpFault>
         requires live { self.old.spent ≡ false }
         ensures turn { Turns (λ notices. notices.items) (sending.offered self.old stamp) result self.new }
+        ensures memory { IfErr result (λ f. is_some (sending.next_in self.old.peers) ≡ true) }
     {
         let done = self.leave(stamp);
         self.end(done)

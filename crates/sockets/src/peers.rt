@@ -1,6 +1,6 @@
 //! What a host knows of the others.
 
-ghost use Rattle.std.specs.Prelude.{◌≡◌, ◌<◌, ◌≤◌, [], OnOk, MatchResult, MatchOption, Some, None, length, find, true, false, nat_lt, slice_set, slice_index_or};
+ghost use Rattle.std.specs.Prelude.{◌≡◌, ◌<◌, ◌≤◌, [], OnOk, OnErr, MatchResult, MatchOption, Some, None, length, find, true, false, nat_lt, slice_set, slice_index_or};
 ghost use Rattle.std.specs.Bool.{OnTrue, OnFalse};
 ghost use Rattle.std.specs.List as lists;
 ghost use Rattle.std.specs.List.Sorted.{IsPartitionPoint};
@@ -17,6 +17,7 @@ use crate::peer::Peer;
 use leader1822::HostAddr;
 use std::alloc::{AllocError, Global};
 use std::marker::Model;
+use std::mem;
 
 /// The other hosts that this one has to do with, in order of their address octets. A host that isn't here has
 /// a pair as at the opening.
@@ -78,21 +79,20 @@ impl Peers {
         None
     }
 
-    /// Takes what is known of a peer out, to be changed and put back.
+    /// Takes what is known of a peer out, to be changed and put back: its place is kept, so a peer that was
+    /// known is put back without memory.
     pub fn take(&mut self, alloc: Global, host: HostAddr) -> Pair
         ensures pair { result ≡ pair_with host self.old }
-        ensures left { self.new ≡ without_peer host self.old }
+        ensures known { length self.new ≡ length self.old }
         ensures again { (pair : PairState) → with_pair host pair self.new ≡ with_pair host pair self.old }
     {
-        match remove(&mut self.peers, host) {
-            Some(peer) => peer.pair,
-            None => Pair::new(alloc),
-        }
+        swap(&mut self.peers, host, Pair::new(alloc))
     }
 
     /// Puts what is known of a peer in. One with a pair as at the opening isn't kept.
     pub fn put(&mut self, host: HostAddr, pair: Pair) -> Result<(), AllocError>
-        ensures { OnOk result (self.new ≡ with_pair host pair self.old) }
+        ensures state { OnOk result (self.new ≡ with_pair host pair self.old) }
+        ensures memory { OnErr result (length self.old < length (with_pair host pair self.old)) }
     {
         if pair.is_opening() {
             remove(&mut self.peers, host);
@@ -103,24 +103,45 @@ impl Peers {
 }
 
 /// Removes a host from the peers.
-fn remove(peers: &mut Vec<Peer>, host: HostAddr) -> Option<Peer>
+fn remove(peers: &mut Vec<Peer>, host: HostAddr)
     requires { AreInOrder peers.old.items }
     ensures left { peers.new.items ≡ without_peer host peers.old.items }
-    ensures found { MatchOption result (pair_with host peers.old.items ≡ opening_pair) (λ peer. pair_with host peers.old.items ≡ peer.pair) }
+    ensures order { AreInOrder peers.new.items }
+{
+    if let Ok(at) = place(peers, host) {
+        let _ = peers.remove(at);
+    }
+}
+
+/// Gives what is known of a host, and leaves a pair as at the opening in its place.
+fn swap(peers: &mut Vec<Peer>, host: HostAddr, opening: Pair) -> Pair
+    requires order { AreInOrder peers.old.items }
+    requires opening { opening ≡ opening_pair }
+    ensures found { result ≡ pair_with host peers.old.items }
+    ensures known { length peers.new.items ≡ length peers.old.items }
     ensures order { AreInOrder peers.new.items }
     ensures again { (pair : PairState) → with_pair host pair peers.new.items ≡ with_pair host pair peers.old.items }
 {
     match place(peers, host) {
-        Ok(at) => Some(peers.remove(at)),
-        Err(_) => None,
+        Ok(at) => mem::replace(
+            &mut peers[at],
+            Peer {
+                host,
+                pair: opening,
+            },
+        )
+        .pair,
+        Err(_) => opening,
     }
 }
 
 /// Puts a host among the peers, or in the place of what stood there of it.
+#[tactic(auto, using(crate::proofs::PeerLemmas::missing_more))]
 fn insert(peers: &mut Vec<Peer>, host: HostAddr, pair: Pair) -> Result<(), AllocError>
     requires { AreInOrder peers.old.items }
     ensures placed { OnOk result (peers.new.items ≡ placed (record { host = host; pair = pair }) peers.old.items) }
     ensures order { AreInOrder peers.new.items }
+    ensures memory { OnErr result (length peers.old.items < length (placed (record { host = host; pair = pair }) peers.old.items)) }
 {
     match place(peers, host) {
         Ok(at) => peers[at] = Peer { host, pair },

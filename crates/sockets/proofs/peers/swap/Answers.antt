@@ -1,0 +1,12 @@
+use Rattle.std.proofs.Common.{rules}
+use Rattle.leader1822.specs.Host.{IsAddress}
+use Rattle.sockets.proofs.PeerLemmas.{again_swapped, order_placed}
+use Rattle.sockets.proofs.peers.swap.Goals as goal
+
+pub returns-in-Ok-clause-order : goal.returns-in-Ok-clause-order
+returns-in-Ok-clause-order c =
+    let address : IsAddress c.args.host = search rules in
+    order_placed (record { host = c.args.host; pair = c.args.opening }) c.args.peers.now.items _ address c.requires.order (search rules)
+
+pub returns-in-Ok-clause-again : goal.returns-in-Ok-clause-again
+returns-in-Ok-clause-again c = λ pair. again_swapped c.args.host c.args.opening pair c.args.peers.now.items _ (search rules)
