@@ -1,7 +1,8 @@
 -- How a call ends that is served by what was done to a peer.
-use Rattle.std.proofs.Common.{◌≡◌, ℕ, true, false, List, [], Result, Ok, Err, OnOk, MatchResult, refl, sym, ◌∙◌}
+use Rattle.std.proofs.Common.{◌≡◌, ℕ, true, false, List, [], Result, Ok, Err, OnErr, OnOk, IfErr, MatchResult, ◌+◌, ◌<◌, subst, refl, sym, ◌∙◌}
 use Rattle.std.specs.declared.alloc.AllocError.{AllocError}
 use Rattle.sockets.specs.Calls.{IsSpent}
+use Rattle.sockets.specs.Memory.{newly_known}
 use Rattle.sockets.specs.Pairs.{NcpState, listens_on, owner_of}
 use Rattle.leader1822.specs.Host.{Host}
 use Rattle.sockets.specs.Requests.{at_owner, closed_end, closed_socket, with_peer}
@@ -21,3 +22,11 @@ ended (Err e) result mid new found target state is ends = rw (ends.0) (refl, end
 pub closed_found : (s : NcpState) (socket : ℕ) (peer : Host) → listens_on socket s.listening ≡ false
     → at_owner s (owner_of socket s.peers) (λ e. closed_end socket) ≡ with_peer s peer (closed_end socket) → closed_socket s socket ≡ with_peer s peer (closed_end socket)
 closed_found s socket peer silent is = rw silent is
+
+-- where memory ran out, what was to be served wants it
+pub wanted : (more : ℕ) (done : Result (Unit {0}) AllocError) (result : Result (Unit {0}) NcpFault) (mid new old found target : NcpState)
+    → OnErr done (0 < more + newly_known old found) → target ≡ found
+    → MatchResult done (λ x. (result ≡ Ok x) × (new ≡ mid)) (λ e. (result ≡ Err fault.OutOfMemory) × (new.spent ≡ true))
+    → IfErr result (λ f. 0 < more + newly_known old target)
+wanted more (Ok x) result mid new old found target memory is ends = rw (ends.0) tt
+wanted more (Err e) result mid new old found target memory is ends = rw (ends.0) (subst (λ (s : NcpState). 0 < more + newly_known old s) (sym is) memory)

@@ -1,10 +1,11 @@
 //! What a user may ask of the network control program (NIC 8246 leaves the calls to each host; RTS, STR, CLS,
 //! ALL, GVB, INR, INS, ECO and RST go out by them).
 
-ghost use Rattle.std.specs.Prelude.{◌≡◌, ◌++◌, ◌∷◌, [], false, OnOk, IfOk};
+ghost use Rattle.std.specs.Prelude.{◌≡◌, ◌+◌, ◌<◌, ◌++◌, ◌∷◌, [], false, IfErr, IfOk, None, OnErr, OnOk, length};
 ghost use Rattle.ncp_control.specs.Command.{is_alone};
 ghost use Rattle.sockets.specs.Calls.{IsRefused, IsServed};
 ghost use Rattle.sockets.specs.Commands.{granted};
+ghost use Rattle.sockets.specs.Memory.{newly_known};
 ghost use Rattle.sockets.specs.Pairs.{pair_with};
 ghost use Rattle.sockets.specs.Requests as requests;
 ghost use Rattle.sockets.specs.Requests.{with_end, with_more_bits, with_peer};
@@ -26,6 +27,7 @@ impl Ncp {
     fn reset(&mut self, peer: HostAddr) -> Result<Vec<Notice>, AllocError>
         ensures state { OnOk result (self.new ≡ with_peer self.old peer requests.contacted) }
         ensures notices { IfOk result (λ notices. notices.items ≡ requests.contact_notices peer (pair_with peer self.old.peers).phase) }
+        ensures memory { OnErr result (0 < length (requests.contact_notices peer (pair_with peer self.old.peers).phase) + newly_known self.old (with_peer self.old peer requests.contacted)) }
     {
         let mut notices = Vec::new(self.alloc);
         let mut pair = self.peers.take(self.alloc, peer);
@@ -59,7 +61,8 @@ impl Ncp {
 
     /// Bits of a socket wait to be sent to a peer.
     fn add_bits(&mut self, peer: HostAddr, socket: u32, bits: &Bits) -> Result<(), AllocError>
-        ensures { OnOk result (self.new ≡ with_peer self.old peer (with_end socket (with_more_bits bits.now))) }
+        ensures state { OnOk result (self.new ≡ with_peer self.old peer (with_end socket (with_more_bits bits.now))) }
+        ensures memory { OnErr result (0 < length bits.now + newly_known self.old (with_peer self.old peer (with_end socket (with_more_bits bits.now)))) }
     {
         let mut pair = self.peers.take(self.alloc, peer);
         pair.add_bits(socket, bits)?;
@@ -107,12 +110,13 @@ impl Ncp {
     /// Resets everything between this host and a peer: all connections with it are gone, and nothing can be
     /// said to it but RST and RRP until the notice `Ready`. Returns `PairReset` where the pair was ready.
     ///
-    /// Errors: `OutOfMemory`.
+    /// Errors: `OutOfMemory`, only where the pair was ready or the peer comes to be known.
     #[tactic(auto, unfolding(crate::specs::Requests::refusal, crate::specs::Requests::served, crate::specs::Requests::served_notices))]
     pub fn contact(&mut self, peer: HostAddr) -> Result<Vec<Notice>, NcpFault>
         requires live { self.old.spent ≡ false }
         ensures refused { IsRefused self.old (request.Contact peer) result self.new }
         ensures served { IsServed (λ notices. notices.items) self.old (request.Contact peer) result self.new }
+        ensures memory { IfErr result (λ f. 0 < length (requests.contact_notices peer (pair_with peer self.old.peers).phase) + newly_known self.old (requests.served self.old (request.Contact peer))) }
     {
         let done = self.reset(peer);
         self.end(done)
@@ -194,12 +198,13 @@ impl Ncp {
     ///
     /// Errors, the first that applies: `WrongEnd` for an even socket, `NoSuchSocket` where it has no own
     /// end, `NotOpen`, `BadSize` for bits that aren't whole bytes, `Closing` where this host has closed the
-    /// connection and it drains, `OutOfMemory`.
+    /// connection and it drains, `OutOfMemory` only where there are bits.
     #[tactic(auto, unfolding(crate::specs::Requests::refusal, crate::specs::Requests::served, crate::specs::Requests::served_notices))]
     pub fn send(&mut self, socket: u32, bits: Bits) -> Result<(), NcpFault>
         requires live { self.old.spent ≡ false }
         ensures refused { IsRefused self.old (request.Send socket bits) result self.new }
         ensures served { IsServed (λ _. []) self.old (request.Send socket bits) result self.new }
+        ensures memory { requests.refusal self.old (request.Send socket bits) ≡ None → IfErr result (λ f. 0 < length bits + newly_known self.old (requests.served self.old (request.Send socket bits))) }
     {
         let peer = self.check_send(socket, bits.len())?;
         let done = self.add_bits(peer, socket, &bits);

@@ -1,6 +1,6 @@
 //! What a request of the user does to a pair of hosts.
 
-ghost use Rattle.std.specs.Prelude.{◌≡◌, OnOk, false};
+ghost use Rattle.std.specs.Prelude.{◌≡◌, ◌<◌, OnErr, OnOk, false, length};
 ghost use Rattle.ncp_control.specs.Command.{is_alone};
 ghost use Rattle.sockets.specs.Commands.{granted};
 ghost use Rattle.sockets.specs.Entries.{called_off, changed_first, is_mine_on};
@@ -20,7 +20,8 @@ use std::alloc::{AllocError, Global};
 
 /// Bits wait to be sent.
 fn add_bits(entries: &mut [Entry], socket: u32, bits: &Bits) -> Result<(), AllocError>
-    ensures { OnOk result (entries.new ≡ changed_first (is_mine_on socket) (with_more_bits bits.now) entries.old) }
+    ensures state { OnOk result (entries.new ≡ changed_first (is_mine_on socket) (with_more_bits bits.now) entries.old) }
+    ensures memory { OnErr result (0 < length bits.now) }
 {
     if let Some(at) = own_place(entries, socket) {
         let entry = &mut entries[at];
@@ -82,7 +83,8 @@ impl Pair {
 
     /// Bits of a socket wait to be sent.
     pub(crate) fn add_bits(&mut self, socket: u32, bits: &Bits) -> Result<(), AllocError>
-        ensures { OnOk result (self.new ≡ with_end socket (with_more_bits bits.now) self.old) }
+        ensures state { OnOk result (self.new ≡ with_end socket (with_more_bits bits.now) self.old) }
+        ensures memory { OnErr result (0 < length bits.now) }
     {
         add_bits(&mut self.entries, socket, bits)
     }

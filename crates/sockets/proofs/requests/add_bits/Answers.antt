@@ -4,8 +4,8 @@ use Rattle.sockets.specs.Entries.{is_mine_on}
 use Rattle.sockets.proofs.EntryLemmas.{one_changed, none_changed}
 use Rattle.sockets.proofs.requests.add_bits.Goals as goal
 
-pub returns-in-Ok : goal.returns-in-Ok
-returns-in-Ok c = one_changed (is_mine_on c.args.socket) c.in-Some.at (with_more_bits c.args.bits.now) c.index-entries-at.result _ _ (search rules) (search rules)
+pub returns-in-Ok-clause-state : goal.returns-in-Ok-clause-state
+returns-in-Ok-clause-state c = one_changed (is_mine_on c.args.socket) c.in-Some.at (with_more_bits c.args.bits.now) c.index-entries-at.result _ _ (search rules) (search rules)
 
-pub returns-in_default : goal.returns-in_default
-returns-in_default c = sym (none_changed (is_mine_on c.args.socket) (with_more_bits c.args.bits.now) _ (search rules))
+pub returns-in_default-clause-state : goal.returns-in_default-clause-state
+returns-in_default-clause-state c = sym (none_changed (is_mine_on c.args.socket) (with_more_bits c.args.bits.now) _ (search rules))

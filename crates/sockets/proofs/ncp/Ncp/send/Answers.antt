@@ -1,7 +1,12 @@
+use Rattle.std.proofs.Common.{length}
 use Rattle.sockets.specs.Requests as requests
-use Rattle.sockets.proofs.CallLemmas.{ended}
+use Rattle.sockets.proofs.CallLemmas.{ended, wanted}
 use Rattle.sockets.proofs.ncp.Ncp.send.Goals as goal
 
 pub returns-clause-served : goal.returns-clause-served
 unfolding requests.served requests.served_notices
-returns-clause-served c = λ none. ended c.add_bits-done.result c.end.result c.add_bits-done.new.self c.end.new.self _ _ c.add_bits-done.ensures (c.in_ok-peer.ensures.1 (requests.with_end c.args.socket (requests.with_more_bits c.args.bits))) c.end.ensures
+returns-clause-served c = λ none. ended c.add_bits-done.result c.end.result c.add_bits-done.new.self c.end.new.self _ _ c.add_bits-done.ensures.state (c.in_ok-peer.ensures.1 (requests.with_end c.args.socket (requests.with_more_bits c.args.bits))) c.end.ensures
+
+pub returns-clause-memory : goal.returns-clause-memory
+unfolding requests.served
+returns-clause-memory c = λ none. wanted (length c.args.bits) c.add_bits-done.result c.end.result c.add_bits-done.new.self c.end.new.self c.args.self.now _ _ c.add_bits-done.ensures.memory (c.in_ok-peer.ensures.1 (requests.with_end c.args.socket (requests.with_more_bits c.args.bits))) c.end.ensures
