@@ -1,7 +1,7 @@
 //! Lets happen in a subnet what standard input names, a line each, and prints what crosses and what is refused.
 //!
 //! The first line has the IMPs, as `IMP:HOSTS` by rising number, and the second the lines, as `IMP-IMP`. What happens is
-//! written as in a script. Each crossing is printed as the simulator prints it, and a refusal as `refused NAME`; within
+//! written as in a script, and `alive FLOW NUMBER` asks whether that message or a packet of it is alive. Each crossing is printed as the simulator prints it, and a refusal as `refused NAME`; within
 //! `calm` refusals are not printed. `check-subnet` compares all this with a second reading of the rules.
 #![tactic(auto)]
 
@@ -97,6 +97,10 @@ fn main(rt: HostRuntime) {
     };
     let mut printed = 0;
     for line in lines {
+        if let Some(is_alive) = asked(&subnet, line) {
+            let _ = println!(rt; "alive {is_alive}");
+            continue;
+        }
         let outcome = happened(rt.alloc(), &mut subnet, line);
         for crossing in subnet.log().iter().skip(printed) {
             let _ = println!(rt; "{crossing}");
@@ -139,6 +143,16 @@ fn made(alloc: Global, imps: &str, ends: &str) -> Option<Subnet> {
         lines.push(Ends { a: a.parse::<u8>().ok()?, b: b.parse::<u8>().ok()? }).ok()?;
     }
     Subnet::new(alloc, hosts, sites, &lines).ok()
+}
+
+/// The answer to a line that asks whether a message is alive; `None` where it asks nothing.
+fn asked(subnet: &Subnet, line: &str) -> Option<bool> {
+    let mut words = Words { rest: line };
+    if words.word()? != "alive" {
+        return None;
+    }
+    let flow = words.flow()?;
+    Some(subnet.alive(&flow, words.number()?))
 }
 
 /// What became of a line; `None` where it can't be read.
