@@ -1,8 +1,8 @@
 -- How a call ends that is served by what was done to a peer.
-use Rattle.std.proofs.Common.{◌≡◌, ℕ, true, false, List, [], Result, Ok, Err, OnErr, OnOk, IfErr, MatchResult, ◌+◌, ◌<◌, subst, refl, sym, ◌∙◌}
+use Rattle.std.proofs.Common.{◌≡◌, ℕ, true, false, List, [], Result, Ok, Err, Option, Some, OnErr, OnOk, IfErr, MatchResult, ◌+◌, ◌<◌, subst, refl, sym, ◌∙◌}
 use Rattle.std.specs.declared.alloc.AllocError.{AllocError}
 use Rattle.sockets.specs.Calls.{IsSpent}
-use Rattle.sockets.specs.Memory.{newly_known}
+use Rattle.sockets.specs.Memory.{newly_known, queued_by_closing}
 use Rattle.sockets.specs.Pairs.{NcpState, listens_on, owner_of}
 use Rattle.leader1822.specs.Host.{Host}
 use Rattle.sockets.specs.Requests.{at_owner, closed_end, closed_socket, with_peer}
@@ -30,3 +30,8 @@ pub wanted : (more : ℕ) (done : Result (Unit {0}) AllocError) (result : Result
     → IfErr result (λ f. 0 < more + newly_known old target)
 wanted more (Ok x) result mid new old found target memory is ends = rw (ends.0) tt
 wanted more (Err e) result mid new old found target memory is ends = rw (ends.0) (subst (λ (s : NcpState). 0 < more + newly_known old s) (sym is) memory)
+
+pub wanted_closing : (socket : ℕ) (peer : Host) (old : NcpState) (o : Option Host) (result : Result (Unit {0}) NcpFault) (target : NcpState) → o ≡ Some peer
+    → IfErr result (λ f. 0 < queued_by_closing old socket (Some peer) + newly_known old target) → IfErr result (λ f. 0 < queued_by_closing old socket o + newly_known old target)
+wanted_closing socket peer old o result target is memory =
+    subst (λ (x : Option Host). IfErr result (λ f. 0 < queued_by_closing old socket x + newly_known old target)) (sym is) memory

@@ -1,5 +1,5 @@
 -- When the program wants memory: only where it has something more to say, to the peer or to its user.
-use Rattle.std.specs.Prelude.{ℕ, ◌+◌, ◌-◌, ◌==◌, Bool, if◌then◌else◌, List, [], ◌∷◌, length}
+use Rattle.std.specs.Prelude.{ℕ, ◌+◌, ◌-◌, ◌==◌, Bool, if◌then◌else◌, List, [], ◌∷◌, length, Option, Some, None}
 use Rattle.leader1822.specs.Host.{Host, same_host}
 use Rattle.leader1822.specs.declared.crossing.Answer.{Answer}
 use Rattle.leader1822.specs.declared.crossing.Inbound.{Inbound}
@@ -9,6 +9,7 @@ use Rattle.sockets.specs.Control.{Order, orders_of}
 use Rattle.sockets.specs.Data.{data_taken}
 use Rattle.sockets.specs.Entries.{is_busy}
 use Rattle.sockets.specs.Pairs.{DeskState, NcpState, pair_with}
+use Rattle.sockets.specs.Requests.{closed_end}
 
 -- how much waits to be said, to the peer and to the user
 abbrev pub said : DeskState → ℕ
@@ -45,3 +46,8 @@ said_by_inbound s (inbound.Answer kind f) stamp =
 -- how many hosts more it keeps something of
 abbrev pub newly_known : NcpState → NcpState → ℕ
 newly_known old new = length new.peers - length old.peers
+
+-- how many commands the closing of a socket's end queues at once, where its peer is known
+abbrev pub queued_by_closing : NcpState → ℕ → Option Host → ℕ
+queued_by_closing s socket None = 0
+queued_by_closing s socket (Some peer) = length (closed_end socket (pair_with peer s.peers)).queue - length (pair_with peer s.peers).queue

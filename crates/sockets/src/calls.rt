@@ -1,12 +1,13 @@
 //! What a user may ask of the network control program (NIC 8246 leaves the calls to each host; RTS, STR, CLS,
 //! ALL, GVB, INR, INS, ECO and RST go out by them).
 
-ghost use Rattle.std.specs.Prelude.{◌≡◌, ◌+◌, ◌<◌, ◌++◌, ◌∷◌, [], false, IfErr, IfOk, None, OnErr, OnOk, length};
+ghost use Rattle.std.specs.Prelude.{◌≡◌, ◌+◌, ◌<◌, ◌++◌, ◌∷◌, [], false, IfErr, IfOk, None, OnErr, OnOk, Some, length};
 ghost use Rattle.ncp_control.specs.Command.{is_alone};
 ghost use Rattle.sockets.specs.Calls.{IsRefused, IsServed};
 ghost use Rattle.sockets.specs.Commands.{granted};
-ghost use Rattle.sockets.specs.Memory.{newly_known};
-ghost use Rattle.sockets.specs.Pairs.{pair_with};
+ghost use Rattle.sockets.specs.Memory.{newly_known, queued_by_closing};
+ghost use Rattle.sockets.specs.Others.{owner_host};
+ghost use Rattle.sockets.specs.Pairs.{owner_of, pair_with};
 ghost use Rattle.sockets.specs.Requests as requests;
 ghost use Rattle.sockets.specs.Requests.{with_end, with_more_bits, with_peer};
 ghost use Rattle.sockets.specs.declared.request.Request.TheVariants as request;
@@ -88,7 +89,8 @@ impl Ncp {
 
     /// The connection of a socket with a peer closes, at once or when it is drained.
     fn close_end(&mut self, peer: HostAddr, socket: u32) -> Result<(), AllocError>
-        ensures { OnOk result (self.new ≡ with_peer self.old peer (requests.closed_end socket)) }
+        ensures state { OnOk result (self.new ≡ with_peer self.old peer (requests.closed_end socket)) }
+        ensures memory { OnErr result (0 < queued_by_closing self.old socket (Some peer) + newly_known self.old (with_peer self.old peer (requests.closed_end socket))) }
     {
         let mut pair = self.peers.take(self.alloc, peer);
         pair.close(socket)?;
@@ -273,12 +275,14 @@ impl Ncp {
     /// been sent and answered (CLS).
     ///
     /// Errors, the first that applies: `NoSuchSocket` where the socket has no own end and doesn't listen,
-    /// `Closing` where the connection was closed before, at this end or at the other, `OutOfMemory`.
+    /// `Closing` where the connection was closed before, at this end or at the other, `OutOfMemory` only where
+    /// its CLS is queued at once.
     #[tactic(auto, unfolding(crate::specs::Requests::refusal, crate::specs::Requests::served, crate::specs::Requests::served_notices))]
     pub fn close(&mut self, socket: u32) -> Result<(), NcpFault>
         requires live { self.old.spent ≡ false }
         ensures refused { IsRefused self.old (request.Close socket) result self.new }
         ensures served { IsServed (λ _. []) self.old (request.Close socket) result self.new }
+        ensures memory { requests.refusal self.old (request.Close socket) ≡ None → IfErr result (λ f. 0 < queued_by_closing self.old socket (owner_host (owner_of socket self.old.peers)) + newly_known self.old (requests.served self.old (request.Close socket))) }
     {
         if listens_on(&self.listening, socket) {
             stop_listening(&mut self.listening, socket);

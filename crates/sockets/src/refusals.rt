@@ -1,6 +1,7 @@
 //! Why a request of the user is refused.
 
 ghost use Rattle.std.specs.Prelude.{◌≡◌, MatchResult, Option, Some, None, is_some, ℕ, IfOk, false};
+ghost use Rattle.sockets.specs.Others.{owner_host};
 ghost use Rattle.sockets.specs.Pairs.{pair_with, owner_of};
 ghost use Rattle.sockets.specs.Phases.{is_ready};
 ghost use Rattle.sockets.specs.Requests as requests;
@@ -207,7 +208,8 @@ impl Ncp {
 
     /// The peer of a connection that may be closed. What listens may always be closed, and is seen to before.
     pub(crate) fn check_close(&self, socket: u32) -> Result<HostAddr, NcpFault>
-        ensures { MatchResult result (λ peer. (requests.close_fault (owner_of socket self.now.peers) ≡ None) × ((change : PairState → PairState) → at_owner self.now (owner_of socket self.now.peers) (λ e. change) ≡ with_peer self.now peer change)) (λ f. requests.close_fault (owner_of socket self.now.peers) ≡ Some f) }
+        ensures host { IfOk result (λ peer. owner_host (owner_of socket self.now.peers) ≡ Some peer) }
+        ensures checked { MatchResult result (λ peer. (requests.close_fault (owner_of socket self.now.peers) ≡ None) × ((change : PairState → PairState) → at_owner self.now (owner_of socket self.now.peers) (λ e. change) ≡ with_peer self.now peer change)) (λ f. requests.close_fault (owner_of socket self.now.peers) ≡ Some f) }
     {
         let Some((peer, entry)) = self.peers.owner(socket) else {
             return Err(NcpFault::NoSuchSocket);

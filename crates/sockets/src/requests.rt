@@ -106,7 +106,8 @@ impl Pair {
 
     /// The connection of a socket closes, at once or when it is drained.
     pub(crate) fn close(&mut self, socket: u32) -> Result<(), AllocError>
-        ensures { OnOk result (self.new ≡ requests.closed_end socket self.old) }
+        ensures state { OnOk result (self.new ≡ requests.closed_end socket self.old) }
+        ensures memory { OnErr result (length self.old.queue < length (requests.closed_end socket self.old).queue) }
     {
         call_off(&mut self.entries, socket);
         queue_closings(&self.entries, &self.busy, &mut self.queue)?;
