@@ -6,3 +6,4 @@ pub mod Booked
 pub mod Unsafe
 pub mod SafeRow
 pub mod Refusals
+pub mod StoryLemmas

@@ -4,3 +4,4 @@ pub mod Safe
 pub mod World
 pub mod Carriers
 pub mod Worked
+pub mod Story

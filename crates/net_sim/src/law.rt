@@ -11,6 +11,7 @@ ghost use Rattle.leader1822.specs.declared.message.HostMessage.{HostMessage};
 ghost use Rattle.leader1822.specs.Mailboxes.{IsRun};
 ghost use Rattle.leader1822.specs.Messages.{SafeMessages};
 ghost use Rattle.net_sim.specs.Carriers.{shown, IsBooked};
+ghost use Rattle.net_sim.specs.Story.{Moment, IsStory, program, events_of};
 ghost use Rattle.net_sim.specs.World.{WorldState, WorldFault, Event, opening_world, StepGives, RunGives, CalmGives};
 ghost use Rattle.net_sim.specs.Projection.{Agrees, IsApart, Speaks, event_of, event_by, message_on};
 ghost use Rattle.reset_law.specs.Events.{part_of};
@@ -45,6 +46,15 @@ pub fn resets()
     ensures may { (s : NcpState) (g : Peer) (x : Parcel) (p : Pair) → AreInOrder s.peers → next_in s.peers ≡ Some (g, x) → Speaks g.pair x → Agrees (pair_with g.host s.peers) p → MaySend p (link_for x) (message_on (link_for x) (text_for g.pair x)) }
     ensures apart { (s : NcpState) (g : Peer) (x : Parcel) (p : Pair) → AreInOrder s.peers → next_in s.peers ≡ Some (g, x) → Speaks g.pair x → Agrees (pair_with g.host s.peers) p → IsApart (link_for x) (text_for g.pair x) (message_on (link_for x) (text_for g.pair x)) }
     ensures offer { (s : NcpState) (stamp : ℕ) (g : Peer) (x : Parcel) (h : Host) (p : Pair) → AreInOrder s.peers → next_in s.peers ≡ Some (g, x) → Speaks g.pair x → Agrees (pair_with h s.peers) p → Agrees (pair_with h (offered s stamp).0.peers) (moved (part_of s.own h (event_of (crossing.Out (message_for s.own g x)))) p) }
+{}
+
+/// What becomes of all programs, moment by moment: crossings, and what users ask for.
+pub fn stories()
+    // in a story each program is, for each peer, where the law of resets has it
+    ensures agrees { (moments : List Moment) (a b : Host) → IsStory moments → Agrees (pair_with b (program a moments).peers) (pairs.pair a b (events_of moments)) }
+
+    // and keeps its own address
+    ensures own { (moments : List Moment) (a : Host) → (program a moments).own ≡ a }
 {}
 
 /// What stands in the book of a world, whatever its carrier is made of: all that crossed, but for the event in which memory ran
