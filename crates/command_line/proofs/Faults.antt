@@ -1,22 +1,21 @@
 -- Why octets are no input.
 use Rattle.std.proofs.Common.{◌≡◌, List, ℕ, IsUtf8, Option, Some, None, IfSome, Result, Ok, Err, IfErr, MatchResult, inr, refl, subst, sym}
-use Rattle.leader1822.specs.Host.{Host}
 use Rattle.script.specs.Input.{IsParted}
 use Rattle.script.specs.declared.event.Event.{Event}
 use Rattle.topology.specs.Topology.{TopologyFields}
 use Rattle.command_line.specs.Replayable.{IsReplayable}
 use Rattle.command_line.specs.Input.{IsInput, IsInputFault, IsSomeInput}
-use Rattle.command_line.specs.Steps.{IsHostsFault, IsReplayFault}
+use Rattle.command_line.specs.Steps.{IsNetworkFault, IsReplayFault}
 use Rattle.command_line.specs.declared.fault.ScriptFault.{ScriptFault}
 use Rattle.command_line.specs.declared.fault.ScriptFault.TheVariants as fault
 
-pub hosts_fault : (octets document script : List ℕ) (f : ScriptFault) → IsParted octets document script → IsHostsFault f → (f ≡ fault.BadTopology → IsUtf8 document → (t : TopologyFields) → ¬ (IsReplayable document t)) → IsInputFault octets f
-hosts_fault octets document script fault.BadTopology parted known refused = inr (inr (record { document = document; script = script; parted = parted; unfit = refused refl }))
-hosts_fault octets document script fault.OutOfMemory parted known refused = tt
-hosts_fault octets document script fault.CannotRead parted known refused = absurd known
-hosts_fault octets document script fault.CannotWrite parted known refused = absurd known
-hosts_fault octets document script fault.BadOptions parted known refused = absurd known
-hosts_fault octets document script (fault.BadLine number) parted known refused = absurd known
+pub network_fault : (octets document script : List ℕ) (f : ScriptFault) → IsParted octets document script → IsNetworkFault f → (f ≡ fault.BadTopology → IsUtf8 document → (t : TopologyFields) → ¬ (IsReplayable document t)) → IsInputFault octets f
+network_fault octets document script fault.BadTopology parted known refused = inr (inr (record { document = document; script = script; parted = parted; unfit = refused refl }))
+network_fault octets document script fault.OutOfMemory parted known refused = tt
+network_fault octets document script fault.CannotRead parted known refused = absurd known
+network_fault octets document script fault.CannotWrite parted known refused = absurd known
+network_fault octets document script fault.BadOptions parted known refused = absurd known
+network_fault octets document script (fault.BadLine number) parted known refused = absurd known
 
 -- once octets are an input, nothing but memory and a write can fail
 pub after_reading : (octets : List ℕ) (r : Result (Unit {0}) ScriptFault) → IsSomeInput octets → IfErr r IsReplayFault → MatchResult r (λ done. IsSomeInput octets) (IsInputFault octets)
@@ -28,10 +27,10 @@ after_reading octets (Err fault.CannotRead) read known = absurd known
 after_reading octets (Err fault.BadOptions) read known = absurd known
 after_reading octets (Err (fault.BadLine number)) read known = absurd known
 
-pub known_read : (known : Option (List ℕ)) (octets : List ℕ) (hosts : List Host) (events : List Event) (r : Result (Unit {0}) ScriptFault)
-    → IfSome known (λ k. octets ≡ k) → IsInput octets hosts events → IfErr r IsReplayFault → IfSome known (λ k. MatchResult r (λ done. IsSomeInput k) (IsInputFault k))
-known_read None octets hosts events r same read known = tt
-known_read (Some k) octets hosts events r same read known = after_reading k r (hosts, events, subst (λ o. IsInput o hosts events) same read) known
+pub known_read : (known : Option (List ℕ)) (octets : List ℕ) (network : TopologyFields) (events : List Event) (r : Result (Unit {0}) ScriptFault)
+    → IfSome known (λ k. octets ≡ k) → IsInput octets network events → IfErr r IsReplayFault → IfSome known (λ k. MatchResult r (λ done. IsSomeInput k) (IsInputFault k))
+known_read None octets network events r same read known = tt
+known_read (Some k) octets network events r same read known = after_reading k r (network, events, subst (λ o. IsInput o network events) same read) known
 
 pub write_fault : (r : Result (Unit {0}) ScriptFault) → IfErr r (λ f. f ≡ fault.CannotWrite) → IfErr r IsReplayFault
 write_fault (Ok done) h = tt

@@ -3,6 +3,8 @@ mod Faults
 mod Hyphens
 mod Once
 mod OneInput
-mod Plain
+mod Settled
+mod Sites
 mod Taken
 mod Words
+mod Written

@@ -1,149 +1,58 @@
 -- An input leaves a replay no choice.
-use Rattle.std.proofs.Common.{◌≡◌, ◌||◌, Bool, true, false, List, [], ◌∷◌, ◌++◌, Option, Some, None, Result, Ok, Err, codes, refl, sym, ap, subst, ◌∙◌, ℕ}
-use Rattle.std.proofs.lemmas.Bool.{false≢true}
+use Rattle.std.proofs.Common.{◌≡◌, List, ◌++◌, Some, codes, sym, ap, subst, ◌∙◌, ℕ}
 use Rattle.std.proofs.lemmas.List.{append_assoc}
-use Rattle.leader1822.specs.Boxes.{Boxes, BoxesDecided, BoxesRound, BoxesTake, host_refusal, next_for, offer_refusal, offered, opening_boxes, step_grows, step_refusal, stepped, take_grows, taken}
-use Rattle.leader1822.specs.Calls.{is_halt, is_memory}
-use Rattle.leader1822.specs.Host.{Host}
-use Rattle.leader1822.specs.declared.carrier.CarrierFault.{CarrierFault}
-use Rattle.leader1822.specs.declared.carrier.CarrierFault.TheVariants as fault
-use Rattle.leader1822.specs.declared.crossing.Crossing.TheVariants as crossing
-use Rattle.leader1822.specs.declared.crossing.Inbound.{Inbound}
-use Rattle.leader1822.specs.declared.crossing.Inbound.TheVariants as inbound
-use Rattle.replay.specs.Output.{output}
-use Rattle.replay.specs.Replay.{GoesOn, outcome_of}
-use Rattle.replay.specs.Settled.{AreSettled, Grows, SameEnd}
-use Rattle.command_line.specs.Replayed.{ReplaysInput, ReplaysPlain, StopsInput, StopsPlain, plain_calls}
+use Rattle.replay.specs.Output.{Shown, Writes, output}
+use Rattle.replay.specs.Replay.{Calls}
+use Rattle.replay.specs.Settled.{AreSettled}
+use Rattle.topology.specs.Topology.{TopologyFields}
+use Rattle.topology.specs.declared.network.CarrierKind.{CarrierKind}
+use Rattle.topology.specs.declared.network.CarrierKind.TheVariants as kind
+use Rattle.command_line.specs.Carriers.{plain_calls, plain_of, subnet_calls, subnet_of}
+use Rattle.command_line.specs.Replayed.{ReplaysInput, Shows, ShowsFrom, ShowsOver, Stops, StopsFrom, StopsInput, StopsOver, WritesAll}
 use Rattle.script.specs.declared.event.Event.{Event}
 use Rattle.command_line.proofs.OneInput.{OneInput, input_once}
+use Rattle.command_line.proofs.Settled.{plain_settled, subnet_settled}
 use Rattle.replay.proofs.Settled.{OneReplay, StartsWith, replays_once}
 use Rattle.replay.proofs.Settled as replay
 use Rattle.replay.proofs.Shown.{output-append}
 
--- ---- one call
+-- ---- a whole replay
 
-abbrev Goes : {T : Type 0} → Result T CarrierFault → Type 0
-Goes (Ok x) = Unit {0}
-Goes (Err f) = (is_halt f || is_memory f) ≡ false
+from_once : {C : Type 0} (calls : Calls C) → AreSettled calls → (opening : C) (events : List Event) (shown more : List Shown) → ShowsFrom calls opening events shown → ShowsFrom calls opening events more → shown ≡ more
+from_once calls settled opening events shown more h k =
+    let one : OneReplay h.last k.last shown more = replays_once calls settled opening events h.last k.last shown more h.replayed k.replayed in
+    one.lines
 
--- a call after which the replay goes on was done, or refused for its one reason
-abbrev Settled : {T : Type 0} → Option CarrierFault → (T → Type 0) → Boxes → Result T CarrierFault → Boxes → Type 0
-Settled refusal Gives old (Ok x) new = (refusal ≡ None) × Gives x
-Settled refusal Gives old (Err f) new = (refusal ≡ Some f) × (new ≡ old)
+over_once : (carrier : CarrierKind) (network : TopologyFields) (events : List Event) (shown more : List Shown) → ShowsOver carrier network events shown → ShowsOver carrier network events more → shown ≡ more
+over_once kind.Plain network events shown more h k = from_once plain_calls plain_settled (plain_of network) events shown more h k
+over_once kind.Subnet network events shown more h k = from_once subnet_calls subnet_settled (subnet_of network) events shown more h k
 
-settled : {T : Type 0} (refusal : Option CarrierFault) (grows : Bool) (Gives : T → Type 0) (old : Boxes) (r : Result T CarrierFault) (new : Boxes) → BoxesDecided refusal grows Gives old r new → Goes r → Settled refusal Gives old r new
-settled refusal grows Gives old (Ok x) new h goes = h
-settled refusal grows Gives old (Err fault.NoSuch) new h goes = h
-settled refusal grows Gives old (Err fault.StillAlive) new h goes = h
-settled refusal grows Gives old (Err fault.IsDown) new h goes = h
-settled refusal grows Gives old (Err fault.IsUp) new h goes = h
-settled refusal grows Gives old (Err fault.Unsettled) new h goes = h
-settled refusal grows Gives old (Err fault.NotOutstanding) new h goes = h
-settled refusal grows Gives old (Err fault.Blocked) new h goes = h
-settled refusal grows Gives old (Err fault.NoRoom) new h goes = h
-settled refusal grows Gives old (Err fault.Stopped) new h goes = absurd (false≢true (sym goes))
-settled refusal grows Gives old (Err fault.OutOfMemory) new h goes = absurd (false≢true (sym goes))
-
--- two answers of one call are one, where what is given, and what is left, is settled
-same_answer : {T : Type 0} (refusal : Option CarrierFault) (P Q : T → Type 0) (old : Boxes) (r q : Result T CarrierFault) (new other : Boxes)
-    → ((x y : T) → P x → Q y → (x ≡ y) × (new ≡ other)) → Settled refusal P old r new → Settled refusal Q old q other → SameEnd r q new other
-same_answer refusal P Q old (Ok x) (Ok y) new other given h k =
-    let both : (x ≡ y) × (new ≡ other) = given x y h.1 k.1 in
-    record { answers = ap Ok both.0; carriers = both.1 }
-same_answer refusal P Q old (Ok x) (Err f) new other given h k = absurd (let e : None ≡ Some f = sym h.0 ∙ k.0 in cc)
-same_answer refusal P Q old (Err f) (Ok y) new other given h k = absurd (let e : None ≡ Some f = sym k.0 ∙ h.0 in cc)
-same_answer refusal P Q old (Err f) (Err g) new other given h k =
-    let e : Some f ≡ Some g = sym h.0 ∙ k.0 in
-    let same : f ≡ g = cc in
-    record { answers = ap Err same; carriers = h.1 ∙ sym k.1 }
-
-goes_back : (r : Result (Option Inbound) CarrierFault) → GoesOn (outcome_of r) → Goes r
-goes_back (Ok x) goes = tt
-goes_back (Err f) goes = goes
-
-goes_as : (r : Result (Unit {0}) CarrierFault) → GoesOn r → Goes r
-goes_as (Ok x) goes = tt
-goes_as (Err f) goes = goes
-
--- ---- the calls of plain mailboxes
-
-one_step : (refusal : Option CarrierFault) (grows : Bool) (left old : Boxes) (r q : Result (Unit {0}) CarrierFault) (new other : Boxes)
-    → BoxesDecided refusal grows (λ done. new ≡ left) old r new → GoesOn r → BoxesDecided refusal grows (λ done. other ≡ left) old q other → GoesOn q → SameEnd r q new other
-one_step refusal grows left old r q new other h goes k on =
-    same_answer refusal (λ done. new ≡ left) (λ done. other ≡ left) old r q new other (λ x y a b. (refl, a ∙ sym b))
-    (settled refusal grows (λ done. new ≡ left) old r new h (goes_as r goes)) (settled refusal grows (λ done. other ≡ left) old q other k (goes_as q on))
-
-one_taking : (old : Boxes) (g : Host) (r q : Result (Option Inbound) CarrierFault) (new other : Boxes) → BoxesTake old g r new → GoesOn (outcome_of r) → BoxesTake old g q other → GoesOn (outcome_of q) → SameEnd r q new other
-one_taking old g r q new other h goes k on =
-    let P : Option Inbound → Type 0 = λ o. (o ≡ next_for old g) × (new ≡ taken old g o) in
-    let Q : Option Inbound → Type 0 = λ o. (o ≡ next_for old g) × (other ≡ taken old g o) in
-    same_answer (host_refusal old g) P Q old r q new other
-    (λ x y a b. (a.0 ∙ sym b.0, a.1 ∙ ap (taken old g) (a.0 ∙ sym b.0) ∙ sym b.1))
-    (settled (host_refusal old g) (take_grows old g) P old r new h (goes_back r goes))
-    (settled (host_refusal old g) (take_grows old g) Q old q other k (goes_back q on))
-
-one_round : (old : Boxes) (r q : Result (Unit {0}) CarrierFault) (new other : Boxes) → BoxesRound old r new → GoesOn r → BoxesRound old q other → GoesOn q → SameEnd r q new other
-one_round old (Ok x) (Ok y) new other h goes k on = record { answers = refl; carriers = h.1 ∙ sym k.1 }
-one_round old (Ok x) (Err f) new other h goes k on = absurd (false≢true (sym h.0 ∙ k.0))
-one_round old (Err f) (Ok y) new other h goes k on = absurd (false≢true (sym k.0 ∙ h.0))
-one_round old (Err f) (Err g) new other h goes k on = record { answers = ap Err (h.1 ∙ sym k.1); carriers = h.2 ∙ sym k.2 }
-
-refused_log : (old : Boxes) (g : Host) (f : CarrierFault) (new : Boxes) → BoxesTake old g (Err f) new → new.log ≡ old.log
-refused_log old g fault.NoSuch new h = ap (λ (b : Boxes). b.log) h.1
-refused_log old g fault.StillAlive new h = ap (λ (b : Boxes). b.log) h.1
-refused_log old g fault.IsDown new h = ap (λ (b : Boxes). b.log) h.1
-refused_log old g fault.IsUp new h = ap (λ (b : Boxes). b.log) h.1
-refused_log old g fault.Unsettled new h = ap (λ (b : Boxes). b.log) h.1
-refused_log old g fault.NotOutstanding new h = ap (λ (b : Boxes). b.log) h.1
-refused_log old g fault.Blocked new h = ap (λ (b : Boxes). b.log) h.1
-refused_log old g fault.NoRoom new h = ap (λ (b : Boxes). b.log) h.1
-refused_log old g fault.Stopped new h = ap (λ (b : Boxes). b.log) h.1
-refused_log old g fault.OutOfMemory new h = h.2.log
-
-given_log : (old : Boxes) (g : Host) (o : Option Inbound) (new : Boxes) → new ≡ taken old g o → Grows plain_calls old new
-given_log old g None new h = record { crossings = []; grown = ap (λ (b : Boxes). b.log) h }
-given_log old g (Some (inbound.Answer kind f)) new h = record { crossings = crossing.Answer kind f ∷ []; grown = ap (λ (b : Boxes). b.log) h }
-given_log old g (Some (inbound.Message m)) new h = record { crossings = crossing.In m ∷ []; grown = ap (λ (b : Boxes). b.log) h }
-
-taking_log : (old : Boxes) (g : Host) (r : Result (Option Inbound) CarrierFault) (new : Boxes) → BoxesTake old g r new → Grows plain_calls old new
-taking_log old g (Ok o) new h = given_log old g o new h.1.1
-taking_log old g (Err f) new h = record { crossings = []; grown = refused_log old g f new h }
-
-round_log : (old : Boxes) (r : Result (Unit {0}) CarrierFault) (new : Boxes) → BoxesRound old r new → new.log ≡ old.log
-round_log old (Ok done) new h = ap (λ (b : Boxes). b.log) h.1
-round_log old (Err f) new h = ap (λ (b : Boxes). b.log) h.2
-
-plain_settled : AreSettled plain_calls
-plain_settled = record {
-  offers_once = λ old m r q new other h hg k kg. one_step (offer_refusal old m.flow) true (offered old m) old r q new other h hg k kg;
-  takes_once = λ old g r q new other h hg k kg. one_taking old g r q new other h hg k kg;
-  steps_once = λ old n r q new other h hg k kg. one_step (step_refusal old n) (step_grows old n) (stepped old n) old r q new other h hg k kg;
-  rounds_once = λ old r q new other h hg k kg. one_round old r q new other h hg k kg;
-  taking_grows = λ old g r new h. taking_log old g r new h;
-  refused_taking = λ old g f new h. refused_log old g f new h;
-  quiet_round = λ old r new h. round_log old r new h;
-}
-
--- ---- a replay
-
-plain_once : (hosts : List Host) (events : List Event) (before after other : List ℕ) → ReplaysPlain hosts events (Some before) (Some after) → ReplaysPlain hosts events (Some before) (Some other) → after ≡ other
-plain_once hosts events before after other h k =
-    let one : OneReplay h.shows.last k.shows.last h.shown k.shown = replays_once plain_calls plain_settled (opening_boxes hosts) events h.shows.last k.shows.last h.shown k.shown h.shows.replayed k.shows.replayed in
-    h.written ∙ ap (λ shown. before ++ (output shown ++ codes "end\n")) one.lines ∙ sym k.written
+network_once : (network : TopologyFields) (events : List Event) (before after other : List ℕ) → WritesAll (Shows network events) (Some before) (Some after) → WritesAll (Shows network events) (Some before) (Some other)
+    → after ≡ other
+network_once network events before after other h k =
+    h.written ∙ ap (λ shown. before ++ (output shown ++ codes "end\n")) (over_once network.carrier network events h.shown k.shown h.shows k.shows) ∙ sym k.written
 
 pub one_output : (input before after other : List ℕ) → ReplaysInput input (Some before) (Some after) → ReplaysInput input (Some before) (Some other) → after ≡ other
 one_output input before after other h k =
-    let same : OneInput h.hosts k.hosts h.events k.events = input_once input h.hosts k.hosts h.events k.events h.input k.input in
-    let moved : ReplaysPlain k.hosts k.events (Some before) (Some after) =
-    subst (λ (hosts : List Host). ReplaysPlain hosts k.events (Some before) (Some after)) same.same_hosts
-    (subst (λ (events : List Event). ReplaysPlain h.hosts events (Some before) (Some after)) same.same_events h.replayed) in
-    plain_once k.hosts k.events before after other moved k.replayed
+    let same : OneInput h.network k.network h.events k.events = input_once input h.network k.network h.events k.events h.input k.input in
+    let moved : WritesAll (Shows k.network k.events) (Some before) (Some after) =
+    subst (λ (network : TopologyFields). WritesAll (Shows network k.events) (Some before) (Some after)) same.same_network
+    (subst (λ (events : List Event). WritesAll (Shows h.network events) (Some before) (Some after)) same.same_events h.replayed) in
+    network_once k.network k.events before after other moved k.replayed
 
 -- ---- the first part of a replay
 
-plain_first : (hosts : List Host) (events : List Event) (before part whole : List ℕ) → StopsPlain hosts events (Some before) (Some part) → ReplaysPlain hosts events (Some before) (Some whole) → (rest : List ℕ) × (whole ≡ part ++ rest)
-plain_first hosts events before part whole h k =
-    let starts : StartsWith k.shown h.shown = replay.first_part plain_calls plain_settled (opening_boxes hosts) events h.last k.shows.last h.shown k.shown h.stopped k.shows.replayed in
+from_front : {C : Type 0} (calls : Calls C) → AreSettled calls → (opening : C) (events : List Event) (part whole : List Shown) → StopsFrom calls opening events part → ShowsFrom calls opening events whole → StartsWith whole part
+from_front calls settled opening events part whole h k = replay.first_part calls settled opening events h.last k.last part whole h.stopped k.replayed
+
+over_front : (carrier : CarrierKind) (network : TopologyFields) (events : List Event) (part whole : List Shown) → StopsOver carrier network events part → ShowsOver carrier network events whole → StartsWith whole part
+over_front kind.Plain network events part whole h k = from_front plain_calls plain_settled (plain_of network) events part whole h k
+over_front kind.Subnet network events part whole h k = from_front subnet_calls subnet_settled (subnet_of network) events part whole h k
+
+network_front : (network : TopologyFields) (events : List Event) (before part whole : List ℕ) → Writes (Stops network events) (Some before) (Some part) → WritesAll (Shows network events) (Some before) (Some whole)
+    → (rest : List ℕ) × (whole ≡ part ++ rest)
+network_front network events before part whole h k =
+    let starts : StartsWith k.shown h.shown = over_front network.carrier network events h.shown k.shown h.is_shown k.shows in
     let lines : output k.shown ≡ output h.shown ++ output starts.rest = ap output starts.parts ∙ output-append h.shown starts.rest in (
       output starts.rest ++ codes "end\n",
       k.written ∙ ap (λ xs. before ++ (xs ++ codes "end\n")) lines ∙ ap (λ xs. before ++ xs) (append_assoc (output h.shown) (output starts.rest) (codes "end\n"))
@@ -152,8 +61,8 @@ plain_first hosts events before part whole h k =
 
 pub first_part : (input before part whole : List ℕ) → StopsInput input (Some before) (Some part) → ReplaysInput input (Some before) (Some whole) → (rest : List ℕ) × (whole ≡ part ++ rest)
 first_part input before part whole h k =
-    let same : OneInput h.hosts k.hosts h.events k.events = input_once input h.hosts k.hosts h.events k.events h.input k.input in
-    let moved : StopsPlain k.hosts k.events (Some before) (Some part) =
-    subst (λ (hosts : List Host). StopsPlain hosts k.events (Some before) (Some part)) same.same_hosts
-    (subst (λ (events : List Event). StopsPlain h.hosts events (Some before) (Some part)) same.same_events h.stopped) in
-    plain_first k.hosts k.events before part whole moved k.replayed
+    let same : OneInput h.network k.network h.events k.events = input_once input h.network k.network h.events k.events h.input k.input in
+    let moved : Writes (Stops k.network k.events) (Some before) (Some part) =
+    subst (λ (network : TopologyFields). Writes (Stops network k.events) (Some before) (Some part)) same.same_network
+    (subst (λ (events : List Event). Writes (Stops h.network events) (Some before) (Some part)) same.same_events h.stopped) in
+    network_front k.network k.events before part whole moved k.replayed

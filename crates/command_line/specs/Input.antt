@@ -1,35 +1,34 @@
 -- What an input is, and why octets are none.
 use Rattle.std.specs.Prelude.{◌≢◌, ℕ, ◌<◌, ◌≤◌, List, length, codes, ◌⊎◌, IsUtf8}
 use Rattle.std.specs.List.{All}
-use Rattle.leader1822.specs.Host.{Host}
 use Rattle.script.specs.Input.{IsParted}
 use Rattle.script.specs.Script.{lines_of, AskFor, IsFirstBad}
 use Rattle.script.specs.declared.event.Event.{Event}
 use Rattle.topology.specs.Topology.{TopologyFields}
-use Rattle.command_line.specs.Replayable.{IsReplayable, HasHosts}
+use Rattle.command_line.specs.Replayable.{IsReplayable}
 use Rattle.command_line.specs.declared.fault.ScriptFault.{ScriptFault}
 use Rattle.command_line.specs.declared.fault.ScriptFault.TheVariants as fault
 
--- an input: at most 1,048,576 octets, which are a topology with these hosts, the marker line `%`, and a script of these events
-pub record IsInput (octets : List ℕ) (hosts : List Host) (events : List Event) : Type 0 where
+-- an input: at most 1,048,576 octets, which are this topology, the marker line `%`, and a script of these events
+pub record IsInput (octets : List ℕ) (network : TopologyFields) (events : List Event) : Type 0 where
   pub short : length octets ≤ 1048576
   pub document : List ℕ
   pub script : List ℕ
   pub parted : IsParted octets document script
-  pub network : HasHosts document hosts
+  pub replayable : IsReplayable document network
   pub asked : AskFor events (lines_of script)
 
 abbrev pub IsSomeInput : List ℕ → Type 0
-IsSomeInput octets = (hosts : List Host) × (events : List Event) × IsInput octets hosts events
+IsSomeInput octets = (network : TopologyFields) × (events : List Event) × IsInput octets network events
 
 -- all is well up to the script, of which this is the first bad line
 pub record HasBadLine (octets : List ℕ) (number : ℕ) : Type 0 where
   pub short : length octets ≤ 1048576
   pub document : List ℕ
   pub script : List ℕ
-  pub hosts : List Host
+  pub network : TopologyFields
   pub parted : IsParted octets document script
-  pub network : HasHosts document hosts
+  pub replayable : IsReplayable document network
   pub bad : IsFirstBad script number
 
 -- what stands before the marker line is not UTF-8, or describes no topology that can be replayed

@@ -1,3 +1,4 @@
+pub mod Carriers
 pub mod Faults
 pub mod Input
 pub mod Options

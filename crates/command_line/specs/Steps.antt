@@ -3,13 +3,13 @@ use Rattle.command_line.specs.declared.fault.ScriptFault.{ScriptFault}
 use Rattle.command_line.specs.declared.fault.ScriptFault.TheVariants as fault
 
 -- the faults of a topology
-abbrev pub IsHostsFault : ScriptFault → Type 0
-IsHostsFault fault.BadTopology = Unit {0}
-IsHostsFault fault.OutOfMemory = Unit {0}
-IsHostsFault fault.BadOptions = ⊥
-IsHostsFault fault.CannotRead = ⊥
-IsHostsFault fault.CannotWrite = ⊥
-IsHostsFault (fault.BadLine number) = ⊥
+abbrev pub IsNetworkFault : ScriptFault → Type 0
+IsNetworkFault fault.BadTopology = Unit {0}
+IsNetworkFault fault.OutOfMemory = Unit {0}
+IsNetworkFault fault.BadOptions = ⊥
+IsNetworkFault fault.CannotRead = ⊥
+IsNetworkFault fault.CannotWrite = ⊥
+IsNetworkFault (fault.BadLine number) = ⊥
 
 -- the faults of reading octets
 abbrev pub IsReadFault : ScriptFault → Type 0

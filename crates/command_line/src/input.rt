@@ -2,24 +2,22 @@
 
 ghost use Rattle.std.specs.Prelude.{◌≡◌, ◌≤◌, Err, IsUtf8, ◌<◌, length, IfSome, IfOk, IfErr};
 ghost use Rattle.command_line.specs.Input.{IsInput, IsInputFault};
-ghost use Rattle.command_line.specs.Replayable.{IsReplayable, HasHosts};
-ghost use Rattle.command_line.specs.Steps.{IsHostsFault, IsReadFault};
-ghost use Rattle.leader1822.specs.Calls.{InOrder};
+ghost use Rattle.command_line.specs.Replayable.{IsReplayable};
+ghost use Rattle.command_line.specs.Steps.{IsNetworkFault, IsReadFault};
 ghost use Rattle.topology.specs.Topology.{TopologyFields};
 
 use crate::fault::ScriptFault;
-use leader1822::HostAddr;
 use script::{Event, LineFault, MAX_INPUT, read_script, split_input};
 use std::alloc::Global;
 use std::io::{ErrorKind, Read};
 use std::str;
-use topology::{CarrierKind, Topology, TopologyFault};
+use topology::{Topology, TopologyFault};
 
 /// What an input asks for.
 #[derive(Drop)]
 pub(crate) struct Input {
-    /// The hosts of its topology.
-    pub hosts: Vec<HostAddr>,
+    /// Its topology.
+    pub network: Topology,
     /// The events of its script.
     pub events: Vec<Event>,
 }
@@ -30,19 +28,18 @@ pub(crate) struct Input {
 /// `BadLine` for the first line of the script that is no event, `OutOfMemory`.
 pub(crate) fn read_input(alloc: Global, octets: &[u8]) -> Result<Input, ScriptFault>
     requires { length octets.now ≤ MAX_INPUT }
-    ensures ordered { IfOk result (λ input. InOrder input.hosts.items) }
-    ensures read { IfOk result (λ input. IsInput octets.now input.hosts.items input.events.items) }
+    ensures read { IfOk result (λ input. IsInput octets.now input.network input.events.items) }
     ensures fault { IfErr result (IsInputFault octets.now) }
 {
     let Some((topology, script)) = split_input(octets) else {
         return Err(ScriptFault::BadTopology);
     };
-    let hosts = match read_hosts(alloc, topology) {
-        Ok(hosts) => hosts,
+    let network = match read_network(alloc, topology) {
+        Ok(network) => network,
         Err(fault) => return Err(fault),
     };
     match read_script(alloc, script) {
-        Ok(events) => Ok(Input { hosts, events }),
+        Ok(events) => Ok(Input { network, events }),
         Err(LineFault::BadLine(number)) => Err(ScriptFault::BadLine(number)),
         Err(LineFault::OutOfMemory) => Err(ScriptFault::OutOfMemory),
     }
@@ -69,23 +66,18 @@ pub(crate) fn read_octets<R: Read>(alloc: Global, reader: &mut R) -> Result<Vec<
     }
 }
 
-/// The hosts of a topology that can be replayed: one of plain mailboxes without host programs.
+/// A topology that can be replayed: one without host programs.
 ///
 /// Errors: `BadTopology` for any other document, `OutOfMemory`.
-fn read_hosts(alloc: Global, document: &[u8]) -> Result<Vec<HostAddr>, ScriptFault>
-    ensures ordered { IfOk result (λ hosts. InOrder hosts.items) }
-    ensures found { IfOk result (λ hosts. HasHosts document.now hosts.items) }
+fn read_network(alloc: Global, document: &[u8]) -> Result<Topology, ScriptFault>
+    ensures found { IfOk result (λ network. IsReplayable document.now network) }
     ensures refused { result ≡ Err ScriptFault.BadTopology → IsUtf8 document.now → (t : TopologyFields) → ¬ IsReplayable document.now t }
-    ensures fault { IfErr result IsHostsFault }
+    ensures fault { IfErr result IsNetworkFault }
 {
     let document = str::from_utf8(document).map_err(|_| ScriptFault::BadTopology)?;
-    let topology = match Topology::read(alloc, document) {
-        Ok(topology) => topology,
-        Err(TopologyFault::BadTopology) => return Err(ScriptFault::BadTopology),
-        Err(TopologyFault::OutOfMemory) => return Err(ScriptFault::OutOfMemory),
-    };
-    match topology.carrier() {
-        CarrierKind::Plain if topology.is_raw() => Ok(topology.hosts(alloc)?),
-        _ => Err(ScriptFault::BadTopology),
+    match Topology::read(alloc, document) {
+        Ok(network) if network.is_raw() => Ok(network),
+        Ok(_) | Err(TopologyFault::BadTopology) => Err(ScriptFault::BadTopology),
+        Err(TopologyFault::OutOfMemory) => Err(ScriptFault::OutOfMemory),
     }
 }

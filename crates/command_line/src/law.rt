@@ -4,8 +4,8 @@
 ghost use Rattle.std.specs.Prelude.{◌≡◌, ◌++◌, ℕ, List, Some};
 ghost use Rattle.command_line.specs.Replayed.{ReplaysInput, StopsInput};
 
-/// The input settles the output. It asks for one list of events between one list of hosts, and plain
-/// mailboxes leave their replay no choice.
+/// The input settles the output. It asks for one list of events over the carrier of one topology, and neither plain
+/// mailboxes nor a subnet leave their replay a choice.
 pub fn one_output()
     ensures { (input before after other : List ℕ) → ReplaysInput input (Some before) (Some after) → ReplaysInput input (Some before) (Some other) → after ≡ other }
 {}

@@ -11,6 +11,7 @@
 //! Nothing here knows where words and octets come from, nor what becomes of a fault.
 #![tactic(auto)]
 
+mod carriers;
 mod fault;
 mod input;
 pub mod law;

@@ -2,18 +2,14 @@
 
 ghost use Rattle.std.specs.Prelude.{◌≡◌, ◌≢◌, ◌⊎◌, None, Err, true, false, codes, map, string_bytes, IfSome, IfErr, MatchResult, OnOk};
 ghost use Rattle.std.specs.Io.KnownBytes.{Appends, Keeps};
-ghost use Rattle.leader1822.specs.Calls.{InOrder};
 ghost use Rattle.command_line.specs.Input.{IsInputFault, IsSomeInput};
 ghost use Rattle.command_line.specs.Options.{options_of};
-ghost use Rattle.command_line.specs.Replayed.{Ran, RanInPart, ReplaysInput, ReplaysPlain, StopsInput, StopsPlain};
-ghost use Rattle.command_line.specs.Steps.{IsReplayFault};
+ghost use Rattle.command_line.specs.Replayed.{Ran, RanInPart, ReplaysInput, StopsInput};
 
+use crate::carriers::{replay_on, write_last};
 use crate::fault::ScriptFault;
 use crate::input::{read_input, read_octets};
 use crate::options::{Options, OptionsFault};
-use leader1822::{HostAddr, PlainBoxes};
-use replay::{ReplayFault, replay_events};
-use script::Event;
 use std::alloc::Global;
 use std::io::{Read, Write};
 
@@ -40,7 +36,7 @@ pub fn run<R: Read, W: Write>(
     // without it what crosses at the hosts is a log that every host may rely on
     ensures ran { IfSome (options_of (map string_bytes words.now)) (λ options. options.check ≡ false → OnOk result (Ran (W.contents writer.old) (W.contents writer.new))) }
 
-    // and the script that was read is replayed between the hosts of the topology that was read
+    // and the script that was read is replayed over the carrier of the topology that was read
     ensures replayed { IfSome (options_of (map string_bytes words.now)) (λ options. options.check ≡ false → OnOk result (IfSome (R.remaining reader.old) (λ octets. ReplaysInput octets (W.contents writer.old) (W.contents writer.new)))) }
 
     // what is read is an input, or the first fault is given
@@ -86,7 +82,7 @@ pub fn run_script<R: Read, W: Write>(
     // without it what crosses at the hosts is a log that every host may rely on
     ensures ran { check ≡ false → OnOk result (Ran (W.contents writer.old) (W.contents writer.new)) }
 
-    // and the script that was read is replayed between the hosts of the topology that was read
+    // and the script that was read is replayed over the carrier of the topology that was read
     ensures replayed { check ≡ false → OnOk result (IfSome (R.remaining reader.old) (λ octets. ReplaysInput octets (W.contents writer.old) (W.contents writer.new))) }
     ensures options { IfErr result (λ f. f ≢ ScriptFault.BadOptions) }
 
@@ -108,44 +104,6 @@ pub fn run_script<R: Read, W: Write>(
     if check {
         write_last(writer, b"ok\n")
     } else {
-        replay_plain(alloc, input.hosts, &input.events, writer)
-    }
-}
-
-/// Replays events over plain mailboxes between these hosts, and writes what they show and a last line `end`.
-///
-/// Errors: `CannotWrite`; `OutOfMemory`, after which what the first of the events show is written.
-fn replay_plain<W: Write>(
-    alloc: Global,
-    hosts: Vec<HostAddr>,
-    events: &[Event],
-    writer: &mut W,
-) -> Result<(), ScriptFault>
-    requires { InOrder hosts.items }
-    ensures replayed { OnOk result (ReplaysPlain hosts.items events.now (W.contents writer.old) (W.contents writer.new)) }
-    ensures stopped { result ≡ Err ScriptFault.OutOfMemory → StopsPlain hosts.items events.now (W.contents writer.old) (W.contents writer.new) }
-    ensures fault { IfErr result IsReplayFault }
-{
-    let mut carrier = PlainBoxes::new(alloc, hosts);
-    match replay_events(&mut carrier, events, writer) {
-        Ok(()) => write_last(writer, b"end\n"),
-        Err(ReplayFault::OutOfMemory) => Err(ScriptFault::OutOfMemory),
-        Err(ReplayFault::CannotWrite) => Err(ScriptFault::CannotWrite),
-    }
-}
-
-/// Writes the last line, and all that the writer still holds back.
-///
-/// Errors: `CannotWrite`.
-fn write_last<W: Write>(writer: &mut W, line: &[u8]) -> Result<(), ScriptFault>
-    ensures written { OnOk result (Appends (W.contents writer.old) (W.contents writer.new) line.now) }
-    ensures fault { IfErr result (λ f. f ≡ ScriptFault.CannotWrite) }
-{
-    match writer.write_all(line) {
-        Ok(()) => match writer.flush() {
-            Ok(()) => Ok(()),
-            Err(_) => Err(ScriptFault::CannotWrite),
-        },
-        Err(_) => Err(ScriptFault::CannotWrite),
+        replay_on(alloc, &input.network, &input.events, writer)
     }
 }

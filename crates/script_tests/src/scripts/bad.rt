@@ -10,7 +10,7 @@ const NO_TOPOLOGIES: [&[u8]; 17] = [
     b"\0",
     b"\xFF\n%\n",
     b"raw = true\n[[imp]]\nid = 1\nhosts = 1\n%\n",
-    b"carrier = \"subnet\"\nraw = true\n[[imp]]\nid = 1\nhosts = 1\n%\n",
+    b"carrier = \"subnet\"\nraw = false\n[[imp]]\nid = 1\nhosts = 1\n%\n",
     b"carrier = \"plain\"\n[[imp]]\nid = 1\nhosts = 1\n%\n",
     b"carrier = \"plain\"\nraw = true\n[[imp]]\nid = 1\nhosts = 1\n",
     b"carrier = \"plain\"\nraw = true\nimp = []\n%\n",

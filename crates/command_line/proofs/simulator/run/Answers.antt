@@ -1,4 +1,4 @@
-use Rattle.command_line.proofs.Plain.{nothing_ran}
+use Rattle.command_line.proofs.Written.{nothing_ran}
 use Rattle.command_line.proofs.simulator.run.Goals as goal
 
 pub returns-in-Err-OutOfMemory-clause-ran_in_part : goal.returns-in-Err-OutOfMemory-clause-ran_in_part
