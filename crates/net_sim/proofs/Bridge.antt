@@ -37,7 +37,7 @@ contact_or h here (request.Close socket) = inr (refl, refl)
 contact_or h here (request.Echo peer octet) = inr (refl, refl)
 
 -- what holds of every contact and where nothing happens, holds of what a user asks for
-by_request : (P : Event → Type 0) (h : Host) (r : Request) → ((peer : Host) → P (Contact h peer)) → P Idle → P (event_by h r)
+pub by_request : (P : Event → Type 0) (h : Host) (r : Request) → ((peer : Host) → P (Contact h peer)) → P Idle → P (event_by h r)
 by_request P h r contact idle = elim (contact_or h 0 r) [
   | inl c ↦ subst (λ (x : Request). P (event_by h x)) (sym c.1) (contact c.0)
   | inr q ↦ subst P (sym q.0) idle

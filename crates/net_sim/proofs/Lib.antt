@@ -9,3 +9,4 @@ pub mod Refusals
 pub mod StoryLemmas
 pub mod Bridge
 pub mod Ordered
+pub mod Coupled
