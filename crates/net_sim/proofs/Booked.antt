@@ -26,11 +26,11 @@ use Rattle.net_sim.specs.World.{Calls, WorldState, WorldFault, Carrier, Program,
 
 -- ---- the crossings of what is kept
 
-told_crossings : (h : Host) (ns : List Notice) (k : Kept) → (all_told h ns k).book.crossings ≡ k.book.crossings
+pub told_crossings : (h : Host) (ns : List Notice) (k : Kept) → (all_told h ns k).book.crossings ≡ k.book.crossings
 told_crossings h [] k = refl
 told_crossings h (n ∷ ns) k = told_crossings h ns (told h n k)
 
-crossed_crossings : (cs : List Crossing) (k : Kept) → (all_crossed cs k).book.crossings ≡ cs ++ k.book.crossings
+pub crossed_crossings : (cs : List Crossing) (k : Kept) → (all_crossed cs k).book.crossings ≡ cs ++ k.book.crossings
 crossed_crossings [] k = refl
 crossed_crossings (c ∷ cs) k = ap (λ (xs : List Crossing). c ∷ xs) (crossed_crossings cs k)
 

@@ -92,11 +92,11 @@ fits_kind link answer.Incomplete (mail.Taken place text) h = refl
 
 -- ---- what a program says
 
-record Said (s : NcpState) (m : HostMessage) : Type 0 where
-  peer : Peer
-  parcel : Parcel
-  next : next_in s.peers ≡ Some (peer, parcel)
-  message : m ≡ message_for s.own peer parcel
+pub record Said (s : NcpState) (m : HostMessage) : Type 0 where
+  pub peer : Peer
+  pub parcel : Parcel
+  pub next : next_in s.peers ≡ Some (peer, parcel)
+  pub message : m ≡ message_for s.own peer parcel
 
 abbrev message_or : HostMessage → Option HostMessage → HostMessage
 message_or d None = d
@@ -106,7 +106,7 @@ said_by : (s : NcpState) (m : HostMessage) (o : Option (Peer × Parcel)) → nex
 said_by s m None e f = absurd (let no : None ≡ Some m = f in cc)
 said_by s m (Some (p, x)) e f = record { peer = p; parcel = x; next = e; message = sym (ap (message_or m) f) }
 
-said : (s : NcpState) (m : HostMessage) → next_out s ≡ Some m → Said s m
+pub said : (s : NcpState) (m : HostMessage) → next_out s ≡ Some m → Said s m
 unfolding next_out
 said s m e = said_by s m (next_in s.peers) refl e
 

@@ -10,3 +10,5 @@ pub mod StoryLemmas
 pub mod Bridge
 pub mod Ordered
 pub mod Coupled
+pub mod Seats
+pub mod Whole

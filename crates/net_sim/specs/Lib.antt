@@ -6,3 +6,4 @@ pub mod Carriers
 pub mod Worked
 pub mod Story
 pub mod Timeline
+pub mod Whole
