@@ -12,3 +12,4 @@ pub mod Ordered
 pub mod Coupled
 pub mod Seats
 pub mod Whole
+pub mod Always

@@ -1,8 +1,9 @@
 -- After every event of a world its book still tells one list of moments.
-use Rattle.std.proofs.Common.{◌≡◌, ◌⊎◌, inl, inr, ℕ, Bool, true, false, if◌then◌else◌, zero, suc, List, [], ◌∷◌, ◌++◌, map, length, nat_lt, Option, Some, None, Result, Ok, Err, refl, ap, sym, subst, ◌∙◌}
+use Rattle.std.proofs.Common.{◌≡◌, ◌⊎◌, inl, inr, ℕ, Bool, true, false, ◌||◌, if◌then◌else◌, zero, suc, List, [], ◌∷◌, ◌++◌, map, length, nat_lt, Option, Some, None, Result, Ok, Err, refl, ap, sym, subst, ◌∙◌}
 use Rattle.std.specs.Bool.{MatchBool}
 use Rattle.leader1822.specs.Calls.{Seen, ShowsOffer, ShowsTake, ShowsStep, ShowsRound, ShowsRefusal, ShowsCrossings, IsFor, halted, is_memory, crossing_of, step_crossings}
-use Rattle.leader1822.specs.Host.{Host, same_host}
+use Rattle.leader1822.specs.Host.{Host, same_host, is_host}
+use Rattle.leader1822.proofs.Lists.{same_host-refl}
 use Rattle.leader1822.specs.Mailboxes as mail
 use Rattle.leader1822.specs.declared.address.Flow.{Flow}
 use Rattle.leader1822.specs.declared.carrier.CarrierFault.{CarrierFault}
@@ -25,8 +26,9 @@ use Rattle.net_sim.specs.Book.{Called, Kept, contacts_asked, crossed, all_crosse
 use Rattle.net_sim.specs.Carriers.{shown}
 use Rattle.net_sim.specs.Story.{Moment, Crossed, Asked, program, places}
 use Rattle.net_sim.specs.Timeline.{Happens, IsAddressed, IsTimeline, contacts_of, crossings_of}
-use Rattle.net_sim.specs.Whole.{IsNamed, AreNamed, IsWhole, seat_in}
-use Rattle.net_sim.specs.World.{Calls, WorldState, WorldFault, Carrier, Program, Event, Net, Quiet, Offer, Take, Ask, Seat, opening_world, seat_of, seated, all_turned, with_program, with_carrier, moved, changed, served_at, Refuses, Does, Halts, Passes, OfferEnds, OfferGives, TakeEnds, TakeGives, NetEnds, QuietEnds, AskGives, AtProgram, AtSeat, EventGives, StepGives}
+use Rattle.net_sim.specs.Whole.{Each, IsNamed, IsWhole, seat_in}
+use Rattle.net_sim.specs.World.{Calls, WorldState, WorldFault, Carrier, Program, Event, Net, Quiet, Offer, Take, Ask, Seat, opening_world, seat_of, seated, all_turned, with_program, with_carrier, moved, changed, served_at, Refuses, Does, Halts, Passes, OfferEnds, OfferGives, TakeEnds, TakeGives, NetEnds, QuietEnds, AskGives, AtProgram, AtSeat, EventGives, StepGives, RunGives, CalmGives, opening_seats}
+use Rattle.net_sim.proofs.Always.{run_keeps, calm_keeps}
 use Rattle.net_sim.proofs.Booked.{told_crossings, crossed_crossings}
 use Rattle.net_sim.proofs.Bridge.{places_same}
 use Rattle.net_sim.proofs.Coupled.{Said, said}
@@ -215,3 +217,39 @@ module _ {C : Type 0} (own : Calls C) (hosts : List Host) where
 
   pub step_whole : (e : Event) (old : WorldState C) (r : Result (Unit {0}) WorldFault) (new : WorldState C) → IsNamed e → Whole old → StepGives calls old e r new → Whole new
   step_whole e old r new named w h = if_stopped (EventGives calls old e r new) old r new w (λ running g. event_whole e old r new named w running g) old.stopped refl h
+
+  -- ---- several events, and none
+
+  pub run_whole : (events : List Event) (old : WorldState C) (r : Result (Unit {0}) WorldFault) (new : WorldState C) → Each IsNamed events → Whole old → RunGives calls old events r new → Whole new
+  run_whole events old r new named w h = run_keeps calls Whole IsNamed tt (λ x. tt) (λ x. tt) step_whole events old r new named w h
+
+  pub calm_whole : (times : ℕ) (old : WorldState C) (r : Result (Unit {0}) WorldFault) (new : WorldState C) → Whole old → CalmGives calls times old r new → Whole new
+  calm_whole times old r new w h = calm_keeps calls Whole IsNamed tt (λ x. tt) (λ x. tt) step_whole times old r new w h
+
+-- a host that stands among some is one of them
+host_by : (hs : List Host) (h : Host) → (rest : Bool) → (same_host h h || rest) ≡ true
+host_by hs h rest = rw (same_host-refl h) refl
+
+later_host : (g h : Host) (b : Bool) → (same_host h g || true) ≡ true
+later_host g h b = by (same_host h g) where
+  by : (c : Bool) → (c || true) ≡ true
+  by true = refl
+  by false = refl
+
+-- the opening seats
+opening_by : (hosts hs : List Host) → ((h : Host) → is_host hs h ≡ true → is_host hosts h ≡ true) → opening_seats hs ≡ map (seat_in hosts []) hs
+opening_by hosts [] all = refl
+opening_by hosts (h ∷ hs) all =
+    let here : is_host hosts h ≡ true = all h (host_by hs h (is_host hs h)) in
+    let seat : record { host = h; program = Some (program h []) } ≡ seat_in hosts [] h = rw here refl in
+    ap (λ (s : Seat). s ∷ opening_seats hs) seat ∙ ap (λ (ss : List Seat). seat_in hosts [] h ∷ ss) (opening_by hosts hs (λ g is. all g (rw is (later_host h g true))))
+
+pub opening_whole : {C : Type 0} (own : Calls C) (c : C) → IsWhole own.seen (own.seen c).hosts (opening_world (shown own) c)
+opening_whole own c = record {
+  moments = [];
+  timeline = tt;
+  network = refl;
+  crossings = refl;
+  contacts = refl;
+  seats = λ running. opening_by (own.seen c).hosts (own.seen c).hosts (λ h is. is);
+}

@@ -29,6 +29,6 @@ IsNamed (Offer h) = Unit {0}
 IsNamed (Take h) = Unit {0}
 IsNamed (Ask h r) = IsAddressed r
 
-abbrev pub AreNamed : List Event → Type 0
-AreNamed [] = Unit {0}
-AreNamed (e ∷ events) = IsNamed e × AreNamed events
+abbrev pub Each : (Event → Type 0) → List Event → Type 0
+Each P [] = Unit {0}
+Each P (e ∷ events) = P e × Each P events
