@@ -45,7 +45,7 @@ by_request P h r contact idle = elim (contact_or h 0 r) [
 
 -- ---- places and hosts that are up
 
-place_by : (c : Crossing) (events : List Event) → place (event_of c ∷ events) ≡ 1 + place events
+pub place_by : (c : Crossing) (events : List Event) → place (event_of c ∷ events) ≡ 1 + place events
 place_by (crossing.Out m) events = refl
 place_by (crossing.In m) events = refl
 place_by (crossing.Answer kind f) events = refl
@@ -91,7 +91,7 @@ seen_fetched link (mail.Waiting place text) = refl
 seen_fetched link (mail.Taken place text) = refl
 
 -- all links of a pair of hosts
-abbrev SameBoxes : (ℕ → Box) → (ℕ → mail.Box) → Type 0
+abbrev pub SameBoxes : (ℕ → Box) → (ℕ → mail.Box) → Type 0
 SameBoxes bs ms = (k : ℕ) → bs k ≡ seen_box k (ms k)
 
 out_by : (here there link k : ℕ) (text : List Bool) (bs : ℕ → Box) (ms : ℕ → mail.Box) → here ≡ there → SameBoxes bs ms → (b c : Bool) → (k == link) ≡ c
@@ -118,20 +118,21 @@ up_clears : (here k : ℕ) (bs : ℕ → Box) (ms : ℕ → mail.Box) → SameBo
 up_clears here k bs ms h true = refl
 up_clears here k bs ms h false = h k
 
+-- one crossing more
+pub box_step : (a b : Host) (c : Crossing) (events : List Event) (log : List Crossing) → place events ≡ length log → SameBoxes (boxes a b events) (λ k. mail.box_of (flow_of a b k) log)
+    → SameBoxes (boxes a b (event_of c ∷ events)) (λ k. mail.box_of (flow_of a b k) (c ∷ log))
+box_step a b (crossing.Out m) events log at h k =
+    out_by (place events) (length log) m.flow.link.0 k m.text (boxes a b events) (λ l. mail.box_of (flow_of a b l) log) at h (are a b m.flow.source m.flow.destination) (k == m.flow.link.0) refl
+box_step a b (crossing.In m) events log at h k =
+    in_by (place events) m.flow.link.0 k (boxes a b events) (λ l. mail.box_of (flow_of a b l) log) h (are a b m.flow.source m.flow.destination) (k == m.flow.link.0) refl
+box_step a b (crossing.Answer kind f) events log at h k =
+    clear_by (place events) f.link.0 k (boxes a b events) (λ l. mail.box_of (flow_of a b l) log) h (are a b f.source f.destination) (k == f.link.0) refl
+box_step a b (crossing.Down g) events log at h k = h k
+box_step a b (crossing.Up g) events log at h k = up_clears (place events) k (boxes a b events) (λ l. mail.box_of (flow_of a b l) log) h (same_host a g)
+
 pub box_same : (a b : Host) (moments : List Moment) (k : ℕ) → boxes a b (events_of moments) k ≡ seen_box k (mail.box_of (flow_of a b k) (crossings_of moments))
 box_same a b [] k = refl
-box_same a b (Crossed (crossing.Out m) ∷ moments) k =
-    out_by (place (events_of moments)) (length (crossings_of moments)) m.flow.link.0 k m.text (boxes a b (events_of moments)) (λ l. mail.box_of (flow_of a b l) (crossings_of moments)) (place_same moments)
-    (box_same a b moments) (are a b m.flow.source m.flow.destination) (k == m.flow.link.0) refl
-box_same a b (Crossed (crossing.In m) ∷ moments) k =
-    in_by (place (events_of moments)) m.flow.link.0 k (boxes a b (events_of moments)) (λ l. mail.box_of (flow_of a b l) (crossings_of moments))
-    (box_same a b moments) (are a b m.flow.source m.flow.destination) (k == m.flow.link.0) refl
-box_same a b (Crossed (crossing.Answer kind f) ∷ moments) k =
-    clear_by (place (events_of moments)) f.link.0 k (boxes a b (events_of moments)) (λ l. mail.box_of (flow_of a b l) (crossings_of moments))
-    (box_same a b moments) (are a b f.source f.destination) (k == f.link.0) refl
-box_same a b (Crossed (crossing.Down h) ∷ moments) k = box_same a b moments k
-box_same a b (Crossed (crossing.Up h) ∷ moments) k =
-    up_clears (place (events_of moments)) k (boxes a b (events_of moments)) (λ l. mail.box_of (flow_of a b l) (crossings_of moments)) (box_same a b moments) (same_host a h)
+box_same a b (Crossed c ∷ moments) k = box_step a b c (events_of moments) (crossings_of moments) (place_same moments) (box_same a b moments) k
 box_same a b (Asked h r ∷ moments) k =
     by_request (λ e. boxes a b (e ∷ events_of moments) k ≡ seen_box k (mail.box_of (flow_of a b k) (crossings_of moments))) h r (λ peer. box_same a b moments k) (box_same a b moments k)
 

@@ -13,3 +13,4 @@ pub mod Coupled
 pub mod Seats
 pub mod Whole
 pub mod Always
+pub mod BookEvents
