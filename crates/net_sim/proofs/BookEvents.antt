@@ -1,15 +1,12 @@
 -- What resets see of a book is what they see of its moments.
-use Rattle.std.proofs.Common.{◌≡◌, ◌⊎◌, inl, inr, ℕ, ◌+◌, ◌<◌, ◌≤◌, Bool, true, false, ◌==◌, if◌then◌else◌, List, [], ◌∷◌, ◌++◌, length, Option, Some, None, refl, ap, sym, subst, ◌∙◌, arith, zero, suc, eq-eqb}
+use Rattle.std.proofs.Common.{◌≡◌, inl, inr, ℕ, ◌+◌, ◌<◌, ◌≤◌, Bool, true, false, ◌==◌, if◌then◌else◌, List, [], ◌∷◌, ◌++◌, length, refl, ap, sym, subst, ◌∙◌, arith, eq-eqb}
 use Rattle.std.proofs.lemmas.List.{append-nil, append_assoc}
 use Rattle.std.proofs.lemmas.Bool.{eqb-true}
 use Rattle.leader1822.specs.Host.{Host}
 use Rattle.leader1822.specs.Mailboxes as mail
 use Rattle.leader1822.specs.Mailboxes.{same_flow}
-use Rattle.leader1822.specs.declared.address.Flow.{Flow}
 use Rattle.leader1822.specs.declared.crossing.Crossing.{Crossing}
-use Rattle.leader1822.specs.declared.crossing.Crossing.TheVariants as crossing
 use Rattle.sockets.specs.declared.request.Request.{Request}
-use Rattle.sockets.specs.declared.request.Request.TheVariants as request
 use Rattle.reset_law.specs.Boxes.{Box, WaitsWith, Fits, boxes, post_of, posted}
 use Rattle.reset_law.specs.Events.{Event, Contact, Out, In, Told, Down, Up, Idle, is_up, part_of, place, turned}
 use Rattle.reset_law.specs.Pairs.{Pair, MaySend, moved, pair}
@@ -18,7 +15,7 @@ use Rattle.net_sim.specs.Book.{Called, contacts_asked}
 use Rattle.net_sim.specs.Projection.{event_of, event_by}
 use Rattle.net_sim.specs.Story.{Moment, Crossed, Asked, events_of, places}
 use Rattle.net_sim.specs.Timeline.{called_at, contacts_of, crossings_of, events_in}
-use Rattle.net_sim.proofs.Bridge.{SameBoxes, box_step, contact_or, flow_of, place_by, place_same, places_same, seen_box}
+use Rattle.net_sim.proofs.Bridge.{SameBoxes, box_step, contact_or, flow_of, place_by, places_same}
 
 -- ---- the events of moments, without what is nothing to resets
 
@@ -87,9 +84,11 @@ allowed_told (Up x) es fs ps n = tt
 allowed_told Idle es fs ps n = tt
 
 event_told : (hosts : List Host) (e : Event) (moments : List Moment) → Needs hosts e (events_of moments) → Allowed e (events_of moments) → IsRun hosts (told_events moments) → IsRun hosts (e ∷ told_events moments)
-event_told hosts e moments n a r =
-    (needs_told hosts e (told_events moments) (events_of moments) (λ h. up_told hosts h moments) (λ x y. boxes_told x y moments) n,
-    allowed_told e (told_events moments) (events_of moments) (λ x y. pair_told x y moments) a, r)
+event_told hosts e moments n a r = (
+  needs_told hosts e (told_events moments) (events_of moments) (λ h. up_told hosts h moments) (λ x y. boxes_told x y moments) n,
+  allowed_told e (told_events moments) (events_of moments) (λ x y. pair_told x y moments) a,
+  r,
+)
 
 pub run_told : (hosts : List Host) (moments : List Moment) → IsRun hosts (events_of moments) → IsRun hosts (told_events moments)
 run_told hosts [] r = tt
@@ -195,6 +194,7 @@ place_called n [] es = refl
 place_called n (x ∷ xs) es = ap place (append_assoc (called_at n xs) (one (x.place == n)) es) ∙ place_called n xs (one (x.place == n) ++ es) ∙ by (x.place == n) where
   one : Bool → List Event
   one b = if b then Contact x.host x.peer ∷ [] else []
+
   by : (b : Bool) → place ((if b then Contact x.host x.peer ∷ [] else []) ++ es) ≡ place es
   by true = refl
   by false = refl
@@ -204,9 +204,9 @@ boxes_called a b n [] es = refl
 boxes_called a b n (x ∷ xs) es =
     ap (λ (fs : List Event). boxes a b fs) (append_assoc (called_at n xs) (if x.place == n then Contact x.host x.peer ∷ [] else []) es)
     ∙ boxes_called a b n xs ((if x.place == n then Contact x.host x.peer ∷ [] else []) ++ es) ∙ by (x.place == n) where
-  by : (c : Bool) → boxes a b ((if c then Contact x.host x.peer ∷ [] else []) ++ es) ≡ boxes a b es
-  by true = refl
-  by false = refl
+      by : (c : Bool) → boxes a b ((if c then Contact x.host x.peer ∷ [] else []) ++ es) ≡ boxes a b es
+      by true = refl
+      by false = refl
 
 place_in : (contacts : List Called) (log : List Crossing) → place (events_in contacts log) ≡ length log
 place_in contacts [] = by (append-nil (called_at 0 contacts)) where

@@ -1,5 +1,5 @@
 -- The book has what crossed, after every list of events.
-use Rattle.std.proofs.Common.{◌≡◌, inl, inr, ℕ, Bool, true, false, if◌then◌else◌, zero, suc, List, [], ◌∷◌, ◌++◌, length, nat_lt, Option, Some, None, Result, Ok, Err, refl, ap, sym, subst, ◌∙◌}
+use Rattle.std.proofs.Common.{◌≡◌, inl, inr, ℕ, Bool, true, false, if◌then◌else◌, List, [], ◌∷◌, ◌++◌, length, Option, Some, None, Result, Ok, Err, refl, ap, sym, subst, ◌∙◌}
 use Rattle.std.specs.Bool.{MatchBool}
 use Rattle.leader1822.specs.Calls.{Seen, ShowsOffer, ShowsTake, ShowsStep, ShowsRound, ShowsRefusal, ShowsCrossings, halted, is_memory, crossing_of, step_crossings}
 use Rattle.leader1822.specs.Host.{Host}
@@ -24,7 +24,7 @@ use Rattle.net_sim.specs.Book.{Kept, crossed, all_crossed, told, all_told, asked
 use Rattle.net_sim.specs.Carriers.{shown, IsBooked}
 use Rattle.net_sim.specs.Whole.{Each}
 use Rattle.net_sim.proofs.Always.{run_keeps, calm_keeps}
-use Rattle.net_sim.specs.World.{Calls, WorldState, WorldFault, Carrier, Program, Event, Net, Quiet, Offer, Take, Ask, Seat, opening_world, seat_of, with_carrier, moved, changed, served_at, Refuses, Does, Halts, Passes, OfferEnds, OfferGives, TakeEnds, TakeGives, NetEnds, QuietEnds, AskGives, AtProgram, AtSeat, EventGives, StepGives, stops, Runs, RunGives, Repeats, TurnsOf, up_in, Calms, CalmGives}
+use Rattle.net_sim.specs.World.{Calls, WorldState, WorldFault, Carrier, Program, Event, Net, Quiet, Offer, Take, Ask, Seat, opening_world, seat_of, with_carrier, moved, changed, served_at, Refuses, Does, Halts, Passes, OfferEnds, OfferGives, TakeEnds, TakeGives, NetEnds, QuietEnds, AskGives, AtProgram, AtSeat, EventGives, StepGives, RunGives, CalmGives}
 
 -- ---- the crossings of what is kept
 

@@ -1,5 +1,5 @@
 -- The law of resets has the mailboxes, the hosts that are up and the places that the crossings have.
-use Rattle.std.proofs.Common.{◌≡◌, ◌⊎◌, inl, inr, ℕ, ◌+◌, Bool, true, false, ◌&&◌, ◌==◌, if◌then◌else◌, List, [], ◌∷◌, length, Option, Some, None, refl, ap, sym, subst, ◌∙◌, arith, zero, suc}
+use Rattle.std.proofs.Common.{◌≡◌, ◌⊎◌, inl, inr, ℕ, ◌+◌, Bool, true, false, ◌&&◌, ◌==◌, if◌then◌else◌, List, [], ◌∷◌, length, refl, ap, sym, subst, ◌∙◌, arith}
 use Rattle.std.proofs.lemmas.Bool.{eqb-true}
 use Rattle.leader1822.specs.Host.{Host, same_host}
 use Rattle.leader1822.specs.Mailboxes as mail
@@ -8,16 +8,15 @@ use Rattle.leader1822.specs.declared.crossing.Answer.{Answer}
 use Rattle.leader1822.specs.declared.crossing.Answer.TheVariants as answer
 use Rattle.leader1822.specs.declared.crossing.Crossing.{Crossing}
 use Rattle.leader1822.specs.declared.crossing.Crossing.TheVariants as crossing
-use Rattle.leader1822.specs.declared.message.HostMessage.{HostMessage}
 use Rattle.sockets.specs.declared.request.Request.{Request}
 use Rattle.sockets.specs.declared.request.Request.TheVariants as request
-use Rattle.reset_law.specs.Boxes.{Box, Empty, Waiting, Taken, WaitsWith, Fits, Post, Put, Fetch, Clear, ClearAll, fetched, at_link, posted, boxes}
+use Rattle.reset_law.specs.Boxes.{Box, Waiting, WaitsWith, Fits, Put, Fetch, Clear, ClearAll, fetched, posted, boxes}
 use Rattle.reset_law.specs.Events.{Event, Contact, Idle, are, when, place, is_up}
 use Rattle.reset_law.specs.Runs.{Needs}
-use Rattle.net_sim.specs.Book.{Called, contacts_asked}
+use Rattle.net_sim.specs.Book.{contacts_asked}
 use Rattle.net_sim.specs.Projection.{message_on, event_of, event_by}
 use Rattle.net_sim.specs.Story.{Moment, Crossed, Asked, places, events_of}
-use Rattle.net_sim.specs.Timeline.{crossings_of}
+use Rattle.net_sim.specs.Timeline.{crossings_of, seen_box}
 
 -- ---- what a user asks for is a contact, or nothing to a reset
 
@@ -78,12 +77,6 @@ up_same hosts h (Asked g r ∷ moments) = by_request (λ e. is_up hosts h (e ∷
 
 abbrev pub flow_of : Host → Host → ℕ → Flow
 flow_of a b link = record { source = a; destination = b; link = record { 0 = link } }
-
--- a box as the law of resets has it
-abbrev pub seen_box : ℕ → mail.Box → Box
-seen_box link mail.Empty = Empty
-seen_box link (mail.Waiting place text) = Waiting place (message_on link text)
-seen_box link (mail.Taken place text) = Taken place (message_on link text)
 
 seen_fetched : (link : ℕ) (box : mail.Box) → fetched (seen_box link box) ≡ seen_box link (mail.fetched box)
 seen_fetched link mail.Empty = refl
@@ -157,11 +150,13 @@ seen_fits link answer.Incomplete (mail.Taken place text) h = h
 pub needs_same : (hosts : List Host) (c : Crossing) (moments : List Moment) → mail.Needs hosts c (crossings_of moments) → Needs hosts (event_of c) (events_of moments)
 needs_same hosts (crossing.Out m) moments n =
     (up_same hosts m.flow.source moments ∙ n.0, box_same m.flow.source m.flow.destination moments m.flow.link.0 ∙ ap (seen_box m.flow.link.0) n.1)
-needs_same hosts (crossing.In m) moments n =
-    (up_same hosts m.flow.destination moments ∙ n.0,
-    subst (λ (x : Box). WaitsWith x (message_on m.flow.link.0 m.text)) (sym (box_same m.flow.source m.flow.destination moments m.flow.link.0)) (seen_waits m.flow.link.0 (mail.box_of m.flow (crossings_of moments)) m.text n.1))
-needs_same hosts (crossing.Answer kind f) moments n =
-    (up_same hosts f.source moments ∙ n.0,
-    subst (λ (x : Box). Fits kind x) (sym (box_same f.source f.destination moments f.link.0)) (seen_fits f.link.0 kind (mail.box_of f (crossings_of moments)) n.1))
+needs_same hosts (crossing.In m) moments n = (
+  up_same hosts m.flow.destination moments ∙ n.0,
+  subst (λ (x : Box). WaitsWith x (message_on m.flow.link.0 m.text)) (sym (box_same m.flow.source m.flow.destination moments m.flow.link.0)) (seen_waits m.flow.link.0 (mail.box_of m.flow (crossings_of moments)) m.text n.1),
+)
+needs_same hosts (crossing.Answer kind f) moments n = (
+  up_same hosts f.source moments ∙ n.0,
+  subst (λ (x : Box). Fits kind x) (sym (box_same f.source f.destination moments f.link.0)) (seen_fits f.link.0 kind (mail.box_of f (crossings_of moments)) n.1),
+)
 needs_same hosts (crossing.Down h) moments n = up_same hosts h moments ∙ n
 needs_same hosts (crossing.Up h) moments n = (n.0, up_same hosts h moments ∙ n.1)

@@ -1,5 +1,5 @@
 -- What the hosts do over the mailboxes is a run of the law of resets.
-use Rattle.std.proofs.Common.{◌≡◌, ℕ, Bool, true, false, ◌==◌, if◌then◌else◌, List, [], ◌∷◌, Option, Some, None, is_some, refl, ap, sym, subst, ◌∙◌}
+use Rattle.std.proofs.Common.{◌≡◌, ℕ, Bool, true, false, if◌then◌else◌, List, [], ◌∷◌, Option, Some, None, is_some, refl, ap, sym, subst, ◌∙◌}
 use Rattle.leader1822.specs.Host.{Host, IsAddress, same_host, is_host}
 use Rattle.leader1822.specs.Mailboxes as mail
 use Rattle.leader1822.specs.Mailboxes.{same_flow}
@@ -9,8 +9,7 @@ use Rattle.leader1822.specs.declared.crossing.Answer.TheVariants as answer
 use Rattle.leader1822.specs.declared.crossing.Crossing.{Crossing}
 use Rattle.leader1822.specs.declared.crossing.Crossing.TheVariants as crossing
 use Rattle.leader1822.specs.declared.message.HostMessage.{HostMessage}
-use Rattle.leader1822.proofs.Lists.{same_host-true, same_flow-true, waits_with}
-use Rattle.sockets.specs.Accepting.{accepted}
+use Rattle.leader1822.proofs.Lists.{same_host-true, same_flow-true}
 use Rattle.sockets.specs.Pairs.{NcpState, opening_state, pair_with}
 use Rattle.sockets.specs.Peers.{AreInOrder}
 use Rattle.sockets.specs.Requests.{served}
@@ -18,19 +17,19 @@ use Rattle.sockets.specs.Sending.{Parcel, message_for, message_of, next_in, next
 use Rattle.sockets.specs.declared.peer.Peer.{Peer}
 use Rattle.sockets.specs.declared.request.Request.{Request}
 use Rattle.reset_law.specs.Boxes.{Box, boxes}
-use Rattle.reset_law.specs.Events.{Event, is_up}
+use Rattle.reset_law.specs.Events.{is_up}
 use Rattle.reset_law.specs.Invariant.{kind_in, Sound}
 use Rattle.reset_law.specs.Monitor.{monitor}
 use Rattle.reset_law.specs.Pairs.{Kind, MaySend, pair}
 use Rattle.reset_law.specs.Runs.{Needs, Allowed, IsRun}
 use Rattle.reset_law.proofs.Runs.{sound_run}
-use Rattle.net_sim.specs.Projection.{Agrees, IsApart, Speaks, message_on, event_of, event_by}
-use Rattle.net_sim.specs.Story.{Moment, Crossed, Asked, places, events_of, after, program, IsNext, Follows, IsStory}
-use Rattle.net_sim.specs.Timeline.{IsAddressed, IsSpoken, AreSpoken, Happens, IsTimeline, crossings_of}
-use Rattle.net_sim.proofs.Bridge.{by_request, box_same, needs_same, seen_box, up_same}
+use Rattle.net_sim.specs.Projection.{Agrees, IsApart, Speaks, message_on}
+use Rattle.net_sim.specs.Story.{Moment, Crossed, Asked, places, events_of, program, IsStory}
+use Rattle.net_sim.specs.Timeline.{IsSpoken, AreSpoken, Happens, IsTimeline, crossings_of, seen_box}
+use Rattle.net_sim.proofs.Bridge.{by_request, box_same, needs_same, up_same}
 use Rattle.net_sim.proofs.Offers.{offer_apart, offer_may}
 use Rattle.net_sim.proofs.Ordered.{answer_order, message_order, offer_order, request_order}
-use Rattle.net_sim.proofs.StoryLemmas.{program_own, story_agrees}
+use Rattle.net_sim.proofs.StoryLemmas.{story_agrees}
 
 -- ---- what waits
 

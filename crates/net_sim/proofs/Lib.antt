@@ -14,3 +14,4 @@ pub mod Seats
 pub mod Whole
 pub mod Always
 pub mod BookEvents
+pub mod Clean

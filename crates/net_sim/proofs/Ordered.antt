@@ -1,5 +1,5 @@
 -- Each call of a host's program keeps its peers in order of their address octets.
-use Rattle.std.proofs.Common.{◌≡◌, ℕ, Bool, true, false, if◌then◌else◌, List, [], ◌∷◌, find, Option, Some, None, refl, ap, sym, subst, ◌∙◌}
+use Rattle.std.proofs.Common.{◌≡◌, ℕ, Bool, true, false, List, [], ◌∷◌, find, Option, Some, None, refl, ap, sym, subst}
 use Rattle.leader1822.specs.Host.{Host, IsAddress, same_host, address_octet}
 use Rattle.leader1822.specs.declared.address.Flow.{Flow}
 use Rattle.leader1822.specs.declared.crossing.Answer.{Answer}
@@ -9,9 +9,9 @@ use Rattle.leader1822.proofs.Lists.{same_host-true}
 use Rattle.ncp_control.specs.declared.command.Command.TheVariants as command
 use Rattle.sockets.specs.Accepting.{accepted, accepted_message, accepted_answer, message_taken, answered_turn, turn_of}
 use Rattle.sockets.specs.Commands.{granted}
-use Rattle.sockets.specs.Entries.{is_busy, is_mine_on, sending_end, receiving_end, free_link}
+use Rattle.sockets.specs.Entries.{is_busy, is_mine_on, sending_end, free_link}
 use Rattle.sockets.specs.Pair.{PairState, is_opening}
-use Rattle.sockets.specs.Pairs.{NcpState, desk_of, pair_with, with_pair, placed, without_peer, listens_on, owner_of, owner_first}
+use Rattle.sockets.specs.Pairs.{NcpState, desk_of, pair_with, with_pair, placed, without_peer, listens_on, owner_of}
 use Rattle.sockets.specs.Peers.{StandAbove, AreInOrder}
 use Rattle.sockets.specs.Requests.{served, contacted, requested, receiver_requested, with_end, with_more_bits, commanded, interrupt_of, at_owner, closed_end, closed_socket}
 use Rattle.sockets.specs.Sending.{Parcel, next_of, next_in, link_of, pair_after, parcel_gone, offered, offered_by}

@@ -1,5 +1,5 @@
 -- The seats of a world after one moment more.
-use Rattle.std.proofs.Common.{◌≡◌, ℕ, Bool, true, false, ◌||◌, if◌then◌else◌, List, [], ◌∷◌, ◌++◌, map, find, Option, Some, None, refl, ap, sym, subst, ◌∙◌}
+use Rattle.std.proofs.Common.{◌≡◌, Bool, true, false, if◌then◌else◌, List, [], ◌∷◌, ◌++◌, map, Option, Some, None, refl, ap, sym, subst, ◌∙◌}
 use Rattle.std.specs.Prelude.{reverse}
 use Rattle.std.proofs.lemmas.Grind.{reverse_onto}
 use Rattle.leader1822.specs.Calls.{Seen, step_crossings, up_at}
@@ -7,14 +7,11 @@ use Rattle.leader1822.specs.Host.{Host, same_host}
 use Rattle.leader1822.specs.Mailboxes as mail
 use Rattle.leader1822.specs.declared.crossing.Crossing.{Crossing}
 use Rattle.leader1822.specs.declared.crossing.Crossing.TheVariants as crossing
-use Rattle.leader1822.specs.declared.crossing.Inbound.{Inbound}
-use Rattle.leader1822.specs.declared.crossing.Inbound.TheVariants as inbound
 use Rattle.leader1822.specs.declared.event.NetEvent.{NetEvent}
 use Rattle.leader1822.specs.declared.event.NetEvent.TheVariants as event
-use Rattle.leader1822.specs.declared.message.HostMessage.{HostMessage}
 use Rattle.leader1822.proofs.Lists.{both_ways, same_host-refl, same_host-true}
 use Rattle.sockets.specs.Pairs.{NcpState, opening_state}
-use Rattle.net_sim.specs.Story.{Moment, Crossed, Asked, program, places}
+use Rattle.net_sim.specs.Story.{Moment, Crossed, program}
 use Rattle.net_sim.specs.Timeline.{IsTimeline, contacts_of, crossings_of}
 use Rattle.net_sim.specs.Whole.{seat_in}
 use Rattle.net_sim.specs.World.{Seat, all_turned, seat_of, seated, turned, with_program}
@@ -26,9 +23,9 @@ found_by : (hosts hs : List Host) (moments : List Moment) (h g : Host) (seat : S
 found_by hosts hs moments h g seat rest true e is =
     let first : seat_in hosts moments g ≡ seat = ap (seat_or seat) (rw e at is) in
     sym first ∙ ap (λ (x : Host). seat_in hosts moments x) (sym (same_host-true h g e)) where
-  seat_or : Seat → Option Seat → Seat
-  seat_or d None = d
-  seat_or d (Some s) = s
+      seat_or : Seat → Option Seat → Seat
+      seat_or d None = d
+      seat_or d (Some s) = s
 found_by hosts hs moments h g seat rest false e is = rest (rw e at is)
 
 pub found_seat : (hosts hs : List Host) (moments : List Moment) (h : Host) (seat : Seat) → seat_of h (map (seat_in hosts moments) hs) ≡ Some seat → seat ≡ seat_in hosts moments h

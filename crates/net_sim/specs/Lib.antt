@@ -7,3 +7,4 @@ pub mod Worked
 pub mod Story
 pub mod Timeline
 pub mod Whole
+pub mod Clean

@@ -1,7 +1,7 @@
 -- The moments of a book, and what resets see of it: its crossings, and the contacts that users asked for.
-use Rattle.std.specs.Prelude.{◌≡◌, ℕ, ◌+◌, ◌==◌, Bool, true, false, if◌then◌else◌, List, [], ◌∷◌, ◌++◌, map, length, Option, Some, None}
-use Rattle.leader1822.specs.Calls.{Seen}
-use Rattle.leader1822.specs.Host.{Host, IsAddress, is_host}
+use Rattle.std.specs.Prelude.{◌≡◌, ℕ, ◌==◌, true, if◌then◌else◌, List, [], ◌∷◌, ◌++◌, length, Some}
+use Rattle.leader1822.specs.Host.{Host, IsAddress}
+use Rattle.leader1822.specs.Mailboxes as mail
 use Rattle.leader1822.specs.Mailboxes.{is_up}
 use Rattle.leader1822.specs.declared.crossing.Crossing.{Crossing}
 use Rattle.leader1822.specs.declared.crossing.Crossing.TheVariants as crossing
@@ -9,11 +9,11 @@ use Rattle.sockets.specs.Sending.{Parcel, next_in, next_out}
 use Rattle.sockets.specs.declared.peer.Peer.{Peer}
 use Rattle.sockets.specs.declared.request.Request.{Request}
 use Rattle.sockets.specs.declared.request.Request.TheVariants as request
+use Rattle.reset_law.specs.Boxes.{Box, Empty, Waiting, Taken}
 use Rattle.reset_law.specs.Events.{Event, Contact}
-use Rattle.net_sim.specs.Book.{Book, Called, contacts_asked}
-use Rattle.net_sim.specs.Projection.{Speaks, event_of}
+use Rattle.net_sim.specs.Book.{Called, contacts_asked}
+use Rattle.net_sim.specs.Projection.{Speaks, event_of, message_on}
 use Rattle.net_sim.specs.Story.{Moment, Crossed, Asked, program, places}
-use Rattle.net_sim.specs.World.{Seat, WorldState}
 
 -- ---- what resets see of a book
 
@@ -26,6 +26,12 @@ called_at place (x ∷ xs) = called_at place xs ++ (if x.place == place then Con
 abbrev pub events_in : List Called → List Crossing → List Event
 events_in contacts [] = called_at 0 contacts
 events_in contacts (c ∷ log) = called_at (length (c ∷ log)) contacts ++ event_of c ∷ events_in contacts log
+
+-- a box as the law of resets has it
+abbrev pub seen_box : ℕ → mail.Box → Box
+seen_box link mail.Empty = Empty
+seen_box link (mail.Waiting place text) = Waiting place (message_on link text)
+seen_box link (mail.Taken place text) = Taken place (message_on link text)
 
 -- ---- moments
 
