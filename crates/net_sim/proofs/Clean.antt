@@ -82,7 +82,7 @@ module _ {C : Type 0} (seen : C → Seen) (hosts : List Host) (w : WorldState C)
   book_coupled =
       let all : mail.IsRun hosts (lawful.booked.unbooked ++ log) = subst (λ (xs : List Crossing). mail.IsRun hosts xs) lawful.booked.book lawful.run in
       let run : mail.IsRun hosts (crossings_of lawful.whole.moments) = subst (λ (xs : List Crossing). mail.IsRun hosts xs) lawful.whole.crossings (run_below hosts lawful.booked.unbooked log all) in
-      coupled hosts lawful.addresses lawful.whole.moments run lawful.whole.timeline lawful.spoken
+      coupled hosts lawful.addresses lawful.whole.moments run lawful.whole.timeline
 
   book_events : events_in contacts log ≡ told_events lawful.whole.moments
   book_events =

@@ -23,9 +23,9 @@ use Rattle.reset_law.specs.Monitor.{monitor}
 use Rattle.reset_law.specs.Pairs.{Kind, MaySend, pair}
 use Rattle.reset_law.specs.Runs.{Needs, Allowed, IsRun}
 use Rattle.reset_law.proofs.Runs.{sound_run}
-use Rattle.net_sim.specs.Projection.{Agrees, IsApart, Speaks, message_on}
+use Rattle.net_sim.specs.Projection.{Agrees, IsApart, message_on}
 use Rattle.net_sim.specs.Story.{Moment, Crossed, Asked, places, events_of, program, IsStory}
-use Rattle.net_sim.specs.Timeline.{IsSpoken, AreSpoken, Happens, IsTimeline, crossings_of, seen_box}
+use Rattle.net_sim.specs.Timeline.{Happens, IsTimeline, crossings_of, seen_box}
 use Rattle.net_sim.proofs.Bridge.{by_request, box_same, needs_same, up_same}
 use Rattle.net_sim.proofs.Offers.{offer_apart, offer_may}
 use Rattle.net_sim.proofs.Ordered.{answer_order, message_order, offer_order, request_order}
@@ -123,21 +123,20 @@ order_if false s t k o = o
 
 module _ (hosts : List Host) (addresses : (h : Host) → is_host hosts h ≡ true → IsAddress h) where
   out_coupled : (m : HostMessage) (moments : List Moment) → mail.IsRun hosts (crossings_of moments) → mail.Needs hosts (crossing.Out m) (crossings_of moments)
-      → Happens hosts (Crossed (crossing.Out m)) moments → IsSpoken (Crossed (crossing.Out m)) moments → Coupled hosts moments → Coupled hosts (Crossed (crossing.Out m) ∷ moments)
-  out_coupled m moments below needs next spoken c =
+      → Happens hosts (Crossed (crossing.Out m)) moments → Coupled hosts moments → Coupled hosts (Crossed (crossing.Out m) ∷ moments)
+  out_coupled m moments below needs next c =
       let from : Host = m.flow.source in
       let x : Said (program m.flow.source moments) m = said (program m.flow.source moments) m next in
-      let speaks : Speaks x.peer.pair x.parcel = spoken x.peer x.parcel x.next in
       let agrees : Agrees (pair_with x.peer.host (program m.flow.source moments).peers) (pair m.flow.source x.peer.host (events_of moments)) = story_agrees moments m.flow.source x.peer.host c.story in
       let may : MaySend (pair m.flow.source m.flow.destination (events_of moments)) m.flow.link.0 (message_on m.flow.link.0 m.text) =
       subst (λ (y : HostMessage). MaySend (pair m.flow.source y.flow.destination (events_of moments)) y.flow.link.0 (message_on y.flow.link.0 y.text)) (sym x.message)
-      (offer_may (program m.flow.source moments) x.peer x.parcel (pair m.flow.source x.peer.host (events_of moments)) (c.order m.flow.source) x.next speaks agrees) in
+      (offer_may (program m.flow.source moments) x.peer x.parcel (pair m.flow.source x.peer.host (events_of moments)) (c.order m.flow.source) x.next agrees) in
       let apart : IsApart m.flow.link.0 m.text (message_on m.flow.link.0 m.text) =
       subst (λ (y : HostMessage). IsApart y.flow.link.0 y.text (message_on y.flow.link.0 y.text)) (sym x.message)
-      (offer_apart (program m.flow.source moments) x.peer x.parcel (pair m.flow.source x.peer.host (events_of moments)) (c.order m.flow.source) x.next speaks agrees) in
+      (offer_apart (program m.flow.source moments) x.peer x.parcel (pair m.flow.source x.peer.host (events_of moments)) (c.order m.flow.source) x.next agrees) in
       record {
         run = (needs_same hosts (crossing.Out m) moments needs, may, c.run);
-        story = (record { peer = x.peer; parcel = x.parcel; order = c.order m.flow.source; next = x.next; speaks = speaks; message = x.message }, c.story);
+        story = (record { peer = x.peer; parcel = x.parcel; order = c.order m.flow.source; next = x.next; message = x.message }, c.story);
         order = λ a. order_if (same_host a m.flow.source) (offered (program a moments) (places moments)).0 (program a moments) (λ e. offer_order (program a moments) (places moments) (c.order a)) (c.order a);
         waits = λ f. stands_out hosts m _ f (mail.box_of f (crossings_of moments)) (apart, up_host hosts m.flow.source (crossings_of moments) below needs.0) (c.waits f) (same_flow f m.flow) refl;
       }
@@ -191,11 +190,11 @@ module _ (hosts : List Host) (addresses : (h : Host) → is_host hosts h ≡ tru
   }
 
   -- what hosts do over the mailboxes
-  pub coupled : (moments : List Moment) → mail.IsRun hosts (crossings_of moments) → IsTimeline hosts moments → AreSpoken moments → Coupled hosts moments
-  coupled [] r t s = record { run = tt; story = tt; order = λ a. tt; waits = λ f. tt }
-  coupled (Crossed (crossing.Out m) ∷ moments) r t s = out_coupled m moments r.1 r.0 t.0 s.0 (coupled moments r.1 t.1 s.1)
-  coupled (Crossed (crossing.In m) ∷ moments) r t s = in_coupled m moments r.0 (coupled moments r.1 t.1 s.1)
-  coupled (Crossed (crossing.Answer kind f) ∷ moments) r t s = answer_coupled kind f moments r.0 (coupled moments r.1 t.1 s.1)
-  coupled (Crossed (crossing.Down h) ∷ moments) r t s = down_coupled h moments r.0 (coupled moments r.1 t.1 s.1)
-  coupled (Crossed (crossing.Up h) ∷ moments) r t s = up_coupled h moments r.0 (coupled moments r.1 t.1 s.1)
-  coupled (Asked h q ∷ moments) r t s = asked_coupled h q moments t.0 (coupled moments r t.1 s.1)
+  pub coupled : (moments : List Moment) → mail.IsRun hosts (crossings_of moments) → IsTimeline hosts moments → Coupled hosts moments
+  coupled [] r t = record { run = tt; story = tt; order = λ a. tt; waits = λ f. tt }
+  coupled (Crossed (crossing.Out m) ∷ moments) r t = out_coupled m moments r.1 r.0 t.0 (coupled moments r.1 t.1)
+  coupled (Crossed (crossing.In m) ∷ moments) r t = in_coupled m moments r.0 (coupled moments r.1 t.1)
+  coupled (Crossed (crossing.Answer kind f) ∷ moments) r t = answer_coupled kind f moments r.0 (coupled moments r.1 t.1)
+  coupled (Crossed (crossing.Down h) ∷ moments) r t = down_coupled h moments r.0 (coupled moments r.1 t.1)
+  coupled (Crossed (crossing.Up h) ∷ moments) r t = up_coupled h moments r.0 (coupled moments r.1 t.1)
+  coupled (Asked h q ∷ moments) r t = asked_coupled h q moments t.0 (coupled moments r t.1)

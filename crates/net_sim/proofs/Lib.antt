@@ -1,4 +1,5 @@
 pub mod Kept
+pub mod Spelled
 pub mod Turns
 pub mod Calls
 pub mod Offers

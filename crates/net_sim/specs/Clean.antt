@@ -12,7 +12,7 @@ use Rattle.net_sim.specs.Book.{Called}
 use Rattle.net_sim.specs.Carriers.{IsBooked}
 use Rattle.net_sim.specs.Projection.{message_on}
 use Rattle.net_sim.specs.Safe.{last_out}
-use Rattle.net_sim.specs.Timeline.{AreSpoken, events_in}
+use Rattle.net_sim.specs.Timeline.{events_in}
 use Rattle.net_sim.specs.Whole.{IsWhole}
 use Rattle.net_sim.specs.World.{WorldState}
 
@@ -34,11 +34,9 @@ pub record IsFresh (m : HostMessage) (contacts : List Called) (log : List Crossi
   pub out : last_out m.flow log ≡ Some place
   pub after : IsAfter place (clean_point m.flow.destination m.flow.source contacts log)
 
--- a world with its book over a carrier whose log is a run of the mailboxes, between hosts that have addresses. What went out in
--- it was read as it was written, and data didn't go on link 0
+-- a world with its book, over a carrier whose log is a run of the mailboxes between hosts that have addresses
 pub record IsLawful {C : Type 0} (seen : C → Seen) (hosts : List Host) (w : WorldState C) : Type 0 where
   pub whole : IsWhole seen hosts w
   pub booked : IsBooked seen w
   pub run : IsRun hosts (seen w.carrier).log
   pub addresses : (h : Host) → is_host hosts h ≡ true → IsAddress h
-  pub spoken : AreSpoken whole.moments

@@ -5,14 +5,13 @@ use Rattle.leader1822.specs.Mailboxes as mail
 use Rattle.leader1822.specs.Mailboxes.{is_up}
 use Rattle.leader1822.specs.declared.crossing.Crossing.{Crossing}
 use Rattle.leader1822.specs.declared.crossing.Crossing.TheVariants as crossing
-use Rattle.sockets.specs.Sending.{Parcel, next_in, next_out}
-use Rattle.sockets.specs.declared.peer.Peer.{Peer}
+use Rattle.sockets.specs.Sending.{next_out}
 use Rattle.sockets.specs.declared.request.Request.{Request}
 use Rattle.sockets.specs.declared.request.Request.TheVariants as request
 use Rattle.reset_law.specs.Boxes.{Box, Empty, Waiting, Taken}
 use Rattle.reset_law.specs.Events.{Event, Contact}
 use Rattle.net_sim.specs.Book.{Called, contacts_asked}
-use Rattle.net_sim.specs.Projection.{Speaks, event_of, message_on}
+use Rattle.net_sim.specs.Projection.{event_of, message_on}
 use Rattle.net_sim.specs.Story.{Moment, Crossed, Asked, program, places}
 
 -- ---- what resets see of a book
@@ -64,12 +63,3 @@ Happens hosts (Asked h r) moments = (is_up hosts h (crossings_of moments) ≡ tr
 abbrev pub IsTimeline : List Host → List Moment → Type 0
 IsTimeline hosts [] = Unit {0}
 IsTimeline hosts (x ∷ moments) = Happens hosts x moments × IsTimeline hosts moments
-
--- what a program says is read as it was written, and data go on a connection's link
-abbrev pub IsSpoken : Moment → List Moment → Type 0
-IsSpoken (Crossed (crossing.Out m)) moments = (p : Peer) (x : Parcel) → next_in (program m.flow.source moments).peers ≡ Some (p, x) → Speaks p.pair x
-IsSpoken x moments = Unit {0}
-
-abbrev pub AreSpoken : List Moment → Type 0
-AreSpoken [] = Unit {0}
-AreSpoken (x ∷ moments) = IsSpoken x moments × AreSpoken moments

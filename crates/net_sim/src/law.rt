@@ -15,7 +15,7 @@ ghost use Rattle.net_sim.specs.Carriers.{shown, IsBooked};
 ghost use Rattle.net_sim.specs.Clean.{IsFresh, IsLawful, IsText, is_through};
 ghost use Rattle.net_sim.specs.Story.{Moment, IsStory, program, events_of};
 ghost use Rattle.net_sim.specs.World.{WorldState, WorldFault, Event, opening_world, StepGives, RunGives, CalmGives};
-ghost use Rattle.net_sim.specs.Projection.{Agrees, IsApart, Speaks, event_of, event_by, message_on};
+ghost use Rattle.net_sim.specs.Projection.{Agrees, IsApart, event_of, event_by, message_on};
 ghost use Rattle.net_sim.specs.Timeline.{IsAddressed, crossings_of, events_in, seen_box};
 ghost use Rattle.net_sim.specs.Whole.{Each, IsNamed, IsWhole};
 ghost use Rattle.reset_law.specs.Boxes.{boxes};
@@ -51,9 +51,9 @@ pub fn resets()
     ensures answer { (s : NcpState) (kind : Answer) (f : Flow) (stamp : ℕ) (h : Host) (p : Pair) → (same_host s.own f.source ≡ true → same_host h f.destination ≡ true → is_some (p.out f.link.0) ≡ true) → Agrees (pair_with h s.peers) p → Agrees (pair_with h (accepted s (inbound.Answer kind f) stamp).0.peers) (moved (part_of s.own h (event_of (crossing.Answer kind f))) p) }
 
     // what goes out may go by the law, has RST and RRP alone or neither, and the pair is then where the law has it
-    ensures may { (s : NcpState) (g : Peer) (x : Parcel) (p : Pair) → AreInOrder s.peers → next_in s.peers ≡ Some (g, x) → Speaks g.pair x → Agrees (pair_with g.host s.peers) p → MaySend p (link_for x) (message_on (link_for x) (text_for g.pair x)) }
-    ensures apart { (s : NcpState) (g : Peer) (x : Parcel) (p : Pair) → AreInOrder s.peers → next_in s.peers ≡ Some (g, x) → Speaks g.pair x → Agrees (pair_with g.host s.peers) p → IsApart (link_for x) (text_for g.pair x) (message_on (link_for x) (text_for g.pair x)) }
-    ensures offer { (s : NcpState) (stamp : ℕ) (g : Peer) (x : Parcel) (h : Host) (p : Pair) → AreInOrder s.peers → next_in s.peers ≡ Some (g, x) → Speaks g.pair x → Agrees (pair_with h s.peers) p → Agrees (pair_with h (offered s stamp).0.peers) (moved (part_of s.own h (event_of (crossing.Out (message_for s.own g x)))) p) }
+    ensures may { (s : NcpState) (g : Peer) (x : Parcel) (p : Pair) → AreInOrder s.peers → next_in s.peers ≡ Some (g, x) → Agrees (pair_with g.host s.peers) p → MaySend p (link_for x) (message_on (link_for x) (text_for g.pair x)) }
+    ensures apart { (s : NcpState) (g : Peer) (x : Parcel) (p : Pair) → AreInOrder s.peers → next_in s.peers ≡ Some (g, x) → Agrees (pair_with g.host s.peers) p → IsApart (link_for x) (text_for g.pair x) (message_on (link_for x) (text_for g.pair x)) }
+    ensures offer { (s : NcpState) (stamp : ℕ) (g : Peer) (x : Parcel) (h : Host) (p : Pair) → AreInOrder s.peers → next_in s.peers ≡ Some (g, x) → Agrees (pair_with h s.peers) p → Agrees (pair_with h (offered s stamp).0.peers) (moved (part_of s.own h (event_of (crossing.Out (message_for s.own g x)))) p) }
 {}
 
 /// What becomes of all programs, moment by moment: crossings, and what users ask for.
