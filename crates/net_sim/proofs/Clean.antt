@@ -1,5 +1,5 @@
 -- A host that is through a reset takes of its peer only what went out after its last clean point.
-use Rattle.std.proofs.Common.{◌≡◌, ℕ, Bool, true, false, if◌then◌else◌, List, [], ◌∷◌, ◌++◌, length, Some, refl, ap, sym, subst, ◌∙◌}
+use Rattle.std.proofs.Common.{◌≡◌, ℕ, Bool, true, false, if◌then◌else◌, List, [], ◌∷◌, ◌++◌, length, Result, Some, refl, ap, sym, subst, ◌∙◌}
 use Rattle.leader1822.specs.Calls.{Seen}
 use Rattle.leader1822.specs.Host.{Host, same_host}
 use Rattle.leader1822.specs.Mailboxes as mail
@@ -9,9 +9,10 @@ use Rattle.leader1822.specs.declared.crossing.Crossing.{Crossing}
 use Rattle.leader1822.specs.declared.crossing.Crossing.TheVariants as crossing
 use Rattle.leader1822.specs.declared.message.HostMessage.{HostMessage}
 use Rattle.leader1822.proofs.MessageLaw.{run_below}
-use Rattle.sockets.specs.Pairs.{pair_with}
+use Rattle.sockets.specs.Pairs.{NcpState, pair_with}
 use Rattle.reset_law.specs.Boxes.{Box, Empty, Waiting, Taken}
-use Rattle.reset_law.specs.Events.{Message, Other, Event, In}
+use Rattle.reset_law.specs.Events as reset
+use Rattle.reset_law.specs.Events.{Message, Other, In}
 use Rattle.reset_law.specs.Pairs.{Pair, pair}
 use Rattle.reset_law.specs.Phases.{Phase, Closed, Want, Gone, Heard, Ready}
 use Rattle.reset_law.specs.Runs.{IsRun, WaitsAfterClean}
@@ -19,12 +20,17 @@ use Rattle.reset_law.specs.Stays.{IsFront, heard, is_ready, said}
 use Rattle.reset_law.proofs.Fresh.{clean_run}
 use Rattle.reset_law.proofs.Stays.{heard_front}
 use Rattle.net_sim.specs.Book.{Called}
-use Rattle.net_sim.specs.Clean.{IsFresh, IsLawful, IsText, is_through}
+use Rattle.net_sim.specs.Clean.{HaveAddresses, IsFresh, IsLawful, IsText, is_through}
 use Rattle.net_sim.specs.Projection.{Agrees, event_of}
 use Rattle.net_sim.specs.Safe.{last_out}
 use Rattle.net_sim.specs.Story.{events_of, program}
 use Rattle.net_sim.specs.Timeline.{contacts_of, crossings_of, events_in, seen_box}
-use Rattle.net_sim.specs.World.{WorldState}
+use Rattle.net_sim.specs.Carriers.{shown}
+use Rattle.net_sim.specs.Whole.{Each, IsNamed, seat_in}
+use Rattle.net_sim.specs.World.{Calls, Event, Seat, WorldFault, WorldState, opening_world, seat_of, StepGives, RunGives, CalmGives}
+use Rattle.net_sim.proofs.Booked.{calm_books, opening_booked, run_books, step_books}
+use Rattle.net_sim.proofs.Seats.{found_seat}
+use Rattle.net_sim.proofs.Whole.{calm_whole, opening_whole, program_is, run_whole, step_whole}
 use Rattle.net_sim.proofs.BookEvents.{box_in, pair_told, run_at, run_told, same_events, told_events}
 use Rattle.net_sim.proofs.Coupled.{Coupled, coupled}
 use Rattle.net_sim.proofs.StoryLemmas.{story_agrees}
@@ -89,12 +95,12 @@ module _ {C : Type 0} (seen : C → Seen) (hosts : List Host) (w : WorldState C)
       ap (λ (cs : List Called). events_in cs log) lawful.whole.contacts ∙ ap (λ (xs : List Crossing). events_in (contacts_of lawful.whole.moments) xs) lawful.whole.crossings ∙ same_events lawful.whole.moments
 
   pub book_run : IsRun hosts (events_in contacts log)
-  book_run = subst (λ (es : List Event). IsRun hosts es) (sym book_events) (run_told hosts lawful.whole.moments book_coupled.run)
+  book_run = subst (λ (es : List reset.Event). IsRun hosts es) (sym book_events) (run_told hosts lawful.whole.moments book_coupled.run)
 
   -- each host's program is where the book has it
   pub book_agrees : (a b : Host) → Agrees (pair_with b (program a lawful.whole.moments).peers) (pair a b (events_in contacts log))
   book_agrees a b =
-      let same : pair a b (events_in contacts log) ≡ pair a b (events_of lawful.whole.moments) = ap (λ (es : List Event). pair a b es) book_events ∙ pair_told a b lawful.whole.moments in
+      let same : pair a b (events_in contacts log) ≡ pair a b (events_of lawful.whole.moments) = ap (λ (es : List reset.Event). pair a b es) book_events ∙ pair_told a b lawful.whole.moments in
       subst (λ (p : Pair). Agrees (pair_with b (program a lawful.whole.moments).peers) p) (sym same) (story_agrees lawful.whole.moments a b book_coupled.story)
 
   ready_is : (ph : Phase) → is_ready ph ≡ true → ph ≡ Ready
@@ -119,3 +125,32 @@ module _ {C : Type 0} (seen : C → Seen) (hosts : List Host) (w : WorldState C)
   -- link by link, what a host heard in its last stay is a front of what was said
   pub book_front : (a b : Host) (link : ℕ) → IsFront (heard a b link (events_in contacts log)) (said a b link (events_in contacts log))
   book_front a b link = heard_front hosts (events_in contacts log) book_run a b link
+
+  -- and so is the program in the seat of each host that is up
+  pub seat_agrees : w.stopped ≡ false → (a b : Host) (s : NcpState) → seat_of a w.seats ≡ Some (record { host = a; program = Some s }) → Agrees (pair_with b s.peers) (pair a b (events_in contacts log))
+  seat_agrees running a b s is =
+      let there : record { host = a; program = Some s } ≡ seat_in hosts lawful.whole.moments a =
+      found_seat hosts hosts lawful.whole.moments a (record { host = a; program = Some s }) (ap (λ (seats : List Seat). seat_of a seats) (sym (lawful.whole.seats running)) ∙ is) in
+      let here : (mail.is_up hosts a (crossings_of lawful.whole.moments) ≡ true) × (program a lawful.whole.moments ≡ s) =
+      program_is (mail.is_up hosts a (crossings_of lawful.whole.moments)) (program a lawful.whole.moments) s (ap (λ (x : Seat). x.program) (sym there)) in
+      subst (λ (x : NcpState). Agrees (pair_with b x.peers) (pair a b (events_in contacts log))) here.1 (book_agrees a b)
+
+-- ---- worlds come to be so, and stay so
+
+pub opening_lawful : {C : Type 0} (own : Calls C) (c : C) → (own.seen c).log ≡ [] → HaveAddresses (own.seen c).hosts → IsLawful own.seen (own.seen c).hosts (opening_world (shown own) c)
+opening_lawful own c none addresses = record {
+  whole = opening_whole own c;
+  booked = opening_booked own c none;
+  run = subst (λ (xs : List Crossing). mail.IsRun (own.seen c).hosts xs) (sym none) tt;
+  addresses = addresses;
+}
+
+module _ {C : Type 0} (own : Calls C) (hosts : List Host) (old new : WorldState C) (r : Result (Unit {0}) WorldFault) (lawful : IsLawful own.seen hosts old) (run : mail.IsRun hosts (own.seen new.carrier).log) where
+  pub step_lawful : (e : Event) → IsNamed e → StepGives (shown own) old e r new → IsLawful own.seen hosts new
+  step_lawful e named h = record { whole = step_whole own hosts e old r new named lawful.whole h; booked = step_books own e old r new lawful.booked h; run = run; addresses = lawful.addresses }
+
+  pub run_lawful : (events : List Event) → Each IsNamed events → RunGives (shown own) old events r new → IsLawful own.seen hosts new
+  run_lawful events named h = record { whole = run_whole own hosts events old r new named lawful.whole h; booked = run_books own events old r new lawful.booked h; run = run; addresses = lawful.addresses }
+
+  pub calm_lawful : (times : ℕ) → CalmGives (shown own) times old r new → IsLawful own.seen hosts new
+  calm_lawful times h = record { whole = calm_whole own hosts times old r new lawful.whole h; booked = calm_books own times old r new lawful.booked h; run = run; addresses = lawful.addresses }

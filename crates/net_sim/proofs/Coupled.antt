@@ -1,6 +1,6 @@
 -- What the hosts do over the mailboxes is a run of the law of resets.
 use Rattle.std.proofs.Common.{◌≡◌, ℕ, Bool, true, false, if◌then◌else◌, List, [], ◌∷◌, Option, Some, None, is_some, refl, ap, sym, subst, ◌∙◌}
-use Rattle.leader1822.specs.Host.{Host, IsAddress, same_host, is_host}
+use Rattle.leader1822.specs.Host.{Host, same_host, is_host}
 use Rattle.leader1822.specs.Mailboxes as mail
 use Rattle.leader1822.specs.Mailboxes.{same_flow}
 use Rattle.leader1822.specs.declared.address.Flow.{Flow}
@@ -23,6 +23,7 @@ use Rattle.reset_law.specs.Monitor.{monitor}
 use Rattle.reset_law.specs.Pairs.{Kind, MaySend, pair}
 use Rattle.reset_law.specs.Runs.{Needs, Allowed, IsRun}
 use Rattle.reset_law.proofs.Runs.{sound_run}
+use Rattle.net_sim.specs.Clean.{HaveAddresses}
 use Rattle.net_sim.specs.Projection.{Agrees, IsApart, message_on}
 use Rattle.net_sim.specs.Story.{Moment, Crossed, Asked, places, events_of, program, IsStory}
 use Rattle.net_sim.specs.Timeline.{Happens, IsTimeline, crossings_of, seen_box}
@@ -121,7 +122,7 @@ order_if : (b : Bool) (s t : NcpState) → (b ≡ true → AreInOrder s.peers) �
 order_if true s t k o = k refl
 order_if false s t k o = o
 
-module _ (hosts : List Host) (addresses : (h : Host) → is_host hosts h ≡ true → IsAddress h) where
+module _ (hosts : List Host) (addresses : HaveAddresses hosts) where
   out_coupled : (m : HostMessage) (moments : List Moment) → mail.IsRun hosts (crossings_of moments) → mail.Needs hosts (crossing.Out m) (crossings_of moments)
       → Happens hosts (Crossed (crossing.Out m)) moments → Coupled hosts moments → Coupled hosts (Crossed (crossing.Out m) ∷ moments)
   out_coupled m moments below needs next c =

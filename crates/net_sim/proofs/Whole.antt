@@ -57,7 +57,7 @@ grown_hosts old cs new s = ap (λ (x : Seen). x.hosts) s.shown
 
 -- ---- one event
 
-program_is : (up : Bool) (p s : NcpState) → (if up then Some p else None) ≡ Some s → (up ≡ true) × (p ≡ s)
+pub program_is : (up : Bool) (p s : NcpState) → (if up then Some p else None) ≡ Some s → (up ≡ true) × (p ≡ s)
 program_is true p s e = (refl, ap (program_or p) e) where
   program_or : NcpState → Option NcpState → NcpState
   program_or d None = d

@@ -34,9 +34,13 @@ pub record IsFresh (m : HostMessage) (contacts : List Called) (log : List Crossi
   pub out : last_out m.flow log ≡ Some place
   pub after : IsAfter place (clean_point m.flow.destination m.flow.source contacts log)
 
+-- each host of the network is one that an address octet can name
+abbrev pub HaveAddresses : List Host → Type 0
+HaveAddresses hosts = (h : Host) → is_host hosts h ≡ true → IsAddress h
+
 -- a world with its book, over a carrier whose log is a run of the mailboxes between hosts that have addresses
 pub record IsLawful {C : Type 0} (seen : C → Seen) (hosts : List Host) (w : WorldState C) : Type 0 where
   pub whole : IsWhole seen hosts w
   pub booked : IsBooked seen w
   pub run : IsRun hosts (seen w.carrier).log
-  pub addresses : (h : Host) → is_host hosts h ≡ true → IsAddress h
+  pub addresses : HaveAddresses hosts

@@ -1,7 +1,7 @@
 //! What follows for hosts that run the network control program, whatever carries their messages. The functions here
 //! do nothing: each clause is a law.
 
-ghost use Rattle.std.specs.Prelude.{◌≡◌, ℕ, true, List, [], ◌∷◌, ◌++◌, length, Some, Result, Err, is_some};
+ghost use Rattle.std.specs.Prelude.{◌≡◌, ℕ, true, false, List, [], ◌∷◌, ◌++◌, length, Some, Result, Err, is_some};
 ghost use Rattle.leader1822.specs.Host.{Host, IsAddress, same_host};
 ghost use Rattle.leader1822.specs.declared.address.Flow.{Flow};
 ghost use Rattle.leader1822.specs.declared.crossing.Answer.{Answer};
@@ -12,9 +12,9 @@ ghost use Rattle.leader1822.specs.declared.message.HostMessage.{HostMessage};
 ghost use Rattle.leader1822.specs.Mailboxes.{Needs, IsRun, box_of, is_up};
 ghost use Rattle.leader1822.specs.Messages.{SafeMessages};
 ghost use Rattle.net_sim.specs.Carriers.{shown, IsBooked};
-ghost use Rattle.net_sim.specs.Clean.{IsFresh, IsLawful, IsText, is_through};
+ghost use Rattle.net_sim.specs.Clean.{HaveAddresses, IsFresh, IsLawful, IsText, is_through};
 ghost use Rattle.net_sim.specs.Story.{Moment, IsStory, program, events_of};
-ghost use Rattle.net_sim.specs.World.{WorldState, WorldFault, Event, opening_world, StepGives, RunGives, CalmGives};
+ghost use Rattle.net_sim.specs.World.{WorldState, WorldFault, Event, opening_world, seat_of, StepGives, RunGives, CalmGives};
 ghost use Rattle.net_sim.specs.Projection.{Agrees, IsApart, event_of, event_by, message_on};
 ghost use Rattle.net_sim.specs.Timeline.{IsAddressed, crossings_of, events_in, seen_box};
 ghost use Rattle.net_sim.specs.Whole.{Each, IsNamed, IsWhole};
@@ -126,7 +126,19 @@ pub fn clean_resets<C: Carrier>()
     // link by link, what a host heard of its peer in its last stay is a front of what the peer said in its own
     ensures stays { (hosts : List Host) (w : WorldState C) → IsLawful C.seen hosts w → (a b : Host) (link : ℕ) → IsFront (heard a b link (events_in w.kept.book.contacts w.kept.book.crossings)) (said a b link (events_in w.kept.book.contacts w.kept.book.crossings)) }
 
-    // for the book is a run of the law of resets, and each program is, for each peer, where that law has it
+    // for the book is a run of the law of resets, and each program in a seat is, for each peer, where that law has it
     ensures run { (hosts : List Host) (w : WorldState C) → IsLawful C.seen hosts w → runs.IsRun hosts (events_in w.kept.book.contacts w.kept.book.crossings) }
-    ensures agrees { (hosts : List Host) (w : WorldState C) → (lawful : IsLawful C.seen hosts w) → (a b : Host) → Agrees (pair_with b (program a lawful.whole.moments).peers) (pairs.pair a b (events_in w.kept.book.contacts w.kept.book.crossings)) }
+    ensures agrees { (hosts : List Host) (w : WorldState C) → IsLawful C.seen hosts w → w.stopped ≡ false → (a b : Host) (s : NcpState) → seat_of a w.seats ≡ Some (record { host = a; program = Some s }) → Agrees (pair_with b s.peers) (pairs.pair a b (events_in w.kept.book.contacts w.kept.book.crossings)) }
+{}
+
+/// The worlds of which that is said: those that began over a carrier that hasn't been used, between hosts with addresses, however
+/// they went on.
+pub fn lawful_worlds<C: Carrier>()
+    ensures opening { (c : C) → (C.seen c).log ≡ [] → HaveAddresses (C.seen c).hosts → IsLawful C.seen (C.seen c).hosts (opening_world (shown (record { seen = C.seen; offers = C.offers; takes = C.takes; steps = C.steps; rounds = C.rounds })) c) }
+
+    // by one event, a list of events and so many quiet rounds, where users name hosts by addresses and the carrier's log is still a
+    // run of the mailboxes
+    ensures step { (hosts : List Host) (old new : WorldState C) (e : Event) (r : Result (Unit {0}) WorldFault) → IsLawful C.seen hosts old → IsNamed e → StepGives (shown (record { seen = C.seen; offers = C.offers; takes = C.takes; steps = C.steps; rounds = C.rounds })) old e r new → IsRun hosts (C.seen new.carrier).log → IsLawful C.seen hosts new }
+    ensures run { (hosts : List Host) (old new : WorldState C) (events : List Event) (r : Result (Unit {0}) WorldFault) → IsLawful C.seen hosts old → Each IsNamed events → RunGives (shown (record { seen = C.seen; offers = C.offers; takes = C.takes; steps = C.steps; rounds = C.rounds })) old events r new → IsRun hosts (C.seen new.carrier).log → IsLawful C.seen hosts new }
+    ensures calm { (hosts : List Host) (old new : WorldState C) (times : ℕ) (r : Result (Unit {0}) WorldFault) → IsLawful C.seen hosts old → CalmGives (shown (record { seen = C.seen; offers = C.offers; takes = C.takes; steps = C.steps; rounds = C.rounds })) times old r new → IsRun hosts (C.seen new.carrier).log → IsLawful C.seen hosts new }
 {}

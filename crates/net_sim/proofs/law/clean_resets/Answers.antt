@@ -1,4 +1,4 @@
-use Rattle.net_sim.proofs.Clean.{book_agrees, book_clean, book_front, book_run}
+use Rattle.net_sim.proofs.Clean.{seat_agrees, book_clean, book_front, book_run}
 use Rattle.net_sim.proofs.law.clean_resets.Goals as goal
 
 pub returns-clause-clean : goal.returns-clause-clean
@@ -11,4 +11,4 @@ pub returns-clause-run : goal.returns-clause-run
 returns-clause-run g c = λ hosts w lawful. book_run g.C.Carrier.seen hosts w lawful
 
 pub returns-clause-agrees : goal.returns-clause-agrees
-returns-clause-agrees g c = λ hosts w lawful a b. book_agrees g.C.Carrier.seen hosts w lawful a b
+returns-clause-agrees g c = λ hosts w lawful running a b s is. seat_agrees g.C.Carrier.seen hosts w lawful running a b s is
