@@ -8,3 +8,4 @@ pub mod Story
 pub mod Timeline
 pub mod Whole
 pub mod Clean
+pub mod WorkedResets
