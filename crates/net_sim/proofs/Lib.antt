@@ -1,4 +1,5 @@
 pub mod Kept
+pub mod Spelled
 pub mod Turns
 pub mod Calls
 pub mod Offers
@@ -7,3 +8,11 @@ pub mod Unsafe
 pub mod SafeRow
 pub mod Refusals
 pub mod StoryLemmas
+pub mod Bridge
+pub mod Ordered
+pub mod Coupled
+pub mod Seats
+pub mod Whole
+pub mod Always
+pub mod BookEvents
+pub mod Clean
