@@ -1,0 +1,5 @@
+pub mod Marks
+pub mod Ends
+pub mod Sides
+pub mod Partners
+pub mod Example
