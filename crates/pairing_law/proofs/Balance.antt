@@ -14,30 +14,30 @@ IsAsked k word = (p : ℕ) × Asks k p word
 
 -- the end is that of connection `now`, counted from 0; those before are closed both ways
 pub record Balanced (s t : List Mark) (e : End) : Type 0 where
-  now : ℕ
-  said : closes s ≡ now + count e.gone
-  heard : closes t ≡ now + count e.taken
+  pub now : ℕ
+  pub said : closes s ≡ now + count e.gone
+  pub heard : closes t ≡ now + count e.taken
   -- it is over once a CLS has passed both ways
-  half : count e.gone + count e.taken ≤ 1
-  asked_at : (p : ℕ) → e.asked ≡ Some p → Asks now p s
-  asked_is : (p : ℕ) → Asks now p s → e.asked ≡ Some p
-  partner_at : (p : ℕ) → e.partner ≡ Some p → Asks now p t
-  partner_is : (p : ℕ) → Asks now p t → e.partner ≡ Some p
+  pub half : count e.gone + count e.taken ≤ 1
+  pub asked_at : (p : ℕ) → e.asked ≡ Some p → Asks now p s
+  pub asked_is : (p : ℕ) → Asks now p s → e.asked ≡ Some p
+  pub partner_at : (p : ℕ) → e.partner ≡ Some p → Asks now p t
+  pub partner_is : (p : ℕ) → Asks now p t → e.partner ≡ Some p
   -- it asks once for each connection
-  single : (k p q : ℕ) → Asks k p s → Asks k q s → p ≡ q
-  within : (k p : ℕ) → Asks k p s → k ≤ now
-  within_heard : (k p : ℕ) → Asks k p t → k ≤ now
+  pub single : (k p q : ℕ) → Asks k p s → Asks k q s → p ≡ q
+  pub within : (k p : ℕ) → Asks k p s → k ≤ now
+  pub within_heard : (k p : ℕ) → Asks k p t → k ≤ now
   -- what it closed was asked for
-  grounds : (k : ℕ) → k < closes s → IsAsked k s ⊎ IsAsked k t
+  pub grounds : (k : ℕ) → k < closes s → IsAsked k s ⊎ IsAsked k t
 
-none_some : (o : Option ℕ) (p : ℕ) → o ≡ None → o ≡ Some p → ⊥
+pub none_some : (o : Option ℕ) (p : ℕ) → o ≡ None → o ≡ Some p → ⊥
 none_some o p e f = let both : None ≡ Some p = sym e ∙ f in absurd (cc)
 
-value : Option ℕ → ℕ
+pub value : Option ℕ → ℕ
 value None = 0
 value (Some p) = p
 
-some_is : (p q : ℕ) → Some p ≡ Some q → p ≡ q
+pub some_is : (p q : ℕ) → Some p ≡ Some q → p ≡ q
 unfolding value
 some_is p q e = ap value e
 

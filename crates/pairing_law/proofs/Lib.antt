@@ -1,2 +1,4 @@
 pub mod Words
 pub mod Balance
+pub mod Lives
+pub mod Joint
