@@ -35,7 +35,7 @@ turned a b j = record { floor = j.other; other = j.floor; here = j.there; there 
 -- ---- a word that goes out
 
 -- an end that goes on, or is over, used its requests
-gone_used : (m : Mark) (e : End) (next : ℕ) (x : Life) → IsLater m next → x.own < next → (e.asked ≡ Some x.own → e.partner ≢ None) → (e.partner ≡ Some x.partner → e.asked ≢ None)
+pub gone_used : (m : Mark) (e : End) (next : ℕ) (x : Life) → IsLater m next → x.own < next → (e.asked ≡ Some x.own → e.partner ≢ None) → (e.partner ≡ Some x.partner → e.asked ≢ None)
     → ((gone m e).asked ≡ Some x.own → (gone m e).partner ≢ None) × ((gone m e).partner ≡ Some x.partner → (gone m e).asked ≢ None)
 gone_used (Ask p) e next x later less own partner = (λ same. absurd (let h : p ≡ x.own = some_is p x.own same in let l : next ≤ p = later in omega (arith, h, l, less)), λ same none. absurd (cc))
 gone_used Close e next x later less own partner = by e.taken where
@@ -45,10 +45,10 @@ gone_used Close e next x later less own partner = by e.taken where
   by false = (own, partner)
 
 -- how the words of a host are after it said something
-abbrev said_in : Mark → Side → Side
+abbrev pub said_in : Mark → Side → Side
 said_in m a = record { end = gone m a.end; stays = a.stays; said = m ∷ a.said; heard = a.heard; lives = lives_gone m a.end a.lives; next = above m a.next }
 
-says_in : (m : Mark) (a : Side) → a.stays ≡ true → says m a ≡ said_in m a
+pub says_in : (m : Mark) (a : Side) → a.stays ≡ true → says m a ≡ said_in m a
 says_in m a stay = ap (λ (v : Bool). record { end = gone m a.end; stays = a.stays; said = if v then m ∷ a.said else a.said; heard = a.heard; lives = lives_gone m a.end a.lives; next = above m a.next }) stay
 
 grows_said : (m : Mark) (next : ℕ) (s : List Mark) → IsLater m next → Below next s → Grows s → Grows (m ∷ s)
@@ -59,7 +59,7 @@ from_said : (m : Mark) (floor next : ℕ) (s : List Mark) → IsLater m next →
 from_said (Ask p) floor next s later low f = (let l : next ≤ p = later in omega (arith, l, low), f)
 from_said Close floor next s later low f = f
 
-above_less : (m : Mark) (next : ℕ) → IsLater m next → next ≤ above m next
+pub above_less : (m : Mark) (next : ℕ) → IsLater m next → next ≤ above m next
 above_less (Ask p) next later = let l : next ≤ p = later in omega (arith, l)
 above_less Close next later = omega arith
 
@@ -72,7 +72,7 @@ stood_said floor other m s t x (inl old) = inl old
 stood_said floor other (Ask p) s t x (inr new) = inr (new.0, inr new.1, new.2)
 stood_said floor other Close s t x (inr new) = inr new
 
-stood_heard : (floor other : ℕ) (m : Mark) (s t : List Mark) (x : Life) → Stood floor other s t x → Stood floor other s (m ∷ t) x
+pub stood_heard : (floor other : ℕ) (m : Mark) (s t : List Mark) (x : Life) → Stood floor other s t x → Stood floor other s (m ∷ t) x
 stood_heard floor other m s t x (inl old) = inl old
 stood_heard floor other (Ask p) s t x (inr new) = inr (new.0, new.1, inr new.2)
 stood_heard floor other Close s t x (inr new) = inr new
@@ -125,7 +125,7 @@ back_lived : (floor other : ℕ) (s t : List Mark) (e : End) (lives others more 
 back_lived floor other s t e lives others more l both back = record { stands = l.stands; own_once = l.own_once; partner_once = l.partner_once; both = both; back = back }
 
 -- a host's peer, where the host has said more, or opened more
-there_on : (floor other : ℕ) (a a' b : Side) → Half other floor b a → IsOlder b.heard a'.said → AreBoth b.lives a'.lives → AreBoth a'.lives b.lives → Half other floor b a'
+pub there_on : (floor other : ℕ) (a a' b : Side) → Half other floor b a → IsOlder b.heard a'.said → AreBoth b.lives a'.lives → AreBoth a'.lives b.lives → Half other floor b a'
 there_on floor other a a' b g older both back = record {
   kept = g.kept;
   balanced = g.balanced;
@@ -139,10 +139,10 @@ there_on floor other a a' b g older both back = record {
   lived = back_lived other floor b.said b.heard b.end b.lives a.lives a'.lives g.lived both back;
 }
 
-unlike : (v : Bool) → v ≡ true → v ≡ false → ⊥
+pub unlike : (v : Bool) → v ≡ true → v ≡ false → ⊥
 unlike v e f = let both : true ≡ false = sym e ∙ f in absurd (cc)
 
-joined_said : (m : Mark) (a b : Side) → Joined a b → a.stays ≡ true → MayGo m a.end → IsLater m a.next → Joined (said_in m a) b
+pub joined_said : (m : Mark) (a b : Side) → Joined a b → a.stays ≡ true → MayGo m a.end → IsLater m a.next → Joined (said_in m a) b
 joined_said m a b j stay may later =
     let lived : Lived j.floor j.other (m ∷ a.said) a.heard (gone m a.end) (lives_gone m a.end a.lives) b.lives = said_lives j.floor j.other m a b j.here j.there stay may later in
     let low : j.floor ≤ a.next = j.here.low in

@@ -2,3 +2,4 @@ pub mod Words
 pub mod Balance
 pub mod Lives
 pub mod Joint
+pub mod Runs
