@@ -1,9 +1,9 @@
 -- What one host said and heard of a connection, and its end of it: they fit one another. And what comes next from the peer fits
 -- the end.
-use Rattle.std.proofs.Common.{◌≡◌, ◌≢◌, ◌⊎◌, ℕ, ◌+◌, ◌<◌, ◌≤◌, Bool, true, false, not, ◌&&◌, ◌||◌, List, [], ◌∷◌, ◌++◌, Option, Some, None, is_some, refl, ap, sym, subst, ◌∙◌, inl, inr, if◌then◌else◌, eq-or-lt_of_le, arith}
+use Rattle.std.proofs.Common.{◌≡◌, ◌⊎◌, ℕ, ◌+◌, ◌<◌, ◌≤◌, Bool, true, false, not, ◌&&◌, ◌||◌, List, [], ◌∷◌, Option, Some, None, is_some, refl, ap, sym, subst, ◌∙◌, inl, inr, if◌then◌else◌, eq-or-lt_of_le, arith}
 use Rattle.pairing_law.specs.Marks.{Mark, Ask, Close, closes, Asks, IsOlder}
 use Rattle.pairing_law.specs.Ends.{End, nothing, is_begun, MayGo, gone, fits, taken}
-use Rattle.pairing_law.proofs.Words.{closes_more, asks_said, closes_said, asks_within, asks_before, Grows, asks_apart}
+use Rattle.pairing_law.proofs.Words.{asks_said, closes_said, asks_before, Grows, asks_apart}
 
 abbrev pub count : Bool → ℕ
 count true = 1
@@ -243,6 +243,7 @@ balanced_hears (Ask p) s t e f b = let h : (e.partner ≡ None) × (e.taken ≡ 
 balanced_hears Close s t e f b = by e.gone refl where
   quiet : e.taken ≡ false
   quiet = not_false e.taken (and_both (is_begun e) (not e.taken) f).1
+
   by : (v : Bool) → e.gone ≡ v → Balanced s (Close ∷ t) (if v then nothing else record e { taken = true })
   by true h = heard_last s t e b h quiet
   by false h = heard_close s t e b h quiet
@@ -292,10 +293,10 @@ ask_fits p sa ta sb tb ea eb a b grows next back =
     let quiet : eb.taken ≡ false = count_none eb.taken none in
     let here : closes tb ≡ b.now = omega (arith, tb_is, none) in
     let other : (q : ℕ) → eb.partner ≡ Some q → ⊥ = λ q e.
-      let old : Asks b.now q tb = b.partner_at q e in
-      let same : p ≡ q = a.single b.now p q (subst (λ (k : ℕ). Asks k p sa) here there) (asks_said b.now q (Ask p ∷ tb) sa next (inr old)) in
-      let before : q < p = asks_apart b.now p q next.0 tb (subst Grows next.1 grows) old in
-      omega (arith, same, before) in
+    let old : Asks b.now q tb = b.partner_at q e in
+    let same : p ≡ q = a.single b.now p q (subst (λ (k : ℕ). Asks k p sa) here there) (asks_said b.now q (Ask p ∷ tb) sa next (inr old)) in
+    let before : q < p = asks_apart b.now p q next.0 tb (subst Grows next.1 grows) old in
+    omega (arith, same, before) in
     rw (by eb.partner other, quiet) refl
   where
     by : (o : Option ℕ) → ((q : ℕ) → o ≡ Some q → ⊥) → o ≡ None

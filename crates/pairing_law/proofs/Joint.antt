@@ -1,12 +1,12 @@
 -- What both hosts keep, through all that happens.
-use Rattle.std.proofs.Common.{◌≡◌, ◌≢◌, ◌⊎◌, ℕ, ◌+◌, ◌<◌, ◌≤◌, Bool, true, false, List, [], ◌∷◌, ◌++◌, Option, Some, None, refl, ap, sym, subst, ◌∙◌, inl, inr, if◌then◌else◌, arith}
-use Rattle.pairing_law.specs.Marks.{Mark, Ask, Close, closes, Asks, IsOlder}
-use Rattle.pairing_law.specs.Ends.{End, nothing, MayGo, gone, fits, taken}
-use Rattle.pairing_law.specs.Sides.{Life, Side, opening_side, opened, lives_gone, lives_taken, Move, Say, Hear, Leave, above, says, hears, leaves, moved, IsLater, May, Event, One, Two, Meet, Both, opening, meets, happens, both, MayHappen, IsRun}
-use Rattle.pairing_law.specs.Partners.{NoneOwns, NoneTook, OwnOnce, PartnerOnce, IsIn, AreBoth, SafePartners}
-use Rattle.pairing_law.proofs.Words.{Below, From, Grows, below_later, from_asks}
-use Rattle.pairing_law.proofs.Balance.{Balanced, balanced_nothing, balanced_says, balanced_hears, next_fits, fits_ask, none_some, some_is}
-use Rattle.pairing_law.proofs.Lives.{Every, every_in, none_owns, none_took, IsNew, Stood, Stands, own_below, partner_below, partner_before, one_new, other_new, Lived, lived_on, lived_more}
+use Rattle.std.proofs.Common.{◌≡◌, ◌≢◌, ℕ, ◌+◌, ◌<◌, ◌≤◌, Bool, true, false, List, ◌∷◌, Option, Some, None, refl, ap, sym, subst, ◌∙◌, inl, inr, if◌then◌else◌, arith}
+use Rattle.pairing_law.specs.Marks.{Mark, Ask, Close, IsOlder}
+use Rattle.pairing_law.specs.Ends.{End, nothing, MayGo, gone}
+use Rattle.pairing_law.specs.Sides.{Life, Side, opened, lives_gone, above, says, IsLater, both}
+use Rattle.pairing_law.specs.Partners.{AreBoth}
+use Rattle.pairing_law.proofs.Words.{Below, From, Grows, below_later}
+use Rattle.pairing_law.proofs.Balance.{Balanced, balanced_says, none_some, some_is}
+use Rattle.pairing_law.proofs.Lives.{every_in, none_owns, none_took, IsNew, Stood, Stands, own_below, one_new, other_new, Lived, lived_on, lived_more}
 
 -- what a host keeps, with what its peer said and opened. All that went out before `floor`, and before `other` of the peer, is
 -- older than the stay
@@ -81,7 +81,7 @@ stood_heard floor other Close s t x (inr new) = inr new
 said_stands : (floor other : ℕ) (m : Mark) (a : Side) → floor ≤ a.next → Below a.next a.said → IsLater m a.next → (x : Life) → Stands floor other a.said a.heard a.end x → Stands floor other (m ∷ a.said) a.heard (gone m a.end) x
 said_stands floor other m a low below later x h =
     let used : ((gone m a.end).asked ≡ Some x.own → (gone m a.end).partner ≢ None) × ((gone m a.end).partner ≡ Some x.partner → (gone m a.end).asked ≢ None)
-      = gone_used m a.end a.next x later (own_below floor other a.next a.said a.heard x low below h.stood) h.own_used h.partner_used in
+    = gone_used m a.end a.next x later (own_below floor other a.next a.said a.heard x low below h.stood) h.own_used h.partner_used in
     record { stood = stood_said floor other m a.said a.heard x h.stood; own_used = used.0; partner_used = used.1 }
 
 -- an end that opens by its own request
@@ -89,23 +89,27 @@ said_opens : (floor other : ℕ) (p : ℕ) (a b : Side) (h : Half floor other a 
     → (o : Option ℕ) → a.end.partner ≡ o → Lived floor other (Ask p ∷ a.said) a.heard (record a.end { asked = Some p }) (opened (Some p) o a.lives) b.lives
 said_opens floor other p a b h g stay may later o there =
     by o there where
-  low : floor ≤ a.next
-  low = h.low
-  e' : End
-  e' = record a.end { asked = Some p }
-  old : Lived floor other (Ask p ∷ a.said) a.heard (record a.end { asked = Some p }) a.lives b.lives
-  old = lived_on floor other floor other a.said a.heard (Ask p ∷ a.said) a.heard a.end (record a.end { asked = Some p }) a.lives b.lives (said_stands floor other (Ask p) a h.low h.below later) h.lived
-  now : Balanced (Ask p ∷ a.said) a.heard (record a.end { asked = Some p })
-  now = balanced_says (Ask p) a.said a.heard a.end may (subst (λ (e : End). Balanced a.said a.heard e) (h.same stay) h.balanced)
-  by : (o : Option ℕ) → a.end.partner ≡ o → Lived floor other (Ask p ∷ a.said) a.heard (record a.end { asked = Some p }) (opened (Some p) o a.lives) b.lives
-  by None there = old
-  by (Some q) there =
-      let new : IsNew (Ask p ∷ a.said) a.heard (record { own = p; partner = q }) = (now.now, now.asked_at p refl, now.partner_at q there) in
-      lived_more floor other (Ask p ∷ a.said) a.heard (record a.end { asked = Some p }) (record { own = p; partner = q }) a.lives b.lives old
-        (record { stood = inr new; own_used = λ same none. none_some a.end.partner q none there; partner_used = λ same none. absurd (cc) })
-        (none_owns (Stands floor other a.said a.heard a.end) p a.lives (λ x s same. let l : x.own < a.next = own_below floor other a.next a.said a.heard x h.low h.below s.stood in omega (arith, l, later, same)) h.lived.stands)
-        (none_took (Stands floor other a.said a.heard a.end) q a.lives (λ x s same. s.partner_used (there ∙ ap (λ (r : ℕ). Some r) (sym same)) may.0) h.lived.stands)
-        (λ y i.
+      low : floor ≤ a.next
+      low = h.low
+
+      e' : End
+      e' = record a.end { asked = Some p }
+
+      old : Lived floor other (Ask p ∷ a.said) a.heard (record a.end { asked = Some p }) a.lives b.lives
+      old = lived_on floor other floor other a.said a.heard (Ask p ∷ a.said) a.heard a.end (record a.end { asked = Some p }) a.lives b.lives (said_stands floor other (Ask p) a h.low h.below later) h.lived
+
+      now : Balanced (Ask p ∷ a.said) a.heard (record a.end { asked = Some p })
+      now = balanced_says (Ask p) a.said a.heard a.end may (subst (λ (e : End). Balanced a.said a.heard e) (h.same stay) h.balanced)
+
+      by : (o : Option ℕ) → a.end.partner ≡ o → Lived floor other (Ask p ∷ a.said) a.heard (record a.end { asked = Some p }) (opened (Some p) o a.lives) b.lives
+      by None there = old
+      by (Some q) there =
+          let new : IsNew (Ask p ∷ a.said) a.heard (record { own = p; partner = q }) = (now.now, now.asked_at p refl, now.partner_at q there) in
+          lived_more floor other (Ask p ∷ a.said) a.heard (record a.end { asked = Some p }) (record { own = p; partner = q }) a.lives b.lives old
+          (record { stood = inr new; own_used = λ same none. none_some a.end.partner q none there; partner_used = λ same none. absurd (cc) })
+          (none_owns (Stands floor other a.said a.heard a.end) p a.lives (λ x s same. let l : x.own < a.next = own_below floor other a.next a.said a.heard x h.low h.below s.stood in omega (arith, l, later, same)) h.lived.stands)
+          (none_took (Stands floor other a.said a.heard a.end) q a.lives (λ x s same. s.partner_used (there ∙ ap (λ (r : ℕ). Some r) (sym same)) may.0) h.lived.stands)
+          (λ y i.
           let stood : Stood other floor b.said b.heard y = (every_in (Stands other floor b.said b.heard b.end) y b.lives g.lived.stands i).stood in
           let back : IsOlder b.heard (Ask p ∷ a.said) = (Ask p ∷ g.older.0, ap (λ (w : List Mark). Ask p ∷ w) g.older.1) in
           let grows : Grows (Ask p ∷ a.said) = grows_said (Ask p) a.next a.said later h.below h.grows in

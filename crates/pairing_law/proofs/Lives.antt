@@ -1,11 +1,11 @@
 -- The lives of one host beside the words of both: where their requests stand, and what a new one keeps.
-use Rattle.std.proofs.Common.{◌≡◌, ◌≢◌, ◌⊎◌, ℕ, ◌+◌, ◌<◌, ◌≤◌, Bool, true, false, List, [], ◌∷◌, ◌++◌, Option, Some, None, refl, ap, sym, subst, ◌∙◌, inl, inr, if◌then◌else◌, arith}
-use Rattle.pairing_law.specs.Marks.{Mark, Ask, Close, closes, Asks, IsOlder}
-use Rattle.pairing_law.specs.Ends.{End, nothing, gone, taken}
+use Rattle.std.proofs.Common.{◌≡◌, ◌≢◌, ◌⊎◌, ℕ, ◌<◌, ◌≤◌, List, [], ◌∷◌, Some, None, refl, sym, subst, inl, inr, arith}
+use Rattle.pairing_law.specs.Marks.{Mark, Ask, closes, Asks, IsOlder}
+use Rattle.pairing_law.specs.Ends.{End}
 use Rattle.pairing_law.specs.Sides.{Life}
 use Rattle.pairing_law.specs.Partners.{NoneOwns, NoneTook, OwnOnce, PartnerOnce, IsIn, AreBoth}
-use Rattle.pairing_law.proofs.Words.{asks_more, asks_said, Below, From, Grows, below_asks, from_asks, asks_once, asks_apart}
-use Rattle.pairing_law.proofs.Balance.{Balanced, none_some, some_is}
+use Rattle.pairing_law.proofs.Words.{asks_said, Below, From, Grows, below_asks, from_asks, asks_once, asks_apart}
+use Rattle.pairing_law.proofs.Balance.{Balanced}
 
 abbrev pub Every : (Life → Type 0) → List Life → Type 0
 Every P [] = Unit {0}

@@ -1,13 +1,13 @@
 -- What is heard, where a host leaves and where both meet; and so through every list of events.
-use Rattle.std.proofs.Common.{◌≡◌, ◌≢◌, ◌⊎◌, ℕ, ◌+◌, ◌<◌, ◌≤◌, Bool, true, false, List, [], ◌∷◌, ◌++◌, Option, Some, None, refl, ap, sym, subst, ◌∙◌, inl, inr, if◌then◌else◌, arith}
-use Rattle.pairing_law.specs.Marks.{Mark, Ask, Close, closes, Asks, IsOlder}
+use Rattle.std.proofs.Common.{◌≡◌, ◌≢◌, ℕ, ◌<◌, ◌≤◌, Bool, true, false, List, [], ◌∷◌, Option, Some, None, refl, ap, sym, subst, ◌∙◌, inl, inr, if◌then◌else◌, arith}
+use Rattle.pairing_law.specs.Marks.{Mark, Ask, Close, IsOlder}
 use Rattle.pairing_law.specs.Ends.{End, nothing, MayGo, gone, fits, taken}
-use Rattle.pairing_law.specs.Sides.{Life, Side, opening_side, opened, lives_gone, lives_taken, Move, Say, Hear, Leave, above, says, hears, leaves, moved, IsLater, May, Event, One, Two, Meet, Both, opening, meets, happens, both, MayHappen, IsRun}
-use Rattle.pairing_law.specs.Partners.{NoneOwns, NoneTook, OwnOnce, PartnerOnce, IsIn, AreBoth, SafePartners}
-use Rattle.pairing_law.proofs.Words.{Below, From, Grows, below_later, from_asks}
-use Rattle.pairing_law.proofs.Balance.{Balanced, balanced_nothing, balanced_says, balanced_hears, next_fits, fits_ask, none_some, some_is}
-use Rattle.pairing_law.proofs.Lives.{Every, every_in, none_owns, none_took, IsNew, Stood, Stands, own_below, partner_below, partner_before, one_new, other_new, Lived, lived_on, lived_more}
-use Rattle.pairing_law.proofs.Joint.{Half, Joined, turned, gone_used, above_less, stood_heard, there_on, joined_said, says_in, said_in, unlike}
+use Rattle.pairing_law.specs.Sides.{Life, Side, opening_side, opened, lives_gone, lives_taken, Move, Say, Hear, Leave, above, says, hears, leaves, moved, IsLater, May, Event, One, Two, Meet, meets, both, IsRun}
+use Rattle.pairing_law.specs.Partners.{SafePartners}
+use Rattle.pairing_law.proofs.Words.{below_later}
+use Rattle.pairing_law.proofs.Balance.{Balanced, balanced_nothing, balanced_hears, next_fits, fits_ask, none_some, some_is}
+use Rattle.pairing_law.proofs.Lives.{every_in, none_owns, none_took, IsNew, Stood, Stands, own_below, partner_below, partner_before, one_new, other_new, Lived, lived_on, lived_more}
+use Rattle.pairing_law.proofs.Joint.{Half, Joined, turned, gone_used, above_less, stood_heard, there_on, joined_said, says_in, unlike}
 
 -- ---- a word that goes out where the host doesn't stay
 
@@ -49,9 +49,9 @@ joined_alone m a b j alone may later =
         below = below_later a.next (above m a.next) a.said less h.below;
         low = omega (arith, low, less);
         lived = lived_on j.floor j.other j.floor j.other a.said a.heard a.said a.heard a.end (gone m a.end) a.lives b.lives (λ x s.
-          let used : ((gone m a.end).asked ≡ Some x.own → (gone m a.end).partner ≢ None) × ((gone m a.end).partner ≡ Some x.partner → (gone m a.end).asked ≢ None)
+            let used : ((gone m a.end).asked ≡ Some x.own → (gone m a.end).partner ≢ None) × ((gone m a.end).partner ≡ Some x.partner → (gone m a.end).asked ≢ None)
             = gone_used m a.end a.next x later (own_below j.floor j.other a.next a.said a.heard x h.low h.below s.stood) s.own_used s.partner_used in
-          record { stood = s.stood; own_used = used.0; partner_used = used.1 }) h.lived;
+            record { stood = s.stood; own_used = used.0; partner_used = used.1 }) h.lived;
       };
       there = there_on j.floor j.other a (alone_in m a) b j.there j.there.older h.lived.back h.lived.both;
     }
@@ -87,7 +87,7 @@ taken_used Close e x less own partner = by e.gone where
 heard_stands : (floor other : ℕ) (m : Mark) (a b : Side) → Half other floor b a → IsOlder (m ∷ a.heard) b.said → (x : Life) → Stands floor other a.said a.heard a.end x → Stands floor other a.said (m ∷ a.heard) (taken m a.end) x
 heard_stands floor other m a b g next x s =
     let used : ((taken m a.end).asked ≡ Some x.own → (taken m a.end).partner ≢ None) × ((taken m a.end).partner ≡ Some x.partner → (taken m a.end).asked ≢ None)
-      = taken_used m a.end x (λ p same. partner_before floor other p a.said a.heard b.said x g.from g.grows (subst (λ (n : Mark). IsOlder (n ∷ a.heard) b.said) same next) s.stood) s.own_used s.partner_used in
+    = taken_used m a.end x (λ p same. partner_before floor other p a.said a.heard b.said x g.from g.grows (subst (λ (n : Mark). IsOlder (n ∷ a.heard) b.said) same next) s.stood) s.own_used s.partner_used in
     record { stood = stood_heard floor other m a.said a.heard x s.stood; own_used = used.0; partner_used = used.1 }
 
 -- an end that opens by its partner's request
@@ -96,21 +96,23 @@ heard_opens : (floor other p : ℕ) (a b : Side) (h : Half floor other a b) (g :
 heard_opens floor other p a b h g stay fit next o there = by o there where
   old : Lived floor other a.said (Ask p ∷ a.heard) (record a.end { partner = Some p }) a.lives b.lives
   old = lived_on floor other floor other a.said a.heard a.said (Ask p ∷ a.heard) a.end (record a.end { partner = Some p }) a.lives b.lives (heard_stands floor other (Ask p) a b g next) h.lived
+
   now : Balanced a.said (Ask p ∷ a.heard) (record a.end { partner = Some p })
   now = balanced_hears (Ask p) a.said a.heard a.end fit (subst (λ (e : End). Balanced a.said a.heard e) (h.same stay) h.balanced)
+
   by : (o : Option ℕ) → a.end.asked ≡ o → Lived floor other a.said (Ask p ∷ a.heard) (record a.end { partner = Some p }) (opened o (Some p) a.lives) b.lives
   by None there = old
   by (Some r) there =
       let new : IsNew a.said (Ask p ∷ a.heard) (record { own = r; partner = p }) = (now.now, now.asked_at r there, now.partner_at p refl) in
       lived_more floor other a.said (Ask p ∷ a.heard) (record a.end { partner = Some p }) (record { own = r; partner = p }) a.lives b.lives old
-        (record { stood = inr new; own_used = λ same none. absurd (cc); partner_used = λ same none. none_some a.end.asked r none there })
-        (none_owns (Stands floor other a.said a.heard a.end) r a.lives (λ x s same. s.own_used (there ∙ ap (λ (i : ℕ). Some i) (sym same)) (fits_ask p a.end fit).0) h.lived.stands)
-        (none_took (Stands floor other a.said a.heard a.end) p a.lives (λ x s same. let l : x.partner < p = partner_before floor other p a.said a.heard b.said x g.from g.grows next s.stood in omega (arith, l, same)) h.lived.stands)
-        (λ y i.
-          let stood : Stood other floor b.said b.heard y = (every_in (Stands other floor b.said b.heard b.end) y b.lives g.lived.stands i).stood in (
-            one_new floor other a.said (Ask p ∷ a.heard) b.said b.heard (record a.end { partner = Some p }) now next g.older g.grows g.from (record { own = r; partner = p }) y new stood,
-            other_new floor other a.said (Ask p ∷ a.heard) b.said b.heard g.kept g.balanced next g.older h.grows h.from (record { own = r; partner = p }) y new stood,
-          ))
+      (record { stood = inr new; own_used = λ same none. absurd (cc); partner_used = λ same none. none_some a.end.asked r none there })
+      (none_owns (Stands floor other a.said a.heard a.end) r a.lives (λ x s same. s.own_used (there ∙ ap (λ (i : ℕ). Some i) (sym same)) (fits_ask p a.end fit).0) h.lived.stands)
+      (none_took (Stands floor other a.said a.heard a.end) p a.lives (λ x s same. let l : x.partner < p = partner_before floor other p a.said a.heard b.said x g.from g.grows next s.stood in omega (arith, l, same)) h.lived.stands)
+      (λ y i.
+      let stood : Stood other floor b.said b.heard y = (every_in (Stands other floor b.said b.heard b.end) y b.lives g.lived.stands i).stood in (
+        one_new floor other a.said (Ask p ∷ a.heard) b.said b.heard (record a.end { partner = Some p }) now next g.older g.grows g.from (record { own = r; partner = p }) y new stood,
+        other_new floor other a.said (Ask p ∷ a.heard) b.said b.heard g.kept g.balanced next g.older h.grows h.from (record { own = r; partner = p }) y new stood,
+      ))
 
 heard_lives : (floor other : ℕ) (m : Mark) (a b : Side) (h : Half floor other a b) (g : Half other floor b a) → a.stays ≡ true → fits m a.end ≡ true → IsOlder (m ∷ a.heard) b.said
     → Lived floor other a.said (m ∷ a.heard) (taken m a.end) (lives_taken m a.end a.lives) b.lives

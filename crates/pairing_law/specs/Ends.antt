@@ -1,5 +1,5 @@
 -- One end of a connection, as its host has it (NIC 8246, RTS, STR and CLS).
-use Rattle.std.specs.Prelude.{◌≡◌, ℕ, ◌≤◌, Bool, true, false, not, ◌&&◌, ◌||◌, Option, Some, None, is_some, if◌then◌else◌}
+use Rattle.std.specs.Prelude.{◌≡◌, ℕ, Bool, true, false, not, ◌&&◌, ◌||◌, Option, Some, None, is_some, if◌then◌else◌}
 use Rattle.pairing_law.specs.Marks.{Mark, Ask, Close}
 
 -- where its own request went out and where its partner's did, which it has taken; whether its own CLS has gone out and whether

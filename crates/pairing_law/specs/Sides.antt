@@ -1,5 +1,5 @@
 -- The two hosts of a connection, from contact to contact (NIC 8246, RST: it closes all connections between two hosts).
-use Rattle.std.specs.Prelude.{◌≡◌, ℕ, ◌+◌, ◌≤◌, Bool, true, false, List, [], ◌∷◌, Option, Some, None, if◌then◌else◌}
+use Rattle.std.specs.Prelude.{◌≡◌, ℕ, ◌+◌, ◌≤◌, Bool, true, false, List, [], ◌∷◌, Option, Some, if◌then◌else◌}
 use Rattle.pairing_law.specs.Marks.{Mark, Ask, Close, IsOlder}
 use Rattle.pairing_law.specs.Ends.{End, nothing, MayGo, gone, fits, taken}
 

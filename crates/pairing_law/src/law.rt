@@ -1,10 +1,21 @@
 //! What becomes of requests. The functions here do nothing: each clause is the law.
 
 ghost use Rattle.std.specs.Prelude.{◌≡◌, ℕ, Bool, true, false, List, [], ◌∷◌, Some, None};
-ghost use Rattle.pairing_law.specs.Marks.{Ask, Close, closes, Asks};
+ghost use Rattle.pairing_law.specs.Marks.{Mark, Ask, Close, closes, Asks};
 ghost use Rattle.pairing_law.specs.Ends.{nothing, fits};
 ghost use Rattle.pairing_law.specs.Sides.{Event, One, Two, Meet, Say, Hear, Leave, both, IsRun};
-ghost use Rattle.pairing_law.specs.Example.{connected, over, again};
+ghost use Rattle.pairing_law.specs.Partners.{SafePartners};
+ghost use Rattle.pairing_law.specs.Example.{connected, over, again, refused, both_close, late, left, anew, stale, unreset};
+
+/// Whatever two hosts say of one pair of their sockets, and whenever they leave and meet again.
+pub fn partners()
+    // no two ends have one request, their own or their partner's, and partners are partners both ways
+    ensures safe { (events : List Event) → IsRun events → SafePartners (both events) }
+
+    // all that a host takes of its peer is in order: it never answers with an error
+    ensures one { (events : List Event) (mark : Mark) → IsRun (One (Hear mark) ∷ events) → fits mark (both events).one.end ≡ true }
+    ensures two { (events : List Event) (mark : Mark) → IsRun (Two (Hear mark) ∷ events) → fits mark (both events).two.end ≡ true }
+{}
 
 /// A connection that is opened, closed, and opened again.
 pub fn worked_connection()
@@ -16,4 +27,53 @@ pub fn worked_connection()
 
     // then the same sockets are connected by requests of their own
     ensures again { ((both again).one.lives ≡ record { own = 9; partner = 8 } ∷ record { own = 3; partner = 5 } ∷ []) × ((both again).two.lives ≡ record { own = 8; partner = 9 } ∷ record { own = 5; partner = 3 } ∷ []) }
+
+    // each request belongs to the connection that so many CLS of its sender come before
+    ensures counted { closes (both again).one.said ≡ 1 }
+    ensures first { Asks 0 3 (both again).one.said }
+    ensures second { Asks 1 9 (both again).one.said }
+
+    // a request that is refused opens nothing, and a CLS from each side is still wanted
+    ensures refused { ((both refused).two.lives ≡ []) × ((both refused).one.end ≡ record { asked = Some 3; partner = None; gone = false; taken = true }) }
+
+    // CLS that cross end both
+    ensures both_close { ((both both_close).one.end ≡ nothing) × ((both both_close).two.end ≡ nothing) }
+
+    // an end opens by the two requests, also where its CLS has gone out meanwhile
+    ensures late { (both late).one.lives ≡ record { own = 3; partner = 5 } ∷ [] }
+{}
+
+/// Hosts that leave, and begin anew.
+pub fn worked_stays()
+    // a host that leaves forgets its end, and its peer goes on
+    ensures left { ((both left).one.end ≡ nothing) × ((both left).one.stays ≡ false) × ((both left).two.stays ≡ true) × ((both left).two.end ≡ record { asked = None; partner = Some 3; gone = false; taken = false }) }
+
+    // after a reset words begin anew, and the same sockets are connected by new requests
+    ensures anew { ((both anew).one.said ≡ Ask 8 ∷ []) × ((both anew).one.lives ≡ record { own = 8; partner = 6 } ∷ []) × ((both anew).two.lives ≡ record { own = 6; partner = 8 } ∷ []) }
+{}
+
+/// Lists of events that may be, so the laws don't speak of nothing; and two that may not, which would break them.
+pub fn worked_runs()
+    ensures again { IsRun again }
+    ensures anew { IsRun anew }
+
+    // a host that takes a request of before a reset: it may not happen, and the ends aren't partners both ways
+    ensures stale { IsRun stale → ⊥ }
+    ensures stale_breaks { SafePartners (both stale) → ⊥ }
+
+    // a host that restarts and isn't reset
+    ensures unreset { IsRun unreset → ⊥ }
+    ensures unreset_breaks { SafePartners (both unreset) → ⊥ }
+{}
+
+/// What is out of order.
+pub fn worked_errors()
+    // a CLS of what nobody asked for, a second request, a request behind a CLS, a second CLS
+    ensures nobody { fits Close nothing ≡ false }
+    ensures second { fits (Ask 7) (record { asked = None; partner = Some 3; gone = false; taken = false }) ≡ false }
+    ensures behind { fits (Ask 7) (record { asked = Some 3; partner = None; gone = false; taken = true }) ≡ false }
+    ensures twice { fits Close (record { asked = Some 3; partner = Some 5; gone = false; taken = true }) ≡ false }
+
+    // a first request is in order, also where the own CLS is out
+    ensures first { fits (Ask 7) (record { asked = Some 3; partner = None; gone = true; taken = false }) ≡ true }
 {}
