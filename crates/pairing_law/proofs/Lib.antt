@@ -3,3 +3,4 @@ pub mod Balance
 pub mod Lives
 pub mod Joint
 pub mod Runs
+pub mod Seen

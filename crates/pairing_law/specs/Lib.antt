@@ -2,4 +2,5 @@ pub mod Marks
 pub mod Ends
 pub mod Sides
 pub mod Partners
+pub mod Links
 pub mod Example
