@@ -223,7 +223,7 @@ heard_last s t e b closed quiet =
     let heard : closes t + 1 ≡ b.now + 1 = (let h : closes t ≡ b.now + count e.taken = b.heard in omega (arith, h, zero_taken)) in
     next_of s (Close ∷ t) b.now said heard b.single b.within b.within_heard b.grounds
 
-and_both : (x y : Bool) → (x && y) ≡ true → (x ≡ true) × (y ≡ true)
+pub and_both : (x y : Bool) → (x && y) ≡ true → (x ≡ true) × (y ≡ true)
 and_both true y e = (refl, e)
 and_both false y e = absurd (cc)
 

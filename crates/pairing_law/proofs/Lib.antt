@@ -4,3 +4,4 @@ pub mod Lives
 pub mod Joint
 pub mod Runs
 pub mod Seen
+pub mod Linked
