@@ -1,15 +1,15 @@
 -- A link that a request names is that of no other connection at its sender.
-use Rattle.std.proofs.Common.{◌≡◌, ◌⊎◌, ℕ, ◌+◌, ◌<◌, ◌≤◌, ◌==◌, ◌&&◌, Bool, true, false, List, [], ◌∷◌, ◌++◌, Option, Some, None, refl, ap, sym, subst, ◌∙◌, inl, inr, if◌then◌else◌, eq-eqb, eq-or-lt_of_le, arith}
+use Rattle.std.proofs.Common.{◌≡◌, ℕ, ◌+◌, ◌<◌, ◌≤◌, ◌==◌, Bool, true, false, List, [], ◌∷◌, ◌++◌, refl, ap, sym, subst, ◌∙◌, inl, inr, if◌then◌else◌, eq-eqb, eq-or-lt_of_le, arith}
 use Rattle.std.proofs.lemmas.Bool.{eqb-true}
 use Rattle.pairing_law.specs.Marks.{Mark, Ask, Close, closes, Asks, IsOlder}
-use Rattle.pairing_law.specs.Ends.{End, fits}
-use Rattle.pairing_law.specs.Sides.{Side, Move, Say, Hear, Leave, May, Event, One, Two, Meet, Both, happens, both, MayHappen, IsRun}
-use Rattle.pairing_law.specs.Links.{Sockets, same, Word, Who, Receiver, Sender, Step, Says, Hears, Leaves, Meets, when, event_at, with_event, events_at, receiver, sender, still, stays, said_more, said, heard_more, heard, IsAmong, Named, IsFree, IsUnused, NamesFree, AreOlder, MayStep, AreSteps}
+use Rattle.pairing_law.specs.Ends.{End}
+use Rattle.pairing_law.specs.Sides.{Move, Say, Hear, May, Event, One, Two, both, IsRun}
+use Rattle.pairing_law.specs.Links.{Sockets, same, Word, Receiver, Sender, Step, Says, Hears, Leaves, Meets, when, with_event, events_at, receiver, sender, stays, said, heard, IsAmong, IsUnused, NamesFree, AreSteps}
 use Rattle.pairing_law.proofs.Words.{asks_said, closes_said, asks_once}
 use Rattle.pairing_law.proofs.Balance.{Balanced, count, and_both}
-use Rattle.pairing_law.proofs.Joint.{Half, Joined}
+use Rattle.pairing_law.proofs.Joint.{Joined}
 use Rattle.pairing_law.proofs.Runs.{joined_run}
-use Rattle.pairing_law.proofs.Seen.{put, at, at_older, Seen, BothSeen, seen}
+use Rattle.pairing_law.proofs.Seen.{put, at, at_older, BothSeen, seen}
 
 same_is : (s t : Sockets) → same s t ≡ true → s ≡ t
 same_is s t e =
@@ -71,7 +71,7 @@ among_asks : (t : Sockets) (link q : ℕ) (words : List Word) → IsAmong (recor
 among_asks t link q [] i = absurd i
 among_asks t link q (w ∷ words) (inl e) =
     subst (λ (v : Word). (k : ℕ) × Asks k q (put (same t v.sockets) v.mark (at t words))) e
-      (closes (at t words), subst (λ (b : Bool). Asks (closes (at t words)) q (put b (Ask q) (at t words))) (sym (same_self t)) (inl (refl, refl)))
+    (closes (at t words), subst (λ (b : Bool). Asks (closes (at t words)) q (put b (Ask q) (at t words))) (sym (same_self t)) (inl (refl, refl)))
 among_asks t link q (w ∷ words) (inr i) = let a : (k : ℕ) × Asks k q (at t words) = among_asks t link q words i in (a.0, asks_put (same t w.sockets) w.mark a.0 q (at t words) a.1)
 
 -- ---- what had a link before is closed both ways
@@ -111,7 +111,7 @@ settles steps r stay (Ask p) link free = λ t q i.
     let h : BothSeen t steps = seen t steps in
     let j : Joined (receiver t steps) (sender t steps) = joined_at t steps r in
     let b : Balanced (receiver t steps).said (receiver t steps).heard (receiver t steps).end
-      = subst (λ (e : End). Balanced (receiver t steps).said (receiver t steps).heard e) (j.here.same (h.receiver.stays ∙ stay)) j.here.balanced in
+    = subst (λ (e : End). Balanced (receiver t steps).said (receiver t steps).heard e) (j.here.same (h.receiver.stays ∙ stay)) j.here.balanced in
     let asks : Asks a.0 q (receiver t steps).said = subst (λ (z : List Mark). Asks a.0 q z) (sym h.receiver.said) a.1 in
     let less : a.0 < b.now = elim (eq-or-lt_of_le (b.within a.0 q asks)) [
       | inl now ↦ absurd (free t (q, b.asked_is q (subst (λ (k : ℕ). Asks k q (receiver t steps).said) now asks), i))
@@ -156,10 +156,10 @@ unused steps w p r request t named =
     let h : BothSeen t steps = seen t steps in
     let j : Joined (receiver t steps) (sender t steps) = joined_at t steps r.1 in
     let b : Balanced (sender t steps).said (sender t steps).heard (sender t steps).end
-      = subst (λ (e : End). Balanced (sender t steps).said (sender t steps).heard e) (j.there.same (h.sender.stays ∙ r.0.0)) j.there.balanced in
+    = subst (λ (e : End). Balanced (sender t steps).said (sender t steps).heard e) (j.there.same (h.sender.stays ∙ r.0.0)) j.there.balanced in
     let asks : Asks o.0 named.0 (sender t steps).heard = subst (λ (z : List Mark). Asks o.0 named.0 z) (sym h.sender.heard) o.1 in
     let now : o.0 ≡ b.now = asks_once o.0 b.now named.0 (receiver t steps).said j.here.grows (asks_said o.0 named.0 (sender t steps).heard (receiver t steps).said j.there.older asks)
-      (asks_said b.now named.0 (sender t steps).heard (receiver t steps).said j.there.older (b.partner_at named.0 named.1)) in
+    (asks_said b.now named.0 (sender t steps).heard (receiver t steps).said j.there.older (b.partner_at named.0 named.1)) in
     let taken : closes (sender t steps).heard ≡ b.now + count (sender t steps).end.taken = b.heard in
     let taken_is : closes (sender t steps).heard ≡ closes (at t (heard Sender steps)) = ap closes h.sender.heard in
     let gone : closes (sender t steps).said ≡ b.now + count (sender t steps).end.gone = b.said in

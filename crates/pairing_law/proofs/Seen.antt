@@ -1,9 +1,8 @@
 -- All connections of two hosts, seen at one pair of sockets: a list of steps that may be is, for each pair, a list of events that may be.
-use Rattle.std.proofs.Common.{◌≡◌, ◌⊎◌, ℕ, ◌==◌, ◌&&◌, Bool, true, false, List, [], ◌∷◌, ◌++◌, Option, Some, None, refl, ap, sym, subst, ◌∙◌, inl, inr, if◌then◌else◌}
-use Rattle.pairing_law.specs.Marks.{Mark, Ask, Close, closes, Asks, IsOlder}
-use Rattle.pairing_law.specs.Ends.{fits}
-use Rattle.pairing_law.specs.Sides.{Side, Say, Hear, Leave, May, Event, One, Two, Meet, Both, happens, both, MayHappen, IsRun}
-use Rattle.pairing_law.specs.Links.{Sockets, same, Word, Who, Receiver, Sender, Step, Says, Hears, Leaves, Meets, when, event_at, with_event, events_at, receiver, sender, still, stays, said_more, said, heard_more, heard, IsAmong, AreOlder, MayStep, AreSteps}
+use Rattle.std.proofs.Common.{◌≡◌, Bool, true, false, List, [], ◌∷◌, ◌++◌, refl, ap, sym, subst, ◌∙◌, if◌then◌else◌}
+use Rattle.pairing_law.specs.Marks.{Mark, IsOlder}
+use Rattle.pairing_law.specs.Sides.{Side, Say, Hear, Event, One, Two, both}
+use Rattle.pairing_law.specs.Links.{Sockets, same, Word, Receiver, Sender, Step, Says, Hears, Leaves, Meets, when, with_event, events_at, receiver, sender, stays, said, heard, AreOlder}
 
 -- ---- the words of one pair of sockets
 
@@ -88,8 +87,8 @@ seen s (Says Receiver w ∷ steps) =
     let h : BothSeen s steps = seen s steps in
     record {
       receiver = seen_as (receiver s (Says Receiver w ∷ steps)) (receiver s (Says Receiver w ∷ steps)) (stays Receiver steps) (if stays Receiver steps then put (same s w.sockets) w.mark (at s (said Receiver steps)) else at s (said Receiver steps))
-        (at s (said Receiver (Says Receiver w ∷ steps))) (at s (heard Receiver steps)) refl (at_if s (stays Receiver steps) w (said Receiver steps))
-        (one_says (same s w.sockets) w.mark (events_at s steps) (stays Receiver steps) (at s (said Receiver steps)) (at s (heard Receiver steps)) h.receiver);
+          (at s (said Receiver (Says Receiver w ∷ steps))) (at s (heard Receiver steps)) refl (at_if s (stays Receiver steps) w (said Receiver steps))
+          (one_says (same s w.sockets) w.mark (events_at s steps) (stays Receiver steps) (at s (said Receiver steps)) (at s (heard Receiver steps)) h.receiver);
       sender = subst (λ (z : Side). Seen z (stays Sender steps) (at s (said Sender steps)) (at s (heard Sender steps))) (sym (two_quiet (same s w.sockets) w.mark (events_at s steps))) h.sender;
     }
 seen s (Says Sender w ∷ steps) =
@@ -97,8 +96,8 @@ seen s (Says Sender w ∷ steps) =
     record {
       receiver = subst (λ (z : Side). Seen z (stays Receiver steps) (at s (said Receiver steps)) (at s (heard Receiver steps))) (sym (one_quiet (same s w.sockets) w.mark (events_at s steps))) h.receiver;
       sender = seen_as (sender s (Says Sender w ∷ steps)) (sender s (Says Sender w ∷ steps)) (stays Sender steps) (if stays Sender steps then put (same s w.sockets) w.mark (at s (said Sender steps)) else at s (said Sender steps))
-        (at s (said Sender (Says Sender w ∷ steps))) (at s (heard Sender steps)) refl (at_if s (stays Sender steps) w (said Sender steps))
-        (two_says (same s w.sockets) w.mark (events_at s steps) (stays Sender steps) (at s (said Sender steps)) (at s (heard Sender steps)) h.sender);
+          (at s (said Sender (Says Sender w ∷ steps))) (at s (heard Sender steps)) refl (at_if s (stays Sender steps) w (said Sender steps))
+          (two_says (same s w.sockets) w.mark (events_at s steps) (stays Sender steps) (at s (said Sender steps)) (at s (heard Sender steps)) h.sender);
     }
 seen s (Hears Receiver w ∷ steps) =
     let h : BothSeen s steps = seen s steps in

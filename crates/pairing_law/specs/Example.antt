@@ -1,6 +1,7 @@
 -- Two hosts and one pair of their sockets: words for worked examples. All lists are read newest first.
 use Rattle.std.specs.Prelude.{List, [], ◌∷◌}
 use Rattle.pairing_law.specs.Marks.{Ask, Close}
+use Rattle.pairing_law.specs.Links.{Sockets, Word, Receiver, Sender, Step, Says, Hears, Meets}
 use Rattle.pairing_law.specs.Sides.{Event, One, Two, Meet, Say, Hear, Leave}
 
 -- they meet; the first asks at place 3, and the second answers with its own request at place 5
@@ -44,3 +45,35 @@ stale = One (Hear (Ask 6)) ∷ Two (Say (Ask 6)) ∷ One (Say (Ask 8)) ∷ Two (
 -- a host that restarts isn't reset, and its peer keeps the end: it asks again, and the answer is to its first request
 abbrev pub unreset : List Event
 unreset = One (Hear (Ask 5)) ∷ One (Say (Ask 7)) ∷ One Leave ∷ Two (Say (Ask 5)) ∷ Two (Hear (Ask 3)) ∷ One (Say (Ask 3)) ∷ Meet ∷ []
+
+-- ---- two pairs of sockets
+
+abbrev pub first : Sockets
+first = record { receive = 16; send = 33 }
+
+abbrev pub second : Sockets
+second = record { receive = 18; send = 35 }
+
+-- the receiver asks at place 3, and names link 5
+abbrev pub request : Word
+request = record { sockets = first; link = 5; mark = Ask 3 }
+
+abbrev pub asked_link : List Step
+asked_link = Says Receiver request ∷ Meets ∷ []
+
+abbrev pub taken_link : List Step
+taken_link = Hears Sender request ∷ asked_link
+
+-- the sender refuses it; its CLS is taken and answered
+abbrev pub refusal : Word
+refusal = record { sockets = first; link = 0; mark = Close }
+
+abbrev pub used_link : List Step
+used_link = Says Receiver refusal ∷ Hears Receiver refusal ∷ Says Sender refusal ∷ taken_link
+
+-- the receiver asks for the other pair at place 8, and names the same link
+abbrev pub another : Word
+another = record { sockets = second; link = 5; mark = Ask 8 }
+
+abbrev pub next_link : List Step
+next_link = Hears Sender another ∷ Hears Sender refusal ∷ Says Receiver another ∷ used_link

@@ -2,8 +2,8 @@
 -- (NIC 8246, RTS), and a link is that of one connection at a time.
 use Rattle.std.specs.Prelude.{◌≡◌, ◌⊎◌, ℕ, ◌==◌, Bool, true, false, ◌&&◌, List, [], ◌∷◌, ◌++◌, Option, Some, None, if◌then◌else◌}
 use Rattle.pairing_law.specs.Marks.{Mark, Ask, Close}
-use Rattle.pairing_law.specs.Ends.{End, nothing}
-use Rattle.pairing_law.specs.Sides.{Side, Say, Hear, Leave, May, Event, One, Two, Meet, Both, both}
+use Rattle.pairing_law.specs.Ends.{nothing}
+use Rattle.pairing_law.specs.Sides.{Side, Say, Hear, Leave, May, Event, One, Two, Meet, both}
 
 pub record Sockets : Type 0 where
   pub receive : ℕ

@@ -5,7 +5,8 @@ ghost use Rattle.pairing_law.specs.Marks.{Mark, Ask, Close, closes, Asks};
 ghost use Rattle.pairing_law.specs.Ends.{nothing, fits};
 ghost use Rattle.pairing_law.specs.Sides.{Event, One, Two, Meet, Say, Hear, Leave, both, IsRun};
 ghost use Rattle.pairing_law.specs.Partners.{SafePartners};
-ghost use Rattle.pairing_law.specs.Example.{connected, over, again, refused, both_close, late, left, anew, stale, unreset};
+ghost use Rattle.pairing_law.specs.Links.{Sockets, Word, Receiver, Sender, Step, Says, Hears, Leaves, Meets, events_at, receiver, sender, stays, said, heard, IsFree, IsUnused, MayStep, AreSteps};
+ghost use Rattle.pairing_law.specs.Example.{connected, over, again, refused, both_close, late, left, anew, stale, unreset, first, second, asked_link, taken_link, used_link, next_link};
 
 /// Whatever two hosts say of one pair of their sockets, and whenever they leave and meet again.
 pub fn partners()
@@ -15,6 +16,17 @@ pub fn partners()
     // all that a host takes of its peer is in order: it never answers with an error
     ensures one { (events : List Event) (mark : Mark) → IsRun (One (Hear mark) ∷ events) → fits mark (both events).one.end ≡ true }
     ensures two { (events : List Event) (mark : Mark) → IsRun (Two (Hear mark) ∷ events) → fits mark (both events).two.end ≡ true }
+{}
+
+/// Whatever two hosts say of all their connections one way, of which a receiver's request names the link.
+pub fn links()
+    // for each pair of their sockets it is as above
+    ensures at { (steps : List Step) → AreSteps steps → (s : Sockets) → IsRun (events_at s steps) }
+    ensures safe { (steps : List Step) → AreSteps steps → (s : Sockets) → SafePartners (both (events_at s steps)) }
+
+    // where the receiver names a link that none of its ends has, none of the sender's has it either when the request is taken: it is
+    // never refused for its link
+    ensures unused { (steps : List Step) (word : Word) (p : ℕ) → AreSteps (Hears Sender word ∷ steps) → word.mark ≡ Ask p → IsUnused word.link steps }
 {}
 
 /// A connection that is opened, closed, and opened again.
@@ -64,6 +76,33 @@ pub fn worked_runs()
     // a host that restarts and isn't reset
     ensures unreset { IsRun unreset → ⊥ }
     ensures unreset_breaks { SafePartners (both unreset) → ⊥ }
+{}
+
+/// Two pairs of sockets, and a link.
+pub fn worked_links()
+    // what is said of one pair is nothing for the other
+    ensures apart { (events_at first asked_link ≡ One (Say (Ask 3)) ∷ Meet ∷ []) × (events_at second asked_link ≡ Meet ∷ []) }
+
+    // a request is allowed, and heard
+    ensures asked { AreSteps taken_link }
+    ensures taken { ((sender first taken_link).end.partner ≡ Some 3) × (heard Sender taken_link ≡ said Receiver taken_link) }
+
+    // while it stands its link isn't free for another, and the sender has it
+    ensures used { IsFree 5 taken_link → ⊥ }
+    ensures has { IsUnused 5 taken_link → ⊥ }
+
+    // another link is
+    ensures other { IsFree 6 taken_link }
+
+    // after a CLS each way the link is free again, before the sender has taken the last of them
+    ensures free { IsFree 5 used_link }
+    ensures closed { ((receiver first used_link).end ≡ nothing) × ((sender first used_link).end ≡ record { asked = None; partner = Some 3; gone = true; taken = false }) }
+
+    // then it goes to the other pair, and its old end is over by the time that the request is taken
+    ensures next { ((sender first next_link).end ≡ nothing) × ((sender second next_link).end.partner ≡ Some 8) }
+
+    // leaving and meeting is that of all pairs
+    ensures leaves { (events_at second (Leaves Sender ∷ asked_link) ≡ Two Leave ∷ Meet ∷ []) × (stays Sender (Leaves Sender ∷ asked_link) ≡ false) × (stays Receiver (Leaves Sender ∷ asked_link) ≡ true) }
 {}
 
 /// What is out of order.
