@@ -5,3 +5,4 @@ pub mod Joint
 pub mod Runs
 pub mod Seen
 pub mod Linked
+pub mod Resets
