@@ -6,3 +6,4 @@ pub mod Runs
 pub mod Seen
 pub mod Linked
 pub mod Resets
+pub mod Begins

@@ -1,6 +1,12 @@
 //! What becomes of requests. The functions here do nothing: each clause is the law.
 
 ghost use Rattle.std.specs.Prelude.{◌≡◌, ℕ, Bool, true, false, List, [], ◌∷◌, Some, None};
+ghost use Rattle.leader1822.specs.Host.{Host};
+ghost use Rattle.reset_law.specs.Events as reset;
+ghost use Rattle.reset_law.specs.Phases.{Ready};
+ghost use Rattle.reset_law.specs.Pairs.{pair};
+ghost use Rattle.reset_law.specs.Runs as reset_run;
+ghost use Rattle.reset_law.specs.Stays as stay;
 ghost use Rattle.pairing_law.specs.Marks.{Mark, Ask, Close, closes, Asks};
 ghost use Rattle.pairing_law.specs.Ends.{nothing, fits};
 ghost use Rattle.pairing_law.specs.Sides.{Event, One, Two, Meet, Say, Hear, Leave, both, IsRun};
@@ -27,6 +33,18 @@ pub fn links()
     // where the receiver names a link that none of its ends has, none of the sender's has it either when the request is taken: it is
     // never refused for its link
     ensures unused { (steps : List Step) (word : Word) (p : ℕ) → AreSteps (Hears Sender word ∷ steps) → word.mark ≡ Ask p → IsUnused word.link steps }
+{}
+
+/// What resets give to two hosts: the two premises above of hearing and of meeting, over the law of resets.
+pub fn resets()
+    // a host that is through a reset takes a text only in a stay
+    ensures in_stay { (hosts : List Host) (events : List reset.Event) (a b : Host) (link : ℕ) (text : List Bool) → reset_run.IsRun hosts (reset.In a b link (reset.Other text) ∷ events) → (pair b a events).phase ≡ Ready → stay.stays b a events ≡ true }
+
+    // where a stay begins, neither has said anything but RST and RRP since it dropped its connections last
+    ensures silent { (hosts : List Host) (event : reset.Event) (events : List reset.Event) (a b : Host) → reset_run.IsRun hosts (event ∷ events) → stay.begins a b event events ≡ true → ((pair a b (event ∷ events)).begun ≡ false) × ((pair b a (event ∷ events)).begun ≡ false) }
+
+    // and both have left their older stay
+    ensures left { (hosts : List Host) (event : reset.Event) (events : List reset.Event) (a b : Host) → reset_run.IsRun hosts (event ∷ events) → stay.begins a b event events ≡ true → (stay.stays a b events ≡ false) × (stay.stays b a events ≡ false) }
 {}
 
 /// A connection that is opened, closed, and opened again.
