@@ -10,7 +10,7 @@ ghost use Rattle.reset_law.specs.Stays as stay;
 ghost use Rattle.pairing_law.specs.Marks.{Mark, Ask, Close, closes, Asks};
 ghost use Rattle.pairing_law.specs.Ends.{nothing, fits};
 ghost use Rattle.pairing_law.specs.Sides.{Event, One, Two, Meet, Say, Hear, Leave, both, IsRun};
-ghost use Rattle.pairing_law.specs.Partners.{SafePartners};
+ghost use Rattle.pairing_law.specs.Partners.{OwnOnce, PartnerOnce, SafePartners};
 ghost use Rattle.pairing_law.specs.Links.{Sockets, Word, Receiver, Sender, Step, Says, Hears, Leaves, Meets, events_at, receiver, sender, stays, said, heard, IsFree, IsUnused, MayStep, AreSteps};
 ghost use Rattle.pairing_law.specs.Example.{connected, over, again, refused, both_close, late, left, anew, stale, unreset, first, second, asked_link, taken_link, used_link, next_link};
 
@@ -121,6 +121,24 @@ pub fn worked_links()
 
     // leaving and meeting is that of all pairs
     ensures leaves { (events_at second (Leaves Sender ∷ asked_link) ≡ Two Leave ∷ Meet ∷ []) × (stays Sender (Leaves Sender ∷ asked_link) ≡ false) × (stays Receiver (Leaves Sender ∷ asked_link) ≡ true) }
+{}
+
+/// What a host may not do.
+pub fn worked_rules()
+    // it asks once for a connection, not after its CLS
+    ensures twice { IsRun (One (Say (Ask 4)) ∷ One (Say (Ask 3)) ∷ Meet ∷ []) → ⊥ }
+    ensures behind { IsRun (One (Say (Ask 7)) ∷ One (Say Close) ∷ One (Hear (Ask 3)) ∷ Two (Say (Ask 3)) ∷ Meet ∷ []) → ⊥ }
+
+    // the place of a request is that of one request, and a later one than those before
+    ensures older { IsRun (One (Say (Ask 3)) ∷ over) → ⊥ }
+
+    // what it says out of a stay isn't said in one, and is dropped before both meet
+    ensures outside { ((both (One (Say (Ask 3)) ∷ [])).one.said ≡ []) × ((both (One (Say (Ask 3)) ∷ [])).one.end.asked ≡ Some 3) }
+    ensures meets { IsRun (Meet ∷ One (Say (Ask 3)) ∷ []) → ⊥ }
+
+    // no life has what another has, also with one between them
+    ensures own { OwnOnce (record { own = 3; partner = 1 } ∷ record { own = 4; partner = 2 } ∷ record { own = 3; partner = 5 } ∷ []) → ⊥ }
+    ensures partner { PartnerOnce (record { own = 1; partner = 3 } ∷ record { own = 2; partner = 4 } ∷ record { own = 5; partner = 3 } ∷ []) → ⊥ }
 {}
 
 /// What is out of order.
