@@ -7,3 +7,4 @@ pub mod Seen
 pub mod Linked
 pub mod Resets
 pub mod Begins
+pub mod Placed

@@ -3,4 +3,5 @@ pub mod Ends
 pub mod Sides
 pub mod Partners
 pub mod Links
+pub mod Places
 pub mod Example
