@@ -1,13 +1,13 @@
 -- Texts that carry their places make a run as well: so what was heard is a front of what was said, with its places.
-use Rattle.std.proofs.Common.{◌≡◌, ℕ, zero, suc, Bool, true, false, not, ◌&&◌, ◌||◌, List, [], ◌∷◌, Option, Some, None, refl, ap, sym, subst, ◌∙◌, if◌then◌else◌, ◌==◌, ◌+◌, arith}
-use Rattle.leader1822.specs.Host.{Host, same_host, is_host}
+use Rattle.std.proofs.Common.{◌≡◌, ℕ, zero, suc, Bool, true, false, not, ◌&&◌, ◌||◌, List, [], ◌∷◌, refl, ap, sym, subst, ◌∙◌, if◌then◌else◌, ◌==◌, ◌+◌}
+use Rattle.leader1822.specs.Host.{Host, same_host}
 use Rattle.leader1822.specs.declared.crossing.Answer.{Answer}
 use Rattle.leader1822.specs.declared.crossing.Answer.TheVariants as answer
-use Rattle.reset_law.specs.Events.{Message, Reset, Reply, Other, Event, Contact, Out, In, Told, Down, Up, Idle, Part, Call, Send, Take, Hear, Begin, when, are, place, turned, is_up}
-use Rattle.reset_law.specs.Boxes.{Box, Empty, Waiting, Taken, WaitsWith, Fits, Post, Put, Fetch, Clear, ClearAll, fetched, posted, at_link, boxes}
+use Rattle.reset_law.specs.Events.{Message, Reset, Reply, Other, Event, Contact, Out, In, Told, Down, Up, Idle, Call, Send, Take, Hear, Begin, when, are, place, turned, is_up}
+use Rattle.reset_law.specs.Boxes.{Box, Empty, Waiting, Taken, WaitsWith, Fits, Put, Fetch, Clear, ClearAll, fetched, posted, boxes}
 use Rattle.reset_law.specs.Pairs.{Pair, MaySend, moved, pair}
 use Rattle.reset_law.specs.Runs.{IsRun}
-use Rattle.reset_law.specs.Stays.{ready, joint, begins, takes_reset, stays, heard, said, IsFront}
+use Rattle.reset_law.specs.Stays.{is_ready, ready, takes_reset, stays, heard, said, IsFront}
 use Rattle.reset_law.proofs.Stays.{heard_front}
 use Rattle.pairing_law.specs.Places.{tagged, with_place, with_box, placed_event, placed}
 
@@ -169,3 +169,37 @@ placed_run hosts (Idle ∷ events) r = (tt, tt, placed_run hosts events r.2)
 
 pub placed_front : (hosts : List Host) (events : List Event) → IsRun hosts events → (a b : Host) (l : ℕ) → IsFront (heard a b l (placed events)) (said a b l (placed events))
 placed_front hosts events r a b l = heard_front hosts (placed events) (placed_run hosts events r) a b l
+
+-- ---- stays are the same
+
+reset_same : (a b x y : Host) (l : ℕ) (m n : Message) (p : ℕ) → n ≡ with_place p m → takes_reset a b (In x y l n) ≡ takes_reset a b (In x y l m)
+reset_same a b x y l Reset n p e = ap (λ (z : Message). takes_reset a b (In x y l z)) e
+reset_same a b x y l Reply n p e = ap (λ (z : Message). takes_reset a b (In x y l z)) e
+reset_same a b x y l (Other text) n p e = ap (λ (z : Message). takes_reset a b (In x y l z)) e
+
+box_reset : (a b x y : Host) (l : ℕ) (m : Message) (box : Box) → takes_reset a b (In x y l (with_box box m)) ≡ takes_reset a b (In x y l m)
+box_reset a b x y l m Empty = refl
+box_reset a b x y l m (Waiting p n) = reset_same a b x y l m (with_place p m) p refl
+box_reset a b x y l m (Taken p n) = refl
+
+takes_same : (a b : Host) (e : Event) (events : List Event) → takes_reset a b (placed_event e events) ≡ takes_reset a b e
+takes_same a b (Contact x y) events = refl
+takes_same a b (Out x y l m) events = refl
+takes_same a b (In x y l m) events = box_reset a b x y l m (boxes x y events l)
+takes_same a b (Told x y l k) events = refl
+takes_same a b (Down x) events = refl
+takes_same a b (Up x) events = refl
+takes_same a b Idle events = refl
+
+ready_same : (a b : Host) (events : List Event) → ready a b (placed events) ≡ ready a b events
+ready_same a b events = ap (λ (p : Pair). is_ready p.phase) (pair_same a b events)
+
+six : (r r' s s' t t' u u' k k' v v' : Bool) → r ≡ r' → s ≡ s' → t ≡ t' → u ≡ u' → k ≡ k' → v ≡ v' → (((r && s) && not (t && u)) || (r && not k && v)) ≡ (((r' && s') && not (t' && u')) || (r' && not k' && v'))
+six r r' s s' t t' u u' k k' v v' e f g h i j = rw (e, f, g, h, i, j) refl
+
+pub stays_same : (a b : Host) (events : List Event) → stays a b (placed events) ≡ stays a b events
+stays_same a b [] = refl
+stays_same a b (e ∷ events) =
+    six (ready a b (placed (e ∷ events))) (ready a b (e ∷ events)) (ready b a (placed (e ∷ events))) (ready b a (e ∷ events)) (ready a b (placed events)) (ready a b events) (ready b a (placed events)) (ready b a events)
+    (takes_reset a b (placed_event e events)) (takes_reset a b e) (stays a b (placed events)) (stays a b events)
+    (ready_same a b (e ∷ events)) (ready_same b a (e ∷ events)) (ready_same a b events) (ready_same b a events) (takes_same a b e events) (stays_same a b events)

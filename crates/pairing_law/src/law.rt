@@ -2,11 +2,14 @@
 
 ghost use Rattle.std.specs.Prelude.{◌≡◌, ℕ, Bool, true, false, List, [], ◌∷◌, Some, None};
 ghost use Rattle.leader1822.specs.Host.{Host};
+ghost use Rattle.leader1822.specs.declared.crossing.Answer.TheVariants as answer;
 ghost use Rattle.reset_law.specs.Events as reset;
 ghost use Rattle.reset_law.specs.Phases.{Ready};
 ghost use Rattle.reset_law.specs.Pairs.{pair};
 ghost use Rattle.reset_law.specs.Runs as reset_run;
 ghost use Rattle.reset_law.specs.Stays as stay;
+ghost use Rattle.reset_law.specs.Example.{one, two, message};
+ghost use Rattle.pairing_law.specs.Places.{tagged, placed};
 ghost use Rattle.pairing_law.specs.Marks.{Mark, Ask, Close, closes, Asks};
 ghost use Rattle.pairing_law.specs.Ends.{nothing, fits};
 ghost use Rattle.pairing_law.specs.Sides.{Event, One, Two, Meet, Say, Hear, Leave, both, IsRun};
@@ -45,6 +48,30 @@ pub fn resets()
 
     // and both have left their older stay
     ensures left { (hosts : List Host) (event : reset.Event) (events : List reset.Event) (a b : Host) → reset_run.IsRun hosts (event ∷ events) → stay.begins a b event events ≡ true → (stay.stays a b events ≡ false) × (stay.stays b a events ≡ false) }
+{}
+
+/// What was heard is a front of what was said with its places too: each text carries in front the place where it went out.
+pub fn places()
+    // a text so tagged tells both
+    ensures tagged { (p q : ℕ) (s t : List Bool) → tagged p s ≡ tagged q t → (p ≡ q) × (s ≡ t) }
+
+    // events whose texts are tagged are a run too, with the same pairs and stays
+    ensures run { (hosts : List Host) (events : List reset.Event) → reset_run.IsRun hosts events → reset_run.IsRun hosts (placed events) }
+    ensures same { (events : List reset.Event) (a b : Host) → (pair a b (placed events) ≡ pair a b events) × (stay.stays a b (placed events) ≡ stay.stays a b events) }
+
+    // so what a host heard of its peer in its stay is a front of what the peer said in its own, text by text and place by place
+    ensures front { (hosts : List Host) (events : List reset.Event) → reset_run.IsRun hosts events → (a b : Host) (link : ℕ) → stay.IsFront (stay.heard a b link (placed events)) (stay.said a b link (placed events)) }
+{}
+
+/// A message and its place.
+pub fn worked_places()
+    // it went out at place 5, and has that place where it is taken too
+    ensures said { stay.said one two 0 (placed message) ≡ tagged 5 (true ∷ []) ∷ [] }
+    ensures heard { stay.heard one two 0 (placed (reset.In one two 0 (reset.Other (true ∷ [])) ∷ message)) ≡ tagged 5 (true ∷ []) ∷ [] }
+    ensures bits { tagged 2 (true ∷ []) ≡ true ∷ true ∷ false ∷ true ∷ [] }
+
+    // a text with the same bits at another place is told from it
+    ensures two { stay.said one two 0 (placed (reset.Out one two 0 (reset.Other (true ∷ [])) ∷ reset.Told one two 0 answer.Rfnm ∷ reset.In one two 0 (reset.Other (true ∷ [])) ∷ message)) ≡ tagged 5 (true ∷ []) ∷ tagged 8 (true ∷ []) ∷ [] }
 {}
 
 /// A connection that is opened, closed, and opened again.
