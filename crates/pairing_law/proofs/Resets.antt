@@ -1,0 +1,150 @@
+-- What the law of resets gives: a host that is through a reset takes a text only in a stay.
+use Rattle.std.proofs.Common.{◌≡◌, ◌≢◌, ℕ, Bool, true, false, not, ◌&&◌, ◌||◌, List, [], ◌∷◌, Some, refl, ap, sym, subst, ◌∙◌, inl, inr}
+use Rattle.leader1822.specs.Host.{Host, same_host}
+use Rattle.reset_law.specs.Phases.{Ready}
+use Rattle.reset_law.specs.Events.{Message, Reset, Reply, Other, Event, Contact, Out, In, Told, Down, Up, Idle, Call, Send, Hear, Begin, when, are, place}
+use Rattle.reset_law.specs.Boxes.{Box, Empty, Waiting, Taken, WaitsWith, Post, Put, Fetch, Clear, ClearAll, fetched, posted, at_link, boxes}
+use Rattle.reset_law.specs.Pairs.{Pair, MaySend, kind_of, moved, pair}
+use Rattle.reset_law.specs.Monitor.{monitor}
+use Rattle.reset_law.specs.Invariant.{kind_in, is_signal}
+use Rattle.reset_law.specs.Runs.{IsRun}
+use Rattle.reset_law.specs.Stays.{ready, joint, begins, takes_reset, stays}
+use Rattle.reset_law.proofs.Links.{at}
+use Rattle.reset_law.proofs.Runs.{carry, alone_run}
+use Rattle.reset_law.proofs.Fresh.{turned_about, still_ready, ready_taken}
+use Rattle.reset_law.proofs.Joint.{phase_ready, contradicts, NoPlain, plain_fetched, plain_if, plain_alone}
+use Rattle.reset_law.proofs.Stays.{joint_stays}
+
+goes_on : (t r k s : Bool) → r ≡ true → k ≡ false → s ≡ true → (t || (r && not k && s)) ≡ true
+goes_on true r k s e f g = refl
+goes_on false r k s e f g = rw (e, f, g) refl
+
+stays_on : (e : Event) (events : List Event) (a b : Host) → (pair b a (e ∷ events)).phase ≡ Ready → takes_reset b a e ≡ false → stays b a events ≡ true → stays b a (e ∷ events) ≡ true
+stays_on e events a b now none stay = goes_on (begins b a e events) (ready b a (e ∷ events)) (takes_reset b a e) (stays b a events) (phase_ready (pair b a (e ∷ events)).phase now) none stay
+
+-- where a text waits, the condition holds
+abbrev Waits : (ℕ → Box) → Type 0 → Type 0
+Waits bs S = (l p : ℕ) (text : List Bool) → bs l ≡ Waiting p (Other text) → S
+
+waits_map : (bs : ℕ → Box) (S T : Type 0) → (S → T) → Waits bs S → Waits bs T
+waits_map bs S T f h l p text e = f (h l p text e)
+
+not_waiting : (x : Box) (p : ℕ) (m : Message) → fetched x ≢ Waiting p m
+not_waiting Empty p m e = absurd (cc)
+not_waiting (Waiting q n) p m e = absurd (cc)
+not_waiting (Taken q n) p m e = absurd (cc)
+
+waits_fetched : (bs : ℕ → Box) (l : ℕ) (S : Type 0) → Waits bs S → Waits (at_link bs l (fetched (bs l))) S
+waits_fetched bs l S h k p text e = elim (at bs l (fetched (bs l)) k) [
+  | inl t ↦ absurd (not_waiting (bs l) p (Other text) (sym t.1 ∙ e))
+  | inr t ↦ h k p text (sym t.1 ∙ e)
+]
+
+waits_cleared : (bs : ℕ → Box) (l : ℕ) (S : Type 0) → Waits bs S → Waits (at_link bs l Empty) S
+waits_cleared bs l S h k p text e = elim (at bs l Empty k) [
+  | inl t ↦ (let both : Empty ≡ Waiting p (Other text) = sym t.1 ∙ e in absurd (cc))
+  | inr t ↦ h k p text (sym t.1 ∙ e)
+]
+
+waits_put : (bs : ℕ → Box) (l here : ℕ) (m : Message) (S : Type 0) → ((text : List Bool) → m ≡ Other text → S) → Waits bs S → Waits (at_link bs l (Waiting here m)) S
+waits_put bs l here m S f h k p text e = elim (at bs l (Waiting here m) k) [
+  | inl t ↦
+      (let same : Waiting here m ≡ Waiting p (Other text) = sym t.1 ∙ e in
+      let other : m ≡ Other text = cc in
+      f text other)
+  | inr t ↦ h k p text (sym t.1 ∙ e)
+]
+
+waits_if : (t : Bool) (post : Post) (here : ℕ) (bs : ℕ → Box) (S : Type 0) → (t ≡ true → Waits (posted here (Some post) bs) S) → Waits bs S → Waits (posted here (when t post) bs) S
+waits_if true post here bs S f h = f refl
+waits_if false post here bs S f h = h
+
+-- after a signal is taken no text waits
+none_waits : (bs : ℕ → Box) (S : Type 0) → NoPlain bs → Waits bs S
+none_waits bs S none l p text e = absurd (none l (ap kind_in e))
+
+-- who sends a text is ready, and stays so
+sends_ready : (t : Bool) (l : ℕ) (text : List Bool) (p : Pair) → (t ≡ true → MaySend p l (Other text)) → t ≡ true → (moved (when t (Send l (Other text))) p).phase ≡ Ready
+sends_ready true l text p may e = (may refl).0
+sends_ready false l text p may e = absurd (cc)
+
+and_true : (s t : Bool) → s ≡ true → t ≡ true → (s && t) ≡ true
+and_true s t e f = rw (e, f) refl
+
+put_stays : (hosts : List Host) (events : List Event) (x y : Host) (l : ℕ) (m : Message) → IsRun hosts (Out x y l m ∷ events) → (a b : Host) → are a b x y ≡ true → (pair b a (Out x y l m ∷ events)).phase ≡ Ready
+    → (text : List Bool) → m ≡ Other text → stays b a (Out x y l m ∷ events) ≡ true
+put_stays hosts events x y l m r a b same now text other =
+    let q : IsRun hosts (Out x y l (Other text) ∷ events) = subst (λ (z : Message). IsRun hosts (Out x y l z ∷ events)) other r in
+    let may : MaySend (pair a b events) l (Other text) = carry (λ v w. MaySend (pair v w events) l (Other text)) a b x y same q.1 in
+    let there : (pair a b (Out x y l (Other text) ∷ events)).phase ≡ Ready = sends_ready (are a b x y) l text (pair a b events) (λ e. may) same in
+    let here : (pair b a (Out x y l (Other text) ∷ events)).phase ≡ Ready = subst (λ (z : Message). (pair b a (Out x y l z ∷ events)).phase ≡ Ready) other now in
+    let both : joint b a (Out x y l (Other text) ∷ events) ≡ true
+    = and_true (ready b a (Out x y l (Other text) ∷ events)) (ready a b (Out x y l (Other text) ∷ events)) (phase_ready (pair b a (Out x y l (Other text) ∷ events)).phase here) (phase_ready (pair a b (Out x y l (Other text) ∷ events)).phase there) in
+    subst (λ (z : Message). stays b a (Out x y l z ∷ events) ≡ true) (sym other) (joint_stays hosts (Out x y l (Other text) ∷ events) q b a both)
+
+no_reset : (b a x y : Host) (l : ℕ) (m : Message) → (m ≡ Reset → are b a y x ≡ false) → takes_reset b a (In x y l m) ≡ false
+no_reset b a x y l Reset f = f refl
+no_reset b a x y l Reply f = refl
+no_reset b a x y l (Other text) f = refl
+
+-- a text waits for a host that is through a reset only where it stays
+pub waits_in_stay : (hosts : List Host) (events : List Event) → IsRun hosts events → (a b : Host) → (pair b a events).phase ≡ Ready → Waits (boxes a b events) (stays b a events ≡ true)
+waits_in_stay hosts [] r a b now = absurd (cc)
+waits_in_stay hosts (Contact x y ∷ events) r a b now =
+    let was : (pair b a events).phase ≡ Ready = (still_ready (are b a x y) Call (place events) (pair b a events) (monitor b a events) tt now).0 in
+    waits_map (boxes a b events) (stays b a events ≡ true) (stays b a (Contact x y ∷ events) ≡ true) (stays_on (Contact x y) events a b now refl) (waits_in_stay hosts events r.2 a b was)
+waits_in_stay hosts (Out x y l m ∷ events) r a b now =
+    let was : (pair b a events).phase ≡ Ready = (still_ready (are b a x y) (Send l m) (place events) (pair b a events) (monitor b a events) tt now).0 in
+    let old : Waits (boxes a b events) (stays b a (Out x y l m ∷ events) ≡ true)
+    = waits_map (boxes a b events) (stays b a events ≡ true) (stays b a (Out x y l m ∷ events) ≡ true) (stays_on (Out x y l m) events a b now refl) (waits_in_stay hosts events r.2 a b was) in
+    waits_if (are a b x y) (Put l m) (place events) (boxes a b events) (stays b a (Out x y l m ∷ events) ≡ true)
+    (λ e. waits_put (boxes a b events) l (place events) m (stays b a (Out x y l m ∷ events) ≡ true) (put_stays hosts events x y l m r a b e now) old) old
+waits_in_stay hosts (In x y l m ∷ events) r a b now = which (are b a y x) m refl refl (waits_in_stay hosts events r.2 a b) where
+  signal : are b a y x ≡ true → is_signal (Some (kind_of m)) ≡ true → Waits (boxes a b (In x y l m ∷ events)) (stays b a (In x y l m ∷ events) ≡ true)
+  signal e is =
+      let waits : WaitsWith (boxes a b events l) m = carry (λ v w. WaitsWith (boxes v w events l) m) a b x y (turned_about a b x y e) r.0.1 in
+      let h : NoPlain (boxes a b events) = plain_alone (boxes a b events) l m (alone_run hosts events r.2 a b) waits is in
+      none_waits (boxes a b (In x y l m ∷ events)) (stays b a (In x y l m ∷ events) ≡ true) (plain_if (are a b x y) (Fetch l) (place events) (boxes a b events) (λ e. plain_fetched (boxes a b events) l h) h)
+
+  quiet : (m ≡ Reset → are b a y x ≡ false) → (are b a y x ≡ true → is_signal (Some (kind_of m)) ≡ true → ⊥) → ((pair b a events).phase ≡ Ready → Waits (boxes a b events) (stays b a events ≡ true))
+      → Waits (boxes a b (In x y l m ∷ events)) (stays b a (In x y l m ∷ events) ≡ true)
+  quiet none plain h = elim (ready_taken (are b a y x) m (place events) (pair b a events) (monitor b a events) now) [
+    | inl s ↦ absurd (plain s.0 s.1)
+    | inr t ↦
+        (let old : Waits (boxes a b events) (stays b a (In x y l m ∷ events) ≡ true)
+        = waits_map (boxes a b events) (stays b a events ≡ true) (stays b a (In x y l m ∷ events) ≡ true) (stays_on (In x y l m) events a b now (no_reset b a x y l m none)) (h t.0) in
+        waits_if (are a b x y) (Fetch l) (place events) (boxes a b events) (stays b a (In x y l m ∷ events) ≡ true) (λ e. waits_fetched (boxes a b events) l (stays b a (In x y l m ∷ events) ≡ true) old) old)
+  ]
+
+  which : (v : Bool) (n : Message) → are b a y x ≡ v → m ≡ n → ((pair b a events).phase ≡ Ready → Waits (boxes a b events) (stays b a events ≡ true)) → Waits (boxes a b (In x y l m ∷ events)) (stays b a (In x y l m ∷ events) ≡ true)
+  which true Reset e f h = signal e (ap (λ (z : Message). is_signal (Some (kind_of z))) f)
+  which true Reply e f h = signal e (ap (λ (z : Message). is_signal (Some (kind_of z))) f)
+  which true (Other text) e f h =
+      quiet (λ z. let both : Other text ≡ Reset = sym f ∙ z in absurd (cc)) (λ same is. let both : false ≡ true = sym (ap (λ (z : Message). is_signal (Some (kind_of z))) f) ∙ is in absurd (cc)) h
+  which false n e f h = quiet (λ z. e) (λ same is. contradicts (are b a y x) same e) h
+waits_in_stay hosts (Told x y l k ∷ events) r a b now =
+    let was : (pair b a events).phase ≡ Ready = (still_ready (are b a x y) (Hear l k) (place events) (pair b a events) (monitor b a events) tt now).0 in
+    let old : Waits (boxes a b events) (stays b a (Told x y l k ∷ events) ≡ true)
+    = waits_map (boxes a b events) (stays b a events ≡ true) (stays b a (Told x y l k ∷ events) ≡ true) (stays_on (Told x y l k) events a b now refl) (waits_in_stay hosts events r.2 a b was) in
+    waits_if (are a b x y) (Clear l) (place events) (boxes a b events) (stays b a (Told x y l k ∷ events) ≡ true) (λ e. waits_cleared (boxes a b events) l (stays b a (Told x y l k ∷ events) ≡ true) old) old
+waits_in_stay hosts (Down x ∷ events) r a b now =
+    let was : (pair b a events).phase ≡ Ready = (still_ready (same_host b x) Begin (place events) (pair b a events) (monitor b a events) tt now).0 in
+    waits_map (boxes a b events) (stays b a events ≡ true) (stays b a (Down x ∷ events) ≡ true) (stays_on (Down x) events a b now refl) (waits_in_stay hosts events r.2 a b was)
+waits_in_stay hosts (Up x ∷ events) r a b now =
+    let was : (pair b a events).phase ≡ Ready = (still_ready (same_host b x) Begin (place events) (pair b a events) (monitor b a events) tt now).0 in
+    let old : Waits (boxes a b events) (stays b a (Up x ∷ events) ≡ true)
+    = waits_map (boxes a b events) (stays b a events ≡ true) (stays b a (Up x ∷ events) ≡ true) (stays_on (Up x) events a b now refl) (waits_in_stay hosts events r.2 a b was) in
+    waits_if (same_host a x) ClearAll (place events) (boxes a b events) (stays b a (Up x ∷ events) ≡ true) (λ e l p text waits. absurd (cc)) old
+waits_in_stay hosts (Idle ∷ events) r a b now =
+    waits_map (boxes a b events) (stays b a events ≡ true) (stays b a (Idle ∷ events) ≡ true) (stays_on Idle events a b now refl) (waits_in_stay hosts events r.2 a b now)
+
+waiting : (x : Box) (m : Message) → WaitsWith x m → (p : ℕ) × (x ≡ Waiting p m)
+waiting Empty m w = absurd w
+waiting (Waiting p n) m w = (p, ap (λ (y : Message). Waiting p y) w)
+waiting (Taken p n) m w = absurd w
+
+-- a host that is through a reset takes a text only there
+pub takes_in_stay : (hosts : List Host) (events : List Event) (a b : Host) (l : ℕ) (text : List Bool) → IsRun hosts (In a b l (Other text) ∷ events) → (pair b a events).phase ≡ Ready → stays b a events ≡ true
+takes_in_stay hosts events a b l text r now =
+    let w : (p : ℕ) × (boxes a b events l ≡ Waiting p (Other text)) = waiting (boxes a b events l) (Other text) r.0.1 in
+    waits_in_stay hosts events r.2 a b now l w.0 text w.1

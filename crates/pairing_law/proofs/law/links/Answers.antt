@@ -1,0 +1,13 @@
+use Rattle.pairing_law.specs.Links.{events_at}
+use Rattle.pairing_law.proofs.Runs.{safe_run}
+use Rattle.pairing_law.proofs.Linked.{run_at, unused}
+use Rattle.pairing_law.proofs.law.links.Goals as goal
+
+pub returns-clause-at : goal.returns-clause-at
+returns-clause-at c steps r s = run_at s steps r
+
+pub returns-clause-safe : goal.returns-clause-safe
+returns-clause-safe c steps r s = safe_run (events_at s steps) (run_at s steps r)
+
+pub returns-clause-unused : goal.returns-clause-unused
+returns-clause-unused c = unused

@@ -1,0 +1,13 @@
+use Rattle.pairing_law.specs.Sides.{both}
+use Rattle.pairing_law.proofs.Joint.{turned}
+use Rattle.pairing_law.proofs.Runs.{safe_run, joined_run, joined_fits}
+use Rattle.pairing_law.proofs.law.partners.Goals as goal
+
+pub returns-clause-safe : goal.returns-clause-safe
+returns-clause-safe c = safe_run
+
+pub returns-clause-one : goal.returns-clause-one
+returns-clause-one c events mark r = joined_fits mark (both events).one (both events).two (joined_run events r.1) r.0
+
+pub returns-clause-two : goal.returns-clause-two
+returns-clause-two c events mark r = joined_fits mark (both events).two (both events).one (turned (both events).one (both events).two (joined_run events r.1)) r.0

@@ -1,0 +1,181 @@
+//! What becomes of requests. The functions here do nothing: each clause is the law.
+
+ghost use Rattle.std.specs.Prelude.{◌≡◌, ℕ, Bool, true, false, List, [], ◌∷◌, Some, None};
+ghost use Rattle.leader1822.specs.Host.{Host};
+ghost use Rattle.leader1822.specs.declared.crossing.Answer.TheVariants as answer;
+ghost use Rattle.reset_law.specs.Events as reset;
+ghost use Rattle.reset_law.specs.Phases.{Ready};
+ghost use Rattle.reset_law.specs.Pairs.{pair};
+ghost use Rattle.reset_law.specs.Runs as reset_run;
+ghost use Rattle.reset_law.specs.Stays as stay;
+ghost use Rattle.reset_law.specs.Example.{one, two, message};
+ghost use Rattle.pairing_law.specs.Places.{tagged, placed};
+ghost use Rattle.pairing_law.specs.Marks.{Mark, Ask, Close, closes, Asks};
+ghost use Rattle.pairing_law.specs.Ends.{nothing, fits};
+ghost use Rattle.pairing_law.specs.Sides.{Event, One, Two, Meet, Say, Hear, Leave, both, IsRun};
+ghost use Rattle.pairing_law.specs.Partners.{OwnOnce, PartnerOnce, SafePartners};
+ghost use Rattle.pairing_law.specs.Links.{Sockets, Word, Receiver, Sender, Step, Says, Hears, Leaves, Meets, events_at, receiver, sender, stays, said, heard, IsFree, IsUnused, MayStep, AreSteps};
+ghost use Rattle.pairing_law.specs.Example.{connected, over, again, refused, both_close, late, left, anew, stale, unreset, first, second, asked_link, taken_link, used_link, next_link};
+
+/// Whatever two hosts say of one pair of their sockets, and whenever they leave and meet again.
+pub fn partners()
+    // no two ends have one request, their own or their partner's, and partners are partners both ways
+    ensures safe { (events : List Event) → IsRun events → SafePartners (both events) }
+
+    // all that a host takes of its peer is in order: it never answers with an error
+    ensures one { (events : List Event) (mark : Mark) → IsRun (One (Hear mark) ∷ events) → fits mark (both events).one.end ≡ true }
+    ensures two { (events : List Event) (mark : Mark) → IsRun (Two (Hear mark) ∷ events) → fits mark (both events).two.end ≡ true }
+{}
+
+/// Whatever two hosts say of all their connections one way, of which a receiver's request names the link.
+pub fn links()
+    // for each pair of their sockets it is as above
+    ensures at { (steps : List Step) → AreSteps steps → (s : Sockets) → IsRun (events_at s steps) }
+    ensures safe { (steps : List Step) → AreSteps steps → (s : Sockets) → SafePartners (both (events_at s steps)) }
+
+    // where the receiver names a link that none of its ends has, none of the sender's has it either when the request is taken: it is
+    // never refused for its link
+    ensures unused { (steps : List Step) (word : Word) (p : ℕ) → AreSteps (Hears Sender word ∷ steps) → word.mark ≡ Ask p → IsUnused word.link steps }
+{}
+
+/// What resets give to two hosts: the two premises above of hearing and of meeting, over the law of resets.
+pub fn resets()
+    // a host that is through a reset takes a text only in a stay
+    ensures in_stay { (hosts : List Host) (events : List reset.Event) (a b : Host) (link : ℕ) (text : List Bool) → reset_run.IsRun hosts (reset.In a b link (reset.Other text) ∷ events) → (pair b a events).phase ≡ Ready → stay.stays b a events ≡ true }
+
+    // where a stay begins, neither has said anything but RST and RRP since it dropped its connections last
+    ensures silent { (hosts : List Host) (event : reset.Event) (events : List reset.Event) (a b : Host) → reset_run.IsRun hosts (event ∷ events) → stay.begins a b event events ≡ true → ((pair a b (event ∷ events)).begun ≡ false) × ((pair b a (event ∷ events)).begun ≡ false) }
+
+    // and both have left their older stay
+    ensures left { (hosts : List Host) (event : reset.Event) (events : List reset.Event) (a b : Host) → reset_run.IsRun hosts (event ∷ events) → stay.begins a b event events ≡ true → (stay.stays a b events ≡ false) × (stay.stays b a events ≡ false) }
+{}
+
+/// What was heard is a front of what was said with its places too: each text carries in front the place where it went out.
+pub fn places()
+    // a text so tagged tells both
+    ensures tagged { (p q : ℕ) (s t : List Bool) → tagged p s ≡ tagged q t → (p ≡ q) × (s ≡ t) }
+
+    // events whose texts are tagged are a run too, with the same pairs and stays
+    ensures run { (hosts : List Host) (events : List reset.Event) → reset_run.IsRun hosts events → reset_run.IsRun hosts (placed events) }
+    ensures same { (events : List reset.Event) (a b : Host) → (pair a b (placed events) ≡ pair a b events) × (stay.stays a b (placed events) ≡ stay.stays a b events) }
+
+    // so what a host heard of its peer in its stay is a front of what the peer said in its own, text by text and place by place
+    ensures front { (hosts : List Host) (events : List reset.Event) → reset_run.IsRun hosts events → (a b : Host) (link : ℕ) → stay.IsFront (stay.heard a b link (placed events)) (stay.said a b link (placed events)) }
+{}
+
+/// A message and its place.
+pub fn worked_places()
+    // it went out at place 5, and has that place where it is taken too
+    ensures said { stay.said one two 0 (placed message) ≡ tagged 5 (true ∷ []) ∷ [] }
+    ensures heard { stay.heard one two 0 (placed (reset.In one two 0 (reset.Other (true ∷ [])) ∷ message)) ≡ tagged 5 (true ∷ []) ∷ [] }
+    ensures bits { tagged 2 (true ∷ []) ≡ true ∷ true ∷ false ∷ true ∷ [] }
+
+    // a text with the same bits at another place is told from it
+    ensures two { stay.said one two 0 (placed (reset.Out one two 0 (reset.Other (true ∷ [])) ∷ reset.Told one two 0 answer.Rfnm ∷ reset.In one two 0 (reset.Other (true ∷ [])) ∷ message)) ≡ tagged 5 (true ∷ []) ∷ tagged 8 (true ∷ []) ∷ [] }
+{}
+
+/// A connection that is opened, closed, and opened again.
+pub fn worked_connection()
+    // each end opens where its second request has passed, the first host's with the two places turned about
+    ensures opened { ((both connected).one.lives ≡ record { own = 3; partner = 5 } ∷ []) × ((both connected).two.lives ≡ record { own = 5; partner = 3 } ∷ []) }
+
+    // a CLS each way ends both
+    ensures over { ((both over).one.end ≡ nothing) × ((both over).two.end ≡ nothing) }
+
+    // then the same sockets are connected by requests of their own
+    ensures again { ((both again).one.lives ≡ record { own = 9; partner = 8 } ∷ record { own = 3; partner = 5 } ∷ []) × ((both again).two.lives ≡ record { own = 8; partner = 9 } ∷ record { own = 5; partner = 3 } ∷ []) }
+
+    // each request belongs to the connection that so many CLS of its sender come before
+    ensures counted { closes (both again).one.said ≡ 1 }
+    ensures first { Asks 0 3 (both again).one.said }
+    ensures second { Asks 1 9 (both again).one.said }
+
+    // a request that is refused opens nothing, and a CLS from each side is still wanted
+    ensures refused { ((both refused).two.lives ≡ []) × ((both refused).one.end ≡ record { asked = Some 3; partner = None; gone = false; taken = true }) }
+
+    // CLS that cross end both
+    ensures both_close { ((both both_close).one.end ≡ nothing) × ((both both_close).two.end ≡ nothing) }
+
+    // an end opens by the two requests, also where its CLS has gone out meanwhile
+    ensures late { (both late).one.lives ≡ record { own = 3; partner = 5 } ∷ [] }
+{}
+
+/// Hosts that leave, and begin anew.
+pub fn worked_stays()
+    // a host that leaves forgets its end, and its peer goes on
+    ensures left { ((both left).one.end ≡ nothing) × ((both left).one.stays ≡ false) × ((both left).two.stays ≡ true) × ((both left).two.end ≡ record { asked = None; partner = Some 3; gone = false; taken = false }) }
+
+    // after a reset words begin anew, and the same sockets are connected by new requests
+    ensures anew { ((both anew).one.said ≡ Ask 8 ∷ []) × ((both anew).one.lives ≡ record { own = 8; partner = 6 } ∷ []) × ((both anew).two.lives ≡ record { own = 6; partner = 8 } ∷ []) }
+{}
+
+/// Lists of events that may be, so the laws don't speak of nothing; and two that may not, which would break them.
+pub fn worked_runs()
+    ensures again { IsRun again }
+    ensures anew { IsRun anew }
+
+    // a host that takes a request of before a reset: it may not happen, and the ends aren't partners both ways
+    ensures stale { IsRun stale → ⊥ }
+    ensures stale_breaks { SafePartners (both stale) → ⊥ }
+
+    // a host that restarts and isn't reset
+    ensures unreset { IsRun unreset → ⊥ }
+    ensures unreset_breaks { SafePartners (both unreset) → ⊥ }
+{}
+
+/// Two pairs of sockets, and a link.
+pub fn worked_links()
+    // what is said of one pair is nothing for the other
+    ensures apart { (events_at first asked_link ≡ One (Say (Ask 3)) ∷ Meet ∷ []) × (events_at second asked_link ≡ Meet ∷ []) }
+
+    // a request is allowed, and heard
+    ensures asked { AreSteps taken_link }
+    ensures taken { ((sender first taken_link).end.partner ≡ Some 3) × (heard Sender taken_link ≡ said Receiver taken_link) }
+
+    // while it stands its link isn't free for another, and the sender has it
+    ensures used { IsFree 5 taken_link → ⊥ }
+    ensures has { IsUnused 5 taken_link → ⊥ }
+
+    // another link is
+    ensures other { IsFree 6 taken_link }
+
+    // after a CLS each way the link is free again, before the sender has taken the last of them
+    ensures free { IsFree 5 used_link }
+    ensures closed { ((receiver first used_link).end ≡ nothing) × ((sender first used_link).end ≡ record { asked = None; partner = Some 3; gone = true; taken = false }) }
+
+    // then it goes to the other pair, and its old end is over by the time that the request is taken
+    ensures next { ((sender first next_link).end ≡ nothing) × ((sender second next_link).end.partner ≡ Some 8) }
+
+    // leaving and meeting is that of all pairs
+    ensures leaves { (events_at second (Leaves Sender ∷ asked_link) ≡ Two Leave ∷ Meet ∷ []) × (stays Sender (Leaves Sender ∷ asked_link) ≡ false) × (stays Receiver (Leaves Sender ∷ asked_link) ≡ true) }
+{}
+
+/// What a host may not do.
+pub fn worked_rules()
+    // it asks once for a connection, not after its CLS
+    ensures twice { IsRun (One (Say (Ask 4)) ∷ One (Say (Ask 3)) ∷ Meet ∷ []) → ⊥ }
+    ensures behind { IsRun (One (Say (Ask 7)) ∷ One (Say Close) ∷ One (Hear (Ask 3)) ∷ Two (Say (Ask 3)) ∷ Meet ∷ []) → ⊥ }
+
+    // the place of a request is that of one request, and a later one than those before
+    ensures older { IsRun (One (Say (Ask 3)) ∷ over) → ⊥ }
+
+    // what it says out of a stay isn't said in one, and is dropped before both meet
+    ensures outside { ((both (One (Say (Ask 3)) ∷ [])).one.said ≡ []) × ((both (One (Say (Ask 3)) ∷ [])).one.end.asked ≡ Some 3) }
+    ensures meets { IsRun (Meet ∷ One (Say (Ask 3)) ∷ []) → ⊥ }
+
+    // no life has what another has, also with one between them
+    ensures own { OwnOnce (record { own = 3; partner = 1 } ∷ record { own = 4; partner = 2 } ∷ record { own = 3; partner = 5 } ∷ []) → ⊥ }
+    ensures partner { PartnerOnce (record { own = 1; partner = 3 } ∷ record { own = 2; partner = 4 } ∷ record { own = 5; partner = 3 } ∷ []) → ⊥ }
+{}
+
+/// What is out of order.
+pub fn worked_errors()
+    // a CLS of what nobody asked for, a second request, a request behind a CLS, a second CLS
+    ensures nobody { fits Close nothing ≡ false }
+    ensures second { fits (Ask 7) (record { asked = None; partner = Some 3; gone = false; taken = false }) ≡ false }
+    ensures behind { fits (Ask 7) (record { asked = Some 3; partner = None; gone = false; taken = true }) ≡ false }
+    ensures twice { fits Close (record { asked = Some 3; partner = Some 5; gone = false; taken = true }) ≡ false }
+
+    // a first request is in order, also where the own CLS is out
+    ensures first { fits (Ask 7) (record { asked = Some 3; partner = None; gone = true; taken = false }) ≡ true }
+{}
