@@ -1,7 +1,9 @@
 -- The two machines over a list of notices.
-use Rattle.std.specs.Prelude.{ℕ, List, [], ◌∷◌, ◌++◌, Option, Some, None}
+use Rattle.std.specs.Prelude.{◌≡◌, true, ℕ, ◌+◌, List, [], ◌∷◌, ◌++◌, Option, Some, None}
+use Rattle.std.specs.List.{list_any}
+use Rattle.leader1822.specs.Host.{Host}
 use Rattle.std.specs.Option.{option_or}
-use Rattle.icp.specs.Notices.{opened_on}
+use Rattle.icp.specs.Notices.{is_opened, opened_on}
 use Rattle.icp.specs.Outcomes.{Turn}
 use Rattle.icp.specs.Server.{ServerState, server_turn}
 use Rattle.icp.specs.User.{UserState, user_turn}
@@ -34,3 +36,24 @@ user_played s (n ∷ ns) = before (user_turn s n) (user_played (user_turn s n).0
 abbrev pub opened_in : ℕ → List Notice → Option Partner
 opened_in socket [] = None
 opened_in socket (n ∷ ns) = option_or (opened_on socket n) (opened_in socket ns)
+
+-- ---- what a server's outcome says
+
+-- the socket so far above that of a partner, at the same host
+abbrev pub above : ℕ → Partner → Partner
+above step p = record { peer = p.peer; socket = p.socket + step }
+
+-- these notices tell of a user who asked the listening socket, and of both ends with the sockets of that user, crosswise
+pub record IsServed (listen base : ℕ) (notices : List Notice) : Type 0 where
+  pub user : Partner
+  pub asked : opened_in listen notices ≡ Some user
+  pub receiving : opened_in base notices ≡ Some (above 3 user)
+  pub sending : opened_in (base + 1) notices ≡ Some (above 2 user)
+
+-- ---- what a user's outcome says
+
+-- these notices tell of both its ends with sockets of the server's host, crosswise: one and the socket above it
+pub record IsConnected (peer : Host) (receive send : ℕ) (notices : List Notice) : Type 0 where
+  pub base : ℕ
+  pub receiving : list_any (λ n. is_opened receive peer (base + 1) n) notices ≡ true
+  pub sending : list_any (λ n. is_opened send peer base n) notices ≡ true
