@@ -1,0 +1,3 @@
+pub mod SocketLemmas
+pub mod ServerLemmas
+pub mod UserLemmas

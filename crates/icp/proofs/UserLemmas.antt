@@ -1,0 +1,235 @@
+-- A user is done only where both its connections were opened with sockets of its peer.
+use Rattle.std.proofs.Common.{◌≡◌, ℕ, ◌+◌, ◌≤◌, ◌&&◌, ◌||◌, Bool, true, false, nat_lt, List, [], ◌∷◌, ◌++◌, length, take, Option, Some, None, is_some, if◌then◌else◌, refl, ap, sym, ◌∙◌, arith}
+use Rattle.std.specs.List.{list_any}
+use Rattle.leader1822.specs.Host.{Host}
+use Rattle.ncp_control.specs.Numbers.{is_receive_socket}
+use Rattle.icp.specs.Notices.{arrived_on, is_opened}
+use Rattle.icp.specs.Outcomes.{Turn, passed}
+use Rattle.icp.specs.Played.{IsConnected, before, outcomes_of, user_played}
+use Rattle.icp.specs.Sockets.{socket_of}
+use Rattle.icp.specs.User.{UserState, opening_user, user_by, user_failure, user_heard, user_joined, user_judged, user_met, user_opened, user_stage, user_told, user_turn}
+use Rattle.icp.specs.declared.outcome.Failure.{Failure}
+use Rattle.icp.specs.declared.outcome.Outcome.{Outcome}
+use Rattle.icp.specs.declared.outcome.Outcome.TheVariants as outcome
+use Rattle.sockets.specs.declared.notice.Notice.{Notice}
+use Rattle.icp.proofs.ServerLemmas.{both_first, both_second, ended_by, is_done, is_not, receive_of, send_of}
+
+-- ---- after its outcome
+
+turn_over : (s : UserState) (n : Notice) → s.over ≡ true → user_turn s n ≡ passed s
+unfolding user_turn
+turn_over s n o = rw o refl
+
+turn_on : (s : UserState) (n : Notice) → s.over ≡ false → user_turn s n ≡ user_by s n (user_failure s n)
+unfolding user_turn
+turn_on s n o = rw o refl
+
+pub silent : (s : UserState) (ns : List Notice) → s.over ≡ true → (user_played s ns).2 ≡ []
+silent s [] o = refl
+silent s (n ∷ ns) o = ap (λ (t : Turn UserState). (before t (user_played t.0 ns)).2) (turn_over s n o) ∙ silent s ns o
+
+-- ---- what a turn keeps while the base isn't known
+
+pub record Keeps (s : UserState) (t : Turn UserState) : Type 0 where
+  pub outcome : ended_by t.2 ≡ false
+  pub peer : t.0.peer ≡ s.peer
+  pub receive : t.0.receive ≡ s.receive
+  pub send : t.0.send ≡ s.send
+  pub receiving : t.0.receiving ≡ s.receiving
+  pub sending : t.0.sending ≡ s.sending
+  pub over : is_some t.2 ≡ true → t.0.over ≡ true
+
+told_keeps : (s : UserState) (base : ℕ) (even : Bool) → is_receive_socket base ≡ even → Keeps s (user_told s base)
+told_keeps s base true is = rw is (record { outcome = refl; peer = refl; receive = refl; send = refl; receiving = refl; sending = refl; over = λ e. absurd (is_not e) })
+told_keeps s base false is = rw is (record { outcome = refl; peer = refl; receive = refl; send = refl; receiving = refl; sending = refl; over = λ e. refl })
+
+joined_keeps : (s : UserState) (bits : List Bool) (few : Bool) → nat_lt (length bits) 32 ≡ few → Keeps s (user_joined s bits)
+joined_keeps s bits true is = rw is (record { outcome = refl; peer = refl; receive = refl; send = refl; receiving = refl; sending = refl; over = λ e. absurd (is_not e) })
+joined_keeps s bits false is =
+    let base : ℕ = socket_of (take 32 bits) in
+    let k : Keeps (record s { bits = [] }) (user_told (record s { bits = [] }) base) = told_keeps (record s { bits = [] }) base (is_receive_socket base) refl in
+    rw is (record { outcome = k.outcome; peer = k.peer; receive = k.receive; send = k.send; receiving = k.receiving; sending = k.sending; over = k.over })
+
+heard_keeps : (s : UserState) (o : Option (List Bool)) → Keeps s (user_heard s o)
+heard_keeps s None = record { outcome = refl; peer = refl; receive = refl; send = refl; receiving = refl; sending = refl; over = λ e. absurd (is_not e) }
+heard_keeps s (Some bits) = joined_keeps s (s.bits ++ bits) (nat_lt (length (s.bits ++ bits)) 32) refl
+
+opened_keeps : (s : UserState) (n : Notice) (there : Bool) → is_opened s.own s.peer s.listen n ≡ there → Keeps s (user_opened s n)
+opened_keeps s n true is = rw is (record { outcome = refl; peer = refl; receive = refl; send = refl; receiving = refl; sending = refl; over = λ e. absurd (is_not e) })
+opened_keeps s n false is = rw is (record { outcome = refl; peer = refl; receive = refl; send = refl; receiving = refl; sending = refl; over = λ e. absurd (is_not e) })
+
+either : (s : UserState) (b : Bool) (t u : Turn UserState) → Keeps s t → Keeps s u → Keeps s (if b then t else u)
+either s true t u k l = k
+either s false t u k l = l
+
+stage_keeps : (s : UserState) (n : Notice) → Keeps s (user_stage s n None)
+stage_keeps s n =
+    either s s.opened (user_heard s (arrived_on s.own n)) (user_opened s n) (heard_keeps s (arrived_on s.own n)) (opened_keeps s n (is_opened s.own s.peer s.listen n) refl)
+
+-- ---- over a list of notices
+
+abbrev base_in : Option ℕ → ℕ → Type 0
+base_in None b = Unit {0}
+base_in (Some c) b = c ≡ b
+
+abbrev number_in : Option ℕ → ℕ
+number_in None = 0
+number_in (Some b) = b
+
+base_none : (o : Option ℕ) (b : ℕ) → o ≡ None → base_in o b
+base_none None b e = tt
+base_none (Some c) b e = absurd (is_not (sym (ap is_some e)))
+
+base_some : (o : Option ℕ) (b : ℕ) → o ≡ Some b → base_in o b
+base_some None b e = absurd (is_not (ap is_some e))
+base_some (Some c) b e = ap number_in e
+
+same_base : (o : Option ℕ) (b c : ℕ) → o ≡ Some b → base_in o c → b ≡ c
+same_base None b c e k = absurd (is_not (ap is_some e))
+same_base (Some x) b c e k = ap number_in (sym e) ∙ k
+
+abbrev judged_if : UserState → Bool → Turn UserState
+judged_if m both = if both then (record m { over = true }, [], Some (outcome.Done m.receive m.send)) else passed m
+
+-- whether an end is open, or these notices tell of its opening
+abbrev is_open : Bool → ℕ → Host → ℕ → List Notice → Bool
+is_open now socket peer foreign ns = now || list_any (λ n. is_opened socket peer foreign n) ns
+
+pub record IsUsed (s : UserState) (ns : List Notice) (r t : ℕ) : Type 0 where
+  pub receive : r ≡ s.receive
+  pub send : t ≡ s.send
+  pub base : ℕ
+  pub known : base_in s.base base
+  pub receiving : is_open s.receiving s.receive s.peer (base + 1) ns ≡ true
+  pub sending : is_open s.sending s.send s.peer base ns ≡ true
+
+later : (now here : Bool) (rest : Bool) → (now || rest) ≡ true → (now || (here || rest)) ≡ true
+later true here rest e = refl
+later false true rest e = refl
+later false false rest e = e
+
+joined_or : (now here rest : Bool) → ((now || here) || rest) ≡ true → (now || (here || rest)) ≡ true
+joined_or true here rest e = refl
+joined_or false here rest e = e
+
+here_or : (now here rest : Bool) → (now || here) ≡ true → (now || (here || rest)) ≡ true
+here_or true here rest e = refl
+here_or false true rest e = refl
+here_or false false rest e = absurd (is_not e)
+
+abbrev Again : List Notice → ℕ → ℕ → Type 0
+Again ns r t = (m : UserState) → (user_played m ns).2 ≡ outcome.Done r t ∷ [] → IsUsed m ns r t
+
+by_first : (s : UserState) (n : Notice) (ns : List Notice) (r t : ℕ) → Again ns r t → (u : Turn UserState) → Keeps s u → s.base ≡ None → (o : Option Outcome) → u.2 ≡ o
+    → outcomes_of o ++ (user_played u.0 ns).2 ≡ outcome.Done r t ∷ [] → IsUsed s (n ∷ ns) r t
+by_first s n ns r t again u k none None is e =
+    let d : IsUsed u.0 ns r t = again u.0 e in
+    let receiving : is_open s.receiving s.receive s.peer (d.base + 1) ns ≡ true =
+    ap (λ (now : Bool). is_open now s.receive s.peer (d.base + 1) ns) (sym k.receiving)
+    ∙ ap (λ (socket : ℕ). is_open u.0.receiving socket s.peer (d.base + 1) ns) (sym k.receive)
+    ∙ ap (λ (peer : Host). is_open u.0.receiving u.0.receive peer (d.base + 1) ns) (sym k.peer)
+    ∙ d.receiving in
+    let sending : is_open s.sending s.send s.peer d.base ns ≡ true =
+    ap (λ (now : Bool). is_open now s.send s.peer d.base ns) (sym k.sending)
+    ∙ ap (λ (socket : ℕ). is_open u.0.sending socket s.peer d.base ns) (sym k.send)
+    ∙ ap (λ (peer : Host). is_open u.0.sending u.0.send peer d.base ns) (sym k.peer)
+    ∙ d.sending in
+    record {
+      receive = d.receive ∙ k.receive;
+      send = d.send ∙ k.send;
+      base = d.base;
+      known = base_none s.base d.base none;
+      receiving = later s.receiving (is_opened s.receive s.peer (d.base + 1) n) (list_any (λ m. is_opened s.receive s.peer (d.base + 1) m) ns) receiving;
+      sending = later s.sending (is_opened s.send s.peer d.base n) (list_any (λ m. is_opened s.send s.peer d.base m) ns) sending;
+    }
+by_first s n ns r t again u k none (Some (outcome.Done r' t')) is e = absurd (is_not (sym k.outcome ∙ ap ended_by is))
+by_first s n ns r t again u k none (Some (outcome.Failed f)) is e = absurd (is_not (ap is_done e))
+
+by_both : (s : UserState) (n : Notice) (ns : List Notice) (r t : ℕ) → Again ns r t → (base : ℕ) → s.base ≡ Some base → (both : Bool)
+    → ((user_met s base n).receiving && (user_met s base n).sending) ≡ both
+    → (before (user_judged (user_met s base n)) (user_played (user_judged (user_met s base n)).0 ns)).2 ≡ outcome.Done r t ∷ [] → IsUsed s (n ∷ ns) r t
+by_both s n ns r t again base known true both e =
+    let m : UserState = user_met s base n in
+    let f : outcomes_of (Some (outcome.Done s.receive s.send)) ++ (user_played (record m { over = true }) ns).2 ≡ outcome.Done r t ∷ [] = sym (ap (λ (b : Bool). (before (judged_if m b) (user_played (judged_if m b).0 ns)).2) both) ∙ e in
+    record {
+      receive = sym (ap receive_of f);
+      send = sym (ap send_of f);
+      base = base;
+      known = base_some s.base base known;
+      receiving = here_or s.receiving (is_opened s.receive s.peer (base + 1) n) (list_any (λ m. is_opened s.receive s.peer (base + 1) m) ns) (both_first m.receiving m.sending both);
+      sending = here_or s.sending (is_opened s.send s.peer base n) (list_any (λ m. is_opened s.send s.peer base m) ns) (both_second m.receiving m.sending both);
+    }
+by_both s n ns r t again base known false both e =
+    let m : UserState = user_met s base n in
+    let f : (user_played m ns).2 ≡ outcome.Done r t ∷ [] = sym (ap (λ (b : Bool). (before (judged_if m b) (user_played (judged_if m b).0 ns)).2) both) ∙ e in
+    let d : IsUsed m ns r t = again m f in
+    let same : base ≡ d.base = same_base s.base base d.base known d.known in
+    record {
+      receive = d.receive;
+      send = d.send;
+      base = d.base;
+      known = d.known;
+      receiving = joined_or s.receiving (is_opened s.receive s.peer (d.base + 1) n) (list_any (λ m. is_opened s.receive s.peer (d.base + 1) m) ns)
+          (ap (λ (b : ℕ). is_open (s.receiving || is_opened s.receive s.peer (b + 1) n) s.receive s.peer (d.base + 1) ns) (sym same) ∙ d.receiving);
+      sending = joined_or s.sending (is_opened s.send s.peer d.base n) (list_any (λ m. is_opened s.send s.peer d.base m) ns)
+          (ap (λ (b : ℕ). is_open (s.sending || is_opened s.send s.peer b n) s.send s.peer d.base ns) (sym same) ∙ d.sending);
+    }
+
+by_stage : (s : UserState) (n : Notice) (ns : List Notice) (r t : ℕ) → Again ns r t → (base : Option ℕ) → s.base ≡ base
+    → (before (user_stage s n base) (user_played (user_stage s n base).0 ns)).2 ≡ outcome.Done r t ∷ [] → IsUsed s (n ∷ ns) r t
+by_stage s n ns r t again None is e = by_first s n ns r t again (user_stage s n None) (stage_keeps s n) is (user_stage s n None).2 refl e
+by_stage s n ns r t again (Some base) is e = by_both s n ns r t again base is ((user_met s base n).receiving && (user_met s base n).sending) refl e
+
+by_failure : (s : UserState) (n : Notice) (ns : List Notice) (r t : ℕ) → Again ns r t → (f : Option Failure)
+    → (before (user_by s n f) (user_played (user_by s n f).0 ns)).2 ≡ outcome.Done r t ∷ [] → IsUsed s (n ∷ ns) r t
+by_failure s n ns r t again (Some f) e = absurd (is_not (ap is_done e))
+by_failure s n ns r t again None e = by_stage s n ns r t again s.base refl e
+
+by_over : (s : UserState) (n : Notice) (ns : List Notice) (r t : ℕ) → Again ns r t → (over : Bool) → s.over ≡ over
+    → (user_played s (n ∷ ns)).2 ≡ outcome.Done r t ∷ [] → IsUsed s (n ∷ ns) r t
+by_over s n ns r t again true o e = absurd (is_not (ap is_done (sym (silent s (n ∷ ns) o) ∙ e)))
+by_over s n ns r t again false o e =
+    by_failure s n ns r t again (user_failure s n) (sym (ap (λ (u : Turn UserState). (before u (user_played u.0 ns)).2) (turn_on s n o)) ∙ e)
+
+pub done : (ns : List Notice) (s : UserState) (r t : ℕ) → (user_played s ns).2 ≡ outcome.Done r t ∷ [] → IsUsed s ns r t
+done [] s r t e = absurd (is_not (ap is_done e))
+done (n ∷ ns) s r t e = by_over s n ns r t (λ (m : UserState) (i : (user_played m ns).2 ≡ outcome.Done r t ∷ []). done ns m r t i) s.over refl e
+
+pub record UserDone (peer : Host) (own : ℕ) (notices : List Notice) (r t : ℕ) : Type 0 where
+  pub receive : r ≡ own + 2
+  pub send : t ≡ own + 3
+  pub connected : IsConnected peer (own + 2) (own + 3) notices
+
+pub user_done : (peer : Host) (listen own : ℕ) (ns : List Notice) (r t : ℕ) → (user_played (opening_user peer listen own) ns).2 ≡ outcome.Done r t ∷ [] → UserDone peer own ns r t
+user_done peer listen own ns r t e =
+    let d : IsUsed (opening_user peer listen own) ns r t = done ns (opening_user peer listen own) r t e in
+    record { receive = d.receive; send = d.send; connected = record { base = d.base; receiving = d.receiving; sending = d.sending } }
+
+-- ---- one outcome
+
+judged_ends : (m : UserState) (both : Bool) → (m.receiving && m.sending) ≡ both → is_some (user_judged m).2 ≡ true → (user_judged m).0.over ≡ true
+judged_ends m true is e = rw is refl
+judged_ends m false is e = absurd (is_not (rw is at e))
+
+stage_ends : (s : UserState) (n : Notice) (base : Option ℕ) → is_some (user_stage s n base).2 ≡ true → (user_stage s n base).0.over ≡ true
+stage_ends s n None e = let k : Keeps s (user_stage s n None) = stage_keeps s n in k.over e
+stage_ends s n (Some base) e = judged_ends (user_met s base n) ((user_met s base n).receiving && (user_met s base n).sending) refl e
+
+ends_by : (s : UserState) (n : Notice) (f : Option Failure) → is_some (user_by s n f).2 ≡ true → (user_by s n f).0.over ≡ true
+ends_by s n (Some f) e = refl
+ends_by s n None e = stage_ends s n s.base e
+
+ends_at : (s : UserState) (n : Notice) (over : Bool) → s.over ≡ over → is_some (user_turn s n).2 ≡ true → (user_turn s n).0.over ≡ true
+ends_at s n true is e = ap (λ (t : Turn UserState). t.0.over) (turn_over s n is) ∙ is
+ends_at s n false is e =
+    ap (λ (t : Turn UserState). t.0.over) (turn_on s n is)
+    ∙ ends_by s n (user_failure s n) (sym (ap (λ (t : Turn UserState). is_some t.2) (turn_on s n is)) ∙ e)
+
+one_by : (s : UserState) (n : Notice) (ns : List Notice) (o : Option Outcome) → (user_turn s n).2 ≡ o → length (user_played (user_turn s n).0 ns).2 ≤ 1
+    → length (outcomes_of o ++ (user_played (user_turn s n).0 ns).2) ≤ 1
+one_by s n ns None is few = few
+one_by s n ns (Some o) is few = rw (silent (user_turn s n).0 ns (ends_at s n s.over refl (ap is_some is))) (omega arith)
+
+pub one_user_outcome : (ns : List Notice) (s : UserState) → length (user_played s ns).2 ≤ 1
+one_user_outcome [] s = omega arith
+one_user_outcome (n ∷ ns) s = one_by s n ns (user_turn s n).2 refl (one_user_outcome ns (user_turn s n).0)

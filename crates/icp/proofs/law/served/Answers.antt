@@ -1,0 +1,8 @@
+use Rattle.icp.proofs.ServerLemmas.{ServerDone, one_server_outcome, server_done}
+use Rattle.icp.proofs.law.served.Goals as goal
+
+pub returns-clause-done : goal.returns-clause-done
+returns-clause-done c = λ listen base ns receive send e. let d : ServerDone listen base ns receive send = server_done listen base ns receive send e in (d.receive, d.send, d.served)
+
+pub returns-clause-once : goal.returns-clause-once
+returns-clause-once c = λ s ns. one_server_outcome ns s

@@ -1,0 +1,26 @@
+-- How a call of a machine ends.
+use Rattle.std.specs.Prelude.{◌≡◌, List, [], Option, Some, None, Result, Ok, Err}
+use Rattle.icp.specs.declared.fault.StartFault.{StartFault}
+use Rattle.icp.specs.declared.fault.StartFault.TheVariants as fault
+use Rattle.icp.specs.declared.outcome.Failure.{Failure}
+use Rattle.icp.specs.declared.outcome.Outcome.{Outcome}
+use Rattle.icp.specs.declared.outcome.Outcome.TheVariants as outcome
+use Rattle.sockets.specs.declared.request.Request.{Request}
+
+-- the machine after a notice, what it asks for, in order, and its outcome, if it has ended
+abbrev pub Turn : Type 0 → Type 0
+Turn S = S × List Request × Option Outcome
+
+-- it passes the notice over
+abbrev pub passed : {S : Type 0} → S → Turn S
+passed s = (s, [], None)
+
+-- it fails, and asks for nothing
+abbrev pub failed : {S : Type 0} → S → Failure → Turn S
+failed s f = (s, [], Some (outcome.Failed f))
+
+-- a machine that can't begin for `refusal`, and else begins with this property: want of memory comes last
+abbrev pub Decided : {T : Type 0} → Option StartFault → (T → Type 0) → Result T StartFault → Type 0
+Decided refusal Gives (Ok x) = (refusal ≡ None) × Gives x
+Decided refusal Gives (Err fault.OutOfMemory) = refusal ≡ None
+Decided refusal Gives (Err fault.BadSocket) = refusal ≡ Some fault.BadSocket

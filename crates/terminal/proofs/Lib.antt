@@ -1,0 +1,3 @@
+pub mod OctetLemmas
+pub mod LineLemmas
+pub mod PlayedLemmas

@@ -1,0 +1,5 @@
+pub mod Ends
+pub mod Lines
+pub mod Machines
+pub mod Octets
+pub mod Played

@@ -1,0 +1,130 @@
+//! The echo service.
+
+ghost use Rattle.std.specs.Prelude.{◌≡◌, ◌<◌, true, false, length, Err, MatchResult, Ok, IfOk, OnErr};
+ghost use Rattle.terminal.specs.Ends as ends;
+ghost use Rattle.terminal.specs.Machines as machines;
+
+use crate::ends::{arrived_on, closed_by, first_requests, granted_again};
+use crate::octets::join;
+use bit_messages::Bits;
+use ncp_control::{ReceiveSocket, SendSocket};
+use sockets::{Notice, Request};
+use std::alloc::{AllocError, Global};
+use std::marker::Model;
+
+/// A program that sends back what arrives, octet by octet. Bits behind the last whole octet wait for those
+/// that make it whole.
+///
+/// A call that runs out of memory leaves it spent, and no call may follow.
+#[derive(Drop)]
+pub struct EchoService {
+    receive: ReceiveSocket,
+    send: SendSocket,
+    part: Bits,
+    spent: bool,
+    alloc: Global,
+}
+
+impl Model for EchoService {
+    ghost use Rattle.std.specs.Prelude.{◌<◌, length};
+    ghost use Rattle.terminal.specs.Machines.{EchoState};
+
+    ghost Value = { EchoState };
+
+    ghost view = { λ e. record { receive = e.receive; send = e.send; part = e.part; spent = e.spent } };
+
+    ghost invariant = { λ e. length e.part < 8 };
+}
+
+impl EchoService {
+    /// The service on two open connections, and its first grant: 4 messages and 4096 bits.
+    ///
+    /// Errors: `AllocError` where memory is wanted for the request.
+    pub fn start(
+        alloc: Global,
+        receive: ReceiveSocket,
+        send: SendSocket,
+    ) -> Result<(EchoService, Vec<Request>), AllocError>
+        ensures { IfOk result (λ started. (started.0 ≡ machines.opening_echo receive send) × (started.1.items ≡ ends.first_requests receive)) }
+    {
+        let requests = first_requests(alloc, receive.number())?;
+        let service = EchoService {
+            receive,
+            send,
+            part: Bits::new(alloc),
+            spent: false,
+            alloc,
+        };
+        Ok((service, requests))
+    }
+
+    /// The socket on which it receives.
+    pub fn receive(&self) -> ReceiveSocket
+        ensures { result ≡ self.now.receive }
+    {
+        self.receive
+    }
+
+    /// The socket on which it sends.
+    pub fn send(&self) -> SendSocket
+        ensures { result ≡ self.now.send }
+    {
+        self.send
+    }
+
+    /// Whether want of memory has made it useless.
+    pub fn is_spent(&self) -> bool
+        ensures { result ≡ self.now.spent }
+    {
+        self.spent
+    }
+
+    /// Bits arrived: they are granted again, and what is whole octets now goes back.
+    fn arrived(&mut self, bits: &Bits) -> Result<Vec<Request>, AllocError>
+        ensures { IfOk result (λ requests. machines.echo_heard self.old bits.now ≡ (self.new, requests.items)) }
+    {
+        let octets = join(self.alloc, &mut self.part, bits)?;
+        let mut requests = Vec::new(self.alloc);
+        requests.push(granted_again(self.receive.number(), bits))?;
+        if !octets.is_empty() {
+            requests.push(Request::Send {
+                socket: self.send.number(),
+                bits: octets,
+            })?;
+        }
+        Ok(requests)
+    }
+
+    /// Ends a call: the service is spent where memory ran out.
+    fn end<T: Drop>(&mut self, done: Result<T, AllocError>) -> Result<T, AllocError>
+        ensures { MatchResult done (λ x. (result ≡ Ok x) × (self.new ≡ self.old)) (λ e. (result ≡ Err e) × (self.new.spent ≡ true)) }
+    {
+        if done.is_err() {
+            self.spent = true;
+        }
+        done
+    }
+
+    /// Tells it of something that happened to its host. Returns what it asks for, in order: at an arrival on
+    /// its receive socket a grant, and the octets that go back; at the end of one of its connections that
+    /// the other be closed; at any other notice nothing.
+    ///
+    /// Errors: `AllocError` where memory is wanted, only where it asks for something, and then it is spent.
+    #[tactic(auto, unfolding(crate::specs::Machines::echo_turn))]
+    pub fn notice(&mut self, notice: &Notice) -> Result<Vec<Request>, AllocError>
+        requires live { self.old.spent ≡ false }
+        ensures turn { MatchResult result (λ requests. machines.echo_turn self.old notice.now ≡ (self.new, requests.items)) (λ _. self.new.spent ≡ true) }
+        ensures memory { OnErr result (0 < length (machines.echo_turn self.old notice.now).1) }
+    {
+        let done = match arrived_on(self.receive.number(), notice) {
+            Some(bits) => self.arrived(bits),
+            None => closed_by(
+                self.alloc,
+                self.receive.number(),
+                self.send.number(),
+                notice,
+            ),
+        };
+        self.end(done)
+    }
+}

@@ -1,0 +1,37 @@
+//! Bits that come in pieces, as whole octets.
+
+ghost use Rattle.std.specs.Prelude.{◌≡◌, ◌<◌, ◌++◌, length, IfOk, OnOk};
+ghost use Rattle.terminal.specs.Octets.{whole, part};
+
+use bit_messages::{BitFault, Bits};
+use std::alloc::{AllocError, Global};
+
+/// Puts bits behind those that were kept. Gives what is whole octets now, and keeps the rest.
+fn join_bits(alloc: Global, kept: &mut Bits, bits: &Bits) -> Result<Bits, BitFault>
+    ensures octets { IfOk result (λ octets. octets ≡ whole (kept.old ++ bits.now)) }
+    ensures kept { OnOk result (kept.new ≡ part (kept.old ++ bits.now)) }
+{
+    kept.append(bits)?;
+    let len = kept.len();
+    let end = 8 * (len / 8);
+    let octets = kept.slice(alloc, 0, end)?;
+    *kept = kept.slice(alloc, end, len)?;
+    Ok(octets)
+}
+
+/// Puts bits behind those that were kept. Gives what is whole octets now, and keeps the rest. It fails only
+/// for want of memory, and then nothing is kept.
+#[tactic(auto, using(crate::proofs::OctetLemmas::part_few))]
+pub(crate) fn join(alloc: Global, kept: &mut Bits, bits: &Bits) -> Result<Bits, AllocError>
+    ensures octets { IfOk result (λ octets. octets ≡ whole (kept.old ++ bits.now)) }
+    ensures kept { OnOk result (kept.new ≡ part (kept.old ++ bits.now)) }
+    ensures few { length kept.new < 8 }
+{
+    match join_bits(alloc, kept, bits) {
+        Ok(octets) => Ok(octets),
+        Err(_) => {
+            *kept = Bits::new(alloc);
+            Err(AllocError)
+        }
+    }
+}

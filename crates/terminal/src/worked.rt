@@ -1,0 +1,79 @@
+//! What the definitions of the two programs come to: one worked row for each reading of a rule that would be
+//! wrong. The functions do nothing; each clause is a row.
+
+ghost use Rattle.std.specs.Prelude.{◌≡◌, true, false, [], ◌∷◌, ◌++◌, None, Some};
+ghost use Rattle.bit_messages.specs.Octets.{bits_of};
+ghost use Rattle.leader1822.specs.Host.{Host};
+ghost use Rattle.sockets.specs.declared.notice.Notice.TheVariants as notice;
+ghost use Rattle.sockets.specs.declared.request.Request.TheVariants as request;
+ghost use Rattle.terminal.specs.Lines.{heard, line_fault, spelled};
+ghost use Rattle.terminal.specs.Machines.{echo_turn, opening_echo, opening_terminal, terminal_turn, turn};
+ghost use Rattle.terminal.specs.Played.{echo_played, terminal_played};
+ghost use Rattle.terminal.specs.declared.fault.TerminalFault.TheVariants as fault;
+
+/// Lines that go out, and octets that come in.
+pub fn worked_lines()
+    // a line is its text, 13 and 10, in this order; it may be empty
+    ensures typed { spelled (72 ∷ 73 ∷ []) ≡ 72 ∷ 73 ∷ 13 ∷ 10 ∷ [] }
+    ensures typed_empty { spelled [] ≡ 13 ∷ 10 ∷ [] }
+
+    // the space and the tilde may be typed, what lies beside them not
+    ensures printable { line_fault (32 ∷ 126 ∷ []) ≡ None }
+    ensures below { line_fault (65 ∷ 31 ∷ []) ≡ Some fault.NotPrintable }
+    ensures above { line_fault (127 ∷ 65 ∷ []) ≡ Some fault.NotPrintable }
+
+    // two lines and the beginning of a third
+    ensures two_lines { heard [] (72 ∷ 13 ∷ 10 ∷ 73 ∷ 74 ∷ 13 ∷ 10 ∷ 75 ∷ []) ≡ ((72 ∷ []) ∷ (73 ∷ 74 ∷ []) ∷ [], 75 ∷ []) }
+
+    // an empty line is a line
+    ensures empty_line { heard [] (13 ∷ 10 ∷ 13 ∷ 10 ∷ []) ≡ ([] ∷ [] ∷ [], []) }
+
+    // neither a 10 alone, nor a 13 alone, nor the two in the other order end a line
+    ensures no_end { heard [] (72 ∷ 10 ∷ 13 ∷ 73 ∷ 10 ∷ 13 ∷ []) ≡ ([], 72 ∷ 10 ∷ 13 ∷ 73 ∷ 10 ∷ 13 ∷ []) }
+
+    // a 13 before the end is the line's own
+    ensures own_return { heard [] (72 ∷ 13 ∷ 13 ∷ 10 ∷ []) ≡ ((72 ∷ 13 ∷ []) ∷ [], []) }
+
+    // the end may come in two parts
+    ensures end_in_parts { heard (72 ∷ 13 ∷ []) (10 ∷ 73 ∷ []) ≡ ((72 ∷ []) ∷ [], 73 ∷ []) }
+
+    // octets of any value are kept
+    ensures any_octet { heard [] (0 ∷ 255 ∷ 13 ∷ 10 ∷ []) ≡ ((0 ∷ 255 ∷ []) ∷ [], []) }
+{}
+
+/// What the echo service does, with the sockets 100 and 101.
+#[tactic(auto, unfolding(crate::specs::Machines::echo_turn))]
+pub fn worked_echo()
+    // an octet is granted again, and then goes back
+    ensures octet { echo_turn (opening_echo 100 101) (notice.Arrived 100 (bits_of (65 ∷ []))) ≡ (opening_echo 100 101, request.Grant 100 1 8 ∷ request.Send 101 (bits_of (65 ∷ [])) ∷ []) }
+
+    // a message without bits costs a message too; there is nothing to send
+    ensures no_bits { echo_turn (opening_echo 100 101) (notice.Arrived 100 []) ≡ (opening_echo 100 101, request.Grant 100 1 0 ∷ []) }
+
+    // twelve bits are an octet and a part; four bits more make the part whole, and it goes back then
+    ensures in_parts { echo_played (opening_echo 100 101) (notice.Arrived 100 (bits_of (65 ∷ []) ++ false ∷ true ∷ false ∷ false ∷ []) ∷ notice.Arrived 100 (false ∷ false ∷ true ∷ false ∷ []) ∷ []) ≡ (opening_echo 100 101, request.Grant 100 1 12 ∷ request.Send 101 (bits_of (65 ∷ [])) ∷ request.Grant 100 1 4 ∷ request.Send 101 (bits_of (66 ∷ [])) ∷ []) }
+
+    // bits on another socket aren't for it, and what it has sent itself is no arrival
+    ensures others_bits { echo_turn (opening_echo 100 101) (notice.Arrived 16 (bits_of (65 ∷ []))) ≡ (opening_echo 100 101, []) }
+    ensures own_bits { echo_turn (opening_echo 100 101) (notice.Sent 101 (bits_of (65 ∷ []))) ≡ (opening_echo 100 101, []) }
+
+    // where one end has ended the other is closed
+    ensures receive_ended { (peer : Host) → echo_turn (opening_echo 100 101) (notice.Ended 100 peer 19) ≡ (opening_echo 100 101, request.Close 101 ∷ []) }
+    ensures send_ended { (peer : Host) → echo_turn (opening_echo 100 101) (notice.Ended 101 peer 18) ≡ (opening_echo 100 101, request.Close 100 ∷ []) }
+    ensures other_ended { (peer : Host) → echo_turn (opening_echo 100 101) (notice.Ended 7 peer 16) ≡ (opening_echo 100 101, []) }
+{}
+
+/// What the line terminal does, with the sockets 18 and 19.
+#[tactic(auto, unfolding(crate::specs::Machines::terminal_turn, crate::specs::Machines::terminal_heard, bit_messages::specs::Octets::octets_of))]
+pub fn worked_terminal()
+    // a line and the beginning of the next: all is granted again, and the line is told
+    ensures line { terminal_turn (opening_terminal 18 19) (notice.Arrived 18 (bits_of (72 ∷ 73 ∷ 13 ∷ 10 ∷ 74 ∷ []))) ≡ turn (record (opening_terminal 18 19) { rest = 74 ∷ [] }) (request.Grant 18 1 40 ∷ []) ((72 ∷ 73 ∷ []) ∷ []) }
+
+    // a line that comes in three messages, cut within an octet and within its end, is told once
+    ensures in_parts { terminal_played (opening_terminal 18 19) (notice.Arrived 18 (false ∷ true ∷ false ∷ []) ∷ notice.Arrived 18 (false ∷ true ∷ false ∷ false ∷ false ∷ bits_of (13 ∷ [])) ∷ notice.Arrived 18 (bits_of (10 ∷ [])) ∷ []) ≡ (opening_terminal 18 19, (72 ∷ []) ∷ []) }
+
+    // its other socket and its ends
+    ensures others_bits { terminal_turn (opening_terminal 18 19) (notice.Arrived 19 (bits_of (72 ∷ 13 ∷ 10 ∷ []))) ≡ turn (opening_terminal 18 19) [] [] }
+    ensures receive_ended { (peer : Host) → terminal_turn (opening_terminal 18 19) (notice.Ended 18 peer 101) ≡ turn (opening_terminal 18 19) (request.Close 19 ∷ []) [] }
+    ensures send_ended { (peer : Host) → terminal_turn (opening_terminal 18 19) (notice.Ended 19 peer 100) ≡ turn (opening_terminal 18 19) (request.Close 18 ∷ []) [] }
+{}
