@@ -17,7 +17,8 @@ ghost use Rattle.pairing_law.specs.Partners.{OwnOnce, PartnerOnce, SafePartners}
 ghost use Rattle.pairing_law.specs.Links.{Sockets, Word, Receiver, Sender, Step, Says, Hears, Leaves, Meets, events_at, receiver, sender, stays, said, heard, IsFree, IsUnused, MayStep, AreSteps};
 ghost use Rattle.pairing_law.specs.Example.{connected, over, again, refused, both_close, late, left, anew, stale, unreset, first, second, asked_link, taken_link, used_link, next_link};
 
-/// Whatever two hosts say of one pair of their sockets, and whenever they leave and meet again.
+/// Whatever two hosts say of one pair of their sockets, and whenever they leave and meet again. What is assumed of them stands in
+/// `IsRun`: the rules by which a host speaks, and what a reset gives.
 pub fn partners()
     // no two ends have one request, their own or their partner's, and partners are partners both ways
     ensures safe { (events : List Event) → IsRun events → SafePartners (both events) }
@@ -27,7 +28,8 @@ pub fn partners()
     ensures two { (events : List Event) (mark : Mark) → IsRun (Two (Hear mark) ∷ events) → fits mark (both events).two.end ≡ true }
 {}
 
-/// Whatever two hosts say of all their connections one way, of which a receiver's request names the link.
+/// Whatever two hosts say of all their connections one way, of which a receiver's request names the link. What is assumed stands
+/// in `AreSteps`.
 pub fn links()
     // for each pair of their sockets it is as above
     ensures at { (steps : List Step) → AreSteps steps → (s : Sockets) → IsRun (events_at s steps) }
@@ -38,7 +40,7 @@ pub fn links()
     ensures unused { (steps : List Step) (word : Word) (p : ℕ) → AreSteps (Hears Sender word ∷ steps) → word.mark ≡ Ask p → IsUnused word.link steps }
 {}
 
-/// What resets give to two hosts: the two premises above of hearing and of meeting, over the law of resets.
+/// What a reset gives, over the law of resets alone: where a host hears its peer, and how they meet.
 pub fn resets()
     // a host that is through a reset takes a text only in a stay
     ensures in_stay { (hosts : List Host) (events : List reset.Event) (a b : Host) (link : ℕ) (text : List Bool) → reset_run.IsRun hosts (reset.In a b link (reset.Other text) ∷ events) → (pair b a events).phase ≡ Ready → stay.stays b a events ≡ true }
