@@ -16,3 +16,4 @@ pub mod Whole
 pub mod Always
 pub mod BookEvents
 pub mod Clean
+pub mod Unheard

@@ -1,10 +1,12 @@
 -- Clean points in a book (NIC 8246, RST and RRP), and what the law of resets asks of a world.
-use Rattle.std.specs.Prelude.{◌≡◌, ℕ, Bool, true, List, Option, Some}
+use Rattle.std.specs.Prelude.{◌≡◌, ℕ, Bool, true, List, [], Option, Some}
 use Rattle.leader1822.specs.Calls.{Seen}
 use Rattle.leader1822.specs.Host.{Host, IsAddress, is_host}
 use Rattle.leader1822.specs.Mailboxes.{IsRun}
 use Rattle.leader1822.specs.declared.crossing.Crossing.{Crossing}
 use Rattle.leader1822.specs.declared.message.HostMessage.{HostMessage}
+use Rattle.sockets.specs.Pairs.{NcpState, pair_with}
+use Rattle.sockets.specs.declared.notice.Notice.{Notice}
 use Rattle.reset_law.specs.Events.{Other}
 use Rattle.reset_law.specs.Monitor.{monitor, IsAfter}
 use Rattle.reset_law.specs.Stays.{ready}
@@ -27,6 +29,12 @@ clean_point h peer contacts log = (monitor h peer (events_in contacts log)).clea
 -- neither an RST nor an RRP
 abbrev pub IsText : HostMessage → Type 0
 IsText m = message_on m.flow.link.0 m.text ≡ Other m.text
+
+-- a call tells its user nothing, and leaves every pair and what listens as they were
+pub record IsUnheard (s : NcpState) (done : NcpState × List Notice) : Type 0 where
+  pub told : done.1 ≡ []
+  pub pairs : (h : Host) → pair_with h done.0.peers ≡ pair_with h s.peers
+  pub listening : done.0.listening ≡ s.listening
 
 -- a message went out after the last clean point that the host which takes it has for its sender
 pub record IsFresh (m : HostMessage) (contacts : List Called) (log : List Crossing) : Type 0 where

@@ -12,7 +12,7 @@ ghost use Rattle.leader1822.specs.declared.message.HostMessage.{HostMessage};
 ghost use Rattle.leader1822.specs.Mailboxes.{Needs, IsRun, box_of, is_up};
 ghost use Rattle.leader1822.specs.Messages.{SafeMessages};
 ghost use Rattle.net_sim.specs.Carriers.{shown, IsBooked};
-ghost use Rattle.net_sim.specs.Clean.{HaveAddresses, IsFresh, IsLawful, IsText, is_through};
+ghost use Rattle.net_sim.specs.Clean.{HaveAddresses, IsFresh, IsLawful, IsText, IsUnheard, is_through};
 ghost use Rattle.net_sim.specs.Story.{Moment, IsStory, program, events_of};
 ghost use Rattle.net_sim.specs.World.{WorldState, WorldFault, Event, opening_world, seat_of, StepGives, RunGives, CalmGives};
 ghost use Rattle.net_sim.specs.Projection.{Agrees, IsApart, event_of, event_by, message_on};
@@ -28,6 +28,7 @@ ghost use Rattle.reset_law.specs.Stays.{IsFront, heard, said};
 ghost use Rattle.sockets.specs.Accepting.{accepted};
 ghost use Rattle.sockets.specs.Pairs.{NcpState, opening_state, pair_with};
 ghost use Rattle.sockets.specs.Peers.{AreInOrder};
+ghost use Rattle.sockets.specs.Phases.{is_ready};
 ghost use Rattle.sockets.specs.Requests.{served};
 ghost use Rattle.sockets.specs.Sending.{Parcel, link_for, text_for, message_for, next_in, offered};
 ghost use Rattle.sockets.specs.declared.peer.Peer.{Peer};
@@ -46,6 +47,9 @@ pub fn resets()
 
     // a message that has RST and RRP alone, or neither, is what the law says of an RST, of an RRP or of any other text
     ensures message { (s : NcpState) (m : HostMessage) (stamp : ℕ) (h : Host) (p : Pair) → IsApart m.flow.link.0 m.text (message_on m.flow.link.0 m.text) → Agrees (pair_with h s.peers) p → Agrees (pair_with h (accepted s (inbound.Message m) stamp).0.peers) (moved (part_of s.own h (event_of (crossing.In m))) p) }
+
+    // where the pair isn't through a reset, any other text does nothing
+    ensures unheard { (s : NcpState) (m : HostMessage) (stamp : ℕ) → IsApart m.flow.link.0 m.text (message_on m.flow.link.0 m.text) → IsText m → is_ready (pair_with m.flow.source s.peers).phase ≡ false → IsUnheard s (accepted s (inbound.Message m) stamp) }
 
     // an answer about a message that is outstanding
     ensures answer { (s : NcpState) (kind : Answer) (f : Flow) (stamp : ℕ) (h : Host) (p : Pair) → (same_host s.own f.source ≡ true → same_host h f.destination ≡ true → is_some (p.out f.link.0) ≡ true) → Agrees (pair_with h s.peers) p → Agrees (pair_with h (accepted s (inbound.Answer kind f) stamp).0.peers) (moved (part_of s.own h (event_of (crossing.Answer kind f))) p) }
