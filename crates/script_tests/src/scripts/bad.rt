@@ -9,7 +9,7 @@ const NO_TOPOLOGIES: [&[u8]; 17] = [
     b"%\n",
     b"\0",
     b"\xFF\n%\n",
-    b"raw = true\n[[imp]]\nid = 1\nhosts = 1\n%\n",
+    b"carrier = \"lines\"\nraw = true\n[[imp]]\nid = 1\nhosts = 1\n%\n",
     b"carrier = \"subnet\"\nraw = false\n[[imp]]\nid = 1\nhosts = 1\n%\n",
     b"carrier = \"plain\"\n[[imp]]\nid = 1\nhosts = 1\n%\n",
     b"carrier = \"plain\"\nraw = true\n[[imp]]\nid = 1\nhosts = 1\n",
