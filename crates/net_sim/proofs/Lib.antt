@@ -7,3 +7,5 @@ pub mod Unsafe
 pub mod SafeRow
 pub mod Refusals
 pub mod StoryLemmas
+pub mod LifeLoops
+pub mod InOrder

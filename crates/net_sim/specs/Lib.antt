@@ -5,3 +5,4 @@ pub mod World
 pub mod Carriers
 pub mod Worked
 pub mod Story
+pub mod Inside

@@ -4,8 +4,19 @@
 //! its book and what that book is to promise of all connections. Proved are the promise's part about messages, for every
 //! carrier, and that each call of a host's program is a step that the law of resets (crate `reset_law`) allows.
 //!
-//! There is no code yet: the laws and the rows are the contracts of functions that do nothing.
+//! The laws and the rows are the contracts of functions that do nothing. Of the code there is the [`Book`], which is
+//! written whole or not at all; there is no world yet.
 #![tactic(auto)]
 
+mod book;
+mod event;
 pub mod law;
+mod life;
+mod lives;
+mod seat;
 pub mod worked;
+
+pub use book::{Book, Called, Told};
+pub use event::{Event, WorldFault};
+pub use life::{Amount, Life};
+pub use seat::Seat;
