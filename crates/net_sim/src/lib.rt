@@ -10,6 +10,7 @@
 
 mod book;
 mod event;
+mod hosting;
 pub mod law;
 mod life;
 mod lives;

@@ -1,5 +1,5 @@
 -- What happens to the lives and to what was handed over, apart from all else that is kept.
-use Rattle.std.specs.Prelude.{Bool, List, [], ◌∷◌, ◌++◌, Option, Some, None, reverse}
+use Rattle.std.specs.Prelude.{ℕ, Bool, List, [], ◌∷◌, ◌++◌, Option, Some, None, reverse}
 use Rattle.leader1822.specs.Host.{Host}
 use Rattle.leader1822.specs.declared.crossing.Crossing.{Crossing}
 use Rattle.sockets.specs.declared.notice.Notice.{Notice}
@@ -56,3 +56,7 @@ written cs a calls ts k = record {
   };
   handed = (followed cs a ts (of_kept k)).handed;
 }
+
+-- what a host was told when there were so many crossings
+abbrev pub told_at : Host → ℕ → Notice → Told
+told_at h place n = record { host = h; place = place; notice = n }
