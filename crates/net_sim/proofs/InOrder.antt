@@ -1,11 +1,12 @@
 -- Crossings oldest first, and newest first.
-use Rattle.std.proofs.Common.{◌≡◌, ℕ, ◌+◌, List, [], ◌∷◌, ◌++◌, None, length, map, reverse, refl, ap, sym, ◌∙◌, arith}
+use Rattle.std.proofs.Common.{◌≡◌, ℕ, ◌+◌, List, [], ◌∷◌, ◌++◌, Some, None, length, map, reverse, refl, ap, sym, ◌∙◌, arith}
 use Rattle.std.proofs.lemmas.List.{reverse-append, length-append, length-reverse, append-nil, append_assoc}
 use Rattle.leader1822.specs.declared.crossing.Crossing.{Crossing}
 use Rattle.net_sim.specs.Inside.Seats.{turned_in_order}
 use Rattle.sockets.specs.declared.notice.Notice.{Notice}
 use Rattle.leader1822.specs.Host.{Host}
-use Rattle.net_sim.specs.Book.{Kept, Told, Called, crossed, all_crossed, told, all_told}
+use Rattle.sockets.specs.declared.request.Request.{Request}
+use Rattle.net_sim.specs.Book.{Kept, Told, Called, crossed, all_crossed, told, all_told, asked, contacts_asked}
 use Rattle.net_sim.specs.Inside.Lives as all
 use Rattle.net_sim.specs.Inside.Lives.{LivesState, of_kept, followed, written, told_at}
 use Rattle.net_sim.specs.World.{Seat, turned, all_turned}
@@ -62,3 +63,13 @@ written_both h place cs ns k is =
     let after : Kept = all_crossed (reverse cs) k in
     let many : place ≡ length after.book.crossings = is ∙ omega (arith, length-append (reverse cs) k.book.crossings, length-reverse cs) ∙ ap (λ (xs : List Crossing). length xs) (sym (crossings_after (reverse cs) k)) in
     written_crossed cs (map (told_at h place) ns) k ∙ ap (λ (n : ℕ). written [] None [] (map (told_at h n) ns) after) many ∙ written_told h ns after
+
+-- ---- what was asked for
+
+pub written_asked : (h : Host) (r : Request) (ns : List Notice) (k : Kept)
+    → written [] (Some (h, r)) (contacts_asked h (length k.book.crossings) r) (map (told_at h (length k.book.crossings)) ns) k ≡ all_told h ns (asked h r k)
+written_asked h r ns k =
+    let calls : List Called = k.book.contacts ++ contacts_asked h (length k.book.crossings) r in
+    let ts : List Told = map (told_at h (length k.book.crossings)) ns in
+    same_kept k.book.crossings k.book.crossings (k.book.notices ++ ts) (k.book.notices ++ ts) calls (calls ++ []) (all.all_told ts (all.asked h r (of_kept k))) refl refl (sym (append-nil calls))
+    ∙ written_told h ns (asked h r k)

@@ -51,7 +51,7 @@ pub(crate) fn copies(alloc: Global, crossings: &[Crossing]) -> Result<Vec<Crossi
 }
 
 /// What a host's user was told, with the number of crossings.
-fn told_by(
+pub(crate) fn told_by(
     alloc: Global,
     host: HostAddr,
     place: usize,

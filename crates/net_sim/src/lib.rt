@@ -8,6 +8,7 @@
 //! written whole or not at all; there is no world yet.
 #![tactic(auto)]
 
+mod asking;
 mod book;
 mod event;
 mod hosting;
