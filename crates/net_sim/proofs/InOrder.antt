@@ -73,3 +73,11 @@ written_asked h r ns k =
     let ts : List Told = map (told_at h (length k.book.crossings)) ns in
     same_kept k.book.crossings k.book.crossings (k.book.notices ++ ts) (k.book.notices ++ ts) calls (calls ++ []) (all.all_told ts (all.asked h r (of_kept k))) refl refl (sym (append-nil calls))
     ∙ written_told h ns (asked h r k)
+
+-- ---- nothing else
+
+pub written_alone : (cs : List Crossing) (k : Kept) → written cs None [] [] k ≡ all_crossed (reverse cs) k
+written_alone cs k =
+    let after : Kept = all_crossed (reverse cs) k in
+    written_crossed cs [] k
+    ∙ same_kept after.book.crossings after.book.crossings (after.book.notices ++ []) after.book.notices (after.book.contacts ++ []) after.book.contacts (of_kept after) refl (append-nil after.book.notices) (append-nil after.book.contacts)

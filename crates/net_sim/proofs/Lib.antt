@@ -9,3 +9,4 @@ pub mod Refusals
 pub mod StoryLemmas
 pub mod LifeLoops
 pub mod InOrder
+pub mod SeatLemmas

@@ -89,6 +89,19 @@ fn write_crossing(
     book.write(crossed, &None, Vec::new(alloc), told)
 }
 
+/// Writes down what crossed, of which no user was told.
+#[tactic(auto, using(crate::proofs::InOrder::written_alone))]
+pub(crate) fn write_changes(
+    alloc: Global,
+    book: &mut Book,
+    crossed: Vec<Crossing>,
+) -> Result<(), AllocError>
+    ensures done { OnOk result (book.new ≡ all_crossed (reverse crossed.items) book.old) }
+    ensures kept { OnErr result (book.new ≡ book.old) }
+{
+    book.write(crossed, &None, Vec::new(alloc), Vec::new(alloc))
+}
+
 impl Seat {
     /// Its program takes what came for its host.
     pub(crate) fn hear(

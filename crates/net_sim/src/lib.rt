@@ -15,6 +15,7 @@ mod hosting;
 pub mod law;
 mod life;
 mod lives;
+mod parts;
 mod seat;
 pub mod worked;
 
