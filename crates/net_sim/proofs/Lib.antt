@@ -10,3 +10,4 @@ pub mod StoryLemmas
 pub mod LifeLoops
 pub mod InOrder
 pub mod SeatLemmas
+pub mod Ends

@@ -11,6 +11,7 @@
 mod asking;
 mod book;
 mod event;
+mod events;
 mod hosting;
 pub mod law;
 mod life;

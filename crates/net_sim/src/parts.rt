@@ -1,6 +1,6 @@
 //! What each event does to the parts of a world.
 
-ghost use Rattle.std.specs.Prelude.{◌≡◌, ◌<◌, None, Some, Err, IfErr, OnOk, MatchResult, length, reverse};
+ghost use Rattle.std.specs.Prelude.{◌≡◌, ◌<◌, None, Some, Err, IfErr, OnOk, MatchResult, is_some, length, reverse, true};
 ghost use Rattle.leader1822.specs.Host.{Host};
 ghost use Rattle.net_sim.specs.Book.{all_told, all_crossed, asked};
 ghost use Rattle.net_sim.specs.Inside.Parts.{Sits, IsAway, IsOnce, AreLive, hosts_of};
@@ -22,7 +22,7 @@ use sockets::{NcpFault, Request};
 use std::alloc::Global;
 
 /// The place where a host's program runs.
-fn up_at(seats: &[Seat], host: HostAddr) -> Result<usize, WorldFault>
+pub(crate) fn up_at(seats: &[Seat], host: HostAddr) -> Result<usize, WorldFault>
     requires once { IsOnce (hosts_of seats.now) }
     ensures { MatchResult result (λ at. (s : NcpState) × Sits host at s seats.now) (λ f. IsAway host f seats.now) }
 {
@@ -36,7 +36,7 @@ fn up_at(seats: &[Seat], host: HostAddr) -> Result<usize, WorldFault>
 }
 
 /// A host's program takes what came for its host. The last of the log, from a place on, has just crossed.
-fn hear(
+pub(crate) fn hear(
     alloc: Global,
     seats: &mut [Seat],
     at: usize,
@@ -59,10 +59,11 @@ fn hear(
     Ok(())
 }
 
-/// What a host's program says next.
-fn next_out(seats: &[Seat], at: usize) -> Result<Option<HostMessage>, WorldFault>
+/// What a host's program says next. Memory is wanted only where it says something.
+#[tactic(auto, unfolding(sockets::specs::Sending::next_out))]
+pub(crate) fn next_out(seats: &[Seat], at: usize) -> Result<Option<HostMessage>, WorldFault>
     requires within { at < length seats.now }
-    ensures { (h : Host) (s : NcpState) → Sits h at s seats.now → MatchResult result (λ message. message ≡ sending.next_out s) (λ f. f ≡ world.Program problem.OutOfMemory) }
+    ensures { (h : Host) (s : NcpState) → Sits h at s seats.now → MatchResult result (λ message. message ≡ sending.next_out s) (λ f. (is_some (sending.next_out s) ≡ true) × (f ≡ world.Program problem.OutOfMemory)) }
 {
     let Some(program) = &seats[at].program else {
         return Ok(None);
@@ -74,7 +75,7 @@ fn next_out(seats: &[Seat], at: usize) -> Result<Option<HostMessage>, WorldFault
 }
 
 /// A host's program is told that its next message went out. The last of the log, from a place on, has just crossed.
-fn go_out(
+pub(crate) fn go_out(
     alloc: Global,
     seats: &mut [Seat],
     at: usize,
@@ -98,7 +99,7 @@ fn go_out(
 
 /// Hosts stop and start. The last of the log, from a place on, has just crossed.
 #[tactic(auto, using(crate::proofs::InOrder::turned_reversed, crate::proofs::InOrder::written_alone))]
-fn change(
+pub(crate) fn change(
     alloc: Global,
     seats: &mut [Seat],
     book: &mut Book,
@@ -119,7 +120,7 @@ fn change(
 }
 
 /// A host's user asks for something.
-fn ask_at(
+pub(crate) fn ask_at(
     alloc: Global,
     seats: &mut [Seat],
     at: usize,
