@@ -4,7 +4,6 @@ use Rattle.std.proofs.Math.Seq.{drop-append_seam}
 use Rattle.std.proofs.lemmas.List.{reverse-append, reverse-reverse, take_rest}
 use Rattle.leader1822.specs.Calls.{Seen, ShowsTake, crossing_of}
 use Rattle.leader1822.specs.Host.{Host}
-use Rattle.leader1822.specs.declared.carrier.CarrierFault.{CarrierFault}
 use Rattle.leader1822.specs.declared.crossing.Crossing.{Crossing}
 use Rattle.leader1822.specs.declared.crossing.Crossing.TheVariants as crossing
 use Rattle.leader1822.specs.declared.crossing.Inbound.{Inbound}
@@ -23,8 +22,8 @@ use Rattle.sockets.specs.declared.notice.Notice.{Notice}
 use Rattle.sockets.specs.declared.request.Request.{Request}
 use Rattle.sockets.specs.declared.request.Request.TheVariants as request
 use Rattle.net_sim.specs.Book.{Kept, crossed, all_crossed, all_told, asked}
-use Rattle.net_sim.specs.Inside.Parts.{Sits, running, ended, runs_out}
-use Rattle.net_sim.specs.World.{Calls, WorldState, WorldFault, Program, Seat, seat_of, seated, wants_memory, moved, served_at, Does, Halts, AtSeat, AskGives, OfferGives, TakeGives}
+use Rattle.net_sim.specs.Inside.Parts.{Sits, running, ended}
+use Rattle.net_sim.specs.World.{Calls, WorldState, WorldFault, Program, Seat, seat_of, seated, wants_memory, moved, Does, Halts, AtSeat, AskGives, OfferGives, TakeGives}
 use Rattle.net_sim.proofs.SeatLemmas.{sits_gives}
 
 halts : {C : Type 0} (c : C) (old : WorldState C) (seats : List Seat) (k : Kept) (f : WorldFault) → wants_memory f ≡ true → k ≡ old.kept → Halts c old (Err f) (ended c seats k (Err f))

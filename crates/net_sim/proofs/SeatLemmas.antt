@@ -1,5 +1,5 @@
 -- Where a host sits.
-use Rattle.std.proofs.Common.{◌≡◌, ℕ, ◌<◌, Bool, true, false, ◌||◌, not, is_some, cond, List, [], ◌∷◌, length, Option, Some, None, Result, Err, find, slice_set, slice_index_or, refl, ap, sym, subst, ◌∙◌}
+use Rattle.std.proofs.Common.{◌≡◌, ℕ, ◌<◌, Bool, true, false, ◌||◌, not, is_some, cond, List, [], ◌∷◌, length, Option, Some, None, Result, Err, find, slice_index_or, refl, ap, sym, subst, ◌∙◌}
 use Rattle.std.specs.List.{position}
 use Rattle.std.proofs.lemmas.List.{get_or_default}
 use Rattle.leader1822.specs.Host.{Host, same_host, is_host}
@@ -54,8 +54,8 @@ sits h place seat s seats once at within there program =
       is = λ d. get_or_default seats place d seat within ∙ there ∙ is;
       found = found ∙ ap (λ (x : Seat). Some x) is;
       set = λ p. one_changed (λ s. same_host h s.host) place (λ s. record { host = s.host; program = p }) seat (record { host = h; program = p }) seats at
-      (ap (λ (g : Host). record { host = g; program = p }) (mine ∙ ap (λ (x : Seat). x.host) (sym there)))
-      ∙ first_seated h p seats once;
+          (ap (λ (g : Host). record { host = g; program = p }) (mine ∙ ap (λ (x : Seat). x.host) (sym there)))
+          ∙ first_seated h p seats once;
     }
 
 pub some_program : (o : Option NcpState) → not (is_some o) ≡ false → (s : NcpState) × o ≡ Some s

@@ -5,7 +5,8 @@
 //! carrier, and that each call of a host's program is a step that the law of resets (crate `reset_law`) allows.
 //!
 //! The laws and the rows are the contracts of functions that do nothing. Of the code there is the [`Book`], which is
-//! written whole or not at all; there is no world yet.
+//! written whole or not at all, and what each event does to a carrier, to the hosts and to the book. A world that holds
+//! them together is still to come.
 #![tactic(auto)]
 
 mod asking;

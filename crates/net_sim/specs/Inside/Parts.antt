@@ -1,7 +1,6 @@
 -- A world's parts, and where a host sits.
 use Rattle.std.specs.Prelude.{◌≡◌, ◌<◌, ℕ, Bool, true, false, List, [], ◌∷◌, length, map, Option, Some, None, Result, Ok, Err, slice_index_or, slice_set, All, IfSome}
 use Rattle.leader1822.specs.Host.{Host, same_host, is_host}
-use Rattle.leader1822.specs.declared.carrier.CarrierFault.{CarrierFault}
 use Rattle.leader1822.specs.declared.carrier.CarrierFault.TheVariants as fault
 use Rattle.net_sim.specs.Book.{Kept}
 use Rattle.net_sim.specs.World.{WorldState, WorldFault, Carrier, Seat, seat_of, seated, wants_memory}

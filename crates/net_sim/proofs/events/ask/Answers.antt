@@ -1,4 +1,3 @@
-use Rattle.std.proofs.Common.{rules, Err}
 use Rattle.net_sim.proofs.Ends.{ask_ends}
 use Rattle.net_sim.proofs.events.ask.Goals as goal
 

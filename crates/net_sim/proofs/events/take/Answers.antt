@@ -1,4 +1,4 @@
-use Rattle.std.proofs.Common.{rules, [], ◌∷◌, ap, ◌-◌, take, drop, length}
+use Rattle.std.proofs.Common.{rules, [], ◌∷◌, ◌-◌, take, drop, length}
 use Rattle.leader1822.specs.Calls.{crossing_of}
 use Rattle.net_sim.specs.Carriers.{shown}
 use Rattle.net_sim.specs.World.{Calls}

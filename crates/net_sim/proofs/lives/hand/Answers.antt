@@ -1,4 +1,4 @@
-use Rattle.std.proofs.Common.{rules, ◌≤◌, length, sym, ◌∙◌}
+use Rattle.std.proofs.Common.{rules, sym, ◌∙◌}
 use Rattle.net_sim.specs.Book.{lives_at}
 use Rattle.net_sim.proofs.LifeLoops.{all_handed}
 use Rattle.net_sim.proofs.lives.hand.Goals as goal

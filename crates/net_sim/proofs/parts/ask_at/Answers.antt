@@ -1,6 +1,5 @@
-use Rattle.std.proofs.Common.{rules, ◌≡◌, Some, Err, ap, sym, ◌∙◌, slice_index_or, slice_set}
+use Rattle.std.proofs.Common.{ap, ◌∙◌, slice_set}
 use Rattle.std.proofs.lemmas.List.{set-get_or}
-use Rattle.net_sim.specs.World as world
 use Rattle.net_sim.specs.World.{Seat}
 use Rattle.net_sim.proofs.SeatLemmas.{same_fault}
 use Rattle.net_sim.proofs.parts.ask_at.Goals as goal

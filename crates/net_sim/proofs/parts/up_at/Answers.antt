@@ -1,9 +1,9 @@
-use Rattle.std.proofs.Common.{rules, ◌≡◌, ◌<◌, Bool, true, false, Option, Some, None, is_some, length, refl, ap, ◌∙◌}
+use Rattle.std.proofs.Common.{rules, ◌≡◌, Some, refl, ap, ◌∙◌}
 use Rattle.sockets.proofs.EntryLemmas.{one_found, none_found}
 use Rattle.sockets.specs.Pairs.{NcpState}
 use Rattle.leader1822.specs.Host.{same_host}
-use Rattle.net_sim.specs.Inside.Parts.{Sits, NoSeat, NoProgram}
-use Rattle.net_sim.specs.World.{Seat, seat_of}
+use Rattle.net_sim.specs.Inside.Parts.{NoSeat, NoProgram}
+use Rattle.net_sim.specs.World.{Seat}
 use Rattle.net_sim.proofs.SeatLemmas.{sits, some_program, no_program}
 use Rattle.net_sim.proofs.parts.up_at.Goals as goal
 
