@@ -1,6 +1,5 @@
 //! What each event does to a carrier, to the hosts and to the book.
 
-ghost use Rattle.std.specs.Prelude.{◌≡◌};
 ghost use Rattle.net_sim.specs.Carriers.{shown};
 ghost use Rattle.net_sim.specs.Inside.Parts.{IsOnce, AreLive, hosts_of, running, ended};
 ghost use Rattle.net_sim.specs.World.{EventGives, Net, Quiet, Offer, Take, Ask};

@@ -1,15 +1,12 @@
 //! What the hosts do with what the carrier gives, and what is written down of it.
 
-ghost use Rattle.std.specs.Prelude.{◌≡◌, ◌+◌, ◌<◌, ◌∷◌, [], false, None, Some, IfOk, IfSome, OnOk, OnErr, map, reverse, length};
+ghost use Rattle.std.specs.Prelude.{◌≡◌, false, Some, IfOk, IfSome, OnOk, OnErr, map, reverse, length};
 ghost use Rattle.std.specs.List.{position};
-ghost use Rattle.leader1822.specs.Calls.{crossing_of};
 ghost use Rattle.leader1822.specs.Host.{same_host};
-ghost use Rattle.net_sim.specs.Book as book;
 ghost use Rattle.net_sim.specs.Book.{all_told, all_crossed};
 ghost use Rattle.net_sim.specs.Inside.Lives.{told_at};
 ghost use Rattle.sockets.specs.Accepting.{accepted};
 ghost use Rattle.sockets.specs.Pairs.{NcpState};
-ghost use Rattle.sockets.specs.Requests.{refusal, served, served_notices};
 ghost use Rattle.sockets.specs.Sending.{offered};
 
 use crate::book::{Book, Called, Told};
