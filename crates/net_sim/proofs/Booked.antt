@@ -1,5 +1,5 @@
 -- The book has what crossed, after every list of events.
-use Rattle.std.proofs.Common.{◌≡◌, inl, inr, ℕ, Bool, true, false, if◌then◌else◌, zero, suc, List, [], ◌∷◌, ◌++◌, length, nat_lt, Option, Some, None, Result, Ok, Err, refl, ap, sym, subst, ◌∙◌}
+use Rattle.std.proofs.Common.{◌≡◌, inl, inr, ℕ, Bool, true, false, if◌then◌else◌, List, [], ◌∷◌, ◌++◌, length, Option, Some, None, Result, Ok, Err, refl, ap, sym, subst, ◌∙◌}
 use Rattle.std.specs.Bool.{MatchBool}
 use Rattle.leader1822.specs.Calls.{Seen, ShowsOffer, ShowsTake, ShowsStep, ShowsRound, ShowsRefusal, ShowsCrossings, halted, is_memory, crossing_of, step_crossings}
 use Rattle.leader1822.specs.Host.{Host}
@@ -22,15 +22,17 @@ use Rattle.sockets.specs.declared.notice.Notice.{Notice}
 use Rattle.sockets.specs.declared.request.Request.{Request}
 use Rattle.net_sim.specs.Book.{Kept, crossed, all_crossed, told, all_told, asked}
 use Rattle.net_sim.specs.Carriers.{shown, IsBooked}
-use Rattle.net_sim.specs.World.{Calls, WorldState, WorldFault, Carrier, Program, Event, Net, Quiet, Offer, Take, Ask, Seat, opening_world, seat_of, with_carrier, moved, changed, served_at, Refuses, Does, Halts, Passes, OfferEnds, OfferGives, TakeEnds, TakeGives, NetEnds, QuietEnds, AskGives, AtProgram, AtSeat, EventGives, StepGives, stops, Runs, RunGives, Repeats, TurnsOf, up_in, Calms, CalmGives}
+use Rattle.net_sim.specs.Whole.{Each}
+use Rattle.net_sim.proofs.Always.{run_keeps, calm_keeps}
+use Rattle.net_sim.specs.World.{Calls, WorldState, WorldFault, Carrier, Program, Event, Net, Quiet, Offer, Take, Ask, Seat, opening_world, seat_of, with_carrier, moved, changed, served_at, Refuses, Does, Halts, Passes, OfferEnds, OfferGives, TakeEnds, TakeGives, NetEnds, QuietEnds, AskGives, AtProgram, AtSeat, EventGives, StepGives, RunGives, CalmGives}
 
 -- ---- the crossings of what is kept
 
-told_crossings : (h : Host) (ns : List Notice) (k : Kept) → (all_told h ns k).book.crossings ≡ k.book.crossings
+pub told_crossings : (h : Host) (ns : List Notice) (k : Kept) → (all_told h ns k).book.crossings ≡ k.book.crossings
 told_crossings h [] k = refl
 told_crossings h (n ∷ ns) k = told_crossings h ns (told h n k)
 
-crossed_crossings : (cs : List Crossing) (k : Kept) → (all_crossed cs k).book.crossings ≡ cs ++ k.book.crossings
+pub crossed_crossings : (cs : List Crossing) (k : Kept) → (all_crossed cs k).book.crossings ≡ cs ++ k.book.crossings
 crossed_crossings [] k = refl
 crossed_crossings (c ∷ cs) k = ap (λ (xs : List Crossing). c ∷ xs) (crossed_crossings cs k)
 
@@ -163,54 +165,15 @@ module _ {C : Type 0} (own : Calls C) where
 
   -- ---- several events
 
-  goes_on : (P : Type 0) (answer : Result (Unit {0}) WorldFault) (mid : WorldState C) (r : Result (Unit {0}) WorldFault) (new : WorldState C) → IsBooked own.seen mid → (P → IsBooked own.seen new)
-      → (b : Bool) → MatchBool b ((r ≡ answer) × (new ≡ mid)) P → IsBooked own.seen new
-  goes_on P answer mid r new b k true h = subst (λ (w : WorldState C). IsBooked own.seen w) (sym h.1) b
-  goes_on P answer mid r new b k false h = k h
-
-  runs_book : (events : List Event) (old : WorldState C) (r : Result (Unit {0}) WorldFault) (new : WorldState C) → IsBooked own.seen old → Runs calls old events r new → IsBooked own.seen new
-  runs_book [] old r new b h = subst (λ (w : WorldState C). IsBooked own.seen w) (sym h.1) b
-  runs_book (e ∷ events) old r new b h =
-      let m : IsBooked own.seen h.1 = step_books e old h.0 h.1 b h.2 in goes_on (Runs calls h.1 events r new) h.0 h.1 r new m (runs_book events h.1 r new m) (stops h.0) h.3
+  all_named : (events : List Event) → Each (λ e. Unit {0}) events
+  all_named [] = tt
+  all_named (e ∷ events) = (tt, all_named events)
 
   pub run_books : (events : List Event) (old : WorldState C) (r : Result (Unit {0}) WorldFault) (new : WorldState C) → IsBooked own.seen old → RunGives calls old events r new → IsBooked own.seen new
-  run_books events old r new b h = if_stopped (Runs calls old events r new) old r new b (λ running g. runs_book events old r new b g) old.stopped refl h
-
-  goes_again : (P : Type 0) (mid : WorldState C) (r : Result (Unit {0}) WorldFault) (new : WorldState C) → IsBooked own.seen mid → (P → IsBooked own.seen new)
-      → (b : Bool) → MatchBool b P (Does mid r new) → IsBooked own.seen new
-  goes_again P mid r new b k true h = k h
-  goes_again P mid r new b k false h = subst (λ (w : WorldState C). IsBooked own.seen w) (sym h.1) b
-
-  repeats_book : (e : Event) (times : ℕ) (old : WorldState C) (r : Result (Unit {0}) WorldFault) (new : WorldState C) → IsBooked own.seen old → Repeats calls e times old r new → IsBooked own.seen new
-  repeats_book e zero old r new b h = subst (λ (w : WorldState C). IsBooked own.seen w) (sym h.1) b
-  repeats_book e (suc times) old r new b h =
-      let m : IsBooked own.seen h.1 = step_books e old h.0 h.1 b h.2 in
-      let Again : Type 0 = MatchBool (nat_lt (length old.kept.book.crossings) (length h.1.kept.book.crossings)) (Repeats calls e times h.1 r new) (Does h.1 r new) in
-      goes_on Again h.0 h.1 r new m
-      (λ g. goes_again (Repeats calls e times h.1 r new) h.1 r new m (repeats_book e times h.1 r new m) (nat_lt (length old.kept.book.crossings) (length h.1.kept.book.crossings)) g) (stops h.0) h.3
-
-  turns_book : (hosts : List Host) (old : WorldState C) (r : Result (Unit {0}) WorldFault) (new : WorldState C) → IsBooked own.seen old → TurnsOf calls hosts old r new → IsBooked own.seen new
-  turns_book [] old r new b h = subst (λ (w : WorldState C). IsBooked own.seen w) (sym h.1) b
-  turns_book (x ∷ hosts) old r new b h =
-      let m : IsBooked own.seen h.1 = repeats_book (Take x) 16 old h.0 h.1 b h.2 in
-      let Sends : Type 0 = (second : Result (Unit {0}) WorldFault) × (sent : WorldState C) × Repeats calls (Offer x) 32 h.1 second sent
-      × MatchBool (stops second) ((r ≡ second) × (new ≡ sent)) (TurnsOf calls hosts sent r new) in
-      goes_on Sends h.0 h.1 r new m
-      (λ g. (let n : IsBooked own.seen g.1 = repeats_book (Offer x) 32 h.1 g.0 g.1 m g.2 in
-      goes_on (TurnsOf calls hosts g.1 r new) g.0 g.1 r new n (turns_book hosts g.1 r new n) (stops g.0) g.3)) (stops h.0) h.3
-
-  calms_book : (times : ℕ) (old : WorldState C) (r : Result (Unit {0}) WorldFault) (new : WorldState C) → IsBooked own.seen old → Calms calls times old r new → IsBooked own.seen new
-  calms_book zero old r new b h = subst (λ (w : WorldState C). IsBooked own.seen w) (sym h.1) b
-  calms_book (suc times) old r new b h =
-      let m : IsBooked own.seen h.1 = step_books Quiet old h.0 h.1 b h.2 in
-      let Turns : Type 0 = (second : Result (Unit {0}) WorldFault) × (turned : WorldState C) × TurnsOf calls (up_in h.1.seats) h.1 second turned
-      × MatchBool (stops second) ((r ≡ second) × (new ≡ turned)) (Calms calls times turned r new) in
-      goes_on Turns h.0 h.1 r new m
-      (λ g. (let n : IsBooked own.seen g.1 = turns_book (up_in h.1.seats) h.1 g.0 g.1 m g.2 in
-      goes_on (Calms calls times g.1 r new) g.0 g.1 r new n (calms_book times g.1 r new n) (stops g.0) g.3)) (stops h.0) h.3
+  run_books events old r new b h = run_keeps calls (IsBooked own.seen) (λ e. Unit {0}) tt (λ x. tt) (λ x. tt) (λ e v q w n. step_books e v q w) events old r new (all_named events) b h
 
   pub calm_books : (times : ℕ) (old : WorldState C) (r : Result (Unit {0}) WorldFault) (new : WorldState C) → IsBooked own.seen old → CalmGives calls times old r new → IsBooked own.seen new
-  calm_books times old r new b h = if_stopped (Calms calls times old r new) old r new b (λ running g. calms_book times old r new b g) old.stopped refl h
+  calm_books times old r new b h = calm_keeps calls (IsBooked own.seen) (λ e. Unit {0}) tt (λ x. tt) (λ x. tt) (λ e v q w n. step_books e v q w) times old r new b h
 
   -- ---- the opening, and the messages
 

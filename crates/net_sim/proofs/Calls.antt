@@ -1,5 +1,5 @@
 -- What a user asks for, what comes in and a program that starts are, for each peer, steps of the law of resets.
-use Rattle.std.proofs.Common.{◌≡◌, ℕ, Bool, true, false, if◌then◌else◌, List, [], Option, Some, None, is_some, refl, ap, sym, subst, ◌∙◌, cond}
+use Rattle.std.proofs.Common.{◌≡◌, ℕ, Bool, true, false, ◌==◌, if◌then◌else◌, List, [], ◌∷◌, ◌++◌, Option, Some, None, is_some, refl, ap, sym, subst, ◌∙◌, cond}
 use Rattle.leader1822.specs.Host.{Host, same_host}
 use Rattle.leader1822.specs.declared.address.Flow.{Flow}
 use Rattle.leader1822.specs.declared.crossing.Answer.{Answer}
@@ -24,12 +24,12 @@ use Rattle.sockets.proofs.PairLemmas.{pair_changed, others_stay}
 use Rattle.reset_law.specs.Events.{Part, Call, Take, Hear, when, part_of}
 use Rattle.reset_law.specs.Pairs.{Pair, moved}
 use Rattle.reset_law.specs.Pairs as resets
-use Rattle.net_sim.specs.Projection.{is_rst, is_rrp, message_on, event_of, event_by, Agrees, IsApart}
-use Rattle.net_sim.proofs.Kept.{Asks, Kept, asked_changed, asked_more, plain_one, kept_settled}
-use Rattle.net_sim.proofs.Turns.{agrees_message, agrees_answer}
+use Rattle.net_sim.specs.Projection.{has_control, message_on, event_of, event_by, Agrees, IsApart, IsQueued}
+use Rattle.net_sim.proofs.Kept.{AreKept, Kept, any_changed, any_more, asks, free_away, plain_one, strays, kept_settled}
+use Rattle.net_sim.proofs.Turns.{agrees_message, agrees_answer, linked_by}
 
 pub opening_agrees : (own h : Host) → Agrees (pair_with h (opening_state own).peers) resets.opening_pair
-opening_agrees own h = record { phase = refl; owed = refl; busy = λ k. refl; ready = λ a. absurd (cc); begun = λ a. absurd (cc); plain = tt }
+opening_agrees own h = record { phase = refl; owed = refl; busy = λ k. refl; ready = λ a. absurd (cc); begun = λ a. absurd (cc); plain = tt; linked = refl }
 
 -- ---- one peer and the others
 
@@ -100,48 +100,50 @@ answer_agrees s kind f stamp h p out a = answer_by s kind f h p out a (same_host
 -- ---- what a user asks for
 
 agrees_contacted : (q : PairState) (p : Pair) → Agrees q p → Agrees (contacted q) (moved (Some Call) p)
-agrees_contacted q p a = record { phase = refl; owed = a.owed; busy = a.busy; ready = λ h. absurd (cc); begun = λ h. absurd (cc); plain = tt }
+agrees_contacted q p a = record { phase = refl; owed = a.owed; busy = a.busy; ready = λ h. absurd (cc); begun = λ h. absurd (cc); plain = tt; linked = refl }
 
-agrees_requested : (e : Entry) (c : Command) (q : PairState) (p : Pair) → e.asked ≡ None → is_rst c ≡ false → is_rrp c ≡ false → Agrees q p → Agrees (requested e c q) p
-agrees_requested e c q p none rst rrp a = record {
+agrees_requested : (e : Entry) (c : Command) (q : PairState) (p : Pair) → asks e ≡ false → strays e ≡ false → IsQueued c → Agrees q p → Agrees (requested e c q) p
+agrees_requested e c q p none away queued a = record {
   phase = a.phase;
   owed = a.owed;
   busy = a.busy;
-  ready = λ h. a.ready (asked_more q.entries e none h);
-  begun = λ h. a.begun (asked_more q.entries e none h);
-  plain = plain_one c q.queue rst rrp a.plain;
+  ready = λ h. a.ready (any_more asks q.entries e none h);
+  begun = λ h. a.begun (any_more asks q.entries e none h);
+  plain = plain_one c q.queue queued a.plain;
+  linked = linked_by (has_control (q.entries ++ e ∷ [])) (has_control q.entries) (any_more strays q.entries e away) a.linked;
 }
 
-agrees_receiver : (own foreign : ℕ) (link : Option ℕ) (q : PairState) (p : Pair) → Agrees q p → Agrees (receiver_requested own foreign link q) p
-agrees_receiver own foreign None q p a = a
-agrees_receiver own foreign (Some link) q p a = agrees_requested (receiving_end own foreign link) (command.Rts own foreign link) q p refl refl refl a
+agrees_receiver : (own foreign : ℕ) (link : Option ℕ) (q : PairState) (p : Pair) → ((l : ℕ) → link ≡ Some l → (l == 0) ≡ false) → Agrees q p → Agrees (receiver_requested own foreign link q) p
+agrees_receiver own foreign None q p away a = a
+agrees_receiver own foreign (Some link) q p away a = agrees_requested (receiving_end own foreign link) (command.Rts own foreign link) q p refl (away link refl) (refl, refl, away link refl, refl) a
 
-agrees_end : (socket : ℕ) (change : Entry → Entry) (q : PairState) (p : Pair) → Asks change → Agrees q p → Agrees (with_end socket change q) p
+agrees_end : (socket : ℕ) (change : Entry → Entry) (q : PairState) (p : Pair) → AreKept change → Agrees q p → Agrees (with_end socket change q) p
 agrees_end socket change q p k a = record {
   phase = a.phase;
   owed = a.owed;
   busy = a.busy;
-  ready = λ h. a.ready (asked_changed (is_mine_on socket) change k q.entries h);
-  begun = λ h. a.begun (asked_changed (is_mine_on socket) change k q.entries h);
+  ready = λ h. a.ready (any_changed asks (is_mine_on socket) change k.0 q.entries h);
+  begun = λ h. a.begun (any_changed asks (is_mine_on socket) change k.0 q.entries h);
   plain = a.plain;
+  linked = linked_by (has_control (with_end socket change q).entries) (has_control q.entries) (any_changed strays (is_mine_on socket) change k.1 q.entries) a.linked;
 }
 
-agrees_commanded : (c : Command) (q : PairState) (p : Pair) → is_rst c ≡ false → is_rrp c ≡ false → Agrees q p → Agrees (commanded c q) p
-agrees_commanded c q p rst rrp a = record { phase = a.phase; owed = a.owed; busy = a.busy; ready = a.ready; begun = a.begun; plain = plain_one c q.queue rst rrp a.plain }
+agrees_commanded : (c : Command) (q : PairState) (p : Pair) → IsQueued c → Agrees q p → Agrees (commanded c q) p
+agrees_commanded c q p queued a = record { phase = a.phase; owed = a.owed; busy = a.busy; ready = a.ready; begun = a.begun; plain = plain_one c q.queue queued a.plain; linked = a.linked }
 
-interrupt_by : (b : Bool) (link : ℕ) → (is_rst (if b then command.Inr link else command.Ins link) ≡ false) × (is_rrp (if b then command.Inr link else command.Ins link) ≡ false)
-interrupt_by true link = (refl, refl)
-interrupt_by false link = (refl, refl)
+interrupt_by : (b : Bool) (link : ℕ) → IsQueued (if b then command.Inr link else command.Ins link)
+interrupt_by true link = (refl, refl, refl, refl)
+interrupt_by false link = (refl, refl, refl, refl)
 
 agrees_interrupted : (e : Entry) (q : PairState) (p : Pair) → Agrees q p → Agrees (commanded (interrupt_of e) q) p
 agrees_interrupted e q p a =
-    let plain : (is_rst (interrupt_of e) ≡ false) × (is_rrp (interrupt_of e) ≡ false) = interrupt_by (is_receiving e) (link_of e.link) in agrees_commanded (interrupt_of e) q p plain.0 plain.1 a
+    agrees_commanded (interrupt_of e) q p (interrupt_by (is_receiving e) (link_of e.link)) a
 
 agrees_closed : (socket : ℕ) (q : PairState) (p : Pair) → Agrees q p → Agrees (closed_end socket q) p
 agrees_closed socket q p a =
-    let b : Agrees (with_end socket called_off q) p = agrees_end socket called_off q p (λ x h. h) a in
+    let b : Agrees (with_end socket called_off q) p = agrees_end socket called_off q p ((λ x h. h), (λ x h. h)) a in
     let k : Kept (desk_of (with_end socket called_off q) []) (settled q.busy (desk_of (with_end socket called_off q) [])) = kept_settled q.busy (desk_of (with_end socket called_off q) []) in
-    record { phase = a.phase; owed = a.owed; busy = a.busy; ready = λ h. b.ready (k.asked h); begun = λ h. b.begun (k.asked h); plain = k.plain b.plain }
+    record { phase = a.phase; owed = a.owed; busy = a.busy; ready = λ h. b.ready (k.asked h); begun = λ h. b.begun (k.asked h); plain = k.plain b.plain; linked = linked_by _ _ k.linked b.linked }
 
 owner_agrees : (s : NcpState) (o : Option (Host × Entry)) (change : Entry → PairState → PairState) (h : Host) (p : Pair)
     → ((e : Entry) (q : PairState) → Agrees q p → Agrees (change e q) p) → Agrees (pair_with h s.peers) p → Agrees (pair_with h (at_owner s o change).peers) p
@@ -163,19 +165,19 @@ request_agrees s (request.Contact peer) h p a = contact_agrees s peer h p a
 request_agrees s (request.Listen socket size) h p a = a
 request_agrees s (request.OpenSend peer own foreign size) h p a =
     quiet peer h (requested (sending_end own foreign size) (command.Str own foreign size) (pair_with peer s.peers)) s.peers p a
-    (agrees_requested (sending_end own foreign size) (command.Str own foreign size) (pair_with peer s.peers) p refl refl refl)
+    (agrees_requested (sending_end own foreign size) (command.Str own foreign size) (pair_with peer s.peers) p refl refl (refl, refl, refl, refl))
 request_agrees s (request.OpenReceive peer own foreign) h p a =
     quiet peer h (receiver_requested own foreign (free_link (pair_with peer s.peers).entries) (pair_with peer s.peers)) s.peers p a
-    (agrees_receiver own foreign (free_link (pair_with peer s.peers).entries) (pair_with peer s.peers) p)
+    (agrees_receiver own foreign (free_link (pair_with peer s.peers).entries) (pair_with peer s.peers) p (λ link is. free_away (pair_with peer s.peers).entries link is))
 request_agrees s (request.Send socket bits) h p a =
-    owner_agrees s (owner_of socket s.peers) (λ e. with_end socket (with_more_bits bits)) h p (λ e q. agrees_end socket (with_more_bits bits) q p (λ x k. k)) a
+    owner_agrees s (owner_of socket s.peers) (λ e. with_end socket (with_more_bits bits)) h p (λ e q. agrees_end socket (with_more_bits bits) q p ((λ x k. k), (λ x k. k))) a
 request_agrees s (request.Grant socket messages bits) h p a =
     owner_agrees s (owner_of socket s.peers) (λ e q. commanded (command.All (link_of e.link) messages bits) (with_end socket (granted messages bits) q)) h p
-    (λ e q b. agrees_commanded (command.All (link_of e.link) messages bits) (with_end socket (granted messages bits) q) p refl refl (agrees_end socket (granted messages bits) q p (λ x k. k) b)) a
+    (λ e q b. agrees_commanded (command.All (link_of e.link) messages bits) (with_end socket (granted messages bits) q) p (refl, refl, refl, refl) (agrees_end socket (granted messages bits) q p ((λ x k. k), (λ x k. k)) b)) a
 request_agrees s (request.AskBack socket messages bits) h p a =
-    owner_agrees s (owner_of socket s.peers) (λ e. commanded (command.Gvb (link_of e.link) messages bits)) h p (λ e q. agrees_commanded (command.Gvb (link_of e.link) messages bits) q p refl refl) a
+    owner_agrees s (owner_of socket s.peers) (λ e. commanded (command.Gvb (link_of e.link) messages bits)) h p (λ e q. agrees_commanded (command.Gvb (link_of e.link) messages bits) q p (refl, refl, refl, refl)) a
 request_agrees s (request.Interrupt socket) h p a =
     owner_agrees s (owner_of socket s.peers) (λ e. commanded (interrupt_of e)) h p (λ e q. agrees_interrupted e q p) a
 request_agrees s (request.Close socket) h p a = close_agrees s socket h p a (listens_on socket s.listening) refl
 request_agrees s (request.Echo peer octet) h p a =
-    quiet peer h (commanded (command.Eco octet) (pair_with peer s.peers)) s.peers p a (agrees_commanded (command.Eco octet) (pair_with peer s.peers) p refl refl)
+    quiet peer h (commanded (command.Eco octet) (pair_with peer s.peers)) s.peers p a (agrees_commanded (command.Eco octet) (pair_with peer s.peers) p (refl, refl, refl, refl))

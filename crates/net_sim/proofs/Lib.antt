@@ -1,4 +1,5 @@
 pub mod Kept
+pub mod Spelled
 pub mod Turns
 pub mod Calls
 pub mod Offers
@@ -11,3 +12,12 @@ pub mod LifeLoops
 pub mod InOrder
 pub mod SeatLemmas
 pub mod Ends
+pub mod Bridge
+pub mod Ordered
+pub mod Coupled
+pub mod Seats
+pub mod Whole
+pub mod Always
+pub mod BookEvents
+pub mod Clean
+pub mod Unheard

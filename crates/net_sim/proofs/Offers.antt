@@ -1,5 +1,5 @@
 -- What goes out is, for each peer, a step that the law of resets allows.
-use Rattle.std.proofs.Common.{◌≡◌, ◌≢◌, ◌⊎◌, inl, inr, ℕ, Bool, true, false, not, ◌&&◌, ◌||◌, ◌==◌, if◌then◌else◌, List, [], ◌∷◌, map, take, drop, find, filter, length, nat_lt, Option, Some, None, is_some, refl, ap, sym, subst, ◌∙◌, eq-eqb, zero, suc}
+use Rattle.std.proofs.Common.{◌≡◌, ◌≢◌, ◌⊎◌, inl, inr, ℕ, Bool, true, false, not, ◌&&◌, ◌||◌, ◌==◌, ◌*◌, if◌then◌else◌, List, [], ◌∷◌, take, drop, find, filter, length, nat_lt, Option, Some, None, is_some, refl, ap, sym, subst, ◌∙◌, eq-eqb, zero, suc}
 use Rattle.std.proofs.lemmas.Bool.{eqb-true}
 use Rattle.bit_messages.specs.Octets.{octets_of}
 use Rattle.leader1822.specs.Host.{Host, same_host}
@@ -9,15 +9,15 @@ use Rattle.ncp_control.specs.declared.command.Command.TheVariants as command
 use Rattle.ncp_control.specs.Packing.{packed_count}
 use Rattle.ncp_control.specs.Reading.{read_of, command_of}
 use Rattle.leader1822.specs.declared.crossing.Crossing.TheVariants as crossing
-use Rattle.sockets.specs.Control.{Order, Legal, orders_of}
-use Rattle.sockets.specs.Entries.{is_busy, is_open, is_answered, is_receiving, is_ending}
+use Rattle.sockets.specs.Control.{Order, Legal, Wrong, orders_of}
+use Rattle.sockets.specs.Entries.{changed_first, is_at, is_busy, is_open, is_answered, is_receiving, is_ending}
 use Rattle.sockets.specs.Others.{MaySend, MayGo, MayReset, MayReply, MaySpeak, MayCommand}
 use Rattle.sockets.specs.Pair.{PairState}
 use Rattle.sockets.specs.Pairs.{DeskState, NcpState, desk_of, pair_with}
 use Rattle.sockets.specs.Peers.{AreInOrder}
 use Rattle.sockets.specs.Phases as program
 use Rattle.sockets.specs.Sending as parcel
-use Rattle.sockets.specs.Sending.{Parcel, next_of, next_in, next_of_ready, next_bytes, bytes_on, bytes_of, bytes_by, lowest_link, may_send, may_send_on, link_of, link_for, text_for, if_silent, pair_after, parcel_gone, commands_gone, command_gone, message_for, offered}
+use Rattle.sockets.specs.Sending.{Parcel, next_of, next_in, next_of_ready, next_bytes, bytes_on, bytes_of, bytes_by, lowest_link, may_send, may_send_on, link_of, link_for, text_for, if_silent, pair_after, parcel_gone, commands_gone, command_gone, request_gone, asked_at, cls_sent, bits_gone, message_for, offered}
 use Rattle.sockets.specs.declared.entry.Entry.{Entry}
 use Rattle.sockets.specs.declared.listener.Listener.{Listener}
 use Rattle.sockets.specs.declared.peer.Peer.{Peer}
@@ -31,8 +31,11 @@ use Rattle.reset_law.specs.Events.{Message, Reset, Reply, Other, Send, part_of}
 use Rattle.reset_law.specs.Pairs.{Pair, Kind, IsFree, moved, sent}
 use Rattle.reset_law.specs.Pairs as resets
 use Rattle.reset_law.specs.Phases as law
-use Rattle.net_sim.specs.Projection.{is_rst, is_rrp, is_alone, message_on, phase_of, has_asked, event_of, IsApart, ArePlain, AllPlain, Agrees, Speaks}
-use Rattle.net_sim.proofs.Kept.{plain_drop}
+use Rattle.net_sim.specs.Projection.{is_rst, is_rrp, is_alone, message_on, phase_of, has_asked, event_of, IsApart, ArePlain, AllPlain, Agrees, has_control, on_control}
+use Rattle.std.specs.List.{list_any}
+use Rattle.net_sim.proofs.Kept.{any_changed, over_less, plain_drop, strays}
+use Rattle.net_sim.proofs.Spelled.{packed_plain}
+use Rattle.net_sim.proofs.Turns.{linked_by}
 use Rattle.net_sim.proofs.Calls.{part_by}
 
 -- ---- what is outstanding
@@ -75,34 +78,32 @@ says_reply q = refl
 plain_take : (n : ℕ) (cs : List Command) → ArePlain cs → ArePlain (take n cs)
 plain_take zero cs h = tt
 plain_take (suc n) [] h = tt
-plain_take (suc n) (c ∷ cs) h = (h.0, h.1, plain_take n cs h.2)
+plain_take (suc n) (c ∷ cs) h = (h.0, plain_take n cs h.1)
 
-not_rst : (cs : List Command) → ArePlain cs → is_alone is_rst (map Legal cs) ≡ false
+not_rst : (os : List Order) → AllPlain os → is_alone is_rst os ≡ false
 not_rst [] h = refl
-not_rst (c ∷ []) h = h.0
-not_rst (c ∷ d ∷ cs) h = refl
+not_rst (Legal c ∷ []) h = h.0.0
+not_rst (Legal c ∷ o ∷ os) h = refl
+not_rst (Wrong code octets ∷ os) h = refl
 
-not_rrp : (cs : List Command) → ArePlain cs → is_alone is_rrp (map Legal cs) ≡ false
+not_rrp : (os : List Order) → AllPlain os → is_alone is_rrp os ≡ false
 not_rrp [] h = refl
-not_rrp (c ∷ []) h = h.1
-not_rrp (c ∷ d ∷ cs) h = refl
+not_rrp (Legal c ∷ []) h = h.0.1
+not_rrp (Legal c ∷ o ∷ os) h = refl
+not_rrp (Wrong code octets ∷ os) h = refl
 
-legal_plain : (cs : List Command) → ArePlain cs → AllPlain (map Legal cs)
-legal_plain [] h = tt
-legal_plain (c ∷ cs) h = ((h.0, h.1), legal_plain cs h.2)
+commands_plain : (q : PairState) (count : ℕ) → ArePlain q.queue → count ≡ packed_count q.queue → AllPlain (orders_of (text_for q (parcel.Commands count)))
+commands_plain q count h front =
+    subst (λ (n : ℕ). AllPlain (orders_of (text_for q (parcel.Commands n)))) (sym front) (packed_plain q.queue (plain_take (packed_count q.queue) q.queue h))
 
-commands_say : (q : PairState) (count : ℕ) → ArePlain q.queue → Speaks q (parcel.Commands count) → message_on 0 (text_for q (parcel.Commands count)) ≡ Other (text_for q (parcel.Commands count))
-commands_say q count h speaks =
-    let text : List Bool = text_for q (parcel.Commands count) in
-    let plain : ArePlain (take count q.queue) = plain_take count q.queue h in
-    let rst : is_alone is_rst (orders_of (text_for q (parcel.Commands count))) ≡ false = ap (λ (os : List Order). is_alone is_rst os) speaks ∙ not_rst (take count q.queue) plain in
-    let rrp : is_alone is_rrp (orders_of (text_for q (parcel.Commands count))) ≡ false = ap (λ (os : List Order). is_alone is_rrp os) speaks ∙ not_rrp (take count q.queue) plain in
+commands_say : (q : PairState) (count : ℕ) → ArePlain q.queue → count ≡ packed_count q.queue → message_on 0 (text_for q (parcel.Commands count)) ≡ Other (text_for q (parcel.Commands count))
+commands_say q count h front =
+    let plain : AllPlain (orders_of (text_for q (parcel.Commands count))) = commands_plain q count h front in
+    let rst : is_alone is_rst (orders_of (text_for q (parcel.Commands count))) ≡ false = not_rst (orders_of (text_for q (parcel.Commands count))) plain in
+    let rrp : is_alone is_rrp (orders_of (text_for q (parcel.Commands count))) ≡ false = not_rrp (orders_of (text_for q (parcel.Commands count))) plain in
     rw (rst, rrp) refl
 
-pub commands_plain : (q : PairState) (count : ℕ) → ArePlain q.queue → Speaks q (parcel.Commands count) → AllPlain (orders_of (text_for q (parcel.Commands count)))
-commands_plain q count h speaks = subst (λ (os : List Order). AllPlain os) (sym speaks) (legal_plain (take count q.queue) (plain_take count q.queue h))
-
-bytes_say : (q : PairState) (e : Entry) (size count : ℕ) → Speaks q (parcel.Bytes e size count)
+bytes_say : (q : PairState) (e : Entry) (size count : ℕ) → (link_of e.link == 0) ≡ false
     → message_on (link_of e.link) (text_for q (parcel.Bytes e size count)) ≡ Other (text_for q (parcel.Bytes e size count))
 bytes_say q e size count away = rw away refl
 
@@ -132,34 +133,84 @@ may_asked busy link e h =
     let p : ((is_some e.asked && is_some e.partner) ≡ true) × (not (is_ending e) ≡ true) = both _ _ o.1 in
     (both _ _ p.0).0
 
-on_asked : (busy : List ℕ) (entries : List Entry) (link : ℕ) (x : Parcel) (o : Option Entry) → find (may_send_on busy link) entries ≡ o → bytes_of o ≡ Some x → has_asked entries ≡ true
-on_asked busy entries link x None f g = absurd (cc)
-on_asked busy entries link x (Some e) f g = found_asked (may_send_on busy link) (may_asked busy link) entries e f
-
-bytes_asked : (busy : List ℕ) (entries : List Entry) (x : Parcel) (o : Option ℕ) → bytes_on busy entries o ≡ Some x → has_asked entries ≡ true
-bytes_asked busy entries x None g = absurd (cc)
-bytes_asked busy entries x (Some link) g = on_asked busy entries link x (find (may_send_on busy link) entries) refl g
-
-ready_asked : (q : PairState) (e : Entry) (size count : ℕ) (b : Bool) → (nat_lt 0 (length q.queue) && not (is_busy q.busy 0)) ≡ b → next_of_ready q ≡ Some (parcel.Bytes e size count) → has_asked q.entries ≡ true
-ready_asked q e size count true t g = absurd (let r : Some (parcel.Commands (packed_count q.queue)) ≡ Some (parcel.Bytes e size count) = rw t at g in cc)
-ready_asked q e size count false t g =
-    let r : next_bytes q.busy q.entries ≡ Some (parcel.Bytes e size count) = rw t at g in bytes_asked q.busy q.entries (parcel.Bytes e size count) (lowest_link (filter (may_send q.busy) q.entries)) r
-
 silent_signal : (busy : List ℕ) (x y : Parcel) (b : Bool) → (length busy == 0) ≡ b → if_silent busy x ≡ Some y → x ≡ y
 silent_signal busy x y true e g = let r : Some x ≡ Some y = rw e at g in cc
 silent_signal busy x y false e g = absurd (let r : None ≡ Some y = rw e at g in cc)
 
-data_asked : (q : PairState) (e : Entry) (size count : ℕ) (want owed ready : Bool) → program.is_want q.phase ≡ want → q.owed ≡ owed → program.is_ready q.phase ≡ ready
-    → next_of q ≡ Some (parcel.Bytes e size count) → has_asked q.entries ≡ true
-data_asked q e size count true owed ready w o r g =
-    absurd (let s : if_silent q.busy parcel.Reset ≡ Some (parcel.Bytes e size count) = rw w at g in
-    let t : parcel.Reset ≡ parcel.Bytes e size count = silent_signal q.busy parcel.Reset (parcel.Bytes e size count) (length q.busy == 0) refl s in cc)
-data_asked q e size count false true ready w o r g =
-    absurd (let s : if_silent q.busy parcel.Reply ≡ Some (parcel.Bytes e size count) = rw (w, o) at g in
-    let t : parcel.Reply ≡ parcel.Bytes e size count = silent_signal q.busy parcel.Reply (parcel.Bytes e size count) (length q.busy == 0) refl s in cc)
-data_asked q e size count false false true w o r g =
-    let s : next_of_ready q ≡ Some (parcel.Bytes e size count) = rw (w, o, r) at g in ready_asked q e size count (nat_lt 0 (length q.queue) && not (is_busy q.busy 0)) refl s
-data_asked q e size count false false false w o r g = absurd (let s : None ≡ Some (parcel.Bytes e size count) = rw (w, o, r) at g in cc)
+-- the end whose bytes go next
+abbrev entry_or : Entry → Option Parcel → Entry
+entry_or d (Some (parcel.Bytes e size count)) = e
+entry_or d x = d
+
+bytes_is : (e f : Entry) (size count : ℕ) (o : Option ℕ) → bytes_by f o ≡ Some (parcel.Bytes e size count) → f ≡ e
+bytes_is e f size count None g = absurd (cc)
+bytes_is e f size count (Some n) g = ap (entry_or f) g
+
+module _ (P : Type 0) (e : Entry) (size count : ℕ) where
+  abbrev x : Parcel
+  x = parcel.Bytes e size count
+
+  on_found : (busy : List ℕ) (entries : List Entry) → ((link : ℕ) → find (may_send_on busy link) entries ≡ Some e → P) → (link : ℕ) (o : Option Entry) → find (may_send_on busy link) entries ≡ o → bytes_of o ≡ Some x → P
+  on_found busy entries k link None f g = absurd (cc)
+  on_found busy entries k link (Some y) f g = k link (f ∙ ap (λ (z : Entry). Some z) (bytes_is e y size count y.size g))
+
+  bytes_found : (busy : List ℕ) (entries : List Entry) → ((link : ℕ) → find (may_send_on busy link) entries ≡ Some e → P) → (o : Option ℕ) → bytes_on busy entries o ≡ Some x → P
+  bytes_found busy entries k None g = absurd (cc)
+  bytes_found busy entries k (Some link) g = on_found busy entries k link (find (may_send_on busy link) entries) refl g
+
+  ready_found : (q : PairState) → ((link : ℕ) → find (may_send_on q.busy link) q.entries ≡ Some e → P) → (b : Bool) → (nat_lt 0 (length q.queue) && not (is_busy q.busy 0)) ≡ b → next_of_ready q ≡ Some x → P
+  ready_found q k true t g = absurd (let r : Some (parcel.Commands (packed_count q.queue)) ≡ Some x = rw t at g in cc)
+  ready_found q k false t g =
+      let r : next_bytes q.busy q.entries ≡ Some x = rw t at g in bytes_found q.busy q.entries k (lowest_link (filter (may_send q.busy) q.entries)) r
+
+  data_found : (q : PairState) → ((link : ℕ) → find (may_send_on q.busy link) q.entries ≡ Some e → P) → (want owed ready : Bool) → program.is_want q.phase ≡ want → q.owed ≡ owed
+      → program.is_ready q.phase ≡ ready → next_of q ≡ Some x → P
+  data_found q k true owed ready w o r g =
+      absurd (let s : if_silent q.busy parcel.Reset ≡ Some x = rw w at g in
+      let t : parcel.Reset ≡ x = silent_signal q.busy parcel.Reset x (length q.busy == 0) refl s in cc)
+  data_found q k false true ready w o r g =
+      absurd (let s : if_silent q.busy parcel.Reply ≡ Some x = rw (w, o) at g in
+      let t : parcel.Reply ≡ x = silent_signal q.busy parcel.Reply x (length q.busy == 0) refl s in cc)
+  data_found q k false false true w o r g =
+      let s : next_of_ready q ≡ Some x = rw (w, o, r) at g in ready_found q k (nat_lt 0 (length q.queue) && not (is_busy q.busy 0)) refl s
+  data_found q k false false false w o r g = absurd (let s : None ≡ Some x = rw (w, o, r) at g in cc)
+
+data_asked : (q : PairState) (e : Entry) (size count : ℕ) → next_of q ≡ Some (parcel.Bytes e size count) → has_asked q.entries ≡ true
+data_asked q e size count n =
+    data_found (has_asked q.entries ≡ true) e size count q (λ link f. found_asked (may_send_on q.busy link) (may_asked q.busy link) q.entries e f)
+    (program.is_want q.phase) q.owed (program.is_ready q.phase) refl refl refl n
+
+-- data go on a connection's link
+later_any : (T : Entry → Bool) (x : Entry) (xs : List Entry) → list_any T xs ≡ true → list_any T (x ∷ xs) ≡ true
+later_any T x xs h = or_later (T x) (list_any T xs) h
+
+any_step : (T test : Entry → Bool) (x e : Entry) (xs : List Entry) → T e ≡ true → (find test xs ≡ Some e → list_any T xs ≡ true) → (b : Bool) → test x ≡ b → find test (x ∷ xs) ≡ Some e → list_any T (x ∷ xs) ≡ true
+any_step T test x e xs has rest true t f =
+    let same : e ≡ x = sym (ap (found_or e) (rw t at f)) in
+    let first : T x ≡ true = subst (λ (y : Entry). T y ≡ true) same has in
+    rw first refl where
+      found_or : Entry → Option Entry → Entry
+      found_or d None = d
+      found_or d (Some y) = y
+any_step T test x e xs has rest false t f = later_any T x xs (rest (rw t at f))
+
+any_found : (T test : Entry → Bool) (xs : List Entry) (e : Entry) → T e ≡ true → find test xs ≡ Some e → list_any T xs ≡ true
+any_found T test [] e has f = absurd (cc)
+any_found T test (x ∷ xs) e has f = any_step T test x e xs has (λ g. any_found T test xs e has g) (test x) refl f
+
+stray_by : (o : Option ℕ) → is_some o ≡ true → (link_of o == 0) ≡ true → on_control o ≡ true
+stray_by None some none = absurd (cc)
+stray_by (Some link) some none = none
+
+away_by : (q : PairState) (e : Entry) (link : ℕ) → has_control q.entries ≡ false → is_some e.link ≡ true → find (may_send_on q.busy link) q.entries ≡ Some e → (b : Bool) → (link_of e.link == 0) ≡ b → b ≡ false
+away_by q e link none some f true control =
+    absurd (let there : has_control q.entries ≡ true = any_found strays (may_send_on q.busy link) q.entries e (stray_by e.link some control) f in let both : true ≡ false = sym there ∙ none in cc)
+away_by q e link none some f false control = refl
+
+data_away : (q : PairState) (e : Entry) (size count : ℕ) → has_control q.entries ≡ false → is_some e.link ≡ true → next_of q ≡ Some (parcel.Bytes e size count) → (link_of e.link == 0) ≡ false
+data_away q e size count none some n =
+    data_found ((link_of e.link == 0) ≡ false) e size count q (λ link f. away_by q e link none some f (link_of e.link == 0) refl)
+    (program.is_want q.phase) q.owed (program.is_ready q.phase) refl refl refl n
 
 -- ---- the queue while commands go out
 
@@ -182,6 +233,30 @@ gone_queue peer stamp command.Rrp d = refl
 all_gone_queue : (peer : Host) (stamp : ℕ) (cs : List Command) (d : DeskState) → (commands_gone peer stamp cs d).queue ≡ d.queue
 all_gone_queue peer stamp [] d = refl
 all_gone_queue peer stamp (c ∷ cs) d = all_gone_queue peer stamp cs (command_gone peer stamp c d) ∙ gone_queue peer stamp c d
+
+request_linked : (peer : Host) (stamp own foreign : ℕ) (d : DeskState) → has_control (request_gone peer stamp own foreign d).entries ≡ true → has_control d.entries ≡ true
+request_linked peer stamp own foreign d h = any_changed strays (is_at own foreign) (asked_at stamp) (λ x k. k) d.entries h
+
+gone_linked : (peer : Host) (stamp : ℕ) (c : Command) (d : DeskState) → has_control (command_gone peer stamp c d).entries ≡ true → has_control d.entries ≡ true
+gone_linked peer stamp command.Nop d h = h
+gone_linked peer stamp (command.Rts receive send link) d h = request_linked peer stamp receive send d h
+gone_linked peer stamp (command.Str send receive size) d h = request_linked peer stamp send receive d h
+gone_linked peer stamp (command.Cls own foreign) d h =
+    any_changed strays (is_at own foreign) cls_sent (λ x k. k) d.entries (over_less strays (changed_first (is_at own foreign) cls_sent d.entries) h)
+gone_linked peer stamp (command.All link messages bits) d h = h
+gone_linked peer stamp (command.Gvb link messages bits) d h = h
+gone_linked peer stamp (command.Ret link messages bits) d h = h
+gone_linked peer stamp (command.Inr link) d h = h
+gone_linked peer stamp (command.Ins link) d h = h
+gone_linked peer stamp (command.Eco octet) d h = h
+gone_linked peer stamp (command.Erp octet) d h = h
+gone_linked peer stamp (command.Err code detail) d h = h
+gone_linked peer stamp command.Rst d h = h
+gone_linked peer stamp command.Rrp d h = h
+
+all_gone_linked : (peer : Host) (stamp : ℕ) (cs : List Command) (d : DeskState) → has_control (commands_gone peer stamp cs d).entries ≡ true → has_control d.entries ≡ true
+all_gone_linked peer stamp [] d h = h
+all_gone_linked peer stamp (c ∷ cs) d h = gone_linked peer stamp c d (all_gone_linked peer stamp cs (command_gone peer stamp c d) h)
 
 -- ---- what may go
 
@@ -206,7 +281,7 @@ reset_goes peer stamp listening q p a m =
     let no : has_asked q.entries ≡ true → ⊥ = λ h. (let r : program.is_ready phase.Want ≡ true = ap program.is_ready (sym m.wanted) ∙ a.ready h in cc) in
     let goes : P Reset = (
       (refl, a.phase ∙ ap phase_of m.wanted, all_free q p a m.silent),
-      record { phase = refl; owed = a.owed; busy = busier q p a 0 resets.Rst; ready = λ h. absurd (no h); begun = a.begun; plain = a.plain },
+      record { phase = refl; owed = a.owed; busy = busier q p a 0 resets.Rst; ready = λ h. absurd (no h); begun = a.begun; plain = a.plain; linked = a.linked },
     ) in
     let said : P (message_on 0 (text_for q parcel.Reset)) = subst P (sym (says_reset q)) goes in
     record { may = said.0; agrees = said.1 }
@@ -216,16 +291,16 @@ reply_goes peer stamp listening q p a m =
     let P : Message → Type 0 = λ x. resets.MaySend p 0 x × Agrees (after peer stamp listening parcel.Reply q) (sent 0 x p) in
     let goes : P Reply = (
       (refl, a.owed ∙ m.owed, (λ w. not_want q.phase m.unwanted (sym a.phase ∙ w)), all_free q p a m.silent),
-      record { phase = a.phase; owed = refl; busy = busier q p a 0 resets.Rrp; ready = a.ready; begun = a.begun; plain = a.plain },
+      record { phase = a.phase; owed = refl; busy = busier q p a 0 resets.Rrp; ready = a.ready; begun = a.begun; plain = a.plain; linked = a.linked },
     ) in
     let said : P (message_on 0 (text_for q parcel.Reply)) = subst P (sym (says_reply q)) goes in
     record { may = said.0; agrees = said.1 }
 
 -- what is said on connections
 said_goes : (q new : PairState) (p : Pair) (l : ℕ) (text : List Bool) → Agrees q p → MaySpeak q → p.out l ≡ None → (l ≡ 0) ⊎ (p.begun ≡ true)
-    → new.phase ≡ q.phase → new.owed ≡ q.owed → new.busy ≡ l ∷ q.busy → ArePlain new.queue
+    → new.phase ≡ q.phase → new.owed ≡ q.owed → new.busy ≡ l ∷ q.busy → ArePlain new.queue → has_control new.entries ≡ false
     → resets.MaySend p l (Other text) × Agrees new (sent l (Other text) p)
-said_goes q new p l text a m free begun ph ow bu plain = (
+said_goes q new p l text a m free begun ph ow bu plain linked = (
   (a.phase ∙ ap phase_of m.ready, a.owed ∙ m.owes, free, begun),
   record {
     phase = a.phase ∙ ap phase_of (sym ph);
@@ -234,18 +309,20 @@ said_goes q new p l text a m free begun ph ow bu plain = (
     ready = λ h. ap program.is_ready (ph ∙ m.ready);
     begun = λ h. refl;
     plain = plain;
+    linked = linked;
   },
 )
 
-commands_go : (peer : Host) (stamp : ℕ) (listening : List Listener) (q : PairState) (p : Pair) (count : ℕ) → Agrees q p → MaySpeak q × MayCommand q count → Speaks q (parcel.Commands count)
+commands_go : (peer : Host) (stamp : ℕ) (listening : List Listener) (q : PairState) (p : Pair) (count : ℕ) → Agrees q p → MaySpeak q × MayCommand q count
     → Goes q p (parcel.Commands count) (after peer stamp listening (parcel.Commands count) q)
-commands_go peer stamp listening q p count a m speaks =
+commands_go peer stamp listening q p count a m =
     let P : Message → Type 0 = λ x. resets.MaySend p 0 x × Agrees (after peer stamp listening (parcel.Commands count) q) (sent 0 x p) in
     let kept : (commands_gone peer stamp (take count q.queue) (desk_of q listening)).queue ≡ q.queue = all_gone_queue peer stamp (take count q.queue) (desk_of q listening) in
     let plain : ArePlain (drop count (commands_gone peer stamp (take count q.queue) (desk_of q listening)).queue) = subst (λ (cs : List Command). ArePlain (drop count cs)) (sym kept) (plain_drop count q.queue a.plain) in
     let goes : P (Other (text_for q (parcel.Commands count))) =
-    said_goes q (after peer stamp listening (parcel.Commands count) q) p 0 (text_for q (parcel.Commands count)) a m.0 (free_of q p a 0 m.1.answered) (inl refl) refl refl refl plain in
-    let said : P (message_on 0 (text_for q (parcel.Commands count))) = subst P (sym (commands_say q count a.plain speaks)) goes in
+    said_goes q (after peer stamp listening (parcel.Commands count) q) p 0 (text_for q (parcel.Commands count)) a m.0 (free_of q p a 0 m.1.answered) (inl refl) refl refl refl plain
+    (linked_by (has_control (commands_gone peer stamp (take count q.queue) (desk_of q listening)).entries) (has_control q.entries) (all_gone_linked peer stamp (take count q.queue) (desk_of q listening)) a.linked) in
+    let said : P (message_on 0 (text_for q (parcel.Commands count))) = subst P (sym (commands_say q count a.plain m.1.front)) goes in
     record { may = said.0; agrees = said.1 }
 
 answered_free : (busy : List ℕ) (o : Option ℕ) → is_some o ≡ true → is_answered busy o ≡ true → is_busy busy (link_of o) ≡ false
@@ -256,53 +333,55 @@ answered_free busy (Some link) some h = not_busy (is_busy busy link) h where
   not_busy false h = refl
 
 bytes_go : (peer : Host) (stamp : ℕ) (listening : List Listener) (q : PairState) (p : Pair) (e : Entry) (size count : ℕ) → Agrees q p → MaySpeak q × MaySend q e size count → has_asked q.entries ≡ true
-    → Speaks q (parcel.Bytes e size count) → Goes q p (parcel.Bytes e size count) (after peer stamp listening (parcel.Bytes e size count) q)
-bytes_go peer stamp listening q p e size count a m asked speaks =
+    → (link_of e.link == 0) ≡ false → Goes q p (parcel.Bytes e size count) (after peer stamp listening (parcel.Bytes e size count) q)
+bytes_go peer stamp listening q p e size count a m asked away =
     let P : Message → Type 0 = λ x. resets.MaySend p (link_of e.link) x × Agrees (after peer stamp listening (parcel.Bytes e size count) q) (sent (link_of e.link) x p) in
     let goes : P (Other (text_for q (parcel.Bytes e size count))) =
     said_goes q (after peer stamp listening (parcel.Bytes e size count) q) p (link_of e.link) (text_for q (parcel.Bytes e size count)) a m.0
-    (free_of q p a (link_of e.link) (answered_free q.busy e.link m.1.linked m.1.answered)) (inr (a.begun asked)) refl refl refl a.plain in
-    let said : P (message_on (link_of e.link) (text_for q (parcel.Bytes e size count))) = subst P (sym (bytes_say q e size count speaks)) goes in
+    (free_of q p a (link_of e.link) (answered_free q.busy e.link m.1.linked m.1.answered)) (inr (a.begun asked)) refl refl refl a.plain
+    (linked_by (has_control (changed_first (may_send_on q.busy (link_of e.link)) (bits_gone (size * count)) q.entries)) (has_control q.entries) (any_changed strays (may_send_on q.busy (link_of e.link)) (bits_gone (size * count)) (λ x k. k) q.entries) a.linked) in
+    let said : P (message_on (link_of e.link) (text_for q (parcel.Bytes e size count))) = subst P (sym (bytes_say q e size count away)) goes in
     record { may = said.0; agrees = said.1 }
 
-goes_by : (peer : Host) (stamp : ℕ) (listening : List Listener) (q : PairState) (p : Pair) (x : Parcel) → Agrees q p → MayGo q x → next_of q ≡ Some x → Speaks q x → Goes q p x (after peer stamp listening x q)
-goes_by peer stamp listening q p parcel.Reset a m n speaks = reset_goes peer stamp listening q p a m
-goes_by peer stamp listening q p parcel.Reply a m n speaks = reply_goes peer stamp listening q p a m
-goes_by peer stamp listening q p (parcel.Commands count) a m n speaks = commands_go peer stamp listening q p count a m speaks
-goes_by peer stamp listening q p (parcel.Bytes e size count) a m n speaks =
-    bytes_go peer stamp listening q p e size count a m (data_asked q e size count (program.is_want q.phase) q.owed (program.is_ready q.phase) refl refl refl n) speaks
+goes_by : (peer : Host) (stamp : ℕ) (listening : List Listener) (q : PairState) (p : Pair) (x : Parcel) → Agrees q p → MayGo q x → next_of q ≡ Some x → Goes q p x (after peer stamp listening x q)
+goes_by peer stamp listening q p parcel.Reset a m n = reset_goes peer stamp listening q p a m
+goes_by peer stamp listening q p parcel.Reply a m n = reply_goes peer stamp listening q p a m
+goes_by peer stamp listening q p (parcel.Commands count) a m n = commands_go peer stamp listening q p count a m
+goes_by peer stamp listening q p (parcel.Bytes e size count) a m n =
+    bytes_go peer stamp listening q p e size count a m (data_asked q e size count n) (data_away q e size count a.linked m.1.linked n)
 
-pub goes : (peer : Host) (stamp : ℕ) (listening : List Listener) (q : PairState) (p : Pair) (x : Parcel) → Agrees q p → next_of q ≡ Some x → Speaks q x → Goes q p x (after peer stamp listening x q)
-goes peer stamp listening q p x a n speaks = goes_by peer stamp listening q p x a (what_goes q x n) n speaks
+pub goes : (peer : Host) (stamp : ℕ) (listening : List Listener) (q : PairState) (p : Pair) (x : Parcel) → Agrees q p → next_of q ≡ Some x → Goes q p x (after peer stamp listening x q)
+goes peer stamp listening q p x a n = goes_by peer stamp listening q p x a (what_goes q x n) n
 
 -- ---- the host
 
-pub offer_may : (s : NcpState) (g : Peer) (x : Parcel) (p : Pair) → AreInOrder s.peers → next_in s.peers ≡ Some (g, x) → Speaks g.pair x → Agrees (pair_with g.host s.peers) p
+pub offer_may : (s : NcpState) (g : Peer) (x : Parcel) (p : Pair) → AreInOrder s.peers → next_in s.peers ≡ Some (g, x) → Agrees (pair_with g.host s.peers) p
     → resets.MaySend p (link_for x) (message_on (link_for x) (text_for g.pair x))
-offer_may s g x p order n speaks a =
+offer_may s g x p order n a =
     let pair : pair_with g.host s.peers ≡ g.pair = next_pair s.peers g x order n in
-    (goes g.host 0 s.listening g.pair p x (subst (λ (q : PairState). Agrees q p) pair a) (next_is g x s.peers n) speaks).may
+    (goes g.host 0 s.listening g.pair p x (subst (λ (q : PairState). Agrees q p) pair a) (next_is g x s.peers n)).may
 
-pub offer_agrees : (s : NcpState) (stamp : ℕ) (g : Peer) (x : Parcel) (h : Host) (p : Pair) → AreInOrder s.peers → next_in s.peers ≡ Some (g, x) → Speaks g.pair x → Agrees (pair_with h s.peers) p
+pub offer_agrees : (s : NcpState) (stamp : ℕ) (g : Peer) (x : Parcel) (h : Host) (p : Pair) → AreInOrder s.peers → next_in s.peers ≡ Some (g, x) → Agrees (pair_with h s.peers) p
     → Agrees (pair_with h (offered s stamp).0.peers) (moved (part_of s.own h (event_of (crossing.Out (message_for s.own g x)))) p)
 unfolding offered
-offer_agrees s stamp g x h p order n speaks a =
+offer_agrees s stamp g x h p order n a =
     let pair : pair_with g.host s.peers ≡ g.pair = next_pair s.peers g x order n in
     let step : Agrees (pair_with g.host s.peers) p → Agrees (after g.host stamp s.listening x g.pair) (sent (link_for x) (message_on (link_for x) (text_for g.pair x)) p) =
-    λ b. (goes g.host stamp s.listening g.pair p x (subst (λ (q : PairState). Agrees q p) pair b) (next_is g x s.peers n) speaks).agrees in
+    λ b. (goes g.host stamp s.listening g.pair p x (subst (λ (q : PairState). Agrees q p) pair b) (next_is g x s.peers n)).agrees in
     rw (n, same_host-refl s.own) (part_by g.host h (after g.host stamp s.listening x g.pair) s.peers p (Send (link_for x) (message_on (link_for x) (text_for g.pair x))) a step (same_host h g.host) refl)
 
 -- what goes out is an RST or an RRP alone, or has neither
-apart : (q : PairState) (x : Parcel) → ArePlain q.queue → Speaks q x → IsApart (link_for x) (text_for q x) (message_on (link_for x) (text_for q x))
-apart q parcel.Reset plain speaks = subst (λ (m : Message). IsApart 0 (text_for q parcel.Reset) m) (sym (says_reset q)) tt
-apart q parcel.Reply plain speaks = subst (λ (m : Message). IsApart 0 (text_for q parcel.Reply) m) (sym (says_reply q)) tt
-apart q (parcel.Commands count) plain speaks =
-    subst (λ (m : Message). IsApart 0 (text_for q (parcel.Commands count)) m) (sym (commands_say q count plain speaks)) (λ zero. commands_plain q count plain speaks)
-apart q (parcel.Bytes e size count) plain speaks =
-    subst (λ (m : Message). IsApart (link_of e.link) (text_for q (parcel.Bytes e size count)) m) (sym (bytes_say q e size count speaks)) (λ zero. absurd (let r : true ≡ false = sym zero ∙ speaks in cc))
+apart : (q : PairState) (p : Pair) (x : Parcel) → Agrees q p → MayGo q x → next_of q ≡ Some x → IsApart (link_for x) (text_for q x) (message_on (link_for x) (text_for q x))
+apart q p parcel.Reset a m n = subst (λ (m : Message). IsApart 0 (text_for q parcel.Reset) m) (sym (says_reset q)) tt
+apart q p parcel.Reply a m n = subst (λ (m : Message). IsApart 0 (text_for q parcel.Reply) m) (sym (says_reply q)) tt
+apart q p (parcel.Commands count) a m n =
+    subst (λ (m : Message). IsApart 0 (text_for q (parcel.Commands count)) m) (sym (commands_say q count a.plain m.1.front)) (λ zero. commands_plain q count a.plain m.1.front)
+apart q p (parcel.Bytes e size count) a m n =
+    let away : (link_of e.link == 0) ≡ false = data_away q e size count a.linked m.1.linked n in
+    subst (λ (m : Message). IsApart (link_of e.link) (text_for q (parcel.Bytes e size count)) m) (sym (bytes_say q e size count away)) (λ zero. absurd (let r : true ≡ false = sym zero ∙ away in cc))
 
-pub offer_apart : (s : NcpState) (g : Peer) (x : Parcel) (p : Pair) → AreInOrder s.peers → next_in s.peers ≡ Some (g, x) → Speaks g.pair x → Agrees (pair_with g.host s.peers) p
+pub offer_apart : (s : NcpState) (g : Peer) (x : Parcel) (p : Pair) → AreInOrder s.peers → next_in s.peers ≡ Some (g, x) → Agrees (pair_with g.host s.peers) p
     → IsApart (link_for x) (text_for g.pair x) (message_on (link_for x) (text_for g.pair x))
-offer_apart s g x p order n speaks a =
+offer_apart s g x p order n a =
     let pair : pair_with g.host s.peers ≡ g.pair = next_pair s.peers g x order n in
-    apart g.pair x (subst (λ (q : PairState). ArePlain q.queue) pair a.plain) speaks
+    apart g.pair p x (subst (λ (q : PairState). Agrees q p) pair a) (what_goes g.pair x (next_is g x s.peers n)) (next_is g x s.peers n)

@@ -135,7 +135,7 @@ out_of : (a b : Host) (m : HostMessage) (moments : List Moment) → IsNext (prog
 out_of a b m moments n k =
     let s : NcpState = program a moments in
     let step : Agrees (pair_with b (offered (program a moments) (places moments)).0.peers) (moved (part_of (program a moments).own b (event_of (crossing.Out (message_for (program a moments).own n.peer n.parcel)))) (pair a b (events_of moments))) =
-    offer_agrees (program a moments) (places moments) n.peer n.parcel b (pair a b (events_of moments)) n.order n.next n.speaks k in
+    offer_agrees (program a moments) (places moments) n.peer n.parcel b (pair a b (events_of moments)) n.order n.next k in
     let said : Agrees (pair_with b (offered (program a moments) (places moments)).0.peers) (moved (part_of (program a moments).own b (event_of (crossing.Out m))) (pair a b (events_of moments))) =
     subst (λ (x : HostMessage). Agrees (pair_with b (offered (program a moments) (places moments)).0.peers) (moved (part_of (program a moments).own b (event_of (crossing.Out x))) (pair a b (events_of moments)))) (sym n.message) step in
     as_own a b (event_of (crossing.Out m)) _ (pair a b (events_of moments)) (program a moments) (program_own a moments) said

@@ -23,8 +23,8 @@ use Rattle.reset_law.specs.Boxes.{at_link}
 use Rattle.reset_law.specs.Events.{Message, Reset, Reply, Other}
 use Rattle.reset_law.specs.Pairs.{Pair, Kind, took, told}
 use Rattle.reset_law.specs.Phases as law
-use Rattle.net_sim.specs.Projection.{is_rst, is_rrp, is_alone, control_message, message_on, phase_of, Agrees, IsPlain, AllPlain, IsApart}
-use Rattle.net_sim.proofs.Kept.{Kept, kept_taken, kept_data, kept_queued, kept_settled}
+use Rattle.net_sim.specs.Projection.{has_control, is_rst, is_rrp, names_control, is_alone, control_message, message_on, phase_of, Agrees, IsPlain, AllPlain, IsApart}
+use Rattle.net_sim.proofs.Kept.{Kept, kept_taken, kept_data, kept_error, kept_settled}
 
 -- ---- phases
 
@@ -76,8 +76,12 @@ rfnm_ready false ph h = h
 
 -- ---- the connections
 
+pub linked_by : (b c : Bool) → (b ≡ true → c ≡ true) → c ≡ false → b ≡ false
+linked_by true c k none = absurd (let both : true ≡ false = sym (k refl) ∙ none in cc)
+linked_by false c k none = refl
+
 pub agrees_desk : (t : TurnState) (p : Pair) (d : DeskState) → Agrees t.pair p → Kept (desk_of t.pair t.listening) d → Agrees (with_desk t d).pair p
-agrees_desk t p d a k = record { phase = a.phase; owed = a.owed; busy = a.busy; ready = λ h. a.ready (k.asked h); begun = λ h. a.begun (k.asked h); plain = k.plain a.plain }
+agrees_desk t p d a k = record { phase = a.phase; owed = a.owed; busy = a.busy; ready = λ h. a.ready (k.asked h); begun = λ h. a.begun (k.asked h); plain = k.plain a.plain; linked = linked_by (has_control d.entries) (has_control t.pair.entries) k.linked a.linked }
 
 ready_by : (work : DeskState → DeskState) (t : TurnState) (p : Pair) → ((d : DeskState) → Kept d (work d)) → Agrees t.pair p → (b : Bool) → program.is_ready t.pair.phase ≡ b → Agrees (if_ready work t).pair p
 ready_by work t p k a true e = rw e (agrees_desk t p (work (desk_of t.pair t.listening)) a (k (desk_of t.pair t.listening)))
@@ -96,6 +100,7 @@ agrees_reset peer t p a = record {
   ready = λ h. absurd (cc);
   begun = λ h. absurd (cc);
   plain = tt;
+  linked = refl;
 }
 
 agrees_reply : (peer : Host) (t : TurnState) (p : Pair) → Agrees t.pair p → Agrees (reply_taken peer t).pair (took Reply p)
@@ -106,29 +111,30 @@ agrees_reply peer t p a = record {
   ready = λ h. reply_ready t.pair.phase (a.ready h);
   begun = a.begun;
   plain = a.plain;
+  linked = a.linked;
 }
 
 -- ---- orders
 
-agrees_command : (peer : Host) (stamp : ℕ) (c : Command) (t : TurnState) (p : Pair) → is_rst c ≡ false → is_rrp c ≡ false → Agrees t.pair p → Agrees (command_taken peer stamp c t).pair p
-agrees_command peer stamp command.Nop t p rst rrp a = agrees_if (taken peer t.pair.busy stamp command.Nop) t p (kept_taken peer t.pair.busy stamp command.Nop) a
-agrees_command peer stamp (command.Rts receive send link) t p rst rrp a = agrees_if (taken peer t.pair.busy stamp (command.Rts receive send link)) t p (kept_taken peer t.pair.busy stamp (command.Rts receive send link)) a
-agrees_command peer stamp (command.Str send receive size) t p rst rrp a = agrees_if (taken peer t.pair.busy stamp (command.Str send receive size)) t p (kept_taken peer t.pair.busy stamp (command.Str send receive size)) a
-agrees_command peer stamp (command.Cls own foreign) t p rst rrp a = agrees_if (taken peer t.pair.busy stamp (command.Cls own foreign)) t p (kept_taken peer t.pair.busy stamp (command.Cls own foreign)) a
-agrees_command peer stamp (command.All link messages bits) t p rst rrp a = agrees_if (taken peer t.pair.busy stamp (command.All link messages bits)) t p (kept_taken peer t.pair.busy stamp (command.All link messages bits)) a
-agrees_command peer stamp (command.Gvb link messages bits) t p rst rrp a = agrees_if (taken peer t.pair.busy stamp (command.Gvb link messages bits)) t p (kept_taken peer t.pair.busy stamp (command.Gvb link messages bits)) a
-agrees_command peer stamp (command.Ret link messages bits) t p rst rrp a = agrees_if (taken peer t.pair.busy stamp (command.Ret link messages bits)) t p (kept_taken peer t.pair.busy stamp (command.Ret link messages bits)) a
-agrees_command peer stamp (command.Inr link) t p rst rrp a = agrees_if (taken peer t.pair.busy stamp (command.Inr link)) t p (kept_taken peer t.pair.busy stamp (command.Inr link)) a
-agrees_command peer stamp (command.Ins link) t p rst rrp a = agrees_if (taken peer t.pair.busy stamp (command.Ins link)) t p (kept_taken peer t.pair.busy stamp (command.Ins link)) a
-agrees_command peer stamp (command.Eco octet) t p rst rrp a = agrees_if (taken peer t.pair.busy stamp (command.Eco octet)) t p (kept_taken peer t.pair.busy stamp (command.Eco octet)) a
-agrees_command peer stamp (command.Erp octet) t p rst rrp a = agrees_if (taken peer t.pair.busy stamp (command.Erp octet)) t p (kept_taken peer t.pair.busy stamp (command.Erp octet)) a
-agrees_command peer stamp (command.Err code detail) t p rst rrp a = agrees_if (taken peer t.pair.busy stamp (command.Err code detail)) t p (kept_taken peer t.pair.busy stamp (command.Err code detail)) a
-agrees_command peer stamp command.Rst t p rst rrp a = absurd (cc)
-agrees_command peer stamp command.Rrp t p rst rrp a = absurd (cc)
+agrees_command : (peer : Host) (stamp : ℕ) (c : Command) (t : TurnState) (p : Pair) → is_rst c ≡ false → is_rrp c ≡ false → names_control c ≡ false → Agrees t.pair p → Agrees (command_taken peer stamp c t).pair p
+agrees_command peer stamp command.Nop t p rst rrp away a = agrees_if (taken peer t.pair.busy stamp command.Nop) t p (kept_taken peer t.pair.busy stamp command.Nop away) a
+agrees_command peer stamp (command.Rts receive send link) t p rst rrp away a = agrees_if (taken peer t.pair.busy stamp (command.Rts receive send link)) t p (kept_taken peer t.pair.busy stamp (command.Rts receive send link) away) a
+agrees_command peer stamp (command.Str send receive size) t p rst rrp away a = agrees_if (taken peer t.pair.busy stamp (command.Str send receive size)) t p (kept_taken peer t.pair.busy stamp (command.Str send receive size) away) a
+agrees_command peer stamp (command.Cls own foreign) t p rst rrp away a = agrees_if (taken peer t.pair.busy stamp (command.Cls own foreign)) t p (kept_taken peer t.pair.busy stamp (command.Cls own foreign) away) a
+agrees_command peer stamp (command.All link messages bits) t p rst rrp away a = agrees_if (taken peer t.pair.busy stamp (command.All link messages bits)) t p (kept_taken peer t.pair.busy stamp (command.All link messages bits) away) a
+agrees_command peer stamp (command.Gvb link messages bits) t p rst rrp away a = agrees_if (taken peer t.pair.busy stamp (command.Gvb link messages bits)) t p (kept_taken peer t.pair.busy stamp (command.Gvb link messages bits) away) a
+agrees_command peer stamp (command.Ret link messages bits) t p rst rrp away a = agrees_if (taken peer t.pair.busy stamp (command.Ret link messages bits)) t p (kept_taken peer t.pair.busy stamp (command.Ret link messages bits) away) a
+agrees_command peer stamp (command.Inr link) t p rst rrp away a = agrees_if (taken peer t.pair.busy stamp (command.Inr link)) t p (kept_taken peer t.pair.busy stamp (command.Inr link) away) a
+agrees_command peer stamp (command.Ins link) t p rst rrp away a = agrees_if (taken peer t.pair.busy stamp (command.Ins link)) t p (kept_taken peer t.pair.busy stamp (command.Ins link) away) a
+agrees_command peer stamp (command.Eco octet) t p rst rrp away a = agrees_if (taken peer t.pair.busy stamp (command.Eco octet)) t p (kept_taken peer t.pair.busy stamp (command.Eco octet) away) a
+agrees_command peer stamp (command.Erp octet) t p rst rrp away a = agrees_if (taken peer t.pair.busy stamp (command.Erp octet)) t p (kept_taken peer t.pair.busy stamp (command.Erp octet) away) a
+agrees_command peer stamp (command.Err code detail) t p rst rrp away a = agrees_if (taken peer t.pair.busy stamp (command.Err code detail)) t p (kept_taken peer t.pair.busy stamp (command.Err code detail) away) a
+agrees_command peer stamp command.Rst t p rst rrp away a = absurd (cc)
+agrees_command peer stamp command.Rrp t p rst rrp away a = absurd (cc)
 
 agrees_order : (peer : Host) (stamp : ℕ) (o : Order) (t : TurnState) (p : Pair) → IsPlain o → Agrees t.pair p → Agrees (order_taken peer stamp o t).pair p
-agrees_order peer stamp (Legal c) t p plain a = agrees_command peer stamp c t p plain.0 plain.1 a
-agrees_order peer stamp (Wrong code octets) t p plain a = agrees_if (queued (error code octets)) t p (λ d. kept_queued (error code octets) d refl refl) a
+agrees_order peer stamp (Legal c) t p plain a = agrees_command peer stamp c t p plain.0 plain.1 plain.2 a
+agrees_order peer stamp (Wrong code octets) t p plain a = agrees_if (queued (error code octets)) t p (kept_error code octets) a
 
 agrees_orders : (peer : Host) (stamp : ℕ) (os : List Order) (t : TurnState) (p : Pair) → AllPlain os → Agrees t.pair p → Agrees (orders_taken peer stamp os t).pair p
 agrees_orders peer stamp [] t p plain a = a
@@ -237,7 +243,7 @@ freed_busy q p link h k =
     out_by (k == link) (p.out k) ∙ ap (λ (b : Bool). if k == link then false else b) (h k) ∙ sym (free_busy link k q.busy)
 
 agrees_freed : (q : PairState) (p : Pair) (link : ℕ) → Agrees q p → Agrees (freed link q) (record p { out = at_link p.out link None })
-agrees_freed q p link a = record { phase = a.phase; owed = a.owed; busy = freed_busy q p link a.busy; ready = a.ready; begun = a.begun; plain = a.plain }
+agrees_freed q p link a = record { phase = a.phase; owed = a.owed; busy = freed_busy q p link a.busy; ready = a.ready; begun = a.begun; plain = a.plain; linked = a.linked }
 
 agrees_settled : (t : TurnState) (p : Pair) → Agrees t.pair p → Agrees (settled_turn t).pair p
 agrees_settled t p a = agrees_desk t p _ a (kept_settled t.pair.busy (desk_of t.pair t.listening))
@@ -246,7 +252,7 @@ agrees_rfnm : (link : ℕ) (t : TurnState) (p : Pair) → Agrees t.pair p → Ag
 agrees_rfnm link t p a =
     let ph : law.rfnm_phase link p.phase ≡ phase_of (program.rfnm_phase link t.pair.phase) = ap (law.rfnm_phase link) a.phase ∙ rfnm_by (link == 0) t.pair.phase in
     agrees_settled (record t { pair = record t.pair { phase = program.rfnm_phase link t.pair.phase } }) (record p { phase = law.rfnm_phase link p.phase })
-    (record { phase = ph; owed = a.owed; busy = a.busy; ready = λ h. rfnm_ready (link == 0) t.pair.phase (a.ready h); begun = a.begun; plain = a.plain })
+    (record { phase = ph; owed = a.owed; busy = a.busy; ready = λ h. rfnm_ready (link == 0) t.pair.phase (a.ready h); begun = a.begun; plain = a.plain; linked = a.linked })
 
 -- what becomes of a pair when a message of it fails
 abbrev unsaid : Pair → Pair
@@ -261,16 +267,16 @@ fails_to p ph owed e f = rw (e, f) refl
 
 -- it is closed, or owes an RRP and stays
 dropped : (p : Pair) (q : PairState) → law.failed_phase p.phase p.owed ≡ law.Closed → Agrees q p → Agrees (record q { phase = phase.Closed; entries = []; queue = [] }) (unsaid p)
-dropped p q to a = record { phase = to; owed = a.owed; busy = a.busy; ready = λ h. absurd (cc); begun = λ h. absurd (cc); plain = tt }
+dropped p q to a = record { phase = to; owed = a.owed; busy = a.busy; ready = λ h. absurd (cc); begun = λ h. absurd (cc); plain = tt; linked = refl }
 
 stayed : (p : Pair) (q : PairState) → law.failed_phase p.phase p.owed ≡ phase_of q.phase → q.owed ≡ true → Agrees q p → Agrees q (unsaid p)
 stayed p q to owing a =
     let o : p.owed ≡ true = a.owed ∙ owing in
-    record { phase = to; owed = a.owed; busy = a.busy; ready = a.ready; begun = λ h. rw o (a.begun h); plain = a.plain }
+    record { phase = to; owed = a.owed; busy = a.busy; ready = a.ready; begun = λ h. rw o (a.begun h); plain = a.plain; linked = a.linked }
 
 silent : (p : Pair) (q : PairState) → law.failed_phase p.phase p.owed ≡ phase_of q.phase → program.is_ready q.phase ≡ false → Agrees q p → Agrees q (unsaid p)
 silent p q to quiet a =
-    record { phase = to; owed = a.owed; busy = a.busy; ready = a.ready; begun = λ h. absurd (let r : true ≡ false = sym (a.ready h) ∙ quiet in cc); plain = a.plain }
+    record { phase = to; owed = a.owed; busy = a.busy; ready = a.ready; begun = λ h. absurd (let r : true ≡ false = sym (a.ready h) ∙ quiet in cc); plain = a.plain; linked = a.linked }
 
 failed_by : (peer : Host) (ph : host.Phase) (owed : Bool) (busy : List ℕ) (entries : List Entry) (queue : List Command) (listening : List Listener) (notices : List Notice) (p : Pair)
     → Agrees (turn_by ph owed busy entries queue listening notices).pair p → Agrees (failed peer (turn_by ph owed busy entries queue listening notices)).pair (unsaid p)

@@ -6,3 +6,7 @@ pub mod Carriers
 pub mod Worked
 pub mod Story
 pub mod Inside
+pub mod Timeline
+pub mod Whole
+pub mod Clean
+pub mod WorkedResets

@@ -1,6 +1,6 @@
 -- One host's program as the law of resets sees it: how far each reset has come, whether an RRP is owed, what is outstanding,
 -- and RST and RRP among all texts (NIC 8246, RST and RRP).
-use Rattle.std.specs.Prelude.{◌≡◌, ℕ, ◌==◌, Bool, true, false, if◌then◌else◌, List, [], ◌∷◌, map, take, is_some}
+use Rattle.std.specs.Prelude.{◌≡◌, ℕ, ◌==◌, Bool, true, false, not, if◌then◌else◌, List, [], ◌∷◌, length, Option, Some, None, is_some}
 use Rattle.std.specs.List.{list_any}
 use Rattle.leader1822.specs.Host.{Host}
 use Rattle.leader1822.specs.declared.crossing.Crossing.{Crossing}
@@ -11,7 +11,6 @@ use Rattle.sockets.specs.Control.{Order, Legal, Wrong, orders_of}
 use Rattle.sockets.specs.Pair.{PairState}
 use Rattle.sockets.specs.Entries.{is_busy}
 use Rattle.sockets.specs.Phases as program
-use Rattle.sockets.specs.Sending as parcel
 use Rattle.sockets.specs.declared.entry.Entry.{Entry}
 use Rattle.sockets.specs.declared.phase.Phase as host
 use Rattle.sockets.specs.declared.phase.Phase.TheVariants as phase
@@ -70,10 +69,31 @@ phase_of phase.Ready = law.Ready
 abbrev pub has_asked : List Entry → Bool
 has_asked entries = list_any (λ e. is_some e.asked) entries
 
--- neither RST nor RRP waits among commands: they are never queued
+-- an end whose data go on the control link
+abbrev pub on_control : Option ℕ → Bool
+on_control None = false
+on_control (Some link) = link == 0
+
+abbrev pub has_control : List Entry → Bool
+has_control entries = list_any (λ e. on_control e.link) entries
+
+-- an RTS that names the control link
+abbrev pub names_control : Command → Bool
+names_control (command.Rts receive send link) = link == 0
+names_control c = false
+
+-- an ERR that doesn't quote ten octets
+abbrev pub misquotes : Command → Bool
+misquotes (command.Err code detail) = not (length detail == 10)
+misquotes c = false
+
+-- a command that may wait to go out: RST and RRP are never queued, an RTS names a connection's link, and an ERR quotes ten octets
+abbrev pub IsQueued : Command → Type 0
+IsQueued c = (is_rst c ≡ false) × (is_rrp c ≡ false) × (names_control c ≡ false) × (misquotes c ≡ false)
+
 abbrev pub ArePlain : List Command → Type 0
 ArePlain [] = Unit {0}
-ArePlain (c ∷ cs) = (is_rst c ≡ false) × (is_rrp c ≡ false) × ArePlain cs
+ArePlain (c ∷ cs) = IsQueued c × ArePlain cs
 
 -- a host's program is, for one peer, where the law of resets has it
 pub record Agrees (q : PairState) (p : Pair) : Type 0 where
@@ -84,12 +104,14 @@ pub record Agrees (q : PairState) (p : Pair) : Type 0 where
   pub ready : has_asked q.entries ≡ true → program.is_ready q.phase ≡ true
   pub begun : has_asked q.entries ≡ true → p.begun ≡ true
   pub plain : ArePlain q.queue
+  -- data go on connections' links alone
+  pub linked : has_control q.entries ≡ false
 
 -- ---- texts
 
--- RST and RRP don't stand among other commands
+-- RST and RRP don't stand among other commands, and an RTS names a connection's link
 abbrev pub IsPlain : Order → Type 0
-IsPlain (Legal c) = (is_rst c ≡ false) × (is_rrp c ≡ false)
+IsPlain (Legal c) = (is_rst c ≡ false) × (is_rrp c ≡ false) × (names_control c ≡ false)
 IsPlain (Wrong code octets) = Unit {0}
 
 abbrev pub AllPlain : List Order → Type 0
@@ -101,10 +123,3 @@ abbrev pub IsApart : ℕ → List Bool → Message → Type 0
 IsApart link text Reset = Unit {0}
 IsApart link text Reply = Unit {0}
 IsApart link text (Other same) = (link == 0) ≡ true → AllPlain (orders_of text)
-
--- what a parcel says: its commands are read as they were written, and data go on a connection's link, which isn't link 0
-abbrev pub Speaks : PairState → parcel.Parcel → Type 0
-Speaks q parcel.Reset = Unit {0}
-Speaks q parcel.Reply = Unit {0}
-Speaks q (parcel.Commands count) = orders_of (parcel.text_for q (parcel.Commands count)) ≡ map Legal (take count q.queue)
-Speaks q (parcel.Bytes entry size count) = (parcel.link_of entry.link == 0) ≡ false

@@ -15,7 +15,7 @@ use Rattle.sockets.specs.declared.peer.Peer.{Peer}
 use Rattle.sockets.specs.declared.request.Request.{Request}
 use Rattle.reset_law.specs.Events.{Event}
 use Rattle.reset_law.specs.Pairs.{pair}
-use Rattle.net_sim.specs.Projection.{Speaks, IsApart, message_on, event_of, event_by}
+use Rattle.net_sim.specs.Projection.{IsApart, message_on, event_of, event_by}
 
 -- something crosses, or the user of a host asks for something and isn't refused
 pub data Moment : Type 0 where
@@ -55,7 +55,6 @@ pub record IsNext (s : NcpState) (m : HostMessage) : Type 0 where
   pub parcel : Parcel
   pub order : AreInOrder s.peers
   pub next : next_in s.peers ≡ Some (peer, parcel)
-  pub speaks : Speaks peer.pair parcel
   pub message : m ≡ message_for s.own peer parcel
 
 -- what a moment asks of those before it: what goes out is what the program says, what is taken has RST and RRP alone or neither,

@@ -1,5 +1,6 @@
 use Rattle.net_sim.proofs.Calls.{opening_agrees, request_agrees, message_agrees, answer_agrees}
 use Rattle.net_sim.proofs.Offers.{offer_may, offer_apart, offer_agrees}
+use Rattle.net_sim.proofs.Unheard.{unheard}
 use Rattle.net_sim.proofs.law.resets.Goals as goal
 
 pub returns-clause-opening : goal.returns-clause-opening
@@ -22,3 +23,6 @@ returns-clause-apart c = offer_apart
 
 pub returns-clause-offer : goal.returns-clause-offer
 returns-clause-offer c = offer_agrees
+
+pub returns-clause-unheard : goal.returns-clause-unheard
+returns-clause-unheard c = unheard

@@ -1,0 +1,65 @@
+-- The moments of a book, and what resets see of it: its crossings, and the contacts that users asked for.
+use Rattle.std.specs.Prelude.{◌≡◌, ℕ, ◌==◌, true, if◌then◌else◌, List, [], ◌∷◌, ◌++◌, length, Some}
+use Rattle.leader1822.specs.Host.{Host, IsAddress}
+use Rattle.leader1822.specs.Mailboxes as mail
+use Rattle.leader1822.specs.Mailboxes.{is_up}
+use Rattle.leader1822.specs.declared.crossing.Crossing.{Crossing}
+use Rattle.leader1822.specs.declared.crossing.Crossing.TheVariants as crossing
+use Rattle.sockets.specs.Sending.{next_out}
+use Rattle.sockets.specs.declared.request.Request.{Request}
+use Rattle.sockets.specs.declared.request.Request.TheVariants as request
+use Rattle.reset_law.specs.Boxes.{Box, Empty, Waiting, Taken}
+use Rattle.reset_law.specs.Events.{Event, Contact}
+use Rattle.net_sim.specs.Book.{Called, contacts_asked}
+use Rattle.net_sim.specs.Projection.{event_of, message_on}
+use Rattle.net_sim.specs.Story.{Moment, Crossed, Asked, program, places}
+
+-- ---- what resets see of a book
+
+-- the contacts that were asked for when there were so many crossings, newest first
+abbrev pub called_at : ℕ → List Called → List Event
+called_at place [] = []
+called_at place (x ∷ xs) = called_at place xs ++ (if x.place == place then Contact x.host x.peer ∷ [] else [])
+
+-- crossings and contacts in one list, newest first: a contact stands above the crossings that were before it
+abbrev pub events_in : List Called → List Crossing → List Event
+events_in contacts [] = called_at 0 contacts
+events_in contacts (c ∷ log) = called_at (length (c ∷ log)) contacts ++ event_of c ∷ events_in contacts log
+
+-- a box as the law of resets has it
+abbrev pub seen_box : ℕ → mail.Box → Box
+seen_box link mail.Empty = Empty
+seen_box link (mail.Waiting place text) = Waiting place (message_on link text)
+seen_box link (mail.Taken place text) = Taken place (message_on link text)
+
+-- ---- moments
+
+-- what crossed by these moments, newest first
+abbrev pub crossings_of : List Moment → List Crossing
+crossings_of [] = []
+crossings_of (Crossed c ∷ moments) = c ∷ crossings_of moments
+crossings_of (Asked h r ∷ moments) = crossings_of moments
+
+-- the contacts that were asked for, oldest first
+abbrev pub contacts_of : List Moment → List Called
+contacts_of [] = []
+contacts_of (Crossed c ∷ moments) = contacts_of moments
+contacts_of (Asked h r ∷ moments) = contacts_of moments ++ contacts_asked h (places moments) r
+
+-- a request names its peer by an address
+abbrev pub IsAddressed : Request → Type 0
+IsAddressed (request.Contact peer) = IsAddress peer
+IsAddressed (request.OpenSend peer own foreign size) = IsAddress peer
+IsAddressed (request.OpenReceive peer own foreign) = IsAddress peer
+IsAddressed (request.Echo peer octet) = IsAddress peer
+IsAddressed r = Unit {0}
+
+-- what a moment asks of those before it: what goes out is what its host's program says next, and users ask where hosts are up
+abbrev pub Happens : List Host → Moment → List Moment → Type 0
+Happens hosts (Crossed (crossing.Out m)) moments = next_out (program m.flow.source moments) ≡ Some m
+Happens hosts (Crossed c) moments = Unit {0}
+Happens hosts (Asked h r) moments = (is_up hosts h (crossings_of moments) ≡ true) × IsAddressed r
+
+abbrev pub IsTimeline : List Host → List Moment → Type 0
+IsTimeline hosts [] = Unit {0}
+IsTimeline hosts (x ∷ moments) = Happens hosts x moments × IsTimeline hosts moments

@@ -1,0 +1,35 @@
+-- Small books with resets in them: words for worked examples.
+use Rattle.std.specs.Prelude.{ℕ, List, [], ◌∷◌}
+use Rattle.leader1822.specs.Host.{Host}
+use Rattle.leader1822.specs.declared.crossing.Answer.TheVariants as answer
+use Rattle.leader1822.specs.declared.crossing.Crossing.{Crossing}
+use Rattle.leader1822.specs.declared.crossing.Crossing.TheVariants as crossing
+use Rattle.leader1822.specs.declared.message.HostMessage.{HostMessage}
+use Rattle.ncp_control.specs.Command.{spelling}
+use Rattle.ncp_control.specs.declared.command.Command.TheVariants as command
+use Rattle.sockets.specs.Control.{control_text}
+use Rattle.sockets.specs.Worked.{first, second, on_link}
+use Rattle.net_sim.specs.Book.{Called}
+use Rattle.net_sim.specs.Worked.{message}
+
+abbrev pub call : Host → ℕ → Host → Called
+call h place peer = record { host = h; place = place; peer = peer }
+
+abbrev pub rst : Host → Host → HostMessage
+rst from to = record { flow = on_link from to 0; text = control_text (spelling command.Rst) }
+
+abbrev pub rrp : Host → Host → HostMessage
+rrp from to = record { flow = on_link from to 0; text = control_text (spelling command.Rrp) }
+
+-- the first host's user asks for a contact with the second, and the whole reset crosses
+abbrev pub contacts : List Called
+contacts = call first 0 second ∷ []
+
+abbrev pub reset_on : List Crossing → List Crossing
+reset_on log =
+    crossing.In (rrp second first) ∷ crossing.Out (rrp second first) ∷ crossing.Answer answer.Rfnm (on_link first second 0) ∷ crossing.In (rst first second)
+    ∷ crossing.Out (rst first second) ∷ log
+
+-- a message of data from the second host to the first
+abbrev pub text : HostMessage
+text = message second first 2
