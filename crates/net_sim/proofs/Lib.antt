@@ -8,6 +8,10 @@ pub mod Unsafe
 pub mod SafeRow
 pub mod Refusals
 pub mod StoryLemmas
+pub mod LifeLoops
+pub mod InOrder
+pub mod SeatLemmas
+pub mod Ends
 pub mod Bridge
 pub mod Ordered
 pub mod Coupled

@@ -4,32 +4,16 @@ use Rattle.std.specs.Prelude.{ℕ, ◌+◌, ◌==◌, ◌&&◌, Bool, true, fals
 use Rattle.leader1822.specs.Host.{Host, same_host}
 use Rattle.leader1822.specs.declared.crossing.Crossing.{Crossing}
 use Rattle.leader1822.specs.declared.crossing.Crossing.TheVariants as crossing
+pub use Rattle.net_sim.specs.declared.book.Called.{Called}
+pub use Rattle.net_sim.specs.declared.book.Told.{Told}
+pub use Rattle.net_sim.specs.declared.life.Amount.{Amount}
+pub use Rattle.net_sim.specs.declared.life.Life.{Life}
 use Rattle.sockets.specs.declared.notice.Notice.{Notice}
 use Rattle.sockets.specs.declared.notice.Notice.TheVariants as notice
 use Rattle.sockets.specs.declared.request.Request.{Request}
 use Rattle.sockets.specs.declared.request.Request.TheVariants as request
 
 -- ---- lives
-
-pub record Amount : Type 0 where
-  pub messages : ℕ
-  pub bits : ℕ
-
--- one end of a connection from its opening on: its host and socket, and those of its partner; where its own request went out
--- and where its partner's was taken; what it has sent, or taken, in how many messages; what a receiver granted, and what was
--- returned to it; and whether it has ended
-pub record Life : Type 0 where
-  pub host : Host
-  pub socket : ℕ
-  pub peer : Host
-  pub foreign : ℕ
-  pub own_stamp : ℕ
-  pub partner_stamp : ℕ
-  pub bits : List Bool
-  pub messages : ℕ
-  pub granted : Amount
-  pub returned : Amount
-  pub ended : Bool
 
 abbrev pub nothing : Amount
 nothing = record { messages = 0; bits = 0 }
@@ -80,8 +64,12 @@ lives_with h peer x = same_host h x.host && same_host peer x.peer && not x.ended
 abbrev pub lives_on : Host → Life → Bool
 lives_on h x = same_host h x.host && not x.ended
 
+abbrev pub changed_when : Bool → (Life → Life) → Life → Life
+changed_when true change x = change x
+changed_when false change x = x
+
 abbrev pub where_it : (Life → Bool) → (Life → Life) → List Life → List Life
-where_it test change lives = map (λ x. if test x then change x else x) lives
+where_it test change lives = map (λ x. changed_when (test x) change x) lives
 
 -- what a notice of a host does to the lives: one begins when its end is open, and ends when its end does, or when all
 -- connections with its peer are gone
@@ -124,18 +112,6 @@ handed_asked h (request.Send socket bits) lives handed = handed_to (lives_at h s
 handed_asked h r lives handed = handed
 
 -- ---- the book
-
--- a host was told this when there were so many crossings
-pub record Told : Type 0 where
-  pub host : Host
-  pub place : ℕ
-  pub notice : Notice
-
--- the user of a host asked for a contact when there were so many crossings
-pub record Called : Type 0 where
-  pub host : Host
-  pub place : ℕ
-  pub peer : Host
 
 -- the crossings newest first; all else oldest first
 pub record Book : Type 0 where

@@ -5,6 +5,7 @@ pub mod World
 pub mod Carriers
 pub mod Worked
 pub mod Story
+pub mod Inside
 pub mod Timeline
 pub mod Whole
 pub mod Clean

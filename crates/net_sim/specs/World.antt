@@ -10,6 +10,11 @@ use Rattle.leader1822.specs.declared.crossing.Crossing.TheVariants as crossing
 use Rattle.leader1822.specs.declared.crossing.Inbound.{Inbound}
 use Rattle.leader1822.specs.declared.event.NetEvent.{NetEvent}
 use Rattle.leader1822.specs.declared.message.HostMessage.{HostMessage}
+pub use Rattle.net_sim.specs.declared.event.Event.{Event}
+pub use Rattle.net_sim.specs.declared.event.Event.TheVariants.{Net, Quiet, Offer, Take, Ask}
+pub use Rattle.net_sim.specs.declared.event.WorldFault.{WorldFault}
+pub use Rattle.net_sim.specs.declared.event.WorldFault.TheVariants.{Carrier, Program}
+pub use Rattle.net_sim.specs.declared.seat.Seat.{Seat}
 use Rattle.sockets.specs.Accepting.{accepted}
 use Rattle.sockets.specs.Pairs.{NcpState, opening_state}
 use Rattle.sockets.specs.Requests.{refusal, served, served_notices}
@@ -28,30 +33,7 @@ pub record Calls (C : Type 0) : Type 1 where
   pub steps : C → NetEvent → Result (Unit {0}) CarrierFault → C → Type 0
   pub rounds : C → Result (Unit {0}) CarrierFault → C → Type 0
 
--- what may happen
-pub data Event : Type 0 where
-  -- something inside the network, or to a host
-  Net : (event : NetEvent) → Event
-  -- a quiet round of the network
-  Quiet : Event
-  -- a host's next message goes to the network
-  Offer : (host : Host) → Event
-  -- a host takes what came for it
-  Take : (host : Host) → Event
-  -- a host's user asks for something
-  Ask : (host : Host) → (request : Request) → Event
-
--- why an event is refused: by the world or its carrier, or by the host's program
-pub data WorldFault : Type 0 where
-  Carrier : CarrierFault → WorldFault
-  Program : NcpFault → WorldFault
-
 -- ---- the hosts
-
--- a host of the network, and its program while it is up
-pub record Seat : Type 0 where
-  pub host : Host
-  pub program : Option NcpState
 
 abbrev pub opening_seats : List Host → List Seat
 opening_seats hosts = map (λ h. record { host = h; program = Some (opening_state h) }) hosts

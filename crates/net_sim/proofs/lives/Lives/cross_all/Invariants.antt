@@ -1,0 +1,6 @@
+use Rattle.std.proofs.Common.{◌≡◌, drop}
+use Rattle.net_sim.specs.Inside.Lives as all
+use Rattle.net_sim.proofs.lives.Lives.cross_all.Given as goal
+
+abbrev pub invariant-loop-crossing : goal.invariant-loop-crossing
+invariant-loop-crossing l = all.all_crossed (drop l.crossing-index l.crossings) l.self ≡ all.all_crossed l.crossings l.fn.self

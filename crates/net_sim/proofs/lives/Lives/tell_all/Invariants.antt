@@ -1,0 +1,6 @@
+use Rattle.std.proofs.Common.{◌≡◌, drop}
+use Rattle.net_sim.specs.Inside.Lives as all
+use Rattle.net_sim.proofs.lives.Lives.tell_all.Given as goal
+
+abbrev pub invariant-loop-one : goal.invariant-loop-one
+invariant-loop-one l = all.all_told (drop l.one-index l.told) l.self ≡ all.all_told l.told l.fn.self

@@ -1,0 +1,7 @@
+use Rattle.std.proofs.Common.{rules}
+use Rattle.net_sim.specs.Book.{lives_at, returned}
+use Rattle.net_sim.proofs.LifeLoops.{one_more}
+use Rattle.net_sim.proofs.lives.give_back.Goals as goal
+
+pub loop-life-preserved : goal.loop-life-preserved
+loop-life-preserved c = one_more (lives_at c.args.host c.args.socket) (returned c.args.messages c.args.bits) c.args.lives.now c.loop-life.lives c.loop-life.life-index c.life-item.result c.give_back_at.new.self (search rules) (search rules) c.loop-life.invariant (search rules)

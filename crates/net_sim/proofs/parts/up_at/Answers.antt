@@ -1,0 +1,22 @@
+use Rattle.std.proofs.Common.{rules, ◌≡◌, Some, refl, ap, ◌∙◌}
+use Rattle.sockets.proofs.EntryLemmas.{one_found, none_found}
+use Rattle.sockets.specs.Pairs.{NcpState}
+use Rattle.leader1822.specs.Host.{same_host}
+use Rattle.net_sim.specs.Inside.Parts.{NoSeat, NoProgram}
+use Rattle.net_sim.specs.World.{Seat}
+use Rattle.net_sim.proofs.SeatLemmas.{sits, some_program, no_program}
+use Rattle.net_sim.proofs.parts.up_at.Goals as goal
+
+pub returns-in_default : goal.returns-in_default
+returns-in_default c = NoSeat refl (none_found (λ (s : Seat). same_host c.args.host s.host) c.args.seats.now (search rules))
+
+pub returns-then-is_none : goal.returns-then-is_none
+returns-then-is_none c =
+    NoProgram c.index-seats-at.result refl
+    (one_found (λ (s : Seat). same_host c.args.host s.host) c.in-Some.at c.index-seats-at.result c.args.seats.now (search rules) ∙ ap (λ (x : Seat). Some x) (search rules))
+    (no_program c.index-seats-at.result.program (search rules))
+
+pub returns : goal.returns
+returns c =
+    let p : (s : NcpState) × c.index-seats-at.result.program ≡ Some s = some_program c.index-seats-at.result.program (search rules) in
+    (p.0, sits c.args.host c.in-Some.at c.index-seats-at.result p.0 c.args.seats.now c.requires.once (search rules) (search rules) (search rules) p.1)

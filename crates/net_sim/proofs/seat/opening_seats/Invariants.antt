@@ -1,0 +1,6 @@
+use Rattle.std.proofs.Common.{◌≡◌, take}
+use Rattle.net_sim.specs.World.{opening_seats}
+use Rattle.net_sim.proofs.seat.opening_seats.Given as goal
+
+abbrev pub invariant-loop-host : goal.invariant-loop-host
+invariant-loop-host l = l.seats.items ≡ opening_seats (take l.host-index l.hosts)

@@ -1,0 +1,9 @@
+use Rattle.std.proofs.Common.{rules, Some}
+use Rattle.leader1822.specs.Host.{same_host}
+use Rattle.net_sim.specs.World.{Seat, with_program}
+use Rattle.net_sim.proofs.LifeLoops.{one_changed}
+use Rattle.sockets.specs.Pairs.{opening_state}
+use Rattle.net_sim.proofs.seat.start.Goals as goal
+
+pub loop-seat-preserved : goal.loop-seat-preserved
+loop-seat-preserved c = one_changed (λ (s : Seat). with_program (same_host c.args.host s.host) (Some (opening_state c.args.host)) s) c.args.seats.now c.loop-seat.seats c.loop-seat.seat-index c.seat-item.result c.start.new.self (search rules) (search rules) c.loop-seat.invariant (search rules)

@@ -1,0 +1,6 @@
+use Rattle.std.proofs.Common.{◌≡◌, ◌++◌, take, drop, None}
+use Rattle.net_sim.specs.World.{seated}
+use Rattle.net_sim.proofs.seat.stop.Given as goal
+
+abbrev pub invariant-loop-seat : goal.invariant-loop-seat
+invariant-loop-seat l = l.seats ≡ seated l.host None (take l.seat-index l.fn.seats) ++ drop l.seat-index l.fn.seats

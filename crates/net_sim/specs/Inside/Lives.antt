@@ -1,0 +1,62 @@
+-- What happens to the lives and to what was handed over, apart from all else that is kept.
+use Rattle.std.specs.Prelude.{ℕ, Bool, List, [], ◌∷◌, ◌++◌, Option, Some, None, reverse}
+use Rattle.leader1822.specs.Host.{Host}
+use Rattle.leader1822.specs.declared.crossing.Crossing.{Crossing}
+use Rattle.sockets.specs.declared.notice.Notice.{Notice}
+use Rattle.sockets.specs.declared.request.Request.{Request}
+use Rattle.net_sim.specs.Book.{Life, Told, Called, Kept, lives_crossed, lives_told, lives_asked, handed_told, handed_asked}
+
+pub record LivesState : Type 0 where
+  pub lives : List Life
+  pub handed : List (List Bool)
+
+abbrev pub none : LivesState
+none = record { lives = []; handed = [] }
+
+abbrev pub of_kept : Kept → LivesState
+of_kept k = record { lives = k.book.lives; handed = k.handed }
+
+abbrev pub begun : Life → LivesState → LivesState
+begun x l = record { lives = l.lives ++ x ∷ []; handed = l.handed ++ [] ∷ [] }
+
+abbrev pub crossed : Crossing → LivesState → LivesState
+crossed c l = record { lives = lives_crossed c l.lives; handed = l.handed }
+
+abbrev pub told : Host → Notice → LivesState → LivesState
+told h n l = record { lives = lives_told h n l.lives; handed = handed_told n l.handed }
+
+abbrev pub asked : Host → Request → LivesState → LivesState
+asked h r l = record { lives = lives_asked h r l.lives; handed = handed_asked h r l.lives l.handed }
+
+-- in the order in which they stand
+abbrev pub all_crossed : List Crossing → LivesState → LivesState
+all_crossed [] l = l
+all_crossed (c ∷ cs) l = all_crossed cs (crossed c l)
+
+abbrev pub all_told : List Told → LivesState → LivesState
+all_told [] l = l
+all_told (t ∷ ts) l = all_told ts (told t.host t.notice l)
+
+abbrev pub asked_by : Option (Host × Request) → LivesState → LivesState
+asked_by None l = l
+asked_by (Some a) l = asked a.0 a.1 l
+
+-- what crossed, what a user asked for, and what users were told
+abbrev pub followed : List Crossing → Option (Host × Request) → List Told → LivesState → LivesState
+followed cs a ts l = all_told ts (asked_by a (all_crossed cs l))
+
+-- all of that, written down, with the contacts among what was asked for
+abbrev pub written : List Crossing → Option (Host × Request) → List Called → List Told → Kept → Kept
+written cs a calls ts k = record {
+  book = record {
+    crossings = reverse cs ++ k.book.crossings;
+    notices = k.book.notices ++ ts;
+    contacts = k.book.contacts ++ calls;
+    lives = (followed cs a ts (of_kept k)).lives;
+  };
+  handed = (followed cs a ts (of_kept k)).handed;
+}
+
+-- what a host was told when there were so many crossings
+abbrev pub told_at : Host → ℕ → Notice → Told
+told_at h place n = record { host = h; place = place; notice = n }

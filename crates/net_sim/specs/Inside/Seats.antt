@@ -1,0 +1,9 @@
+-- The hosts, crossing by crossing.
+use Rattle.std.specs.Prelude.{List, [], ◌∷◌}
+use Rattle.leader1822.specs.declared.crossing.Crossing.{Crossing}
+use Rattle.net_sim.specs.World.{Seat, turned}
+
+-- the crossings oldest first
+abbrev pub turned_in_order : List Crossing → List Seat → List Seat
+turned_in_order [] seats = seats
+turned_in_order (c ∷ cs) seats = turned_in_order cs (turned c seats)

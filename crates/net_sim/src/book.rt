@@ -1,0 +1,142 @@
+//! What a world writes down.
+
+ghost use Rattle.std.specs.Prelude.{◌≡◌, OnErr, OnOk, reverse};
+ghost use Rattle.net_sim.specs.Book.{opening_kept};
+ghost use Rattle.net_sim.specs.Inside.Lives.{written};
+
+use crate::life::Life;
+use crate::lives::Lives;
+use bit_messages::Bits;
+use leader1822::{Crossing, HostAddr};
+use sockets::{Notice, Request};
+use std::alloc::{AllocError, Global};
+use std::marker::Model;
+use std::mem;
+
+/// Something that the user of a host was told.
+#[derive(Debug, Drop)]
+pub struct Told {
+    /// The host.
+    pub host: HostAddr,
+    /// How many crossings there were.
+    pub place: usize,
+    /// What it was told.
+    pub notice: Notice,
+}
+
+/// A contact that the user of a host asked for.
+#[derive(Clone, Copy, Debug, PartialEq, Eq)]
+pub struct Called {
+    /// The host.
+    pub host: HostAddr,
+    /// How many crossings there were.
+    pub place: usize,
+    /// With whom.
+    pub peer: HostAddr,
+}
+
+/// What a world writes down: all that crossed, what users were told, the contacts that they asked for, a life for
+/// each opened end of a connection, and what was handed over to be sent in each. All of them stand in their order,
+/// the oldest first.
+///
+/// What is written at one time is written whole or not at all. So the lives are kept twice: those that are shown,
+/// and a spare copy, in which changes are tried first.
+#[derive(Drop)]
+pub struct Book {
+    crossings: Vec<Crossing>,
+    notices: Vec<Told>,
+    contacts: Vec<Called>,
+    shown: Lives,
+    spare: Lives,
+    stale: bool,
+}
+
+impl Model for Book {
+    ghost use Rattle.std.specs.Prelude.{◌≡◌, false, reverse};
+    ghost use Rattle.net_sim.specs.Book.{Kept};
+
+    ghost Value = { Kept };
+
+    ghost view = { λ b. record { book = record { crossings = reverse b.crossings.items; notices = b.notices.items; contacts = b.contacts.items; lives = b.shown.lives }; handed = b.shown.handed } };
+
+    ghost invariant = { λ b. b.stale ≡ false → b.spare ≡ b.shown };
+}
+
+impl Book {
+    /// Nothing has happened.
+    pub(crate) fn new(alloc: Global) -> Book
+        ensures { result ≡ opening_kept }
+    {
+        Book {
+            crossings: Vec::new(alloc),
+            notices: Vec::new(alloc),
+            contacts: Vec::new(alloc),
+            shown: Lives::new(alloc),
+            spare: Lives::new(alloc),
+            stale: false,
+        }
+    }
+
+    /// All that crossed.
+    pub fn crossings(&self) -> &[Crossing]
+        ensures { result.now ≡ reverse self.now.book.crossings }
+    {
+        &self.crossings
+    }
+
+    /// What users were told.
+    pub fn notices(&self) -> &[Told]
+        ensures { result.now ≡ self.now.book.notices }
+    {
+        &self.notices
+    }
+
+    /// The contacts that users asked for.
+    pub fn contacts(&self) -> &[Called]
+        ensures { result.now ≡ self.now.book.contacts }
+    {
+        &self.contacts
+    }
+
+    /// The lives of connections.
+    pub fn lives(&self) -> &[Life]
+        ensures { result.now ≡ self.now.book.lives }
+    {
+        self.shown.lives()
+    }
+
+    /// What was handed over to be sent, a list of bits for each life.
+    pub fn handed(&self) -> &[Bits]
+        ensures { result.now ≡ self.now.handed }
+    {
+        self.shown.handed()
+    }
+
+    /// Writes down, in this order, what crossed, what a user asked for and whether that is a contact, and what users
+    /// were told.
+    pub(crate) fn write(
+        &mut self,
+        mut crossings: Vec<Crossing>,
+        asked: &Option<(HostAddr, Request)>,
+        mut called: Vec<Called>,
+        mut told: Vec<Told>,
+    ) -> Result<(), AllocError>
+        ensures done { OnOk result (self.new ≡ written crossings.items asked.now called.items told.items self.old) }
+        ensures kept { OnErr result (self.new ≡ self.old) }
+    {
+        if self.stale {
+            return Err(AllocError);
+        }
+        self.stale = true;
+        self.spare.follow(&crossings, asked, &told)?;
+        self.crossings.reserve(crossings.len())?;
+        self.contacts.reserve(called.len())?;
+        self.notices.reserve(told.len())?;
+        mem::swap(&mut self.shown, &mut self.spare);
+        self.stale = self.spare.follow(&crossings, asked, &told).is_err();
+        self.crossings.append(&mut crossings)?;
+        self.contacts.append(&mut called)?;
+        self.notices.append(&mut told)?;
+        Ok(())
+    }
+}

@@ -1,0 +1,204 @@
+//! Lives of connections: each opened end, from its opening on.
+
+ghost use Rattle.std.specs.Prelude.{◌≡◌, ◌++◌, if◌then◌else◌, OnOk};
+ghost use Rattle.net_sim.specs.Book as book;
+ghost use Rattle.net_sim.specs.Book.{lives_at, lives_between, lives_with, lives_on, changed_when};
+
+use bit_messages::Bits;
+use leader1822::HostAddr;
+use std::alloc::{AllocError, Global};
+
+/// So many messages, and so many bits in all.
+#[derive(Clone, Copy, Debug, PartialEq, Eq)]
+pub struct Amount {
+    /// How many messages.
+    pub messages: u128,
+    /// How many bits.
+    pub bits: u128,
+}
+
+impl Amount {
+    /// Nothing.
+    pub(crate) fn nothing() -> Amount
+        ensures { result ≡ book.nothing }
+    {
+        Amount {
+            messages: 0,
+            bits: 0,
+        }
+    }
+
+    /// So much more. A count that can't be held is want of memory.
+    fn add(&mut self, messages: u16, bits: u32) -> Result<(), AllocError>
+        ensures { OnOk result (self.new ≡ book.more messages bits self.old) }
+    {
+        let Some(messages) = self.messages.checked_add(u128::from(messages)) else {
+            return Err(AllocError);
+        };
+        let Some(bits) = self.bits.checked_add(u128::from(bits)) else {
+            return Err(AllocError);
+        };
+        self.messages = messages;
+        self.bits = bits;
+        Ok(())
+    }
+}
+
+/// One end of a connection from its opening on (NIC 8246). It begins where the user of its host is told that the
+/// end is open, and ends where that user is told that the end is over, or that all connections with its peer are
+/// gone, or where its host stops. Stamps are places in the log.
+#[derive(Debug, Drop)]
+pub struct Life {
+    /// The host whose end it is.
+    pub host: HostAddr,
+    /// Its socket: an even one receives, an odd one sends.
+    pub socket: u32,
+    /// The host of its partner.
+    pub peer: HostAddr,
+    /// The socket of its partner.
+    pub foreign: u32,
+    /// Where its own request went out.
+    pub own_stamp: usize,
+    /// Where the request of its partner was taken.
+    pub partner_stamp: usize,
+    /// What it has sent, or taken, in order.
+    pub bits: Bits,
+    /// How many messages that was.
+    pub messages: u128,
+    /// What the user of a receiving end granted to its sender.
+    pub granted: Amount,
+    /// What was returned of that.
+    pub returned: Amount,
+    /// Whether it has ended.
+    pub ended: bool,
+}
+
+impl Life {
+    /// Whether it is the life of this host's socket: one that has ended is not.
+    fn is_at(&self, host: HostAddr, socket: u32) -> bool
+        ensures { result ≡ lives_at host socket self.now }
+    {
+        host == self.host && self.socket == socket && !self.ended
+    }
+
+    /// Whether it is the life of this end.
+    fn is_between(&self, host: HostAddr, socket: u32, peer: HostAddr, foreign: u32) -> bool
+        ensures { result ≡ lives_between host socket peer foreign self.now }
+    {
+        self.is_at(host, socket) && peer == self.peer && self.foreign == foreign
+    }
+
+    /// Whether it is a life of this host with this peer.
+    fn is_with(&self, host: HostAddr, peer: HostAddr) -> bool
+        ensures { result ≡ lives_with host peer self.now }
+    {
+        host == self.host && peer == self.peer && !self.ended
+    }
+
+    /// Whether it is a life of this host.
+    fn is_on(&self, host: HostAddr) -> bool
+        ensures { result ≡ lives_on host self.now }
+    {
+        host == self.host && !self.ended
+    }
+
+    /// It ends, where this is its end.
+    pub(crate) fn end_between(&mut self, host: HostAddr, socket: u32, peer: HostAddr, foreign: u32)
+        ensures { self.new ≡ changed_when (lives_between host socket peer foreign self.old) book.ended self.old }
+    {
+        if self.is_between(host, socket, peer, foreign) {
+            self.ended = true;
+        }
+    }
+
+    /// It ends, where it is a life of this host with this peer.
+    pub(crate) fn end_with(&mut self, host: HostAddr, peer: HostAddr)
+        ensures { self.new ≡ changed_when (lives_with host peer self.old) book.ended self.old }
+    {
+        if self.is_with(host, peer) {
+            self.ended = true;
+        }
+    }
+
+    /// It ends, where it is a life of this host.
+    pub(crate) fn end_on(&mut self, host: HostAddr)
+        ensures { self.new ≡ changed_when (lives_on host self.old) book.ended self.old }
+    {
+        if self.is_on(host) {
+            self.ended = true;
+        }
+    }
+
+    /// A message more was sent or taken at a socket, with these bits: in this life, where it is that of the socket.
+    pub(crate) fn carry_at(
+        &mut self,
+        host: HostAddr,
+        socket: u32,
+        bits: &Bits,
+    ) -> Result<(), AllocError>
+        ensures { OnOk result (self.new ≡ changed_when (lives_at host socket self.old) (book.carried bits.now) self.old) }
+    {
+        if !self.is_at(host, socket) {
+            return Ok(());
+        }
+        let Some(messages) = self.messages.checked_add(1) else {
+            return Err(AllocError);
+        };
+        let Ok(()) = self.bits.append(bits) else {
+            return Err(AllocError);
+        };
+        self.messages = messages;
+        Ok(())
+    }
+
+    /// So much more was granted at a socket.
+    pub(crate) fn grant_at(
+        &mut self,
+        host: HostAddr,
+        socket: u32,
+        messages: u16,
+        bits: u32,
+    ) -> Result<(), AllocError>
+        ensures { OnOk result (self.new ≡ changed_when (lives_at host socket self.old) (book.granted messages bits) self.old) }
+    {
+        if !self.is_at(host, socket) {
+            return Ok(());
+        }
+        self.granted.add(messages, bits)
+    }
+
+    /// So much more was returned at a socket.
+    pub(crate) fn give_back_at(
+        &mut self,
+        host: HostAddr,
+        socket: u32,
+        messages: u16,
+        bits: u32,
+    ) -> Result<(), AllocError>
+        ensures { OnOk result (self.new ≡ changed_when (lives_at host socket self.old) (book.returned messages bits) self.old) }
+    {
+        if !self.is_at(host, socket) {
+            return Ok(());
+        }
+        self.returned.add(messages, bits)
+    }
+
+    /// Bits more were handed over to be sent at a socket.
+    pub(crate) fn hand_at(
+        &self,
+        host: HostAddr,
+        socket: u32,
+        bits: &Bits,
+        handed: &mut Bits,
+    ) -> Result<(), AllocError>
+        ensures { OnOk result (handed.new ≡ (if lives_at host socket self.now then handed.old ++ bits.now else handed.old)) }
+    {
+        if !self.is_at(host, socket) {
+            return Ok(());
+        }
+        let Ok(()) = handed.append(bits) else {
+            return Err(AllocError);
+        };
+        Ok(())
+    }
+}

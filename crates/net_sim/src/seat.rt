@@ -1,0 +1,93 @@
+//! Where a host's program runs.
+
+ghost use Rattle.std.specs.Prelude.{◌≡◌, None, Some, IfOk};
+ghost use Rattle.leader1822.specs.Host.{same_host};
+ghost use Rattle.net_sim.specs.Inside.Seats.{turned_in_order};
+ghost use Rattle.net_sim.specs.World as world;
+ghost use Rattle.sockets.specs.Pairs.{opening_state};
+
+use leader1822::{Crossing, HostAddr};
+use sockets::Ncp;
+use std::alloc::{AllocError, Global};
+
+/// A host of the network, and its program while it is up.
+#[derive(Drop)]
+pub struct Seat {
+    /// The host.
+    pub host: HostAddr,
+    /// Its network control program; none while it is down.
+    pub program: Option<Ncp>,
+}
+
+impl Seat {
+    /// Its host stops, where this is the host: it loses its program.
+    fn stop(&mut self, host: HostAddr)
+        ensures { self.new ≡ world.with_program (same_host host self.old.host) None self.old }
+    {
+        if host == self.host {
+            self.program = None;
+        }
+    }
+
+    /// Its host starts, where this is the host: it has a new program.
+    fn start(&mut self, alloc: Global, host: HostAddr)
+        ensures { self.new ≡ world.with_program (same_host host self.old.host) (Some (opening_state host)) self.old }
+    {
+        if host == self.host {
+            self.program = Some(Ncp::new(alloc, host));
+        }
+    }
+}
+
+/// A seat for each host, each with a program that has just come up.
+pub(crate) fn opening_seats(alloc: Global, hosts: &[HostAddr]) -> Result<Vec<Seat>, AllocError>
+    ensures { IfOk result (λ seats. seats.items ≡ world.opening_seats hosts.now) }
+{
+    let mut seats = Vec::new(alloc);
+    for host in hosts {
+        let program = Some(Ncp::new(alloc, *host));
+        seats.push(Seat {
+            host: *host,
+            program,
+        })?;
+    }
+    Ok(seats)
+}
+
+/// A host stops.
+fn stop(seats: &mut [Seat], host: HostAddr)
+    ensures { seats.new ≡ world.seated host None seats.old }
+{
+    for seat in seats.iter_mut() {
+        seat.stop(host);
+    }
+}
+
+/// A host starts.
+fn start(alloc: Global, seats: &mut [Seat], host: HostAddr)
+    ensures { seats.new ≡ world.seated host (Some (opening_state host)) seats.old }
+{
+    for seat in seats.iter_mut() {
+        seat.start(alloc, host);
+    }
+}
+
+/// A host that stops loses its program, and one that starts has a new one.
+fn turn(alloc: Global, seats: &mut [Seat], crossing: &Crossing)
+    ensures { seats.new ≡ world.turned crossing.now seats.old }
+{
+    match crossing {
+        Crossing::Down(host) => stop(seats, *host),
+        Crossing::Up(host) => start(alloc, seats, *host),
+        Crossing::Out(_) | Crossing::In(_) | Crossing::Answer(..) => {}
+    }
+}
+
+/// The same, crossing by crossing.
+pub(crate) fn turn_all(alloc: Global, seats: &mut [Seat], crossings: &[Crossing])
+    ensures { seats.new ≡ turned_in_order crossings.now seats.old }
+{
+    for crossing in crossings {
+        turn(alloc, seats, crossing);
+    }
+}
