@@ -19,7 +19,8 @@ def with_driver(folder, source, crate, uses):
     """Puts a driver of `tools` into a folder, and the crates that it stands on: `crate` and what is below, and `uses`."""
     with open(f"{ROOT}/crates.txt", encoding="utf-8") as file:
         lines = dict(line.strip().split(":") for line in file if line.strip() and not line.startswith("#"))
-    needed = crates_below({name: below.split() for name, below in lines.items()}, crate)
+    below = {name: below.split() for name, below in lines.items()}
+    needed = [*dict.fromkeys(it for name in [crate, *uses.split()] for it in crates_below(below, name))]
     for name in needed:
         shutil.copytree(f"{ROOT}/crates/{name}", f"{folder}/crates/{name}", ignore=shutil.ignore_patterns("out"))
     driver = source.removesuffix(".rs").replace("-", "_")

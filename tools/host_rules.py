@@ -5,7 +5,7 @@ definitions: what a host keeps is changed in place, and messages and commands ar
 `check-hosts` compares the code with it.
 """
 
-from imp_rules import address, octets, spell_host
+from imp_rules import Refused, address, octets, spell_host
 
 NOP, RTS, STR, CLS, ALL, GVB, RET, INR, INS, ECO, ERP, ERR, RST, RRP = range(14)
 LENGTHS = {NOP: 1, RTS: 10, STR: 10, CLS: 9, ALL: 8, GVB: 4, RET: 8, INR: 2, INS: 2, ECO: 2, ERP: 2, ERR: 12, RST: 1, RRP: 1}
@@ -67,10 +67,6 @@ def split(text):
 # ---- what a host keeps
 
 
-class Refused(Exception):
-    """A call that the program refuses, by its reason's name."""
-
-
 class End:
     """One end of a connection: an own socket, a peer, a foreign socket."""
 
@@ -126,6 +122,8 @@ class Pair:
 class Host:
     """The program of one host. Each call gives its notices."""
 
+    make_pair, make_end = Pair, End
+
     def __init__(self, own):
         self.own = own
         self.pairs = {}
@@ -161,7 +159,7 @@ class Host:
         self.check_open(peer, own, foreign, 1)
         if size == 0:
             raise Refused("BadSize")
-        self.ask_to_send(self.pair(peer), End(own, foreign, True), size)
+        self.ask_to_send(self.pair(peer), self.make_end(own, foreign, True), size)
         return []
 
     def open_receive(self, peer, own, foreign):
@@ -170,7 +168,7 @@ class Host:
         link = pair.free_link()
         if link is None:
             raise Refused("NoLink")
-        self.ask_to_receive(pair, End(own, foreign, True), link)
+        self.ask_to_receive(pair, self.make_end(own, foreign, True), link)
         return []
 
     def send(self, socket, bits):
@@ -226,7 +224,7 @@ class Host:
     # ---- what is known
 
     def pair(self, peer):
-        return self.pairs.setdefault(peer, Pair())
+        return self.pairs.setdefault(peer, self.make_pair())
 
     def phase(self, peer):
         return self.pairs[peer].phase if peer in self.pairs else CLOSED
@@ -458,7 +456,7 @@ class Host:
         if end is None and own not in self.listening:
             return self.refuse(pair, own, foreign)
         if end is None:
-            end = End(own, foreign, True)
+            end = self.make_end(own, foreign, True)
             self.ask_to_send(pair, end, self.listening.pop(own))
         elif end.asked:
             return ERRONEOUS
@@ -474,7 +472,7 @@ class Host:
             return self.refuse(pair, own, foreign)
         if end is None:
             del self.listening[own]
-            end = End(own, foreign, True)
+            end = self.make_end(own, foreign, True)
             self.ask_to_receive(pair, end, link)
         elif end.asked:
             return ERRONEOUS
@@ -487,7 +485,7 @@ class Host:
         self.tell_opening(peer, end)
 
     def refuse(self, pair, own, foreign):
-        end = End(own, foreign, False)
+        end = self.make_end(own, foreign, False)
         end.asked = end.close_asked = end.close_queued = True
         pair.ends.append(end)
         pair.queue.append(bytes([CLS]) + number(own, 4) + number(foreign, 4))

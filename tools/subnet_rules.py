@@ -4,21 +4,26 @@ It was written from docs/subnet.md over the second reading of one IMP, in anothe
 definitions. `check-model` compares the program with it. Each event prints what crosses, or why it is refused.
 """
 
-from imp_rules import DATA, Imp, Refused, spell_flow, spell_host
+from crossings import Crossed
+from imp_rules import DATA, Imp, Refused
 
 PLACES = 256  # frames that are live on a line, each way
 TAKES = 16  # takings of a host in a round of `calm`
 
 
-class Subnet:
+class Subnet(Crossed):
     """IMPs by number, and lines with the frames that are live each way, the oldest first."""
 
     def __init__(self, imps, lines):
+        super().__init__()
         self.sites = dict(sorted(imps))
         self.ends = lines
         self.imps = {number: self.imp_of(number) for number in self.sites}
         self.live = [{"+": [], "-": []} for _ in lines]
-        self.printed = []
+
+    def hosts(self):
+        """All hosts in order of IMP and host."""
+        return [(host, number) for number, count in self.sites.items() for host in range(count)]
 
     def imp_of(self, number):
         return Imp(number, self.sites[number], sum(number in ends for ends in self.ends))
@@ -85,13 +90,6 @@ class Subnet:
 
     # ---- events
 
-    def happen(self, kind, *parts):
-        """Lets an event happen, and prints what crosses or why it is refused."""
-        try:
-            getattr(self, kind)(*parts)
-        except Refused as refused:
-            self.printed.append(f"refused {refused}")
-
     def out(self, flow, text):
         source = flow[0]
         self.host(source)
@@ -101,20 +99,18 @@ class Subnet:
                 raise Refused("StillAlive")
         self.up(source[1])
         self.call(source[1], lambda imp: imp.from_host(flow, text))
-        self.printed.append(f"out {spell_flow(flow)} {len(text)}")
+        self.cross("out", flow, text)
 
     def take(self, host):
-        """Whether something was there."""
+        """What the host takes: an answer and its flow, a message with its flow and text, or nothing."""
         self.host(host)
         self.up(host[1])
         given = self.call(host[1], lambda imp: imp.to_host(host[0]))
-        if given is None:
-            return False
-        if given[0] == "message":
-            self.printed.append(f"in {spell_flow(given[1])} {len(given[2])}")
-        else:
-            self.printed.append(f"answer {given[0]} {spell_flow(given[1])}")
-        return True
+        if given is not None and given[0] == "message":
+            self.cross("in", *given[1:])
+        elif given is not None:
+            self.cross("answer", *given)
+        return given
 
     def deliver(self, line, direction, place):
         way = self.way(line, direction)
@@ -155,7 +151,7 @@ class Subnet:
         self.site(number)
         for place, host in enumerate(self.up(number).hosts):
             if host.is_up:
-                self.printed.append(f"down {spell_host((place, number))}")
+                self.cross("down", (place, number))
         self.imps[number] = None
 
     def impup(self, number):
@@ -174,13 +170,13 @@ class Subnet:
         self.host(host)
         self.up(host[1])
         self.call(host[1], lambda imp: imp.host_down(host[0]))
-        self.printed.append(f"down {spell_host(host)}")
+        self.cross("down", host)
 
     def hostup(self, host):
         self.host(host)
         self.up(host[1])
         self.call(host[1], lambda imp: imp.host_up(host[0]))
-        self.printed.append(f"up {spell_host(host)}")
+        self.cross("up", host)
 
     def giveup(self, flow):
         source = flow[0]
@@ -207,6 +203,10 @@ class Subnet:
         self.call(flow[1][1], lambda imp: imp.abandon(flow))
 
     # ---- rounds
+
+    def is_quiet(self):
+        """Whether a quiet round is known to change nothing."""
+        return False
 
     def quiet_round(self):
         for number, imp in self.imps.items():

@@ -1,15 +1,18 @@
 -- Why octets are no input.
 use Rattle.std.proofs.Common.{◌≡◌, List, ℕ, IsUtf8, Option, Some, None, IfSome, Result, Ok, Err, IfErr, MatchResult, inr, refl, subst, sym}
 use Rattle.script.specs.Input.{IsParted}
-use Rattle.script.specs.declared.event.Event.{Event}
 use Rattle.topology.specs.Topology.{TopologyFields}
-use Rattle.command_line.specs.Replayable.{IsReplayable}
+use Rattle.command_line.specs.Described.{Describes}
+use Rattle.command_line.specs.Events.{Asked}
 use Rattle.command_line.specs.Input.{IsInput, IsInputFault, IsSomeInput}
 use Rattle.command_line.specs.Steps.{IsNetworkFault, IsReplayFault}
+use Rattle.replay.specs.declared.events.ReplayFault.{ReplayFault}
+use Rattle.replay.specs.declared.events.ReplayFault.TheVariants as replay
+use Rattle.command_line.specs.Faults.{told_as}
 use Rattle.command_line.specs.declared.fault.ScriptFault.{ScriptFault}
 use Rattle.command_line.specs.declared.fault.ScriptFault.TheVariants as fault
 
-pub network_fault : (octets document script : List ℕ) (f : ScriptFault) → IsParted octets document script → IsNetworkFault f → (f ≡ fault.BadTopology → IsUtf8 document → (t : TopologyFields) → ¬ (IsReplayable document t)) → IsInputFault octets f
+pub network_fault : (octets document script : List ℕ) (f : ScriptFault) → IsParted octets document script → IsNetworkFault f → (f ≡ fault.BadTopology → IsUtf8 document → (t : TopologyFields) → ¬ (Describes document t)) → IsInputFault octets f
 network_fault octets document script fault.BadTopology parted known refused = inr (inr (record { document = document; script = script; parted = parted; unfit = refused refl }))
 network_fault octets document script fault.OutOfMemory parted known refused = tt
 network_fault octets document script fault.CannotRead parted known refused = absurd known
@@ -27,7 +30,7 @@ after_reading octets (Err fault.CannotRead) read known = absurd known
 after_reading octets (Err fault.BadOptions) read known = absurd known
 after_reading octets (Err (fault.BadLine number)) read known = absurd known
 
-pub known_read : (known : Option (List ℕ)) (octets : List ℕ) (network : TopologyFields) (events : List Event) (r : Result (Unit {0}) ScriptFault)
+pub known_read : (known : Option (List ℕ)) (octets : List ℕ) (network : TopologyFields) (events : Asked) (r : Result (Unit {0}) ScriptFault)
     → IfSome known (λ k. octets ≡ k) → IsInput octets network events → IfErr r IsReplayFault → IfSome known (λ k. MatchResult r (λ done. IsSomeInput k) (IsInputFault k))
 known_read None octets network events r same read known = tt
 known_read (Some k) octets network events r same read known = after_reading k r (network, events, subst (λ o. IsInput o network events) same read) known
@@ -35,3 +38,11 @@ known_read (Some k) octets network events r same read known = after_reading k r 
 pub write_fault : (r : Result (Unit {0}) ScriptFault) → IfErr r (λ f. f ≡ fault.CannotWrite) → IfErr r IsReplayFault
 write_fault (Ok done) h = tt
 write_fault (Err f) h = subst IsReplayFault (sym h) tt
+
+abbrev ends_with : ScriptFault → Result (Unit {0}) ScriptFault
+ends_with f = Err f
+
+-- only want of memory is told as want of memory
+pub told_memory : (f : ReplayFault) (g : ScriptFault) → g ≡ told_as f → ends_with g ≡ ends_with fault.OutOfMemory → f ≡ replay.OutOfMemory
+told_memory replay.OutOfMemory g told is = refl
+told_memory replay.CannotWrite g told is = cc

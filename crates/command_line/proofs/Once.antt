@@ -1,14 +1,22 @@
 -- An input leaves a replay no choice.
-use Rattle.std.proofs.Common.{◌≡◌, List, ◌++◌, Some, codes, sym, ap, subst, ◌∙◌, ℕ}
+use Rattle.std.proofs.Common.{◌≡◌, Bool, List, ◌++◌, Some, codes, sym, ap, ap₂, subst, ◌∙◌, ℕ}
 use Rattle.std.proofs.lemmas.List.{append_assoc}
-use Rattle.replay.specs.Output.{Shown, Writes, output}
+use Rattle.net_sim.specs.Carriers.{shown}
+use Rattle.net_sim.specs.World.{WorldState, opening_world}
+use Rattle.net_sim.specs.declared.life.Life.{Life}
+use Rattle.replay.specs.Output.{Shown, output}
 use Rattle.replay.specs.Replay.{Calls}
 use Rattle.replay.specs.Settled.{AreSettled}
 use Rattle.topology.specs.Topology.{TopologyFields}
 use Rattle.topology.specs.declared.network.CarrierKind.{CarrierKind}
 use Rattle.topology.specs.declared.network.CarrierKind.TheVariants as kind
-use Rattle.command_line.specs.Carriers.{plain_calls, plain_of, subnet_calls, subnet_of}
-use Rattle.command_line.specs.Replayed.{ReplaysInput, Shows, ShowsFrom, ShowsOver, Stops, StopsFrom, StopsInput, StopsOver, WritesAll}
+use Rattle.world_replay.specs.Output as lines
+use Rattle.world_replay.proofs.News as lines_of
+use Rattle.world_replay.proofs.Replays as worlds
+use Rattle.world_script.specs.declared.event.WorldEvent.{WorldEvent}
+use Rattle.command_line.specs.Carriers.{hosting, plain_calls, plain_of, subnet_calls, subnet_of}
+use Rattle.command_line.specs.Events.{Asked, Raw, World}
+use Rattle.command_line.specs.Replayed.{EndsFrom, EndsOn, EndsOver, ReplaysFrom, ReplaysInput, ReplaysOn, ReplaysOver, ShowsFrom, StopsFrom, StopsInput, WorldShowsFrom, WorldStopsFrom, book_text}
 use Rattle.script.specs.declared.event.Event.{Event}
 use Rattle.command_line.proofs.OneInput.{OneInput, input_once}
 use Rattle.command_line.proofs.Settled.{plain_settled, subnet_settled}
@@ -18,51 +26,74 @@ use Rattle.replay.proofs.Shown.{output-append}
 
 -- ---- a whole replay
 
-from_once : {C : Type 0} (calls : Calls C) → AreSettled calls → (opening : C) (events : List Event) (shown more : List Shown) → ShowsFrom calls opening events shown → ShowsFrom calls opening events more → shown ≡ more
-from_once calls settled opening events shown more h k =
+raw_once : {C : Type 0} (calls : Calls C) → AreSettled calls → (opening : C) (events : List Event) (shown more : List Shown) → ShowsFrom calls opening events shown → ShowsFrom calls opening events more → shown ≡ more
+raw_once calls settled opening events shown more h k =
     let one : OneReplay h.last k.last shown more = replays_once calls settled opening events h.last k.last shown more h.replayed k.replayed in
     one.lines
 
-over_once : (carrier : CarrierKind) (network : TopologyFields) (events : List Event) (shown more : List Shown) → ShowsOver carrier network events shown → ShowsOver carrier network events more → shown ≡ more
-over_once kind.Plain network events shown more h k = from_once plain_calls plain_settled (plain_of network) events shown more h k
-over_once kind.Subnet network events shown more h k = from_once subnet_calls subnet_settled (subnet_of network) events shown more h k
+world_once : {C : Type 0} (calls : Calls C) → AreSettled calls → (opening : C) (events : List WorldEvent) (lives others : List Life) (shows more : List lines.Shown) → WorldShowsFrom (hosting calls) opening events lives shows
+    → WorldShowsFrom (hosting calls) opening events others more → (lives ≡ others) × (shows ≡ more)
+world_once {C} calls settled opening events lives others shows more h k =
+    let one : (h.last ≡ k.last) × (shows ≡ more) = worlds.one_replay (hosting calls) settled (opening_world (shown (hosting calls)) opening) h.last k.last events shows more h.replayed k.replayed in
+    (h.left ∙ ap (λ (w : WorldState C). w.kept.book.lives) one.0 ∙ sym k.left, one.1)
 
-network_once : (network : TopologyFields) (events : List Event) (before after other : List ℕ) → WritesAll (Shows network events) (Some before) (Some after) → WritesAll (Shows network events) (Some before) (Some other)
+from_once : {C : Type 0} (calls : Calls C) → AreSettled calls → (opening : C) (book : Bool) (events : Asked) (before after other : List ℕ) → ReplaysFrom calls opening book events (Some before) (Some after)
+    → ReplaysFrom calls opening book events (Some before) (Some other) → after ≡ other
+from_once calls settled opening book (Raw events) before after other h k =
+    h.written ∙ ap (λ shown. before ++ (output shown ++ codes "end\n")) (raw_once calls settled opening events h.shown k.shown h.shows k.shows) ∙ sym k.written
+from_once calls settled opening book (World events) before after other h k =
+    let one : (h.lives ≡ k.lives) × (h.shown ≡ k.shown) = world_once calls settled opening events h.lives k.lives h.shown k.shown h.shows k.shows in
+    h.written ∙ ap (λ shows. before ++ (lines.output shows ++ (book_text book h.lives ++ codes "end\n"))) one.1 ∙ ap (λ lives. before ++ (lines.output k.shown ++ (book_text book lives ++ codes "end\n"))) one.0 ∙ sym k.written
+
+over_once : (carrier : CarrierKind) (network : TopologyFields) (book : Bool) (events : Asked) (before after other : List ℕ) → ReplaysOver carrier network book events (Some before) (Some after) → ReplaysOver carrier network book events (Some before) (Some other)
     → after ≡ other
-network_once network events before after other h k =
-    h.written ∙ ap (λ shown. before ++ (output shown ++ codes "end\n")) (over_once network.carrier network events h.shown k.shown h.shows k.shows) ∙ sym k.written
+over_once kind.Plain network book events before after other h k = from_once plain_calls plain_settled (plain_of network) book events before after other h k
+over_once kind.Subnet network book events before after other h k = from_once subnet_calls subnet_settled (subnet_of network) book events before after other h k
 
-pub one_output : (input before after other : List ℕ) → ReplaysInput input (Some before) (Some after) → ReplaysInput input (Some before) (Some other) → after ≡ other
-one_output input before after other h k =
+pub one_output : (book : Bool) (input before after other : List ℕ) → ReplaysInput book input (Some before) (Some after) → ReplaysInput book input (Some before) (Some other) → after ≡ other
+one_output book input before after other h k =
     let same : OneInput h.network k.network h.events k.events = input_once input h.network k.network h.events k.events h.input k.input in
-    let moved : WritesAll (Shows k.network k.events) (Some before) (Some after) =
-    subst (λ (network : TopologyFields). WritesAll (Shows network k.events) (Some before) (Some after)) same.same_network
-    (subst (λ (events : List Event). WritesAll (Shows h.network events) (Some before) (Some after)) same.same_events h.replayed) in
-    network_once k.network k.events before after other moved k.replayed
+    let moved : ReplaysOn k.network book k.events (Some before) (Some after) =
+    subst (λ (network : TopologyFields). ReplaysOn network book k.events (Some before) (Some after)) same.same_network
+    (subst (λ (events : Asked). ReplaysOn h.network book events (Some before) (Some after)) same.same_events h.replayed) in
+    over_once k.network.carrier k.network book k.events before after other moved k.replayed
 
 -- ---- the first part of a replay
 
-from_front : {C : Type 0} (calls : Calls C) → AreSettled calls → (opening : C) (events : List Event) (part whole : List Shown) → StopsFrom calls opening events part → ShowsFrom calls opening events whole → StartsWith whole part
-from_front calls settled opening events part whole h k = replay.first_part calls settled opening events h.last k.last part whole h.stopped k.replayed
+raw_front : {C : Type 0} (calls : Calls C) → AreSettled calls → (opening : C) (events : List Event) (part whole : List Shown) → StopsFrom calls opening events part → ShowsFrom calls opening events whole → StartsWith whole part
+raw_front calls settled opening events part whole h k = replay.first_part calls settled opening events h.last k.last part whole h.stopped k.replayed
 
-over_front : (carrier : CarrierKind) (network : TopologyFields) (events : List Event) (part whole : List Shown) → StopsOver carrier network events part → ShowsOver carrier network events whole → StartsWith whole part
-over_front kind.Plain network events part whole h k = from_front plain_calls plain_settled (plain_of network) events part whole h k
-over_front kind.Subnet network events part whole h k = from_front subnet_calls subnet_settled (subnet_of network) events part whole h k
+world_front : {C : Type 0} (calls : Calls C) → AreSettled calls → (opening : C) (events : List WorldEvent) (part : List lines.Shown) (lives : List Life) (whole : List lines.Shown) → WorldStopsFrom (hosting calls) opening events part
+    → WorldShowsFrom (hosting calls) opening events lives whole → (rest : List lines.Shown) × (whole ≡ part ++ rest)
+world_front calls settled opening events part lives whole h k = worlds.first_part (hosting calls) settled (opening_world (shown (hosting calls)) opening) h.last k.last events part whole h.stopped k.replayed
 
-network_front : (network : TopologyFields) (events : List Event) (before part whole : List ℕ) → Writes (Stops network events) (Some before) (Some part) → WritesAll (Shows network events) (Some before) (Some whole)
+-- a text that begins with another
+begins : (before part whole first rest behind : List ℕ) → part ≡ before ++ first → whole ≡ before ++ ((first ++ rest) ++ behind) → (more : List ℕ) × (whole ≡ part ++ more)
+begins before part whole first rest behind is all = (
+  rest ++ behind,
+  all ∙ ap (λ xs. before ++ xs) (append_assoc first rest behind) ∙ sym (append_assoc before first (rest ++ behind)) ∙ ap (λ xs. xs ++ (rest ++ behind)) (sym is),
+)
+
+from_front : {C : Type 0} (calls : Calls C) → AreSettled calls → (opening : C) (book : Bool) (events : Asked) (before part whole : List ℕ) → EndsFrom calls opening events (Some before) (Some part)
+    → ReplaysFrom calls opening book events (Some before) (Some whole) → (rest : List ℕ) × (whole ≡ part ++ rest)
+from_front calls settled opening book (Raw events) before part whole h k =
+    let starts : StartsWith k.shown h.shown = raw_front calls settled opening events h.shown k.shown h.is_shown k.shows in
+    let lines : output k.shown ≡ output h.shown ++ output starts.rest = ap output starts.parts ∙ output-append h.shown starts.rest in
+    begins before part whole (output h.shown) (output starts.rest) (codes "end\n") h.written (k.written ∙ ap (λ xs. before ++ (xs ++ codes "end\n")) lines)
+from_front calls settled opening book (World events) before part whole h k =
+    let starts : (rest : List lines.Shown) × (k.shown ≡ h.shown ++ rest) = world_front calls settled opening events h.shown k.lives k.shown h.is_shown k.shows in
+    let all : lines.output k.shown ≡ lines.output h.shown ++ lines.output starts.0 = ap lines.output starts.1 ∙ lines_of.output-append h.shown starts.0 in
+    begins before part whole (lines.output h.shown) (lines.output starts.0) (book_text book k.lives ++ codes "end\n") h.written (k.written ∙ ap (λ xs. before ++ (xs ++ (book_text book k.lives ++ codes "end\n"))) all)
+
+over_front : (carrier : CarrierKind) (network : TopologyFields) (book : Bool) (events : Asked) (before part whole : List ℕ) → EndsOver carrier network events (Some before) (Some part) → ReplaysOver carrier network book events (Some before) (Some whole)
     → (rest : List ℕ) × (whole ≡ part ++ rest)
-network_front network events before part whole h k =
-    let starts : StartsWith k.shown h.shown = over_front network.carrier network events h.shown k.shown h.is_shown k.shows in
-    let lines : output k.shown ≡ output h.shown ++ output starts.rest = ap output starts.parts ∙ output-append h.shown starts.rest in (
-      output starts.rest ++ codes "end\n",
-      k.written ∙ ap (λ xs. before ++ (xs ++ codes "end\n")) lines ∙ ap (λ xs. before ++ xs) (append_assoc (output h.shown) (output starts.rest) (codes "end\n"))
-          ∙ sym (append_assoc before (output h.shown) (output starts.rest ++ codes "end\n")) ∙ ap (λ xs. xs ++ (output starts.rest ++ codes "end\n")) (sym h.written),
-    )
+over_front kind.Plain network book events before part whole h k = from_front plain_calls plain_settled (plain_of network) book events before part whole h k
+over_front kind.Subnet network book events before part whole h k = from_front subnet_calls subnet_settled (subnet_of network) book events before part whole h k
 
-pub first_part : (input before part whole : List ℕ) → StopsInput input (Some before) (Some part) → ReplaysInput input (Some before) (Some whole) → (rest : List ℕ) × (whole ≡ part ++ rest)
-first_part input before part whole h k =
+pub first_part : (book : Bool) (input before part whole : List ℕ) → StopsInput input (Some before) (Some part) → ReplaysInput book input (Some before) (Some whole) → (rest : List ℕ) × (whole ≡ part ++ rest)
+first_part book input before part whole h k =
     let same : OneInput h.network k.network h.events k.events = input_once input h.network k.network h.events k.events h.input k.input in
-    let moved : Writes (Stops k.network k.events) (Some before) (Some part) =
-    subst (λ (network : TopologyFields). Writes (Stops network k.events) (Some before) (Some part)) same.same_network
-    (subst (λ (events : List Event). Writes (Stops h.network events) (Some before) (Some part)) same.same_events h.stopped) in
-    network_front k.network k.events before part whole moved k.replayed
+    let moved : EndsOn k.network k.events (Some before) (Some part) =
+    subst (λ (network : TopologyFields). EndsOn network k.events (Some before) (Some part)) same.same_network
+    (subst (λ (events : Asked). EndsOn h.network events (Some before) (Some part)) same.same_events h.stopped) in
+    over_front k.network.carrier k.network book k.events before part whole moved k.replayed

@@ -1,25 +1,37 @@
 -- Octets are one input.
-use Rattle.std.proofs.Common.{◌≡◌, ℕ, List, Some, sym, ◌∙◌, subst}
-use Rattle.script.specs.Script.{AskFor, lines_of}
-use Rattle.script.specs.declared.event.Event.{Event}
+use Rattle.std.proofs.Common.{◌≡◌, ℕ, Bool, true, false, List, Some, ap, sym, ◌∙◌, subst}
+use Rattle.script.specs.Script.{lines_of}
 use Rattle.script.proofs.OneReading.{SameInput, asked_once, parted_once}
 use Rattle.topology.specs.Topology.{TopologyFields}
-use Rattle.command_line.specs.Replayable.{IsReplayable}
+use Rattle.world_script.proofs.WorldOnce.{world_asked_once}
+use Rattle.command_line.specs.Described.{Describes}
+use Rattle.command_line.specs.Events.{Asked, AsksFor, Raw, World}
 use Rattle.command_line.specs.Input.{IsInput}
 
-network_once : (document : List ℕ) (network other : TopologyFields) → IsReplayable document network → IsReplayable document other → network ≡ other
+network_once : (document : List ℕ) (network other : TopologyFields) → Describes document network → Describes document other → network ≡ other
 network_once document network other h k =
-    let found : Some network ≡ Some other = sym h.described ∙ k.described in
+    let found : Some network ≡ Some other = sym h ∙ k in
     cc
 
-pub record OneInput (network other : TopologyFields) (events others : List Event) : Type 0 where
+-- lines ask for one list of events
+events_once : (raw : Bool) (events others : Asked) (lines : List (List ℕ)) → AsksFor raw events lines → AsksFor raw others lines → events ≡ others
+events_once true (Raw events) (Raw others) lines h k = ap Raw (asked_once events others lines h k)
+events_once true (Raw events) (World others) lines h k = absurd k
+events_once true (World events) others lines h k = absurd h
+events_once false (World events) (World others) lines h k = ap World (world_asked_once events others lines h k)
+events_once false (World events) (Raw others) lines h k = absurd k
+events_once false (Raw events) others lines h k = absurd h
+
+pub record OneInput (network other : TopologyFields) (events others : Asked) : Type 0 where
   pub same_network : network ≡ other
   pub same_events : events ≡ others
 
-pub input_once : (octets : List ℕ) (network other : TopologyFields) (events others : List Event) → IsInput octets network events → IsInput octets other others → OneInput network other events others
+pub input_once : (octets : List ℕ) (network other : TopologyFields) (events others : Asked) → IsInput octets network events → IsInput octets other others → OneInput network other events others
 input_once octets network other events others p q =
     let same : SameInput p.document p.script q.document q.script = parted_once octets p.document p.script q.document q.script p.parted q.parted in
+    let networks : network ≡ other = network_once q.document network other (subst (λ t. Describes t network) same.topologies p.described) q.described in
     record {
-      same_network = network_once q.document network other (subst (λ t. IsReplayable t network) same.topologies p.replayable) q.replayable;
-      same_events = asked_once events others (lines_of q.script) (subst (AskFor events) same.scripts p.asked) q.asked;
+      same_network = networks;
+      same_events = events_once other.raw events others (lines_of q.script)
+          (subst (λ (t : TopologyFields). AsksFor t.raw events (lines_of q.script)) networks (subst (λ (lines : List (List ℕ)). AsksFor network.raw events lines) same.scripts p.asked)) q.asked;
     }

@@ -1,22 +1,33 @@
 -- A replay over the carrier of a topology goes on, and ends.
-use Rattle.std.proofs.Common.{◌≡◌, ◌⊎◌, inl, inr, ℕ, List, [], ◌++◌, Option, Some, None, Result, IfSome, OnOk, reverse, codes, ap, sym, subst, ◌∙◌}
+use Rattle.std.proofs.Common.{◌≡◌, ◌⊎◌, inl, inr, ℕ, Bool, true, false, List, [], ◌∷◌, ◌++◌, Option, Some, None, Result, IfSome, OnOk, reverse, codes, refl, ap, sym, subst, ◌∙◌}
 use Rattle.std.proofs.lemmas.List.{append-nil}
 use Rattle.std.specs.Io.KnownBytes.{Appends, Keeps}
 use Rattle.leader1822.specs.Messages.{SafeMessages}
 use Rattle.leader1822.proofs.MessageLaw.{safe_messages}
+use Rattle.net_sim.specs.Carriers.{shown}
+use Rattle.net_sim.specs.World.{WorldState, opening_world}
+use Rattle.net_sim.specs.declared.event.WorldFault.TheVariants.{Carrier}
 use Rattle.replay.specs.Output.{Shown, Writes, crossings_of, output}
+use Rattle.replay.specs.Output as raw
 use Rattle.replay.specs.Replay.{Calls, EndsIn, Replays, StopsIn}
 use Rattle.replay.proofs.Replays.{replays_show, stops_show}
 use Rattle.replay.proofs.Shown.{appends_more, appends_none, on_ok}
+use Rattle.script.specs.Input.{ended}
 use Rattle.script.specs.declared.event.Event.{Event}
-use Rattle.subnet.specs.Calls.{Kept}
 use Rattle.topology.specs.Topology.{TopologyFields}
 use Rattle.topology.specs.declared.network.CarrierKind.{CarrierKind}
 use Rattle.topology.specs.declared.network.CarrierKind.TheVariants as kind
-use Rattle.command_line.specs.Carriers.{subnet_calls, subnet_of}
+use Rattle.world_replay.specs.Output as lines
+use Rattle.world_replay.specs.Replay as worlds
+use Rattle.world_replay.proofs.Replays as world
+use Rattle.world_script.specs.declared.event.WorldEvent.{WorldEvent}
+use Rattle.command_line.specs.Carriers.{hosting, plain_calls, plain_of, subnet_calls, subnet_of}
+use Rattle.command_line.specs.Events.{Asked, Raw, World}
 use Rattle.command_line.specs.Input.{IsInput}
-use Rattle.command_line.specs.Replayed.{Ran, RanInPart, ReplaysInput, Shows, ShowsFrom, ShowsOver, Stops, StopsFrom, StopsInput, StopsOver, WritesAll}
+use Rattle.command_line.specs.Replayed.{EndsFrom, EndsOn, EndsOver, Ran, RanInPart, ReplaysFrom, ReplaysInput, ReplaysOn, ReplaysOver, ShowsFrom, StopsFrom, StopsInput, WorldShowsFrom, WorldStopsFrom, WritesAll, WritesWorld, book_text}
 use Rattle.command_line.specs.declared.fault.ScriptFault.{ScriptFault}
+
+-- ---- without host programs
 
 -- from an opening, at which nothing has crossed: a whole replay, and the last line
 pub writes_all : {C : Type 0} (calls : Calls C) (opening last : C) (events : List Event) (a b c : Option (List ℕ)) → (calls.seen opening).log ≡ [] → Writes (Replays calls opening events last) a b
@@ -46,56 +57,127 @@ writes_part calls opening last events a b empty h safe = record {
   written = h.written;
 }
 
--- ---- over a subnet
+-- ---- with host programs
 
-pub subnet_all : (network : TopologyFields) (events : List Event) (opening : Kept) (a b : Option (List ℕ)) → network.carrier ≡ kind.Subnet → opening ≡ subnet_of network → WritesAll (ShowsFrom subnet_calls opening events) a b
-    → WritesAll (Shows network events) a b
-subnet_all network events opening a b is same h =
-    subst (λ (carrier : CarrierKind). WritesAll (ShowsOver carrier network events) a b) (sym is) (subst (λ (k : Kept). WritesAll (ShowsFrom subnet_calls k events) a b) same h)
+pub world_writes_all : {C : Type 0} (calls : Calls C) (carrier : C) (opening last : WorldState C) (events : List WorldEvent) (book : Bool) (a b c : Option (List ℕ)) → opening ≡ opening_world (shown (hosting calls)) carrier
+    → lines.Writes (worlds.Replays (shown (hosting calls)) opening events last) a b → SafeMessages last.kept.book.crossings → Appends b c (book_text book last.kept.book.lives ++ codes "end\n")
+    → WritesWorld book (WorldShowsFrom (hosting calls) carrier events) a c
+world_writes_all {C} calls carrier opening last events book a b c is h safe end =
+    let from : worlds.Replays (shown (hosting calls)) (opening_world (shown (hosting calls)) carrier) events last h.shown =
+    subst (λ (w : WorldState C). worlds.Replays (shown (hosting calls)) w events last h.shown) is h.is_shown in
+    record {
+      shown = h.shown;
+      lives = last.kept.book.lives;
+      shows = record {
+        last = last;
+        replayed = from;
+        left = refl;
+        crossed = world.replays_show (shown (hosting calls)) (opening_world (shown (hosting calls)) carrier) events last h.shown from ∙ append-nil (reverse (lines.crossings_of h.shown));
+        messages = safe;
+      };
+      written = appends_more a b c (lines.output h.shown) (book_text book last.kept.book.lives ++ codes "end\n") h.written end;
+    }
 
-pub subnet_part : (network : TopologyFields) (events : List Event) (opening : Kept) (a b : Option (List ℕ)) → network.carrier ≡ kind.Subnet → opening ≡ subnet_of network → Writes (StopsFrom subnet_calls opening events) a b
-    → Writes (Stops network events) a b
-subnet_part network events opening a b is same h =
-    subst (λ (carrier : CarrierKind). Writes (StopsOver carrier network events) a b) (sym is) (subst (λ (k : Kept). Writes (StopsFrom subnet_calls k events) a b) same h)
+pub world_writes_part : {C : Type 0} (calls : Calls C) (carrier : C) (opening last : WorldState C) (events : List WorldEvent) (a b : Option (List ℕ)) → opening ≡ opening_world (shown (hosting calls)) carrier
+    → lines.Writes (worlds.EndsIn (shown (hosting calls)) (worlds.StopsIn (shown (hosting calls))) opening events last) a b → SafeMessages last.kept.book.crossings
+    → lines.Writes (WorldStopsFrom (hosting calls) carrier events) a b
+world_writes_part {C} calls carrier opening last events a b is h safe =
+    let from : worlds.EndsIn (shown (hosting calls)) (worlds.StopsIn (shown (hosting calls))) (opening_world (shown (hosting calls)) carrier) events last h.shown =
+    subst (λ (w : WorldState C). worlds.EndsIn (shown (hosting calls)) (worlds.StopsIn (shown (hosting calls))) w events last h.shown) is h.is_shown in
+    record {
+      shown = h.shown;
+      is_shown = record {
+        last = last;
+        stopped = from;
+        crossed = world.stops_show (shown (hosting calls)) (opening_world (shown (hosting calls)) carrier) events last h.shown from ∙ append-nil (reverse (lines.crossings_of h.shown));
+        messages = safe;
+      };
+      written = h.written;
+    }
+
+-- ---- over the carrier that a topology names
+
+pub over_all : (carrier : CarrierKind) (network : TopologyFields) (book : Bool) (events : Asked) (a b : Option (List ℕ)) → network.carrier ≡ carrier → ReplaysOver carrier network book events a b → ReplaysOn network book events a b
+over_all carrier network book events a b is h = subst (λ (k : CarrierKind). ReplaysOver k network book events a b) (sym is) h
+
+pub over_part : (carrier : CarrierKind) (network : TopologyFields) (events : Asked) (a b : Option (List ℕ)) → network.carrier ≡ carrier → (Keeps a b ⊎ EndsOver carrier network events a b) → Keeps a b ⊎ EndsOn network events a b
+over_part carrier network events a b is (inl kept) = inl kept
+over_part carrier network events a b is (inr h) = inr (subst (λ (k : CarrierKind). EndsOver k network events a b) (sym is) h)
 
 -- ---- of known octets
 
-by_known : (known : Option (List ℕ)) (octets : List ℕ) (network : TopologyFields) (events : List Event) (a b : Option (List ℕ)) → IfSome known (λ k. octets ≡ k) → IsInput octets network events → WritesAll (Shows network events) a b
-    → IfSome known (λ k. ReplaysInput k a b)
-by_known None octets network events a b same read h = tt
-by_known (Some k) octets network events a b same read h = record { network = network; events = events; input = subst (λ o. IsInput o network events) same read; replayed = h }
+by_known : (known : Option (List ℕ)) (octets : List ℕ) (network : TopologyFields) (book : Bool) (events : Asked) (a b : Option (List ℕ)) → IfSome known (λ k. octets ≡ k) → IsInput octets network events → ReplaysOn network book events a b
+    → IfSome known (λ k. ReplaysInput book k a b)
+by_known None octets network book events a b same read h = tt
+by_known (Some k) octets network book events a b same read h = record { network = network; events = events; input = subst (λ o. IsInput o network events) same read; replayed = h }
 
-pub known_replayed : (known : Option (List ℕ)) (octets : List ℕ) (network : TopologyFields) (events : List Event) (r : Result (Unit {0}) ScriptFault) (a b : Option (List ℕ)) → IfSome known (λ k. octets ≡ k)
-    → IsInput octets network events → OnOk r (WritesAll (Shows network events) a b) → OnOk r (IfSome known (λ k. ReplaysInput k a b))
-known_replayed known octets network events r a b same read h = on_ok r (by_known known octets network events a b same read) h
+pub known_replayed : (known : Option (List ℕ)) (octets : List ℕ) (network : TopologyFields) (book : Bool) (events : Asked) (r : Result (Unit {0}) ScriptFault) (a b : Option (List ℕ)) → IfSome known (λ k. octets ≡ k)
+    → IsInput octets network events → OnOk r (ReplaysOn network book events a b) → OnOk r (IfSome known (λ k. ReplaysInput book k a b))
+known_replayed known octets network book events r a b same read h = on_ok r (by_known known octets network book events a b same read) h
 
-pub known_stopped : (known : Option (List ℕ)) (octets : List ℕ) (network : TopologyFields) (events : List Event) (a b : Option (List ℕ)) → IfSome known (λ k. octets ≡ k) → IsInput octets network events
-    → (Keeps a b ⊎ Writes (Stops network events) a b) → IfSome known (λ k. Keeps a b ⊎ StopsInput k a b)
+pub known_stopped : (known : Option (List ℕ)) (octets : List ℕ) (network : TopologyFields) (events : Asked) (a b : Option (List ℕ)) → IfSome known (λ k. octets ≡ k) → IsInput octets network events
+    → (Keeps a b ⊎ EndsOn network events a b) → IfSome known (λ k. Keeps a b ⊎ StopsInput k a b)
 known_stopped None octets network events a b same read h = tt
 known_stopped (Some k) octets network events a b same read (inl kept) = inl kept
 known_stopped (Some k) octets network events a b same read (inr h) = inr (record { network = network; events = events; input = subst (λ o. IsInput o network events) same read; stopped = h })
 
 -- ---- for whoever doesn't know the script
 
-all_safe : (carrier : CarrierKind) (network : TopologyFields) (events : List Event) (shown : List Shown) → ShowsOver carrier network events shown → SafeMessages (reverse (crossings_of shown))
-all_safe kind.Plain network events shown h = subst SafeMessages h.crossed h.messages
-all_safe kind.Subnet network events shown h = subst SafeMessages h.crossed h.messages
+-- lines without notices are lines
+as_world : List Shown → List lines.Shown
+as_world [] = []
+as_world (raw.Crossed c ∷ shown) = lines.Crossed c ∷ as_world shown
+as_world (raw.Refused f ∷ shown) = lines.Refused (Carrier f) ∷ as_world shown
 
-part_safe : (carrier : CarrierKind) (network : TopologyFields) (events : List Event) (shown : List Shown) → StopsOver carrier network events shown → SafeMessages (reverse (crossings_of shown))
-part_safe kind.Plain network events shown h = subst SafeMessages h.crossed h.messages
-part_safe kind.Subnet network events shown h = subst SafeMessages h.crossed h.messages
+same_output : (shown : List Shown) → output shown ≡ lines.output (as_world shown)
+unfolding as_world
+same_output [] = refl
+same_output (raw.Crossed c ∷ shown) = ap (λ xs. ended (raw.shown_text (raw.Crossed c)) ++ xs) (same_output shown)
+same_output (raw.Refused f ∷ shown) = ap (λ xs. ended (raw.shown_text (raw.Refused f)) ++ xs) (same_output shown)
 
-pub ran : (network : TopologyFields) (events : List Event) (a b : Option (List ℕ)) → WritesAll (Shows network events) a b → Ran a b
-ran network events a b r = record { shown = r.shown; written = r.written; messages = all_safe network.carrier network events r.shown r.shows }
+same_crossings : (shown : List Shown) → crossings_of shown ≡ lines.crossings_of (as_world shown)
+unfolding as_world
+same_crossings [] = refl
+same_crossings (raw.Crossed c ∷ shown) = ap (λ cs. c ∷ cs) (same_crossings shown)
+same_crossings (raw.Refused f ∷ shown) = same_crossings shown
+
+ran_from : {C : Type 0} (calls : Calls C) (opening : C) (book : Bool) (events : Asked) (a b : Option (List ℕ)) → ReplaysFrom calls opening book events a b → Ran a b
+ran_from calls opening book (Raw events) a b r = record {
+  shown = as_world r.shown;
+  lives = [];
+  written = subst (λ xs. Appends a b (xs ++ codes "end\n")) (same_output r.shown) r.written;
+  messages = subst (λ cs. SafeMessages (reverse cs)) (same_crossings r.shown) (subst SafeMessages r.shows.crossed r.shows.messages);
+}
+ran_from calls opening true (World events) a b r = record { shown = r.shown; lives = r.lives; written = r.written; messages = subst SafeMessages r.shows.crossed r.shows.messages }
+ran_from calls opening false (World events) a b r = record { shown = r.shown; lives = []; written = r.written; messages = subst SafeMessages r.shows.crossed r.shows.messages }
+
+ran_over : (carrier : CarrierKind) (network : TopologyFields) (book : Bool) (events : Asked) (a b : Option (List ℕ)) → ReplaysOver carrier network book events a b → Ran a b
+ran_over kind.Plain network book events a b r = ran_from plain_calls (plain_of network) book events a b r
+ran_over kind.Subnet network book events a b r = ran_from subnet_calls (subnet_of network) book events a b r
+
+pub ran : (network : TopologyFields) (book : Bool) (events : Asked) (a b : Option (List ℕ)) → ReplaysOn network book events a b → Ran a b
+ran network book events a b r = ran_over network.carrier network book events a b r
+
+part_from : {C : Type 0} (calls : Calls C) (opening : C) (events : Asked) (a b : Option (List ℕ)) → EndsFrom calls opening events a b → RanInPart a b
+part_from calls opening (Raw events) a b r = record {
+  shown = as_world r.shown;
+  written = subst (Appends a b) (same_output r.shown) r.written;
+  messages = subst (λ cs. SafeMessages (reverse cs)) (same_crossings r.shown) (subst SafeMessages r.is_shown.crossed r.is_shown.messages);
+}
+part_from calls opening (World events) a b r = record { shown = r.shown; written = r.written; messages = subst SafeMessages r.is_shown.crossed r.is_shown.messages }
+
+part_over : (carrier : CarrierKind) (network : TopologyFields) (events : Asked) (a b : Option (List ℕ)) → EndsOver carrier network events a b → RanInPart a b
+part_over kind.Plain network events a b r = part_from plain_calls (plain_of network) events a b r
+part_over kind.Subnet network events a b r = part_from subnet_calls (subnet_of network) events a b r
 
 none_appended : (a b : Option (List ℕ)) → Keeps a b → Appends a b []
 none_appended None b h = tt
 none_appended (Some a) None h = absurd h
 none_appended (Some a) (Some b) h = h ∙ sym (append-nil a)
 
-pub ran_in_part : (network : TopologyFields) (events : List Event) (a b : Option (List ℕ)) → (Keeps a b ⊎ Writes (Stops network events) a b) → RanInPart a b
+pub ran_in_part : (network : TopologyFields) (events : Asked) (a b : Option (List ℕ)) → (Keeps a b ⊎ EndsOn network events a b) → RanInPart a b
 ran_in_part network events a b (inl kept) = record { shown = []; written = none_appended a b kept; messages = safe_messages [] [] tt }
-ran_in_part network events a b (inr r) = record { shown = r.shown; written = r.written; messages = part_safe network.carrier network events r.shown r.is_shown }
+ran_in_part network events a b (inr r) = part_over network.carrier network events a b r
 
 -- nothing was written yet
 pub nothing_ran : (a : Option (List ℕ)) → RanInPart a a

@@ -2,6 +2,7 @@
 use Rattle.std.specs.Prelude.{List, map}
 use Rattle.leader1822.specs.Boxes.{Boxes, BoxesOffer, BoxesRound, BoxesStep, BoxesTake, opening_boxes}
 use Rattle.leader1822.specs.Boxes as boxes
+use Rattle.net_sim.specs.World as world
 use Rattle.replay.specs.Replay.{Calls}
 use Rattle.subnet.specs.Calls.{Kept, running}
 use Rattle.subnet.specs.Opening.{opening}
@@ -28,3 +29,7 @@ plain_of t = opening_boxes (hosts_of t)
 
 abbrev pub subnet_of : TopologyFields → Kept
 subnet_of t = running (opening (hosts_of t) (sites_of t) (ends_of t.lines))
+
+-- a carrier between hosts with programs
+abbrev pub hosting : {C : Type 0} → Calls C → world.Calls C
+hosting calls = record { seen = calls.seen; offers = calls.offers; takes = calls.takes; steps = calls.steps; rounds = calls.rounds }

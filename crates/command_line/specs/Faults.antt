@@ -1,5 +1,7 @@
 -- How the simulator ends.
 use Rattle.std.specs.Prelude.{ℕ}
+use Rattle.replay.specs.declared.events.ReplayFault.{ReplayFault}
+use Rattle.replay.specs.declared.events.ReplayFault.TheVariants as replay
 use Rattle.command_line.specs.declared.fault.ScriptFault.{ScriptFault}
 use Rattle.command_line.specs.declared.fault.ScriptFault.TheVariants as fault
 
@@ -11,3 +13,8 @@ status_of fault.BadTopology = 1
 status_of (fault.BadLine number) = 2
 status_of fault.OutOfMemory = 3
 status_of fault.CannotWrite = 3
+
+-- a fault of a replay, as the simulator tells it
+abbrev pub told_as : ReplayFault → ScriptFault
+told_as replay.OutOfMemory = fault.OutOfMemory
+told_as replay.CannotWrite = fault.CannotWrite

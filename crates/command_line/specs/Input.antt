@@ -2,24 +2,24 @@
 use Rattle.std.specs.Prelude.{◌≢◌, ℕ, ◌<◌, ◌≤◌, List, length, codes, ◌⊎◌, IsUtf8}
 use Rattle.std.specs.List.{All}
 use Rattle.script.specs.Input.{IsParted}
-use Rattle.script.specs.Script.{lines_of, AskFor, IsFirstBad}
-use Rattle.script.specs.declared.event.Event.{Event}
+use Rattle.script.specs.Script.{lines_of}
 use Rattle.topology.specs.Topology.{TopologyFields}
-use Rattle.command_line.specs.Replayable.{IsReplayable}
+use Rattle.command_line.specs.Described.{Describes}
+use Rattle.command_line.specs.Events.{Asked, AsksFor, IsFirstBadIn}
 use Rattle.command_line.specs.declared.fault.ScriptFault.{ScriptFault}
 use Rattle.command_line.specs.declared.fault.ScriptFault.TheVariants as fault
 
 -- an input: at most 1,048,576 octets, which are this topology, the marker line `%`, and a script of these events
-pub record IsInput (octets : List ℕ) (network : TopologyFields) (events : List Event) : Type 0 where
+pub record IsInput (octets : List ℕ) (network : TopologyFields) (events : Asked) : Type 0 where
   pub short : length octets ≤ 1048576
   pub document : List ℕ
   pub script : List ℕ
   pub parted : IsParted octets document script
-  pub replayable : IsReplayable document network
-  pub asked : AskFor events (lines_of script)
+  pub described : Describes document network
+  pub asked : AsksFor network.raw events (lines_of script)
 
 abbrev pub IsSomeInput : List ℕ → Type 0
-IsSomeInput octets = (network : TopologyFields) × (events : List Event) × IsInput octets network events
+IsSomeInput octets = (network : TopologyFields) × (events : Asked) × IsInput octets network events
 
 -- all is well up to the script, of which this is the first bad line
 pub record HasBadLine (octets : List ℕ) (number : ℕ) : Type 0 where
@@ -28,15 +28,15 @@ pub record HasBadLine (octets : List ℕ) (number : ℕ) : Type 0 where
   pub script : List ℕ
   pub network : TopologyFields
   pub parted : IsParted octets document script
-  pub replayable : IsReplayable document network
-  pub bad : IsFirstBad script number
+  pub described : Describes document network
+  pub bad : IsFirstBadIn network.raw script number
 
--- what stands before the marker line is not UTF-8, or describes no topology that can be replayed
+-- what stands before the marker line is not UTF-8, or describes no topology
 pub record HasBadTopology (octets : List ℕ) : Type 0 where
   pub document : List ℕ
   pub script : List ℕ
   pub parted : IsParted octets document script
-  pub unfit : IsUtf8 document → (t : TopologyFields) → ¬ IsReplayable document t
+  pub unfit : IsUtf8 document → (t : TopologyFields) → ¬ Describes document t
 
 -- when each fault may be given for these octets: nothing is written before they are known to be an input
 abbrev pub IsInputFault : List ℕ → ScriptFault → Type 0

@@ -1,8 +1,9 @@
 pub mod Carriers
+pub mod Described
+pub mod Events
 pub mod Faults
 pub mod Input
 pub mod Options
 pub mod Parser
-pub mod Replayable
 pub mod Replayed
 pub mod Steps

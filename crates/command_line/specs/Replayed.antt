@@ -1,15 +1,26 @@
 -- What the simulator writes.
-use Rattle.std.specs.Prelude.{◌≡◌, ℕ, List, ◌++◌, reverse, Option, codes}
+use Rattle.std.specs.Prelude.{◌≡◌, ℕ, Bool, true, false, List, [], ◌++◌, reverse, Option, codes}
 use Rattle.std.specs.Io.KnownBytes.{Appends}
 use Rattle.leader1822.specs.Messages.{SafeMessages}
+use Rattle.net_sim.specs.Carriers.{shown}
+use Rattle.net_sim.specs.World.{WorldState, opening_world}
+use Rattle.net_sim.specs.World as world
+use Rattle.net_sim.specs.declared.life.Life.{Life}
 use Rattle.replay.specs.Output.{Shown, Writes, crossings_of, output}
 use Rattle.replay.specs.Replay.{Calls, EndsIn, Replays, StopsIn}
 use Rattle.script.specs.declared.event.Event.{Event}
 use Rattle.topology.specs.Topology.{TopologyFields}
 use Rattle.topology.specs.declared.network.CarrierKind.{CarrierKind}
 use Rattle.topology.specs.declared.network.CarrierKind.TheVariants as kind
-use Rattle.command_line.specs.Carriers.{plain_calls, plain_of, subnet_calls, subnet_of}
+use Rattle.world_replay.specs.Output as lines
+use Rattle.world_replay.specs.Output.{lives_output}
+use Rattle.world_replay.specs.Replay as worlds
+use Rattle.world_script.specs.declared.event.WorldEvent.{WorldEvent}
+use Rattle.command_line.specs.Carriers.{hosting, plain_calls, plain_of, subnet_calls, subnet_of}
+use Rattle.command_line.specs.Events.{Asked, Raw, World}
 use Rattle.command_line.specs.Input.{IsInput}
+
+-- ---- a network without host programs
 
 -- events are replayed over a carrier with such calls, which shows these lines; the lines have all that crossed since its
 -- opening, and that is a log that every host may rely on
@@ -26,52 +37,91 @@ pub record StopsFrom {C : Type 0} (calls : Calls C) (opening : C) (events : List
   pub crossed : (calls.seen last).log ≡ reverse (crossings_of shown)
   pub messages : SafeMessages (calls.seen last).log
 
-abbrev pub ShowsOver : CarrierKind → TopologyFields → List Event → List Shown → Type 0
-ShowsOver kind.Plain t events shown = ShowsFrom plain_calls (plain_of t) events shown
-ShowsOver kind.Subnet t events shown = ShowsFrom subnet_calls (subnet_of t) events shown
-
-abbrev pub StopsOver : CarrierKind → TopologyFields → List Event → List Shown → Type 0
-StopsOver kind.Plain t events shown = StopsFrom plain_calls (plain_of t) events shown
-StopsOver kind.Subnet t events shown = StopsFrom subnet_calls (subnet_of t) events shown
-
--- events are replayed over the carrier that a topology names: plain mailboxes between its hosts, or the subnet of its IMPs and
--- lines
-abbrev pub Shows : TopologyFields → List Event → List Shown → Type 0
-Shows t events shown = ShowsOver t.carrier t events shown
-
-abbrev pub Stops : TopologyFields → List Event → List Shown → Type 0
-Stops t events shown = StopsOver t.carrier t events shown
-
 -- what all events show is written, and a last line `end`
 pub record WritesAll (AreShown : List Shown → Type 0) (before after : Option (List ℕ)) : Type 0 where
   pub shown : List Shown
   pub shows : AreShown shown
   pub written : Appends before after (output shown ++ codes "end\n")
 
+-- ---- a network whose hosts have programs
+
+-- the same of events in a world over such a carrier, which leaves these lives in its book
+pub record WorldShowsFrom {C : Type 0} (calls : world.Calls C) (opening : C) (events : List WorldEvent) (lives : List Life) (shows : List lines.Shown) : Type 0 where
+  pub last : WorldState C
+  pub replayed : worlds.Replays (shown calls) (opening_world (shown calls) opening) events last shows
+  pub left : lives ≡ last.kept.book.lives
+  pub crossed : last.kept.book.crossings ≡ reverse (lines.crossings_of shows)
+  pub messages : SafeMessages last.kept.book.crossings
+
+pub record WorldStopsFrom {C : Type 0} (calls : world.Calls C) (opening : C) (events : List WorldEvent) (shows : List lines.Shown) : Type 0 where
+  pub last : WorldState C
+  pub stopped : worlds.EndsIn (shown calls) (worlds.StopsIn (shown calls)) (opening_world (shown calls) opening) events last shows
+  pub crossed : last.kept.book.crossings ≡ reverse (lines.crossings_of shows)
+  pub messages : SafeMessages last.kept.book.crossings
+
+-- the lives, where the book is asked for
+abbrev pub book_text : Bool → List Life → List ℕ
+book_text true lives = lives_output lives
+book_text false lives = []
+
+-- what all events show is written, then the lives where the book is asked for, and a last line `end`
+pub record WritesWorld (book : Bool) (AreShown : List Life → List lines.Shown → Type 0) (before after : Option (List ℕ)) : Type 0 where
+  pub shown : List lines.Shown
+  pub lives : List Life
+  pub shows : AreShown lives shown
+  pub written : Appends before after (lines.output shown ++ (book_text book lives ++ codes "end\n"))
+
+-- ---- any network
+
+-- events are replayed over a carrier with such calls, without host programs or with them
+abbrev pub ReplaysFrom : {C : Type 0} → Calls C → C → Bool → Asked → Option (List ℕ) → Option (List ℕ) → Type 0
+ReplaysFrom calls opening book (Raw events) before after = WritesAll (ShowsFrom calls opening events) before after
+ReplaysFrom calls opening book (World events) before after = WritesWorld book (WorldShowsFrom (hosting calls) opening events) before after
+
+abbrev pub EndsFrom : {C : Type 0} → Calls C → C → Asked → Option (List ℕ) → Option (List ℕ) → Type 0
+EndsFrom calls opening (Raw events) before after = Writes (StopsFrom calls opening events) before after
+EndsFrom calls opening (World events) before after = lines.Writes (WorldStopsFrom (hosting calls) opening events) before after
+
+-- over the carrier that a topology names: plain mailboxes between its hosts, or the subnet of its IMPs and lines
+abbrev pub ReplaysOver : CarrierKind → TopologyFields → Bool → Asked → Option (List ℕ) → Option (List ℕ) → Type 0
+ReplaysOver kind.Plain t book events before after = ReplaysFrom plain_calls (plain_of t) book events before after
+ReplaysOver kind.Subnet t book events before after = ReplaysFrom subnet_calls (subnet_of t) book events before after
+
+abbrev pub EndsOver : CarrierKind → TopologyFields → Asked → Option (List ℕ) → Option (List ℕ) → Type 0
+EndsOver kind.Plain t events before after = EndsFrom plain_calls (plain_of t) events before after
+EndsOver kind.Subnet t events before after = EndsFrom subnet_calls (subnet_of t) events before after
+
+abbrev pub ReplaysOn : TopologyFields → Bool → Asked → Option (List ℕ) → Option (List ℕ) → Type 0
+ReplaysOn t book events before after = ReplaysOver t.carrier t book events before after
+
+abbrev pub EndsOn : TopologyFields → Asked → Option (List ℕ) → Option (List ℕ) → Type 0
+EndsOn t events before after = EndsOver t.carrier t events before after
+
 -- the script of an input is replayed over the carrier of its topology
-pub record ReplaysInput (octets : List ℕ) (before after : Option (List ℕ)) : Type 0 where
+pub record ReplaysInput (book : Bool) (octets : List ℕ) (before after : Option (List ℕ)) : Type 0 where
   pub network : TopologyFields
-  pub events : List Event
+  pub events : Asked
   pub input : IsInput octets network events
-  pub replayed : WritesAll (Shows network events) before after
+  pub replayed : ReplaysOn network book events before after
 
 -- memory ran out while it was replayed: what was shown by then is written, and nothing else
 pub record StopsInput (octets : List ℕ) (before after : Option (List ℕ)) : Type 0 where
   pub network : TopologyFields
-  pub events : List Event
+  pub events : Asked
   pub input : IsInput octets network events
-  pub stopped : Writes (Stops network events) before after
+  pub stopped : EndsOn network events before after
 
 -- ---- for any reader: what crossed is a log that every host may rely on
 
--- the output of a whole replay: its lines, and a last line `end`
+-- the output of a whole replay: its lines, lives or none, and a last line `end`
 pub record Ran (before after : Option (List ℕ)) : Type 0 where
-  pub shown : List Shown
-  pub written : Appends before after (output shown ++ codes "end\n")
-  pub messages : SafeMessages (reverse (crossings_of shown))
+  pub shown : List lines.Shown
+  pub lives : List Life
+  pub written : Appends before after (lines.output shown ++ (lives_output lives ++ codes "end\n"))
+  pub messages : SafeMessages (reverse (lines.crossings_of shown))
 
 -- the output of a replay that ran out of memory: lines without an end
 pub record RanInPart (before after : Option (List ℕ)) : Type 0 where
-  pub shown : List Shown
-  pub written : Appends before after (output shown)
-  pub messages : SafeMessages (reverse (crossings_of shown))
+  pub shown : List lines.Shown
+  pub written : Appends before after (lines.output shown)
+  pub messages : SafeMessages (reverse (lines.crossings_of shown))

@@ -1,4 +1,6 @@
 -- What the contracts of private functions say. No public clause cites this file.
+use Rattle.std.specs.Prelude.{ℕ, Bool, List}
+use Rattle.command_line.specs.Events.{IsFirstBadIn}
 use Rattle.command_line.specs.declared.fault.ScriptFault.{ScriptFault}
 use Rattle.command_line.specs.declared.fault.ScriptFault.TheVariants as fault
 
@@ -28,3 +30,12 @@ IsReplayFault fault.BadTopology = ⊥
 IsReplayFault fault.CannotRead = ⊥
 IsReplayFault fault.BadOptions = ⊥
 IsReplayFault (fault.BadLine number) = ⊥
+
+-- the faults of reading a script
+abbrev pub IsEventsFault : Bool → List ℕ → ScriptFault → Type 0
+IsEventsFault raw text (fault.BadLine number) = IsFirstBadIn raw text number
+IsEventsFault raw text fault.OutOfMemory = Unit {0}
+IsEventsFault raw text fault.BadTopology = ⊥
+IsEventsFault raw text fault.BadOptions = ⊥
+IsEventsFault raw text fault.CannotRead = ⊥
+IsEventsFault raw text fault.CannotWrite = ⊥

@@ -1,66 +1,131 @@
-//! Over which carrier a script is replayed.
+//! Over which carrier a script is replayed, without host programs or with them.
 
-ghost use Rattle.std.specs.Prelude.{◌≡◌, ◌⊎◌, [], Err, IfErr, IfOk, OnOk};
+ghost use Rattle.std.specs.Prelude.{◌≡◌, ◌⊎◌, ◌++◌, [], codes, Err, IfErr, IfOk, OnOk};
 ghost use Rattle.std.specs.Io.KnownBytes.{Appends, Keeps};
 ghost use Rattle.replay.specs.Output.{Writes};
-ghost use Rattle.command_line.specs.Carriers.{ends_of, subnet_of};
-ghost use Rattle.command_line.specs.Replayed.{Shows, ShowsFrom, Stops, StopsFrom, WritesAll};
+ghost use Rattle.world_replay.specs.Output as lines;
+ghost use Rattle.command_line.specs.Carriers.{ends_of, hosting, subnet_of};
+ghost use Rattle.command_line.specs.Events.{asked_of};
+ghost use Rattle.command_line.specs.Replayed.{EndsFrom, EndsOn, ReplaysFrom, ReplaysOn, ShowsFrom, StopsFrom, book_text, WorldShowsFrom, WorldStopsFrom, WritesAll, WritesWorld};
 ghost use Rattle.command_line.specs.Steps.{IsReplayFault};
 
 use crate::fault::ScriptFault;
+use crate::input::Events;
 use leader1822::{Carrier, PlainBoxes};
-use replay::{ReplayFault, replay_events};
+use net_sim::World;
 use script::Event;
 use std::alloc::{AllocError, Global};
 use std::io::Write;
 use subnet::Subnet;
 use topology::{CarrierKind, Ends, Topology};
+use world_replay::print_lives;
+use world_script::WorldEvent;
 
 /// Replays events over the carrier that a topology names, plain mailboxes or a subnet. It writes what they
-/// show, and a last line `end`.
+/// show, the lives of connections where the book is asked for, and a last line `end`.
 ///
 /// Errors: `CannotWrite`; `OutOfMemory`, after which what the first of the events show is written.
 pub(crate) fn replay_on<W: Write>(
     alloc: Global,
     network: &Topology,
-    events: &[Event],
+    events: Events,
+    book: bool,
     writer: &mut W,
 ) -> Result<(), ScriptFault>
-    ensures replayed { OnOk result (WritesAll (Shows network.now events.now) (W.contents writer.old) (W.contents writer.new)) }
-    ensures stopped { result ≡ Err ScriptFault.OutOfMemory → Keeps (W.contents writer.old) (W.contents writer.new) ⊎ Writes (Stops network.now events.now) (W.contents writer.old) (W.contents writer.new) }
+    ensures replayed { OnOk result (ReplaysOn network.now book (asked_of events) (W.contents writer.old) (W.contents writer.new)) }
+    ensures stopped { result ≡ Err ScriptFault.OutOfMemory → Keeps (W.contents writer.old) (W.contents writer.new) ⊎ EndsOn network.now (asked_of events) (W.contents writer.old) (W.contents writer.new) }
     ensures fault { IfErr result IsReplayFault }
 {
     match network.carrier() {
         CarrierKind::Plain => {
             let hosts = network.hosts(alloc)?;
-            let mut boxes = PlainBoxes::new(alloc, hosts);
-            replay_over(&mut boxes, events, writer)
+            replay_over(alloc, PlainBoxes::new(alloc, hosts), events, book, writer)
         }
         CarrierKind::Subnet => {
-            let mut subnet = subnet_of(alloc, network)?;
-            replay_over(&mut subnet, events, writer)
+            let subnet = subnet_of(alloc, network)?;
+            replay_over(alloc, subnet, events, book, writer)
         }
     }
 }
 
-/// Replays events over a carrier at its opening, and writes what they show and a last line `end`.
+/// Replays events over a carrier at its opening, without host programs or with them.
 ///
 /// Errors: `CannotWrite`; `OutOfMemory`, after which what the first of the events show is written.
 fn replay_over<C: Carrier, W: Write>(
-    carrier: &mut C,
+    alloc: Global,
+    carrier: C,
+    events: Events,
+    book: bool,
+    writer: &mut W,
+) -> Result<(), ScriptFault>
+    requires { (C.seen carrier).log ≡ [] }
+    ensures replayed { OnOk result (ReplaysFrom (record { seen = C.seen; offers = C.offers; takes = C.takes; steps = C.steps; rounds = C.rounds }) carrier book (asked_of events) (W.contents writer.old) (W.contents writer.new)) }
+    ensures stopped { result ≡ Err ScriptFault.OutOfMemory → Keeps (W.contents writer.old) (W.contents writer.new) ⊎ EndsFrom (record { seen = C.seen; offers = C.offers; takes = C.takes; steps = C.steps; rounds = C.rounds }) carrier (asked_of events) (W.contents writer.old) (W.contents writer.new) }
+    ensures fault { IfErr result IsReplayFault }
+{
+    match events {
+        Events::Raw(events) => replay_raw(carrier, &events, writer),
+        Events::World(events) => replay_world(alloc, carrier, events, book, writer),
+    }
+}
+
+/// Replays events without host programs, and writes what they show and a last line `end`.
+///
+/// Errors: `CannotWrite`; `OutOfMemory`, after which what the first of the events show is written.
+fn replay_raw<C: Carrier, W: Write>(
+    mut carrier: C,
     events: &[Event],
     writer: &mut W,
 ) -> Result<(), ScriptFault>
-    requires { (C.seen carrier.old).log ≡ [] }
-    ensures replayed { OnOk result (WritesAll (ShowsFrom (record { seen = C.seen; offers = C.offers; takes = C.takes; steps = C.steps; rounds = C.rounds }) carrier.old events.now) (W.contents writer.old) (W.contents writer.new)) }
-    ensures stopped { result ≡ Err ScriptFault.OutOfMemory → Writes (StopsFrom (record { seen = C.seen; offers = C.offers; takes = C.takes; steps = C.steps; rounds = C.rounds }) carrier.old events.now) (W.contents writer.old) (W.contents writer.new) }
+    requires { (C.seen carrier).log ≡ [] }
+    ensures replayed { OnOk result (WritesAll (ShowsFrom (record { seen = C.seen; offers = C.offers; takes = C.takes; steps = C.steps; rounds = C.rounds }) carrier events.now) (W.contents writer.old) (W.contents writer.new)) }
+    ensures stopped { result ≡ Err ScriptFault.OutOfMemory → Writes (StopsFrom (record { seen = C.seen; offers = C.offers; takes = C.takes; steps = C.steps; rounds = C.rounds }) carrier events.now) (W.contents writer.old) (W.contents writer.new) }
     ensures fault { IfErr result IsReplayFault }
 {
-    match replay_events(carrier, events, writer) {
+    match replay::replay_events(&mut carrier, events, writer) {
         Ok(()) => write_last(writer, b"end\n"),
-        Err(ReplayFault::OutOfMemory) => Err(ScriptFault::OutOfMemory),
-        Err(ReplayFault::CannotWrite) => Err(ScriptFault::CannotWrite),
+        Err(fault) => Err(ScriptFault::from(fault)),
     }
+}
+
+/// Replays events of hosts with programs, and writes what they show, the lives of connections where the book is asked
+/// for, and a last line `end`.
+///
+/// Errors: `CannotWrite`; `OutOfMemory`, after which what the first of the events show is written.
+fn replay_world<C: Carrier, W: Write>(
+    alloc: Global,
+    carrier: C,
+    events: Vec<WorldEvent>,
+    book: bool,
+    writer: &mut W,
+) -> Result<(), ScriptFault>
+    requires { (C.seen carrier).log ≡ [] }
+    ensures replayed { OnOk result (WritesWorld book (WorldShowsFrom (hosting (record { seen = C.seen; offers = C.offers; takes = C.takes; steps = C.steps; rounds = C.rounds })) carrier events.items) (W.contents writer.old) (W.contents writer.new)) }
+    ensures stopped { result ≡ Err ScriptFault.OutOfMemory → Keeps (W.contents writer.old) (W.contents writer.new) ⊎ lines.Writes (WorldStopsFrom (hosting (record { seen = C.seen; offers = C.offers; takes = C.takes; steps = C.steps; rounds = C.rounds })) carrier events.items) (W.contents writer.old) (W.contents writer.new) }
+    ensures fault { IfErr result IsReplayFault }
+{
+    let mut world = World::new(alloc, carrier)?;
+    match world_replay::replay_events(&mut world, events, writer) {
+        Ok(()) => write_book(&world, book, writer),
+        Err(fault) => Err(ScriptFault::from(fault)),
+    }
+}
+
+/// Writes the lives of a world's connections, where the book is asked for, and a last line `end`.
+///
+/// Errors: `CannotWrite`.
+fn write_book<C: Carrier, W: Write>(
+    world: &World<C>,
+    book: bool,
+    writer: &mut W,
+) -> Result<(), ScriptFault>
+    ensures written { OnOk result (Appends (W.contents writer.old) (W.contents writer.new) (book_text book world.now.kept.book.lives ++ codes "end\n")) }
+    ensures fault { IfErr result (λ f. f ≡ ScriptFault.CannotWrite) }
+{
+    if book && print_lives(world.book().lives(), writer).is_err() {
+        return Err(ScriptFault::CannotWrite);
+    }
+    write_last(writer, b"end\n")
 }
 
 /// The subnet of a topology's IMPs and lines, at its opening.

@@ -3,6 +3,7 @@
 ghost use Rattle.std.specs.Prelude.{◌≡◌};
 ghost use Rattle.command_line.specs.Faults.{status_of};
 
+use replay::ReplayFault;
 use std::alloc::{AllocError, AllocFailed};
 use thiserror::Error;
 
@@ -65,5 +66,18 @@ impl<T: Drop> From<AllocFailed<T>> for ScriptFault {
 
     fn from(_error: AllocFailed<T>) -> ScriptFault {
         ScriptFault::OutOfMemory
+    }
+}
+
+impl From<ReplayFault> for ScriptFault {
+    ghost use Rattle.command_line.specs.Faults.{told_as};
+
+    ghost from_gives = { λ fault e. e ≡ told_as fault };
+
+    fn from(fault: ReplayFault) -> ScriptFault {
+        match fault {
+            ReplayFault::OutOfMemory => ScriptFault::OutOfMemory,
+            ReplayFault::CannotWrite => ScriptFault::CannotWrite,
+        }
     }
 }

@@ -1,9 +1,11 @@
 //! What the simulator reads: octets up to a limit, and the topology and the script in them.
 
-ghost use Rattle.std.specs.Prelude.{◌≡◌, ◌≤◌, Err, IsUtf8, ◌<◌, length, IfSome, IfOk, IfErr};
+ghost use Rattle.std.specs.Prelude.{◌≡◌, ◌≤◌, Err, IsUtf8, ◌<◌, length, IfSome, IfOk, IfErr, MatchResult};
+ghost use Rattle.command_line.specs.Described.{Describes};
+ghost use Rattle.command_line.specs.Events.{AsksFor, asked_of};
 ghost use Rattle.command_line.specs.Input.{IsInput, IsInputFault};
-ghost use Rattle.command_line.specs.Replayable.{IsReplayable};
-ghost use Rattle.command_line.specs.Steps.{IsNetworkFault, IsReadFault};
+ghost use Rattle.script.specs.Script.{lines_of};
+ghost use Rattle.command_line.specs.Steps.{IsEventsFault, IsNetworkFault, IsReadFault};
 ghost use Rattle.topology.specs.Topology.{TopologyFields};
 
 use crate::fault::ScriptFault;
@@ -12,6 +14,16 @@ use std::alloc::Global;
 use std::io::{ErrorKind, Read};
 use std::str;
 use topology::{Topology, TopologyFault};
+use world_script::{WorldEvent, read_world_script};
+
+/// What a script asks for.
+#[derive(Drop)]
+pub(crate) enum Events {
+    /// Events of a network without host programs.
+    Raw(Vec<Event>),
+    /// Events of a network whose hosts have programs.
+    World(Vec<WorldEvent>),
+}
 
 /// What an input asks for.
 #[derive(Drop)]
@@ -19,16 +31,16 @@ pub(crate) struct Input {
     /// Its topology.
     pub network: Topology,
     /// The events of its script.
-    pub events: Vec<Event>,
+    pub events: Events,
 }
 
 /// The input that these octets are.
 ///
-/// Errors: `BadTopology` where the octets have no line `%` or begin with no topology that can be replayed,
+/// Errors: `BadTopology` where the octets have no line `%` or begin with no topology,
 /// `BadLine` for the first line of the script that is no event, `OutOfMemory`.
 pub(crate) fn read_input(alloc: Global, octets: &[u8]) -> Result<Input, ScriptFault>
     requires { length octets.now ≤ MAX_INPUT }
-    ensures read { IfOk result (λ input. IsInput octets.now input.network input.events.items) }
+    ensures read { IfOk result (λ input. IsInput octets.now input.network (asked_of input.events)) }
     ensures fault { IfErr result (IsInputFault octets.now) }
 {
     let Some((topology, script)) = split_input(octets) else {
@@ -38,10 +50,34 @@ pub(crate) fn read_input(alloc: Global, octets: &[u8]) -> Result<Input, ScriptFa
         Ok(network) => network,
         Err(fault) => return Err(fault),
     };
-    match read_script(alloc, script) {
-        Ok(events) => Ok(Input { network, events }),
-        Err(LineFault::BadLine(number)) => Err(ScriptFault::BadLine(number)),
-        Err(LineFault::OutOfMemory) => Err(ScriptFault::OutOfMemory),
+    let events = match read_events(alloc, network.is_raw(), script) {
+        Ok(events) => events,
+        Err(fault) => return Err(fault),
+    };
+    Ok(Input { network, events })
+}
+
+/// The events that a script asks for, where its network is raw or has host programs.
+///
+/// Errors: `BadLine` for the first line that is no event of such a network, `OutOfMemory`.
+fn read_events(alloc: Global, raw: bool, script: &[u8]) -> Result<Events, ScriptFault>
+    requires { length script.now ≤ MAX_INPUT }
+    ensures { MatchResult result (λ events. AsksFor raw (asked_of events) (lines_of script.now)) (IsEventsFault raw script.now) }
+{
+    let fault = if raw {
+        match read_script(alloc, script) {
+            Ok(events) => return Ok(Events::Raw(events)),
+            Err(fault) => fault,
+        }
+    } else {
+        match read_world_script(alloc, script) {
+            Ok(events) => return Ok(Events::World(events)),
+            Err(fault) => fault,
+        }
+    };
+    match fault {
+        LineFault::BadLine(number) => Err(ScriptFault::BadLine(number)),
+        LineFault::OutOfMemory => Err(ScriptFault::OutOfMemory),
     }
 }
 
@@ -66,18 +102,18 @@ pub(crate) fn read_octets<R: Read>(alloc: Global, reader: &mut R) -> Result<Vec<
     }
 }
 
-/// A topology that can be replayed: one without host programs.
+/// The topology that a document describes.
 ///
-/// Errors: `BadTopology` for any other document, `OutOfMemory`.
+/// Errors: `BadTopology` for a document that describes none, `OutOfMemory`.
 fn read_network(alloc: Global, document: &[u8]) -> Result<Topology, ScriptFault>
-    ensures found { IfOk result (λ network. IsReplayable document.now network) }
-    ensures refused { result ≡ Err ScriptFault.BadTopology → IsUtf8 document.now → (t : TopologyFields) → ¬ IsReplayable document.now t }
+    ensures found { IfOk result (λ network. Describes document.now network) }
+    ensures refused { result ≡ Err ScriptFault.BadTopology → IsUtf8 document.now → (t : TopologyFields) → ¬ Describes document.now t }
     ensures fault { IfErr result IsNetworkFault }
 {
     let document = str::from_utf8(document).map_err(|_| ScriptFault::BadTopology)?;
     match Topology::read(alloc, document) {
-        Ok(network) if network.is_raw() => Ok(network),
-        Ok(_) | Err(TopologyFault::BadTopology) => Err(ScriptFault::BadTopology),
+        Ok(network) => Ok(network),
+        Err(TopologyFault::BadTopology) => Err(ScriptFault::BadTopology),
         Err(TopologyFault::OutOfMemory) => Err(ScriptFault::OutOfMemory),
     }
 }

@@ -8,7 +8,7 @@ ghost use Rattle.command_line.specs.Replayed.{Ran, RanInPart, ReplaysInput, Stop
 
 use crate::carriers::{replay_on, write_last};
 use crate::fault::ScriptFault;
-use crate::input::{read_input, read_octets};
+use crate::input::{Input, read_input, read_octets};
 use crate::options::{Options, OptionsFault};
 use std::alloc::Global;
 use std::io::{Read, Write};
@@ -37,7 +37,7 @@ pub fn run<R: Read, W: Write>(
     ensures ran { IfSome (options_of (map string_bytes words.now)) (λ options. options.check ≡ false → OnOk result (Ran (W.contents writer.old) (W.contents writer.new))) }
 
     // and the script that was read is replayed over the carrier of the topology that was read
-    ensures replayed { IfSome (options_of (map string_bytes words.now)) (λ options. options.check ≡ false → OnOk result (IfSome (R.remaining reader.old) (λ octets. ReplaysInput octets (W.contents writer.old) (W.contents writer.new)))) }
+    ensures replayed { IfSome (options_of (map string_bytes words.now)) (λ options. options.check ≡ false → OnOk result (IfSome (R.remaining reader.old) (λ octets. ReplaysInput options.book octets (W.contents writer.old) (W.contents writer.new)))) }
 
     // what is read is an input, or the first fault is given
     ensures read { IfSome (options_of (map string_bytes words.now)) (λ options. IfSome (R.remaining reader.old) (λ octets. MatchResult result (λ _. IsSomeInput octets) (IsInputFault octets))) }
@@ -57,13 +57,13 @@ pub fn run<R: Read, W: Write>(
 }
 
 /// Reads a topology, the marker line `%` and a script, and replays the script: it writes one line for each
-/// crossing and each refusal, and a last line `end`. With `check` it only reads, and writes `ok`. With `book`
-/// the connections would stand before `end`; without host programs there are none.
+/// crossing, each thing that a host's user is told and each refusal, and a last line `end`. With `check` it only
+/// reads, and writes `ok`. With `book` the lives of connections stand before `end`; without host programs there
+/// are none.
 ///
 /// Errors, in this order:
 /// - `CannotRead`: a read failed.
-/// - `BadTopology`: the input has more than 1,048,576 octets, has no line `%`, or begins with no topology
-///   that can be replayed.
+/// - `BadTopology`: the input has more than 1,048,576 octets, has no line `%`, or begins with no topology.
 /// - `BadLine`: the first line of the script that is no event. Nothing is replayed and nothing is written.
 /// - `CannotWrite`: a write failed. How much was written the writer alone knows.
 ///
@@ -73,7 +73,7 @@ pub fn run_script<R: Read, W: Write>(
     alloc: Global,
     reader: &mut R,
     writer: &mut W,
-    _book: bool,
+    book: bool,
     check: bool,
 ) -> Result<(), ScriptFault>
     // with `check` the input is only read
@@ -83,7 +83,7 @@ pub fn run_script<R: Read, W: Write>(
     ensures ran { check ≡ false → OnOk result (Ran (W.contents writer.old) (W.contents writer.new)) }
 
     // and the script that was read is replayed over the carrier of the topology that was read
-    ensures replayed { check ≡ false → OnOk result (IfSome (R.remaining reader.old) (λ octets. ReplaysInput octets (W.contents writer.old) (W.contents writer.new))) }
+    ensures replayed { check ≡ false → OnOk result (IfSome (R.remaining reader.old) (λ octets. ReplaysInput book octets (W.contents writer.old) (W.contents writer.new))) }
     ensures options { IfErr result (λ f. f ≢ ScriptFault.BadOptions) }
 
     // what is read is an input, or the first fault is given
@@ -100,10 +100,10 @@ pub fn run_script<R: Read, W: Write>(
     ensures check_memory { check ≡ true → result ≡ Err ScriptFault.OutOfMemory → writer.new ≡ writer.old }
 {
     let octets = read_octets(alloc, reader)?;
-    let input = read_input(alloc, &octets)?;
+    let Input { network, events } = read_input(alloc, &octets)?;
     if check {
         write_last(writer, b"ok\n")
     } else {
-        replay_on(alloc, &input.network, &input.events, writer)
+        replay_on(alloc, &network, events, book, writer)
     }
 }

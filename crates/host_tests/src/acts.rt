@@ -1,68 +1,71 @@
 //! Acts on a host's program, and what comes of them.
 
-ghost use Rattle.std.specs.Prelude.{◌≡◌, ◌≤◌, false};
+ghost use Rattle.std.specs.Prelude.{◌≡◌, false};
 
+use crate::opening::{OPENED, READY};
 use bit_messages::Bits;
 use leader1822::{Answer, Flow, HostAddr, HostMessage, Inbound, Link, Text};
 use sockets::{Ncp, NcpFault, Notice, Request};
 use std::alloc::Global;
 
-/// Something done to the program of 0/1.
+/// Something done to the program of 0/1. A peer is told by the number of its IMP.
 #[derive(Clone, Copy)]
 pub(crate) enum Act {
-    Contact(HostAddr),
+    Contact(u8),
     Listen(u32, u8),
-    OpenSend(HostAddr, u32, u32, u8),
-    OpenReceive(HostAddr, u32, u32),
+    OpenSend(u8, u32, u32, u8),
+    OpenReceive(u8, u32, u32),
     /// The octets beside it are to be sent.
     Send(u32),
     Grant(u32, u16, u32),
     AskBack(u32, u8, u8),
     Interrupt(u32),
     Close(u32),
-    Echo(HostAddr, u8),
+    Echo(u8, u8),
+    /// A control message of 0/2 comes in, with all bits of the octets beside it.
+    Control,
     /// A message of a peer comes in on a link, with so many bits of the octets beside it.
-    Hear(HostAddr, u8, usize),
+    Hear(u8, u8, usize),
     /// An answer comes in about a message to a peer on a link.
-    Answered(Answer, HostAddr, u8),
+    Answered(Answer, u8, u8),
     /// The carrier has taken what goes out next.
     Offered,
 }
 
 /// An act, the octets that go in, what is told or why it is refused, and what goes out next: peer, link and
 /// text, or nothing.
-pub(crate) type Row<'a> = (Act, &'a [u8], &'a str, &'a str);
+pub(crate) type Row = (Act, &'static [u8], &'static str, &'static str);
 
-/// 0/1.
-pub(crate) fn own() -> HostAddr {
-    HostAddr::new(0, 1).unwrap()
+/// What stands before a scene.
+#[derive(Clone, Copy)]
+pub(crate) enum Start {
+    /// Nothing.
+    New,
+    /// The pair is reset.
+    Ready,
+    /// The pair is reset, and two connections are opened.
+    Opened,
 }
 
-/// 0/2.
-pub(crate) fn peer() -> HostAddr {
-    HostAddr::new(0, 2).unwrap()
+/// Its name, what stands before it, and its rows.
+pub(crate) type Scene = (&'static str, Start, &'static [Row]);
+
+/// Host 0 at an IMP. No row names an IMP that can't be.
+pub(crate) fn host(imp: u8) -> HostAddr {
+    match HostAddr::new(0, imp) {
+        Some(host) => host,
+        None => HostAddr::new(3, 63).unwrap(),
+    }
 }
 
-/// The RFNM for a message to 0/2 on a link.
-pub(crate) fn rfnm(link: u8) -> Act {
-    Act::Answered(Answer::Rfnm, peer(), link)
-}
-
-/// A control message of 0/2 with so many octets of commands, all of it beside the act.
-pub(crate) fn hear(octets: usize) -> Act
-    requires { octets ≤ 1000 }
-{
-    Act::Hear(peer(), 0, 40 + 8 * octets)
-}
-
-/// Puts octets behind a text.
-fn spell(out: &mut String, octets: &[u8]) -> Result<(), NcpFault> {
+/// Puts octets behind a text. `false` where no memory is left for them.
+pub(crate) fn spell(out: &mut String, octets: &[u8]) -> bool {
     for octet in octets {
         if write!(out, "{octet:02X}").is_err() {
-            return Err(NcpFault::OutOfMemory);
+            return false;
         }
     }
-    Ok(())
+    true
 }
 
 /// Puts a notice behind a text.
@@ -102,10 +105,15 @@ fn tell(out: &mut String, notice: &Notice) -> Result<(), NcpFault> {
     if done.is_err() {
         return Err(NcpFault::OutOfMemory);
     }
-    match notice {
+    let is_spelt = match notice {
         Notice::Sent { bits, .. } | Notice::Arrived { bits, .. } => spell(out, bits.as_octets()),
         Notice::RemoteError { detail, .. } => spell(out, detail),
-        _ => Ok(()),
+        _ => true,
+    };
+    if is_spelt {
+        Ok(())
+    } else {
+        Err(NcpFault::OutOfMemory)
     }
 }
 
@@ -117,25 +125,34 @@ fn bits_of(alloc: Global, octets: &[u8], count: usize) -> Result<Bits, NcpFault>
     Ok(bits)
 }
 
+/// A message of a peer on a link. `None` where the bits are too many for one.
+fn message(
+    alloc: Global,
+    peer: u8,
+    link: u8,
+    octets: &[u8],
+    count: usize,
+) -> Result<Option<Inbound>, NcpFault> {
+    let Some(text) = Text::new(bits_of(alloc, octets, count)?) else {
+        return Ok(None);
+    };
+    let flow = Flow {
+        source: host(peer),
+        destination: host(1),
+        link: Link(link),
+    };
+    Ok(Some(Inbound::Message(HostMessage { flow, text })))
+}
+
 /// What comes in by an act.
-fn inbound(alloc: Global, act: &Act, octets: &[u8]) -> Result<Option<Inbound>, NcpFault> {
-    match *act {
-        Act::Hear(source, link, count) => {
-            let bits = bits_of(alloc, octets, count)?;
-            let Some(text) = Text::new(bits) else {
-                return Ok(None);
-            };
+fn inbound(alloc: Global, act: Act, octets: &[u8]) -> Result<Option<Inbound>, NcpFault> {
+    match act {
+        Act::Control => message(alloc, 2, 0, octets, octets.len().saturating_mul(8)),
+        Act::Hear(peer, link, count) => message(alloc, peer, link, octets, count),
+        Act::Answered(kind, peer, link) => {
             let flow = Flow {
-                source,
-                destination: own(),
-                link: Link(link),
-            };
-            Ok(Some(Inbound::Message(HostMessage { flow, text })))
-        }
-        Act::Answered(kind, destination, link) => {
-            let flow = Flow {
-                source: own(),
-                destination,
+                source: host(1),
+                destination: host(peer),
                 link: Link(link),
             };
             Ok(Some(Inbound::Answer(kind, flow)))
@@ -145,17 +162,21 @@ fn inbound(alloc: Global, act: &Act, octets: &[u8]) -> Result<Option<Inbound>, N
 }
 
 /// What a user asks for by an act.
-fn request(alloc: Global, act: &Act, octets: &[u8]) -> Result<Option<Request>, NcpFault> {
-    Ok(Some(match *act {
-        Act::Contact(peer) => Request::Contact { peer },
+fn request(alloc: Global, act: Act, octets: &[u8]) -> Result<Option<Request>, NcpFault> {
+    Ok(Some(match act {
+        Act::Contact(peer) => Request::Contact { peer: host(peer) },
         Act::Listen(socket, size) => Request::Listen { socket, size },
         Act::OpenSend(peer, own, foreign, size) => Request::OpenSend {
-            peer,
+            peer: host(peer),
             own,
             foreign,
             size,
         },
-        Act::OpenReceive(peer, own, foreign) => Request::OpenReceive { peer, own, foreign },
+        Act::OpenReceive(peer, own, foreign) => Request::OpenReceive {
+            peer: host(peer),
+            own,
+            foreign,
+        },
         Act::Send(socket) => Request::Send {
             socket,
             bits: bits_of(alloc, octets, octets.len().saturating_mul(8))?,
@@ -172,48 +193,40 @@ fn request(alloc: Global, act: &Act, octets: &[u8]) -> Result<Option<Request>, N
         },
         Act::Interrupt(socket) => Request::Interrupt { socket },
         Act::Close(socket) => Request::Close { socket },
-        Act::Echo(peer, octet) => Request::Echo { peer, octet },
-        Act::Hear(..) | Act::Answered(..) | Act::Offered => return Ok(None),
+        Act::Echo(peer, octet) => Request::Echo {
+            peer: host(peer),
+            octet,
+        },
+        _ => return Ok(None),
     }))
 }
 
-/// Makes the call of a request.
-fn call(alloc: Global, ncp: &mut Ncp, request: Request) -> Result<Vec<Notice>, NcpFault>
+/// Makes the call of an act's name, which tells nothing.
+fn call(alloc: Global, ncp: &mut Ncp, act: Act, octets: &[u8]) -> Result<(), NcpFault>
     requires { ncp.old.spent ≡ false }
 {
-    match request {
-        Request::Contact { peer } => return ncp.contact(peer),
-        Request::Listen { socket, size } => ncp.listen(socket, size)?,
-        Request::OpenSend {
-            peer,
-            own,
-            foreign,
-            size,
-        } => ncp.open_send(peer, own, foreign, size)?,
-        Request::OpenReceive { peer, own, foreign } => ncp.open_receive(peer, own, foreign)?,
-        Request::Send { socket, bits } => ncp.send(socket, bits)?,
-        Request::Grant {
-            socket,
-            messages,
-            bits,
-        } => ncp.grant(socket, messages, bits)?,
-        Request::AskBack {
-            socket,
-            messages,
-            bits,
-        } => ncp.ask_back(socket, messages, bits)?,
-        Request::Interrupt { socket } => ncp.interrupt(socket)?,
-        Request::Close { socket } => ncp.close(socket)?,
-        Request::Echo { peer, octet } => ncp.echo(peer, octet)?,
+    match act {
+        Act::Listen(socket, size) => ncp.listen(socket, size),
+        Act::OpenSend(peer, own, foreign, size) => ncp.open_send(host(peer), own, foreign, size),
+        Act::OpenReceive(peer, own, foreign) => ncp.open_receive(host(peer), own, foreign),
+        Act::Send(socket) => {
+            let bits = bits_of(alloc, octets, octets.len().saturating_mul(8))?;
+            ncp.send(socket, bits)
+        }
+        Act::Grant(socket, messages, bits) => ncp.grant(socket, messages, bits),
+        Act::AskBack(socket, messages, bits) => ncp.ask_back(socket, messages, bits),
+        Act::Interrupt(socket) => ncp.interrupt(socket),
+        Act::Close(socket) => ncp.close(socket),
+        Act::Echo(peer, octet) => ncp.echo(host(peer), octet),
+        _ => Ok(()),
     }
-    Ok(Vec::new(alloc))
 }
 
 /// What an act tells. What a user asks for is asked by the call of its name, or as a request.
 fn told(
     alloc: Global,
     ncp: &mut Ncp,
-    act: &Act,
+    act: Act,
     octets: &[u8],
     stamp: usize,
     asks: bool,
@@ -223,13 +236,17 @@ fn told(
     if let Some(inbound) = inbound(alloc, act, octets)? {
         return ncp.accept(inbound, stamp);
     }
-    let Some(request) = request(alloc, act, octets)? else {
+    if matches!(act, Act::Offered) {
         return ncp.offered(stamp);
-    };
-    if asks {
+    }
+    if asks && let Some(request) = request(alloc, act, octets)? {
         return ncp.ask(request);
     }
-    call(alloc, ncp, request)
+    if let Act::Contact(peer) = act {
+        return ncp.contact(host(peer));
+    }
+    call(alloc, ncp, act, octets)?;
+    Ok(Vec::new(alloc))
 }
 
 /// What an act tells, in words: its notices, or why it is refused.
@@ -257,10 +274,11 @@ fn words(alloc: Global, told: Result<Vec<Notice>, NcpFault>) -> Result<String, N
 fn next(alloc: Global, ncp: &Ncp) -> Result<String, NcpFault> {
     let mut out = String::new(alloc);
     if let Some(HostMessage { flow, text }) = ncp.next_out()? {
-        if write!(out, "{} {} ", flow.destination, flow.link.0).is_err() {
+        if write!(out, "{} {} ", flow.destination, flow.link.0).is_err()
+            || !spell(&mut out, text.bits().as_octets())
+        {
             return Err(NcpFault::OutOfMemory);
         }
-        spell(&mut out, text.bits().as_octets())?;
     }
     Ok(out)
 }
@@ -275,11 +293,11 @@ fn first_other(
     asks: bool,
 ) -> Result<Option<usize>, NcpFault> {
     for (place, (act, octets, telling, going)) in rows.iter().enumerate() {
-        if ncp.is_spent() || ncp.own() != own() {
+        if ncp.is_spent() || ncp.own() != host(1) {
             return Err(NcpFault::OutOfMemory);
         }
         let stamp = place.saturating_add(before);
-        let said = told(alloc, ncp, act, octets, stamp, asks);
+        let said = told(alloc, ncp, *act, octets, stamp, asks);
         if words(alloc, said)?.as_str() != *telling || next(alloc, ncp)?.as_str() != *going {
             return Ok(Some(stamp));
         }
@@ -287,84 +305,28 @@ fn first_other(
     Ok(None)
 }
 
-/// The place of the first row that something else comes of, in one table and then another.
-fn other_where(
-    alloc: Global,
-    first: &[Row],
-    second: &[Row],
-    asks: bool,
-) -> Result<Option<usize>, NcpFault> {
-    let mut ncp = Ncp::new(alloc, own());
-    if let Some(place) = first_other(alloc, &mut ncp, 0, first, asks)? {
+/// The rows before a scene.
+fn rows_before(start: Start) -> &'static [Row] {
+    match start {
+        Start::New => &[],
+        Start::Ready => &READY,
+        Start::Opened => &OPENED,
+    }
+}
+
+/// The place of the first row of a scene that something else comes of: with each call by its name, or with
+/// each as a request.
+fn other(alloc: Global, scene: &Scene, asks: bool) -> Result<Option<usize>, NcpFault> {
+    let before = rows_before(scene.1);
+    let mut ncp = Ncp::new(alloc, host(1));
+    if let Some(place) = first_other(alloc, &mut ncp, 0, before, asks)? {
         return Ok(Some(place));
     }
-    first_other(alloc, &mut ncp, first.len(), second, asks)
+    first_other(alloc, &mut ncp, before.len(), scene.2, asks)
 }
 
-/// The place of the first row that something else comes of, in one table and then another: with each call by
-/// its name, and with each as a request.
-pub(crate) fn other(
-    alloc: Global,
-    first: &[Row],
-    second: &[Row],
-) -> Result<Option<usize>, NcpFault> {
-    if let Some(place) = other_where(alloc, first, second, false)? {
-        return Ok(Some(place));
-    }
-    other_where(alloc, first, second, true)
-}
-
-/// 0/2 resets the pair.
-pub(crate) fn ready() -> [Row<'static>; 3] {
-    [
-        (
-            hear(1),
-            &[0, 8, 0, 1, 0, 12],
-            "ready 0/2",
-            "0/2 0 00080001000D",
-        ),
-        (Act::Offered, &[], "", ""),
-        (rfnm(0), &[], "", ""),
-    ]
-}
-
-/// 0/2 resets the pair, and two connections are opened: from socket 33 to 16 on link 5, and to socket 18 from
-/// 35 on link 2, both with bytes of eight bits.
-pub(crate) fn opened() -> [Row<'static>; 9] {
-    [
-        (
-            hear(1),
-            &[0, 8, 0, 1, 0, 12],
-            "ready 0/2",
-            "0/2 0 00080001000D",
-        ),
-        (Act::Offered, &[], "", ""),
-        (rfnm(0), &[], "", ""),
-        (
-            Act::OpenSend(peer(), 33, 16, 8),
-            &[],
-            "",
-            "0/2 0 0008000A0002000000210000001008",
-        ),
-        (
-            Act::OpenReceive(peer(), 18, 35),
-            &[],
-            "",
-            "0/2 0 00080014000200000021000000100801000000120000002302",
-        ),
-        (Act::Offered, &[], "", ""),
-        (rfnm(0), &[], "", ""),
-        (
-            hear(10),
-            &[0, 8, 0, 10, 0, 1, 0, 0, 0, 16, 0, 0, 0, 33, 5],
-            "opened 33 0/2 16 5 7",
-            "",
-        ),
-        (
-            hear(10),
-            &[0, 8, 0, 10, 0, 2, 0, 0, 0, 35, 0, 0, 0, 18, 8],
-            "opened 18 0/2 35 5 8",
-            "",
-        ),
-    ]
+/// The places of the first rows of a scene that something else comes of: with each call by its name, and with
+/// each as a request.
+pub(crate) fn goes(alloc: Global, scene: &Scene) -> Result<[Option<usize>; 2], NcpFault> {
+    Ok([other(alloc, scene, false)?, other(alloc, scene, true)?])
 }

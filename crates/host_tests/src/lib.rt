@@ -1,11 +1,13 @@
-//! Worked examples of one host's program, by its calls.
+//! Worked examples of one host's program, of the initial connection, of the line terminal and of the echo
+//! service, by their calls.
 //!
 //! A contract says what a call does on every value. It can't say that this is what was meant, nor that
 //! memory is left for the call. So the calls of `Ncp` are made here in tables of acts, each with what has to
-//! be told and what has to go out next, in octets that were written by hand from the formats.
+//! be told and what has to go out next, in octets that were written by hand from the formats. The machines
+//! above it are told notices, and what they say is compared with texts that were written from the rules.
 //!
 //! The tests stand in a crate of their own, since a crate with tests is proved twice, with them and without
-//! them.
+//! them. The tables are constants, since the prover reads a table in a function's body as code.
 #![tactic(auto)]
 
 #[cfg(test)]
@@ -17,6 +19,14 @@ mod data;
 #[cfg(test)]
 mod errors;
 #[cfg(test)]
+mod initial_connection;
+#[cfg(test)]
+mod news;
+#[cfg(test)]
+mod opening;
+#[cfg(test)]
 mod refusals;
 #[cfg(test)]
 mod resets;
+#[cfg(test)]
+mod typing;

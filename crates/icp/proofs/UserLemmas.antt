@@ -1,17 +1,19 @@
 -- A user is done only where both its connections were opened with sockets of its peer.
-use Rattle.std.proofs.Common.{◌≡◌, ℕ, ◌+◌, ◌≤◌, ◌&&◌, ◌||◌, Bool, true, false, nat_lt, List, [], ◌∷◌, ◌++◌, length, take, Option, Some, None, is_some, if◌then◌else◌, refl, ap, sym, ◌∙◌, arith}
+use Rattle.std.proofs.Common.{◌≡◌, ℕ, ◌+◌, ◌≤◌, ◌&&◌, ◌||◌, Bool, true, false, nat_lt, List, [], ◌∷◌, ◌++◌, length, take, Option, Some, None, is_some, if◌then◌else◌, refl, ap, sym, subst, ◌∙◌, append_assoc, length-append, arith}
 use Rattle.std.specs.List.{list_any}
+use Rattle.std.proofs.lemmas.Bool.Decides.{nat_tests}
+use Rattle.std.proofs.lemmas.List.{take-append-le}
 use Rattle.leader1822.specs.Host.{Host}
 use Rattle.ncp_control.specs.Numbers.{is_receive_socket}
 use Rattle.icp.specs.Notices.{arrived_on, is_opened}
 use Rattle.icp.specs.Outcomes.{Turn, passed}
-use Rattle.icp.specs.Played.{IsConnected, before, outcomes_of, user_played}
+use Rattle.icp.specs.Played.{IsConnected, arrived_in, before, bits_in, outcomes_of, said_to, since_opened, user_played}
 use Rattle.icp.specs.Sockets.{socket_of}
 use Rattle.icp.specs.User.{UserState, opening_user, user_by, user_failure, user_heard, user_joined, user_judged, user_met, user_opened, user_stage, user_told, user_turn}
 use Rattle.icp.specs.declared.outcome.Failure.{Failure}
 use Rattle.icp.specs.declared.outcome.Outcome.{Outcome}
 use Rattle.icp.specs.declared.outcome.Outcome.TheVariants as outcome
-use Rattle.sockets.specs.declared.notice.Notice.{Notice}
+use Rattle.host_pairs.specs.declared.notice.Notice.{Notice}
 use Rattle.icp.proofs.ServerLemmas.{both_first, both_second, ended_by, is_done, is_not, receive_of, send_of}
 
 -- ---- after its outcome
@@ -95,11 +97,89 @@ judged_if m both = if both then (record m { over = true }, [], Some (outcome.Don
 abbrev is_open : Bool → ℕ → Host → ℕ → List Notice → Bool
 is_open now socket peer foreign ns = now || list_any (λ n. is_opened socket peer foreign n) ns
 
+-- what the server says to a user who has these bits so far
+abbrev heard_by : Bool → UserState → List Notice → List Bool
+heard_by true s ns = s.bits ++ arrived_in s.own ns
+heard_by false s ns = s.bits ++ arrived_in s.own (since_opened s.own s.peer s.listen ns)
+
+abbrev heard_from : UserState → List Notice → List Bool
+heard_from s ns = heard_by s.opened s ns
+
+-- bits that begin with an even base
+pub record Says (bits : List Bool) (base : ℕ) : Type 0 where
+  pub long : 32 ≤ length bits
+  pub said : base ≡ socket_of (take 32 bits)
+  pub even : is_receive_socket base ≡ true
+
+-- a turn of a user who doesn't know the base takes in what a notice says
+abbrev Step : UserState → Turn UserState → Notice → List Notice → Type 0
+Step s u n ns = (b : ℕ) → u.2 ≡ None → base_in u.0.base b → (u.0.base ≡ None → Says (heard_from u.0 ns) b) → Says (heard_from s (n ∷ ns)) b
+
+enough : (xs ys : List Bool) → nat_lt (length xs) 32 ≡ false → 32 ≤ length xs
+enough xs ys few = grind (arith, nat_tests)
+
+longer : (xs ys : List Bool) → 32 ≤ length xs → 32 ≤ length (xs ++ ys)
+longer xs ys long = let both : length (xs ++ ys) ≡ length xs + length ys = length-append xs ys in omega arith
+
+-- what the server says from a notice on
+heard_wide : (s : UserState) (n : Notice) (ns : List Notice) (o : Option (List Bool)) → s.opened ≡ true → arrived_on s.own n ≡ o → s.bits ++ (bits_in o ++ arrived_in s.own ns) ≡ heard_from s (n ∷ ns)
+heard_wide s n ns o wide arrives =
+    ap (λ (p : Option (List Bool)). s.bits ++ (bits_in p ++ arrived_in s.own ns)) (sym arrives) ∙ ap (λ (b : Bool). heard_by b s (n ∷ ns)) (sym wide)
+
+heard_shut : (s : UserState) (n : Notice) (ns : List Notice) (there : Bool) → s.opened ≡ false → is_opened s.own s.peer s.listen n ≡ there
+    → s.bits ++ arrived_in s.own (if there then ns else since_opened s.own s.peer s.listen ns) ≡ heard_from s (n ∷ ns)
+heard_shut s n ns there shut is =
+    ap (λ (b : Bool). s.bits ++ arrived_in s.own (if b then ns else since_opened s.own s.peer s.listen ns)) (sym is) ∙ ap (λ (b : Bool). heard_by b s (n ∷ ns)) (sym shut)
+
+told_step : (s : UserState) (n : Notice) (ns : List Notice) (bits : List Bool) (even : Bool) → is_receive_socket (socket_of (take 32 (s.bits ++ bits))) ≡ even
+    → 32 ≤ length (s.bits ++ bits) → s.bits ++ (bits ++ arrived_in s.own ns) ≡ heard_from s (n ∷ ns) → Step s (user_told (record s { bits = [] }) (socket_of (take 32 (s.bits ++ bits)))) n ns
+told_step s n ns bits true is long from =
+    let all : List Bool = s.bits ++ (bits ++ arrived_in s.own ns) in
+    let same : (s.bits ++ bits) ++ arrived_in s.own ns ≡ all = append_assoc s.bits bits (arrived_in s.own ns) in
+    let front : take 32 all ≡ take 32 (s.bits ++ bits) = ap (take 32) (sym same) ∙ take-append-le 32 (s.bits ++ bits) (arrived_in s.own ns) long in
+    rw is (λ b none base says. subst (λ (xs : List Bool). Says xs b) from (record {
+      long = subst (λ (xs : List Bool). 32 ≤ length xs) same (longer (s.bits ++ bits) (arrived_in s.own ns) long);
+      said = sym base ∙ ap socket_of (sym front);
+      even = ap is_receive_socket (sym base) ∙ is;
+    }))
+told_step s n ns bits false is long from = rw is (λ b none base says. absurd (is_not (sym (ap is_some none))))
+
+joined_step : (s : UserState) (n : Notice) (ns : List Notice) (bits : List Bool) (few : Bool) → nat_lt (length (s.bits ++ bits)) 32 ≡ few
+    → s.bits ++ (bits ++ arrived_in s.own ns) ≡ heard_from s (n ∷ ns) → s.opened ≡ true → s.base ≡ None → Step s (user_joined s (s.bits ++ bits)) n ns
+joined_step s n ns bits true is from wide unknown =
+    let joined : UserState = record s { bits = s.bits ++ bits } in
+    let here : heard_from joined ns ≡ s.bits ++ (bits ++ arrived_in s.own ns) = ap (λ (b : Bool). heard_by b joined ns) wide ∙ append_assoc s.bits bits (arrived_in s.own ns) in
+    rw is (λ b none base says. subst (λ (xs : List Bool). Says xs b) (here ∙ from) (says unknown))
+joined_step s n ns bits false is from wide unknown =
+    let long : 32 ≤ length (s.bits ++ bits) = enough (s.bits ++ bits) [] is in
+    rw is (told_step s n ns bits (is_receive_socket (socket_of (take 32 (s.bits ++ bits)))) refl long from)
+
+heard_step : (s : UserState) (n : Notice) (ns : List Notice) (o : Option (List Bool)) → arrived_on s.own n ≡ o → s.opened ≡ true → s.base ≡ None → Step s (user_heard s o) n ns
+heard_step s n ns None arrives wide unknown =
+    let here : heard_from s ns ≡ s.bits ++ arrived_in s.own ns = ap (λ (b : Bool). heard_by b s ns) wide in
+    λ b none base says. subst (λ (xs : List Bool). Says xs b) (here ∙ heard_wide s n ns None wide arrives) (says unknown)
+heard_step s n ns (Some bits) arrives wide unknown =
+    joined_step s n ns bits (nat_lt (length (s.bits ++ bits)) 32) refl (heard_wide s n ns (Some bits) wide arrives) wide unknown
+
+opened_step : (s : UserState) (n : Notice) (ns : List Notice) (there : Bool) → is_opened s.own s.peer s.listen n ≡ there → s.opened ≡ false → s.base ≡ None → Step s (user_opened s n) n ns
+opened_step s n ns true is shut unknown =
+    let from : s.bits ++ arrived_in s.own ns ≡ heard_from s (n ∷ ns) = heard_shut s n ns true shut is in
+    rw is (λ b none base says. subst (λ (xs : List Bool). Says xs b) from (says unknown))
+opened_step s n ns false is shut unknown =
+    let here : heard_from s ns ≡ s.bits ++ arrived_in s.own (since_opened s.own s.peer s.listen ns) = ap (λ (b : Bool). heard_by b s ns) shut in
+    let from : s.bits ++ arrived_in s.own (since_opened s.own s.peer s.listen ns) ≡ heard_from s (n ∷ ns) = heard_shut s n ns false shut is in
+    rw is (λ b none base says. subst (λ (xs : List Bool). Says xs b) (here ∙ from) (says unknown))
+
+stage_by : (s : UserState) (n : Notice) (ns : List Notice) (wide : Bool) → s.opened ≡ wide → s.base ≡ None → Step s (if wide then user_heard s (arrived_on s.own n) else user_opened s n) n ns
+stage_by s n ns true wide unknown = heard_step s n ns (arrived_on s.own n) refl wide unknown
+stage_by s n ns false shut unknown = opened_step s n ns (is_opened s.own s.peer s.listen n) refl shut unknown
+
 pub record IsUsed (s : UserState) (ns : List Notice) (r t : ℕ) : Type 0 where
   pub receive : r ≡ s.receive
   pub send : t ≡ s.send
   pub base : ℕ
   pub known : base_in s.base base
+  pub said : s.base ≡ None → Says (heard_from s ns) base
   pub receiving : is_open s.receiving s.receive s.peer (base + 1) ns ≡ true
   pub sending : is_open s.sending s.send s.peer base ns ≡ true
 
@@ -120,9 +200,9 @@ here_or false false rest e = absurd (is_not e)
 abbrev Again : List Notice → ℕ → ℕ → Type 0
 Again ns r t = (m : UserState) → (user_played m ns).2 ≡ outcome.Done r t ∷ [] → IsUsed m ns r t
 
-by_first : (s : UserState) (n : Notice) (ns : List Notice) (r t : ℕ) → Again ns r t → (u : Turn UserState) → Keeps s u → s.base ≡ None → (o : Option Outcome) → u.2 ≡ o
+by_first : (s : UserState) (n : Notice) (ns : List Notice) (r t : ℕ) → Again ns r t → (u : Turn UserState) → Keeps s u → Step s u n ns → s.base ≡ None → (o : Option Outcome) → u.2 ≡ o
     → outcomes_of o ++ (user_played u.0 ns).2 ≡ outcome.Done r t ∷ [] → IsUsed s (n ∷ ns) r t
-by_first s n ns r t again u k none None is e =
+by_first s n ns r t again u k step none None is e =
     let d : IsUsed u.0 ns r t = again u.0 e in
     let receiving : is_open s.receiving s.receive s.peer (d.base + 1) ns ≡ true =
     ap (λ (now : Bool). is_open now s.receive s.peer (d.base + 1) ns) (sym k.receiving)
@@ -139,11 +219,12 @@ by_first s n ns r t again u k none None is e =
       send = d.send ∙ k.send;
       base = d.base;
       known = base_none s.base d.base none;
+      said = λ unknown. step d.base is d.known d.said;
       receiving = later s.receiving (is_opened s.receive s.peer (d.base + 1) n) (list_any (λ m. is_opened s.receive s.peer (d.base + 1) m) ns) receiving;
       sending = later s.sending (is_opened s.send s.peer d.base n) (list_any (λ m. is_opened s.send s.peer d.base m) ns) sending;
     }
-by_first s n ns r t again u k none (Some (outcome.Done r' t')) is e = absurd (is_not (sym k.outcome ∙ ap ended_by is))
-by_first s n ns r t again u k none (Some (outcome.Failed f)) is e = absurd (is_not (ap is_done e))
+by_first s n ns r t again u k step none (Some (outcome.Done r' t')) is e = absurd (is_not (sym k.outcome ∙ ap ended_by is))
+by_first s n ns r t again u k step none (Some (outcome.Failed f)) is e = absurd (is_not (ap is_done e))
 
 by_both : (s : UserState) (n : Notice) (ns : List Notice) (r t : ℕ) → Again ns r t → (base : ℕ) → s.base ≡ Some base → (both : Bool)
     → ((user_met s base n).receiving && (user_met s base n).sending) ≡ both
@@ -156,6 +237,7 @@ by_both s n ns r t again base known true both e =
       send = sym (ap send_of f);
       base = base;
       known = base_some s.base base known;
+      said = λ unknown. absurd (is_not (sym (ap is_some (sym known ∙ unknown))));
       receiving = here_or s.receiving (is_opened s.receive s.peer (base + 1) n) (list_any (λ m. is_opened s.receive s.peer (base + 1) m) ns) (both_first m.receiving m.sending both);
       sending = here_or s.sending (is_opened s.send s.peer base n) (list_any (λ m. is_opened s.send s.peer base m) ns) (both_second m.receiving m.sending both);
     }
@@ -169,6 +251,7 @@ by_both s n ns r t again base known false both e =
       send = d.send;
       base = d.base;
       known = d.known;
+      said = λ unknown. absurd (is_not (sym (ap is_some (sym known ∙ unknown))));
       receiving = joined_or s.receiving (is_opened s.receive s.peer (d.base + 1) n) (list_any (λ m. is_opened s.receive s.peer (d.base + 1) m) ns)
           (ap (λ (b : ℕ). is_open (s.receiving || is_opened s.receive s.peer (b + 1) n) s.receive s.peer (d.base + 1) ns) (sym same) ∙ d.receiving);
       sending = joined_or s.sending (is_opened s.send s.peer d.base n) (list_any (λ m. is_opened s.send s.peer d.base m) ns)
@@ -177,7 +260,7 @@ by_both s n ns r t again base known false both e =
 
 by_stage : (s : UserState) (n : Notice) (ns : List Notice) (r t : ℕ) → Again ns r t → (base : Option ℕ) → s.base ≡ base
     → (before (user_stage s n base) (user_played (user_stage s n base).0 ns)).2 ≡ outcome.Done r t ∷ [] → IsUsed s (n ∷ ns) r t
-by_stage s n ns r t again None is e = by_first s n ns r t again (user_stage s n None) (stage_keeps s n) is (user_stage s n None).2 refl e
+by_stage s n ns r t again None is e = by_first s n ns r t again (user_stage s n None) (stage_keeps s n) (stage_by s n ns s.opened refl is) is (user_stage s n None).2 refl e
 by_stage s n ns r t again (Some base) is e = by_both s n ns r t again base is ((user_met s base n).receiving && (user_met s base n).sending) refl e
 
 by_failure : (s : UserState) (n : Notice) (ns : List Notice) (r t : ℕ) → Again ns r t → (f : Option Failure)
@@ -195,15 +278,20 @@ pub done : (ns : List Notice) (s : UserState) (r t : ℕ) → (user_played s ns)
 done [] s r t e = absurd (is_not (ap is_done e))
 done (n ∷ ns) s r t e = by_over s n ns r t (λ (m : UserState) (i : (user_played m ns).2 ≡ outcome.Done r t ∷ []). done ns m r t i) s.over refl e
 
-pub record UserDone (peer : Host) (own : ℕ) (notices : List Notice) (r t : ℕ) : Type 0 where
+pub record UserDone (peer : Host) (listen own : ℕ) (notices : List Notice) (r t : ℕ) : Type 0 where
   pub receive : r ≡ own + 2
   pub send : t ≡ own + 3
-  pub connected : IsConnected peer (own + 2) (own + 3) notices
+  pub connected : IsConnected peer listen own notices
 
-pub user_done : (peer : Host) (listen own : ℕ) (ns : List Notice) (r t : ℕ) → (user_played (opening_user peer listen own) ns).2 ≡ outcome.Done r t ∷ [] → UserDone peer own ns r t
+pub user_done : (peer : Host) (listen own : ℕ) (ns : List Notice) (r t : ℕ) → (user_played (opening_user peer listen own) ns).2 ≡ outcome.Done r t ∷ [] → UserDone peer listen own ns r t
 user_done peer listen own ns r t e =
     let d : IsUsed (opening_user peer listen own) ns r t = done ns (opening_user peer listen own) r t e in
-    record { receive = d.receive; send = d.send; connected = record { base = d.base; receiving = d.receiving; sending = d.sending } }
+    let s : Says (said_to own peer listen ns) d.base = d.said refl in
+    record {
+      receive = d.receive;
+      send = d.send;
+      connected = record { base = d.base; long = s.long; said = s.said; even = s.even; receiving = d.receiving; sending = d.sending };
+    }
 
 -- ---- one outcome
 

@@ -2,8 +2,8 @@
 use Rattle.std.specs.Prelude.{ℕ, Bool, false, ◌==◌, ◌&&◌, if◌then◌else◌, List, Option, Some, None}
 use Rattle.leader1822.specs.Host.{Host, same_host}
 use Rattle.icp.specs.declared.notices.Partner.{Partner}
-use Rattle.sockets.specs.declared.notice.Notice.{Notice}
-use Rattle.sockets.specs.declared.notice.Notice.TheVariants as notice
+use Rattle.host_pairs.specs.declared.notice.Notice.{Notice}
+use Rattle.host_pairs.specs.declared.notice.Notice.TheVariants as notice
 
 -- the far end, where a connection of this socket was opened
 abbrev pub opened_on : ℕ → Notice → Option Partner

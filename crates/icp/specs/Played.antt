@@ -1,15 +1,17 @@
 -- The two machines over a list of notices.
-use Rattle.std.specs.Prelude.{◌≡◌, true, ℕ, ◌+◌, List, [], ◌∷◌, ◌++◌, Option, Some, None}
+use Rattle.std.specs.Prelude.{◌≡◌, true, ℕ, ◌+◌, ◌≤◌, Bool, if◌then◌else◌, List, [], ◌∷◌, ◌++◌, length, take, Option, Some, None}
 use Rattle.std.specs.List.{list_any}
 use Rattle.leader1822.specs.Host.{Host}
 use Rattle.std.specs.Option.{option_or}
-use Rattle.icp.specs.Notices.{is_opened, opened_on}
+use Rattle.ncp_control.specs.Numbers.{is_receive_socket}
+use Rattle.icp.specs.Notices.{arrived_on, is_opened, opened_on}
 use Rattle.icp.specs.Outcomes.{Turn}
 use Rattle.icp.specs.Server.{ServerState, server_turn}
+use Rattle.icp.specs.Sockets.{socket_of}
 use Rattle.icp.specs.User.{UserState, user_turn}
 use Rattle.icp.specs.declared.notices.Partner.{Partner}
 use Rattle.icp.specs.declared.outcome.Outcome.{Outcome}
-use Rattle.sockets.specs.declared.notice.Notice.{Notice}
+use Rattle.host_pairs.specs.declared.notice.Notice.{Notice}
 use Rattle.sockets.specs.declared.request.Request.{Request}
 
 -- a machine after some notices, all that it asked for, and all its outcomes
@@ -52,8 +54,30 @@ pub record IsServed (listen base : ℕ) (notices : List Notice) : Type 0 where
 
 -- ---- what a user's outcome says
 
--- these notices tell of both its ends with sockets of the server's host, crosswise: one and the socket above it
-pub record IsConnected (peer : Host) (receive send : ℕ) (notices : List Notice) : Type 0 where
+-- the notices behind the first one that tells of the connection of this socket with that partner
+abbrev pub since_opened : ℕ → Host → ℕ → List Notice → List Notice
+since_opened own peer foreign [] = []
+since_opened own peer foreign (n ∷ ns) = if is_opened own peer foreign n then ns else since_opened own peer foreign ns
+
+abbrev pub bits_in : Option (List Bool) → List Bool
+bits_in None = []
+bits_in (Some bits) = bits
+
+-- all bits that arrive on a socket, in order
+abbrev pub arrived_in : ℕ → List Notice → List Bool
+arrived_in own [] = []
+arrived_in own (n ∷ ns) = bits_in (arrived_on own n) ++ arrived_in own ns
+
+-- what a server says: the bits that arrive on the socket that asks, once its connection with the server's socket is open
+abbrev pub said_to : ℕ → Host → ℕ → List Notice → List Bool
+said_to own peer listen notices = arrived_in own (since_opened own peer listen notices)
+
+-- these notices tell of at least 32 bits that the server says, of which the first 32 are an even number, the base; and of both
+-- its ends with sockets of the server's host, crosswise: the base and the socket above it
+pub record IsConnected (peer : Host) (listen own : ℕ) (notices : List Notice) : Type 0 where
   pub base : ℕ
-  pub receiving : list_any (λ n. is_opened receive peer (base + 1) n) notices ≡ true
-  pub sending : list_any (λ n. is_opened send peer base n) notices ≡ true
+  pub long : 32 ≤ length (said_to own peer listen notices)
+  pub said : base ≡ socket_of (take 32 (said_to own peer listen notices))
+  pub even : is_receive_socket base ≡ true
+  pub receiving : list_any (λ n. is_opened (own + 2) peer (base + 1) n) notices ≡ true
+  pub sending : list_any (λ n. is_opened (own + 3) peer base n) notices ≡ true

@@ -2,7 +2,7 @@
 use Rattle.std.specs.Prelude.{ℕ, ◌+◌, Bool, true, false, ◌&&◌, ◌||◌, is_none, is_some, if◌then◌else◌, List, [], ◌∷◌, Option, Some, None}
 use Rattle.std.specs.Option.{option_or}
 use Rattle.icp.specs.Notices.{opened_on, is_partner, has_ended, is_reset_of}
-use Rattle.icp.specs.Outcomes.{Turn, passed, failed}
+use Rattle.icp.specs.Outcomes.{Turn, passed, failed, local_outcome}
 use Rattle.icp.specs.Sockets.{socket_bits}
 use Rattle.icp.specs.declared.notices.Partner.{Partner}
 use Rattle.icp.specs.declared.outcome.Failure.{Failure}
@@ -10,7 +10,7 @@ use Rattle.icp.specs.declared.outcome.Failure.TheVariants as failure
 use Rattle.icp.specs.declared.outcome.Outcome.{Outcome}
 use Rattle.icp.specs.declared.outcome.Outcome.TheVariants as outcome
 use Rattle.sockets.specs.declared.fault.NcpFault.{NcpFault}
-use Rattle.sockets.specs.declared.notice.Notice.{Notice}
+use Rattle.host_pairs.specs.declared.notice.Notice.{Notice}
 use Rattle.sockets.specs.declared.request.Request.{Request}
 use Rattle.sockets.specs.declared.request.Request.TheVariants as request
 
@@ -84,6 +84,6 @@ server_by s n None = server_judged (server_met s n) (server_says s n)
 unfoldable pub server_turn : ServerState → Notice → Turn ServerState
 server_turn s n = if s.over then passed s else server_by s n (server_failure s n)
 
--- a request of it was refused
+-- a request of it was refused: it has its outcome then, whether before or now
 abbrev pub server_local : ServerState → NcpFault → ServerState × Option Outcome
-server_local s f = if s.over then (s, None) else (record s { over = true }, Some (outcome.Failed (failure.Local f)))
+server_local s f = (record s { over = true }, local_outcome s.over f)

@@ -3,14 +3,14 @@ use Rattle.std.specs.Prelude.{ℕ, ◌+◌, Bool, true, false, ◌&&◌, ◌||�
 use Rattle.leader1822.specs.Host.{Host}
 use Rattle.ncp_control.specs.Numbers.{is_receive_socket}
 use Rattle.icp.specs.Notices.{is_opened, arrived_on, has_ended, is_reset}
-use Rattle.icp.specs.Outcomes.{Turn, passed, failed}
+use Rattle.icp.specs.Outcomes.{Turn, passed, failed, local_outcome}
 use Rattle.icp.specs.Sockets.{socket_of}
 use Rattle.icp.specs.declared.outcome.Failure.{Failure}
 use Rattle.icp.specs.declared.outcome.Failure.TheVariants as failure
 use Rattle.icp.specs.declared.outcome.Outcome.{Outcome}
 use Rattle.icp.specs.declared.outcome.Outcome.TheVariants as outcome
 use Rattle.sockets.specs.declared.fault.NcpFault.{NcpFault}
-use Rattle.sockets.specs.declared.notice.Notice.{Notice}
+use Rattle.host_pairs.specs.declared.notice.Notice.{Notice}
 use Rattle.sockets.specs.declared.request.Request.{Request}
 use Rattle.sockets.specs.declared.request.Request.TheVariants as request
 
@@ -104,6 +104,6 @@ user_by s n None = user_stage s n s.base
 unfoldable pub user_turn : UserState → Notice → Turn UserState
 user_turn s n = if s.over then passed s else user_by s n (user_failure s n)
 
--- a request of it was refused
+-- a request of it was refused: it has its outcome then, whether before or now
 abbrev pub user_local : UserState → NcpFault → UserState × Option Outcome
-user_local s f = if s.over then (s, None) else (record s { over = true }, Some (outcome.Failed (failure.Local f)))
+user_local s f = (record s { over = true }, local_outcome s.over f)

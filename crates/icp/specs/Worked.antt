@@ -5,8 +5,8 @@ use Rattle.icp.specs.Played.{server_played, user_played}
 use Rattle.icp.specs.Server.{opening_server}
 use Rattle.icp.specs.User.{opening_user}
 use Rattle.icp.specs.declared.outcome.Outcome.{Outcome}
-use Rattle.sockets.specs.declared.notice.Notice.{Notice}
-use Rattle.sockets.specs.declared.notice.Notice.TheVariants as notice
+use Rattle.host_pairs.specs.declared.notice.Notice.{Notice}
+use Rattle.host_pairs.specs.declared.notice.Notice.TheVariants as notice
 use Rattle.sockets.specs.declared.request.Request.{Request}
 
 abbrev pub first : Host

@@ -7,7 +7,7 @@ ghost use Rattle.icp.specs.Server.{ServerState, opening_server};
 ghost use Rattle.icp.specs.Sockets.{socket_bits, socket_of};
 ghost use Rattle.icp.specs.User.{UserState, opening_user};
 ghost use Rattle.icp.specs.declared.outcome.Outcome.TheVariants as outcome;
-ghost use Rattle.sockets.specs.declared.notice.Notice.{Notice};
+ghost use Rattle.host_pairs.specs.declared.notice.Notice.{Notice};
 
 /// A base is read as it was said.
 pub fn said()
@@ -25,8 +25,9 @@ pub fn served()
 
 /// What the outcome of a user says, whatever it was told.
 pub fn connected()
-    // it is done with its own two sockets, and only where both were opened with sockets of its peer, crosswise
-    ensures done { (peer : Host) (listen own : ℕ) (ns : List Notice) (receive send : ℕ) → (user_played (opening_user peer listen own) ns).2 ≡ outcome.Done receive send ∷ [] → (receive ≡ own + 2) × (send ≡ own + 3) × IsConnected peer (own + 2) (own + 3) ns }
+    // it is done with its own two sockets, and only where the server said an even base on the first connection, and both were
+    // opened with the base and the socket above it, crosswise
+    ensures done { (peer : Host) (listen own : ℕ) (ns : List Notice) (receive send : ℕ) → (user_played (opening_user peer listen own) ns).2 ≡ outcome.Done receive send ∷ [] → (receive ≡ own + 2) × (send ≡ own + 3) × IsConnected peer listen own ns }
 
     // and it has one outcome at most
     ensures once { (s : UserState) (ns : List Notice) → length (user_played s ns).2 ≤ 1 }

@@ -1,6 +1,7 @@
 //! How a machine ends, and what it says of a notice.
 
-ghost use Rattle.std.specs.Prelude.{◌≡◌, [], None, Some};
+ghost use Rattle.std.specs.Prelude.{◌≡◌, [], true, None, Some};
+ghost use Rattle.icp.specs.Outcomes.{local_outcome};
 ghost use Rattle.icp.specs.declared.outcome.Outcome.TheVariants as outcome;
 
 use ncp_control::{ReceiveSocket, SendSocket};
@@ -70,4 +71,16 @@ impl Said {
     {
         Said::only(alloc, Some(Outcome::Failed(failure)))
     }
+}
+
+/// What comes of a refused request: a machine without an outcome fails with `Local`.
+pub(crate) fn local(over: &mut bool, fault: NcpFault) -> Option<Outcome>
+    ensures over { over.new ≡ true }
+    ensures outcome { result ≡ local_outcome over.old fault }
+{
+    if *over {
+        return None;
+    }
+    *over = true;
+    Some(Outcome::Failed(Failure::Local(fault)))
 }

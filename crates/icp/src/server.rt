@@ -8,6 +8,7 @@ ghost use Rattle.icp.specs.Sockets.{server_fault};
 ghost use Rattle.sockets.specs.declared.request.Request.TheVariants as request;
 
 use crate::notices::{Partner, has_ended, is_reset_of, opened_on};
+use crate::outcome::local;
 use crate::sockets_said::{SOCKET_BITS, socket_bits};
 use crate::{Failure, Outcome, Said, StartFault};
 use ncp_control::{ReceiveSocket, SendSocket};
@@ -263,10 +264,6 @@ impl Server {
         requires live { self.old.spent ≡ false }
         ensures { servers.server_local self.old fault ≡ (self.new, result) }
     {
-        if self.over {
-            return None;
-        }
-        self.over = true;
-        Some(Outcome::Failed(Failure::Local(fault)))
+        local(&mut self.over, fault)
     }
 }

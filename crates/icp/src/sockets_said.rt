@@ -5,7 +5,7 @@ ghost use Rattle.std.specs.Int.{w32};
 ghost use Rattle.icp.specs.Sockets.{socket_bits, socket_of};
 ghost use Rattle.ncp_control.specs.Reading.{number_at};
 
-use bit_messages::Bits;
+use bit_messages::{BitFault, Bits};
 use std::alloc::{AllocError, Global};
 
 /// How many bits a socket number has.
@@ -17,7 +17,8 @@ pub(crate) fn socket_bits(alloc: Global, socket: u32) -> Result<Bits, AllocError
 {
     match Bits::from_octets(alloc, &socket.to_be_bytes(), SOCKET_BITS) {
         Ok(bits) => Ok(bits),
-        Err(_) => Err(AllocError),
+        Err(BitFault::OutOfMemory) => Err(AllocError),
+        Err(BitFault::NoMark | BitFault::TooLong | BitFault::Range) => unreachable!(),
     }
 }
 
@@ -37,7 +38,8 @@ pub(crate) fn socket_of(alloc: Global, bits: &Bits) -> Result<u32, AllocError>
 {
     match bits.slice(alloc, 0, SOCKET_BITS) {
         Ok(first) => Ok(number(first.as_octets())),
-        Err(_) => Err(AllocError),
+        Err(BitFault::OutOfMemory) => Err(AllocError),
+        Err(BitFault::NoMark | BitFault::TooLong | BitFault::Range) => unreachable!(),
     }
 }
 
@@ -47,6 +49,7 @@ pub(crate) fn join(kept: &mut Bits, bits: &Bits) -> Result<(), AllocError>
 {
     match kept.append(bits) {
         Ok(()) => Ok(()),
-        Err(_) => Err(AllocError),
+        Err(BitFault::OutOfMemory) => Err(AllocError),
+        Err(BitFault::NoMark | BitFault::TooLong | BitFault::Range) => unreachable!(),
     }
 }

@@ -10,6 +10,7 @@ ghost use Rattle.ncp_control.specs.Numbers.{is_receive_socket};
 ghost use Rattle.sockets.specs.declared.request.Request.TheVariants as request;
 
 use crate::notices::{arrived_on, has_ended, is_opened, is_reset};
+use crate::outcome::local;
 use crate::server::{OCTET_SIZE, RECEIVE_STEP, SEND_STEP};
 use crate::sockets_said::{SOCKET_BITS, join, socket_of};
 use crate::{Failure, Outcome, Said, StartFault};
@@ -296,10 +297,6 @@ impl User {
         requires live { self.old.spent ≡ false }
         ensures { users.user_local self.old fault ≡ (self.new, result) }
     {
-        if self.over {
-            return None;
-        }
-        self.over = true;
-        Some(Outcome::Failed(Failure::Local(fault)))
+        local(&mut self.over, fault)
     }
 }

@@ -1,8 +1,9 @@
 //! What the definitions of the two machines come to: one worked row for each reading of a rule that would be
 //! wrong. The functions do nothing; each clause is a row.
 
-ghost use Rattle.std.specs.Prelude.{◌≡◌, true, take, drop, [], ◌∷◌, ◌++◌, None, Some};
+ghost use Rattle.std.specs.Prelude.{◌≡◌, true, false, take, drop, [], ◌∷◌, ◌++◌, None, Some};
 ghost use Rattle.bit_messages.specs.Octets.{bits_of};
+ghost use Rattle.icp.specs.Played.{said_to};
 ghost use Rattle.icp.specs.Server.{opening_server, server_local, server_requests};
 ghost use Rattle.icp.specs.Sockets.{server_fault, socket_bits, user_fault};
 ghost use Rattle.icp.specs.User.{opening_user, user_local, user_requests};
@@ -11,7 +12,7 @@ ghost use Rattle.icp.specs.declared.fault.StartFault.TheVariants as fault;
 ghost use Rattle.icp.specs.declared.outcome.Failure.TheVariants as failure;
 ghost use Rattle.icp.specs.declared.outcome.Outcome.TheVariants as outcome;
 ghost use Rattle.sockets.specs.declared.fault.NcpFault.TheVariants as ncp;
-ghost use Rattle.sockets.specs.declared.notice.Notice.TheVariants as notice;
+ghost use Rattle.host_pairs.specs.declared.notice.Notice.TheVariants as notice;
 ghost use Rattle.sockets.specs.declared.request.Request.TheVariants as request;
 
 /// How the two begin.
@@ -127,4 +128,15 @@ pub fn worked_user()
     // a request that was refused is a failure, once
     ensures local { user_local (opening_user second 7 16) ncp.NotContacted ≡ (record (opening_user second 7 16) { over = true }, Some (outcome.Failed (failure.Local ncp.NotContacted))) }
     ensures local_after { user_local (record (opening_user second 7 16) { over = true }) ncp.InUse ≡ (record (opening_user second 7 16) { over = true }, None) }
+{}
+
+/// What a server says to a user.
+pub fn worked_saying()
+    // the bits that arrive on the socket that asks, in order, once it was opened with the server's socket
+    ensures said { said_to 16 second 7 (opened 16 second 7 ∷ notice.Arrived 16 (true ∷ []) ∷ notice.Arrived 18 (false ∷ []) ∷ notice.Arrived 16 (false ∷ true ∷ []) ∷ []) ≡ true ∷ false ∷ true ∷ [] }
+
+    // nothing before that, and nothing where it was opened with another socket or another host
+    ensures before { said_to 16 second 7 (notice.Arrived 16 (true ∷ []) ∷ opened 16 second 7 ∷ notice.Arrived 16 (false ∷ []) ∷ []) ≡ false ∷ [] }
+    ensures other_socket { said_to 16 second 7 (opened 16 second 9 ∷ notice.Arrived 16 (true ∷ []) ∷ []) ≡ [] }
+    ensures other_host { said_to 16 second 7 (opened 16 third 7 ∷ notice.Arrived 16 (true ∷ []) ∷ []) ≡ [] }
 {}

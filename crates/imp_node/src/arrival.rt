@@ -24,7 +24,7 @@ use bit_messages::{BitFault, Bits};
 use imp_channel::{Content, Frame, Received};
 use leader1822::{Answer, CarrierFault, Flow, Text};
 use link_table::{Age, Number};
-use packetiser::{Added, Outcome, Packet, PacketKind};
+use packetiser::{Added, Outcome, Packet, PacketFault, PacketKind};
 use std::alloc::AllocError;
 
 impl Imp {
@@ -208,7 +208,10 @@ impl Imp {
         match self.slots.add(self.alloc, packet) {
             Ok(Added::Whole(body)) => self.complete(flow, number, body),
             Ok(Added::Kept | Added::Old | Added::Full) => Ok(()),
-            Err(_) => Err(AllocError),
+            Err(PacketFault::OutOfMemory) => Err(AllocError),
+            Err(PacketFault::Short | PacketFault::NotCanonical | PacketFault::BadLength) => {
+                unreachable!()
+            }
         }
     }
 

@@ -1,9 +1,8 @@
 //! Worked examples of bits, bodies and octets.
 
-use crate::values::alike;
+use crate::values::{alike, is_told};
 use bit_messages::{BitFault, Bits};
-use std::alloc::{AllocError, Global};
-use std::test::Fail;
+use std::alloc::Global;
 
 /// A 1, and behind it the first three bits of an octet: 1011.
 fn four(alloc: Global) -> Result<Bits, BitFault> {
@@ -13,28 +12,40 @@ fn four(alloc: Global) -> Result<Bits, BitFault> {
     Ok(bits)
 }
 
-#[test]
-fn bits_are_a_list(rt: HostRuntime) -> Result<(), Fail> {
-    let bits = four(rt.alloc())?;
+/// Four places of these bits, how many they are, and whether they and the empty list are empty.
+fn looked_at(alloc: Global) -> Result<([Option<bool>; 4], usize, [bool; 2]), BitFault> {
+    let bits = four(alloc)?;
     let places = [bits.get(0), bits.get(1), bits.get(3), bits.get(4)];
-    assert_eq!(rt; places, [Some(true), Some(false), Some(true), None]);
-    let sizes = (bits.len(), bits.is_empty());
-    assert_eq!(rt; sizes, (4, false));
-    assert!(rt; Bits::new(rt.alloc()).is_empty());
-    Ok(())
+    let are_empty = [bits.is_empty(), Bits::new(alloc).is_empty()];
+    Ok((places, bits.len(), are_empty))
+}
+
+#[test]
+fn bits_are_a_list(rt: HostRuntime) {
+    let places = [Some(true), Some(false), Some(true), None];
+    assert_eq!(rt; looked_at(rt.alloc()), Ok((places, 4, [false, true])));
 }
 
 /// The bits of an octet.
 fn eight(alloc: Global, octet: u8) -> Result<[Option<bool>; 8], BitFault> {
     let bits = Bits::from_octets(alloc, &[octet], 8)?;
-    Ok([0usize, 1, 2, 3, 4, 5, 6, 7].map(|place| bits.get(place)))
+    Ok([
+        bits.get(0),
+        bits.get(1),
+        bits.get(2),
+        bits.get(3),
+        bits.get(4),
+        bits.get(5),
+        bits.get(6),
+        bits.get(7),
+    ])
 }
 
 #[test]
-fn the_most_significant_bit_comes_first(rt: HostRuntime) -> Result<(), Fail> {
-    let expected = [true, false, false, true, true, false, true, false].map(Some);
-    assert_eq!(rt; eight(rt.alloc(), 0x9A)?, expected);
-    Ok(())
+fn the_most_significant_bit_comes_first(rt: HostRuntime) {
+    let (one, zero) = (Some(true), Some(false));
+    let bits = [one, zero, zero, one, one, zero, one, zero];
+    assert_eq!(rt; eight(rt.alloc(), 0x9A), Ok(bits));
 }
 
 /// Whether the four bits are those of an octet, those and one more, those with another last bit, and their
@@ -50,62 +61,54 @@ fn likeness(alloc: Global) -> Result<[bool; 5], BitFault> {
 }
 
 #[test]
-fn lists_are_equal_bit_by_bit(rt: HostRuntime) -> Result<(), Fail> {
-    assert_eq!(rt; likeness(rt.alloc())?, [true, false, false, true, true]);
-    Ok(())
-}
-
-/// The texts of the faults, in the order in which they are looked for.
-fn fault_texts(alloc: Global) -> Result<String, AllocError> {
-    format!(in alloc;
-        "{}, {}, {}, {}",
-        BitFault::NoMark,
-        BitFault::TooLong,
-        BitFault::Range,
-        BitFault::OutOfMemory
-    )
+fn lists_are_equal_bit_by_bit(rt: HostRuntime) {
+    assert_eq!(rt; likeness(rt.alloc()), Ok([true, false, false, true, true]));
 }
 
 #[test]
-fn each_fault_has_its_text(rt: HostRuntime) -> Result<(), Fail> {
-    let texts = fault_texts(rt.alloc())?;
-    assert_eq!(rt;
-        texts.as_str(),
-        "no mark, text too long, out of range, out of memory"
-    );
-    Ok(())
+fn each_fault_has_its_text(rt: HostRuntime) {
+    let alloc = rt.alloc();
+    let are_told = [
+        is_told(alloc, BitFault::NoMark, "no mark"),
+        is_told(alloc, BitFault::TooLong, "text too long"),
+        is_told(alloc, BitFault::Range, "out of range"),
+        is_told(alloc, BitFault::OutOfMemory, "out of memory"),
+    ];
+    assert_eq!(rt; are_told, [true; 4]);
 }
 
-/// The length and the octets of bits 4 to 12 of `41 42`, with so many ones behind them. `Range` where the
-/// octets that are lent aren't those that are copied.
-fn part(alloc: Global, ones: usize) -> Result<(usize, Vec<u8>), BitFault> {
+/// Whether bits 4 to 12 of `41 42`, with so many ones behind them, have this length and are these octets,
+/// copied and lent.
+fn is_part(
+    alloc: Global,
+    ones: usize,
+    length: usize,
+    octets: &[u8],
+) -> Result<[bool; 3], BitFault> {
     let bits = Bits::from_octets(alloc, &[0x41, 0x42], 16)?;
     let mut part = bits.slice(alloc, 4, 12)?;
     for _ in 0..ones {
         part.push(true)?;
     }
-    let octets = part.to_octets(alloc)?;
-    if octets.as_slice() != part.as_octets() {
-        return Err(BitFault::Range);
-    }
-    Ok((part.len(), octets))
+    Ok([
+        part.len() == length,
+        part.as_octets() == octets,
+        part.to_octets(alloc)?.as_slice() == octets,
+    ])
 }
 
 #[test]
-fn a_slice_shifts_across_octets(rt: HostRuntime) -> Result<(), Fail> {
+fn a_slice_shifts_across_octets(rt: HostRuntime) {
     for (ones, length, octets) in [(0, 8, &[0x14u8] as &[u8]), (1, 9, &[0x14, 0x80])] {
-        let (found, spelled) = part(rt.alloc(), ones)?;
-        assert!(rt;
-            found == length && spelled.as_slice() == octets,
-            "with {ones} more"
-        );
+        let found = is_part(rt.alloc(), ones, length, octets);
+        assert_eq!(rt; found, Ok([true; 3]), "with {ones} more");
     }
-    Ok(())
 }
 
 /// How many bits of eight zeros lie between two places.
 fn between(alloc: Global, from: usize, to: usize) -> Result<usize, BitFault> {
-    Ok(alike(alloc, false, 8)?.slice(alloc, from, to)?.len())
+    let bits = Bits::from_octets(alloc, &[0], 8)?;
+    Ok(bits.slice(alloc, from, to)?.len())
 }
 
 /// How many bits are read as the first ones of an octet or of none.
@@ -135,39 +138,45 @@ fn bad_bounds_are_out_of_range(rt: HostRuntime) {
     }
 }
 
-/// The length and the octets of the text of a body, which is so many bits of these octets.
-fn stripped(alloc: Global, octets: &[u8], count: usize) -> Result<(usize, Vec<u8>), BitFault> {
-    let text = Bits::from_octets(alloc, octets, count)?.strip(alloc)?;
-    Ok((text.len(), text.to_octets(alloc)?))
+/// Whether the text of a body, which is so many bits of these octets, has this length and these octets.
+fn is_stripped_to(
+    alloc: Global,
+    octets: &[u8],
+    count: usize,
+    length: usize,
+    text: &[u8],
+) -> Result<[bool; 2], BitFault> {
+    let body = Bits::from_octets(alloc, octets, count)?;
+    let stripped = body.strip(alloc)?;
+    Ok([stripped.len() == length, stripped.as_octets() == text])
 }
 
 #[test]
-fn a_body_is_stripped_however_many_zeros_follow(rt: HostRuntime) -> Result<(), Fail> {
+fn a_body_is_stripped_however_many_zeros_follow(rt: HostRuntime) {
     for (octets, count, length, text) in [
         (&[0x80u8, 0] as &[u8], 16, 0, &[] as &[u8]),
         (&[0x80, 0, 0, 0], 32, 0, &[]),
         (&[0xFF, 0xF8], 16, 12, &[0xFF, 0xF0]),
     ] {
-        let (found, spelled) = stripped(rt.alloc(), octets, count)?;
-        assert!(rt; found == length && spelled.as_slice() == text, "{octets:?}");
+        let found = is_stripped_to(rt.alloc(), octets, count, length, text);
+        assert_eq!(rt; found, Ok([true; 2]), "{octets:?}");
     }
-    Ok(())
 }
 
-/// Why so many zeros and the first bits of octets are no body.
-fn refusal(
+/// How many bits the text of a body has, which is so many zeros and the first bits of octets.
+fn text_length(
     alloc: Global,
     before: usize,
     octets: &[u8],
     count: usize,
-) -> Result<Option<BitFault>, BitFault> {
+) -> Result<usize, BitFault> {
     let mut bits = alike(alloc, false, before)?;
     bits.append(&Bits::from_octets(alloc, octets, count)?)?;
-    Ok(bits.strip(alloc).err())
+    Ok(bits.strip(alloc)?.len())
 }
 
 #[test]
-fn what_is_no_body_is_refused_by_name(rt: HostRuntime) -> Result<(), Fail> {
+fn what_is_no_body_is_refused_by_name(rt: HostRuntime) {
     for (before, octets, count, fault) in [
         (0, &[0u8, 0] as &[u8], 16, BitFault::NoMark),
         (0, &[], 0, BitFault::NoMark),
@@ -176,103 +185,64 @@ fn what_is_no_body_is_refused_by_name(rt: HostRuntime) -> Result<(), Fail> {
         (8064, &[0x80], 1, BitFault::TooLong),
         (8064, &[0x80, 0], 16, BitFault::TooLong),
     ] {
-        let found = refusal(rt.alloc(), before, octets, count)?;
-        assert_eq!(rt; found, Some(fault), "{before} zeros and {octets:?}");
+        let found = text_length(rt.alloc(), before, octets, count);
+        assert_eq!(rt; found, Err(fault), "{before} zeros and {octets:?}");
     }
-    Ok(())
 }
 
 /// Whether a text of so many zeros has a body of this length with the mark behind the text, which gives the
 /// text back, with sixteen more zeros too.
-fn is_filled(alloc: Global, text: usize, body: usize) -> Result<bool, BitFault> {
+fn is_filled(alloc: Global, text: usize, body: usize) -> Result<[bool; 4], BitFault> {
     let bits = alike(alloc, false, text)?;
     let mut padded = bits.pad16(alloc)?;
-    let filled = padded.len() == body && padded.get(text) == Some(true);
+    let (length, mark) = (padded.len(), padded.get(text));
     let given_back = padded.strip(alloc)? == bits;
     padded.append(&alike(alloc, false, 16)?)?;
-    Ok(filled && given_back && padded.strip(alloc)? == bits)
+    let again = padded.strip(alloc)? == bits;
+    Ok([length == body, mark == Some(true), given_back, again])
 }
 
 #[test]
-fn the_longest_text_fills_its_body(rt: HostRuntime) -> Result<(), Fail> {
-    for (text, body) in [
-        (0, 16),
-        (15, 16),
-        (16, 32),
-        (1007, 1008),
-        (1008, 1024),
-        (8063, 8064),
+fn the_longest_text_fills_its_body(rt: HostRuntime) {
+    for (text, body, filled) in [
+        (0, 16, Ok([true; 4])),
+        (15, 16, Ok([true; 4])),
+        (16, 32, Ok([true; 4])),
+        (1007, 1008, Ok([true; 4])),
+        (1008, 1024, Ok([true; 4])),
+        (8063, 8064, Ok([true; 4])),
+        (8064, 8080, Err(BitFault::TooLong)),
     ] {
-        assert!(rt; is_filled(rt.alloc(), text, body)?, "a text of {text} bits");
+        let found = is_filled(rt.alloc(), text, body);
+        assert_eq!(rt; found, filled, "a text of {text} bits");
     }
-    assert_eq!(rt; is_filled(rt.alloc(), 8064, 8080), Err(BitFault::TooLong));
-    Ok(())
+}
+
+/// Whether the body of no bits is these octets.
+fn is_empty_body(alloc: Global, octets: &[u8]) -> Result<bool, BitFault> {
+    Ok(Bits::new(alloc).pad16(alloc)?.as_octets() == octets)
 }
 
 #[test]
-fn the_empty_text_has_a_body_of_sixteen_bits(rt: HostRuntime) -> Result<(), Fail> {
-    let body = Bits::new(rt.alloc()).pad16(rt.alloc())?;
-    assert_eq!(rt;
-        body.to_octets(rt.alloc())?.as_slice(),
-        [0x80, 0].as_slice()
-    );
-    Ok(())
+fn the_empty_text_has_a_body_of_sixteen_bits(rt: HostRuntime) {
+    assert_eq!(rt; is_empty_body(rt.alloc(), &[0x80, 0]), Ok(true));
 }
 
-/// So many octets of `41 42 43` from a place on.
-fn octets_from(alloc: Global, from: usize, count: usize) -> Result<Vec<u8>, BitFault> {
-    Bits::from_octets(alloc, &[0x41, 0x42, 0x43], 24)?.octets_at(alloc, from, count)
+/// Whether so many octets of `41 42 43` from a place on are these.
+fn are_from(alloc: Global, from: usize, count: usize, octets: &[u8]) -> Result<bool, BitFault> {
+    let bits = Bits::from_octets(alloc, &[0x41, 0x42, 0x43], 24)?;
+    Ok(bits.octets_at(alloc, from, count)?.as_slice() == octets)
 }
 
 #[test]
-fn octets_are_read_across_borders(rt: HostRuntime) -> Result<(), Fail> {
-    assert_eq!(rt;
-        octets_from(rt.alloc(), 4, 2)?.as_slice(),
-        [0x14, 0x24].as_slice()
-    );
-    let others = [
-        octets_from(rt.alloc(), 4, 3).err(),
-        octets_from(rt.alloc(), 24, 0).err(),
-        octets_from(rt.alloc(), 25, 0).err(),
-    ];
-    assert_eq!(rt;
-        others,
-        [Some(BitFault::Range), None, Some(BitFault::Range)]
-    );
-    Ok(())
-}
-
-/// Whether a slice, and the same bits put behind others, are what single bits give.
-fn agrees(alloc: Global, from: usize, length: usize) -> Result<bool, BitFault> {
-    let octets = [0xA5u8, 0x3C, 0x96, 0xF0, 0x0F, 0x5A, 0xC3, 0x69];
-    let bits = Bits::from_octets(alloc, &octets, 64)?;
-    let end = from.saturating_add(length);
-    let mut singly = Bits::new(alloc);
-    let mut joined = bits.slice(alloc, 0, from)?;
-    for place in 0..end {
-        let bit = bits.get(place).unwrap_or(false);
-        singly.push(bit)?;
+fn octets_are_read_across_borders(rt: HostRuntime) {
+    for (from, count, octets, read) in [
+        (4, 2, &[0x14u8, 0x24] as &[u8], Ok(true)),
+        (4, 3, &[], Err(BitFault::Range)),
+        (24, 0, &[], Ok(true)),
+        (25, 0, &[], Err(BitFault::Range)),
+    ] {
+        let found = are_from(rt.alloc(), from, count, octets);
+        assert_eq!(rt; found, read, "{count} from {from}");
     }
-    let part = bits.slice(alloc, from, end)?;
-    joined.append(&part)?;
-    Ok(part.len() == length && joined == singly)
-}
-
-/// How many starts and lengths agree with single bits.
-fn agreements(alloc: Global) -> Result<usize, BitFault> {
-    let mut found = 0;
-    for from in 0..16usize {
-        for length in 0..41usize {
-            if agrees(alloc, from, length)? && found < 9999 {
-                found += 1;
-            }
-        }
-    }
-    Ok(found)
-}
-
-#[test]
-fn slices_and_appends_agree_with_single_bits(rt: HostRuntime) -> Result<(), Fail> {
-    assert_eq!(rt; agreements(rt.alloc())?, 16 * 41);
-    Ok(())
 }

@@ -1,14 +1,12 @@
 //! Worked examples of leaders and plain boxes.
 
-use crate::values::flow;
+use crate::values::is_told;
 use bit_messages::{BitFault, Bits};
 use leader1822::{
     Answer, Carrier, CarrierFault, Flow, HostAddr, HostMessage, ImpNumber, Inbound, Leader,
     LeaderFault, Link, NetEvent, PlainBoxes, Text,
 };
 use std::alloc::{AllocError, Global};
-use std::process::Abort;
-use std::test::Fail;
 
 /// Host 1 at IMP 2.
 fn there() -> HostAddr {
@@ -111,15 +109,74 @@ fn addresses_have_their_ranges(rt: HostRuntime) {
     assert_eq!(rt; [parts(0xFF), parts(0xC0)], [Some((3, 63)), None]);
 }
 
+/// The flows of the rows.
+#[derive(Clone, Copy)]
+enum Way {
+    /// From 0/1 to 0/2, on this link.
+    Forth(u8),
+    /// From 0/2 to 0/1, on this link.
+    Back(u8),
+    /// From 0/1 to itself, on this link.
+    Inward(u8),
+    /// From 0/1 to 0/9, which isn't there, on this link.
+    Away(u8),
+    /// From 0/9 to 0/2, on this link.
+    Stray(u8),
+}
+
+/// The hosts of the rows.
+#[derive(Clone, Copy)]
+enum Who {
+    /// Host 0/1.
+    Here,
+    /// Host 0/2.
+    Beyond,
+    /// Host 0/9, which isn't there.
+    Nobody,
+}
+
+/// A host's address.
+fn host_of(who: Who) -> HostAddr {
+    match who {
+        Who::Here => HostAddr::new(0, 1).unwrap(),
+        Who::Beyond => HostAddr::new(0, 2).unwrap(),
+        Who::Nobody => HostAddr::new(0, 9).unwrap(),
+    }
+}
+
+/// A row's flow.
+fn flow_of(way: Way) -> Flow {
+    let (source, destination, link) = match way {
+        Way::Forth(link) => (Who::Here, Who::Beyond, link),
+        Way::Back(link) => (Who::Beyond, Who::Here, link),
+        Way::Inward(link) => (Who::Here, Who::Here, link),
+        Way::Away(link) => (Who::Here, Who::Nobody, link),
+        Way::Stray(link) => (Who::Nobody, Who::Beyond, link),
+    };
+    Flow {
+        source: host_of(source),
+        destination: host_of(destination),
+        link: Link(link),
+    }
+}
+
 /// Something done to plain boxes.
 #[derive(Clone, Copy)]
 enum Act {
     /// The flow's source offers a message of eight ones on it.
-    Offer(Flow),
+    Offer(Way),
     /// This host takes what waits for it.
-    Take(HostAddr),
-    /// This happens in the network.
-    Step(NetEvent),
+    Take(Who),
+    /// The flow's outstanding message is given up.
+    GiveUp(Way),
+    /// The flow's numbers are forgotten, for which plain boxes have no part.
+    Abandon(Way),
+    /// This host stops.
+    Down(Who),
+    /// This host starts.
+    Up(Who),
+    /// IMP 1 starts, for which plain boxes have no part.
+    ImpUp,
     /// A quiet round passes.
     Quiet,
     /// The hosts and the log are looked at.
@@ -127,6 +184,23 @@ enum Act {
 }
 
 /// What an act gives.
+#[derive(Clone, Copy)]
+enum Want {
+    /// What was asked for happens.
+    Done,
+    /// It is refused.
+    Refused(CarrierFault),
+    /// Nothing waits.
+    Nothing,
+    /// The message of this flow is taken, of eight bits.
+    Message(Way),
+    /// An answer is taken.
+    Answered(Answer, Way),
+    /// There are so many hosts, and so many crossings on the log.
+    Seen(usize, usize),
+}
+
+/// What an act gave.
 #[derive(Clone, Copy, PartialEq)]
 enum Outcome {
     /// What was asked for happened.
@@ -141,6 +215,18 @@ enum Outcome {
     Answered(Answer, Flow),
     /// There are so many hosts, and so many crossings on the log.
     Seen(usize, usize),
+}
+
+/// The outcome that is wanted.
+fn outcome_of(want: Want) -> Outcome {
+    match want {
+        Want::Done => Outcome::Done,
+        Want::Refused(fault) => Outcome::Refused(fault),
+        Want::Nothing => Outcome::Nothing,
+        Want::Message(way) => Outcome::Message(flow_of(way), 8),
+        Want::Answered(kind, way) => Outcome::Answered(kind, flow_of(way)),
+        Want::Seen(hosts, crossings) => Outcome::Seen(hosts, crossings),
+    }
 }
 
 /// The outcome of a call that gives nothing.
@@ -164,293 +250,273 @@ fn taken(answer: Result<Option<Inbound>, CarrierFault>) -> Outcome {
 }
 
 /// A message of eight ones on this flow.
-fn message(rt: &impl Abort, alloc: Global, flow: Flow) -> Result<HostMessage, BitFault> {
+fn message(alloc: Global, flow: Flow) -> Result<HostMessage, BitFault> {
     let bits = Bits::from_octets(alloc, &[0xFF], 8)?;
-    Ok(HostMessage {
-        flow,
-        text: Text::new(bits).expect(rt, "a short text"),
-    })
+    let Some(text) = Text::new(bits) else {
+        return Err(BitFault::TooLong);
+    };
+    Ok(HostMessage { flow, text })
 }
 
 /// Plain boxes of the hosts 0/1 and 0/2.
-fn two_hosts(rt: &impl Abort, alloc: Global) -> Result<PlainBoxes, Fail> {
-    let flow = flow(5);
+fn two_hosts(alloc: Global) -> Result<PlainBoxes, BitFault> {
     let mut hosts = Vec::new(alloc);
-    hosts.push(flow.source)?;
-    hosts.push(flow.destination)?;
-    let ordered = hosts.len() == 2 && hosts[0].imp() == 1 && hosts[1].imp() == 2;
-    assert!(rt; ordered);
+    hosts.push(host_of(Who::Here))?;
+    hosts.push(host_of(Who::Beyond))?;
+    if hosts.len() != 2 || hosts[0].imp() != 1 || hosts[1].imp() != 2 {
+        return Err(BitFault::Range);
+    }
     Ok(PlainBoxes::new(alloc, hosts))
 }
 
 /// What something done to boxes gives.
-fn outcome_of(
-    rt: &impl Abort,
-    alloc: Global,
-    boxes: &mut PlainBoxes,
-    what: Act,
-) -> Result<Outcome, BitFault> {
-    Ok(match what {
-        Act::Offer(flow) => done(boxes.offer_out(message(rt, alloc, flow)?)),
-        Act::Take(host) => taken(boxes.take_in(host)),
-        Act::Step(event) => done(boxes.step(event)),
+fn acted(alloc: Global, boxes: &mut PlainBoxes, act: Act) -> Result<Outcome, BitFault> {
+    Ok(match act {
+        Act::Offer(way) => done(boxes.offer_out(message(alloc, flow_of(way))?)),
+        Act::Take(who) => taken(boxes.take_in(host_of(who))),
+        Act::GiveUp(way) => done(boxes.step(NetEvent::GiveUp(flow_of(way)))),
+        Act::Abandon(way) => done(boxes.step(NetEvent::Abandon(flow_of(way)))),
+        Act::Down(who) => done(boxes.step(NetEvent::HostDown(host_of(who)))),
+        Act::Up(who) => done(boxes.step(NetEvent::HostUp(host_of(who)))),
+        Act::ImpUp => done(boxes.step(NetEvent::ImpUp(ImpNumber::new(1).unwrap()))),
         Act::Quiet => done(boxes.quiet_round()),
         Act::Look => Outcome::Seen(boxes.hosts().len(), boxes.log().len()),
     })
 }
 
-/// The place of the first act that doesn't give what stands beside it, over the boxes of two hosts.
-fn first_other(
-    rt: &impl Abort,
-    alloc: Global,
-    acts: &[(Act, Outcome)],
-) -> Result<Option<usize>, Fail> {
-    let mut boxes = two_hosts(rt, alloc)?;
-    for (place, (what, outcome)) in acts.iter().enumerate() {
-        if outcome_of(rt, alloc, &mut boxes, *what)? != *outcome {
-            return Ok(Some(place));
+/// Whether an act gives what is wanted.
+fn fits(alloc: Global, boxes: &mut PlainBoxes, act: Act, want: Want) -> Result<bool, BitFault> {
+    Ok(acted(alloc, boxes, act)? == outcome_of(want))
+}
+
+/// How many acts give what stands beside them until one doesn't, over the boxes of two hosts.
+fn fitting(alloc: Global, acts: &[(Act, Want)]) -> Result<usize, BitFault> {
+    let mut boxes = two_hosts(alloc)?;
+    for (place, row) in acts.iter().enumerate() {
+        if !fits(alloc, &mut boxes, row.0, row.1)? {
+            return Ok(place);
         }
     }
-    Ok(None)
+    Ok(acts.len())
 }
+
+/// A message is taken and answered.
+const TAKEN: [(Act, Want); 8] = [
+    (Act::Look, Want::Seen(2, 0)),
+    (Act::Offer(Way::Forth(5)), Want::Done),
+    (
+        Act::Offer(Way::Forth(5)),
+        Want::Refused(CarrierFault::Blocked),
+    ),
+    (Act::Take(Who::Here), Want::Nothing),
+    (Act::Take(Who::Beyond), Want::Message(Way::Forth(5))),
+    (
+        Act::Take(Who::Here),
+        Want::Answered(Answer::Rfnm, Way::Forth(5)),
+    ),
+    (Act::Quiet, Want::Done),
+    (Act::Look, Want::Seen(2, 3)),
+];
 
 #[test]
-fn a_message_is_taken_and_answered(rt: HostRuntime) -> Result<(), Fail> {
-    let flow = flow(5);
-    let acts = [
-        (Act::Look, Outcome::Seen(2, 0)),
-        (Act::Offer(flow), Outcome::Done),
-        (Act::Offer(flow), Outcome::Refused(CarrierFault::Blocked)),
-        (Act::Take(flow.source), Outcome::Nothing),
-        (Act::Take(flow.destination), Outcome::Message(flow, 8)),
-        (
-            Act::Take(flow.source),
-            Outcome::Answered(Answer::Rfnm, flow),
-        ),
-        (Act::Quiet, Outcome::Done),
-        (Act::Look, Outcome::Seen(2, 3)),
-    ];
-    assert_eq!(rt; first_other(&rt, rt.alloc(), &acts)?, None);
-    Ok(())
+fn a_message_is_taken_and_answered(rt: HostRuntime) {
+    assert_eq!(rt; fitting(rt.alloc(), &TAKEN), Ok(8));
 }
+
+/// A host stops while a message waits for it, and starts again.
+const STOPPED: [(Act, Want); 8] = [
+    (Act::Offer(Way::Forth(5)), Want::Done),
+    (Act::Down(Who::Beyond), Want::Done),
+    (Act::Down(Who::Beyond), Want::Refused(CarrierFault::IsDown)),
+    (
+        Act::Take(Who::Here),
+        Want::Answered(Answer::Dead, Way::Forth(5)),
+    ),
+    (Act::Take(Who::Beyond), Want::Refused(CarrierFault::IsDown)),
+    (Act::Up(Who::Beyond), Want::Done),
+    (Act::Up(Who::Beyond), Want::Refused(CarrierFault::IsUp)),
+    (Act::Look, Want::Seen(2, 4)),
+];
 
 #[test]
-fn a_host_that_stops_gives_dead(rt: HostRuntime) -> Result<(), Fail> {
-    let flow = flow(5);
-    let down = Act::Step(NetEvent::HostDown(flow.destination));
-    let up = Act::Step(NetEvent::HostUp(flow.destination));
-    let acts = [
-        (Act::Offer(flow), Outcome::Done),
-        (down, Outcome::Done),
-        (down, Outcome::Refused(CarrierFault::IsDown)),
-        (
-            Act::Take(flow.source),
-            Outcome::Answered(Answer::Dead, flow),
-        ),
-        (
-            Act::Take(flow.destination),
-            Outcome::Refused(CarrierFault::IsDown),
-        ),
-        (up, Outcome::Done),
-        (up, Outcome::Refused(CarrierFault::IsUp)),
-        (Act::Look, Outcome::Seen(2, 4)),
-    ];
-    assert_eq!(rt; first_other(&rt, rt.alloc(), &acts)?, None);
-    Ok(())
+fn a_host_that_stops_gives_dead(rt: HostRuntime) {
+    assert_eq!(rt; fitting(rt.alloc(), &STOPPED), Ok(8));
 }
+
+/// Messages are given up, one of a host that stopped.
+const GIVEN_UP: [(Act, Want); 11] = [
+    (
+        Act::GiveUp(Way::Forth(5)),
+        Want::Refused(CarrierFault::NotOutstanding),
+    ),
+    (Act::Offer(Way::Forth(5)), Want::Done),
+    (Act::Down(Who::Here), Want::Done),
+    (Act::Up(Who::Here), Want::Refused(CarrierFault::Unsettled)),
+    (Act::GiveUp(Way::Forth(5)), Want::Done),
+    (Act::Up(Who::Here), Want::Done),
+    (Act::Offer(Way::Forth(5)), Want::Done),
+    (Act::GiveUp(Way::Forth(5)), Want::Done),
+    (
+        Act::GiveUp(Way::Forth(5)),
+        Want::Refused(CarrierFault::NotOutstanding),
+    ),
+    (
+        Act::Take(Who::Here),
+        Want::Answered(Answer::Incomplete, Way::Forth(5)),
+    ),
+    (Act::Take(Who::Beyond), Want::Nothing),
+];
 
 #[test]
-fn a_message_is_given_up(rt: HostRuntime) -> Result<(), Fail> {
-    let flow = flow(5);
-    let given_up = Act::Step(NetEvent::GiveUp(flow));
-    let up = Act::Step(NetEvent::HostUp(flow.source));
-    let none = Outcome::Refused(CarrierFault::NotOutstanding);
-    let acts = [
-        (given_up, none),
-        (Act::Offer(flow), Outcome::Done),
-        (Act::Step(NetEvent::HostDown(flow.source)), Outcome::Done),
-        (up, Outcome::Refused(CarrierFault::Unsettled)),
-        (given_up, Outcome::Done),
-        (up, Outcome::Done),
-        (Act::Offer(flow), Outcome::Done),
-        (given_up, Outcome::Done),
-        (given_up, none),
-        (
-            Act::Take(flow.source),
-            Outcome::Answered(Answer::Incomplete, flow),
-        ),
-        (Act::Take(flow.destination), Outcome::Nothing),
-    ];
-    assert_eq!(rt; first_other(&rt, rt.alloc(), &acts)?, None);
-    Ok(())
+fn a_message_is_given_up(rt: HostRuntime) {
+    assert_eq!(rt; fitting(rt.alloc(), &GIVEN_UP), Ok(11));
 }
+
+/// A message goes to a host that is not there.
+const NOBODY: [(Act, Want); 4] = [
+    (Act::Offer(Way::Away(5)), Want::Done),
+    (Act::ImpUp, Want::Refused(CarrierFault::NoSuch)),
+    (Act::Take(Who::Nobody), Want::Refused(CarrierFault::NoSuch)),
+    (
+        Act::Take(Who::Here),
+        Want::Answered(Answer::Dead, Way::Away(5)),
+    ),
+];
 
 #[test]
-fn a_host_that_is_not_there(rt: HostRuntime) -> Result<(), Fail> {
-    let nobody = HostAddr::new(0, 9).unwrap();
-    let lost = Flow {
-        destination: nobody,
-        ..flow(5)
-    };
-    let imp = ImpNumber::new(1).unwrap();
-    let nothing_such = Outcome::Refused(CarrierFault::NoSuch);
-    let acts = [
-        (Act::Offer(lost), Outcome::Done),
-        (Act::Step(NetEvent::ImpUp(imp)), nothing_such),
-        (Act::Take(nobody), nothing_such),
-        (
-            Act::Take(lost.source),
-            Outcome::Answered(Answer::Dead, lost),
-        ),
-    ];
-    assert_eq!(rt; first_other(&rt, rt.alloc(), &acts)?, None);
-    Ok(())
+fn a_host_that_is_not_there(rt: HostRuntime) {
+    assert_eq!(rt; fitting(rt.alloc(), &NOBODY), Ok(4));
 }
 
-/// The flow back on this link.
-fn back(link: u8) -> Flow {
-    let flow = flow(link);
-    Flow {
-        source: flow.destination,
-        destination: flow.source,
-        link: flow.link,
-    }
-}
-
-/// The flow on this link from 0/1 to itself.
-fn inward(link: u8) -> Flow {
-    let flow = flow(link);
-    Flow {
-        destination: flow.source,
-        ..flow
-    }
-}
-
-/// The host takes this answer.
-fn told(kind: Answer, flow: Flow) -> (Act, Outcome) {
-    (Act::Take(flow.source), Outcome::Answered(kind, flow))
-}
-
-/// The destination takes the flow's message.
-fn came(flow: Flow) -> (Act, Outcome) {
-    (Act::Take(flow.destination), Outcome::Message(flow, 8))
-}
-
-/// The act is done.
-fn well(act: Act) -> (Act, Outcome) {
-    (act, Outcome::Done)
-}
-
-/// The act is refused.
-fn refused(act: Act, fault: CarrierFault) -> (Act, Outcome) {
-    (act, Outcome::Refused(fault))
-}
+/// Answers of four messages wait in their order.
+const ORDERED: [(Act, Want); 16] = [
+    (Act::Offer(Way::Forth(1)), Want::Done),
+    (Act::Offer(Way::Forth(2)), Want::Done),
+    (Act::Offer(Way::Forth(3)), Want::Done),
+    (Act::Offer(Way::Back(1)), Want::Done),
+    (Act::Take(Who::Beyond), Want::Message(Way::Forth(1))),
+    (Act::Take(Who::Beyond), Want::Message(Way::Forth(2))),
+    (
+        Act::Offer(Way::Forth(1)),
+        Want::Refused(CarrierFault::Blocked),
+    ),
+    (Act::GiveUp(Way::Forth(3)), Want::Done),
+    (
+        Act::Take(Who::Here),
+        Want::Answered(Answer::Rfnm, Way::Forth(1)),
+    ),
+    (Act::GiveUp(Way::Forth(2)), Want::Done),
+    (
+        Act::Take(Who::Here),
+        Want::Answered(Answer::Incomplete, Way::Forth(3)),
+    ),
+    (
+        Act::Take(Who::Here),
+        Want::Answered(Answer::Incomplete, Way::Forth(2)),
+    ),
+    (
+        Act::GiveUp(Way::Forth(2)),
+        Want::Refused(CarrierFault::NotOutstanding),
+    ),
+    (Act::Take(Who::Here), Want::Message(Way::Back(1))),
+    (
+        Act::Take(Who::Beyond),
+        Want::Answered(Answer::Rfnm, Way::Back(1)),
+    ),
+    (Act::Take(Who::Beyond), Want::Nothing),
+];
 
 #[test]
-fn answers_wait_in_their_order(rt: HostRuntime) -> Result<(), Fail> {
-    let (one, two, three, other) = (flow(1), flow(2), flow(3), back(1));
-    let acts = [
-        well(Act::Offer(one)),
-        well(Act::Offer(two)),
-        well(Act::Offer(three)),
-        well(Act::Offer(other)),
-        came(one),
-        came(two),
-        refused(Act::Offer(one), CarrierFault::Blocked),
-        well(Act::Step(NetEvent::GiveUp(three))),
-        told(Answer::Rfnm, one),
-        well(Act::Step(NetEvent::GiveUp(two))),
-        told(Answer::Incomplete, three),
-        told(Answer::Incomplete, two),
-        refused(
-            Act::Step(NetEvent::GiveUp(two)),
-            CarrierFault::NotOutstanding,
-        ),
-        came(other),
-        (
-            Act::Take(one.destination),
-            Outcome::Answered(Answer::Rfnm, other),
-        ),
-        (Act::Take(one.destination), Outcome::Nothing),
-    ];
-    assert_eq!(rt; first_other(&rt, rt.alloc(), &acts)?, None);
-    Ok(())
+fn answers_wait_in_their_order(rt: HostRuntime) {
+    assert_eq!(rt; fitting(rt.alloc(), &ORDERED), Ok(16));
 }
 
-#[test]
-fn a_host_that_stops_is_cleared(rt: HostRuntime) -> Result<(), Fail> {
-    let (one, two, own, other) = (flow(1), flow(2), inward(7), back(1));
-    let here = one.source;
-    let down = Act::Step(NetEvent::HostDown(here));
-    let up = Act::Step(NetEvent::HostUp(here));
-    let acts = [
-        well(Act::Offer(two)),
-        came(two),
-        well(Act::Offer(one)),
-        well(Act::Offer(own)),
-        well(Act::Offer(other)),
-        well(down),
-        refused(Act::Offer(one), CarrierFault::IsDown),
-        refused(up, CarrierFault::Unsettled),
-        (
-            Act::Take(other.source),
-            Outcome::Answered(Answer::Dead, other),
-        ),
-        came(one),
-        well(up),
-        (Act::Take(here), Outcome::Nothing),
-        well(Act::Offer(one)),
-        well(Act::Offer(two)),
-        well(Act::Offer(own)),
-        well(Act::Step(NetEvent::HostDown(one.destination))),
-        told(Answer::Dead, one),
-        told(Answer::Dead, two),
-        came(own),
-        told(Answer::Rfnm, own),
-        well(Act::Offer(two)),
-        told(Answer::Dead, two),
-        (Act::Look, Outcome::Seen(2, 19)),
-    ];
-    assert_eq!(rt; first_other(&rt, rt.alloc(), &acts)?, None);
-    Ok(())
-}
+/// A host stops and starts while messages of it and to it wait.
+const CLEARED: [(Act, Want); 23] = [
+    (Act::Offer(Way::Forth(2)), Want::Done),
+    (Act::Take(Who::Beyond), Want::Message(Way::Forth(2))),
+    (Act::Offer(Way::Forth(1)), Want::Done),
+    (Act::Offer(Way::Inward(7)), Want::Done),
+    (Act::Offer(Way::Back(1)), Want::Done),
+    (Act::Down(Who::Here), Want::Done),
+    (
+        Act::Offer(Way::Forth(1)),
+        Want::Refused(CarrierFault::IsDown),
+    ),
+    (Act::Up(Who::Here), Want::Refused(CarrierFault::Unsettled)),
+    (
+        Act::Take(Who::Beyond),
+        Want::Answered(Answer::Dead, Way::Back(1)),
+    ),
+    (Act::Take(Who::Beyond), Want::Message(Way::Forth(1))),
+    (Act::Up(Who::Here), Want::Done),
+    (Act::Take(Who::Here), Want::Nothing),
+    (Act::Offer(Way::Forth(1)), Want::Done),
+    (Act::Offer(Way::Forth(2)), Want::Done),
+    (Act::Offer(Way::Inward(7)), Want::Done),
+    (Act::Down(Who::Beyond), Want::Done),
+    (
+        Act::Take(Who::Here),
+        Want::Answered(Answer::Dead, Way::Forth(1)),
+    ),
+    (
+        Act::Take(Who::Here),
+        Want::Answered(Answer::Dead, Way::Forth(2)),
+    ),
+    (Act::Take(Who::Here), Want::Message(Way::Inward(7))),
+    (
+        Act::Take(Who::Here),
+        Want::Answered(Answer::Rfnm, Way::Inward(7)),
+    ),
+    (Act::Offer(Way::Forth(2)), Want::Done),
+    (
+        Act::Take(Who::Here),
+        Want::Answered(Answer::Dead, Way::Forth(2)),
+    ),
+    (Act::Look, Want::Seen(2, 19)),
+];
 
 #[test]
-fn the_first_refusal_is_given(rt: HostRuntime) -> Result<(), Fail> {
-    let one = flow(1);
-    let nobody = HostAddr::new(0, 9).unwrap();
-    let lost = Flow {
-        source: nobody,
-        ..one
-    };
-    let nowhere = Flow {
-        destination: nobody,
-        ..one
-    };
-    let acts = [
-        refused(Act::Offer(lost), CarrierFault::NoSuch),
-        refused(Act::Step(NetEvent::GiveUp(lost)), CarrierFault::NoSuch),
-        refused(
-            Act::Step(NetEvent::GiveUp(nowhere)),
-            CarrierFault::NotOutstanding,
-        ),
-        refused(Act::Step(NetEvent::HostDown(nobody)), CarrierFault::NoSuch),
-        refused(Act::Step(NetEvent::HostUp(nobody)), CarrierFault::NoSuch),
-        refused(Act::Step(NetEvent::HostUp(one.source)), CarrierFault::IsUp),
-        well(Act::Offer(one)),
-        refused(Act::Step(NetEvent::HostUp(one.source)), CarrierFault::IsUp),
-        refused(Act::Step(NetEvent::Abandon(one)), CarrierFault::NoSuch),
-        came(one),
-    ];
-    assert_eq!(rt; first_other(&rt, rt.alloc(), &acts)?, None);
-    Ok(())
+fn a_host_that_stops_is_cleared(rt: HostRuntime) {
+    assert_eq!(rt; fitting(rt.alloc(), &CLEARED), Ok(23));
+}
+
+/// Acts for which there is more than one refusal.
+const REFUSED: [(Act, Want); 10] = [
+    (
+        Act::Offer(Way::Stray(1)),
+        Want::Refused(CarrierFault::NoSuch),
+    ),
+    (
+        Act::GiveUp(Way::Stray(1)),
+        Want::Refused(CarrierFault::NoSuch),
+    ),
+    (
+        Act::GiveUp(Way::Away(1)),
+        Want::Refused(CarrierFault::NotOutstanding),
+    ),
+    (Act::Down(Who::Nobody), Want::Refused(CarrierFault::NoSuch)),
+    (Act::Up(Who::Nobody), Want::Refused(CarrierFault::NoSuch)),
+    (Act::Up(Who::Here), Want::Refused(CarrierFault::IsUp)),
+    (Act::Offer(Way::Forth(1)), Want::Done),
+    (Act::Up(Who::Here), Want::Refused(CarrierFault::IsUp)),
+    (
+        Act::Abandon(Way::Forth(1)),
+        Want::Refused(CarrierFault::NoSuch),
+    ),
+    (Act::Take(Who::Beyond), Want::Message(Way::Forth(1))),
+];
+
+#[test]
+fn the_first_refusal_is_given(rt: HostRuntime) {
+    assert_eq!(rt; fitting(rt.alloc(), &REFUSED), Ok(10));
 }
 
 /// Whether copies are equal to what they were made of; whether hosts and flows are equal, and stand in
 /// order, as they should.
 fn likeness() -> Result<[bool; 12], AllocError> {
     let (low, high) = (HostAddr::new(3, 1).unwrap(), HostAddr::new(0, 2).unwrap());
-    let (one, two) = (flow(1), flow(2));
+    let (one, two) = (flow_of(Way::Forth(1)), flow_of(Way::Forth(2)));
     let event = NetEvent::HostUp(low);
     let leader = answer(Answer::Dead);
     Ok([
@@ -460,8 +526,8 @@ fn likeness() -> Result<[bool; 12], AllocError> {
         ImpNumber::new(9) < ImpNumber::new(10),
         one.clone()? == one,
         one < two,
-        back(1) < two,
-        inward(9) < one,
+        flow_of(Way::Back(1)) < two,
+        flow_of(Way::Inward(9)) < one,
         event.clone()? == event,
         event == NetEvent::HostDown(low),
         leader.clone()? == leader,
@@ -470,53 +536,53 @@ fn likeness() -> Result<[bool; 12], AllocError> {
 }
 
 #[test]
-fn values_are_copied_and_compared(rt: HostRuntime) -> Result<(), Fail> {
+fn values_are_copied_and_compared(rt: HostRuntime) {
     let expected = [
         true, true, false, true, true, true, false, true, true, false, true, false,
     ];
-    assert_eq!(rt; likeness()?, expected);
-    Ok(())
+    assert_eq!(rt; likeness(), Ok(expected));
 }
 
-/// The flow and the bits of a message's copy.
-fn copied(rt: &impl Abort, alloc: Global) -> Result<(Flow, bool), BitFault> {
-    let message = message(rt, alloc, flow(5))?;
+/// Whether a message's copy has its flow and its bits.
+fn copied(alloc: Global) -> Result<[bool; 2], BitFault> {
+    let message = message(alloc, flow_of(Way::Forth(5)))?;
     let copy = message.clone()?;
-    Ok((copy.flow, copy.text.bits() == message.text.bits()))
+    Ok([
+        copy.flow == message.flow,
+        copy.text.bits() == message.text.bits(),
+    ])
 }
 
 #[test]
-fn a_message_is_copied_whole(rt: HostRuntime) -> Result<(), Fail> {
-    assert_eq!(rt; copied(&rt, rt.alloc())?, (flow(5), true));
-    Ok(())
-}
-
-/// The texts of the faults, in the order in which they are looked for.
-fn fault_texts(alloc: Global) -> Result<String, AllocError> {
-    format!(in alloc;
-        "{} {} {} {} {} {} {} {} {} {}, {}, {}, {}",
-        CarrierFault::NoSuch,
-        CarrierFault::StillAlive,
-        CarrierFault::IsDown,
-        CarrierFault::IsUp,
-        CarrierFault::Unsettled,
-        CarrierFault::NotOutstanding,
-        CarrierFault::Blocked,
-        CarrierFault::NoRoom,
-        CarrierFault::Stopped,
-        CarrierFault::OutOfMemory,
-        LeaderFault::ShortLeader,
-        LeaderFault::UnknownType(10),
-        LeaderFault::BadImp
-    )
+fn a_message_is_copied_whole(rt: HostRuntime) {
+    assert_eq!(rt; copied(rt.alloc()), Ok([true; 2]));
 }
 
 #[test]
-fn each_fault_has_its_text(rt: HostRuntime) -> Result<(), Fail> {
-    let texts = fault_texts(rt.alloc())?;
-    assert_eq!(rt;
-        texts.as_str(),
-        "NoSuch StillAlive IsDown IsUp Unsettled NotOutstanding Blocked NoRoom Stopped OutOfMemory, short leader, unknown type 10, bad IMP number"
-    );
-    Ok(())
+fn each_fault_has_its_text(rt: HostRuntime) {
+    let alloc = rt.alloc();
+    let are_told = [
+        is_told(alloc, CarrierFault::NoSuch, "NoSuch"),
+        is_told(alloc, CarrierFault::StillAlive, "StillAlive"),
+        is_told(alloc, CarrierFault::IsDown, "IsDown"),
+        is_told(alloc, CarrierFault::IsUp, "IsUp"),
+        is_told(alloc, CarrierFault::Unsettled, "Unsettled"),
+        is_told(alloc, CarrierFault::NotOutstanding, "NotOutstanding"),
+        is_told(alloc, CarrierFault::Blocked, "Blocked"),
+        is_told(alloc, CarrierFault::NoRoom, "NoRoom"),
+        is_told(alloc, CarrierFault::Stopped, "Stopped"),
+        is_told(alloc, CarrierFault::OutOfMemory, "OutOfMemory"),
+    ];
+    assert_eq!(rt; are_told, [true; 10]);
+}
+
+#[test]
+fn each_fault_of_a_leader_has_its_text(rt: HostRuntime) {
+    let alloc = rt.alloc();
+    let are_told = [
+        is_told(alloc, LeaderFault::ShortLeader, "short leader"),
+        is_told(alloc, LeaderFault::UnknownType(10), "unknown type 10"),
+        is_told(alloc, LeaderFault::BadImp, "bad IMP number"),
+    ];
+    assert_eq!(rt; are_told, [true; 3]);
 }

@@ -1,17 +1,8 @@
 //! Values that the rows share.
 
 use bit_messages::{BitFault, Bits};
-use leader1822::{Flow, HostAddr, Link};
 use std::alloc::Global;
-
-/// The flow on this link from 0/1 to 0/2.
-pub(crate) fn flow(link: u8) -> Flow {
-    Flow {
-        source: HostAddr::new(0, 1).unwrap(),
-        destination: HostAddr::new(0, 2).unwrap(),
-        link: Link(link),
-    }
-}
+use std::fmt::Display;
 
 /// A list of so many bits, all alike.
 pub(crate) fn alike(alloc: Global, bit: bool, count: usize) -> Result<Bits, BitFault> {
@@ -20,4 +11,12 @@ pub(crate) fn alike(alloc: Global, bit: bool, count: usize) -> Result<Bits, BitF
         bits.push(bit)?;
     }
     Ok(bits)
+}
+
+/// Whether a value is told by this text.
+pub(crate) fn is_told<T: Display + Drop>(alloc: Global, value: T, text: &str) -> bool {
+    match format!(in alloc; "{}", value) {
+        Ok(told) => told.as_str() == text,
+        Err(_) => false,
+    }
 }

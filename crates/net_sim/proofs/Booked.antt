@@ -14,17 +14,22 @@ use Rattle.leader1822.specs.declared.event.NetEvent.{NetEvent}
 use Rattle.leader1822.specs.declared.message.HostMessage.{HostMessage}
 use Rattle.leader1822.proofs.MessageLaw.{run_below, safe_messages}
 use Rattle.sockets.specs.Pairs.{NcpState}
-use Rattle.sockets.specs.Requests.{refusal, served_notices}
+use Rattle.sockets.specs.Requests.{refusal, served, served_notices}
 use Rattle.sockets.specs.Sending.{next_out, offered}
 use Rattle.sockets.specs.Accepting.{accepted}
 use Rattle.sockets.specs.declared.fault.NcpFault.{NcpFault}
-use Rattle.sockets.specs.declared.notice.Notice.{Notice}
+use Rattle.host_pairs.specs.declared.notice.Notice.{Notice}
+use Rattle.sockets.specs.declared.fault.NcpFault.TheVariants as problem
 use Rattle.sockets.specs.declared.request.Request.{Request}
-use Rattle.net_sim.specs.Book.{Kept, crossed, all_crossed, told, all_told, asked}
+use Rattle.sockets.specs.declared.request.Request.TheVariants as request
+use Rattle.host_services.specs.Services.{DeskState, ServicesState, opening_desk}
+use Rattle.host_services.specs.Turns.{server_begun, user_begun}
+use Rattle.host_services.specs.TypedLines.{line_bits}
+use Rattle.net_sim.specs.Book.{Kept, crossed, all_crossed, told, all_told, asked, all_asked}
 use Rattle.net_sim.specs.Carriers.{shown, IsBooked}
 use Rattle.net_sim.specs.Whole.{Each}
 use Rattle.net_sim.proofs.Always.{run_keeps, calm_keeps}
-use Rattle.net_sim.specs.World.{Calls, WorldState, WorldFault, Carrier, Program, Event, Net, Quiet, Offer, Take, Ask, Seat, opening_world, seat_of, with_carrier, moved, changed, served_at, Refuses, Does, Halts, Passes, OfferEnds, OfferGives, TakeEnds, TakeGives, NetEnds, QuietEnds, AskGives, AtProgram, AtSeat, EventGives, StepGives, RunGives, CalmGives}
+use Rattle.net_sim.specs.World.{Calls, WorldState, WorldFault, Carrier, Program, Event, Net, Quiet, Offer, Take, Ask, Server, User, Typed, Seat, opening_world, seat_of, services_of, noticed, tended, turn_of, with_server, with_user, with_carrier, moved, changed, served_at, DoesOrHalts, TypeGives, Refuses, Does, Halts, Passes, OfferEnds, OfferGives, TakeEnds, TakeGives, NetEnds, QuietEnds, AskGives, AtProgram, AtSeat, EventGives, StepGives, RunGives, CalmGives}
 
 -- ---- the crossings of what is kept
 
@@ -35,6 +40,14 @@ told_crossings h (n ∷ ns) k = told_crossings h ns (told h n k)
 pub crossed_crossings : (cs : List Crossing) (k : Kept) → (all_crossed cs k).book.crossings ≡ cs ++ k.book.crossings
 crossed_crossings [] k = refl
 crossed_crossings (c ∷ cs) k = ap (λ (xs : List Crossing). c ∷ xs) (crossed_crossings cs k)
+
+pub asked_crossings : (h : Host) (rs : List Request) (k : Kept) → (all_asked h rs k).book.crossings ≡ k.book.crossings
+asked_crossings h [] k = refl
+asked_crossings h (r ∷ rs) k = asked_crossings h rs (asked h r k)
+
+-- what a program told, and what its host's services did then
+pub heard_crossings : (h : Host) (ns : List Notice) (rs : List Request) (k : Kept) → (all_asked h rs (all_told h ns k)).book.crossings ≡ k.book.crossings
+heard_crossings h ns rs k = asked_crossings h rs (all_told h ns k) ∙ told_crossings h ns k
 
 -- a refusal crosses nothing
 same_log : (b : Bool) (s : Seen) → (if b then halted s else s).log ≡ s.log
@@ -90,7 +103,7 @@ module _ {C : Type 0} (own : Calls C) where
       → IsBooked own.seen old → old.stopped ≡ false → ShowsOffer (calls.seen old.carrier) m answer (calls.seen c) → OfferEnds h s m answer c old r new → IsBooked own.seen new
   offer_ends h s m (Ok done) c old r new b running shows ends = elim ends [
     | inl d ↦ done_books old c (crossing.Out m ∷ []) (moved c h (crossing.Out m) (offered s (length old.kept.book.crossings)) old) r new b running (grown_log (calls.seen old.carrier) (crossing.Out m ∷ []) (calls.seen c) shows) refl
-        (told_crossings h (offered s (length old.kept.book.crossings)).1 (crossed (crossing.Out m) old.kept)) d
+        (heard_crossings h (offered s (length old.kept.book.crossings)).1 (turn_of h (noticed old) (services_of h old.services) (offered s (length old.kept.book.crossings))).1.asked (crossed (crossing.Out m) old.kept)) d
     | inr x ↦ halt_books old c (crossing.Out m ∷ []) r new b running (grown_log (calls.seen old.carrier) (crossing.Out m ∷ []) (calls.seen c) shows) x
   ]
   offer_ends h s m (Err e) c old r new b running shows ends = passed_books e c old r new b running (refused_log (calls.seen old.carrier) e (calls.seen c) shows) ends
@@ -109,7 +122,7 @@ module _ {C : Type 0} (own : Calls C) where
       done_books old c [] (with_carrier c old) r new b running (grown_log (calls.seen old.carrier) [] (calls.seen c) shows) refl refl ends
   take_ends h s (Ok (Some i)) c old r new b running shows ends = elim ends [
     | inl d ↦ done_books old c (crossing_of i ∷ []) (moved c h (crossing_of i) (accepted s i (length old.kept.book.crossings)) old) r new b running (grown_log (calls.seen old.carrier) (crossing_of i ∷ []) (calls.seen c) shows.0) refl
-        (told_crossings h (accepted s i (length old.kept.book.crossings)).1 (crossed (crossing_of i) old.kept)) d
+        (heard_crossings h (accepted s i (length old.kept.book.crossings)).1 (turn_of h (noticed old) (services_of h old.services) (accepted s i (length old.kept.book.crossings))).1.asked (crossed (crossing_of i) old.kept)) d
     | inr x ↦ halt_books old c (crossing_of i ∷ []) r new b running (grown_log (calls.seen old.carrier) (crossing_of i ∷ []) (calls.seen c) shows.0) x
   ]
   take_ends h s (Err e) c old r new b running shows ends = passed_books e c old r new b running (refused_log (calls.seen old.carrier) e (calls.seen c) shows) ends
@@ -119,7 +132,7 @@ module _ {C : Type 0} (own : Calls C) where
   net_ends e (Ok done) c old r new b running shows ends = elim ends [
     | inl d ↦ done_books old c (step_crossings (calls.seen old.carrier) e) (changed c (step_crossings (calls.seen old.carrier) e) old) r new b running
         (grown_log (calls.seen old.carrier) (step_crossings (calls.seen old.carrier) e) (calls.seen c) shows) refl (crossed_crossings (step_crossings (calls.seen old.carrier) e) old.kept) d
-    | inr x ↦ halt_books old c (step_crossings (calls.seen old.carrier) e) r new b running (grown_log (calls.seen old.carrier) (step_crossings (calls.seen old.carrier) e) (calls.seen c) shows) x
+    | inr x ↦ halt_books old c (step_crossings (calls.seen old.carrier) e) r new b running (grown_log (calls.seen old.carrier) (step_crossings (calls.seen old.carrier) e) (calls.seen c) shows) x.1
   ]
   net_ends e (Err f) c old r new b running shows ends = passed_books f c old r new b running (refused_log (calls.seen old.carrier) f (calls.seen c) shows) ends
 
@@ -133,9 +146,21 @@ module _ {C : Type 0} (own : Calls C) where
       → AskGives h q s o old r new → IsBooked own.seen new
   ask_books h q s (Some f) old r new b running gives = refused_books (Program f) old r new b gives
   ask_books h q s None old r new b running gives = elim gives [
-    | inl d ↦ done_books old old.carrier [] (served_at h q s old) r new b running refl refl (told_crossings h (served_notices s q) (asked h q old.kept)) d
+    | inl d ↦ done_books old old.carrier [] (served_at h q s old) r new b running refl refl (heard_crossings h (served_notices s q) (turn_of h (noticed old) (services_of h old.services) (served s q, served_notices s q)).1.asked (asked h q old.kept)) d
     | inr x ↦ halt_books old old.carrier [] r new b running refl x
   ]
+
+  -- something of the services alone
+  begun_books : (h : Host) (t : ServicesState × DeskState) (old : WorldState C) (r : Result (Unit {0}) WorldFault) (new : WorldState C) → IsBooked own.seen old → old.stopped ≡ false
+      → DoesOrHalts (tended h t old) old r new → IsBooked own.seen new
+  begun_books h t old r new b running (inl d) = done_books old old.carrier [] (tended h t old) r new b running refl refl (asked_crossings h t.1.asked old.kept) d
+  begun_books h t old r new b running (inr x) = halt_books old old.carrier [] r new b running refl x
+
+  type_books : (h : Host) (line : List ℕ) (s : NcpState) (o : Option ℕ) (old : WorldState C) (r : Result (Unit {0}) WorldFault) (new : WorldState C) → IsBooked own.seen old → old.stopped ≡ false
+      → TypeGives h line s o old r new → IsBooked own.seen new
+  type_books h line s None old r new b running gives = refused_books (Program problem.NotOpen) old r new b gives
+  type_books h line s (Some socket) old r new b running gives =
+      ask_books h (request.Send socket (line_bits line)) s (refusal s (request.Send socket (line_bits line))) old r new b running gives
 
   at_program : (Gives : NcpState → Type 0) (o : Option NcpState) (old : WorldState C) (r : Result (Unit {0}) WorldFault) (new : WorldState C) → IsBooked own.seen old
       → ((s : NcpState) → Gives s → IsBooked own.seen new) → AtProgram Gives o old r new → IsBooked own.seen new
@@ -153,6 +178,14 @@ module _ {C : Type 0} (own : Calls C) where
   event_books (Offer h) old r new b running t = at_seat (λ s. OfferGives calls h s (next_out s) old r new) (seat_of h old.seats) old r new b (λ s g. offer_books h s (next_out s) old r new b running g) t
   event_books (Take h) old r new b running t = at_seat (λ s. TakeGives calls h s old r new) (seat_of h old.seats) old r new b
       (λ s g. take_ends h s g.0 g.1 old r new b running g.2.1 g.3) t
+  event_books (Server h listen base) old r new b running t =
+      at_seat (λ s. DoesOrHalts (with_server h listen base s old) old r new) (seat_of h old.seats) old r new b
+      (λ s g. begun_books h (server_begun listen base (services_of h old.services) (opening_desk h (noticed old) s)) old r new b running g) t
+  event_books (User h peer listen own) old r new b running t =
+      at_seat (λ s. DoesOrHalts (with_user h peer listen own s old) old r new) (seat_of h old.seats) old r new b
+      (λ s g. begun_books h (user_begun peer listen own (services_of h old.services) (opening_desk h (noticed old) s)) old r new b running g) t
+  event_books (Typed h line) old r new b running t =
+      at_seat (λ s. TypeGives h line s (services_of h old.services).typing old r new) (seat_of h old.seats) old r new b (λ s g. type_books h line s (services_of h old.services).typing old r new b running g) t
   event_books (Ask h q) old r new b running t = at_seat (λ s. AskGives h q s (refusal s q) old r new) (seat_of h old.seats) old r new b (λ s g. ask_books h q s (refusal s q) old r new b running g) t
 
   if_stopped : (P : Type 0) (old : WorldState C) (r : Result (Unit {0}) WorldFault) (new : WorldState C) → IsBooked own.seen old → (old.stopped ≡ false → P → IsBooked own.seen new)

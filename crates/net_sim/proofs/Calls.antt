@@ -9,14 +9,17 @@ use Rattle.leader1822.specs.declared.message.HostMessage.{HostMessage}
 use Rattle.leader1822.proofs.Lists.{same_host-true, same_host-refl}
 use Rattle.ncp_control.specs.declared.command.Command.{Command}
 use Rattle.ncp_control.specs.declared.command.Command.TheVariants as command
-use Rattle.sockets.specs.Accepting.{accepted, accepted_message, accepted_answer, message_taken, answered_turn, turn_of}
-use Rattle.sockets.specs.Commands.{granted}
-use Rattle.sockets.specs.Entries.{is_busy, is_receiving, is_mine_on, sending_end, receiving_end, free_link, called_off}
-use Rattle.sockets.specs.Pair.{PairState}
-use Rattle.sockets.specs.Pairs.{NcpState, opening_state, pair_with, with_pair, desk_of, listens_on, owner_of, settled}
-use Rattle.sockets.specs.Requests.{served, contacted, requested, receiver_requested, with_end, with_more_bits, commanded, interrupt_of, at_owner, closed_end, closed_socket}
-use Rattle.sockets.specs.Sending.{link_of}
-use Rattle.sockets.specs.declared.entry.Entry.{Entry}
+use Rattle.sockets.specs.Accepting.{accepted, accepted_message, accepted_answer, turn_of}
+use Rattle.host_pairs.specs.Turn.{message_taken, answered_turn}
+use Rattle.host_pairs.specs.Commands.{granted}
+use Rattle.host_pairs.specs.Entries.{is_busy, is_receiving, is_mine_on, sending_end, receiving_end, free_link, called_off}
+use Rattle.host_pairs.specs.Pair.{PairState}
+use Rattle.sockets.specs.Pairs.{NcpState, opening_state, pair_with, with_pair, owner_of}
+use Rattle.host_pairs.specs.Desk.{desk_of, listens_on, settled}
+use Rattle.sockets.specs.Requests.{served, at_owner, closed_socket}
+use Rattle.host_pairs.specs.Asked.{contacted, requested, receiver_requested, with_end, with_more_bits, commanded, interrupt_of, closed_end}
+use Rattle.host_pairs.specs.Parcels.{link_of}
+use Rattle.host_pairs.specs.declared.entry.Entry.{Entry}
 use Rattle.sockets.specs.declared.peer.Peer.{Peer}
 use Rattle.sockets.specs.declared.request.Request.{Request}
 use Rattle.sockets.specs.declared.request.Request.TheVariants as request

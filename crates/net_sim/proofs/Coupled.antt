@@ -13,7 +13,8 @@ use Rattle.leader1822.proofs.Lists.{same_host-true, same_flow-true}
 use Rattle.sockets.specs.Pairs.{NcpState, opening_state, pair_with}
 use Rattle.sockets.specs.Peers.{AreInOrder}
 use Rattle.sockets.specs.Requests.{served}
-use Rattle.sockets.specs.Sending.{Parcel, message_for, message_of, next_in, next_out, offered}
+use Rattle.host_pairs.specs.Parcels.{Parcel}
+use Rattle.sockets.specs.Sending.{message_for, message_of, next_in, next_out, offered}
 use Rattle.sockets.specs.declared.peer.Peer.{Peer}
 use Rattle.sockets.specs.declared.request.Request.{Request}
 use Rattle.reset_law.specs.Boxes.{Box, boxes}

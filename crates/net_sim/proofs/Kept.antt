@@ -10,15 +10,15 @@ use Rattle.ncp_control.specs.declared.command.Command.TheVariants as command
 use Rattle.ncp_control.specs.declared.data_header.DataHeader.{DataHeader}
 use Rattle.ncp_control.specs.DataHeader.{header_of}
 use Rattle.ncp_control.specs.Command.{detail_of, spelling}
-use Rattle.sockets.specs.Commands as commands
-use Rattle.sockets.specs.Control.{error, ERRONEOUS, NO_SOCKET, NOT_CONNECTED}
-use Rattle.sockets.specs.Commands.{changed, joined, matched_once, rts_heard, rts_taken_by, rts_taken, str_linked, str_heard, str_taken_by, str_taken, closed_once, cls_taken_by, cls_taken, Found, Unconnected, Ending, Open, at_end, sender_on, receiver_on, all_taken, gvb_taken, ret_taken, interrupted, taken, asked_on_link, asked_with_size}
-use Rattle.sockets.specs.Data.{data_found, data_taken, arrived_if, is_acceptable}
-use Rattle.sockets.specs.Entries.{changed_first, closed_when, connection_links, is_at, must_close, cls_of, is_over, free_link, entry_at, receiving_end, receives_on, refused_end, sending_end, sends_on}
-use Rattle.sockets.specs.Pairs.{DeskState, queued, told, settled, swept, listener_on}
-use Rattle.sockets.specs.declared.entry.Entry.{Entry}
-use Rattle.sockets.specs.declared.listener.Listener.{Listener}
-use Rattle.sockets.specs.declared.notice.Notice.{Notice}
+use Rattle.host_pairs.specs.Commands as commands
+use Rattle.host_pairs.specs.Control.{error, ERRONEOUS, NO_SOCKET, NOT_CONNECTED}
+use Rattle.host_pairs.specs.Commands.{changed, joined, matched_once, rts_heard, rts_taken_by, rts_taken, str_linked, str_heard, str_taken_by, str_taken, closed_once, cls_taken_by, cls_taken, Found, Unconnected, Ending, Open, at_end, sender_on, receiver_on, all_taken, gvb_taken, ret_taken, interrupted, taken, asked_on_link, asked_with_size}
+use Rattle.host_pairs.specs.Data.{data_found, data_taken, arrived_if, is_acceptable}
+use Rattle.host_pairs.specs.Entries.{changed_first, closed_when, connection_links, is_at, must_close, cls_of, is_over, free_link, entry_at, receiving_end, receives_on, refused_end, sending_end, sends_on}
+use Rattle.host_pairs.specs.Desk.{DeskState, queued, told, settled, swept, listener_on}
+use Rattle.host_pairs.specs.declared.entry.Entry.{Entry}
+use Rattle.host_pairs.specs.declared.listener.Listener.{Listener}
+use Rattle.host_pairs.specs.declared.notice.Notice.{Notice}
 use Rattle.std.specs.List.{list_any}
 use Rattle.net_sim.specs.Projection.{has_asked, has_control, misquotes, names_control, on_control, ArePlain, IsQueued}
 

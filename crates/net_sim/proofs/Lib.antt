@@ -9,8 +9,10 @@ pub mod SafeRow
 pub mod Refusals
 pub mod StoryLemmas
 pub mod LifeLoops
+pub mod Places
 pub mod InOrder
 pub mod SeatLemmas
+pub mod Calming
 pub mod Ends
 pub mod Bridge
 pub mod Ordered
@@ -21,3 +23,8 @@ pub mod Always
 pub mod BookEvents
 pub mod Clean
 pub mod Unheard
+pub mod Held
+pub mod RunLoop
+pub mod Asks
+pub mod Serving
+pub mod Doing

@@ -9,23 +9,26 @@ use Rattle.ncp_control.specs.declared.command.Command.TheVariants as command
 use Rattle.ncp_control.specs.Packing.{packed_count}
 use Rattle.ncp_control.specs.Reading.{read_of, command_of}
 use Rattle.leader1822.specs.declared.crossing.Crossing.TheVariants as crossing
-use Rattle.sockets.specs.Control.{Order, Legal, Wrong, orders_of}
-use Rattle.sockets.specs.Entries.{changed_first, is_at, is_busy, is_open, is_answered, is_receiving, is_ending}
-use Rattle.sockets.specs.Others.{MaySend, MayGo, MayReset, MayReply, MaySpeak, MayCommand}
-use Rattle.sockets.specs.Pair.{PairState}
-use Rattle.sockets.specs.Pairs.{DeskState, NcpState, desk_of, pair_with}
+use Rattle.host_pairs.specs.Control.{Order, Legal, Wrong, orders_of}
+use Rattle.host_pairs.specs.Entries.{changed_first, is_at, is_busy, is_open, is_answered, is_receiving, is_ending}
+use Rattle.host_pairs.specs.Allowed.{MaySend, MayGo, MayReset, MayReply, MaySpeak, MayCommand}
+use Rattle.host_pairs.specs.Pair.{PairState}
+use Rattle.host_pairs.specs.Desk.{DeskState, desk_of}
+use Rattle.sockets.specs.Pairs.{NcpState, pair_with}
 use Rattle.sockets.specs.Peers.{AreInOrder}
-use Rattle.sockets.specs.Phases as program
-use Rattle.sockets.specs.Sending as parcel
-use Rattle.sockets.specs.Sending.{Parcel, next_of, next_in, next_of_ready, next_bytes, bytes_on, bytes_of, bytes_by, lowest_link, may_send, may_send_on, link_of, link_for, text_for, if_silent, pair_after, parcel_gone, commands_gone, command_gone, request_gone, asked_at, cls_sent, bits_gone, message_for, offered}
-use Rattle.sockets.specs.declared.entry.Entry.{Entry}
-use Rattle.sockets.specs.declared.listener.Listener.{Listener}
+use Rattle.host_pairs.specs.Phases as program
+use Rattle.host_pairs.specs.Parcels as parcel
+use Rattle.host_pairs.specs.Parcels.{Parcel, next_of, next_of_ready, next_bytes, bytes_on, bytes_of, bytes_by, lowest_link, may_send, may_send_on, link_of, link_for, text_for, if_silent, pair_after, parcel_gone, commands_gone, command_gone, request_gone, asked_at, cls_sent, bits_gone}
+use Rattle.sockets.specs.Sending.{next_in, message_for, offered}
+use Rattle.host_pairs.specs.declared.entry.Entry.{Entry}
+use Rattle.host_pairs.specs.declared.listener.Listener.{Listener}
 use Rattle.sockets.specs.declared.peer.Peer.{Peer}
-use Rattle.sockets.specs.declared.phase.Phase as host
-use Rattle.sockets.specs.declared.phase.Phase.TheVariants as phase
+use Rattle.host_pairs.specs.declared.phase.Phase as host
+use Rattle.host_pairs.specs.declared.phase.Phase.TheVariants as phase
 use Rattle.sockets.proofs.NextLemmas.{next_pair}
-use Rattle.sockets.proofs.PairLemmas.{both}
-use Rattle.sockets.proofs.ParcelLemmas.{what_goes, next_is}
+use Rattle.host_pairs.proofs.OpeningLemmas.{both}
+use Rattle.host_pairs.proofs.ParcelLemmas.{what_goes}
+use Rattle.sockets.proofs.ParcelLemmas.{next_is}
 use Rattle.reset_law.specs.Boxes.{at_link}
 use Rattle.reset_law.specs.Events.{Message, Reset, Reply, Other, Send, part_of}
 use Rattle.reset_law.specs.Pairs.{Pair, Kind, IsFree, moved, sent}

@@ -7,15 +7,19 @@ use Rattle.leader1822.specs.declared.crossing.Inbound.TheVariants as inbound
 use Rattle.leader1822.specs.declared.message.HostMessage.{HostMessage}
 use Rattle.leader1822.proofs.Lists.{same_host-true}
 use Rattle.ncp_control.specs.declared.command.Command.TheVariants as command
-use Rattle.sockets.specs.Accepting.{accepted, accepted_message, accepted_answer, message_taken, answered_turn, turn_of}
-use Rattle.sockets.specs.Commands.{granted}
-use Rattle.sockets.specs.Entries.{is_busy, is_mine_on, sending_end, free_link}
-use Rattle.sockets.specs.Pair.{PairState, is_opening}
-use Rattle.sockets.specs.Pairs.{NcpState, desk_of, pair_with, with_pair, placed, without_peer, listens_on, owner_of}
+use Rattle.sockets.specs.Accepting.{accepted, accepted_message, accepted_answer, turn_of}
+use Rattle.host_pairs.specs.Turn.{message_taken, answered_turn}
+use Rattle.host_pairs.specs.Commands.{granted}
+use Rattle.host_pairs.specs.Entries.{is_busy, is_mine_on, sending_end, free_link}
+use Rattle.host_pairs.specs.Pair.{PairState, is_opening}
+use Rattle.sockets.specs.Pairs.{NcpState, pair_with, with_pair, placed, without_peer, owner_of}
+use Rattle.host_pairs.specs.Desk.{desk_of, listens_on}
 use Rattle.sockets.specs.Peers.{StandAbove, AreInOrder}
-use Rattle.sockets.specs.Requests.{served, contacted, requested, receiver_requested, with_end, with_more_bits, commanded, interrupt_of, at_owner, closed_end, closed_socket}
-use Rattle.sockets.specs.Sending.{Parcel, next_of, next_in, link_of, pair_after, parcel_gone, offered, offered_by}
-use Rattle.sockets.specs.declared.entry.Entry.{Entry}
+use Rattle.sockets.specs.Requests.{served, at_owner, closed_socket}
+use Rattle.host_pairs.specs.Asked.{contacted, requested, receiver_requested, with_end, with_more_bits, commanded, interrupt_of, closed_end}
+use Rattle.host_pairs.specs.Parcels.{Parcel, next_of, link_of, pair_after, parcel_gone}
+use Rattle.sockets.specs.Sending.{next_in, offered, offered_by}
+use Rattle.host_pairs.specs.declared.entry.Entry.{Entry}
 use Rattle.sockets.specs.declared.peer.Peer.{Peer}
 use Rattle.sockets.specs.declared.request.Request.{Request}
 use Rattle.sockets.specs.declared.request.Request.TheVariants as request

@@ -1,5 +1,5 @@
 -- A refusal, and want of memory, leave what is kept as it was.
-use Rattle.std.proofs.Common.{◌≡◌, ◌⊎◌, inl, inr, Bool, true, false, Option, Some, None, Result, Ok, Err, ap, sym, ◌∙◌}
+use Rattle.std.proofs.Common.{◌≡◌, ◌⊎◌, inl, inr, ℕ, List, Bool, true, false, Option, Some, None, Result, Ok, Err, ap, sym, ◌∙◌}
 use Rattle.std.specs.Bool.{MatchBool}
 use Rattle.leader1822.specs.Host.{Host}
 use Rattle.leader1822.specs.declared.carrier.CarrierFault.{CarrierFault}
@@ -12,8 +12,11 @@ use Rattle.sockets.specs.Pairs.{NcpState}
 use Rattle.sockets.specs.Requests.{refusal}
 use Rattle.sockets.specs.Sending.{next_out}
 use Rattle.sockets.specs.declared.fault.NcpFault.{NcpFault}
+use Rattle.sockets.specs.declared.fault.NcpFault.TheVariants as problem
 use Rattle.sockets.specs.declared.request.Request.{Request}
-use Rattle.net_sim.specs.World.{Calls, WorldState, WorldFault, Carrier, Program, Event, Net, Quiet, Offer, Take, Ask, Seat, seat_of, Refuses, Does, Halts, Passes, OfferEnds, OfferGives, TakeEnds, TakeGives, NetEnds, QuietEnds, AskGives, AtProgram, AtSeat, EventGives, StepGives}
+use Rattle.sockets.specs.declared.request.Request.TheVariants as request
+use Rattle.host_services.specs.TypedLines.{line_bits}
+use Rattle.net_sim.specs.World.{Calls, WorldState, WorldFault, Carrier, Program, Event, Net, Quiet, Offer, Take, Ask, Server, User, Typed, Seat, seat_of, services_of, with_server, with_user, DoesOrHalts, TypeGives, Refuses, Does, Halts, Passes, OfferEnds, OfferGives, TakeEnds, TakeGives, NetEnds, QuietEnds, AskGives, AtProgram, AtSeat, EventGives, StepGives}
 
 module _ {C : Type 0} (calls : Calls C) (f : WorldFault) (old : WorldState C) (r : Result (Unit {0}) WorldFault) (new : WorldState C) (refused : r ≡ Err f) where
   abbrev Stands : Type 0
@@ -50,7 +53,8 @@ module _ {C : Type 0} (calls : Calls C) (f : WorldFault) (old : WorldState C) (r
   take_ends h s (Err e) c ends = passed_stands e c ends
 
   net_ends : (seen : Seen) (e : NetEvent) (answer : Result (Unit {0}) CarrierFault) (c : C) → NetEnds seen e answer c old r new → Stands
-  net_ends seen e (Ok done) c ends = ended _ c ends
+  net_ends seen e (Ok done) c (inl d) = done_stands _ d
+  net_ends seen e (Ok done) c (inr x) = halt_stands c x.1
   net_ends seen e (Err x) c ends = passed_stands x c ends
 
   quiet_ends : (answer : Result (Unit {0}) CarrierFault) (c : C) → QuietEnds answer c old r new → Stands
@@ -60,6 +64,10 @@ module _ {C : Type 0} (calls : Calls C) (f : WorldFault) (old : WorldState C) (r
   ask_stands : (h : Host) (q : Request) (s : NcpState) (o : Option NcpFault) → AskGives h q s o old r new → Stands
   ask_stands h q s (Some x) gives = refused_stands (Program x) gives
   ask_stands h q s None gives = ended _ old.carrier gives
+
+  type_stands : (h : Host) (line : List ℕ) (s : NcpState) (o : Option ℕ) → TypeGives h line s o old r new → Stands
+  type_stands h line s None gives = refused_stands (Program problem.NotOpen) gives
+  type_stands h line s (Some socket) gives = ask_stands h (request.Send socket (line_bits line)) s (refusal s (request.Send socket (line_bits line))) gives
 
   at_program : (Gives : NcpState → Type 0) (o : Option NcpState) → ((s : NcpState) → Gives s → Stands) → AtProgram Gives o old r new → Stands
   at_program Gives None k h = refused_stands (Carrier fault.IsDown) h
@@ -75,6 +83,9 @@ module _ {C : Type 0} (calls : Calls C) (f : WorldFault) (old : WorldState C) (r
   event_stands (Offer h) t = at_seat (λ s. OfferGives calls h s (next_out s) old r new) (seat_of h old.seats) (λ s g. offer_stands h s (next_out s) g) t
   event_stands (Take h) t = at_seat (λ s. TakeGives calls h s old r new) (seat_of h old.seats) (λ s g. take_ends h s g.0 g.1 g.3) t
   event_stands (Ask h q) t = at_seat (λ s. AskGives h q s (refusal s q) old r new) (seat_of h old.seats) (λ s g. ask_stands h q s (refusal s q) g) t
+  event_stands (Server h listen base) t = at_seat (λ s. DoesOrHalts (with_server h listen base s old) old r new) (seat_of h old.seats) (λ s g. ended (with_server h listen base s old) old.carrier g) t
+  event_stands (User h peer listen own) t = at_seat (λ s. DoesOrHalts (with_user h peer listen own s old) old r new) (seat_of h old.seats) (λ s g. ended (with_user h peer listen own s old) old.carrier g) t
+  event_stands (Typed h line) t = at_seat (λ s. TypeGives h line s (services_of h old.services).typing old r new) (seat_of h old.seats) (λ s g. type_stands h line s (services_of h old.services).typing g) t
 
   if_stopped : (P : Type 0) → (P → Stands) → (b : Bool) → MatchBool b (Refuses (Carrier fault.Stopped) old r new) P → Stands
   if_stopped P k true h = refused_stands (Carrier fault.Stopped) h

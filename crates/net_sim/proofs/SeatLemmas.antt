@@ -3,9 +3,9 @@ use Rattle.std.proofs.Common.{◌≡◌, ℕ, ◌<◌, Bool, true, false, ◌||�
 use Rattle.std.specs.List.{position}
 use Rattle.std.proofs.lemmas.List.{get_or_default}
 use Rattle.leader1822.specs.Host.{Host, same_host, is_host}
-use Rattle.sockets.proofs.EntryLemmas.{one_changed, one_found}
+use Rattle.host_pairs.proofs.EntryLemmas.{one_changed, one_found}
 use Rattle.sockets.proofs.PeerLemmas.{same_host-true}
-use Rattle.sockets.specs.Entries.{changed_first}
+use Rattle.host_pairs.specs.Entries.{changed_first}
 use Rattle.sockets.specs.Pairs.{NcpState}
 use Rattle.net_sim.specs.Inside.Parts.{IsOnce, Sits, IsAway, NoSeat, NoProgram, hosts_of}
 use Rattle.sockets.specs.declared.fault.NcpFault.{NcpFault}
@@ -25,7 +25,7 @@ or_false : (a b : Bool) → (a || b) ≡ false → (a ≡ false) × (b ≡ false
 or_false true b h = absurd (cc)
 or_false false b h = (refl, h)
 
-absent : (h : Host) (p : Option NcpState) (seats : List Seat) → is_host (hosts_of seats) h ≡ false → seated h p seats ≡ seats
+pub absent : (h : Host) (p : Option NcpState) (seats : List Seat) → is_host (hosts_of seats) h ≡ false → seated h p seats ≡ seats
 absent h p [] away = refl
 absent h p (x ∷ seats) away =
     let t : (same_host h x.host ≡ false) × (is_host (hosts_of seats) h ≡ false) = or_false (same_host h x.host) (is_host (hosts_of seats) h) away in

@@ -18,8 +18,8 @@ use Rattle.ncp_control.specs.declared.data_header.DataHeader.{DataHeader}
 use Rattle.ncp_control.specs.declared.fault.ControlFault.{ControlFault}
 use Rattle.ncp_control.proofs.Fronts.{longest_front}
 use Rattle.ncp_control.proofs.Headers.{header_again}
-use Rattle.sockets.specs.Control.{Order, Legal, control_text, is_control, orders_of, orders_within, then_orders}
-use Rattle.sockets.proofs.ControlLemmas.{control_read}
+use Rattle.host_pairs.specs.Control.{Order, Legal, control_text, is_control, orders_of, orders_within, then_orders}
+use Rattle.host_pairs.proofs.ControlLemmas.{control_read}
 use Rattle.net_sim.specs.Projection.{AllPlain, ArePlain, IsPlain, IsQueued}
 
 -- ---- octets

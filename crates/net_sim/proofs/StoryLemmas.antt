@@ -9,12 +9,14 @@ use Rattle.leader1822.specs.declared.crossing.Inbound.TheVariants as inbound
 use Rattle.leader1822.specs.declared.message.HostMessage.{HostMessage}
 use Rattle.leader1822.proofs.Lists.{same_host-true}
 use Rattle.sockets.specs.Accepting.{accepted, accepted_message, accepted_answer}
-use Rattle.sockets.specs.Entries.{is_busy}
-use Rattle.sockets.specs.Pair.{PairState}
-use Rattle.sockets.specs.Pairs.{NcpState, pair_with, listens_on, owner_of}
+use Rattle.host_pairs.specs.Entries.{is_busy}
+use Rattle.host_pairs.specs.Pair.{PairState}
+use Rattle.sockets.specs.Pairs.{NcpState, pair_with, owner_of}
+use Rattle.host_pairs.specs.Desk.{listens_on}
 use Rattle.sockets.specs.Requests.{served, at_owner, closed_socket}
-use Rattle.sockets.specs.Sending.{Parcel, message_for, next_in, offered, offered_by}
-use Rattle.sockets.specs.declared.entry.Entry.{Entry}
+use Rattle.host_pairs.specs.Parcels.{Parcel}
+use Rattle.sockets.specs.Sending.{message_for, next_in, offered, offered_by}
+use Rattle.host_pairs.specs.declared.entry.Entry.{Entry}
 use Rattle.sockets.specs.declared.peer.Peer.{Peer}
 use Rattle.sockets.specs.declared.request.Request.{Request}
 use Rattle.sockets.specs.declared.request.Request.TheVariants as request

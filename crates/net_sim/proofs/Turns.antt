@@ -6,19 +6,19 @@ use Rattle.leader1822.specs.declared.crossing.Answer.{Answer}
 use Rattle.leader1822.specs.declared.crossing.Answer.TheVariants as answer
 use Rattle.ncp_control.specs.declared.command.Command.{Command}
 use Rattle.ncp_control.specs.declared.command.Command.TheVariants as command
-use Rattle.sockets.specs.Accepting.{TurnState, if_ready, with_desk, reset_taken, reply_taken, command_taken, order_taken, orders_taken, message_taken, freed, settled_turn, rfnm_taken, failed, answered_turn}
-use Rattle.sockets.specs.Commands.{taken}
-use Rattle.sockets.specs.Control.{Order, Legal, Wrong, orders_of, error}
-use Rattle.sockets.specs.Data.{data_taken}
-use Rattle.sockets.specs.Entries.{is_busy}
-use Rattle.sockets.specs.Pair.{PairState}
-use Rattle.sockets.specs.Pairs.{DeskState, desk_of, queued}
-use Rattle.sockets.specs.Phases as program
-use Rattle.sockets.specs.declared.entry.Entry.{Entry}
-use Rattle.sockets.specs.declared.listener.Listener.{Listener}
-use Rattle.sockets.specs.declared.notice.Notice.{Notice}
-use Rattle.sockets.specs.declared.phase.Phase as host
-use Rattle.sockets.specs.declared.phase.Phase.TheVariants as phase
+use Rattle.host_pairs.specs.Turn.{TurnState, if_ready, with_desk, reset_taken, reply_taken, command_taken, order_taken, orders_taken, message_taken, freed, settled_turn, rfnm_taken, failed, answered_turn}
+use Rattle.host_pairs.specs.Commands.{taken}
+use Rattle.host_pairs.specs.Control.{Order, Legal, Wrong, orders_of, error}
+use Rattle.host_pairs.specs.Data.{data_taken}
+use Rattle.host_pairs.specs.Entries.{is_busy}
+use Rattle.host_pairs.specs.Pair.{PairState}
+use Rattle.host_pairs.specs.Desk.{DeskState, desk_of, queued}
+use Rattle.host_pairs.specs.Phases as program
+use Rattle.host_pairs.specs.declared.entry.Entry.{Entry}
+use Rattle.host_pairs.specs.declared.listener.Listener.{Listener}
+use Rattle.host_pairs.specs.declared.notice.Notice.{Notice}
+use Rattle.host_pairs.specs.declared.phase.Phase as host
+use Rattle.host_pairs.specs.declared.phase.Phase.TheVariants as phase
 use Rattle.reset_law.specs.Boxes.{at_link}
 use Rattle.reset_law.specs.Events.{Message, Reset, Reply, Other}
 use Rattle.reset_law.specs.Pairs.{Pair, Kind, took, told}

@@ -6,11 +6,13 @@ use Rattle.leader1822.specs.declared.message.HostMessage.{HostMessage}
 use Rattle.leader1822.proofs.Lists.{same_host-true}
 use Rattle.ncp_control.specs.declared.command.Command.{Command}
 use Rattle.ncp_control.specs.declared.command.Command.TheVariants as command
-use Rattle.sockets.specs.Accepting.{TurnState, accepted, accepted_message, if_ready, command_taken, message_taken, order_taken, orders_taken, turn_of, turned}
-use Rattle.sockets.specs.Control.{Order, Legal, Wrong, orders_of}
-use Rattle.sockets.specs.Data.{data_taken}
-use Rattle.sockets.specs.Pairs.{DeskState, NcpState, pair_with, with_pair}
-use Rattle.sockets.specs.Phases as program
+use Rattle.host_pairs.specs.Turn.{TurnState, if_ready, command_taken, message_taken, order_taken, orders_taken}
+use Rattle.sockets.specs.Accepting.{accepted, accepted_message, turn_of, turned}
+use Rattle.host_pairs.specs.Control.{Order, Legal, Wrong, orders_of}
+use Rattle.host_pairs.specs.Data.{data_taken}
+use Rattle.host_pairs.specs.Desk.{DeskState}
+use Rattle.sockets.specs.Pairs.{NcpState, pair_with, with_pair}
+use Rattle.host_pairs.specs.Phases as program
 use Rattle.sockets.specs.declared.peer.Peer.{Peer}
 use Rattle.sockets.proofs.PairLemmas.{pair_changed}
 use Rattle.reset_law.specs.Events.{Message}

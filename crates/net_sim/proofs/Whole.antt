@@ -1,8 +1,9 @@
 -- After every event of a world its book still tells one list of moments.
-use Rattle.std.proofs.Common.{◌≡◌, ◌⊎◌, inl, inr, ℕ, Bool, true, false, ◌||◌, if◌then◌else◌, List, [], ◌∷◌, ◌++◌, map, length, Option, Some, None, Result, Ok, Err, refl, ap, sym, subst, ◌∙◌}
+use Rattle.std.proofs.Common.{◌≡◌, ◌⊎◌, inl, inr, ℕ, Bool, true, false, ◌||◌, if◌then◌else◌, List, [], ◌∷◌, ◌++◌, map, length, All, Option, Some, None, Result, Ok, Err, refl, ap, sym, subst, ◌∙◌}
 use Rattle.std.specs.Bool.{MatchBool}
+use Rattle.std.specs.List.{fold}
 use Rattle.leader1822.specs.Calls.{Seen, ShowsOffer, ShowsTake, ShowsStep, ShowsRound, ShowsRefusal, ShowsCrossings, halted, is_memory, step_crossings}
-use Rattle.leader1822.specs.Host.{Host, same_host, is_host}
+use Rattle.leader1822.specs.Host.{Host, IsAddress, same_host, is_host}
 use Rattle.leader1822.proofs.Lists.{same_host-refl}
 use Rattle.leader1822.specs.Mailboxes as mail
 use Rattle.leader1822.specs.declared.carrier.CarrierFault.{CarrierFault}
@@ -18,16 +19,24 @@ use Rattle.sockets.specs.Pairs.{NcpState}
 use Rattle.sockets.specs.Requests.{refusal, served, served_notices}
 use Rattle.sockets.specs.Sending.{next_out, offered}
 use Rattle.sockets.specs.declared.fault.NcpFault.{NcpFault}
-use Rattle.sockets.specs.declared.notice.Notice.{Notice}
+use Rattle.host_pairs.specs.declared.notice.Notice.{Notice}
+use Rattle.sockets.specs.declared.fault.NcpFault.TheVariants as problem
 use Rattle.sockets.specs.declared.request.Request.{Request}
+use Rattle.sockets.specs.declared.request.Request.TheVariants as request
+use Rattle.host_services.proofs.Asking.{server_asked_all, server_named_all, told_asked, user_asked_all, user_named_all}
+use Rattle.host_services.specs.Named.{HasAsked, NamePeers}
+use Rattle.host_services.specs.Services.{DeskState, ServicesState, opening_desk}
+use Rattle.host_services.specs.Turns.{server_begun, user_begun}
+use Rattle.host_services.specs.TypedLines.{line_bits}
 use Rattle.net_sim.specs.Book.{Called, Kept, contacts_asked, crossed, all_crossed, told, all_told, asked}
 use Rattle.net_sim.specs.Carriers.{shown}
 use Rattle.net_sim.specs.Story.{Moment, Crossed, Asked, program, places}
 use Rattle.net_sim.specs.Timeline.{Happens, IsAddressed, IsTimeline, contacts_of, crossings_of}
-use Rattle.net_sim.specs.Whole.{Each, IsNamed, IsWhole, seat_in}
-use Rattle.net_sim.specs.World.{Calls, WorldState, WorldFault, Carrier, Program, Event, Net, Quiet, Offer, Take, Ask, Seat, opening_world, seat_of, seated, all_turned, with_program, with_carrier, moved, changed, served_at, Refuses, Does, Halts, Passes, OfferEnds, OfferGives, TakeEnds, TakeGives, NetEnds, QuietEnds, AskGives, AtProgram, AtSeat, EventGives, StepGives, RunGives, CalmGives, opening_seats}
+use Rattle.net_sim.specs.Whole.{AreServed, Each, IsNamed, IsWhole, seat_in}
+use Rattle.net_sim.specs.World.{Calls, WorldState, WorldFault, Carrier, Program, Event, Net, Quiet, Offer, Take, Ask, Server, User, Typed, Seat, opening_world, seat_of, seated, all_turned, services_of, noticed, heard, tended, turn_of, with_server, with_user, DoesOrHalts, TypeGives, with_program, with_carrier, moved, changed, served_at, Refuses, Does, Halts, Passes, OfferEnds, OfferGives, TakeEnds, TakeGives, NetEnds, QuietEnds, AskGives, AtProgram, AtSeat, EventGives, StepGives, RunGives, CalmGives, opening_seats}
 use Rattle.net_sim.proofs.Always.{run_keeps, calm_keeps}
-use Rattle.net_sim.proofs.Booked.{told_crossings, crossed_crossings}
+use Rattle.net_sim.proofs.Asks.{after_each, asks_contacts, asks_crossings, asks_each, asks_of, asks_timeline, emptied_served, named_of, opening_served, same_each, still_served}
+use Rattle.net_sim.proofs.Booked.{asked_crossings, told_crossings, crossed_crossings}
 use Rattle.net_sim.proofs.Bridge.{places_same}
 use Rattle.net_sim.proofs.Coupled.{Said, said}
 use Rattle.net_sim.proofs.Seats.{AreTurns, all_seated, found_seat, seated_at, step_turns, turned_contacts, turned_crossings, turned_seats, turned_timeline, with_crossings}
@@ -77,9 +86,9 @@ module _ {C : Type 0} (own : Calls C) (hosts : List Host) where
     program : program h moments ≡ s
 
   done_whole : (moments : List Moment) (done : WorldState C) (r : Result (Unit {0}) WorldFault) (new : WorldState C) → IsTimeline hosts moments → (own.seen done.carrier).hosts ≡ hosts
-      → done.kept.book.crossings ≡ crossings_of moments → done.kept.book.contacts ≡ contacts_of moments → done.seats ≡ map (seat_in hosts moments) hosts → Does done r new → Whole new
-  done_whole moments done r new timeline network crossings contacts seats d =
-      subst Whole (sym d.1) (record { moments = moments; timeline = timeline; network = network; crossings = crossings; contacts = contacts; seats = λ running. seats })
+      → done.kept.book.crossings ≡ crossings_of moments → done.kept.book.contacts ≡ contacts_of moments → done.seats ≡ map (seat_in hosts moments) hosts → AreServed hosts done.services → Does done r new → Whole new
+  done_whole moments done r new timeline network crossings contacts seats served d =
+      subst Whole (sym d.1) (record { moments = moments; timeline = timeline; network = network; crossings = crossings; contacts = contacts; seats = λ running. seats; services = λ running. served })
 
   refused_whole : (f : WorldFault) (old : WorldState C) (r : Result (Unit {0}) WorldFault) (new : WorldState C) → Whole old → Refuses f old r new → Whole new
   refused_whole f old r new w h = subst Whole (sym h.1) w
@@ -92,13 +101,54 @@ module _ {C : Type 0} (own : Calls C) (hosts : List Host) where
     crossings = ap (λ (k : Kept). k.book.crossings) h.kept ∙ w.crossings;
     contacts = ap (λ (k : Kept). k.book.contacts) h.kept ∙ w.contacts;
     seats = λ running. absurd (let t : true ≡ false = sym h.stopped ∙ running in cc);
+    services = λ running. absurd (let t : true ≡ false = sym h.stopped ∙ running in cc);
   }
 
   passed_whole : (e : CarrierFault) (c : C) (old : WorldState C) (r : Result (Unit {0}) WorldFault) (new : WorldState C) → Whole old → old.stopped ≡ false → (own.seen c).hosts ≡ hosts → Passes e c old r new → Whole new
   passed_whole e c old r new w running network h =
       let now : Whole (record old { carrier = c; stopped = is_memory e }) =
-      record { moments = w.moments; timeline = w.timeline; network = network; crossings = w.crossings; contacts = w.contacts; seats = λ on. w.seats running } in
+      record { moments = w.moments; timeline = w.timeline; network = network; crossings = w.crossings; contacts = w.contacts; seats = λ on. w.seats running; services = λ on. w.services running } in
       subst Whole (sym h.1) now
+
+  -- services had their turns at a host that is up: what they asked for comes as one moment after the other
+  tended_whole : (h : Host) (d : DeskState) (t : ServicesState × DeskState) (before moments : List Moment) (mid : WorldState C) (r : Result (Unit {0}) WorldFault) (new : WorldState C) → IsTimeline hosts moments
+      → (own.seen mid.carrier).hosts ≡ hosts → mid.kept.book.crossings ≡ crossings_of moments → mid.kept.book.contacts ≡ contacts_of moments → IsUp moments h d.program
+      → mid.seats ≡ map (seat_in hosts before) hosts → ((g : Host) → with_program (same_host h g) (Some d.program) (seat_in hosts before g) ≡ seat_in hosts moments g)
+      → AreServed hosts mid.services → d.asked ≡ [] → HasAsked d t.1 → NamePeers t.0 → Does (tended h t mid) r new → Whole new
+  tended_whole h d t before moments mid r new timeline network crossings contacts u seats each served_here none asks named does =
+      let rs : List Request = t.1.asked in
+      let more : t.1.asked ≡ asks.more = asks.asked ∙ ap (λ (xs : List Request). xs ++ asks.more) none in
+      let addressed : All IsAddressed t.1.asked = subst (All IsAddressed) (sym more) asks.addressed in
+      let made : t.1.program ≡ fold served d.program t.1.asked = asks.program ∙ ap (λ (xs : List Request). fold served d.program xs) (sym more) in
+      let place : length mid.kept.book.crossings ≡ places moments = ap (λ (xs : List Crossing). length xs) crossings ∙ sym (places_same moments) in
+      let all : (g : Host) → with_program (same_host h g) (Some (fold served d.program t.1.asked)) (seat_in hosts before g) ≡ seat_in hosts (asks_of h t.1.asked moments) g =
+      after_each hosts h d.program (fold served d.program t.1.asked) before moments (asks_of h t.1.asked moments) each (asks_each hosts h t.1.asked moments d.program u.up u.program) in
+      done_whole (asks_of h t.1.asked moments) (tended h t mid) r new (asks_timeline hosts h t.1.asked moments u.up addressed timeline) network
+      (asked_crossings h t.1.asked mid.kept ∙ crossings ∙ sym (asks_crossings h t.1.asked moments))
+      (asks_contacts h t.1.asked mid.kept moments place contacts)
+      (ap (λ (ss : List Seat). seated h (Some t.1.program) ss) seats ∙ ap (λ (x : NcpState). seated h (Some x) (map (seat_in hosts before) hosts)) made
+      ∙ all_seated hosts hosts before (asks_of h t.1.asked moments) h (Some (fold served d.program t.1.asked)) all)
+      (still_served hosts h t.0 mid.services named served_here) does
+
+  -- a host whose seat has this program after a moment is up then
+  up_by : (h : Host) (s : NcpState) (before moments : List Moment) → ((g : Host) → with_program (same_host h g) (Some s) (seat_in hosts before g) ≡ seat_in hosts moments g) → IsUp moments h s
+  up_by h s before moments each =
+      let here : with_program (same_host h h) (Some s) (seat_in hosts before h) ≡ seat_in hosts moments h = each h in
+      let mine : record { host = h; program = Some s } ≡ seat_in hosts moments h = subst (λ (b : Bool). with_program b (Some s) (seat_in hosts before h) ≡ seat_in hosts moments h) (same_host-refl h) here in
+      let x : (mail.is_up hosts h (crossings_of moments) ≡ true) × (program h moments ≡ s) = program_is (mail.is_up hosts h (crossings_of moments)) (program h moments) s (ap (λ (y : Seat). y.program) (sym mine)) in
+      record { up = x.0; program = x.1 }
+
+  -- a program told this of a moment, and then its services had their turns
+  heard_whole : (h : Host) (turn : NcpState × List Notice) (before moments : List Moment) (old : WorldState C) (mid : WorldState C) (r : Result (Unit {0}) WorldFault) (new : WorldState C) → IsTimeline hosts moments
+      → (own.seen mid.carrier).hosts ≡ hosts → mid.kept.book.crossings ≡ crossings_of moments → mid.kept.book.contacts ≡ contacts_of moments
+      → mid.seats ≡ map (seat_in hosts before) hosts → ((g : Host) → with_program (same_host h g) (Some turn.0) (seat_in hosts before g) ≡ seat_in hosts moments g)
+      → AreServed hosts mid.services → Does (heard h turn mid) r new → Whole new
+  heard_whole h turn before moments old mid r new timeline network crossings contacts seats each served_here does =
+      let d : DeskState = opening_desk h (noticed mid) turn.0 in
+      let asks : HasAsked (opening_desk h (noticed mid) turn.0) (turn_of h (noticed mid) (services_of h mid.services) turn).1 × NamePeers (turn_of h (noticed mid) (services_of h mid.services) turn).0 =
+      told_asked turn.1 (services_of h mid.services) (opening_desk h (noticed mid) turn.0) (named_of h mid.services served_here.named) in
+      tended_whole h (opening_desk h (noticed mid) turn.0) (turn_of h (noticed mid) (services_of h mid.services) turn) before moments (record mid { kept = all_told h turn.1 mid.kept }) r new timeline network
+      (told_crossings h turn.1 mid.kept ∙ crossings) (told_contacts h turn.1 mid.kept ∙ contacts) (up_by h turn.0 before moments each) seats each served_here refl asks.0 asks.1 does
 
   -- what crosses for a host that is up, and what it is told
   crossed_whole : (h : Host) (x : Crossing) (c : C) (turn : NcpState × List Notice) (old : WorldState C) (r : Result (Unit {0}) WorldFault) (new : WorldState C) → (w : Whole old) → old.stopped ≡ false
@@ -106,10 +156,8 @@ module _ {C : Type 0} (own : Calls C) (hosts : List Host) where
       → ((g : Host) → with_program (same_host h g) (Some turn.0) (seat_in hosts w.moments g) ≡ seat_in hosts (Crossed x ∷ w.moments) g)
       → Does (moved c h x turn old) r new ⊎ Halts c old r new → Whole new
   crossed_whole h x c turn old r new w running network happens each (inl d) =
-      done_whole (Crossed x ∷ w.moments) (moved c h x turn old) r new (happens, w.timeline) network
-      (told_crossings h turn.1 (crossed x old.kept) ∙ ap (λ (xs : List Crossing). x ∷ xs) w.crossings)
-      (told_contacts h turn.1 (crossed x old.kept) ∙ w.contacts)
-      (ap (λ (seats : List Seat). seated h (Some turn.0) seats) (w.seats running) ∙ all_seated hosts hosts w.moments (Crossed x ∷ w.moments) h (Some turn.0) each) d
+      heard_whole h turn w.moments (Crossed x ∷ w.moments) old (record old { carrier = c; kept = crossed x old.kept }) r new (happens, w.timeline) network
+      (ap (λ (xs : List Crossing). x ∷ xs) w.crossings) w.contacts (w.seats running) each (w.services running) d
   crossed_whole h x c turn old r new w running network happens each (inr k) = halt_whole old c r new w network k
 
   place_is : (old : WorldState C) (w : Whole old) → length old.kept.book.crossings ≡ places w.moments
@@ -136,7 +184,7 @@ module _ {C : Type 0} (own : Calls C) (hosts : List Host) where
   offer_whole h s (Some m) old r new w running u next (inr t) = offer_ends h s m t.0 t.1 old r new w running u next t.2.1 t.3
 
   quiet_by : (c : C) (old : WorldState C) (r : Result (Unit {0}) WorldFault) (new : WorldState C) → (w : Whole old) → old.stopped ≡ false → (own.seen c).hosts ≡ hosts → Does (with_carrier c old) r new → Whole new
-  quiet_by c old r new w running network d = done_whole w.moments (with_carrier c old) r new w.timeline network w.crossings w.contacts (w.seats running) d
+  quiet_by c old r new w running network d = done_whole w.moments (with_carrier c old) r new w.timeline network w.crossings w.contacts (w.seats running) (w.services running) d
 
   take_ends : (h : Host) (s : NcpState) (answer : Result (Option Inbound) CarrierFault) (c : C) (old : WorldState C) (r : Result (Unit {0}) WorldFault) (new : WorldState C) → (w : Whole old)
       → old.stopped ≡ false → IsUp w.moments h s → ShowsTake (own.seen old.carrier) h answer (own.seen c) → TakeEnds h s answer c old r new → Whole new
@@ -161,9 +209,10 @@ module _ {C : Type 0} (own : Calls C) (hosts : List Host) where
       (grown_hosts (own.seen old.carrier) (step_crossings (own.seen old.carrier) e) (own.seen c) shows ∙ w.network)
       (crossed_crossings cs old.kept ∙ ap (λ (xs : List Crossing). step_crossings (own.seen old.carrier) e ++ xs) w.crossings ∙ sym (turned_crossings cs w.moments))
       (crossed_contacts cs old.kept ∙ w.contacts ∙ sym (turned_contacts cs w.moments))
-      (ap (λ (seats : List Seat). all_turned (step_crossings (own.seen old.carrier) e) seats) (w.seats running) ∙ turned_seats hosts cs w.moments turns) d
+      (ap (λ (seats : List Seat). all_turned (step_crossings (own.seen old.carrier) e) seats) (w.seats running) ∙ turned_seats hosts cs w.moments turns)
+      (emptied_served hosts cs old.services (w.services running)) d
   net_ends e (Ok done) c old r new w running shows (inr k) =
-      halt_whole old c r new w (grown_hosts (own.seen old.carrier) (step_crossings (own.seen old.carrier) e) (own.seen c) shows ∙ w.network) k
+      halt_whole old c r new w (grown_hosts (own.seen old.carrier) (step_crossings (own.seen old.carrier) e) (own.seen c) shows ∙ w.network) k.1
   net_ends e (Err f) c old r new w running shows ends = passed_whole f c old r new w running (refused_hosts (own.seen old.carrier) f (own.seen c) shows ∙ w.network) ends
 
   quiet_ends : (answer : Result (Unit {0}) CarrierFault) (c : C) (old : WorldState C) (r : Result (Unit {0}) WorldFault) (new : WorldState C) → (w : Whole old)
@@ -178,12 +227,37 @@ module _ {C : Type 0} (own : Calls C) (hosts : List Host) where
       let called : old.kept.book.contacts ++ contacts_asked h (length old.kept.book.crossings) q ≡ contacts_of w.moments ++ contacts_asked h (places w.moments) q =
       ap (λ (xs : List Called). xs ++ contacts_asked h (length old.kept.book.crossings) q) w.contacts ∙ ap (λ (n : ℕ). contacts_of w.moments ++ contacts_asked h n q) (place_is old w) in
       let made : served s q ≡ served (program h w.moments) q = called_is old w h s u (λ y n. served y q) in
-      done_whole (Asked h q ∷ w.moments) (served_at h q s old) r new ((u.up, named), w.timeline) w.network
-      (told_crossings h (served_notices s q) (asked h q old.kept) ∙ w.crossings)
-      (told_contacts h (served_notices s q) (asked h q old.kept) ∙ called)
-      (ap (λ (seats : List Seat). seated h (Some (served s q)) seats) (w.seats running)
-      ∙ all_seated hosts hosts w.moments (Asked h q ∷ w.moments) h (Some (served s q)) (seated_at hosts w.moments h h (λ g. served (program g w.moments) q) (served s q) refl u.up made)) d
+      heard_whole h (served s q, served_notices s q) w.moments (Asked h q ∷ w.moments) old (record old { kept = asked h q old.kept }) r new ((u.up, named), w.timeline) w.network
+      w.crossings called (w.seats running) (seated_at hosts w.moments h h (λ g. served (program g w.moments) q) (served s q) refl u.up made) (w.services running) d
   ask_whole h q s None old r new named w running u (inr k) = halt_whole old old.carrier r new w w.network k
+
+  type_whole : (h : Host) (line : List ℕ) (s : NcpState) (o : Option ℕ) (old : WorldState C) (r : Result (Unit {0}) WorldFault) (new : WorldState C) → (w : Whole old)
+      → old.stopped ≡ false → IsUp w.moments h s → TypeGives h line s o old r new → Whole new
+  type_whole h line s None old r new w running u gives = refused_whole (Program problem.NotOpen) old r new w gives
+  type_whole h line s (Some socket) old r new w running u gives =
+      ask_whole h (request.Send socket (line_bits line)) s (refusal s (request.Send socket (line_bits line))) old r new tt w running u gives
+
+  -- a service begins
+  begun_whole : (h : Host) (s : NcpState) (t : ServicesState × DeskState) (old : WorldState C) (r : Result (Unit {0}) WorldFault) (new : WorldState C) → (w : Whole old) → old.stopped ≡ false → IsUp w.moments h s
+      → HasAsked (opening_desk h (noticed old) s) t.1 → NamePeers t.0 → DoesOrHalts (tended h t old) old r new → Whole new
+  begun_whole h s t old r new w running u asks named (inl d) =
+      tended_whole h (opening_desk h (noticed old) s) t w.moments w.moments old r new w.timeline w.network w.crossings w.contacts u (w.seats running) (same_each hosts w.moments h s u.up u.program)
+      (w.services running) refl asks named d
+  begun_whole h s t old r new w running u asks named (inr k) = halt_whole old old.carrier r new w w.network k
+
+  server_whole : (h : Host) (listen base : ℕ) (s : NcpState) (old : WorldState C) (r : Result (Unit {0}) WorldFault) (new : WorldState C) → (w : Whole old) → old.stopped ≡ false → IsUp w.moments h s
+      → DoesOrHalts (with_server h listen base s old) old r new → Whole new
+  server_whole h listen base s old r new w running u g =
+      begun_whole h s (server_begun listen base (services_of h old.services) (opening_desk h (noticed old) s)) old r new w running u
+      (server_asked_all listen base (services_of h old.services) (opening_desk h (noticed old) s))
+      (server_named_all listen base (services_of h old.services) (opening_desk h (noticed old) s) (named_of h old.services (w.services running).named)) g
+
+  user_whole : (h peer : Host) (listen mine : ℕ) (s : NcpState) (old : WorldState C) (r : Result (Unit {0}) WorldFault) (new : WorldState C) → IsAddress peer → (w : Whole old) → old.stopped ≡ false
+      → IsUp w.moments h s → DoesOrHalts (with_user h peer listen mine s old) old r new → Whole new
+  user_whole h peer listen mine s old r new is w running u g =
+      begun_whole h s (user_begun peer listen mine (services_of h old.services) (opening_desk h (noticed old) s)) old r new w running u
+      (user_asked_all peer listen mine (services_of h old.services) (opening_desk h (noticed old) s) is)
+      (user_named_all peer listen mine (services_of h old.services) (opening_desk h (noticed old) s) is (named_of h old.services (w.services running).named)) g
 
   -- ---- the program that an event names
 
@@ -207,6 +281,12 @@ module _ {C : Type 0} (own : Calls C) (hosts : List Host) where
   event_whole (Offer h) old r new named w running t = at_seat (λ s. OfferGives calls h s (next_out s) old r new) (seat_of h old.seats) h old r new w running refl (λ s u g. offer_whole h s (next_out s) old r new w running u refl g) t
   event_whole (Take h) old r new named w running t = at_seat (λ s. TakeGives calls h s old r new) (seat_of h old.seats) h old r new w running refl (λ s u g. take_ends h s g.0 g.1 old r new w running u g.2.1 g.3) t
   event_whole (Ask h q) old r new named w running t = at_seat (λ s. AskGives h q s (refusal s q) old r new) (seat_of h old.seats) h old r new w running refl (λ s u g. ask_whole h q s (refusal s q) old r new named w running u g) t
+  event_whole (Server h listen base) old r new named w running t =
+      at_seat (λ s. DoesOrHalts (with_server h listen base s old) old r new) (seat_of h old.seats) h old r new w running refl (λ s u g. server_whole h listen base s old r new w running u g) t
+  event_whole (User h peer listen mine) old r new named w running t =
+      at_seat (λ s. DoesOrHalts (with_user h peer listen mine s old) old r new) (seat_of h old.seats) h old r new w running refl (λ s u g. user_whole h peer listen mine s old r new named w running u g) t
+  event_whole (Typed h line) old r new named w running t =
+      at_seat (λ s. TypeGives h line s (services_of h old.services).typing old r new) (seat_of h old.seats) h old r new w running refl (λ s u g. type_whole h line s (services_of h old.services).typing old r new w running u g) t
 
   if_stopped : (P : Type 0) (old : WorldState C) (r : Result (Unit {0}) WorldFault) (new : WorldState C) → Whole old → (old.stopped ≡ false → P → Whole new) → (b : Bool) → old.stopped ≡ b
       → MatchBool b (Refuses (Carrier fault.Stopped) old r new) P → Whole new
@@ -250,4 +330,5 @@ opening_whole own c = record {
   crossings = refl;
   contacts = refl;
   seats = λ running. opening_by (own.seen c).hosts (own.seen c).hosts (λ h is. is);
+  services = λ running. opening_served (own.seen c).hosts;
 }

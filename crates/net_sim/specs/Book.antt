@@ -1,5 +1,5 @@
--- What a world keeps of its hosts: the crossings, what each user was told, the contacts, and a life for each opened end of a
--- connection (NIC 8246).
+-- What a world keeps of its hosts: the crossings, what each user was told, the contacts, what services reported, and a life for
+-- each opened end of a connection (NIC 8246).
 use Rattle.std.specs.Prelude.{ℕ, ◌+◌, ◌==◌, ◌&&◌, Bool, true, false, not, if◌then◌else◌, List, [], ◌∷◌, ◌++◌, map, length}
 use Rattle.leader1822.specs.Host.{Host, same_host}
 use Rattle.leader1822.specs.declared.crossing.Crossing.{Crossing}
@@ -8,8 +8,9 @@ pub use Rattle.net_sim.specs.declared.book.Called.{Called}
 pub use Rattle.net_sim.specs.declared.book.Told.{Told}
 pub use Rattle.net_sim.specs.declared.life.Amount.{Amount}
 pub use Rattle.net_sim.specs.declared.life.Life.{Life}
-use Rattle.sockets.specs.declared.notice.Notice.{Notice}
-use Rattle.sockets.specs.declared.notice.Notice.TheVariants as notice
+pub use Rattle.host_services.specs.declared.report.Reported.{Reported}
+use Rattle.host_pairs.specs.declared.notice.Notice.{Notice}
+use Rattle.host_pairs.specs.declared.notice.Notice.TheVariants as notice
 use Rattle.sockets.specs.declared.request.Request.{Request}
 use Rattle.sockets.specs.declared.request.Request.TheVariants as request
 
@@ -118,10 +119,11 @@ pub record Book : Type 0 where
   pub crossings : List Crossing
   pub notices : List Told
   pub contacts : List Called
+  pub reports : List Reported
   pub lives : List Life
 
 abbrev pub opening_book : Book
-opening_book = record { crossings = []; notices = []; contacts = []; lives = [] }
+opening_book = record { crossings = []; notices = []; contacts = []; reports = []; lives = [] }
 
 -- ---- the book and what was handed over, together
 
@@ -162,3 +164,12 @@ asked h r k = record {
   book = record k.book { contacts = k.book.contacts ++ contacts_asked h (length k.book.crossings) r; lives = lives_asked h r k.book.lives };
   handed = handed_asked h r k.book.lives k.handed;
 }
+
+-- services of a host asked for all this, one after another, and weren't refused
+abbrev pub all_asked : Host → List Request → Kept → Kept
+all_asked h [] k = k
+all_asked h (r ∷ requests) k = all_asked h requests (asked h r k)
+
+-- and this is what they reported
+abbrev pub all_reported : List Reported → Kept → Kept
+all_reported reports k = record k { book = record k.book { reports = k.book.reports ++ reports } }

@@ -6,7 +6,7 @@ use Rattle.leader1822.specs.Mailboxes.{IsRun}
 use Rattle.leader1822.specs.declared.crossing.Crossing.{Crossing}
 use Rattle.leader1822.specs.declared.message.HostMessage.{HostMessage}
 use Rattle.sockets.specs.Pairs.{NcpState, pair_with}
-use Rattle.sockets.specs.declared.notice.Notice.{Notice}
+use Rattle.host_pairs.specs.declared.notice.Notice.{Notice}
 use Rattle.reset_law.specs.Events.{Other}
 use Rattle.reset_law.specs.Monitor.{monitor, IsAfter}
 use Rattle.reset_law.specs.Stays.{ready}

@@ -1,4 +1,8 @@
 -- What a value of this crate keeps true of itself. No public clause cites it, so a caller need not read it.
 pub mod Lives
+pub mod Places
+pub mod Endings
 pub mod Seats
 pub mod Parts
+pub mod Held
+pub mod Calm

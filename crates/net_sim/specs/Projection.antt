@@ -7,13 +7,13 @@ use Rattle.leader1822.specs.declared.crossing.Crossing.{Crossing}
 use Rattle.leader1822.specs.declared.crossing.Crossing.TheVariants as crossing
 use Rattle.ncp_control.specs.declared.command.Command.{Command}
 use Rattle.ncp_control.specs.declared.command.Command.TheVariants as command
-use Rattle.sockets.specs.Control.{Order, Legal, Wrong, orders_of}
-use Rattle.sockets.specs.Pair.{PairState}
-use Rattle.sockets.specs.Entries.{is_busy}
-use Rattle.sockets.specs.Phases as program
-use Rattle.sockets.specs.declared.entry.Entry.{Entry}
-use Rattle.sockets.specs.declared.phase.Phase as host
-use Rattle.sockets.specs.declared.phase.Phase.TheVariants as phase
+use Rattle.host_pairs.specs.Control.{Order, Legal, Wrong, orders_of}
+use Rattle.host_pairs.specs.Pair.{PairState}
+use Rattle.host_pairs.specs.Entries.{is_busy}
+use Rattle.host_pairs.specs.Phases as program
+use Rattle.host_pairs.specs.declared.entry.Entry.{Entry}
+use Rattle.host_pairs.specs.declared.phase.Phase as host
+use Rattle.host_pairs.specs.declared.phase.Phase.TheVariants as phase
 use Rattle.sockets.specs.declared.request.Request.{Request}
 use Rattle.sockets.specs.declared.request.Request.TheVariants as request
 use Rattle.reset_law.specs.Events.{Message, Reset, Reply, Other, Event, Contact, Out, In, Told, Down, Up, Idle}

@@ -10,7 +10,8 @@ use Rattle.sockets.specs.Accepting.{accepted}
 use Rattle.sockets.specs.Pairs.{NcpState, opening_state}
 use Rattle.sockets.specs.Peers.{AreInOrder}
 use Rattle.sockets.specs.Requests.{served}
-use Rattle.sockets.specs.Sending.{Parcel, message_for, next_in, offered}
+use Rattle.host_pairs.specs.Parcels.{Parcel}
+use Rattle.sockets.specs.Sending.{message_for, next_in, offered}
 use Rattle.sockets.specs.declared.peer.Peer.{Peer}
 use Rattle.sockets.specs.declared.request.Request.{Request}
 use Rattle.reset_law.specs.Events.{Event}

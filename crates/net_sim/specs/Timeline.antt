@@ -1,13 +1,13 @@
 -- The moments of a book, and what resets see of it: its crossings, and the contacts that users asked for.
 use Rattle.std.specs.Prelude.{◌≡◌, ℕ, ◌==◌, true, if◌then◌else◌, List, [], ◌∷◌, ◌++◌, length, Some}
-use Rattle.leader1822.specs.Host.{Host, IsAddress}
+use Rattle.leader1822.specs.Host.{Host}
 use Rattle.leader1822.specs.Mailboxes as mail
 use Rattle.leader1822.specs.Mailboxes.{is_up}
 use Rattle.leader1822.specs.declared.crossing.Crossing.{Crossing}
 use Rattle.leader1822.specs.declared.crossing.Crossing.TheVariants as crossing
+pub use Rattle.host_services.specs.Named.{IsAddressed}
 use Rattle.sockets.specs.Sending.{next_out}
 use Rattle.sockets.specs.declared.request.Request.{Request}
-use Rattle.sockets.specs.declared.request.Request.TheVariants as request
 use Rattle.reset_law.specs.Boxes.{Box, Empty, Waiting, Taken}
 use Rattle.reset_law.specs.Events.{Event, Contact}
 use Rattle.net_sim.specs.Book.{Called, contacts_asked}
@@ -45,14 +45,6 @@ abbrev pub contacts_of : List Moment → List Called
 contacts_of [] = []
 contacts_of (Crossed c ∷ moments) = contacts_of moments
 contacts_of (Asked h r ∷ moments) = contacts_of moments ++ contacts_asked h (places moments) r
-
--- a request names its peer by an address
-abbrev pub IsAddressed : Request → Type 0
-IsAddressed (request.Contact peer) = IsAddress peer
-IsAddressed (request.OpenSend peer own foreign size) = IsAddress peer
-IsAddressed (request.OpenReceive peer own foreign) = IsAddress peer
-IsAddressed (request.Echo peer octet) = IsAddress peer
-IsAddressed r = Unit {0}
 
 -- what a moment asks of those before it: what goes out is what its host's program says next, and users ask where hosts are up
 abbrev pub Happens : List Host → Moment → List Moment → Type 0

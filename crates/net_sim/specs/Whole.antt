@@ -1,15 +1,21 @@
 -- What is kept of a world tells one list of moments.
-use Rattle.std.specs.Prelude.{◌≡◌, false, if◌then◌else◌, List, [], ◌∷◌, map, Some, None}
+use Rattle.std.specs.Prelude.{◌≡◌, false, if◌then◌else◌, List, [], ◌∷◌, map, Some, None, All}
 use Rattle.leader1822.specs.Calls.{Seen}
-use Rattle.leader1822.specs.Host.{Host}
+use Rattle.leader1822.specs.Host.{Host, IsAddress}
 use Rattle.leader1822.specs.Mailboxes.{is_up}
 use Rattle.net_sim.specs.Story.{Moment, program}
 use Rattle.net_sim.specs.Timeline.{IsAddressed, IsTimeline, crossings_of, contacts_of}
-use Rattle.net_sim.specs.World.{Event, Net, Quiet, Offer, Take, Ask, Seat, WorldState}
+use Rattle.host_services.specs.Named.{NamePeers}
+use Rattle.net_sim.specs.World.{Event, Net, Quiet, Offer, Take, Ask, Server, User, Typed, Seat, HostServices, WorldState}
 
 -- a host's seat after these moments
 abbrev pub seat_in : List Host → List Moment → Host → Seat
 seat_in hosts moments h = record { host = h; program = if is_up hosts h (crossings_of moments) then Some (program h moments) else None }
+
+-- until want of memory each host has its services, in the hosts' order, and they name their peers by addresses
+pub record AreServed (hosts : List Host) (all : List HostServices) : Type 0 where
+  pub order : map (λ s. s.host) all ≡ hosts
+  pub named : All (λ s. NamePeers s.services) all
 
 -- the book has the crossings and the contacts of these moments, and until want of memory each host that is up has the program
 -- that comes of them
@@ -20,6 +26,7 @@ pub record IsWhole {C : Type 0} (seen : C → Seen) (hosts : List Host) (w : Wor
   pub crossings : w.kept.book.crossings ≡ crossings_of moments
   pub contacts : w.kept.book.contacts ≡ contacts_of moments
   pub seats : w.stopped ≡ false → w.seats ≡ map (seat_in hosts moments) hosts
+  pub services : w.stopped ≡ false → AreServed hosts w.services
 
 -- what a user asks for names its peer by an address
 abbrev pub IsNamed : Event → Type 0
@@ -28,6 +35,9 @@ IsNamed Quiet = Unit {0}
 IsNamed (Offer h) = Unit {0}
 IsNamed (Take h) = Unit {0}
 IsNamed (Ask h r) = IsAddressed r
+IsNamed (Server h listen base) = Unit {0}
+IsNamed (User h peer listen own) = IsAddress peer
+IsNamed (Typed h line) = Unit {0}
 
 abbrev pub Each : (Event → Type 0) → List Event → Type 0
 Each P [] = Unit {0}

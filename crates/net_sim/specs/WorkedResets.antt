@@ -7,7 +7,7 @@ use Rattle.leader1822.specs.declared.crossing.Crossing.TheVariants as crossing
 use Rattle.leader1822.specs.declared.message.HostMessage.{HostMessage}
 use Rattle.ncp_control.specs.Command.{spelling}
 use Rattle.ncp_control.specs.declared.command.Command.TheVariants as command
-use Rattle.sockets.specs.Control.{control_text}
+use Rattle.host_pairs.specs.Control.{control_text}
 use Rattle.sockets.specs.Worked.{first, second, on_link}
 use Rattle.net_sim.specs.Book.{Called}
 use Rattle.net_sim.specs.Worked.{message}

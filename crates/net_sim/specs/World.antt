@@ -11,19 +11,24 @@ use Rattle.leader1822.specs.declared.crossing.Inbound.{Inbound}
 use Rattle.leader1822.specs.declared.event.NetEvent.{NetEvent}
 use Rattle.leader1822.specs.declared.message.HostMessage.{HostMessage}
 pub use Rattle.net_sim.specs.declared.event.Event.{Event}
-pub use Rattle.net_sim.specs.declared.event.Event.TheVariants.{Net, Quiet, Offer, Take, Ask}
+pub use Rattle.net_sim.specs.declared.event.Event.TheVariants.{Net, Quiet, Offer, Take, Ask, Server, User, Typed}
 pub use Rattle.net_sim.specs.declared.event.WorldFault.{WorldFault}
 pub use Rattle.net_sim.specs.declared.event.WorldFault.TheVariants.{Carrier, Program}
 pub use Rattle.net_sim.specs.declared.seat.Seat.{Seat}
+pub use Rattle.net_sim.specs.declared.seat.HostServices.{HostServices}
+use Rattle.host_services.specs.Services.{ServicesState, DeskState, no_services, opening_desk}
+use Rattle.host_services.specs.Turns as services
+use Rattle.host_services.specs.TypedLines.{line_bits}
 use Rattle.sockets.specs.Accepting.{accepted}
 use Rattle.sockets.specs.Pairs.{NcpState, opening_state}
 use Rattle.sockets.specs.Requests.{refusal, served, served_notices}
 use Rattle.sockets.specs.Sending.{next_out, offered}
 use Rattle.sockets.specs.declared.fault.NcpFault.{NcpFault}
 use Rattle.sockets.specs.declared.fault.NcpFault.TheVariants as problem
-use Rattle.sockets.specs.declared.notice.Notice.{Notice}
+use Rattle.host_pairs.specs.declared.notice.Notice.{Notice}
 use Rattle.sockets.specs.declared.request.Request.{Request}
-use Rattle.net_sim.specs.Book.{Kept, opening_kept, crossed, all_crossed, all_told, asked}
+use Rattle.sockets.specs.declared.request.Request.TheVariants as request
+use Rattle.net_sim.specs.Book.{Kept, opening_kept, crossed, all_crossed, all_told, asked, all_asked, all_reported}
 
 -- what a carrier shows, and how each of its calls may go
 pub record Calls (C : Type 0) : Type 1 where
@@ -59,34 +64,111 @@ abbrev pub all_turned : List Crossing → List Seat → List Seat
 all_turned [] seats = seats
 all_turned (c ∷ cs) seats = turned c (all_turned cs seats)
 
+-- ---- what runs on the hosts
+
+-- nothing
+abbrev pub opening_services : List Host → List HostServices
+opening_services hosts = map (λ h. record { host = h; services = no_services }) hosts
+
+abbrev pub services_in : Option HostServices → ServicesState
+services_in None = no_services
+services_in (Some s) = s.services
+
+abbrev pub services_of : Host → List HostServices → ServicesState
+services_of h all = services_in (find (λ s. same_host h s.host) all)
+
+abbrev pub with_services : Bool → ServicesState → HostServices → HostServices
+with_services here services s = if here then record { host = s.host; services = services } else s
+
+-- a host's services are now these
+abbrev pub serviced : Host → ServicesState → List HostServices → List HostServices
+serviced h services all = map (λ s. with_services (same_host h s.host) services s) all
+
+-- a host that stops loses its services
+abbrev pub emptied : Crossing → List HostServices → List HostServices
+emptied (crossing.Down h) all = serviced h no_services all
+emptied c all = all
+
+-- several crossings, newest first
+abbrev pub all_emptied : List Crossing → List HostServices → List HostServices
+all_emptied [] all = all
+all_emptied (c ∷ cs) all = emptied c (all_emptied cs all)
+
 -- ---- the world
 
--- the carrier, the hosts in the carrier's order, what is kept of them, and whether want of memory has stopped all
+-- the carrier, the hosts in the carrier's order, what runs on them, what is kept of them, and whether want of memory has stopped
+-- all
 pub record WorldState (C : Type 0) : Type 0 where
   pub carrier : C
   pub seats : List Seat
+  pub services : List HostServices
   pub kept : Kept
   pub stopped : Bool
 
 -- over a carrier that hasn't been used
 abbrev pub opening_world : {C : Type 0} → Calls C → C → WorldState C
-opening_world calls c = record { carrier = c; seats = opening_seats (calls.seen c).hosts; kept = opening_kept; stopped = false }
+opening_world calls c = record {
+  carrier = c;
+  seats = opening_seats (calls.seen c).hosts;
+  services = opening_services (calls.seen c).hosts;
+  kept = opening_kept;
+  stopped = false;
+}
 
 -- the carrier is as a call left it, and nothing else changed
 abbrev pub with_carrier : {C : Type 0} → C → WorldState C → WorldState C
 with_carrier c w = record w { carrier = c }
 
--- a host's program after this crossing, and what it told, at a world whose carrier is now this one
-abbrev pub moved : {C : Type 0} → C → Host → Crossing → NcpState × List Notice → WorldState C → WorldState C
-moved c h x turn w = record w { carrier = c; seats = seated h (Some turn.0) w.seats; kept = all_told h turn.1 (crossed x w.kept) }
-
 -- after crossings of the network itself, newest first
 abbrev pub changed : {C : Type 0} → C → List Crossing → WorldState C → WorldState C
-changed c crossings w = record w { carrier = c; seats = all_turned crossings w.seats; kept = all_crossed crossings w.kept }
+changed c crossings w = record w {
+  carrier = c;
+  seats = all_turned crossings w.seats;
+  services = all_emptied crossings w.services;
+  kept = all_crossed crossings w.kept;
+}
+
+-- ---- what services do in a step
+
+-- how many notices stand in the book
+abbrev pub noticed : {C : Type 0} → WorldState C → ℕ
+noticed w = length w.kept.book.notices
+
+-- what they asked for was served, and they reported this
+abbrev pub done_by : Host → DeskState → Kept → Kept
+done_by h d k = all_reported d.reports (all_asked h d.asked k)
+
+-- the services of a host are told this of its program, notice by notice, where so many notices stood in the book before
+abbrev pub turn_of : Host → ℕ → ServicesState → NcpState × List Notice → ServicesState × DeskState
+turn_of h before s turn = services.told turn.1 s (opening_desk h before turn.0)
+
+-- after the services of a host had their turns: they, the host's program, what they asked for, and what they reported
+abbrev pub tended : {C : Type 0} → Host → ServicesState × DeskState → WorldState C → WorldState C
+tended h t w = record w {
+  seats = seated h (Some t.1.program) w.seats;
+  services = serviced h t.0 w.services;
+  kept = done_by h t.1 w.kept;
+}
+
+-- a host's program is this now, and told this: that goes into the book, and then to the host's services, notice by notice. What
+-- they ask for is asked at once
+abbrev pub heard : {C : Type 0} → Host → NcpState × List Notice → WorldState C → WorldState C
+heard h turn w = tended h (turn_of h (noticed w) (services_of h w.services) turn) (record w { kept = all_told h turn.1 w.kept })
+
+-- this crossed, and the host's program told that of it, at a world whose carrier is now this one
+abbrev pub moved : {C : Type 0} → C → Host → Crossing → NcpState × List Notice → WorldState C → WorldState C
+moved c h x turn w = heard h turn (record w { carrier = c; kept = crossed x w.kept })
 
 -- after something that a user asked for
 abbrev pub served_at : {C : Type 0} → Host → Request → NcpState → WorldState C → WorldState C
-served_at h r s w = record w { seats = seated h (Some (served s r)) w.seats; kept = all_told h (served_notices s r) (asked h r w.kept) }
+served_at h r s w = heard h (served s r, served_notices s r) (record w { kept = asked h r w.kept })
+
+-- a server and a user begin on a host
+abbrev pub with_server : {C : Type 0} → Host → ℕ → ℕ → NcpState → WorldState C → WorldState C
+with_server h listen base s w = tended h (services.server_begun listen base (services_of h w.services) (opening_desk h (noticed w) s)) w
+
+abbrev pub with_user : {C : Type 0} → Host → Host → ℕ → ℕ → NcpState → WorldState C → WorldState C
+with_user h peer listen own s w = tended h (services.user_begun peer listen own (services_of h w.services) (opening_desk h (noticed w) s)) w
 
 -- ---- how an event ends
 
@@ -138,8 +220,9 @@ TakeEnds h s (Err e) c old r new = Passes e c old r new
 abbrev pub TakeGives : {C : Type 0} → Calls C → Host → NcpState → WorldState C → Result (Unit {0}) WorldFault → WorldState C → Type 0
 TakeGives {C} calls h s old r new = (answer : Result (Option Inbound) CarrierFault) × (c : C) × calls.takes old.carrier h answer c × TakeEnds h s answer c old r new
 
+-- what the network's own event did is written down, and memory may run out for that only where something crossed
 abbrev pub NetEnds : {C : Type 0} → Seen → NetEvent → Result (Unit {0}) CarrierFault → C → WorldState C → Result (Unit {0}) WorldFault → WorldState C → Type 0
-NetEnds seen e (Ok done) c old r new = Does (changed c (step_crossings seen e) old) r new ⊎ Halts c old r new
+NetEnds seen e (Ok done) c old r new = Does (changed c (step_crossings seen e) old) r new ⊎ ((step_crossings seen e ≡ [] → ⊥) × Halts c old r new)
 NetEnds seen e (Err f) c old r new = Passes f c old r new
 
 abbrev pub QuietEnds : {C : Type 0} → Result (Unit {0}) CarrierFault → C → WorldState C → Result (Unit {0}) WorldFault → WorldState C → Type 0
@@ -150,6 +233,15 @@ QuietEnds (Err f) c old r new = Passes f c old r new
 abbrev pub AskGives : {C : Type 0} → Host → Request → NcpState → Option NcpFault → WorldState C → Result (Unit {0}) WorldFault → WorldState C → Type 0
 AskGives h q s (Some f) old r new = Refuses (Program f) old r new
 AskGives h q s None old r new = Does (served_at h q s old) r new ⊎ Halts old.carrier old r new
+
+-- a line goes to the socket of the terminal that came last, as a request to send it. Without a terminal it is refused
+abbrev pub TypeGives : {C : Type 0} → Host → List ℕ → NcpState → Option ℕ → WorldState C → Result (Unit {0}) WorldFault → WorldState C → Type 0
+TypeGives h line s None old r new = Refuses (Program problem.NotOpen) old r new
+TypeGives h line s (Some socket) old r new = AskGives h (request.Send socket (line_bits line)) s (refusal s (request.Send socket (line_bits line))) old r new
+
+-- something is done, unless memory runs out
+abbrev pub DoesOrHalts : {C : Type 0} → WorldState C → WorldState C → Result (Unit {0}) WorldFault → WorldState C → Type 0
+DoesOrHalts done old r new = Does done r new ⊎ Halts old.carrier old r new
 
 -- a host that isn't there and one that is down are refused before anything else
 abbrev pub AtProgram : {C : Type 0} → (NcpState → Type 0) → Option NcpState → WorldState C → Result (Unit {0}) WorldFault → WorldState C → Type 0
@@ -166,6 +258,9 @@ EventGives {C} calls old Quiet r new = (answer : Result (Unit {0}) CarrierFault)
 EventGives calls old (Offer h) r new = AtSeat (λ s. OfferGives calls h s (next_out s) old r new) (seat_of h old.seats) old r new
 EventGives calls old (Take h) r new = AtSeat (λ s. TakeGives calls h s old r new) (seat_of h old.seats) old r new
 EventGives calls old (Ask h q) r new = AtSeat (λ s. AskGives h q s (refusal s q) old r new) (seat_of h old.seats) old r new
+EventGives calls old (Server h listen base) r new = AtSeat (λ s. DoesOrHalts (with_server h listen base s old) old r new) (seat_of h old.seats) old r new
+EventGives calls old (User h peer listen own) r new = AtSeat (λ s. DoesOrHalts (with_user h peer listen own s old) old r new) (seat_of h old.seats) old r new
+EventGives calls old (Typed h line) r new = AtSeat (λ s. TypeGives h line s (services_of h old.services).typing old r new) (seat_of h old.seats) old r new
 
 -- after want of memory nothing is done any more
 abbrev pub StepGives : {C : Type 0} → Calls C → WorldState C → Event → Result (Unit {0}) WorldFault → WorldState C → Type 0

@@ -1,75 +1,41 @@
 //! What a host's user asks for, and what is written down of it.
 
-ghost use Rattle.std.specs.Prelude.{◌≡◌, false, None, Some, Err, IfOk, IfSome, OnOk, OnErr, MatchResult};
-ghost use Rattle.net_sim.specs.Book.{all_told, asked, contacts_asked};
-ghost use Rattle.sockets.specs.Pairs.{NcpState};
+ghost use Rattle.std.specs.Prelude.{◌≡◌, false, None, IfOk, OnOk, OnErr, length};
+ghost use Rattle.std.specs.List.{flat_map};
+ghost use Rattle.host_services.specs.Services.{opening_desk};
+ghost use Rattle.host_services.specs.Turns.{server_begun, user_begun};
+ghost use Rattle.net_sim.specs.Book.{all_asked, all_reported, all_told, asked, contacts_asked};
+ghost use Rattle.net_sim.specs.Inside.Parts.{IsDone};
+ghost use Rattle.net_sim.specs.Timeline.{IsAddressed};
+ghost use Rattle.net_sim.specs.World as world;
 ghost use Rattle.sockets.specs.Requests.{refusal, served, served_notices};
-ghost use Rattle.sockets.specs.declared.fault.NcpFault.{NcpFault};
-ghost use Rattle.sockets.specs.declared.fault.NcpFault.TheVariants as problem;
 
-use crate::book::{Book, Called};
-use crate::hosting::told_by;
-use crate::seat::Seat;
+use crate::book::{Book, Called, Page};
+use crate::hosting::{tend, told_by, write_crossing};
+use crate::seat::HostServices;
+use host_services::{Deeds, Desk, copy_of};
 use leader1822::HostAddr;
-use sockets::{NcpFault, Notice, Request};
+use sockets::{Ncp, Notice, Request};
 use std::alloc::{AllocError, Global};
 
-/// A copy of a request.
-fn copy_of(request: &Request) -> Result<Request, AllocError>
-    ensures { IfOk result (λ copy. copy ≡ request.now) }
+/// A request names its peer by an address, as the type of an address has it.
+pub(crate) fn is_addressed(request: &Request)
+    ensures { IsAddressed request.now }
 {
-    let copy = match request {
-        Request::Contact { peer } => Request::Contact { peer: *peer },
-        Request::Listen { socket, size } => Request::Listen {
-            socket: *socket,
-            size: *size,
-        },
-        Request::OpenSend {
-            peer,
-            own,
-            foreign,
-            size,
-        } => Request::OpenSend {
-            peer: *peer,
-            own: *own,
-            foreign: *foreign,
-            size: *size,
-        },
-        Request::OpenReceive { peer, own, foreign } => Request::OpenReceive {
-            peer: *peer,
-            own: *own,
-            foreign: *foreign,
-        },
-        Request::Send { socket, bits } => Request::Send {
-            socket: *socket,
-            bits: bits.clone()?,
-        },
-        Request::Grant {
-            socket,
-            messages,
-            bits,
-        } => Request::Grant {
-            socket: *socket,
-            messages: *messages,
-            bits: *bits,
-        },
-        Request::AskBack {
-            socket,
-            messages,
-            bits,
-        } => Request::AskBack {
-            socket: *socket,
-            messages: *messages,
-            bits: *bits,
-        },
-        Request::Interrupt { socket } => Request::Interrupt { socket: *socket },
-        Request::Close { socket } => Request::Close { socket: *socket },
-        Request::Echo { peer, octet } => Request::Echo {
-            peer: *peer,
-            octet: *octet,
-        },
-    };
-    Ok(copy)
+    match request {
+        Request::Contact { peer }
+        | Request::OpenSend { peer, .. }
+        | Request::OpenReceive { peer, .. }
+        | Request::Echo { peer, .. } => {
+            let _ = (peer.imp(), peer.host());
+        }
+        Request::Listen { .. }
+        | Request::Send { .. }
+        | Request::Grant { .. }
+        | Request::AskBack { .. }
+        | Request::Interrupt { .. }
+        | Request::Close { .. } => {}
+    }
 }
 
 /// The contact that a request is, if it is one.
@@ -100,46 +66,132 @@ fn called_by(
     Ok(called)
 }
 
-/// Writes down what a host's user asked for, and what it was told of it.
+/// The contacts among these requests.
+pub(crate) fn called_in(
+    alloc: Global,
+    host: HostAddr,
+    place: usize,
+    requests: &[Request],
+) -> Result<Vec<Called>, AllocError>
+    ensures { IfOk result (λ called. called.items ≡ flat_map (contacts_asked host place) requests.now) }
+{
+    let mut called = Vec::new(alloc);
+    for request in requests {
+        called.append(&mut called_by(alloc, host, place, request)?)?;
+    }
+    Ok(called)
+}
+
+/// Writes down what a host's user asked for, what it was told of it, and what the host's services did then.
 fn write_asked(
     alloc: Global,
     book: &mut Book,
     host: HostAddr,
     request: Request,
     notices: Vec<Notice>,
+    deeds: Deeds,
 ) -> Result<(), AllocError>
-    ensures done { OnOk result (book.new ≡ all_told host notices.items (asked host request book.old)) }
+    ensures done { OnOk result (book.new ≡ all_reported deeds.reports.items (all_asked host deeds.asked.items (all_told host notices.items (asked host request book.old)))) }
     ensures kept { OnErr result (book.new ≡ book.old) }
 {
     let place = book.crossings().len();
-    let called = called_by(alloc, host, place, &request)?;
+    let mut called = called_by(alloc, host, place, &request)?;
+    called.append(&mut called_in(alloc, host, place, &deeds.asked)?)?;
     let told = told_by(alloc, host, place, notices)?;
-    book.write(Vec::new(alloc), &Some((host, request)), called, told)
+    book.write(Page {
+        crossings: Vec::new(alloc),
+        asked: Some((host, request)),
+        called,
+        told,
+        by: Some(host),
+        ran: deeds.asked,
+        reports: deeds.reports,
+    })
 }
 
-impl Seat {
-    /// Its user asks for something.
-    pub(crate) fn ask(
+/// Writes down what a host's services did.
+fn write_deeds(
+    alloc: Global,
+    book: &mut Book,
+    host: HostAddr,
+    deeds: Deeds,
+) -> Result<(), AllocError>
+    ensures done { OnOk result (book.new ≡ all_reported deeds.reports.items (all_asked host deeds.asked.items book.old)) }
+    ensures kept { OnErr result (book.new ≡ book.old) }
+{
+    write_crossing(alloc, book, host, Vec::new(alloc), Vec::new(alloc), deeds)
+}
+
+impl HostServices {
+    /// The user of the host asks for something that isn't refused. Returns the program.
+    pub(crate) fn serve(
         &mut self,
         alloc: Global,
         book: &mut Book,
-        request: Request,
-    ) -> Result<(), NcpFault>
-        requires live { IfSome self.old.program (λ s. s.spent ≡ false) }
-        ensures refused { (s : NcpState) (f : NcpFault) → self.old.program ≡ Some s → refusal s request ≡ Some f → (result ≡ Err f) × ((self.new ≡ self.old) × (book.new ≡ book.old)) }
-        ensures served { (s : NcpState) → self.old.program ≡ Some s → refusal s request ≡ None → MatchResult result (λ _. (self.new ≡ record { host = self.old.host; program = Some (served s request) }) × (book.new ≡ all_told self.old.host (served_notices s request) (asked self.old.host request book.old))) (λ f. (f ≡ problem.OutOfMemory) × (book.new ≡ book.old)) }
+        mut program: Ncp,
+        request: &Request,
+    ) -> Result<Ncp, AllocError>
+        requires live { program.spent ≡ false }
+        requires served { refusal program request.now ≡ None }
+        ensures host { self.new.host ≡ self.old.host }
+        ensures done { IfOk result (λ after. IsDone self.old.host (world.turn_of self.old.host (length book.old.book.notices) self.old.services (served program request.now, served_notices program request.now)) (all_told self.old.host (served_notices program request.now) (asked self.old.host request.now book.old)) after self.new.services book.new) }
+        ensures kept { OnErr result (book.new ≡ book.old) }
     {
-        let Some(program) = &mut self.program else {
-            return Ok(());
+        let Ok(notices) = program.ask(copy_of(request)?) else {
+            return Err(AllocError);
         };
-        let copy = copy_of(&request);
-        let notices = program.ask(request)?;
-        let Ok(request) = copy else {
-            return Err(NcpFault::OutOfMemory);
-        };
-        let Ok(()) = write_asked(alloc, book, self.host, request, notices) else {
-            return Err(NcpFault::OutOfMemory);
-        };
-        Ok(())
+        let before = book.notices().len();
+        let desk = tend(
+            alloc,
+            self.host,
+            &mut self.services,
+            before,
+            program,
+            &notices,
+        )?;
+        let (program, deeds) = desk.into_parts();
+        write_asked(alloc, book, self.host, copy_of(request)?, notices, deeds)?;
+        Ok(program)
+    }
+
+    /// A server begins on the host. Returns the program.
+    pub(crate) fn begin_server(
+        &mut self,
+        alloc: Global,
+        book: &mut Book,
+        program: Ncp,
+        listen: u32,
+        base: u32,
+    ) -> Result<Ncp, AllocError>
+        ensures host { self.new.host ≡ self.old.host }
+        ensures done { IfOk result (λ after. IsDone self.old.host (server_begun listen base self.old.services (opening_desk self.old.host (length book.old.book.notices) program)) book.old after self.new.services book.new) }
+        ensures kept { OnErr result (book.new ≡ book.old) }
+    {
+        let mut desk = Desk::new(alloc, self.host, book.notices().len(), program);
+        self.services.serve(&mut desk, listen, base)?;
+        let (program, deeds) = desk.into_parts();
+        write_deeds(alloc, book, self.host, deeds)?;
+        Ok(program)
+    }
+
+    /// A user begins on the host. Returns the program.
+    pub(crate) fn begin_user(
+        &mut self,
+        alloc: Global,
+        book: &mut Book,
+        program: Ncp,
+        peer: HostAddr,
+        listen: u32,
+        own: u32,
+    ) -> Result<Ncp, AllocError>
+        ensures host { self.new.host ≡ self.old.host }
+        ensures done { IfOk result (λ after. IsDone self.old.host (user_begun peer listen own self.old.services (opening_desk self.old.host (length book.old.book.notices) program)) book.old after self.new.services book.new) }
+        ensures kept { OnErr result (book.new ≡ book.old) }
+    {
+        let mut desk = Desk::new(alloc, self.host, book.notices().len(), program);
+        self.services.connect(&mut desk, peer, listen, own)?;
+        let (program, deeds) = desk.into_parts();
+        write_deeds(alloc, book, self.host, deeds)?;
+        Ok(program)
     }
 }

@@ -7,6 +7,7 @@ ghost use Rattle.net_sim.specs.Inside.Lives.{written};
 use crate::life::Life;
 use crate::lives::Lives;
 use bit_messages::Bits;
+use host_services::Reported;
 use leader1822::{Crossing, HostAddr};
 use sockets::{Notice, Request};
 use std::alloc::{AllocError, Global};
@@ -35,8 +36,27 @@ pub struct Called {
     pub peer: HostAddr,
 }
 
-/// What a world writes down: all that crossed, what users were told, the contacts that they asked for, a life for
-/// each opened end of a connection, and what was handed over to be sent in each. All of them stand in their order,
+/// What happened in one step, in this order.
+#[derive(Drop)]
+pub(crate) struct Page {
+    /// What crossed.
+    pub(crate) crossings: Vec<Crossing>,
+    /// What a user asked for.
+    pub(crate) asked: Option<(HostAddr, Request)>,
+    /// Which contacts were asked for.
+    pub(crate) called: Vec<Called>,
+    /// What users were told.
+    pub(crate) told: Vec<Told>,
+    /// The host whose services had their turns.
+    pub(crate) by: Option<HostAddr>,
+    /// What they asked for.
+    pub(crate) ran: Vec<Request>,
+    /// What they reported.
+    pub(crate) reports: Vec<Reported>,
+}
+
+/// What a world writes down: all that crossed, what users were told, the contacts that they asked for, what services
+/// reported, a life for each opened end of a connection, and what was handed over to be sent in each. All of them stand in their order,
 /// the oldest first.
 ///
 /// What is written at one time is written whole or not at all. So the lives are kept twice: those that are shown,
@@ -46,6 +66,7 @@ pub struct Book {
     crossings: Vec<Crossing>,
     notices: Vec<Told>,
     contacts: Vec<Called>,
+    reports: Vec<Reported>,
     shown: Lives,
     spare: Lives,
     stale: bool,
@@ -57,7 +78,7 @@ impl Model for Book {
 
     ghost Value = { Kept };
 
-    ghost view = { λ b. record { book = record { crossings = reverse b.crossings.items; notices = b.notices.items; contacts = b.contacts.items; lives = b.shown.lives }; handed = b.shown.handed } };
+    ghost view = { λ b. record { book = record { crossings = reverse b.crossings.items; notices = b.notices.items; contacts = b.contacts.items; reports = b.reports.items; lives = b.shown.lives }; handed = b.shown.handed } };
 
     ghost invariant = { λ b. b.stale ≡ false → b.spare ≡ b.shown };
 }
@@ -71,6 +92,7 @@ impl Book {
             crossings: Vec::new(alloc),
             notices: Vec::new(alloc),
             contacts: Vec::new(alloc),
+            reports: Vec::new(alloc),
             shown: Lives::new(alloc),
             spare: Lives::new(alloc),
             stale: false,
@@ -98,6 +120,13 @@ impl Book {
         &self.contacts
     }
 
+    /// What services reported.
+    pub fn reports(&self) -> &[Reported]
+        ensures { result.now ≡ self.now.book.reports }
+    {
+        &self.reports
+    }
+
     /// The lives of connections.
     pub fn lives(&self) -> &[Life]
         ensures { result.now ≡ self.now.book.lives }
@@ -112,31 +141,33 @@ impl Book {
         self.shown.handed()
     }
 
-    /// Writes down, in this order, what crossed, what a user asked for and whether that is a contact, and what users
-    /// were told.
-    pub(crate) fn write(
-        &mut self,
-        mut crossings: Vec<Crossing>,
-        asked: &Option<(HostAddr, Request)>,
-        mut called: Vec<Called>,
-        mut told: Vec<Told>,
-    ) -> Result<(), AllocError>
-        ensures done { OnOk result (self.new ≡ written crossings.items asked.now called.items told.items self.old) }
+    /// Writes down what happened in one step.
+    pub(crate) fn write(&mut self, page: Page) -> Result<(), AllocError>
+        ensures done { OnOk result (self.new ≡ written page.crossings.items page.asked page.called.items page.told.items page.by page.ran.items page.reports.items self.old) }
         ensures kept { OnErr result (self.new ≡ self.old) }
     {
         if self.stale {
             return Err(AllocError);
         }
         self.stale = true;
-        self.spare.follow(&crossings, asked, &told)?;
-        self.crossings.reserve(crossings.len())?;
-        self.contacts.reserve(called.len())?;
-        self.notices.reserve(told.len())?;
+        self.spare.follow(&page)?;
+        self.crossings.reserve(page.crossings.len())?;
+        self.contacts.reserve(page.called.len())?;
+        self.notices.reserve(page.told.len())?;
+        self.reports.reserve(page.reports.len())?;
         mem::swap(&mut self.shown, &mut self.spare);
-        self.stale = self.spare.follow(&crossings, asked, &told).is_err();
+        self.stale = self.spare.follow(&page).is_err();
+        let Page {
+            mut crossings,
+            mut called,
+            mut told,
+            mut reports,
+            ..
+        } = page;
         self.crossings.append(&mut crossings)?;
         self.contacts.append(&mut called)?;
         self.notices.append(&mut told)?;
+        self.reports.append(&mut reports)?;
         Ok(())
     }
 }

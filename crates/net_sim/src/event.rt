@@ -1,5 +1,6 @@
 //! What may happen in a world, and why it is refused.
 
+use host_services::TypedLine;
 use leader1822::{CarrierFault, HostAddr, NetEvent};
 use sockets::{NcpFault, Request};
 use thiserror::Error;
@@ -18,6 +19,35 @@ pub enum Event {
     Take(HostAddr),
     /// A host's user asks for something.
     Ask(HostAddr, Request),
+    /// The server of an initial connection begins on a host. Users ask it on the odd socket `listen`, and it serves the first on the
+    /// even socket `base` and the one above it; the echo service follows it.
+    Server {
+        /// The host.
+        host: HostAddr,
+        /// The socket on which users ask.
+        listen: u32,
+        /// The socket on which it receives; it sends on the one above.
+        base: u32,
+    },
+    /// The user of an initial connection begins on a host. It asks the socket `listen` of a peer from its own even socket; a line
+    /// terminal follows it.
+    User {
+        /// The host.
+        host: HostAddr,
+        /// The server's host.
+        peer: HostAddr,
+        /// The server's socket.
+        listen: u32,
+        /// The own socket that asks; the terminal receives on the one two above and sends on the one three above.
+        own: u32,
+    },
+    /// A line is typed at a host, at the terminal that came last.
+    Typed {
+        /// The host.
+        host: HostAddr,
+        /// The line.
+        line: TypedLine,
+    },
 }
 
 /// Why an event is refused.

@@ -1,13 +1,17 @@
 //! What each event does to a carrier, to the hosts and to the book.
 
+ghost use Rattle.std.specs.Prelude.{◌≡◌};
 ghost use Rattle.net_sim.specs.Carriers.{shown};
-ghost use Rattle.net_sim.specs.Inside.Parts.{IsOnce, AreLive, hosts_of, running, ended};
-ghost use Rattle.net_sim.specs.World.{EventGives, Net, Quiet, Offer, Take, Ask};
+ghost use Rattle.net_sim.specs.Inside.Parts.{IsOnce, AreLive, hosts_of, hosts_served, running, ended};
+ghost use Rattle.net_sim.specs.Whole.{IsNamed};
+ghost use Rattle.net_sim.specs.World.{EventGives, Net, Quiet, Offer, Take, Ask, Server, User, Typed};
 
-use crate::WorldFault;
+use crate::asking::is_addressed;
 use crate::book::Book;
-use crate::parts::{ask_at, change, go_out, hear, next_out, up_at};
-use crate::seat::Seat;
+use crate::parts::{ask_at, change, go_out, hear, next_out, server_at, type_at, up_at, user_at};
+use crate::seat::{HostServices, Seat};
+use crate::{Event, WorldFault};
+use host_services::TypedLine;
 use leader1822::{Carrier, HostAddr, NetEvent};
 use sockets::Request;
 use std::alloc::Global;
@@ -17,25 +21,31 @@ pub(crate) fn happen<C: Carrier>(
     alloc: Global,
     carrier: &mut C,
     seats: &mut [Seat],
+    services: &mut [HostServices],
     book: &mut Book,
     event: NetEvent,
 ) -> Result<(), WorldFault>
-    ensures { EventGives (shown (record { seen = C.seen; offers = C.offers; takes = C.takes; steps = C.steps; rounds = C.rounds })) (running carrier.old seats.old book.old) (Net event) result (ended carrier.new seats.new book.new result) }
+    ensures { EventGives (shown (record { seen = C.seen; offers = C.offers; takes = C.takes; steps = C.steps; rounds = C.rounds })) (running carrier.old seats.old services.old book.old) (Net event) result (ended carrier.new seats.new services.new book.new result) }
 {
     let before = carrier.log().len();
     if let Err(fault) = carrier.step(event) {
         return Err(WorldFault::Carrier(fault));
     }
-    change(alloc, seats, book, &carrier.log()[before..])
+    let news = &carrier.log()[before..];
+    if news.is_empty() {
+        return Ok(());
+    }
+    change(alloc, seats, services, book, news)
 }
 
 /// The network has a quiet round.
 pub(crate) fn pass<C: Carrier>(
     carrier: &mut C,
     seats: &mut [Seat],
+    services: &mut [HostServices],
     book: &mut Book,
 ) -> Result<(), WorldFault>
-    ensures { EventGives (shown (record { seen = C.seen; offers = C.offers; takes = C.takes; steps = C.steps; rounds = C.rounds })) (running carrier.old seats.old book.old) Quiet result (ended carrier.new seats.new book.new result) }
+    ensures { EventGives (shown (record { seen = C.seen; offers = C.offers; takes = C.takes; steps = C.steps; rounds = C.rounds })) (running carrier.old seats.old services.old book.old) Quiet result (ended carrier.new seats.new services.new book.new result) }
 {
     if let Err(fault) = carrier.quiet_round() {
         return Err(WorldFault::Carrier(fault));
@@ -48,12 +58,14 @@ pub(crate) fn offer<C: Carrier>(
     alloc: Global,
     carrier: &mut C,
     seats: &mut [Seat],
+    services: &mut [HostServices],
     book: &mut Book,
     host: HostAddr,
 ) -> Result<(), WorldFault>
     requires once { IsOnce (hosts_of seats.old) }
     requires live { AreLive seats.old }
-    ensures { EventGives (shown (record { seen = C.seen; offers = C.offers; takes = C.takes; steps = C.steps; rounds = C.rounds })) (running carrier.old seats.old book.old) (Offer host) result (ended carrier.new seats.new book.new result) }
+    requires order { hosts_served services.old ≡ hosts_of seats.old }
+    ensures { EventGives (shown (record { seen = C.seen; offers = C.offers; takes = C.takes; steps = C.steps; rounds = C.rounds })) (running carrier.old seats.old services.old book.old) (Offer host) result (ended carrier.new seats.new services.new book.new result) }
 {
     let at = up_at(seats, host)?;
     let Some(message) = next_out(seats, at)? else {
@@ -63,7 +75,7 @@ pub(crate) fn offer<C: Carrier>(
     if let Err(fault) = carrier.offer_out(message) {
         return Err(WorldFault::Carrier(fault));
     }
-    go_out(alloc, seats, at, book, &carrier.log()[before..])
+    go_out(alloc, seats, services, at, book, &carrier.log()[before..])
 }
 
 /// A host takes what came for it.
@@ -71,17 +83,27 @@ pub(crate) fn take<C: Carrier>(
     alloc: Global,
     carrier: &mut C,
     seats: &mut [Seat],
+    services: &mut [HostServices],
     book: &mut Book,
     host: HostAddr,
 ) -> Result<(), WorldFault>
     requires once { IsOnce (hosts_of seats.old) }
     requires live { AreLive seats.old }
-    ensures { EventGives (shown (record { seen = C.seen; offers = C.offers; takes = C.takes; steps = C.steps; rounds = C.rounds })) (running carrier.old seats.old book.old) (Take host) result (ended carrier.new seats.new book.new result) }
+    requires order { hosts_served services.old ≡ hosts_of seats.old }
+    ensures { EventGives (shown (record { seen = C.seen; offers = C.offers; takes = C.takes; steps = C.steps; rounds = C.rounds })) (running carrier.old seats.old services.old book.old) (Take host) result (ended carrier.new seats.new services.new book.new result) }
 {
     let at = up_at(seats, host)?;
     let before = carrier.log().len();
     match carrier.take_in(host) {
-        Ok(Some(inbound)) => hear(alloc, seats, at, book, &carrier.log()[before..], inbound),
+        Ok(Some(inbound)) => hear(
+            alloc,
+            seats,
+            services,
+            at,
+            book,
+            &carrier.log()[before..],
+            inbound,
+        ),
         Ok(None) => Ok(()),
         Err(fault) => Err(WorldFault::Carrier(fault)),
     }
@@ -92,15 +114,135 @@ pub(crate) fn ask<C: Carrier>(
     alloc: Global,
     carrier: &mut C,
     seats: &mut [Seat],
+    services: &mut [HostServices],
     book: &mut Book,
     host: HostAddr,
-    request: Request,
+    request: &Request,
 ) -> Result<(), WorldFault>
     requires once { IsOnce (hosts_of seats.old) }
     requires live { AreLive seats.old }
-    ensures { EventGives (shown (record { seen = C.seen; offers = C.offers; takes = C.takes; steps = C.steps; rounds = C.rounds })) (running carrier.old seats.old book.old) (Ask host request) result (ended carrier.new seats.new book.new result) }
+    requires order { hosts_served services.old ≡ hosts_of seats.old }
+    ensures { EventGives (shown (record { seen = C.seen; offers = C.offers; takes = C.takes; steps = C.steps; rounds = C.rounds })) (running carrier.old seats.old services.old book.old) (Ask host request.now) result (ended carrier.new seats.new services.new book.new result) }
 {
     let _ = carrier.log();
     let at = up_at(seats, host)?;
-    ask_at(alloc, seats, at, book, request)
+    ask_at(alloc, seats, services, at, book, request)
+}
+
+/// A server begins on a host.
+pub(crate) fn begin_server<C: Carrier>(
+    alloc: Global,
+    carrier: &mut C,
+    seats: &mut [Seat],
+    services: &mut [HostServices],
+    book: &mut Book,
+    host: HostAddr,
+    listen: u32,
+    base: u32,
+) -> Result<(), WorldFault>
+    requires once { IsOnce (hosts_of seats.old) }
+    requires live { AreLive seats.old }
+    requires order { hosts_served services.old ≡ hosts_of seats.old }
+    ensures { EventGives (shown (record { seen = C.seen; offers = C.offers; takes = C.takes; steps = C.steps; rounds = C.rounds })) (running carrier.old seats.old services.old book.old) (Server host listen base) result (ended carrier.new seats.new services.new book.new result) }
+{
+    let _ = carrier.log();
+    let at = up_at(seats, host)?;
+    server_at(alloc, seats, services, at, book, listen, base)
+}
+
+/// A user begins on a host.
+pub(crate) fn begin_user<C: Carrier>(
+    alloc: Global,
+    carrier: &mut C,
+    seats: &mut [Seat],
+    services: &mut [HostServices],
+    book: &mut Book,
+    host: HostAddr,
+    peer: HostAddr,
+    listen: u32,
+    own: u32,
+) -> Result<(), WorldFault>
+    requires once { IsOnce (hosts_of seats.old) }
+    requires live { AreLive seats.old }
+    requires order { hosts_served services.old ≡ hosts_of seats.old }
+    ensures { EventGives (shown (record { seen = C.seen; offers = C.offers; takes = C.takes; steps = C.steps; rounds = C.rounds })) (running carrier.old seats.old services.old book.old) (User host peer listen own) result (ended carrier.new seats.new services.new book.new result) }
+{
+    let _ = carrier.log();
+    let at = up_at(seats, host)?;
+    user_at(alloc, seats, services, at, book, peer, listen, own)
+}
+
+/// A line is typed at a host.
+pub(crate) fn type_line<C: Carrier>(
+    alloc: Global,
+    carrier: &mut C,
+    seats: &mut [Seat],
+    services: &mut [HostServices],
+    book: &mut Book,
+    host: HostAddr,
+    line: &TypedLine,
+) -> Result<(), WorldFault>
+    requires once { IsOnce (hosts_of seats.old) }
+    requires live { AreLive seats.old }
+    requires order { hosts_served services.old ≡ hosts_of seats.old }
+    ensures { EventGives (shown (record { seen = C.seen; offers = C.offers; takes = C.takes; steps = C.steps; rounds = C.rounds })) (running carrier.old seats.old services.old book.old) (Typed host line.now) result (ended carrier.new seats.new services.new book.new result) }
+{
+    let _ = carrier.log();
+    let at = up_at(seats, host)?;
+    type_at(alloc, seats, services, at, book, line)
+}
+
+/// Any of these.
+pub(crate) fn follow<C: Carrier>(
+    alloc: Global,
+    carrier: &mut C,
+    seats: &mut [Seat],
+    services: &mut [HostServices],
+    book: &mut Book,
+    event: &Event,
+) -> Result<(), WorldFault>
+    requires once { IsOnce (hosts_of seats.old) }
+    requires live { AreLive seats.old }
+    requires order { hosts_served services.old ≡ hosts_of seats.old }
+    ensures { EventGives (shown (record { seen = C.seen; offers = C.offers; takes = C.takes; steps = C.steps; rounds = C.rounds })) (running carrier.old seats.old services.old book.old) event.now result (ended carrier.new seats.new services.new book.new result) }
+{
+    match event {
+        Event::Net(event) => happen(alloc, carrier, seats, services, book, *event),
+        Event::Quiet => pass(carrier, seats, services, book),
+        Event::Offer(host) => offer(alloc, carrier, seats, services, book, *host),
+        Event::Take(host) => take(alloc, carrier, seats, services, book, *host),
+        Event::Ask(host, request) => ask(alloc, carrier, seats, services, book, *host, request),
+        Event::Server { host, listen, base } => begin_server(
+            alloc, carrier, seats, services, book, *host, *listen, *base,
+        ),
+        Event::User {
+            host,
+            peer,
+            listen,
+            own,
+        } => begin_user(
+            alloc, carrier, seats, services, book, *host, *peer, *listen, *own,
+        ),
+        Event::Typed { host, line } => {
+            type_line(alloc, carrier, seats, services, book, *host, line)
+        }
+    }
+}
+
+/// A user names its peer by an address, as the type of an address has it.
+pub(crate) fn is_named(event: &Event)
+    ensures { IsNamed event.now }
+{
+    match event {
+        Event::Ask(_, request) => is_addressed(request),
+        Event::User { peer, .. } => {
+            let _ = (peer.imp(), peer.host());
+        }
+        Event::Net(_)
+        | Event::Quiet
+        | Event::Offer(_)
+        | Event::Take(_)
+        | Event::Server { .. }
+        | Event::Typed { .. } => {}
+    }
 }

@@ -1,18 +1,21 @@
 //! What the hosts do with what the carrier gives, and what is written down of it.
 
-ghost use Rattle.std.specs.Prelude.{◌≡◌, false, Some, IfOk, IfSome, OnOk, OnErr, map, reverse, length};
+ghost use Rattle.std.specs.Prelude.{◌≡◌, false, IfOk, OnOk, OnErr, map, reverse, length};
 ghost use Rattle.std.specs.List.{position};
 ghost use Rattle.leader1822.specs.Host.{same_host};
-ghost use Rattle.net_sim.specs.Book.{all_told, all_crossed};
+ghost use Rattle.net_sim.specs.Book.{all_asked, all_told, all_crossed, all_reported};
 ghost use Rattle.net_sim.specs.Inside.Lives.{told_at};
+ghost use Rattle.net_sim.specs.Inside.Parts.{IsDone};
+ghost use Rattle.net_sim.specs.World as world;
 ghost use Rattle.sockets.specs.Accepting.{accepted};
-ghost use Rattle.sockets.specs.Pairs.{NcpState};
 ghost use Rattle.sockets.specs.Sending.{offered};
 
-use crate::book::{Book, Called, Told};
-use crate::seat::Seat;
+use crate::asking::called_in;
+use crate::book::{Book, Page, Told};
+use crate::seat::{HostServices, Seat};
+use host_services::{Deeds, Desk, Services};
 use leader1822::{Crossing, HostAddr, Inbound};
-use sockets::{Ncp, NcpFault, Notice, Request};
+use sockets::{Ncp, Notice};
 use std::alloc::{AllocError, Global};
 
 /// The place of a host's seat.
@@ -67,23 +70,49 @@ pub(crate) fn told_by(
     Ok(told)
 }
 
-/// Writes down what crossed at a host, and what its user was told of it.
+/// The services of a host are told what its program tells. Returns the host as they leave it.
+pub(crate) fn tend(
+    alloc: Global,
+    host: HostAddr,
+    services: &mut Services,
+    before: usize,
+    program: Ncp,
+    notices: &[Notice],
+) -> Result<Desk, AllocError>
+    ensures { IfOk result (λ desk. world.turn_of host before services.old (program, notices.now) ≡ (services.new, desk)) }
+{
+    let mut desk = Desk::new(alloc, host, before, program);
+    services.tell(&mut desk, notices)?;
+    Ok(desk)
+}
+
+/// Writes down what crossed at a host, what its user was told of it, and what its services did then.
 #[tactic(auto, using(crate::proofs::InOrder::written_both))]
-fn write_crossing(
+pub(crate) fn write_crossing(
     alloc: Global,
     book: &mut Book,
     host: HostAddr,
     crossed: Vec<Crossing>,
     notices: Vec<Notice>,
+    deeds: Deeds,
 ) -> Result<(), AllocError>
-    ensures done { OnOk result (book.new ≡ all_told host notices.items (all_crossed (reverse crossed.items) book.old)) }
+    ensures done { OnOk result (book.new ≡ all_reported deeds.reports.items (all_asked host deeds.asked.items (all_told host notices.items (all_crossed (reverse crossed.items) book.old)))) }
     ensures kept { OnErr result (book.new ≡ book.old) }
 {
     let Some(place) = book.crossings().len().checked_add(crossed.len()) else {
         return Err(AllocError);
     };
     let told = told_by(alloc, host, place, notices)?;
-    book.write(crossed, &None, Vec::new(alloc), told)
+    let called = called_in(alloc, host, place, &deeds.asked)?;
+    book.write(Page {
+        crossings: crossed,
+        asked: None,
+        called,
+        told,
+        by: Some(host),
+        ran: deeds.asked,
+        reports: deeds.reports,
+    })
 }
 
 /// Writes down what crossed, of which no user was told.
@@ -96,50 +125,82 @@ pub(crate) fn write_changes(
     ensures done { OnOk result (book.new ≡ all_crossed (reverse crossed.items) book.old) }
     ensures kept { OnErr result (book.new ≡ book.old) }
 {
-    book.write(crossed, &None, Vec::new(alloc), Vec::new(alloc))
+    book.write(Page {
+        crossings: crossed,
+        asked: None,
+        called: Vec::new(alloc),
+        told: Vec::new(alloc),
+        by: None,
+        ran: Vec::new(alloc),
+        reports: Vec::new(alloc),
+    })
 }
 
-impl Seat {
-    /// Its program takes what came for its host.
+impl HostServices {
+    /// The program of the host has told this of what crossed: the services have their turns, and all is written down. Returns
+    /// the program.
+    fn settle(
+        &mut self,
+        alloc: Global,
+        book: &mut Book,
+        crossed: Vec<Crossing>,
+        program: Ncp,
+        notices: Vec<Notice>,
+    ) -> Result<Ncp, AllocError>
+        ensures host { self.new.host ≡ self.old.host }
+        ensures done { IfOk result (λ after. IsDone self.old.host (world.turn_of self.old.host (length book.old.book.notices) self.old.services (program, notices.items)) (all_told self.old.host notices.items (all_crossed (reverse crossed.items) book.old)) after self.new.services book.new) }
+        ensures kept { OnErr result (book.new ≡ book.old) }
+    {
+        let before = book.notices().len();
+        let desk = tend(
+            alloc,
+            self.host,
+            &mut self.services,
+            before,
+            program,
+            &notices,
+        )?;
+        let (program, deeds) = desk.into_parts();
+        write_crossing(alloc, book, self.host, crossed, notices, deeds)?;
+        Ok(program)
+    }
+
+    /// The program of the host takes what came for it. Returns the program.
     pub(crate) fn hear(
         &mut self,
         alloc: Global,
         book: &mut Book,
         crossed: Vec<Crossing>,
+        mut program: Ncp,
         inbound: Inbound,
-    ) -> Result<(), AllocError>
-        requires live { IfSome self.old.program (λ s. s.spent ≡ false) }
-        ensures done { (s : NcpState) → self.old.program ≡ Some s → OnOk result (self.new ≡ record { host = self.old.host; program = Some (accepted s inbound (length book.old.book.crossings)).0 }) }
-        ensures told { (s : NcpState) → self.old.program ≡ Some s → OnOk result (book.new ≡ all_told self.old.host (accepted s inbound (length book.old.book.crossings)).1 (all_crossed (reverse crossed.items) book.old)) }
+    ) -> Result<Ncp, AllocError>
+        requires live { program.spent ≡ false }
+        ensures host { self.new.host ≡ self.old.host }
+        ensures done { IfOk result (λ after. IsDone self.old.host (world.turn_of self.old.host (length book.old.book.notices) self.old.services (accepted program inbound (length book.old.book.crossings))) (all_told self.old.host (accepted program inbound (length book.old.book.crossings)).1 (all_crossed (reverse crossed.items) book.old)) after self.new.services book.new) }
         ensures kept { OnErr result (book.new ≡ book.old) }
     {
-        let Some(program) = &mut self.program else {
-            return Ok(());
-        };
         let Ok(notices) = program.accept(inbound, book.crossings().len()) else {
             return Err(AllocError);
         };
-        write_crossing(alloc, book, self.host, crossed, notices)
+        self.settle(alloc, book, crossed, program, notices)
     }
 
-    /// Its program is told that its next message went out.
+    /// The program of the host is told that its next message went out. Returns the program.
     pub(crate) fn go_out(
         &mut self,
         alloc: Global,
         book: &mut Book,
         crossed: Vec<Crossing>,
-    ) -> Result<(), AllocError>
-        requires live { IfSome self.old.program (λ s. s.spent ≡ false) }
-        ensures done { (s : NcpState) → self.old.program ≡ Some s → OnOk result (self.new ≡ record { host = self.old.host; program = Some (offered s (length book.old.book.crossings)).0 }) }
-        ensures told { (s : NcpState) → self.old.program ≡ Some s → OnOk result (book.new ≡ all_told self.old.host (offered s (length book.old.book.crossings)).1 (all_crossed (reverse crossed.items) book.old)) }
+        mut program: Ncp,
+    ) -> Result<Ncp, AllocError>
+        requires live { program.spent ≡ false }
+        ensures host { self.new.host ≡ self.old.host }
+        ensures done { IfOk result (λ after. IsDone self.old.host (world.turn_of self.old.host (length book.old.book.notices) self.old.services (offered program (length book.old.book.crossings))) (all_told self.old.host (offered program (length book.old.book.crossings)).1 (all_crossed (reverse crossed.items) book.old)) after self.new.services book.new) }
         ensures kept { OnErr result (book.new ≡ book.old) }
     {
-        let Some(program) = &mut self.program else {
-            return Ok(());
-        };
         let Ok(notices) = program.offered(book.crossings().len()) else {
             return Err(AllocError);
         };
-        write_crossing(alloc, book, self.host, crossed, notices)
+        self.settle(alloc, book, crossed, program, notices)
     }
 }

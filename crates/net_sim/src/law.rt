@@ -28,9 +28,10 @@ ghost use Rattle.reset_law.specs.Stays.{IsFront, heard, said};
 ghost use Rattle.sockets.specs.Accepting.{accepted};
 ghost use Rattle.sockets.specs.Pairs.{NcpState, opening_state, pair_with};
 ghost use Rattle.sockets.specs.Peers.{AreInOrder};
-ghost use Rattle.sockets.specs.Phases.{is_ready};
+ghost use Rattle.host_pairs.specs.Phases.{is_ready};
 ghost use Rattle.sockets.specs.Requests.{served};
-ghost use Rattle.sockets.specs.Sending.{Parcel, link_for, text_for, message_for, next_in, offered};
+ghost use Rattle.host_pairs.specs.Parcels.{Parcel, link_for, text_for};
+ghost use Rattle.sockets.specs.Sending.{message_for, next_in, offered};
 ghost use Rattle.sockets.specs.declared.peer.Peer.{Peer};
 ghost use Rattle.sockets.specs.declared.request.Request.{Request};
 

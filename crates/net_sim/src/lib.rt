@@ -5,13 +5,14 @@
 //! messages, and clean resets: the book is a run of the law of resets (crate `reset_law`), so a host that is through a reset
 //! with a peer takes of it only what went out after its last clean point.
 //!
-//! The laws and the rows are the contracts of functions that do nothing. Of the code there is the [`Book`], which is
-//! written whole or not at all, and what each event does to a carrier, to the hosts and to the book. A world that holds
-//! them together is still to come.
+//! A [`World`] takes events one by one and keeps a [`Book`]; each call does what the definition of its event says, and
+//! its book is, at any time, one of which the laws here speak. The laws and the rows are the contracts of functions that
+//! do nothing.
 #![tactic(auto)]
 
 mod asking;
 mod book;
+mod calm;
 mod event;
 mod events;
 mod hosting;
@@ -22,8 +23,11 @@ mod parts;
 mod seat;
 pub mod worked;
 pub mod worked_resets;
+mod world;
 
 pub use book::{Book, Called, Told};
 pub use event::{Event, WorldFault};
+pub use host_services::{Report, Reported, TypedLine};
 pub use life::{Amount, Life};
-pub use seat::Seat;
+pub use seat::{HostServices, Seat};
+pub use world::World;

@@ -3,6 +3,7 @@
 ghost use Rattle.std.specs.Prelude.{◌≡◌, ◌++◌, if◌then◌else◌, OnOk};
 ghost use Rattle.net_sim.specs.Book as book;
 ghost use Rattle.net_sim.specs.Book.{lives_at, lives_between, lives_with, lives_on, changed_when};
+ghost use Rattle.net_sim.specs.Inside.Endings.{ends};
 
 use bit_messages::Bits;
 use leader1822::HostAddr;
@@ -73,6 +74,34 @@ pub struct Life {
     pub ended: bool,
 }
 
+/// Which lives of a host end.
+#[derive(Drop)]
+pub(crate) enum Ending {
+    /// That of an end.
+    Between {
+        /// The host.
+        host: HostAddr,
+        /// Its socket.
+        socket: u32,
+        /// The host of its partner.
+        peer: HostAddr,
+        /// The socket of its partner.
+        foreign: u32,
+    },
+    /// Those with a peer.
+    With {
+        /// The host.
+        host: HostAddr,
+        /// The peer.
+        peer: HostAddr,
+    },
+    /// All.
+    On {
+        /// The host.
+        host: HostAddr,
+    },
+}
+
 impl Life {
     /// Whether it is the life of this host's socket: one that has ended is not.
     fn is_at(&self, host: HostAddr, socket: u32) -> bool
@@ -102,29 +131,27 @@ impl Life {
         host == self.host && !self.ended
     }
 
-    /// It ends, where this is its end.
-    pub(crate) fn end_between(&mut self, host: HostAddr, socket: u32, peer: HostAddr, foreign: u32)
-        ensures { self.new ≡ changed_when (lives_between host socket peer foreign self.old) book.ended self.old }
+    /// Whether it is one of those that end.
+    fn is_of(&self, ending: &Ending) -> bool
+        ensures { result ≡ ends ending.now self.now }
     {
-        if self.is_between(host, socket, peer, foreign) {
-            self.ended = true;
+        match ending {
+            Ending::Between {
+                host,
+                socket,
+                peer,
+                foreign,
+            } => self.is_between(*host, *socket, *peer, *foreign),
+            Ending::With { host, peer } => self.is_with(*host, *peer),
+            Ending::On { host } => self.is_on(*host),
         }
     }
 
-    /// It ends, where it is a life of this host with this peer.
-    pub(crate) fn end_with(&mut self, host: HostAddr, peer: HostAddr)
-        ensures { self.new ≡ changed_when (lives_with host peer self.old) book.ended self.old }
+    /// It ends, where it is one of those that do.
+    pub(crate) fn end(&mut self, ending: &Ending)
+        ensures { self.new ≡ changed_when (ends ending.now self.old) book.ended self.old }
     {
-        if self.is_with(host, peer) {
-            self.ended = true;
-        }
-    }
-
-    /// It ends, where it is a life of this host.
-    pub(crate) fn end_on(&mut self, host: HostAddr)
-        ensures { self.new ≡ changed_when (lives_on host self.old) book.ended self.old }
-    {
-        if self.is_on(host) {
+        if self.is_of(ending) {
             self.ended = true;
         }
     }
@@ -136,7 +163,8 @@ impl Life {
         socket: u32,
         bits: &Bits,
     ) -> Result<(), AllocError>
-        ensures { OnOk result (self.new ≡ changed_when (lives_at host socket self.old) (book.carried bits.now) self.old) }
+        ensures done { OnOk result (self.new ≡ changed_when (lives_at host socket self.old) (book.carried bits.now) self.old) }
+        ensures goes_on { self.new.ended ≡ self.old.ended }
     {
         if !self.is_at(host, socket) {
             return Ok(());
@@ -159,7 +187,8 @@ impl Life {
         messages: u16,
         bits: u32,
     ) -> Result<(), AllocError>
-        ensures { OnOk result (self.new ≡ changed_when (lives_at host socket self.old) (book.granted messages bits) self.old) }
+        ensures done { OnOk result (self.new ≡ changed_when (lives_at host socket self.old) (book.granted messages bits) self.old) }
+        ensures goes_on { self.new.ended ≡ self.old.ended }
     {
         if !self.is_at(host, socket) {
             return Ok(());
@@ -175,7 +204,8 @@ impl Life {
         messages: u16,
         bits: u32,
     ) -> Result<(), AllocError>
-        ensures { OnOk result (self.new ≡ changed_when (lives_at host socket self.old) (book.returned messages bits) self.old) }
+        ensures done { OnOk result (self.new ≡ changed_when (lives_at host socket self.old) (book.returned messages bits) self.old) }
+        ensures goes_on { self.new.ended ≡ self.old.ended }
     {
         if !self.is_at(host, socket) {
             return Ok(());

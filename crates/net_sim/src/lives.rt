@@ -1,12 +1,14 @@
 //! What each thing that happens does to all lives.
 
-ghost use Rattle.std.specs.Prelude.{◌≡◌, OnOk};
+ghost use Rattle.std.specs.Prelude.{◌≡◌, false, filter, OnOk};
 ghost use Rattle.net_sim.specs.Book as book;
-ghost use Rattle.net_sim.specs.Book.{lives_at, lives_between, lives_with, lives_on, where_it, handed_to};
+ghost use Rattle.net_sim.specs.Book.{lives_at, where_it, handed_to};
+ghost use Rattle.net_sim.specs.Inside.Endings.{ends};
 ghost use Rattle.net_sim.specs.Inside.Lives as all;
+ghost use Rattle.net_sim.specs.Inside.Places.{places, is_open_at};
 
-use crate::book::Told;
-use crate::life::{Amount, Life};
+use crate::book::{Page, Told};
+use crate::life::{Amount, Ending, Life};
 use bit_messages::Bits;
 use leader1822::{Crossing, HostAddr};
 use sockets::{Notice, Request};
@@ -14,54 +16,50 @@ use std::alloc::{AllocError, Global};
 use std::marker::Model;
 
 /// The lives, and what was handed over to be sent in each.
+///
+/// Nothing changes a life that has ended. So the places of those that are open are known, and only these are looked at.
 #[derive(Drop)]
 pub(crate) struct Lives {
     lives: Vec<Life>,
     handed: Vec<Bits>,
+    open_at: Vec<usize>,
     alloc: Global,
 }
 
 impl Model for Lives {
-    ghost use Rattle.net_sim.specs.Inside.Lives.{LivesState};
+    ghost use Rattle.net_sim.specs.Inside.Lives.{LivesState, AreKnown};
 
     ghost Value = { LivesState };
 
     ghost view = { λ l. record { lives = l.lives.items; handed = l.handed.items } };
+
+    ghost invariant = { λ l. AreKnown l.open_at.items l.lives.items };
 }
 
-/// The life of an end ends.
-fn end_between(lives: &mut [Life], host: HostAddr, socket: u32, peer: HostAddr, foreign: u32)
-    ensures { lives.new ≡ where_it (lives_between host socket peer foreign) book.ended lives.old }
+/// Lives end. These are the places of the open ones.
+fn end(lives: &mut [Life], open_at: &[usize], ending: &Ending)
+    requires { open_at.now ≡ places lives.old }
+    ensures { lives.new ≡ where_it (ends ending.now) book.ended lives.old }
 {
-    for life in lives.iter_mut() {
-        life.end_between(host, socket, peer, foreign);
-    }
-}
-
-/// All lives of a host with a peer end.
-fn end_with(lives: &mut [Life], host: HostAddr, peer: HostAddr)
-    ensures { lives.new ≡ where_it (lives_with host peer) book.ended lives.old }
-{
-    for life in lives.iter_mut() {
-        life.end_with(host, peer);
-    }
-}
-
-/// All lives of a host end.
-fn end_on(lives: &mut [Life], host: HostAddr)
-    ensures { lives.new ≡ where_it (lives_on host) book.ended lives.old }
-{
-    for life in lives.iter_mut() {
-        life.end_on(host);
+    for at in open_at {
+        lives[*at].end(ending);
     }
 }
 
 /// A message was sent or taken in the life of a socket.
-fn carry(lives: &mut [Life], host: HostAddr, socket: u32, bits: &Bits) -> Result<(), AllocError>
-    ensures { OnOk result (lives.new ≡ where_it (lives_at host socket) (book.carried bits.now) lives.old) }
+fn carry(
+    lives: &mut [Life],
+    open_at: &[usize],
+    host: HostAddr,
+    socket: u32,
+    bits: &Bits,
+) -> Result<(), AllocError>
+    requires { open_at.now ≡ places lives.old }
+    ensures done { OnOk result (lives.new ≡ where_it (lives_at host socket) (book.carried bits.now) lives.old) }
+    ensures kept { places lives.new ≡ places lives.old }
 {
-    for life in lives.iter_mut() {
-        life.carry_at(host, socket, bits)?;
+    for at in open_at {
+        lives[*at].carry_at(host, socket, bits)?;
     }
     Ok(())
 }
@@ -69,15 +67,18 @@ fn carry(lives: &mut [Life], host: HostAddr, socket: u32, bits: &Bits) -> Result
 /// So much was granted in the life of a socket.
 fn grant(
     lives: &mut [Life],
+    open_at: &[usize],
     host: HostAddr,
     socket: u32,
     messages: u16,
     bits: u32,
 ) -> Result<(), AllocError>
-    ensures { OnOk result (lives.new ≡ where_it (lives_at host socket) (book.granted messages bits) lives.old) }
+    requires { open_at.now ≡ places lives.old }
+    ensures done { OnOk result (lives.new ≡ where_it (lives_at host socket) (book.granted messages bits) lives.old) }
+    ensures kept { places lives.new ≡ places lives.old }
 {
-    for life in lives.iter_mut() {
-        life.grant_at(host, socket, messages, bits)?;
+    for at in open_at {
+        lives[*at].grant_at(host, socket, messages, bits)?;
     }
     Ok(())
 }
@@ -85,15 +86,18 @@ fn grant(
 /// So much was returned in the life of a socket.
 fn give_back(
     lives: &mut [Life],
+    open_at: &[usize],
     host: HostAddr,
     socket: u32,
     messages: u16,
     bits: u32,
 ) -> Result<(), AllocError>
-    ensures { OnOk result (lives.new ≡ where_it (lives_at host socket) (book.returned messages bits) lives.old) }
+    requires { open_at.now ≡ places lives.old }
+    ensures done { OnOk result (lives.new ≡ where_it (lives_at host socket) (book.returned messages bits) lives.old) }
+    ensures kept { places lives.new ≡ places lives.old }
 {
-    for life in lives.iter_mut() {
-        life.give_back_at(host, socket, messages, bits)?;
+    for at in open_at {
+        lives[*at].give_back_at(host, socket, messages, bits)?;
     }
     Ok(())
 }
@@ -101,20 +105,38 @@ fn give_back(
 /// Bits were handed over to be sent in the life of a socket.
 fn hand(
     lives: &[Life],
+    open_at: &[usize],
     host: HostAddr,
     socket: u32,
     bits: &Bits,
     handed: &mut [Bits],
 ) -> Result<(), AllocError>
+    requires { open_at.now ≡ places lives.now }
     ensures { OnOk result (handed.new ≡ handed_to (lives_at host socket) bits.now lives.now handed.old) }
 {
-    for (at, all) in handed.iter_mut().enumerate() {
-        let Some(life) = lives.get(at) else {
-            return Ok(());
-        };
-        life.hand_at(host, socket, bits, all)?;
+    for at in open_at {
+        if *at < handed.len() {
+            lives[*at].hand_at(host, socket, bits, &mut handed[*at])?;
+        }
     }
     Ok(())
+}
+
+/// Whether there is an open life at this place.
+fn is_open(lives: &[Life], at: usize) -> bool
+    ensures { result ≡ is_open_at lives.now at }
+{
+    let Some(life) = lives.get(at) else {
+        return false;
+    };
+    !life.ended
+}
+
+/// Forgets the places of lives that have ended.
+fn forget_ended(open_at: &mut Vec<usize>, lives: &[Life])
+    ensures { open_at.new.items ≡ filter (is_open_at lives.now) open_at.old.items }
+{
+    open_at.retain(|at| is_open(lives, *at));
 }
 
 impl Lives {
@@ -125,16 +147,29 @@ impl Lives {
         Lives {
             lives: Vec::new(alloc),
             handed: Vec::new(alloc),
+            open_at: Vec::new(alloc),
             alloc,
         }
     }
 
+    /// Lives end.
+    fn end(&mut self, ending: &Ending)
+        ensures { self.new ≡ all.ended ending.now self.old }
+    {
+        end(&mut self.lives, &self.open_at, ending);
+        forget_ended(&mut self.open_at, &self.lives);
+    }
+
     /// A life begins.
     fn begin(&mut self, life: Life) -> Result<(), AllocError>
+        requires begins { life.ended ≡ false }
         ensures { OnOk result (self.new ≡ all.begun life self.old) }
     {
-        self.lives.push(life)?;
+        self.open_at.reserve(1)?;
         self.handed.push(Bits::new(self.alloc))?;
+        let at = self.lives.len();
+        self.lives.push(life)?;
+        self.open_at.push_reserved(at);
         Ok(())
     }
 
@@ -143,7 +178,7 @@ impl Lives {
         ensures { self.new ≡ all.crossed crossing.now self.old }
     {
         match crossing {
-            Crossing::Down(host) => end_on(&mut self.lives, *host),
+            Crossing::Down(host) => self.end(&Ending::On { host: *host }),
             Crossing::Out(_) | Crossing::In(_) | Crossing::Answer(..) | Crossing::Up(_) => {}
         }
     }
@@ -177,21 +212,33 @@ impl Lives {
                 peer,
                 foreign,
             } => {
-                end_between(&mut self.lives, host, *socket, *peer, *foreign);
+                self.end(&Ending::Between {
+                    host,
+                    socket: *socket,
+                    peer: *peer,
+                    foreign: *foreign,
+                });
                 Ok(())
             }
             Notice::PairReset { peer } => {
-                end_with(&mut self.lives, host, *peer);
+                self.end(&Ending::With { host, peer: *peer });
                 Ok(())
             }
             Notice::Sent { socket, bits } | Notice::Arrived { socket, bits } => {
-                carry(&mut self.lives, host, *socket, bits)
+                carry(&mut self.lives, &self.open_at, host, *socket, bits)
             }
             Notice::Returned {
                 socket,
                 messages,
                 bits,
-            } => give_back(&mut self.lives, host, *socket, *messages, *bits),
+            } => give_back(
+                &mut self.lives,
+                &self.open_at,
+                host,
+                *socket,
+                *messages,
+                *bits,
+            ),
             Notice::Ready { .. }
             | Notice::ContactFailed { .. }
             | Notice::Interrupt { .. }
@@ -209,9 +256,23 @@ impl Lives {
                 socket,
                 messages,
                 bits,
-            } => grant(&mut self.lives, host, *socket, *messages, *bits),
+            } => grant(
+                &mut self.lives,
+                &self.open_at,
+                host,
+                *socket,
+                *messages,
+                *bits,
+            ),
             Request::Send { socket, bits } => {
-                hand(&self.lives, host, *socket, bits, &mut self.handed)
+                hand(
+                    &self.lives,
+                    &self.open_at,
+                    host,
+                    *socket,
+                    bits,
+                    &mut self.handed,
+                )
             }
             Request::Contact { .. }
             | Request::Listen { .. }
@@ -243,20 +304,30 @@ impl Lives {
         Ok(())
     }
 
-    /// All of this happened, in this order: crossings, what a user asked for, and what users were told.
-    pub(crate) fn follow(
-        &mut self,
-        crossings: &[Crossing],
-        asked: &Option<(HostAddr, Request)>,
-        told: &[Told],
-    ) -> Result<(), AllocError>
-        ensures { OnOk result (self.new ≡ all.followed crossings.now asked.now told.now self.old) }
+    /// The services of a host asked for all of this, one after another, and weren't refused.
+    fn ask_all(&mut self, host: HostAddr, requests: &[Request]) -> Result<(), AllocError>
+        ensures { OnOk result (self.new ≡ all.all_asked host requests.now self.old) }
     {
-        self.cross_all(crossings);
-        if let Some((host, request)) = asked {
+        for request in requests {
+            self.ask(host, request)?;
+        }
+        Ok(())
+    }
+
+    /// All of this happened, in this order: crossings, what a user asked for, what users were told, and what the services of
+    /// a host asked for then.
+    pub(crate) fn follow(&mut self, page: &Page) -> Result<(), AllocError>
+        ensures { OnOk result (self.new ≡ all.followed page.now.crossings.items page.now.asked page.now.told.items page.now.by page.now.ran.items self.old) }
+    {
+        self.cross_all(&page.crossings);
+        if let Some((host, request)) = &page.asked {
             self.ask(*host, request)?;
         }
-        self.tell_all(told)
+        self.tell_all(&page.told)?;
+        match page.by {
+            Some(host) => self.ask_all(host, &page.ran),
+            None => Ok(()),
+        }
     }
 
     /// The lives.

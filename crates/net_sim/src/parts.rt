@@ -1,22 +1,27 @@
 //! What each event does to the parts of a world.
 
-ghost use Rattle.std.specs.Prelude.{◌≡◌, ◌<◌, None, Some, Err, IfErr, OnOk, MatchResult, is_some, length, reverse, true};
+ghost use Rattle.std.specs.Prelude.{◌≡◌, ◌<◌, ℕ, None, Some, Err, IfErr, OnOk, MatchResult, is_some, length, reverse, true};
 ghost use Rattle.leader1822.specs.Host.{Host};
+ghost use Rattle.host_services.specs.Services.{ServicesState, opening_desk};
+ghost use Rattle.host_services.specs.Turns.{server_begun, user_begun};
+ghost use Rattle.host_services.specs.TypedLines.{line_bits};
 ghost use Rattle.net_sim.specs.Book.{all_told, all_crossed, asked};
-ghost use Rattle.net_sim.specs.Inside.Parts.{Sits, IsAway, IsOnce, AreLive, hosts_of};
+ghost use Rattle.net_sim.specs.Inside.Parts.{Sits, Serves, AreDone, IsAway, IsOnce, AreLive, hosts_of};
 ghost use Rattle.net_sim.specs.World as world;
-ghost use Rattle.net_sim.specs.World.{seated};
+ghost use Rattle.net_sim.specs.World.{turn_of};
 ghost use Rattle.sockets.specs.Accepting.{accepted};
 ghost use Rattle.sockets.specs.Pairs.{NcpState};
 ghost use Rattle.sockets.specs.Requests.{refusal, served, served_notices};
 ghost use Rattle.sockets.specs.Sending as sending;
 ghost use Rattle.sockets.specs.declared.fault.NcpFault.{NcpFault};
 ghost use Rattle.sockets.specs.declared.fault.NcpFault.TheVariants as problem;
+ghost use Rattle.sockets.specs.declared.request.Request.TheVariants as requests;
 
 use crate::WorldFault;
 use crate::book::Book;
 use crate::hosting::{copies, place, write_changes};
-use crate::seat::{Seat, turn_all};
+use crate::seat::{HostServices, Seat, empty_all, turn_all};
+use host_services::TypedLine;
 use leader1822::{CarrierFault, Crossing, HostAddr, HostMessage, Inbound};
 use sockets::{NcpFault, Request};
 use std::alloc::Global;
@@ -39,23 +44,28 @@ pub(crate) fn up_at(seats: &[Seat], host: HostAddr) -> Result<usize, WorldFault>
 pub(crate) fn hear(
     alloc: Global,
     seats: &mut [Seat],
+    services: &mut [HostServices],
     at: usize,
     book: &mut Book,
     news: &[Crossing],
     inbound: Inbound,
 ) -> Result<(), WorldFault>
     requires within { at < length seats.old }
+    requires services { at < length services.old }
     requires live { AreLive seats.old }
-    ensures done { (h : Host) (s : NcpState) → Sits h at s seats.old → OnOk result (seats.new ≡ seated h (Some (accepted s inbound (length book.old.book.crossings)).0) seats.old) }
-    ensures told { (h : Host) (s : NcpState) → Sits h at s seats.old → OnOk result (book.new ≡ all_told h (accepted s inbound (length book.old.book.crossings)).1 (all_crossed (reverse news.now) book.old)) }
+    ensures done { (h : Host) (s : NcpState) (x : ServicesState) → Sits h at s seats.old → Serves h at x services.old → OnOk result (AreDone h (turn_of h (length book.old.book.notices) x (accepted s inbound (length book.old.book.crossings))) seats.old services.old (all_told h (accepted s inbound (length book.old.book.crossings)).1 (all_crossed (reverse news.now) book.old)) seats.new services.new book.new) }
     ensures kept { IfErr result (λ f. (f ≡ world.Program problem.OutOfMemory) × (book.new ≡ book.old)) }
 {
     let Ok(crossed) = copies(alloc, news) else {
         return Err(WorldFault::Program(NcpFault::OutOfMemory));
     };
-    let Ok(()) = seats[at].hear(alloc, book, crossed, inbound) else {
+    let Some(program) = seats[at].program.take() else {
+        return Ok(());
+    };
+    let Ok(program) = services[at].hear(alloc, book, crossed, program, inbound) else {
         return Err(WorldFault::Program(NcpFault::OutOfMemory));
     };
+    seats[at].program = Some(program);
     Ok(())
 }
 
@@ -78,34 +88,41 @@ pub(crate) fn next_out(seats: &[Seat], at: usize) -> Result<Option<HostMessage>,
 pub(crate) fn go_out(
     alloc: Global,
     seats: &mut [Seat],
+    services: &mut [HostServices],
     at: usize,
     book: &mut Book,
     news: &[Crossing],
 ) -> Result<(), WorldFault>
     requires within { at < length seats.old }
+    requires services { at < length services.old }
     requires live { AreLive seats.old }
-    ensures done { (h : Host) (s : NcpState) → Sits h at s seats.old → OnOk result (seats.new ≡ seated h (Some (sending.offered s (length book.old.book.crossings)).0) seats.old) }
-    ensures told { (h : Host) (s : NcpState) → Sits h at s seats.old → OnOk result (book.new ≡ all_told h (sending.offered s (length book.old.book.crossings)).1 (all_crossed (reverse news.now) book.old)) }
+    ensures done { (h : Host) (s : NcpState) (x : ServicesState) → Sits h at s seats.old → Serves h at x services.old → OnOk result (AreDone h (turn_of h (length book.old.book.notices) x (sending.offered s (length book.old.book.crossings))) seats.old services.old (all_told h (sending.offered s (length book.old.book.crossings)).1 (all_crossed (reverse news.now) book.old)) seats.new services.new book.new) }
     ensures kept { IfErr result (λ f. (f ≡ world.Program problem.OutOfMemory) × (book.new ≡ book.old)) }
 {
     let Ok(crossed) = copies(alloc, news) else {
         return Err(WorldFault::Program(NcpFault::OutOfMemory));
     };
-    let Ok(()) = seats[at].go_out(alloc, book, crossed) else {
+    let Some(program) = seats[at].program.take() else {
+        return Ok(());
+    };
+    let Ok(program) = services[at].go_out(alloc, book, crossed, program) else {
         return Err(WorldFault::Program(NcpFault::OutOfMemory));
     };
+    seats[at].program = Some(program);
     Ok(())
 }
 
 /// Hosts stop and start. The last of the log, from a place on, has just crossed.
-#[tactic(auto, using(crate::proofs::InOrder::turned_reversed, crate::proofs::InOrder::written_alone))]
+#[tactic(auto, using(crate::proofs::InOrder::turned_reversed, crate::proofs::InOrder::emptied_reversed, crate::proofs::InOrder::written_alone))]
 pub(crate) fn change(
     alloc: Global,
     seats: &mut [Seat],
+    services: &mut [HostServices],
     book: &mut Book,
     news: &[Crossing],
 ) -> Result<(), WorldFault>
     ensures done { OnOk result (seats.new ≡ world.all_turned (reverse news.now) seats.old) }
+    ensures services { OnOk result (services.new ≡ world.all_emptied (reverse news.now) services.old) }
     ensures told { OnOk result (book.new ≡ all_crossed (reverse news.now) book.old) }
     ensures kept { IfErr result (λ f. (f ≡ world.Program problem.OutOfMemory) × (book.new ≡ book.old)) }
 {
@@ -116,6 +133,7 @@ pub(crate) fn change(
         return Err(WorldFault::Program(NcpFault::OutOfMemory));
     };
     turn_all(alloc, seats, news);
+    empty_all(alloc, services, news);
     Ok(())
 }
 
@@ -123,17 +141,117 @@ pub(crate) fn change(
 pub(crate) fn ask_at(
     alloc: Global,
     seats: &mut [Seat],
+    services: &mut [HostServices],
     at: usize,
     book: &mut Book,
-    request: Request,
+    request: &Request,
 ) -> Result<(), WorldFault>
     requires within { at < length seats.old }
+    requires services { at < length services.old }
     requires live { AreLive seats.old }
-    ensures refused { (h : Host) (s : NcpState) (f : NcpFault) → Sits h at s seats.old → refusal s request ≡ Some f → (result ≡ Err (world.Program f)) × ((seats.new ≡ seats.old) × (book.new ≡ book.old)) }
-    ensures served { (h : Host) (s : NcpState) → Sits h at s seats.old → refusal s request ≡ None → MatchResult result (λ _. (seats.new ≡ seated h (Some (served s request)) seats.old) × (book.new ≡ all_told h (served_notices s request) (asked h request book.old))) (λ f. (f ≡ world.Program problem.OutOfMemory) × (book.new ≡ book.old)) }
+    ensures refused { (h : Host) (s : NcpState) (f : NcpFault) → Sits h at s seats.old → refusal s request.now ≡ Some f → (result ≡ Err (world.Program f)) × ((seats.new ≡ seats.old) × ((services.new ≡ services.old) × (book.new ≡ book.old))) }
+    ensures served { (h : Host) (s : NcpState) (x : ServicesState) → Sits h at s seats.old → Serves h at x services.old → refusal s request.now ≡ None → MatchResult result (λ _. AreDone h (turn_of h (length book.old.book.notices) x (served s request.now, served_notices s request.now)) seats.old services.old (all_told h (served_notices s request.now) (asked h request.now book.old)) seats.new services.new book.new) (λ f. (f ≡ world.Program problem.OutOfMemory) × (book.new ≡ book.old)) }
 {
-    match seats[at].ask(alloc, book, request) {
-        Ok(()) => Ok(()),
-        Err(fault) => Err(WorldFault::Program(fault)),
+    let Some(program) = &seats[at].program else {
+        return Ok(());
+    };
+    if let Some(fault) = program.refusal(request) {
+        return Err(WorldFault::Program(fault));
     }
+    let Some(program) = seats[at].program.take() else {
+        return Ok(());
+    };
+    let Ok(program) = services[at].serve(alloc, book, program, request) else {
+        return Err(WorldFault::Program(NcpFault::OutOfMemory));
+    };
+    seats[at].program = Some(program);
+    Ok(())
+}
+
+/// Why a host's program would refuse to send a line.
+#[tactic(auto, unfolding(sockets::specs::Requests::refusal))]
+fn line_refusal(seat: &Seat, socket: u32, line: &TypedLine) -> Option<NcpFault>
+    ensures { (s : NcpState) → seat.now.program ≡ Some s → result ≡ refusal s (requests.Send socket (line_bits line.now)) }
+{
+    let Some(program) = &seat.program else {
+        return None;
+    };
+    program.send_refusal(socket, line.bits())
+}
+
+/// A line is typed at a host, at the terminal that came last.
+pub(crate) fn type_at(
+    alloc: Global,
+    seats: &mut [Seat],
+    services: &mut [HostServices],
+    at: usize,
+    book: &mut Book,
+    line: &TypedLine,
+) -> Result<(), WorldFault>
+    requires within { at < length seats.old }
+    requires services { at < length services.old }
+    requires live { AreLive seats.old }
+    ensures without { (h : Host) (x : ServicesState) → Serves h at x services.old → x.typing ≡ None → (result ≡ Err (world.Program problem.NotOpen)) × ((seats.new ≡ seats.old) × ((services.new ≡ services.old) × (book.new ≡ book.old))) }
+    ensures refused { (h : Host) (s : NcpState) (x : ServicesState) (socket : ℕ) (f : NcpFault) → Sits h at s seats.old → Serves h at x services.old → x.typing ≡ Some socket → refusal s (requests.Send socket (line_bits line.now)) ≡ Some f → (result ≡ Err (world.Program f)) × ((seats.new ≡ seats.old) × ((services.new ≡ services.old) × (book.new ≡ book.old))) }
+    ensures served { (h : Host) (s : NcpState) (x : ServicesState) (socket : ℕ) → Sits h at s seats.old → Serves h at x services.old → x.typing ≡ Some socket → refusal s (requests.Send socket (line_bits line.now)) ≡ None → MatchResult result (λ _. AreDone h (turn_of h (length book.old.book.notices) x (served s (requests.Send socket (line_bits line.now)), served_notices s (requests.Send socket (line_bits line.now)))) seats.old services.old (all_told h (served_notices s (requests.Send socket (line_bits line.now))) (asked h (requests.Send socket (line_bits line.now)) book.old)) seats.new services.new book.new) (λ f. (f ≡ world.Program problem.OutOfMemory) × (book.new ≡ book.old)) }
+{
+    let Some(socket) = services[at].services.typing() else {
+        return Err(WorldFault::Program(NcpFault::NotOpen));
+    };
+    let Ok(request) = line.request(socket.number()) else {
+        let refusal = line_refusal(&seats[at], socket.number(), line);
+        return Err(WorldFault::Program(refusal.unwrap_or(NcpFault::OutOfMemory)));
+    };
+    ask_at(alloc, seats, services, at, book, &request)
+}
+
+/// A server begins at a host.
+pub(crate) fn server_at(
+    alloc: Global,
+    seats: &mut [Seat],
+    services: &mut [HostServices],
+    at: usize,
+    book: &mut Book,
+    listen: u32,
+    base: u32,
+) -> Result<(), WorldFault>
+    requires within { at < length seats.old }
+    requires services { at < length services.old }
+    ensures done { (h : Host) (s : NcpState) (x : ServicesState) → Sits h at s seats.old → Serves h at x services.old → OnOk result (AreDone h (server_begun listen base x (opening_desk h (length book.old.book.notices) s)) seats.old services.old book.old seats.new services.new book.new) }
+    ensures kept { IfErr result (λ f. (f ≡ world.Program problem.OutOfMemory) × (book.new ≡ book.old)) }
+{
+    let Some(program) = seats[at].program.take() else {
+        return Ok(());
+    };
+    let Ok(program) = services[at].begin_server(alloc, book, program, listen, base) else {
+        return Err(WorldFault::Program(NcpFault::OutOfMemory));
+    };
+    seats[at].program = Some(program);
+    Ok(())
+}
+
+/// A user begins at a host.
+pub(crate) fn user_at(
+    alloc: Global,
+    seats: &mut [Seat],
+    services: &mut [HostServices],
+    at: usize,
+    book: &mut Book,
+    peer: HostAddr,
+    listen: u32,
+    own: u32,
+) -> Result<(), WorldFault>
+    requires within { at < length seats.old }
+    requires services { at < length services.old }
+    ensures done { (h : Host) (s : NcpState) (x : ServicesState) → Sits h at s seats.old → Serves h at x services.old → OnOk result (AreDone h (user_begun peer listen own x (opening_desk h (length book.old.book.notices) s)) seats.old services.old book.old seats.new services.new book.new) }
+    ensures kept { IfErr result (λ f. (f ≡ world.Program problem.OutOfMemory) × (book.new ≡ book.old)) }
+{
+    let Some(program) = seats[at].program.take() else {
+        return Ok(());
+    };
+    let Ok(program) = services[at].begin_user(alloc, book, program, peer, listen, own) else {
+        return Err(WorldFault::Program(NcpFault::OutOfMemory));
+    };
+    seats[at].program = Some(program);
+    Ok(())
 }

@@ -2,10 +2,12 @@
 
 ghost use Rattle.std.specs.Prelude.{◌≡◌, None, Some, IfOk};
 ghost use Rattle.leader1822.specs.Host.{same_host};
-ghost use Rattle.net_sim.specs.Inside.Seats.{turned_in_order};
+ghost use Rattle.host_services.specs.Services.{no_services};
+ghost use Rattle.net_sim.specs.Inside.Seats.{emptied_in_order, turned_in_order};
 ghost use Rattle.net_sim.specs.World as world;
 ghost use Rattle.sockets.specs.Pairs.{opening_state};
 
+use host_services::Services;
 use leader1822::{Crossing, HostAddr};
 use sockets::Ncp;
 use std::alloc::{AllocError, Global};
@@ -35,6 +37,63 @@ impl Seat {
     {
         if host == self.host {
             self.program = Some(Ncp::new(alloc, host));
+        }
+    }
+}
+
+/// A host of the network, and what runs there beside its network control program.
+#[derive(Drop)]
+pub struct HostServices {
+    /// The host.
+    pub host: HostAddr,
+    /// Its services; none while it is down.
+    pub services: Services,
+}
+
+impl HostServices {
+    /// Its host stops, where this is the host: it loses its services.
+    fn stop(&mut self, alloc: Global, host: HostAddr)
+        ensures { self.new ≡ world.with_services (same_host host self.old.host) no_services self.old }
+    {
+        if host == self.host {
+            self.services = Services::new(alloc);
+        }
+    }
+}
+
+/// Nothing runs on any of the hosts.
+pub(crate) fn opening_services(
+    alloc: Global,
+    hosts: &[HostAddr],
+) -> Result<Vec<HostServices>, AllocError>
+    ensures { IfOk result (λ all. all.items ≡ world.opening_services hosts.now) }
+{
+    let mut all = Vec::new(alloc);
+    for host in hosts {
+        all.push(HostServices {
+            host: *host,
+            services: Services::new(alloc),
+        })?;
+    }
+    Ok(all)
+}
+
+/// A host loses its services.
+fn empty(alloc: Global, all: &mut [HostServices], host: HostAddr)
+    ensures { all.new ≡ world.serviced host no_services all.old }
+{
+    for services in all.iter_mut() {
+        services.stop(alloc, host);
+    }
+}
+
+/// Hosts that stop lose their services, crossing by crossing.
+pub(crate) fn empty_all(alloc: Global, all: &mut [HostServices], crossings: &[Crossing])
+    ensures { all.new ≡ emptied_in_order crossings.now all.old }
+{
+    for crossing in crossings {
+        if let Crossing::Down(host) = crossing {
+            empty(alloc, all, *host);
         }
     }
 }

@@ -15,7 +15,7 @@ ghost use Rattle.sockets.specs.Pairs.{opening_state};
 ghost use Rattle.sockets.specs.Requests.{served};
 ghost use Rattle.sockets.specs.Worked.{first, second, third, on_link};
 ghost use Rattle.sockets.specs.declared.fault.NcpFault.TheVariants as problem;
-ghost use Rattle.sockets.specs.declared.notice.Notice.TheVariants as notice;
+ghost use Rattle.host_pairs.specs.declared.notice.Notice.TheVariants as notice;
 ghost use Rattle.sockets.specs.declared.request.Request.TheVariants as request;
 
 /// What becomes of a life.

@@ -1,4 +1,4 @@
-//! The worked rows of packets, reassembly and message numbers.
+//! The worked rows of packets, reassembly, message numbers, frames, lines, distances and route tables.
 //!
 //! `message_tests` says why there are such rows.
 //!
@@ -8,10 +8,16 @@
 #![tactic(auto)]
 
 #[cfg(test)]
-mod flow_tables;
+mod lines;
 #[cfg(test)]
 mod numbers;
 #[cfg(test)]
 mod packets;
 #[cfg(test)]
+mod routes;
+#[cfg(test)]
+mod settled;
+#[cfg(test)]
 mod values;
+#[cfg(test)]
+mod vectors;

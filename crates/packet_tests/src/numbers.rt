@@ -1,26 +1,12 @@
 //! Worked examples of the numbers of a flow's messages.
 
-use leader1822::{Flow, HostAddr, ImpNumber, Link};
+use crate::values::{flow, from_imp_3, from_imp_4, is_told};
+use leader1822::{Flow, HostAddr, ImpNumber};
 use link_table::numbers::{is_new, next, oldest};
 use link_table::{Age, DestFlows, FlowFault, Number, Release, SourceFlows, Standing};
-use std::alloc::AllocError;
-use std::process::Abort;
+use std::alloc::{AllocError, Global};
 
 const BLOCKED: Result<Number, FlowFault> = Err(FlowFault::Blocked);
-
-/// The flow from host 0 at this IMP to host 0 at IMP 2, on this link.
-fn flow_on(rt: &impl Abort, imp: u8, link: u8) -> Flow {
-    Flow {
-        source: HostAddr::new(0, imp).expect(rt, "a host's address"),
-        destination: HostAddr::new(0, 2).expect(rt, "a host's address"),
-        link: Link(link),
-    }
-}
-
-/// The flow from host 0 at this IMP to host 0 at IMP 2, on link 5.
-fn flow_from(rt: &impl Abort, imp: u8) -> Flow {
-    flow_on(rt, imp, 5)
-}
 
 // ---- the window
 
@@ -32,7 +18,7 @@ fn judged(flows: &mut DestFlows, flow: &Flow, last: Number, number: Number) -> O
 
 #[test]
 fn only_the_window_ahead_of_the_last_number_is_new(rt: HostRuntime) {
-    let flow = flow_from(&rt, 1);
+    let flow = flow(5);
     let mut flows = DestFlows::new(rt.alloc());
     let ages = [
         judged(&mut flows, &flow, 5, 5),
@@ -60,7 +46,7 @@ fn first_old(flows: &DestFlows, flow: &Flow) -> Option<Number> {
 
 #[test]
 fn every_number_is_new_where_none_is_kept(rt: HostRuntime) {
-    let flow = flow_from(&rt, 1);
+    let flow = flow(5);
     let flows = DestFlows::new(rt.alloc());
     assert_eq!(rt; first_old(&flows, &flow), None);
 }
@@ -88,147 +74,197 @@ fn numbers_go_round(rt: HostRuntime) {
 
 // ---- flows at their source
 
-/// What a source knows of a flow: whether it is idle, its outstanding number and its last one.
-fn known(flows: &SourceFlows, flow: &Flow) -> (bool, Option<Number>, Option<Number>) {
-    (
-        flows.is_idle(flow),
-        flows.outstanding(flow),
-        flows.last(flow),
-    )
+/// The flows of the rows at their source, all to 0/2.
+#[derive(Clone, Copy)]
+enum Way {
+    /// From 0/1, on link 5.
+    One,
+    /// From 0/1, on link 6.
+    Other,
+    /// From 0/3, on link 5.
+    Aside,
 }
+
+/// A row's flow.
+fn flow_of(way: Way) -> Flow {
+    match way {
+        Way::One => flow(5),
+        Way::Other => flow(6),
+        Way::Aside => from_imp_3(),
+    }
+}
+
+/// Something done to flows at their source, or asked of them.
+#[derive(Clone, Copy)]
+enum Act {
+    /// A message begins.
+    Begin,
+    /// An answer comes with this number.
+    Answer(Number),
+    /// The outstanding message is given up.
+    GiveUp,
+    /// The host takes an answer.
+    Handed,
+    /// What the source knows is asked.
+    Know,
+}
+
+/// What came of it.
+#[derive(Clone, Copy, PartialEq)]
+enum Came {
+    /// The message has this number.
+    Began(Number),
+    /// It is refused.
+    Refused(FlowFault),
+    /// What becomes of an answer.
+    Answered(Release),
+    /// It is done.
+    Done,
+    /// Whether the flow is idle, its outstanding number and its last one.
+    Known(bool, Option<Number>, Option<Number>),
+}
+
+/// What comes of an act.
+fn acted(flows: &mut SourceFlows, act: Act, flow: &Flow) -> Came {
+    match act {
+        Act::Begin => match flows.begin(flow) {
+            Ok(number) => Came::Began(number),
+            Err(fault) => Came::Refused(fault),
+        },
+        Act::Answer(number) => Came::Answered(flows.answer(flow, number)),
+        Act::GiveUp => {
+            flows.give_up(flow);
+            Came::Done
+        }
+        Act::Handed => {
+            flows.handed(flow);
+            Came::Done
+        }
+        Act::Know => Came::Known(
+            flows.is_idle(flow),
+            flows.outstanding(flow),
+            flows.last(flow),
+        ),
+    }
+}
+
+/// An act, its flow, and what has to come of it.
+type Row = (Act, Way, Came);
+
+/// How many acts give what stands beside them, from the first on, where no message was begun before.
+fn fitting(alloc: Global, rows: &[Row]) -> usize {
+    let mut flows = SourceFlows::new(alloc);
+    for (place, row) in rows.iter().enumerate() {
+        if acted(&mut flows, row.0, &flow_of(row.1)) != row.2 {
+            return place;
+        }
+    }
+    rows.len()
+}
+
+/// A message is answered, and its host takes the answer.
+const ANSWERED: [Row; 13] = [
+    (Act::Know, Way::One, Came::Known(true, None, None)),
+    (Act::Begin, Way::One, Came::Began(0)),
+    (Act::Begin, Way::One, Came::Refused(FlowFault::Blocked)),
+    (Act::Answer(1), Way::One, Came::Answered(Release::Stale)),
+    (Act::Know, Way::One, Came::Known(false, Some(0), Some(0))),
+    (Act::Answer(0), Way::One, Came::Answered(Release::Freed)),
+    (Act::Know, Way::One, Came::Known(false, None, Some(0))),
+    (Act::Begin, Way::One, Came::Refused(FlowFault::Blocked)),
+    (Act::Answer(0), Way::One, Came::Answered(Release::Stale)),
+    (Act::Handed, Way::One, Came::Done),
+    (Act::Know, Way::One, Came::Known(true, None, Some(0))),
+    (Act::Begin, Way::One, Came::Began(1)),
+    (Act::Know, Way::One, Came::Known(false, Some(1), Some(1))),
+];
 
 #[test]
 fn a_flow_is_blocked_until_its_host_has_the_answer(rt: HostRuntime) {
-    let flow = flow_from(&rt, 1);
-    let mut flows = SourceFlows::new(rt.alloc());
-    let before = known(&flows, &flow);
-    let first = (flows.begin(&flow), flows.begin(&flow));
-    let stale = (flows.answer(&flow, 1), known(&flows, &flow));
-    let freed = (flows.answer(&flow, 0), known(&flows, &flow));
-    let blocked = (flows.begin(&flow), flows.answer(&flow, 0));
-    flows.handed(&flow);
-    let second = (known(&flows, &flow), flows.begin(&flow), flows.last(&flow));
-    assert_eq!(rt;
-        (before, first, stale, freed, blocked, second),
-        (
-            (true, None, None),
-            (Ok(0), BLOCKED),
-            (Release::Stale, (false, Some(0), Some(0))),
-            (Release::Freed, (false, None, Some(0))),
-            (BLOCKED, Release::Stale),
-            ((true, None, Some(0)), Ok(1), Some(1)),
-        )
-    );
+    assert_eq!(rt; fitting(rt.alloc(), &ANSWERED), 13);
 }
+
+/// A message is given up, and its answer comes late.
+const GIVEN_UP: [Row; 8] = [
+    (Act::Begin, Way::One, Came::Began(0)),
+    (Act::GiveUp, Way::One, Came::Done),
+    (Act::Know, Way::One, Came::Known(false, None, Some(0))),
+    (Act::Begin, Way::One, Came::Refused(FlowFault::Blocked)),
+    (Act::Answer(0), Way::One, Came::Answered(Release::Stale)),
+    (Act::Handed, Way::One, Came::Done),
+    (Act::Know, Way::One, Came::Known(true, None, Some(0))),
+    (Act::Begin, Way::One, Came::Began(1)),
+];
 
 #[test]
 fn a_flow_whose_message_was_given_up_stays_blocked_until_its_host_knows(rt: HostRuntime) {
-    let flow = flow_from(&rt, 1);
-    let mut flows = SourceFlows::new(rt.alloc());
-    let first = flows.begin(&flow);
-    flows.give_up(&flow);
-    let given_up = (known(&flows, &flow), flows.begin(&flow));
-    let late = flows.answer(&flow, 0);
-    flows.handed(&flow);
-    let handed = (known(&flows, &flow), flows.begin(&flow));
-    assert_eq!(rt;
-        (first, given_up, late, handed),
-        (
-            Ok(0),
-            ((false, None, Some(0)), BLOCKED),
-            Release::Stale,
-            ((true, None, Some(0)), Ok(1)),
-        )
-    );
+    assert_eq!(rt; fitting(rt.alloc(), &GIVEN_UP), 8);
 }
+
+/// A host takes an answer that is not there.
+const NOTHING_TAKEN: [Row; 4] = [
+    (Act::Begin, Way::One, Came::Began(0)),
+    (Act::Handed, Way::One, Came::Done),
+    (Act::Know, Way::One, Came::Known(false, Some(0), Some(0))),
+    (Act::Begin, Way::One, Came::Refused(FlowFault::Blocked)),
+];
 
 #[test]
 fn taking_no_answer_leaves_a_message_outstanding(rt: HostRuntime) {
-    let flow = flow_from(&rt, 1);
-    let mut flows = SourceFlows::new(rt.alloc());
-    let first = flows.begin(&flow);
-    flows.handed(&flow);
-    let handed = (known(&flows, &flow), flows.begin(&flow));
-    assert_eq!(rt;
-        (first, handed),
-        (Ok(0), ((false, Some(0), Some(0)), BLOCKED))
-    );
+    assert_eq!(rt; fitting(rt.alloc(), &NOTHING_TAKEN), 4);
 }
+
+/// Three flows, of which one is answered and one given up.
+const THREE_FLOWS: [Row; 9] = [
+    (Act::Begin, Way::One, Came::Began(0)),
+    (Act::Begin, Way::Other, Came::Began(0)),
+    (Act::Begin, Way::Aside, Came::Began(0)),
+    (Act::GiveUp, Way::Aside, Came::Done),
+    (Act::Answer(0), Way::One, Came::Answered(Release::Freed)),
+    (Act::Handed, Way::One, Came::Done),
+    (Act::Know, Way::One, Came::Known(true, None, Some(0))),
+    (Act::Know, Way::Other, Came::Known(false, Some(0), Some(0))),
+    (Act::Know, Way::Aside, Came::Known(false, None, Some(0))),
+];
 
 #[test]
 fn a_call_changes_the_named_flow_alone(rt: HostRuntime) {
-    let named = flow_on(&rt, 1, 5);
-    let others = [flow_on(&rt, 1, 6), flow_on(&rt, 3, 5)];
-    let mut flows = SourceFlows::new(rt.alloc());
-    let begun = (
-        flows.begin(&named),
-        flows.begin(&others[0]),
-        flows.begin(&others[1]),
-    );
-    flows.give_up(&others[1]);
-    let freed = flows.answer(&named, 0);
-    flows.handed(&named);
-    assert_eq!(rt;
-        (
-            begun,
-            freed,
-            known(&flows, &named),
-            known(&flows, &others[0]),
-            known(&flows, &others[1])
-        ),
-        (
-            (Ok(0), Ok(0), Ok(0)),
-            Release::Freed,
-            (true, None, Some(0)),
-            (false, Some(0), Some(0)),
-            (false, None, Some(0)),
-        )
-    );
+    assert_eq!(rt; fitting(rt.alloc(), &THREE_FLOWS), 9);
 }
 
-/// Whether each of four hosts has a message without an answer: the source of the flow, its neighbour at
-/// the same IMP, the destination, and the host of the same number at another IMP.
-fn outstanding_of(flows: &SourceFlows, hosts: &[HostAddr; 4]) -> [bool; 4] {
-    [
-        flows.has_outstanding(hosts[0]),
-        flows.has_outstanding(hosts[1]),
-        flows.has_outstanding(hosts[2]),
-        flows.has_outstanding(hosts[3]),
-    ]
+/// Whether a host has a message without an answer: at first, once its flow has begun one, once that is
+/// answered, and once the next one is given up. `None` where a message doesn't begin.
+fn outstanding_in_turn(alloc: Global, host: HostAddr) -> Option<[bool; 4]> {
+    let flow = flow(5);
+    let mut flows = SourceFlows::new(alloc);
+    let nothing = flows.has_outstanding(host);
+    flows.begin(&flow).ok()?;
+    let begun = flows.has_outstanding(host);
+    flows.answer(&flow, 0);
+    let answered = flows.has_outstanding(host);
+    flows.handed(&flow);
+    flows.begin(&flow).ok()?;
+    flows.give_up(&flow);
+    Some([nothing, begun, answered, flows.has_outstanding(host)])
 }
 
 #[test]
 fn a_host_has_a_message_without_an_answer_until_the_answer_is_there(rt: HostRuntime) {
-    let flow = flow_from(&rt, 1);
-    let hosts = [
-        flow.source,
-        HostAddr::new(1, 1).expect(&rt, "a host's address"),
-        flow.destination,
-        HostAddr::new(0, 3).expect(&rt, "a host's address"),
-    ];
-    let mut flows = SourceFlows::new(rt.alloc());
-    let nothing = outstanding_of(&flows, &hosts);
-    let first = flows.begin(&flow);
-    let begun = outstanding_of(&flows, &hosts);
-    let freed = flows.answer(&flow, 0);
-    let answered = outstanding_of(&flows, &hosts);
-    flows.handed(&flow);
-    let second = flows.begin(&flow);
-    flows.give_up(&flow);
-    let given_up = outstanding_of(&flows, &hosts);
-    let none = [false; 4];
-    assert_eq!(rt;
-        (nothing, first, begun, freed, answered, second, given_up),
-        (
-            none,
-            Ok(0),
-            [true, false, false, false],
-            Release::Freed,
-            none,
-            Ok(1),
-            none
-        )
-    );
+    let of_source = Some([false, true, false, false]);
+    let never = Some([false; 4]);
+    for (host, imp, outstanding) in [
+        (0, 1, of_source),
+        // another host at the same IMP, the destination, and the host of the same number at another IMP
+        (1, 1, never),
+        (0, 2, never),
+        (0, 3, never),
+    ] {
+        let found = match HostAddr::new(host, imp) {
+            Some(address) => outstanding_in_turn(rt.alloc(), address),
+            None => None,
+        };
+        assert_eq!(rt; found, outstanding, "host {host} at IMP {imp}");
+    }
 }
 
 /// The number of a flow's next message, which is given up, so that the one after it can begin.
@@ -251,60 +287,65 @@ fn numbered(flows: &mut SourceFlows, flow: &Flow) -> (Option<Number>, Result<Num
 
 #[test]
 fn after_255_comes_0(rt: HostRuntime) {
-    let flow = flow_from(&rt, 1);
+    let flow = flow(5);
     let mut flows = SourceFlows::new(rt.alloc());
     assert_eq!(rt; numbered(&mut flows, &flow), (None, Ok(0)));
 }
 
 // ---- flows at their destination
 
-#[test]
-fn a_flow_keeps_the_number_that_was_noted_last(rt: HostRuntime) {
-    let flow = flow_on(&rt, 1, 5);
-    let other = flow_on(&rt, 1, 6);
-    let mut flows = DestFlows::new(rt.alloc());
+/// What is kept of a flow before any number is noted, and then of it and of another flow once two were.
+fn noted(alloc: Global) -> Result<[Option<Number>; 3], FlowFault> {
+    let (flow, other) = (flow(5), flow(6));
+    let mut flows = DestFlows::new(alloc);
     let before = flows.kept(&flow);
-    let noted = [flows.note(&flow, 7).is_ok(), flows.note(&flow, 3).is_ok()];
-    assert_eq!(rt;
-        (before, noted, flows.kept(&flow), flows.kept(&other)),
-        (None, [true, true], Some(3), None)
-    );
+    flows.note(&flow, 7)?;
+    flows.note(&flow, 3)?;
+    Ok([before, flows.kept(&flow), flows.kept(&other)])
 }
 
-/// Whether numbers are kept of flows from IMPs 1, 2 and 3.
-fn kept_from(rt: &impl Abort, flows: &DestFlows) -> [bool; 3] {
-    [
-        flows.keeps(ImpNumber::new(1).expect(rt, "an IMP")),
-        flows.keeps(ImpNumber::new(2).expect(rt, "an IMP")),
-        flows.keeps(ImpNumber::new(3).expect(rt, "an IMP")),
-    ]
+#[test]
+fn a_flow_keeps_the_number_that_was_noted_last(rt: HostRuntime) {
+    assert_eq!(rt; noted(rt.alloc()), Ok([None, Some(3), None]));
+}
+
+/// Whether numbers are kept of flows from this IMP.
+fn keeps(flows: &DestFlows, imp: u8) -> Option<bool> {
+    Some(flows.keeps(ImpNumber::new(imp)?))
+}
+
+/// Numbers of flows from IMPs 1, 3 and 4 are noted, and those from IMPs 3 and 2 are forgotten: whether
+/// numbers are kept of flows from IMPs 1, 2 and 3 before and after, and what is kept of each flow then.
+fn forgotten(alloc: Global) -> Result<([Option<bool>; 6], [Option<Number>; 3]), FlowFault> {
+    let mut flows = DestFlows::new(alloc);
+    flows.note(&flow(5), 7)?;
+    flows.note(&from_imp_3(), 9)?;
+    flows.note(&from_imp_4(), 8)?;
+    let (one, two, three) = (keeps(&flows, 1), keeps(&flows, 2), keeps(&flows, 3));
+    flows.forget(ImpNumber::new(3).unwrap());
+    flows.forget(ImpNumber::new(2).unwrap());
+    let are_kept = [
+        one,
+        two,
+        three,
+        keeps(&flows, 1),
+        keeps(&flows, 2),
+        keeps(&flows, 3),
+    ];
+    let kept = [
+        flows.kept(&flow(5)),
+        flows.kept(&from_imp_3()),
+        flows.kept(&from_imp_4()),
+    ];
+    Ok((are_kept, kept))
 }
 
 #[test]
 fn forgetting_one_imp_keeps_the_numbers_of_another(rt: HostRuntime) {
-    let flows_from = [flow_from(&rt, 1), flow_from(&rt, 3), flow_from(&rt, 4)];
-    let mut flows = DestFlows::new(rt.alloc());
-    let noted = [
-        flows.note(&flows_from[0], 7).is_ok(),
-        flows.note(&flows_from[1], 9).is_ok(),
-        flows.note(&flows_from[2], 8).is_ok(),
-    ];
-    let before = kept_from(&rt, &flows);
-    flows.forget(ImpNumber::new(3).expect(&rt, "an IMP"));
-    flows.forget(ImpNumber::new(2).expect(&rt, "an IMP"));
-    let kept = [
-        flows.kept(&flows_from[0]),
-        flows.kept(&flows_from[1]),
-        flows.kept(&flows_from[2]),
-    ];
+    let (yes, no) = (Some(true), Some(false));
     assert_eq!(rt;
-        (noted, before, kept_from(&rt, &flows), kept),
-        (
-            [true; 3],
-            [true, false, true],
-            [true, false, false],
-            [Some(7), None, Some(8)]
-        )
+        forgotten(rt.alloc()),
+        Ok(([yes, no, yes, yes, no, no], [Some(7), None, Some(8)]))
     );
 }
 
@@ -356,6 +397,6 @@ fn values_of_flows_are_equal_to_their_copies_alone(rt: HostRuntime) {
 
 #[test]
 fn faults_of_flows_say_what_they_are(rt: HostRuntime) {
-    let texts = format!(in rt.alloc(); "{}, {}", FlowFault::Blocked, FlowFault::OutOfMemory).ok();
-    assert_eq!(rt; texts.as_deref(), Some("blocked, out of memory"));
+    assert!(rt; is_told(rt.alloc(), FlowFault::Blocked, "blocked"));
+    assert!(rt; is_told(rt.alloc(), FlowFault::OutOfMemory, "out of memory"));
 }

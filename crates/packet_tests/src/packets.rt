@@ -1,44 +1,30 @@
 //! Worked examples of packets, cutting and reassembly.
 
-use crate::values::{alike, flow};
+use crate::values::{flow, is_told};
 use bit_messages::{BitFault, Bits};
-use leader1822::{Flow, HostAddr, HostMessage, Link, Text};
+use leader1822::{HostMessage, Link, Text};
 use packetiser::{Added, Held, Outcome, Packet, PacketFault, PacketKind, Reassembly, cut};
 use std::alloc::{AllocError, Global};
-use std::process::Abort;
-use std::test::Fail;
 
-/// A list of so many bits, all alike.
-fn bits_alike(alloc: Global, bit: bool, count: usize) -> Result<Bits, PacketFault> {
-    alike(alloc, bit, count).map_err(|_| PacketFault::OutOfMemory)
-}
-
-/// So many bits: zeros where an even piece of the body has them, ones where an odd one has.
+/// So many bits: ones where an even piece of the body has them, zeros where an odd one has.
 fn striped(alloc: Global, count: usize) -> Result<Bits, BitFault> {
     let mut bits = Bits::new(alloc);
     for k in 0..count {
-        bits.push(k / 1008 % 2 == 1)?;
+        bits.push(k / 1008 % 2 == 0)?;
     }
     Ok(bits)
 }
 
-/// The bits of the rows' messages.
-fn stripes(alloc: Global, count: usize) -> Result<Bits, PacketFault> {
-    striped(alloc, count).map_err(|_| PacketFault::OutOfMemory)
-}
-
-/// The packets of the message with this number and these bits from 0/1 to 0/2.
-fn packets_of(alloc: Global, link: u8, number: u8, bits: Bits) -> Result<Vec<Packet>, PacketFault> {
+/// The packets of the message with this number and so many such bits from 0/1 to 0/2.
+fn pieces(alloc: Global, link: u8, number: u8, count: usize) -> Result<Vec<Packet>, PacketFault> {
+    let Ok(bits) = striped(alloc, count) else {
+        return Err(PacketFault::OutOfMemory);
+    };
     let Some(text) = Text::new(bits) else {
         return Err(PacketFault::BadLength);
     };
     let flow = flow(link);
     cut(alloc, &HostMessage { flow, text }, number)
-}
-
-/// The packets of a striped message of so many bits from 0/1 to 0/2.
-fn pieces(alloc: Global, link: u8, number: u8, count: usize) -> Result<Vec<Packet>, PacketFault> {
-    packets_of(alloc, link, number, stripes(alloc, count)?)
 }
 
 /// The packet of such a message at a place where there is one.
@@ -86,20 +72,28 @@ fn named(added: &Added) -> Outcome {
 /// becomes of it.
 type Row = (u8, u8, usize, usize, Outcome);
 
-/// What was said would become of a row's piece, and what became of it.
-fn outcomes(alloc: Global, slots: &mut Reassembly, row: Row) -> Result<[Outcome; 2], PacketFault> {
-    let (link, number, count, place, _) = row;
+/// Whether of a row's piece comes what has to, as was said before.
+fn fits(alloc: Global, slots: &mut Reassembly, row: Row) -> Result<bool, PacketFault> {
+    let (link, number, count, place, want) = row;
     let packet = piece(alloc, link, number, count, place)?;
     let (said, added) = give(alloc, slots, packet)?;
-    Ok([said, named(&added)])
+    Ok([said, named(&added)] == [want; 2])
 }
 
-/// Checks what becomes of pieces that come one after the other.
-fn check_rows(rt: &impl Abort, alloc: Global, slots: &mut Reassembly, rows: &[Row]) {
-    for row in rows {
-        let want = row.4;
-        assert_eq!(rt; outcomes(alloc, slots, *row), Ok([want, want]), "{row:?}");
+/// How many pieces that come one after the other fit until one doesn't.
+fn fitting(alloc: Global, slots: &mut Reassembly, rows: &[Row]) -> Result<usize, PacketFault> {
+    for (place, row) in rows.iter().enumerate() {
+        if !fits(alloc, slots, *row)? {
+            return Ok(place);
+        }
     }
+    Ok(rows.len())
+}
+
+/// How many pieces fit where nothing is held at first.
+fn fitting_anew(alloc: Global, rows: &[Row]) -> Result<usize, PacketFault> {
+    let mut slots = Reassembly::new(alloc)?;
+    fitting(alloc, &mut slots, rows)
 }
 
 /// Whether a piece of a message of so many bits makes it whole, as reassembly said before, and whether
@@ -118,7 +112,10 @@ fn completes(
 
 /// Whether a message is whole, with the body of so many bits.
 fn has_body(alloc: Global, added: &Added, count: usize) -> Result<bool, PacketFault> {
-    let Ok(body) = stripes(alloc, count)?.pad16(alloc) else {
+    let Ok(text) = striped(alloc, count) else {
+        return Err(PacketFault::OutOfMemory);
+    };
+    let Ok(body) = text.pad16(alloc) else {
         return Err(PacketFault::OutOfMemory);
     };
     match added {
@@ -154,51 +151,40 @@ fn is_written(alloc: Global, packet: &Packet, octets: &[u8]) -> bool {
     }
 }
 
-/// Whether a copy of the request, the RFNM and the packet of the empty message are written as they stand
-/// here.
-fn all_written(alloc: Global) -> Result<[bool; 3], PacketFault> {
-    let request = Packet::read(alloc, &RTS)?.clone()?;
+/// Whether a copy of the request is written as it stands here.
+fn request_copied(alloc: Global) -> Result<bool, PacketFault> {
+    let request = Packet::read(alloc, &RTS)?;
+    let copy = request.clone()?;
+    Ok(is_written(alloc, &copy, &RTS))
+}
+
+/// Whether the RFNM is.
+fn answer_made(alloc: Global) -> bool {
     let answer = Packet::new(PacketKind::Rfnm, flow(5), 0, 0, true, Bits::new(alloc));
+    is_written(alloc, &answer, &RFNM)
+}
+
+/// Whether the packet of the empty message is.
+fn empty_cut(alloc: Global) -> Result<bool, PacketFault> {
     let empty = piece(alloc, 5, 0, 0, 0)?;
-    Ok([
-        is_written(alloc, &request, &RTS),
-        is_written(alloc, &answer, &RFNM),
-        is_written(alloc, &empty, &EMPTY),
-    ])
+    Ok(is_written(alloc, &empty, &EMPTY))
 }
 
-/// Whether bits are written as these octets.
-fn spells(alloc: Global, bits: &Bits, octets: &[u8]) -> bool {
-    match bits.to_octets(alloc) {
-        Ok(written) => written.as_slice() == octets,
-        Err(_) => false,
-    }
-}
-
-/// All that a packet says but its bits; a host's number stands in front of its IMP's.
-#[derive(Clone, Copy, Debug, PartialEq)]
-struct Header {
-    kind: PacketKind,
-    source: [u8; 2],
-    destination: [u8; 2],
-    link: Link,
-    number: u8,
-    place: u8,
-    last: bool,
-}
-
-/// What this packet says.
-fn header_of(packet: &Packet) -> Header {
+/// What a packet says of itself: its kind; the host and IMP of its source, those of its destination, its
+/// link, number and place; whether it is the last, and whether its bits are these octets.
+fn said_by(packet: &Packet, octets: &[u8]) -> (PacketKind, [u8; 7], [bool; 2]) {
     let flow = packet.flow();
-    Header {
-        kind: packet.kind(),
-        source: [flow.source.host(), flow.source.imp()],
-        destination: [flow.destination.host(), flow.destination.imp()],
-        link: flow.link,
-        number: packet.number(),
-        place: packet.place(),
-        last: packet.is_last(),
-    }
+    let numbers = [
+        flow.source.host(),
+        flow.source.imp(),
+        flow.destination.host(),
+        flow.destination.imp(),
+        flow.link.0,
+        packet.number(),
+        packet.place(),
+    ];
+    let is_spelled = packet.bits().as_octets() == octets;
+    (packet.kind(), numbers, [packet.is_last(), is_spelled])
 }
 
 /// A packet's place, whether it is the last, and how many bits it has.
@@ -210,33 +196,22 @@ fn shape(packet: &Packet) -> (usize, bool, usize) {
     )
 }
 
-/// How many packets the longest message of zeros has, and of the last one: whether it says that it is
-/// the last, and its bits at 1006 and 1007.
-fn longest(alloc: Global) -> Result<(usize, [Option<bool>; 3]), PacketFault> {
-    let packets = packets_of(alloc, 5, 0, bits_alike(alloc, false, 8063)?)?;
-    let ends = match packets.as_slice() {
-        [.., last] => [
-            Some(last.is_last()),
-            last.bits().get(1006),
-            last.bits().get(1007),
-        ],
-        [] => [None; 3],
-    };
-    Ok((packets.len(), ends))
-}
-
-/// The octets with one of them changed.
-fn changed(alloc: Global, octets: &[u8], at: usize, to: u8) -> Result<Vec<u8>, PacketFault> {
-    let mut copy = Vec::new(alloc);
-    for (k, octet) in octets.iter().enumerate() {
-        copy.push(if k == at { to } else { *octet })?;
-    }
-    Ok(copy)
+/// The last packet of the longest message: whether it is the last, and its bits at 1006 and 1007.
+fn longest(alloc: Global) -> Result<[Option<bool>; 3], PacketFault> {
+    let last = piece(alloc, 5, 0, 8063, 7)?;
+    Ok([
+        Some(last.is_last()),
+        last.bits().get(1006),
+        last.bits().get(1007),
+    ])
 }
 
 /// The verdict on the octets with one of them changed.
 fn verdict_changed(alloc: Global, octets: &[u8], at: usize, to: u8) -> Result<bool, PacketFault> {
-    let copy = changed(alloc, octets, at, to)?;
+    let mut copy = octets.to_vec(alloc)?;
+    if let Some(octet) = copy.get_mut(at) {
+        *octet = to;
+    }
     verdict(alloc, &copy)
 }
 
@@ -262,195 +237,175 @@ const RTS: [u8; 24] = [
 /// What becomes of a header when one octet of it is changed to 0, 127 and 255.
 type Sweep = [[Result<bool, PacketFault>; 3]; 8];
 
-/// Checks a packet, its fronts, and it with each octet changed; octets behind the header can be any.
-fn sweep(rt: &impl Abort, alloc: Global, octets: &[u8], table: &Sweep) {
-    assert_eq!(rt; verdict(alloc, octets), READ);
+/// How many shorter fronts of a packet are short, from the empty one on.
+fn short_fronts(alloc: Global, octets: &[u8]) -> usize {
     for end in 0..octets.len() {
         let (front, _) = octets.split_at(end);
-        assert_eq!(rt; verdict(alloc, front), SHORT, "the first {end}");
-    }
-    for at in 0..octets.len() {
-        let wanted = table.get(at).copied().unwrap_or([READ; 3]);
-        for (to, want) in [(0, wanted[0]), (127, wanted[1]), (255, wanted[2])] {
-            let found = verdict_changed(alloc, octets, at, to);
-            assert_eq!(rt; found, want, "octet {at} changed to {to}");
+        if verdict(alloc, front) != SHORT {
+            return end;
         }
     }
+    octets.len()
 }
 
-#[test]
-fn the_empty_packet_is_read_and_refused_octet_by_octet(rt: HostRuntime) {
-    sweep(
-        &rt,
-        rt.alloc(),
-        &EMPTY,
-        &[
-            [READ, NOT, NOT],
-            [NOT, NOT, NOT],
-            [NOT, NOT, NOT],
-            [READ, READ, READ],
-            [READ, READ, READ],
-            [LENGTH, NOT, NOT],
-            [READ, SHORT, SHORT],
-            [NOT, SHORT, SHORT],
-        ],
-    );
-}
-
-#[test]
-fn its_rfnm_is_read_and_refused_octet_by_octet(rt: HostRuntime) {
-    sweep(
-        &rt,
-        rt.alloc(),
-        &RFNM,
-        &[
-            [LENGTH, NOT, NOT],
-            [NOT, NOT, NOT],
-            [NOT, NOT, NOT],
-            [READ, READ, READ],
-            [READ, READ, READ],
-            [NOT, NOT, NOT],
-            [READ, SHORT, SHORT],
-            [READ, SHORT, SHORT],
-        ],
-    );
-}
-
-#[test]
-fn a_request_is_read_and_refused_octet_by_octet(rt: HostRuntime) {
-    sweep(
-        &rt,
-        rt.alloc(),
-        &RTS,
-        &[
-            [READ, NOT, NOT],
-            [NOT, NOT, NOT],
-            [NOT, NOT, NOT],
-            [READ, READ, READ],
-            [READ, READ, READ],
-            [LENGTH, NOT, NOT],
-            [READ, SHORT, SHORT],
-            [NOT, LENGTH, SHORT],
-        ],
-    );
-}
-
-#[test]
-fn a_full_packet_is_read_and_refused_octet_by_octet(rt: HostRuntime) -> Result<(), Fail> {
-    let alloc = rt.alloc();
-    for place in [0, 7] {
-        let octets = piece(alloc, 5, 0, 8063, place)?.write(alloc)?;
-        sweep(
-            &rt,
-            alloc,
-            &octets,
-            &[
-                [READ, NOT, NOT],
-                [NOT, NOT, NOT],
-                [NOT, NOT, NOT],
-                [READ, READ, READ],
-                [READ, READ, READ],
-                [READ, NOT, NOT],
-                [NOT, SHORT, SHORT],
-                [NOT, NOT, SHORT],
-            ],
-        );
+/// How many octets of a packet can be changed as the table says, from the first on; those behind the header
+/// can be any.
+fn changeable(alloc: Global, octets: &[u8], table: &Sweep) -> usize {
+    for at in 0..octets.len() {
+        let wanted = table.get(at).copied().unwrap_or([READ; 3]);
+        let found = [
+            verdict_changed(alloc, octets, at, 0),
+            verdict_changed(alloc, octets, at, 127),
+            verdict_changed(alloc, octets, at, 255),
+        ];
+        if found != wanted {
+            return at;
+        }
     }
-    Ok(())
+    octets.len()
 }
 
-/// A packet with the last flag that says that it has so many bits, all of them zeros, with their octets.
-fn zeros(alloc: Global, count: u16) -> Result<Vec<u8>, PacketFault> {
-    let high = (count / 256) as u8;
-    let low = (count % 256) as u8;
-    let mut octets = Vec::from_slice(alloc, &[0, 1, 2, 5, 0, 0x80, high, low])?;
-    for _ in 0..count.div_ceil(8) {
-        octets.push(0)?;
+/// Whether octets are a packet, each front of them is short, and each octet can be changed as the table
+/// says.
+fn swept(alloc: Global, octets: &[u8], table: &Sweep) -> [bool; 3] {
+    [
+        verdict(alloc, octets) == READ,
+        short_fronts(alloc, octets) == octets.len(),
+        changeable(alloc, octets, table) == octets.len(),
+    ]
+}
+
+/// What becomes of the empty message.
+const EMPTY_CHANGED: Sweep = [
+    [READ, NOT, NOT],
+    [NOT, NOT, NOT],
+    [NOT, NOT, NOT],
+    [READ, READ, READ],
+    [READ, READ, READ],
+    [LENGTH, NOT, NOT],
+    [READ, SHORT, SHORT],
+    [NOT, SHORT, SHORT],
+];
+
+/// What becomes of its RFNM.
+const RFNM_CHANGED: Sweep = [
+    [LENGTH, NOT, NOT],
+    [NOT, NOT, NOT],
+    [NOT, NOT, NOT],
+    [READ, READ, READ],
+    [READ, READ, READ],
+    [NOT, NOT, NOT],
+    [READ, SHORT, SHORT],
+    [READ, SHORT, SHORT],
+];
+
+/// What becomes of the request.
+const RTS_CHANGED: Sweep = [
+    [READ, NOT, NOT],
+    [NOT, NOT, NOT],
+    [NOT, NOT, NOT],
+    [READ, READ, READ],
+    [READ, READ, READ],
+    [LENGTH, NOT, NOT],
+    [READ, SHORT, SHORT],
+    [NOT, LENGTH, SHORT],
+];
+
+/// What becomes of a piece of 1008 bits.
+const FULL_CHANGED: Sweep = [
+    [READ, NOT, NOT],
+    [NOT, NOT, NOT],
+    [NOT, NOT, NOT],
+    [READ, READ, READ],
+    [READ, READ, READ],
+    [READ, NOT, NOT],
+    [NOT, SHORT, SHORT],
+    [NOT, NOT, SHORT],
+];
+
+#[test]
+fn short_packets_are_read_and_refused_octet_by_octet(rt: HostRuntime) {
+    for (octets, table) in [
+        (&EMPTY as &[u8], &EMPTY_CHANGED),
+        (&RFNM, &RFNM_CHANGED),
+        (&RTS, &RTS_CHANGED),
+    ] {
+        assert_eq!(rt; swept(rt.alloc(), octets, table), [true; 3], "{octets:?}");
     }
-    Ok(octets)
 }
 
-/// The verdict on such a packet.
+/// What becomes of the octets of a piece of the longest message.
+fn piece_swept(alloc: Global, place: usize) -> Result<[bool; 3], PacketFault> {
+    let octets = piece(alloc, 5, 0, 8063, place)?.write(alloc)?;
+    Ok(swept(alloc, &octets, &FULL_CHANGED))
+}
+
+#[test]
+fn a_full_packet_is_read_and_refused_octet_by_octet(rt: HostRuntime) {
+    let found = [piece_swept(rt.alloc(), 0), piece_swept(rt.alloc(), 7)];
+    assert_eq!(rt; found, [Ok([true; 3]); 2]);
+}
+
+/// The verdict on a packet with the last flag that says that it has so many bits, all of them zeros, with
+/// their octets.
 fn verdict_zeros(alloc: Global, count: u16) -> Result<bool, PacketFault> {
-    let octets = zeros(alloc, count)?;
-    verdict(alloc, &octets)
+    let mut octets = [0; 136];
+    octets[1] = 1;
+    octets[2] = 2;
+    octets[3] = 5;
+    octets[5] = 0x80;
+    octets[6] = (count / 256) as u8;
+    octets[7] = (count % 256) as u8;
+    match octets.get(..8 + count.div_ceil(8) as usize) {
+        Some(packet) => verdict(alloc, packet),
+        None => Ok(false),
+    }
 }
+
+/// Octets, and the verdict on them.
+const JUDGED: [(&[u8], Result<bool, PacketFault>); 18] = [
+    // one octet
+    (&[9], SHORT),
+    // seven octets
+    (&[9, 0, 0, 0, 0, 0, 0], SHORT),
+    // nine bits
+    (&[0, 1, 2, 5, 0, 0x80, 0, 9, 0x80], SHORT),
+    // no unit
+    (&[0, 1, 2, 5, 0, 0x80, 0, 9, 0x80, 0], LENGTH),
+    // half a unit
+    (&[0, 1, 2, 5, 0, 0x80, 0, 8, 0x80], LENGTH),
+    // no bits
+    (&[0, 1, 2, 5, 0, 0x80, 0, 0], LENGTH),
+    // not full
+    (&[0, 1, 2, 5, 0, 1, 0, 0x10, 0x80, 0], LENGTH),
+    // RFNM
+    (&[1, 1, 2, 5, 0, 0x80, 0, 0x10, 0x80, 0], LENGTH),
+    // Dead
+    (&[2, 1, 2, 5, 0, 0x80, 0, 0x10, 0x80, 0], LENGTH),
+    // after the end
+    (&[0, 1, 2, 5, 0, 0x80, 0, 0x10, 0x80, 0, 0], NOT),
+    // place 7, not the last
+    (&[0, 1, 2, 5, 0, 0x07, 0, 0x10, 0x80, 0], NOT),
+    // place 7, the last
+    (&[0, 1, 2, 5, 0, 0x87, 0, 0x10, 0x80, 0], READ),
+    // bit 3
+    (&[0, 1, 2, 5, 0, 0x88, 0, 0x10, 0x80, 0], NOT),
+    // bit 6
+    (&[0, 1, 2, 5, 0, 0xC0, 0, 0x10, 0x80, 0], NOT),
+    // kind 3
+    (&[3, 1, 2, 5, 0, 0x80, 0, 0], NOT),
+    // an answer
+    (&[2, 1, 2, 5, 0, 0x80, 0, 0], READ),
+    // an answer at place 1
+    (&[1, 1, 2, 5, 0, 0x81, 0, 0], NOT),
+    // an answer, not the last
+    (&[2, 1, 2, 5, 0, 0, 0, 0], NOT),
+];
 
 #[test]
 fn octets_that_spell_no_packet_are_refused_by_name(rt: HostRuntime) {
-    for (octets, want, what) in [
-        ([9].as_slice(), SHORT, "one octet"),
-        ([9, 0, 0, 0, 0, 0, 0].as_slice(), SHORT, "seven octets"),
-        (
-            [0, 1, 2, 5, 0, 0x80, 0, 9, 0x80].as_slice(),
-            SHORT,
-            "nine bits",
-        ),
-        (
-            [0, 1, 2, 5, 0, 0x80, 0, 9, 0x80, 0].as_slice(),
-            LENGTH,
-            "no unit",
-        ),
-        (
-            [0, 1, 2, 5, 0, 0x80, 0, 8, 0x80].as_slice(),
-            LENGTH,
-            "half a unit",
-        ),
-        ([0, 1, 2, 5, 0, 0x80, 0, 0].as_slice(), LENGTH, "no bits"),
-        (
-            [0, 1, 2, 5, 0, 1, 0, 0x10, 0x80, 0].as_slice(),
-            LENGTH,
-            "not full",
-        ),
-        (
-            [1, 1, 2, 5, 0, 0x80, 0, 0x10, 0x80, 0].as_slice(),
-            LENGTH,
-            "RFNM",
-        ),
-        (
-            [2, 1, 2, 5, 0, 0x80, 0, 0x10, 0x80, 0].as_slice(),
-            LENGTH,
-            "Dead",
-        ),
-        (
-            [0, 1, 2, 5, 0, 0x80, 0, 0x10, 0x80, 0, 0].as_slice(),
-            NOT,
-            "after the end",
-        ),
-        (
-            [0, 1, 2, 5, 0, 0x07, 0, 0x10, 0x80, 0].as_slice(),
-            NOT,
-            "place 7, not the last",
-        ),
-        (
-            [0, 1, 2, 5, 0, 0x87, 0, 0x10, 0x80, 0].as_slice(),
-            READ,
-            "place 7, the last",
-        ),
-        (
-            [0, 1, 2, 5, 0, 0x88, 0, 0x10, 0x80, 0].as_slice(),
-            NOT,
-            "bit 3",
-        ),
-        (
-            [0, 1, 2, 5, 0, 0xC0, 0, 0x10, 0x80, 0].as_slice(),
-            NOT,
-            "bit 6",
-        ),
-        ([3, 1, 2, 5, 0, 0x80, 0, 0].as_slice(), NOT, "kind 3"),
-        ([2, 1, 2, 5, 0, 0x80, 0, 0].as_slice(), READ, "an answer"),
-        (
-            [1, 1, 2, 5, 0, 0x81, 0, 0].as_slice(),
-            NOT,
-            "an answer at place 1",
-        ),
-        (
-            [2, 1, 2, 5, 0, 0, 0, 0].as_slice(),
-            NOT,
-            "an answer, not the last",
-        ),
-    ] {
-        assert_eq!(rt; verdict(rt.alloc(), octets), want, "{what}");
+    for (octets, want) in JUDGED.iter() {
+        assert_eq!(rt; verdict(rt.alloc(), octets), *want, "{octets:?}");
     }
     for (count, want) in [(1008, READ), (1016, LENGTH), (1024, LENGTH)] {
         assert_eq!(rt; verdict_zeros(rt.alloc(), count), want, "{count} bits");
@@ -473,32 +428,48 @@ fn packets_name_the_imps_from_1_to_16(rt: HostRuntime) {
     }
 }
 
-#[test]
-fn a_packet_says_what_its_octets_spell(rt: HostRuntime) -> Result<(), Fail> {
-    let alloc = rt.alloc();
+/// What a packet of sixteen bits says.
+fn spelled(alloc: Global) -> Result<(PacketKind, [u8; 7], [bool; 2]), PacketFault> {
     let packet = Packet::read(alloc, &[0, 0xC1, 0x42, 9, 200, 0x83, 0, 0x10, 0xA5, 0x80])?;
-    let want = Header {
-        kind: PacketKind::Data,
-        source: [3, 1],
-        destination: [1, 2],
-        link: Link(9),
-        number: 200,
-        place: 3,
-        last: true,
-    };
-    let is_spelled = spells(alloc, packet.bits(), &[0xA5, 0x80]);
-    assert_eq!(rt; (header_of(&packet), is_spelled), (want, true));
-    Ok(())
+    Ok(said_by(&packet, &[0xA5, 0x80]))
+}
+
+#[test]
+fn a_packet_says_what_its_octets_spell(rt: HostRuntime) {
+    let numbers = [3, 1, 1, 2, 9, 200, 3];
+    assert_eq!(rt;
+        spelled(rt.alloc()),
+        Ok((PacketKind::Data, numbers, [true; 2]))
+    );
 }
 
 #[test]
 fn a_copy_an_answer_and_the_empty_message_are_written(rt: HostRuntime) {
-    assert_eq!(rt; all_written(rt.alloc()), Ok([true, true, true]));
+    let alloc = rt.alloc();
+    let found = [
+        request_copied(alloc),
+        Ok(answer_made(alloc)),
+        empty_cut(alloc),
+    ];
+    assert_eq!(rt; found, [Ok(true); 3]);
+}
+
+/// Whether a message of so many bits is cut into so many packets, each with its place, the last flag and
+/// 1008 bits where these belong, the last with the rest of the bits.
+fn is_cut(alloc: Global, count: usize, packets: usize, rest: usize) -> Result<bool, PacketFault> {
+    let pieces = pieces(alloc, 5, 0, count)?;
+    for (place, packet) in pieces.iter().enumerate() {
+        let last = place + 1 == packets;
+        let size = if last { rest } else { 1008 };
+        if shape(packet) != (place, last, size) {
+            return Ok(false);
+        }
+    }
+    Ok(pieces.len() == packets)
 }
 
 #[test]
-fn a_message_is_cut_into_full_packets_and_a_rest(rt: HostRuntime) -> Result<(), Fail> {
-    let alloc = rt.alloc();
+fn a_message_is_cut_into_full_packets_and_a_rest(rt: HostRuntime) {
     for (count, packets, rest) in [
         (0, 1, 16),
         (1007, 1, 1008),
@@ -507,30 +478,34 @@ fn a_message_is_cut_into_full_packets_and_a_rest(rt: HostRuntime) -> Result<(), 
         (2016, 3, 16),
         (8063, 8, 1008),
     ] {
-        let cut = pieces(alloc, 5, 0, count)?;
-        assert_eq!(rt; cut.len(), packets, "packets of {count} bits");
-        for (place, packet) in cut.iter().enumerate() {
-            let last = place + 1 == packets;
-            let size = if last { rest } else { 1008 };
-            assert_eq!(rt;
-                shape(packet),
-                (place, last, size),
-                "piece {place} of {count} bits"
-            );
-        }
+        let found = is_cut(rt.alloc(), count, packets, rest);
+        assert_eq!(rt; found, Ok(true), "{count} bits");
     }
-    Ok(())
 }
 
 #[test]
 fn the_longest_message_ends_with_its_mark(rt: HostRuntime) {
-    let want = (8, [Some(true), Some(false), Some(true)]);
+    let want = [Some(true), Some(false), Some(true)];
     assert_eq!(rt; longest(rt.alloc()), Ok(want));
 }
 
+/// Gives three pieces in this order, and the first two again and again: how many fit, and what completes.
+fn rejoined(alloc: Global, order: [usize; 3]) -> Result<(usize, [bool; 2]), PacketFault> {
+    let mut slots = Reassembly::new(alloc)?;
+    let [first, second, third] = order;
+    let rows = [
+        (5, 0, 3000, first, Outcome::Kept),
+        (5, 0, 3000, first, Outcome::Old),
+        (5, 0, 3000, second, Outcome::Kept),
+        (5, 0, 3000, first, Outcome::Old),
+        (5, 0, 3000, second, Outcome::Old),
+    ];
+    let count = fitting(alloc, &mut slots, &rows)?;
+    Ok((count, completes(alloc, &mut slots, 3000, third)?))
+}
+
 #[test]
-fn pieces_rejoin_in_any_order(rt: HostRuntime) -> Result<(), Fail> {
-    let alloc = rt.alloc();
+fn pieces_rejoin_in_any_order(rt: HostRuntime) {
     for order in [
         [0, 1, 2],
         [0, 2, 1],
@@ -539,111 +514,105 @@ fn pieces_rejoin_in_any_order(rt: HostRuntime) -> Result<(), Fail> {
         [2, 0, 1],
         [2, 1, 0],
     ] {
-        let mut slots = Reassembly::new(alloc)?;
-        let [first, second, third] = order;
-        let rows = [
-            (5, 0, 3000, first, Outcome::Kept),
-            (5, 0, 3000, first, Outcome::Old),
-            (5, 0, 3000, second, Outcome::Kept),
-            (5, 0, 3000, first, Outcome::Old),
-            (5, 0, 3000, second, Outcome::Old),
-        ];
-        check_rows(&rt, alloc, &mut slots, &rows);
-        let done = completes(alloc, &mut slots, 3000, third);
-        assert_eq!(rt; done, Ok([true, true]), "in order {order:?}");
+        let found = rejoined(rt.alloc(), order);
+        assert_eq!(rt; found, Ok((5, [true, true])), "in order {order:?}");
     }
-    Ok(())
 }
 
-/// Gives the eight pieces of the longest message, the last one first: whether all but the first are held
-/// as they come, and whether the first makes the message whole and empties its slot.
-fn longest_rejoined(alloc: Global) -> Result<(bool, [bool; 2]), PacketFault> {
+/// All pieces of the longest message but the first, the last one first.
+const LAST_FIRST: [Row; 7] = [
+    (5, 0, 8063, 7, Outcome::Kept),
+    (5, 0, 8063, 6, Outcome::Kept),
+    (5, 0, 8063, 5, Outcome::Kept),
+    (5, 0, 8063, 4, Outcome::Kept),
+    (5, 0, 8063, 3, Outcome::Kept),
+    (5, 0, 8063, 2, Outcome::Kept),
+    (5, 0, 8063, 1, Outcome::Kept),
+];
+
+/// Gives the eight pieces of the longest message, the last one first: how many are held as they come, and
+/// whether the first makes the message whole and empties its slot.
+fn longest_rejoined(alloc: Global) -> Result<(usize, [bool; 2]), PacketFault> {
     let mut slots = Reassembly::new(alloc)?;
-    let mut are_held = true;
-    for place in [7, 6, 5, 4, 3, 2, 1usize] {
-        let packet = piece(alloc, 5, 0, 8063, place)?;
-        let (_, added) = give(alloc, &mut slots, packet)?;
-        are_held = are_held && named(&added) == Outcome::Kept;
-    }
-    Ok((are_held, completes(alloc, &mut slots, 8063, 0)?))
+    let held = fitting(alloc, &mut slots, &LAST_FIRST)?;
+    Ok((held, completes(alloc, &mut slots, 8063, 0)?))
 }
 
 #[test]
 fn the_longest_message_rejoins(rt: HostRuntime) {
-    assert_eq!(rt; longest_rejoined(rt.alloc()), Ok((true, [true, true])));
+    assert_eq!(rt; longest_rejoined(rt.alloc()), Ok((7, [true, true])));
+}
+
+/// Pieces of eight messages, and what comes behind them.
+const EIGHT_HELD: [Row; 13] = [
+    (2, 0, 1008, 0, Outcome::Kept),
+    (3, 0, 3000, 0, Outcome::Kept),
+    (4, 0, 1008, 0, Outcome::Kept),
+    (5, 0, 1008, 0, Outcome::Kept),
+    (6, 0, 1008, 0, Outcome::Kept),
+    (7, 0, 1008, 0, Outcome::Kept),
+    (8, 0, 1008, 0, Outcome::Kept),
+    (9, 0, 1008, 0, Outcome::Kept),
+    (10, 0, 1008, 0, Outcome::Full),
+    (3, 0, 3000, 1, Outcome::Kept),
+    (4, 1, 1008, 1, Outcome::Kept),
+    (10, 0, 7, 0, Outcome::Whole),
+    (10, 0, 1008, 0, Outcome::Full),
+];
+
+/// What comes once the message on link 5 is thrown away.
+const FIFTH_DISCARDED: [Row; 4] = [
+    (10, 0, 1008, 0, Outcome::Kept),
+    (5, 0, 1008, 1, Outcome::Full),
+    (3, 0, 3000, 2, Outcome::Whole),
+    (5, 0, 1008, 1, Outcome::Kept),
+];
+
+/// How many pieces fit while eight messages are held, and how many once that on link 5 is thrown away.
+fn eight_held(alloc: Global) -> Result<[usize; 2], PacketFault> {
+    let mut slots = Reassembly::new(alloc)?;
+    let held = fitting(alloc, &mut slots, &EIGHT_HELD)?;
+    slots.discard(flow(5));
+    Ok([held, fitting(alloc, &mut slots, &FIFTH_DISCARDED)?])
 }
 
 #[test]
-fn eight_messages_are_held_at_once(rt: HostRuntime) -> Result<(), Fail> {
-    let alloc = rt.alloc();
-    let mut slots = Reassembly::new(alloc)?;
-    let rows = [
-        (2, 0, 1008, 0, Outcome::Kept),
-        (3, 0, 3000, 0, Outcome::Kept),
-        (4, 0, 1008, 0, Outcome::Kept),
-        (5, 0, 1008, 0, Outcome::Kept),
-        (6, 0, 1008, 0, Outcome::Kept),
-        (7, 0, 1008, 0, Outcome::Kept),
-        (8, 0, 1008, 0, Outcome::Kept),
-        (9, 0, 1008, 0, Outcome::Kept),
-        (10, 0, 1008, 0, Outcome::Full),
-        (3, 0, 3000, 1, Outcome::Kept),
-        (4, 1, 1008, 1, Outcome::Kept),
-        (10, 0, 7, 0, Outcome::Whole),
-        (10, 0, 1008, 0, Outcome::Full),
-    ];
-    check_rows(&rt, alloc, &mut slots, &rows);
-    slots.discard(flow(5));
-    let rows = [
-        (10, 0, 1008, 0, Outcome::Kept),
-        (5, 0, 1008, 1, Outcome::Full),
-        (3, 0, 3000, 2, Outcome::Whole),
-        (5, 0, 1008, 1, Outcome::Kept),
-    ];
-    check_rows(&rt, alloc, &mut slots, &rows);
-    Ok(())
+fn eight_messages_are_held_at_once(rt: HostRuntime) {
+    assert_eq!(rt; eight_held(rt.alloc()), Ok([13, 4]));
 }
 
-/// The flows from 0/1 to 0/2, from 0/2 to 0/1, and from 0/1 to 1/2, on link 5.
-fn three_flows() -> [Flow; 3] {
-    let forth = flow(5);
-    let back = Flow {
-        source: HostAddr::new(0, 2).unwrap(),
-        destination: HostAddr::new(0, 1).unwrap(),
-        link: Link(5),
-    };
-    let aside = Flow {
-        source: HostAddr::new(0, 1).unwrap(),
-        destination: HostAddr::new(1, 2).unwrap(),
-        link: Link(5),
-    };
-    [forth, back, aside]
+/// The piece at a place of a message of two pieces, from and to these hosts.
+fn readdressed(alloc: Global, place: usize, hosts: [u8; 2]) -> Result<Packet, PacketFault> {
+    let mut octets = piece(alloc, 5, 0, 1008, place)?.write(alloc)?;
+    if let Some(source) = octets.get_mut(1) {
+        *source = hosts[0];
+    }
+    if let Some(destination) = octets.get_mut(2) {
+        *destination = hosts[1];
+    }
+    Packet::read(alloc, &octets)
 }
 
-/// What becomes of the piece at a place of a message of two pieces that comes on this flow.
+/// What becomes of the piece at a place that comes from and to these hosts.
 fn outcome_on(
     alloc: Global,
     slots: &mut Reassembly,
-    flow: Flow,
+    hosts: [u8; 2],
     place: usize,
 ) -> Result<Outcome, PacketFault> {
-    let octets = piece(alloc, 5, 0, 1008, place)?.write(alloc)?;
-    let octets = changed(alloc, &octets, 1, flow.source.octet())?;
-    let octets = changed(alloc, &octets, 2, flow.destination.octet())?;
-    let (_, added) = give(alloc, slots, Packet::read(alloc, &octets)?)?;
+    let (_, added) = give(alloc, slots, readdressed(alloc, place, hosts)?)?;
     Ok(named(&added))
 }
 
-/// Gives the first piece of a message to 0/2, the second pieces of messages of two other flows, and the
-/// second piece of the message to 0/2: what becomes of each.
+/// Gives the first piece of a message from 0/1 to 0/2, the second pieces of messages from 0/2 to 0/1 and
+/// from 0/1 to 1/2, and the second piece of the first message: what becomes of each.
 fn outcomes_on_flows(alloc: Global) -> Result<[Outcome; 4], PacketFault> {
     let mut slots = Reassembly::new(alloc)?;
-    let [forth, back, aside] = three_flows();
     Ok([
-        outcome_on(alloc, &mut slots, forth, 0)?,
-        outcome_on(alloc, &mut slots, back, 1)?,
-        outcome_on(alloc, &mut slots, aside, 1)?,
-        outcome_on(alloc, &mut slots, forth, 1)?,
+        outcome_on(alloc, &mut slots, [0x01, 0x02], 0)?,
+        outcome_on(alloc, &mut slots, [0x02, 0x01], 1)?,
+        outcome_on(alloc, &mut slots, [0x01, 0x42], 1)?,
+        outcome_on(alloc, &mut slots, [0x01, 0x02], 1)?,
     ])
 }
 
@@ -653,75 +622,68 @@ fn messages_of_different_flows_are_held_apart(rt: HostRuntime) {
     assert_eq!(rt; outcomes_on_flows(rt.alloc()), Ok(want));
 }
 
-#[test]
-fn each_message_held_is_named_once(rt: HostRuntime) -> Result<(), Fail> {
-    let alloc = rt.alloc();
+/// Pieces of three messages.
+const THREE_HELD: [Row; 3] = [
+    (9, 9, 1008, 1, Outcome::Kept),
+    (2, 2, 1008, 1, Outcome::Kept),
+    (5, 5, 1008, 1, Outcome::Kept),
+];
+
+/// How many of three messages are held, on which links, and whether there is no fourth.
+fn three_held(alloc: Global) -> Result<(usize, Option<u16>, bool), PacketFault> {
     let mut slots = Reassembly::new(alloc)?;
-    let rows = [
-        (9, 9, 1008, 1, Outcome::Kept),
-        (2, 2, 1008, 1, Outcome::Kept),
-        (5, 5, 1008, 1, Outcome::Kept),
-    ];
-    check_rows(&rt, alloc, &mut slots, &rows);
-    let is_past = slots.held(3).is_none();
-    assert_eq!(rt;
-        (links_held(&slots, 3), is_past),
-        (Some(0b10_0010_0100), true)
-    );
-    Ok(())
+    let count = fitting(alloc, &mut slots, &THREE_HELD)?;
+    Ok((count, links_held(&slots, 3), slots.held(3).is_none()))
 }
 
 #[test]
-fn pieces_that_contradict_a_slot_are_dropped(rt: HostRuntime) -> Result<(), Fail> {
-    let mut slots = Reassembly::new(rt.alloc())?;
-    let rows = [
-        (5, 0, 3000, 2, Outcome::Kept),
-        (5, 0, 5000, 3, Outcome::Old),
-        (5, 0, 2000, 1, Outcome::Old),
-        (5, 0, 5000, 2, Outcome::Old),
-        (5, 0, 900, 0, Outcome::Old),
-        (5, 0, 5000, 1, Outcome::Kept),
-        (5, 0, 3000, 0, Outcome::Whole),
-    ];
-    check_rows(&rt, rt.alloc(), &mut slots, &rows);
-    Ok(())
+fn each_message_held_is_named_once(rt: HostRuntime) {
+    let links = Some(0b10_0010_0100);
+    assert_eq!(rt; three_held(rt.alloc()), Ok((3, links, true)));
+}
+
+/// Pieces that lie above a last one, or are a last one below others.
+const CONTRADICTING: [Row; 7] = [
+    (5, 0, 3000, 2, Outcome::Kept),
+    (5, 0, 5000, 3, Outcome::Old),
+    (5, 0, 2000, 1, Outcome::Old),
+    (5, 0, 5000, 2, Outcome::Old),
+    (5, 0, 900, 0, Outcome::Old),
+    (5, 0, 5000, 1, Outcome::Kept),
+    (5, 0, 3000, 0, Outcome::Whole),
+];
+
+#[test]
+fn pieces_that_contradict_a_slot_are_dropped(rt: HostRuntime) {
+    assert_eq!(rt; fitting_anew(rt.alloc(), &CONTRADICTING), Ok(7));
+}
+
+/// Pieces of messages on one flow, with numbers that change.
+const OTHER_NUMBERS: [Row; 7] = [
+    (5, 0, 1008, 0, Outcome::Kept),
+    (5, 1, 1008, 1, Outcome::Kept),
+    (5, 1, 1008, 0, Outcome::Whole),
+    (5, 2, 1008, 0, Outcome::Kept),
+    (5, 2, 7, 0, Outcome::Old),
+    (5, 3, 7, 0, Outcome::Whole),
+    (5, 2, 1008, 1, Outcome::Kept),
+];
+
+#[test]
+fn a_slot_begins_again_with_another_number(rt: HostRuntime) {
+    assert_eq!(rt; fitting_anew(rt.alloc(), &OTHER_NUMBERS), Ok(7));
 }
 
 #[test]
-fn a_slot_begins_again_with_another_number(rt: HostRuntime) -> Result<(), Fail> {
-    let mut slots = Reassembly::new(rt.alloc())?;
-    let rows = [
-        (5, 0, 1008, 0, Outcome::Kept),
-        (5, 1, 1008, 1, Outcome::Kept),
-        (5, 1, 1008, 0, Outcome::Whole),
-        (5, 2, 1008, 0, Outcome::Kept),
-        (5, 2, 7, 0, Outcome::Old),
-        (5, 3, 7, 0, Outcome::Whole),
-        (5, 2, 1008, 1, Outcome::Kept),
+fn each_fault_has_its_text(rt: HostRuntime) {
+    let alloc = rt.alloc();
+    let are_told = [
+        is_told(alloc, PacketFault::Short, "short packet"),
+        is_told(alloc, PacketFault::NotCanonical, "packet not canonical"),
+        is_told(alloc, PacketFault::BadLength, "bad packet length"),
+        is_told(alloc, PacketFault::OutOfMemory, "out of memory"),
     ];
-    check_rows(&rt, rt.alloc(), &mut slots, &rows);
-    Ok(())
-}
-
-/// The texts of the faults, in the order in which they are looked for.
-fn fault_texts(alloc: Global) -> Result<String, AllocError> {
-    format!(in alloc;
-        "{}, {}, {}, {}",
-        PacketFault::Short,
-        PacketFault::NotCanonical,
-        PacketFault::BadLength,
-        PacketFault::OutOfMemory
-    )
-}
-
-#[test]
-fn each_fault_has_its_text(rt: HostRuntime) -> Result<(), Fail> {
-    let texts = fault_texts(rt.alloc())?;
-    assert_eq!(rt;
-        texts.as_str(),
-        "short packet, packet not canonical, bad packet length, out of memory"
-    );
-    Ok(())
+    assert_eq!(rt; are_told, [true; 4]);
 }
 
 /// Whether faults, kinds, outcomes and held messages are equal to their copies, and the first three to

@@ -2,9 +2,9 @@
 
 ghost use Rattle.std.specs.Prelude.{◌≤◌};
 
-use bit_messages::{BitFault, Bits};
 use leader1822::{Flow, HostAddr, Link};
 use std::alloc::Global;
+use std::fmt::Display;
 
 /// The flow on this link from 0/1 to 0/2.
 pub(crate) fn flow(link: u8) -> Flow
@@ -18,11 +18,33 @@ pub(crate) fn flow(link: u8) -> Flow
     }
 }
 
-/// A list of so many bits, all alike.
-pub(crate) fn alike(alloc: Global, bit: bool, count: usize) -> Result<Bits, BitFault> {
-    let mut bits = Bits::new(alloc);
-    for _ in 0..count {
-        bits.push(bit)?;
+/// The flow on link 5 from host 0 at IMP 3 to 0/2.
+pub(crate) fn from_imp_3() -> Flow {
+    Flow {
+        source: HostAddr::new(0, 3).unwrap(),
+        ..flow(5)
     }
-    Ok(bits)
+}
+
+/// The flow on link 5 from host 0 at IMP 4 to 0/2.
+pub(crate) fn from_imp_4() -> Flow {
+    Flow {
+        source: HostAddr::new(0, 4).unwrap(),
+        ..flow(5)
+    }
+}
+
+/// Whether a value is told by this text.
+pub(crate) fn is_told<T: Display + Drop>(alloc: Global, value: T, text: &str) -> bool {
+    match format!(in alloc; "{}", value) {
+        Ok(told) => told.as_str() == text,
+        Err(_) => false,
+    }
+}
+
+/// Distances to the first four IMPs, and infinite ones to the others.
+pub(crate) const fn far_from_others(first: [u8; 4]) -> [u8; 16] {
+    [
+        first[0], first[1], first[2], first[3], 16, 16, 16, 16, 16, 16, 16, 16, 16, 16, 16, 16,
+    ]
 }

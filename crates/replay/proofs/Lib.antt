@@ -1,3 +1,4 @@
+pub mod InTurn
 pub mod Passing
 pub mod Replays
 pub mod Settled

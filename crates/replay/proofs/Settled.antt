@@ -7,9 +7,11 @@ use Rattle.leader1822.specs.Host.{Host}
 use Rattle.leader1822.specs.declared.CarrierFault.{CarrierFault}
 use Rattle.leader1822.specs.declared.Inbound.{Inbound}
 use Rattle.leader1822.specs.declared.crossing.Crossing.{Crossing}
+use Rattle.replay.specs.InTurn.{HappensOnce}
 use Rattle.replay.specs.Output.{Shown, shown_crossings, shown_refusal}
 use Rattle.replay.specs.Replay.{AllTake, Calls, Chain, EndsIn, EventGives, GoesOn, Halts, Happens, IfGiven, IsCopied, Nothing, Onward, Part, Quiet, Replays, Round, Rounds, StopsIn, Takings, calmly, outcome_of}
 use Rattle.replay.specs.Settled.{AreSettled, Grows, SameEnd}
+use Rattle.replay.proofs.InTurn.{ends_front, in_turn_once}
 use Rattle.replay.proofs.Shown.{shown_crossings-append}
 use Rattle.script.specs.declared.event.Event.{Event}
 use Rattle.script.specs.declared.event.Event.TheVariants as event
@@ -186,50 +188,25 @@ event_once calls settled old (event.Take g) r q new other h hg k kg =
 event_once calls settled old (event.Net n) r q new other h hg k kg = settled.steps_once old n r q new other h hg k kg
 event_once calls settled old (event.Calm rounds) r q new other h hg k kg = (steady_rounds calls settled rounds).once old r q new other h hg k kg
 
--- one carrier is left, and the same lines are shown
-pub record OneReplay {C : Type 0} (new other : C) (shown more : List Shown) : Type 0 where
-  pub carriers : new ≡ other
-  pub lines : shown ≡ more
-
-happens_once : {C : Type 0} (calls : Calls C) → AreSettled calls → (old : C) (e : Event) (new other : C) (shown more : List Shown) → Happens calls old e new shown → Happens calls old e other more → OneReplay new other shown more
+happens_once : {C : Type 0} (calls : Calls C) → AreSettled calls → HappensOnce (Happens calls)
 happens_once calls settled old e new other shown more h k =
     let same : SameEnd h.outcome k.outcome new other = event_once calls settled old e h.outcome k.outcome new other h.gives h.goes_on k.gives k.goes_on in
     let logs : reverse h.crossings ++ (calls.seen old).log ≡ reverse k.crossings ++ (calls.seen old).log = sym h.grown ∙ ap (λ c. (calls.seen c).log) same.carriers ∙ k.grown in
     let back : reverse h.crossings ≡ reverse k.crossings = append_cancel_right (reverse h.crossings) (reverse k.crossings) (calls.seen old).log logs in
     let crossings : h.crossings ≡ k.crossings = sym (reverse-reverse h.crossings) ∙ ap reverse back ∙ reverse-reverse k.crossings in
-    record { carriers = same.carriers; lines = h.lines ∙ ap₂ (λ cs r. shown_crossings cs ++ shown_refusal r) crossings same.answers ∙ sym k.lines }
+    (same.carriers, h.lines ∙ ap₂ (λ cs r. shown_crossings cs ++ shown_refusal r) crossings same.answers ∙ sym k.lines)
 
 -- ---- a replay
 
+-- one carrier is left, and the same lines are shown
+pub record OneReplay {C : Type 0} (new other : C) (shown more : List Shown) : Type 0 where
+  pub carriers : new ≡ other
+  pub lines : shown ≡ more
+
 pub replays_once : {C : Type 0} (calls : Calls C) → AreSettled calls → (old : C) (events : List Event) (new other : C) (shown more : List Shown) → Replays calls old events new shown → Replays calls old events other more → OneReplay new other shown more
-replays_once calls settled old [] new other shown more h k = record { carriers = h.0 ∙ sym k.0; lines = h.1 ∙ sym k.1 }
-replays_once {C} calls settled old (e ∷ events) new other shown more (mid, first, rest, happens, goes, whole) (mid', first', rest', happens', goes', whole') =
-    let one : OneReplay mid mid' first first' = happens_once calls settled old e mid mid' first first' happens happens' in
-    let moved_on : Replays calls mid events other rest' = subst (λ (c : C). Replays calls c events other rest') (sym one.carriers) goes' in
-    let behind : OneReplay new other rest rest' = replays_once calls settled mid events new other rest rest' goes moved_on in
-    record { carriers = behind.carriers; lines = whole ∙ ap₂ (λ (a b : List Shown). a ++ b) one.lines behind.lines ∙ sym whole' }
-
--- a replay of two parts, one after the other
-record InTwo {C : Type 0} (calls : Calls C) (old : C) (done left : List Event) (new : C) (shown : List Shown) : Type 0 where
-  mid : C
-  front : List Shown
-  back : List Shown
-  first : Replays calls old done mid front
-  rest : Replays calls mid left new back
-  parts : shown ≡ front ++ back
-
-in_two : {C : Type 0} (calls : Calls C) (old : C) (done left : List Event) (new : C) (shown : List Shown) → Replays calls old (done ++ left) new shown → InTwo calls old done left new shown
-in_two calls old [] left new shown h = record { mid = old; front = []; back = shown; first = (refl, refl); rest = h; parts = refl }
-in_two calls old (e ∷ done) left new shown (mid, first, rest, happens, goes, whole) =
-    let behind : InTwo calls mid done left new rest = in_two calls mid done left new rest goes in
-    record {
-      mid = behind.mid;
-      front = first ++ behind.front;
-      back = behind.back;
-      first = (mid, first, behind.front, happens, behind.first, refl);
-      rest = behind.rest;
-      parts = whole ∙ ap (λ xs. first ++ xs) behind.parts ∙ sym (append_assoc first behind.front behind.back);
-    }
+replays_once calls settled old events new other shown more h k =
+    let one = in_turn_once (Happens calls) (happens_once calls settled) old events new other shown more h k in
+    record { carriers = one.0; lines = one.1 }
 
 -- ---- the first part of a replay
 
@@ -267,14 +244,7 @@ stop_first calls settled old (event.Calm rounds) new other own shown h k = by h.
       own_first (calls.seen old).log (calls.seen new).log (calls.seen other).log h.crossings k.crossings ahead.crossings shown own k.outcome h.grown k.grown ahead.grown h.lines k.lines
 
 pub first_part : {C : Type 0} (calls : Calls C) → AreSettled calls → (old : C) (events : List Event) (new last : C) (part whole : List Shown) → EndsIn calls StopsIn old events new part → Replays calls old events last whole → StartsWith whole part
-first_part {C} calls settled old events new last part whole h k =
-    let two : InTwo calls old h.done (h.last ∷ h.left) last whole =
-    in_two calls old h.done (h.last ∷ h.left) last whole (subst (λ (es : List Event). Replays calls old es last whole) h.parts k) in
-    let one : OneReplay h.mid two.mid h.front two.front = replays_once calls settled old h.done h.mid two.mid h.front two.front h.before two.first in
-    let next : Happens calls h.mid h.last two.rest.0 two.rest.1 = subst (λ (c : C). Happens calls c h.last two.rest.0 two.rest.1) (sym one.carriers) two.rest.3 in
-    let starts : StartsWith two.rest.1 h.own = stop_first calls settled h.mid h.last new two.rest.0 h.own two.rest.1 h.goes next in
-    record {
-      rest = starts.rest ++ two.rest.2;
-      parts = two.parts ∙ ap₂ (λ (a b : List Shown). a ++ b) (sym one.lines) (two.rest.5 ∙ ap (λ xs. xs ++ two.rest.2) starts.parts ∙ append_assoc h.own starts.rest two.rest.2)
-          ∙ sym (append_assoc h.front h.own (starts.rest ++ two.rest.2)) ∙ ap (λ xs. xs ++ (starts.rest ++ two.rest.2)) (sym h.lines);
-    }
+first_part calls settled old events new last part whole h k =
+    let front = ends_front (Happens calls) (StopsIn calls) (happens_once calls settled)
+    (λ from e stopped other own shown stops happens. let starts = stop_first calls settled from e stopped other own shown stops happens in (starts.rest, starts.parts)) old events new last part whole h k in
+    record { rest = front.0; parts = front.1 }

@@ -1,3 +1,4 @@
+pub mod InTurn
 pub mod Output
 pub mod Replay
 pub mod Settled

@@ -1,12 +1,10 @@
 -- What a replay prints.
 use Rattle.std.specs.Prelude.{ℕ, List, [], ◌∷◌, ◌++◌, Option, Result, Ok, Err, codes}
-use Rattle.std.specs.List.{flat_map}
-use Rattle.std.specs.Io.KnownBytes.{Appends}
 use Rattle.leader1822.specs.Printed.{crossing_text}
 use Rattle.leader1822.specs.declared.carrier.CarrierFault.{CarrierFault}
 use Rattle.leader1822.specs.declared.carrier.CarrierFault.TheVariants as fault
 use Rattle.leader1822.specs.declared.crossing.Crossing.{Crossing}
-use Rattle.script.specs.Input.{ended}
+use Rattle.replay.specs.InTurn.{WritesLines, text_of}
 
 -- the name of a refusal
 abbrev pub fault_name : CarrierFault → List ℕ
@@ -33,7 +31,7 @@ shown_text (Refused f) = codes "refused " ++ fault_name f
 
 -- all lines, each with its end
 abbrev pub output : List Shown → List ℕ
-output shown = flat_map (λ s. ended (shown_text s)) shown
+output shown = text_of shown_text shown
 
 -- what crossed, oldest first
 abbrev pub crossings_of : List Shown → List Crossing
@@ -42,10 +40,8 @@ crossings_of (Crossed c ∷ shown) = c ∷ crossings_of shown
 crossings_of (Refused f ∷ shown) = crossings_of shown
 
 -- some lines were written, and this holds of them
-pub record Writes (IsShown : List Shown → Type 0) (before after : Option (List ℕ)) : Type 0 where
-  pub shown : List Shown
-  pub is_shown : IsShown shown
-  pub written : Appends before after (output shown)
+abbrev pub Writes : (List Shown → Type 0) → Option (List ℕ) → Option (List ℕ) → Type 0
+Writes IsShown before after = WritesLines shown_text IsShown before after
 
 -- an event that was refused shows its refusal
 abbrev pub shown_refusal : Result (Unit {0}) CarrierFault → List Shown

@@ -7,6 +7,7 @@ use Rattle.leader1822.specs.declared.Inbound.{Inbound}
 use Rattle.leader1822.specs.declared.NetEvent.{NetEvent}
 use Rattle.leader1822.specs.declared.HostMessage.{HostMessage}
 use Rattle.leader1822.specs.declared.crossing.Crossing.{Crossing}
+use Rattle.replay.specs.InTurn.{EndsInTurn, InTurn}
 use Rattle.replay.specs.Output.{Shown, shown_crossings, shown_refusal}
 use Rattle.script.specs.declared.event.Event.{Event}
 use Rattle.script.specs.declared.event.Event.TheVariants as event
@@ -108,9 +109,7 @@ pub record Happens {C : Type 0} (calls : Calls C) (old : C) (e : Event) (new : C
 
 -- the events happen one after the other, and show these lines together
 abbrev pub Replays : {C : Type 0} → Calls C → C → List Event → C → List Shown → Type 0
-Replays {C} calls old [] new shown = (new ≡ old) × (shown ≡ [])
-Replays {C} calls old (e ∷ events) new shown =
-    (mid : C) × (first : List Shown) × (rest : List Shown) × Happens calls old e mid first × Replays calls mid events new rest × (shown ≡ first ++ rest)
+Replays calls old events new shown = InTurn (Happens calls) old events new shown
 
 -- ---- a replay that ends early, in one of its events
 
@@ -157,14 +156,5 @@ pub record StopsIn {C : Type 0} (calls : Calls C) (old : C) (e : Event) (new : C
   pub no_lines : IsOneCall e → shown ≡ []
 
 -- the events before the last one happened, the last one went as is said, and these lines were shown by then
-pub record EndsIn {C : Type 0} (calls : Calls C) (Goes : Calls C → C → Event → C → List Shown → Type 0) (old : C) (events : List Event) (new : C) (shown : List Shown) : Type 0 where
-  pub done : List Event
-  pub last : Event
-  pub left : List Event
-  pub parts : events ≡ done ++ last ∷ left
-  pub mid : C
-  pub front : List Shown
-  pub before : Replays calls old done mid front
-  pub own : List Shown
-  pub goes : Goes calls mid last new own
-  pub lines : shown ≡ front ++ own
+abbrev pub EndsIn : {C : Type 0} → Calls C → (Calls C → C → Event → C → List Shown → Type 0) → C → List Event → C → List Shown → Type 0
+EndsIn calls Goes old events new shown = EndsInTurn (Happens calls) (Goes calls) old events new shown

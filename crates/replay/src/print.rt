@@ -56,7 +56,7 @@ fn print_refusal<W: Write>(
     let Err(fault) = outcome else {
         return Ok(());
     };
-    let name = match name_of(fault) {
+    let name = match carrier_refusal(fault) {
         Some(name) => name,
         None => return Err(ReplayFault::OutOfMemory),
     };
@@ -64,7 +64,7 @@ fn print_refusal<W: Write>(
 }
 
 /// The name of a refusal. `None` where want of memory has stopped the carrier.
-fn name_of(fault: CarrierFault) -> Option<&'static str>
+pub fn carrier_refusal(fault: CarrierFault) -> Option<&'static str>
     ensures name { IfSome result (λ name. name.now ≡ fault_name fault) }
     ensures goes_on { IsSome result ↔ GoesOn (Err fault) }
 {
@@ -82,7 +82,7 @@ fn name_of(fault: CarrierFault) -> Option<&'static str>
 }
 
 /// A write's result, with its error told as `CannotWrite`.
-fn check_written(outcome: io::Result<()>) -> Result<(), ReplayFault>
+pub fn check_written(outcome: io::Result<()>) -> Result<(), ReplayFault>
     ensures ok { IsOk result ↔ IsOk outcome }
     ensures fault { IfErr result (λ f. f ≡ ReplayFault.CannotWrite) }
 {

@@ -1,11 +1,11 @@
 mod Digits
-mod Hosts
-mod Keywords
-mod Lines
+pub mod Hosts
+pub mod Keywords
+pub mod Lines
 mod Messages
-mod Numbers
+pub mod Numbers
 pub mod OneReading
 mod Parts
-mod Texts
-mod Words
 pub mod Places
+pub mod Texts
+pub mod Words

@@ -5,9 +5,7 @@ use Rattle.std.proofs.lemmas.List.Sums.{count_by-le-length}
 use Rattle.std.proofs.lemmas.List.Splits.{length-slice_split, slice_split_at, slice_split_none}
 use Rattle.std.proofs.lemmas.List.Elements.{All-append, All-cons, All-nil, filter-append}
 use Rattle.std.specs.List.{All}
-use Rattle.script.specs.Script.{lines_of, is_passed_over, asks, AskFor, IsFirstBad, IsReached, RanOut}
-use Rattle.script.specs.Spelling.{spelling, IsEvent, WantsMemory}
-use Rattle.script.specs.declared.event.Event.{Event}
+use Rattle.script.specs.Script.{lines_of, is_passed_over, asks, AskForAs, IsFirstBadAs, IsReachedAs, RanOutAs}
 
 -- the first line is what stands before the first octet 10
 pub lines_cut : (text line more : List ℕ) → text ≡ line ++ 10 ∷ more → All (λ x. (x == 10) ≡ false) line → lines_of text ≡ line ∷ lines_of more
@@ -50,9 +48,11 @@ line_count text =
     let most : count_by (λ b. b == 10) text ≤ length text = count_by-le-length (λ b. b == 10) text in
     omega arith
 
+-- ---- events of any kind, by how they are spelled and which of them are valid
+
 -- one more line that is passed over
-pub ask_past : (events : List Event) (lines : List (List ℕ)) (line : List ℕ) → is_passed_over line ≡ true → AskFor events lines → AskFor events (lines ++ line ∷ [])
-ask_past events lines line passed asked =
+pub ask_past : {E : Type 0} (spell : E → List ℕ) (IsMeant : E → Type 0) (events : List E) (lines : List (List ℕ)) (line : List ℕ) → is_passed_over line ≡ true → AskForAs spell IsMeant events lines → AskForAs spell IsMeant events (lines ++ line ∷ [])
+ask_past {E} spell IsMeant events lines line passed asked =
     let none : filter asks (line ∷ []) ≡ [] = ap (λ p. cond (not p) (line ∷ []) []) passed in
     record {
       spelled = asked.spelled ∙ sym (append-nil (filter asks lines)) ∙ ap (λ xs. filter asks lines ++ xs) (sym none) ∙ sym (filter-append asks lines (line ∷ []));
@@ -60,33 +60,33 @@ ask_past events lines line passed asked =
     }
 
 -- one more line that asks for an event
-pub ask_next : (events : List Event) (lines : List (List ℕ)) (line : List ℕ) (e : Event) → is_passed_over line ≡ false → line ≡ spelling e → IsEvent e → AskFor events lines → AskFor (events ++ e ∷ []) (lines ++ line ∷ [])
-ask_next events lines line e asked_for is meant asked =
+pub ask_next : {E : Type 0} (spell : E → List ℕ) (IsMeant : E → Type 0) (events : List E) (lines : List (List ℕ)) (line : List ℕ) (e : E) → is_passed_over line ≡ false → line ≡ spell e → IsMeant e → AskForAs spell IsMeant events lines → AskForAs spell IsMeant (events ++ e ∷ []) (lines ++ line ∷ [])
+ask_next {E} spell IsMeant events lines line e asked_for is meant asked =
     let one : filter asks (line ∷ []) ≡ line ∷ [] = ap (λ p. cond (not p) (line ∷ []) []) asked_for in
     record {
-      spelled = map-append spelling events (e ∷ []) ∙ ap (λ xs. xs ++ spelling e ∷ []) asked.spelled ∙ ap (λ x. filter asks lines ++ x ∷ []) (sym is) ∙ ap (λ xs. filter asks lines ++ xs) (sym one) ∙ sym (filter-append asks lines (line ∷ []));
-      meant = All-append IsEvent events (e ∷ []) asked.meant (All-cons IsEvent e [] meant (All-nil IsEvent));
+      spelled = map-append spell events (e ∷ []) ∙ ap (λ xs. xs ++ spell e ∷ []) asked.spelled ∙ ap (λ x. filter asks lines ++ x ∷ []) (sym is) ∙ ap (λ xs. filter asks lines ++ xs) (sym one) ∙ sym (filter-append asks lines (line ∷ []));
+      meant = All-append IsMeant events (e ∷ []) asked.meant (All-cons IsMeant e [] meant (All-nil IsMeant));
     }
 
-pub ask_none : (events : List Event) → events ≡ [] → AskFor events []
-ask_none events none = record { spelled = ap (map spelling) none; meant = subst (All IsEvent) (sym none) (All-nil IsEvent) }
+pub ask_none : {E : Type 0} (spell : E → List ℕ) (IsMeant : E → Type 0) (events : List E) → events ≡ [] → AskForAs spell IsMeant events []
+ask_none {E} spell IsMeant events none = record { spelled = ap (map spell) none; meant = subst (All IsMeant) (sym none) (All-nil IsMeant) }
 
 -- the line after those that were read is reached
-reached : (text : List ℕ) (n : ℕ) (line : List ℕ) (rest : List (List ℕ)) (events : List Event) → drop n (lines_of text) ≡ line ∷ rest → is_passed_over line ≡ false → AskFor events (take n (lines_of text)) → IsReached text (n + 1) line
-reached text n line rest events here asking asked =
+reached : {E : Type 0} (spell : E → List ℕ) (IsMeant : E → Type 0) (text : List ℕ) (n : ℕ) (line : List ℕ) (rest : List (List ℕ)) (events : List E) → drop n (lines_of text) ≡ line ∷ rest → is_passed_over line ≡ false → AskForAs spell IsMeant events (take n (lines_of text)) → IsReachedAs spell IsMeant text (n + 1) line
+reached {E} spell IsMeant text n line rest events here asking asked =
     let back : n + 1 - 1 ≡ n = omega arith in
     record {
       counted = omega arith;
       there = ap (slice_get (lines_of text)) back ∙ get_next n (lines_of text) rest line here;
       asks = ap not asking;
       events = events;
-      before = subst (λ k. AskFor events (take k (lines_of text))) (sym back) asked;
+      before = subst (λ k. AskForAs spell IsMeant events (take k (lines_of text))) (sym back) asked;
     }
 
 -- it is the first that is bad
-pub first_bad : (text : List ℕ) (n : ℕ) (line : List ℕ) (rest : List (List ℕ)) (events : List Event) → drop n (lines_of text) ≡ line ∷ rest → is_passed_over line ≡ false → ((e : Event) → IsEvent e → line ≢ spelling e) → AskFor events (take n (lines_of text)) → IsFirstBad text (n + 1)
-first_bad text n line rest events here asking bad asked = record { line = line; reached = reached text n line rest events here asking asked; bad = bad }
+pub first_bad : {E : Type 0} (spell : E → List ℕ) (IsMeant : E → Type 0) (text : List ℕ) (n : ℕ) (line : List ℕ) (rest : List (List ℕ)) (events : List E) → drop n (lines_of text) ≡ line ∷ rest → is_passed_over line ≡ false → ((e : E) → IsMeant e → line ≢ spell e) → AskForAs spell IsMeant events (take n (lines_of text)) → IsFirstBadAs spell IsMeant text (n + 1)
+first_bad {E} spell IsMeant text n line rest events here asking bad asked = record { line = line; reached = reached spell IsMeant text n line rest events here asking asked; bad = bad }
 
 -- memory ran out at it
-pub ran_out : (text : List ℕ) (n : ℕ) (line : List ℕ) (rest : List (List ℕ)) (events : List Event) → drop n (lines_of text) ≡ line ∷ rest → is_passed_over line ≡ false → WantsMemory line → AskFor events (take n (lines_of text)) → RanOut text
-ran_out text n line rest events here asking wants asked = record { number = n + 1; line = line; reached = reached text n line rest events here asking asked; wants = wants }
+pub ran_out : {E : Type 0} (spell : E → List ℕ) (IsMeant : E → Type 0) (Wants : List ℕ → Type 0) (text : List ℕ) (n : ℕ) (line : List ℕ) (rest : List (List ℕ)) (events : List E) → drop n (lines_of text) ≡ line ∷ rest → is_passed_over line ≡ false → Wants line → AskForAs spell IsMeant events (take n (lines_of text)) → RanOutAs spell IsMeant Wants text
+ran_out {E} spell IsMeant Wants text n line rest events here asking wants asked = record { number = n + 1; line = line; reached = reached spell IsMeant text n line rest events here asking asked; wants = wants }

@@ -17,7 +17,7 @@ use Rattle.leader1822.specs.declared.event.Direction.{Direction}
 use Rattle.leader1822.specs.declared.event.Direction.TheVariants as way
 use Rattle.leader1822.specs.declared.message.HostMessage.{HostMessage}
 use Rattle.script.specs.Input.{IsParted, ended}
-use Rattle.script.specs.Script.{AskFor, lines_of}
+use Rattle.script.specs.Script.{AskFor, AskForAs, lines_of}
 use Rattle.script.specs.Spelling.{IsEvent, IsFlow, IsHost, IsImp, IsMessage, direction_text, message_text, octets_text, spelling}
 use Rattle.script.specs.Steps.{IsFrame, frame_text, pair_text}
 use Rattle.script.specs.declared.event.Event.{Event}
@@ -31,7 +31,7 @@ use Rattle.script.proofs.Words.{SameCut, SameThree, same_cut, same_parts, same_t
 
 -- ---- hosts, flows and messages
 
-host_once : (g h : Host) → IsHost g → IsHost h → host_text g ≡ host_text h → g ≡ h
+pub host_once : (g h : Host) → IsHost g → IsHost h → host_text g ≡ host_text h → g ≡ h
 host_once g h gs hs e =
     let cut : SameCut (decimal g.host) (decimal g.imp) (decimal h.host) (decimal h.imp) =
     same_cut 47 (decimal g.host) (decimal g.imp) (decimal h.host) (decimal h.imp) (front_unmarked g gs) (front_unmarked h hs) e in
@@ -58,7 +58,7 @@ flow_once f g fs gs e = flow_same f g fs gs
     (host_unmarked 32 f.source (lit< tt) fs.0) (host_unmarked 32 f.destination (lit< tt) fs.1) (host_unmarked 32 g.source (lit< tt) gs.0) (host_unmarked 32 g.destination (lit< tt) gs.1) e)
 
 -- two texts of one length
-text_once : (a b : List Bool) → length a ≡ length b → octets_text a ≡ octets_text b → a ≡ b
+pub text_once : (a b : List Bool) → length a ≡ length b → octets_text a ≡ octets_text b → a ≡ b
 text_once [] [] long e = refl
 text_once [] (y ∷ ys) long e = absurd (omega (arith, long))
 text_once (x ∷ xs) [] long e = absurd (omega (arith, long))
@@ -157,23 +157,26 @@ made_once word other same x y p q e =
     let here : F word = λ z is alike. ap (made word).1 (operand_once (made word).0 x z p is alike) in
     subst F same here y q e
 
-event_once : (d e : Event) → IsEvent d → IsEvent e → spelling d ≡ spelling e → d ≡ e
+pub event_once : (d e : Event) → IsEvent d → IsEvent e → spelling d ≡ spelling e → d ≡ e
 event_once d e p q same =
     let cut : SameCut (keyword d) (text_of (made (keyword d)).0 (operand d)) (keyword e) (text_of (made (keyword e)).0 (operand e)) =
     same_cut 32 (keyword d) (text_of (made (keyword d)).0 (operand d)) (keyword e) (text_of (made (keyword e)).0 (operand e)) (unmarked_where 32 (keyword d) (plain d)) (unmarked_where 32 (keyword e) (plain e)) (sym (spelled d) ∙ same ∙ spelled e) in
     sym (made_again d) ∙ made_once (keyword d) (keyword e) cut.front (operand d) (operand e) (is_meant d p) (is_meant e q) cut.back ∙ made_again e
 
-events_once : (ds es : List Event) → All IsEvent ds → All IsEvent es → map spelling ds ≡ map spelling es → ds ≡ es
-events_once [] [] p q e = refl
-events_once [] (y ∷ es) p q e = absurd cc
-events_once (x ∷ ds) [] p q e = absurd cc
-events_once (x ∷ ds) (y ∷ es) p q e =
-    let first : spelling x ≡ spelling y = cc in
-    let rest : map spelling ds ≡ map spelling es = cc in
-    ap₂ (λ z zs. z ∷ zs) (event_once x y (All-head IsEvent x ds p) (All-head IsEvent y es q) first) (events_once ds es (All-tail IsEvent x ds p) (All-tail IsEvent y es q) rest)
+-- where no two valid events are spelled alike, lines ask for one list of events
+pub asked_once_as : {E : Type 0} (spell : E → List ℕ) (IsValid : E → Type 0) → ((d e : E) → IsValid d → IsValid e → spell d ≡ spell e → d ≡ e) → (ds es : List E) (lines : List (List ℕ)) → AskForAs spell IsValid ds lines → AskForAs spell IsValid es lines → ds ≡ es
+asked_once_as {E} spell IsValid once ds es lines d e = events_once ds es d.meant e.meant (d.spelled ∙ sym e.spelled) where
+  events_once : (ds es : List E) → All IsValid ds → All IsValid es → map spell ds ≡ map spell es → ds ≡ es
+  events_once [] [] p q e = refl
+  events_once [] (y ∷ es) p q e = absurd cc
+  events_once (x ∷ ds) [] p q e = absurd cc
+  events_once (x ∷ ds) (y ∷ es) p q e =
+      let first : spell x ≡ spell y = cc in
+      let rest : map spell ds ≡ map spell es = cc in
+      ap₂ (λ z zs. z ∷ zs) (once x y (All-head IsValid x ds p) (All-head IsValid y es q) first) (events_once ds es (All-tail IsValid x ds p) (All-tail IsValid y es q) rest)
 
 pub asked_once : (ds es : List Event) (lines : List (List ℕ)) → AskFor ds lines → AskFor es lines → ds ≡ es
-asked_once ds es lines d e = events_once ds es d.meant e.meant (d.spelled ∙ sym e.spelled)
+asked_once ds es lines d e = asked_once_as spelling IsEvent event_once ds es lines d e
 
 -- ---- inputs
 

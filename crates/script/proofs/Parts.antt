@@ -4,8 +4,7 @@ use Rattle.std.proofs.lemmas.List.{append_assoc, append-nil, take_at, length-app
 use Rattle.std.proofs.lemmas.List.Elements.{All-append, All-cons, All-nil}
 use Rattle.std.proofs.lemmas.Grind.{flat_map-append}
 use Rattle.std.specs.List.{All, flat_map}
-use Rattle.script.specs.Script.{lines_of}
-use Rattle.script.specs.Steps.{lines_after}
+use Rattle.script.specs.Script.{lines_of, lines_after}
 use Rattle.script.specs.Input.{ended, IsParted}
 
 -- what was passed of an input: whole lines that aren't the mark

@@ -1,20 +1,13 @@
 -- What the contracts of private functions say. No public clause cites this file.
 use Rattle.std.specs.Prelude.{◌≡◌, ◌++◌, codes, ℕ, ◌==◌, ◌&&◌, ◌||◌, nat_lt, Bool, true, false, List, [], ◌∷◌, Option, Some, None, length}
-use Rattle.std.specs.Borrow.{Bor}
 use Rattle.std.specs.Fmt.{decimal}
 use Rattle.std.specs.List.{All}
 use Rattle.leader1822.specs.Printed.{host_text}
 use Rattle.leader1822.specs.declared.address.Flow.{Flow}
-use Rattle.script.specs.Script.{lines_of}
 use Rattle.leader1822.specs.declared.event.Direction.{Direction}
 use Rattle.leader1822.specs.declared.event.NetEvent.{NetEvent}
 use Rattle.leader1822.specs.declared.event.NetEvent.TheVariants as net
 use Rattle.script.specs.Spelling.{IsHost, IsFlow, IsImp, IsIndex, direction_text}
-
--- the lines after a line, where there are any
-abbrev pub lines_after : Option (Bor (List ℕ)) → List (List ℕ)
-lines_after None = []
-lines_after (Some text) = lines_of text.now
 
 -- octets without this one
 abbrev pub Lacks : ℕ → List ℕ → Type 0

@@ -42,7 +42,7 @@ pub fn read_script(alloc: Global, text: &[u8]) -> Result<Vec<Event>, LineFault>
 }
 
 /// Whether a line is empty or a comment.
-fn is_passed_over(line: &[u8]) -> bool
+pub fn is_passed_over(line: &[u8]) -> bool
     ensures { result ≡ is_passed_over line.now }
 {
     match line.split_first() {

@@ -2,8 +2,7 @@
 
 ghost use Rattle.std.specs.Prelude.{◌≡◌, ◌≢◌, ◌≤◌, ◌++◌, ◌∷◌, [], length, codes, MatchOption, IfSome, IsTrue, ◌↔◌};
 ghost use Rattle.std.specs.List.{All};
-ghost use Rattle.script.specs.Script.{lines_of};
-ghost use Rattle.script.specs.Steps.{lines_after};
+ghost use Rattle.script.specs.Script.{lines_of, lines_after};
 ghost use Rattle.script.specs.Input.{IsParted};
 
 use crate::word::cut;
@@ -49,7 +48,7 @@ fn is_marker(line: &[u8]) -> bool
 }
 
 /// The first line of a text, and the text after it where there is a further line.
-pub(crate) fn first_line(text: &[u8]) -> (&[u8], Option<&[u8]>)
+pub fn first_line(text: &[u8]) -> (&[u8], Option<&[u8]>)
     ensures lines { lines_of text.now ≡ result.0.now ∷ lines_after result.1 }
     ensures whole { MatchOption result.1 (text.now ≡ result.0.now) (λ more. text.now ≡ result.0.now ++ 10 ∷ more.now) }
 {

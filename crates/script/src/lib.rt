@@ -13,6 +13,7 @@ mod hexadecimal;
 mod input;
 pub mod law;
 mod network;
+pub mod reading;
 mod word;
 
 pub use event::Event;

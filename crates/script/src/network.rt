@@ -1,6 +1,7 @@
 //! Lines of what happens inside a network.
 
-ghost use Rattle.std.specs.Prelude.{ℕ, ◌∷◌, ◌++◌};
+ghost use Rattle.std.specs.Prelude.{◌≡◌, ℕ, ◌==◌, false, ◌∷◌, ◌++◌};
+ghost use Rattle.std.specs.List.{All};
 ghost use Rattle.script.specs.Spelling.{ReadsAs, IsNetEvent, net_spelling};
 ghost use Rattle.script.specs.Steps.{Lacks, IsOfHosts, IsOfImps, IsOfLines, frame_text, IsFrame, pair_text, IsEnd, AreImps};
 
@@ -9,8 +10,8 @@ use crate::word::{cut, plain_number, read_direction, read_host, read_imp};
 use leader1822::{Direction, ImpNumber, NetEvent};
 
 /// What happens inside a network by a line, from its first word and what follows it.
-pub(crate) fn read_net(word: &[u8], rest: &[u8]) -> Option<NetEvent>
-    requires { Lacks 32 word.now }
+pub fn read_net(word: &[u8], rest: &[u8]) -> Option<NetEvent>
+    requires { All (λ x. (x == 32) ≡ false) word.now }
     ensures { ReadsAs net_spelling IsNetEvent (word.now ++ 32 ∷ rest.now) result }
 {
     if let Some(event) = read_host_event(word, rest) {

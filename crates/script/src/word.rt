@@ -15,7 +15,7 @@ use std::alloc::{AllocError, Global};
 use std::str;
 
 /// What stands before the first separator, and what stands after it. `None` where there is no separator.
-pub(crate) fn cut(text: &[u8], separator: u8) -> Option<(&[u8], &[u8])>
+pub fn cut(text: &[u8], separator: u8) -> Option<(&[u8], &[u8])>
     ensures { MatchOption result (All (λ x. (x == separator) ≡ false) text.now) (λ parts. (text.now ≡ parts.0.now ++ separator ∷ parts.1.now) × All (λ x. (x == separator) ≡ false) parts.0.now) }
 {
     let at = text.iter().position(|octet| *octet == separator)?;
@@ -23,7 +23,7 @@ pub(crate) fn cut(text: &[u8], separator: u8) -> Option<(&[u8], &[u8])>
 }
 
 /// The number up to `most` that a word spells, without sign and leading zeros.
-pub(crate) fn read_number(word: &[u8], most: u32) -> Option<u32>
+pub fn read_number(word: &[u8], most: u32) -> Option<u32>
     ensures { ReadsAs decimal (λ n. n ≤ most) word.now result }
 {
     let number = plain_number(word)?;
@@ -31,7 +31,7 @@ pub(crate) fn read_number(word: &[u8], most: u32) -> Option<u32>
 }
 
 /// The number of 32 bits that a word spells.
-pub(crate) fn plain_number(word: &[u8]) -> Option<u32>
+pub fn plain_number(word: &[u8]) -> Option<u32>
     ensures { ReadsAs decimal (λ n. n < 2 ^ 32) word.now result }
 {
     if begins_wrong(word) {
@@ -82,15 +82,14 @@ pub(crate) fn read_direction(word: &[u8]) -> Option<Direction>
 }
 
 /// The host that a word spells as `host/imp`.
-pub(crate) fn read_host(word: &[u8]) -> Option<HostAddr>
+pub fn read_host(word: &[u8]) -> Option<HostAddr>
     ensures { ReadsAs host_text IsHost word.now result }
 {
     let (host, imp) = cut(word, b'/')?;
     HostAddr::new(read_octet(host)?, read_octet(imp)?)
 }
 
-/// The text of `count` bits whose octets a word spells: in upper case hexadecimal with unused bits zero, or
-/// as `-` for no bits.
+/// The text of `count` bits whose octets a word spells, as [`read_bits`] reads them.
 ///
 /// Errors: `AllocError`, only for a word of hexadecimal octets.
 pub(crate) fn read_text(
@@ -102,9 +101,23 @@ pub(crate) fn read_text(
     ensures read { IfOk result (ReadsAs octets_text (λ bits. length bits ≡ count) word.now) }
     ensures memory { IfErr result (λ _. IsHex word.now) }
 {
+    match read_bits(alloc, count, word)? {
+        Some(bits) => Ok(Text::new(bits)),
+        None => Ok(None),
+    }
+}
+
+/// The `count` bits whose octets a word spells: in upper case hexadecimal with unused bits zero, or as `-`
+/// for no bits.
+///
+/// Errors: `AllocError`, only for a word of hexadecimal octets.
+pub fn read_bits(alloc: Global, count: usize, word: &[u8]) -> Result<Option<Bits>, AllocError>
+    ensures read { IfOk result (ReadsAs octets_text (λ bits. length bits ≡ count) word.now) }
+    ensures memory { IfErr result (λ _. IsHex word.now) }
+{
     if count == 0 {
         return Ok(if word == b"-".as_slice() {
-            Text::new(Bits::new(alloc))
+            Some(Bits::new(alloc))
         } else {
             None
         });
@@ -116,7 +129,7 @@ pub(crate) fn read_text(
         return Ok(None);
     };
     if bits.as_octets() == octets.as_slice() {
-        Ok(Text::new(bits))
+        Ok(Some(bits))
     } else {
         Ok(None)
     }

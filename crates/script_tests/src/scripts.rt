@@ -8,6 +8,7 @@ use std::io::{Cursor, Read, Write};
 mod bad;
 mod faults;
 mod runs;
+mod worlds;
 
 /// Two IMPs with a host each, and the marker.
 const TWO_IMPS: &str =

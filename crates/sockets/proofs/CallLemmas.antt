@@ -1,14 +1,18 @@
 -- How a call ends that is served by what was done to a peer.
-use Rattle.std.proofs.Common.{◌≡◌, ℕ, true, false, List, [], Result, Ok, Err, Option, Some, OnErr, OnOk, IfErr, MatchResult, ◌+◌, ◌<◌, subst, refl, sym, ◌∙◌}
+use Rattle.std.proofs.Common.{◌≡◌, ℕ, true, false, List, [], Result, Ok, Err, Option, Some, OnErr, OnOk, IfErr, MatchResult, ◌+◌, ◌<◌, subst, refl, sym, ◌∙◌, arith}
 use Rattle.std.specs.declared.alloc.AllocError.{AllocError}
 use Rattle.sockets.specs.Calls.{IsSpent}
 use Rattle.sockets.specs.Memory.{newly_known, queued_by_closing}
-use Rattle.sockets.specs.Pairs.{NcpState, listens_on, owner_of}
+use Rattle.sockets.specs.Pairs.{NcpState, owner_of}
+use Rattle.host_pairs.specs.Desk.{listens_on}
 use Rattle.leader1822.specs.Host.{Host}
-use Rattle.sockets.specs.Requests.{at_owner, closed_end, closed_socket, with_peer}
+use Rattle.sockets.specs.Peers.{AreInOrder}
+use Rattle.sockets.proofs.PeerLemmas.{owner_known}
+use Rattle.sockets.specs.Requests.{at_owner, closed_socket, with_peer}
+use Rattle.host_pairs.specs.Asked.{closed_end}
 use Rattle.sockets.specs.declared.fault.NcpFault.{NcpFault}
 use Rattle.sockets.specs.declared.fault.NcpFault.TheVariants as fault
-use Rattle.sockets.specs.declared.notice.Notice.{Notice}
+use Rattle.host_pairs.specs.declared.notice.Notice.{Notice}
 
 -- what was done is what is to be served
 pub ended : (done : Result (Unit {0}) AllocError) (result : Result (Unit {0}) NcpFault) (mid new found target : NcpState)
@@ -23,15 +27,21 @@ pub closed_found : (s : NcpState) (socket : ℕ) (peer : Host) → listens_on so
     → at_owner s (owner_of socket s.peers) (λ e. closed_end socket) ≡ with_peer s peer (closed_end socket) → closed_socket s socket ≡ with_peer s peer (closed_end socket)
 closed_found s socket peer silent is = rw silent is
 
--- where memory ran out, what was to be served wants it
-pub wanted : (more : ℕ) (done : Result (Unit {0}) AllocError) (result : Result (Unit {0}) NcpFault) (mid new old found target : NcpState)
-    → OnErr done (0 < more + newly_known old found) → target ≡ found
-    → MatchResult done (λ x. (result ≡ Ok x) × (new ≡ mid)) (λ e. (result ≡ Err fault.OutOfMemory) × (new.spent ≡ true))
-    → IfErr result (λ f. 0 < more + newly_known old target)
-wanted more (Ok x) result mid new old found target memory is ends = rw (ends.0) tt
-wanted more (Err e) result mid new old found target memory is ends = rw (ends.0) (subst (λ (s : NcpState). 0 < more + newly_known old s) (sym is) memory)
+-- to close a connection makes no host known
+pub closed_known : (s : NcpState) (socket : ℕ) → AreInOrder s.peers → listens_on socket s.listening ≡ false → newly_known s (closed_socket s socket) ≡ 0
+closed_known s socket order silent = rw silent (owner_known s socket (λ e. closed_end socket) order (owner_of socket s.peers) refl)
 
-pub wanted_closing : (socket : ℕ) (peer : Host) (old : NcpState) (o : Option Host) (result : Result (Unit {0}) NcpFault) (target : NcpState) → o ≡ Some peer
-    → IfErr result (λ f. 0 < queued_by_closing old socket (Some peer) + newly_known old target) → IfErr result (λ f. 0 < queued_by_closing old socket o + newly_known old target)
-wanted_closing socket peer old o result target is memory =
-    subst (λ (x : Option Host). IfErr result (λ f. 0 < queued_by_closing old socket x + newly_known old target)) (sym is) memory
+-- where memory ran out, what was to be served wants it; and no host came to be known by what was done to the owner of a socket
+pub wanted : (more : ℕ) (done : Result (Unit {0}) AllocError) (result : Result (Unit {0}) NcpFault) (mid new old found target : NcpState)
+    → OnErr done (0 < more + newly_known old found) → target ≡ found → newly_known old target ≡ 0
+    → MatchResult done (λ x. (result ≡ Ok x) × (new ≡ mid)) (λ e. (result ≡ Err fault.OutOfMemory) × (new.spent ≡ true))
+    → IfErr result (λ f. 0 < more)
+wanted more (Ok x) result mid new old found target memory is none ends = rw (ends.0) tt
+wanted more (Err e) result mid new old found target memory is none ends =
+    let wants : 0 < more + newly_known old target = subst (λ (s : NcpState). 0 < more + newly_known old s) (sym is) memory in
+    rw (ends.0) (omega (arith, wants, none))
+
+pub wanted_closing : (socket : ℕ) (peer : Host) (old : NcpState) (o : Option Host) (result : Result (Unit {0}) NcpFault) → o ≡ Some peer
+    → IfErr result (λ f. 0 < queued_by_closing old socket (Some peer)) → IfErr result (λ f. 0 < queued_by_closing old socket o)
+wanted_closing socket peer old o result is memory =
+    subst (λ (x : Option Host). IfErr result (λ f. 0 < queued_by_closing old socket x)) (sym is) memory

@@ -1,11 +1,12 @@
 -- The peer that something goes to stands among the peers with its pair.
 use Rattle.std.proofs.Common.{◌≡◌, ℕ, ◌<◌, Bool, true, false, List, [], ◌∷◌, Option, Some, None, refl, ap, subst, arith}
 use Rattle.leader1822.specs.Host.{Host, same_host, address_octet}
-use Rattle.sockets.specs.Outgoing.{IsThere, parcel_of}
+use Rattle.host_pairs.specs.Outgoing.{IsThere, parcel_of}
 use Rattle.sockets.specs.Pairs.{pair_with}
 use Rattle.sockets.specs.Peers.{StandAbove, AreInOrder}
-use Rattle.sockets.specs.Sending.{Parcel, next_of, next_in}
-use Rattle.sockets.specs.declared.outgoing.Outgoing.{Outgoing}
+use Rattle.host_pairs.specs.Parcels.{Parcel, next_of}
+use Rattle.sockets.specs.Sending.{next_in}
+use Rattle.host_pairs.specs.declared.outgoing.Outgoing.{Outgoing}
 use Rattle.sockets.specs.declared.peer.Peer.{Peer}
 use Rattle.sockets.proofs.PeerLemmas.{same_octet, same_self}
 

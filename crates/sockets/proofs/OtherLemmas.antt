@@ -5,15 +5,19 @@ use Rattle.leader1822.specs.declared.address.Flow.{Flow}
 use Rattle.leader1822.specs.declared.crossing.Answer.{Answer}
 use Rattle.leader1822.specs.declared.crossing.Inbound.TheVariants as inbound
 use Rattle.leader1822.specs.declared.message.HostMessage.{HostMessage}
-use Rattle.sockets.specs.Accepting.{accepted, accepted_message, accepted_answer, message_taken, answered_turn, turn_of}
+use Rattle.sockets.specs.Accepting.{accepted, accepted_message, accepted_answer, turn_of}
+use Rattle.host_pairs.specs.Turn.{message_taken, answered_turn}
 use Rattle.ncp_control.specs.declared.command.Command.TheVariants as command
-use Rattle.sockets.specs.Entries.{is_busy, sending_end, free_link}
+use Rattle.host_pairs.specs.Entries.{is_busy, sending_end, free_link}
 use Rattle.sockets.specs.Others.{owner_host, peer_of, is_about}
-use Rattle.sockets.specs.Pair.{PairState}
-use Rattle.sockets.specs.Pairs.{NcpState, pair_with, desk_of, listens_on, owner_of}
-use Rattle.sockets.specs.Requests.{served, contacted, requested, receiver_requested, commanded, at_owner, closed_socket, closed_end}
-use Rattle.sockets.specs.Sending.{Parcel, offered, next_in, pair_after, parcel_gone}
-use Rattle.sockets.specs.declared.entry.Entry.{Entry}
+use Rattle.host_pairs.specs.Pair.{PairState}
+use Rattle.sockets.specs.Pairs.{NcpState, pair_with, owner_of}
+use Rattle.host_pairs.specs.Desk.{desk_of, listens_on}
+use Rattle.sockets.specs.Requests.{served, at_owner, closed_socket}
+use Rattle.host_pairs.specs.Asked.{contacted, requested, receiver_requested, commanded, closed_end}
+use Rattle.host_pairs.specs.Parcels.{Parcel, pair_after, parcel_gone}
+use Rattle.sockets.specs.Sending.{offered, next_in}
+use Rattle.host_pairs.specs.declared.entry.Entry.{Entry}
 use Rattle.sockets.specs.declared.peer.Peer.{Peer}
 use Rattle.sockets.specs.declared.request.Request.{Request}
 use Rattle.sockets.specs.declared.request.Request.TheVariants as request

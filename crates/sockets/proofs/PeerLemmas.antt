@@ -1,11 +1,17 @@
 -- Peers in order: where a host stands among them.
-use Rattle.std.proofs.Common.{◌≡◌, ℕ, ◌<◌, ◌≤◌, Bool, true, false, ◌&&◌, ◌==◌, List, [], ◌∷◌, length, find, Some, None, slice_set, slice_index_or, refl, ap, sym, subst, ◌∙◌, arith, suc, zero, nat_lt, eq-eqb}
+use Rattle.std.proofs.Common.{◌≡◌, ℕ, ◌<◌, ◌≤◌, ◌-◌, Bool, true, false, not, ◌&&◌, ◌==◌, List, [], ◌∷◌, length, find, Option, Some, None, slice_set, slice_index_or, refl, ap, sym, subst, ◌∙◌, arith, suc, zero, nat_lt, eq-eqb}
+use Rattle.std.specs.List.{count_by}
+use Rattle.std.proofs.lemmas.List.Sums.{length-filter, count_by-le-length}
 use Rattle.std.specs.List.{insert, remove}
 use Rattle.std.specs.List.Sorted.{IsPartitionPoint, IsPartitionedBy}
 use Rattle.std.proofs.lemmas.Bool.{eqb-true, ltb-true, ltb-false}
 use Rattle.leader1822.specs.Host.{Host, IsAddress, same_host, address_octet}
-use Rattle.sockets.specs.Pair.{PairState, is_opening}
-use Rattle.sockets.specs.Pairs.{placed, without_peer, with_pair}
+use Rattle.host_pairs.specs.Pair.{PairState, is_opening}
+use Rattle.host_pairs.specs.Entries.{is_mine_on}
+use Rattle.host_pairs.specs.declared.entry.Entry.{Entry}
+use Rattle.sockets.specs.Memory.{newly_known}
+use Rattle.sockets.specs.Pairs.{NcpState, owner_of, pair_with, placed, without_peer, with_pair}
+use Rattle.sockets.specs.Requests.{at_owner}
 use Rattle.sockets.specs.Peers.{StandAbove, AreInOrder}
 use Rattle.sockets.specs.declared.peer.Peer.{Peer}
 
@@ -292,6 +298,63 @@ partitioned_at h n (p ∷ ps) s (suc i) (suc j) d le lt t = partitioned_at h (ad
 
 pub partitioned : (h : Host) (n : ℕ) (ps : List Peer) → StandAbove n ps → IsPartitionedBy (λ (p : Peer). nat_lt (address_octet p.host) (address_octet h)) ps
 partitioned h n ps s = λ i j d le lt t. partitioned_at h n ps s i j d le lt t
+
+-- ---- a peer that is known
+
+abbrev host_or : Host → Option (Host × Entry) → Host
+host_or h None = h
+host_or h (Some found) = found.0
+
+owner_above_by : (socket n : ℕ) (p : Peer) (ps : List Peer) (h : Host) (e : Entry) → StandAbove n (p ∷ ps) → (owner_of socket ps ≡ Some (h, e) → address_octet p.host < address_octet h)
+    → (o : Option Entry) → find (is_mine_on socket) p.pair.entries ≡ o → owner_of socket (p ∷ ps) ≡ Some (h, e) → n < address_octet h
+owner_above_by socket n p ps h e s rest (Some x) f is =
+    let same : p.host ≡ h = ap (host_or p.host) (rw f at is) in
+    subst (λ (g : Host). n < address_octet g) same s.0
+owner_above_by socket n p ps h e s rest None f is =
+    let later : owner_of socket ps ≡ Some (h, e) = rw f at is in
+    omega (arith, s.0, rest later)
+
+owner_above : (socket n : ℕ) (ps : List Peer) (h : Host) (e : Entry) → StandAbove n ps → owner_of socket ps ≡ Some (h, e) → n < address_octet h
+owner_above socket n [] h e s is = absurd (cc)
+owner_above socket n (p ∷ ps) h e s is =
+    owner_above_by socket n p ps h e s (λ later. owner_above socket (address_octet p.host) ps h e s.2 later) (find (is_mine_on socket) p.pair.entries) refl is
+
+known_by : (socket n : ℕ) (p : Peer) (ps : List Peer) (h : Host) (e : Entry) (q : PairState) → StandAbove n (p ∷ ps)
+    → (owner_of socket ps ≡ Some (h, e) → length (placed (peer_at h q) ps) ≤ length ps)
+    → (o : Option Entry) → find (is_mine_on socket) p.pair.entries ≡ o → owner_of socket (p ∷ ps) ≡ Some (h, e) → length (placed (peer_at h q) (p ∷ ps)) ≤ length (p ∷ ps)
+known_by socket n p ps h e q s rest (Some x) f is =
+    let same : p.host ≡ h = ap (host_or p.host) (rw f at is) in
+    subst (λ (g : Host). length (placed (peer_at g q) (p ∷ ps)) ≤ length (p ∷ ps)) same
+    (rw (not_less (address_octet p.host) (address_octet p.host) (omega arith), same_self p.host) (omega arith))
+known_by socket n p ps h e q s rest None f is =
+    let later : owner_of socket ps ≡ Some (h, e) = rw f at is in
+    let above : nat_lt (address_octet p.host) (address_octet h) ≡ true =
+    less_by (address_octet p.host) (address_octet h) (owner_above socket (address_octet p.host) ps h e s.2 later) (nat_lt (address_octet p.host) (address_octet h)) refl in
+    let more : length (placed (peer_at h q) ps) ≤ length ps = rest later in
+    rw above (omega (arith, more))
+
+known_placed : (socket n : ℕ) (ps : List Peer) (h : Host) (e : Entry) (q : PairState) → StandAbove n ps → owner_of socket ps ≡ Some (h, e) → length (placed (peer_at h q) ps) ≤ length ps
+known_placed socket n [] h e q s is = absurd (cc)
+known_placed socket n (p ∷ ps) h e q s is =
+    known_by socket n p ps h e q s (λ later. known_placed socket (address_octet p.host) ps h e q s.2 later) (find (is_mine_on socket) p.pair.entries) refl is
+
+known_with : (socket : ℕ) (ps : List Peer) (h : Host) (e : Entry) (q : PairState) → AreInOrder ps → owner_of socket ps ≡ Some (h, e) → (b : Bool) → is_opening q ≡ b
+    → length (with_pair h q ps) ≤ length ps
+known_with socket ps h e q s is true o =
+    rw o (let count : length (without_peer h ps) ≡ count_by (λ (p : Peer). not (same_host h p.host)) ps = length-filter (λ (p : Peer). not (same_host h p.host)) ps in
+    omega (arith, count, count_by-le-length (λ (p : Peer). not (same_host h p.host)) ps))
+known_with socket ps h e q s is false o = rw o (known_placed socket 0 ps h e q s is)
+
+none_more : (m n : ℕ) → m ≤ n → m - n ≡ 0
+none_more m n le = omega (arith, le)
+
+-- what is done to the owner of a socket makes no host known
+pub owner_known : (s : NcpState) (socket : ℕ) (change : Entry → PairState → PairState) → AreInOrder s.peers → (o : Option (Host × Entry)) → owner_of socket s.peers ≡ o
+    → newly_known s (at_owner s o change) ≡ 0
+owner_known s socket change order None is = none_more (length s.peers) (length s.peers) (omega arith)
+owner_known s socket change order (Some (h, e)) is =
+    none_more (length (with_pair h (change e (pair_with h s.peers)) s.peers)) (length s.peers)
+    (known_with socket s.peers h e (change e (pair_with h s.peers)) order is (is_opening (change e (pair_with h s.peers))) refl)
 
 -- ---- what stands where a peer was put
 

@@ -4,13 +4,13 @@ use Rattle.bit_messages.specs.Octets.{bits_of, octets_of}
 use Rattle.ncp_control.specs.Packing.{packed_count}
 use Rattle.ncp_control.specs.Reading.{read_of, command_of}
 use Rattle.sockets.specs.Accepting.{accepted}
-use Rattle.sockets.specs.Control.{orders_of}
+use Rattle.host_pairs.specs.Control.{orders_of}
 use Rattle.sockets.specs.Dialogue.{state_of, Ask}
 use Rattle.sockets.specs.Requests.{refusal, served, served_notices}
 use Rattle.sockets.specs.Sending.{next_out, offered}
 use Rattle.sockets.specs.Worked.{first, second, third, talk, message, control, reset, opening, closing, crossing, failing, sending, asking_back, giving_back, many_opened, twelve, second_after}
 use Rattle.sockets.specs.declared.fault.NcpFault.TheVariants as fault
-use Rattle.sockets.specs.declared.notice.Notice.TheVariants as notice
+use Rattle.host_pairs.specs.declared.notice.Notice.TheVariants as notice
 use Rattle.sockets.specs.declared.request.Request.TheVariants as request
 
 pub dialogue_reset : (talk reset).notices ≡ (second, notice.Ready first) ∷ (first, notice.Ready second) ∷ []

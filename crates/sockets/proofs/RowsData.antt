@@ -5,11 +5,11 @@ use Rattle.leader1822.specs.declared.crossing.Answer.TheVariants as answer
 use Rattle.ncp_control.specs.Packing.{packed_count}
 use Rattle.ncp_control.specs.Reading.{read_of, command_of}
 use Rattle.sockets.specs.Accepting.{accepted}
-use Rattle.sockets.specs.Control.{orders_of}
+use Rattle.host_pairs.specs.Control.{orders_of}
 use Rattle.sockets.specs.Requests.{served, refusal, served_notices}
 use Rattle.sockets.specs.Sending.{next_out, offered}
 use Rattle.sockets.specs.Worked.{first, second, message, control, heard, got, answered, gone, sending, opened, first_in, second_in, two_senders, ALL, GVB, RET, INR, INS, ECO, ERP, ERR}
-use Rattle.sockets.specs.declared.notice.Notice.TheVariants as notice
+use Rattle.host_pairs.specs.declared.notice.Notice.TheVariants as notice
 use Rattle.sockets.specs.declared.request.Request.TheVariants as request
 
 pub data_covered : (got (served (first_in opened) (request.Grant 16 1 16)) second 2 (0 ∷ 8 ∷ 0 ∷ 2 ∷ 0 ∷ 65 ∷ 66 ∷ [])).1 ≡ notice.Arrived 16 (bits_of (65 ∷ 66 ∷ [])) ∷ []

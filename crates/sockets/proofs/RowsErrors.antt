@@ -5,11 +5,11 @@ use Rattle.ncp_control.specs.Packing.{packed_count}
 use Rattle.ncp_control.specs.Reading.{read_of, command_of}
 use Rattle.ncp_control.specs.declared.command.Command.TheVariants as command
 use Rattle.sockets.specs.Accepting.{accepted}
-use Rattle.sockets.specs.Control.{Legal, Wrong, orders_of, control_text}
+use Rattle.host_pairs.specs.Control.{Legal, Wrong, orders_of, control_text}
 use Rattle.sockets.specs.Requests.{refusal, served, served_notices}
 use Rattle.sockets.specs.Sending.{next_out, offered}
 use Rattle.sockets.specs.Worked.{first, second, control, heard, got, reset, twelve, second_in, RTS, STR, ECO, ERP, ERR}
-use Rattle.sockets.specs.declared.notice.Notice.TheVariants as notice
+use Rattle.host_pairs.specs.declared.notice.Notice.TheVariants as notice
 use Rattle.std.specs.List.{range_with_len}
 
 pub errors_each_length : map (λ k. orders_of (control_text (take k (RTS 16 33 5)))) (range_with_len 0 11) ≡ [] ∷ (Wrong 2 (1 ∷ []) ∷ []) ∷ (Wrong 2 (1 ∷ 0 ∷ []) ∷ []) ∷ (Wrong 2 (1 ∷ 0 ∷ 0 ∷ []) ∷ []) ∷ (Wrong 2 (1 ∷ 0 ∷ 0 ∷ 0 ∷ []) ∷ []) ∷ (Wrong 2 (1 ∷ 0 ∷ 0 ∷ 0 ∷ 16 ∷ []) ∷ []) ∷ (Wrong 2 (1 ∷ 0 ∷ 0 ∷ 0 ∷ 16 ∷ 0 ∷ []) ∷ []) ∷ (Wrong 2 (1 ∷ 0 ∷ 0 ∷ 0 ∷ 16 ∷ 0 ∷ 0 ∷ []) ∷ []) ∷ (Wrong 2 (1 ∷ 0 ∷ 0 ∷ 0 ∷ 16 ∷ 0 ∷ 0 ∷ 0 ∷ []) ∷ []) ∷ (Wrong 2 (1 ∷ 0 ∷ 0 ∷ 0 ∷ 16 ∷ 0 ∷ 0 ∷ 0 ∷ 33 ∷ []) ∷ []) ∷ (Legal (command.Rts 16 33 5) ∷ []) ∷ []

@@ -5,11 +5,11 @@ use Rattle.leader1822.specs.declared.crossing.Answer.TheVariants as answer
 use Rattle.ncp_control.specs.Packing.{packed_count}
 use Rattle.ncp_control.specs.Reading.{read_of, command_of}
 use Rattle.sockets.specs.Accepting.{accepted}
-use Rattle.sockets.specs.Control.{orders_of}
+use Rattle.host_pairs.specs.Control.{orders_of}
 use Rattle.sockets.specs.Requests.{refusal, served, served_notices}
 use Rattle.sockets.specs.Sending.{next_out, offered}
 use Rattle.sockets.specs.Worked.{first, second, control, heard, got, answered, delivered, reset, twelve, second_in, closed, want, rst_out, rst_taken, ready, every_command, CLS, ALL, GVB, RET, INR, INS, ERP, ERR, RST, RRP}
-use Rattle.sockets.specs.declared.notice.Notice.TheVariants as notice
+use Rattle.host_pairs.specs.declared.notice.Notice.TheVariants as notice
 
 pub phases_closed_commands : heard closed second every_command ≡ (closed, [])
 unfolding octets_of orders_of read_of command_of packed_count accepted refusal served served_notices next_out offered

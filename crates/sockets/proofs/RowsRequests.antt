@@ -4,11 +4,11 @@ use Rattle.bit_messages.specs.Octets.{bits_of, octets_of}
 use Rattle.ncp_control.specs.Packing.{packed_count}
 use Rattle.ncp_control.specs.Reading.{read_of, command_of}
 use Rattle.sockets.specs.Accepting.{accepted}
-use Rattle.sockets.specs.Control.{orders_of}
+use Rattle.host_pairs.specs.Control.{orders_of}
 use Rattle.sockets.specs.Requests.{served, refusal, served_notices}
 use Rattle.sockets.specs.Sending.{next_out, offered}
 use Rattle.sockets.specs.Worked.{first, second, talk, news, control, heard, got, reset, opened, closed_early, opening_by_sender, closed_unasked, both_asking, first_in, second_in, ready, RTS, STR, CLS, ALL, GVB, RET, INR, INS, ERR}
-use Rattle.sockets.specs.declared.notice.Notice.TheVariants as notice
+use Rattle.host_pairs.specs.declared.notice.Notice.TheVariants as notice
 use Rattle.sockets.specs.declared.request.Request.TheVariants as request
 
 pub requests_taken_when_closed : next_out (first_in closed_early) ≡ Some (control first second (CLS 16 33))

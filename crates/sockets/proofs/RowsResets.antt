@@ -6,12 +6,12 @@ use Rattle.leader1822.specs.declared.crossing.Inbound.TheVariants as inbound
 use Rattle.ncp_control.specs.Packing.{packed_count}
 use Rattle.ncp_control.specs.Reading.{read_of, command_of}
 use Rattle.sockets.specs.Accepting.{accepted}
-use Rattle.sockets.specs.Control.{orders_of}
+use Rattle.host_pairs.specs.Control.{orders_of}
 use Rattle.sockets.specs.Requests.{refusal, served, served_notices}
 use Rattle.sockets.specs.Sending.{next_out, offered}
 use Rattle.sockets.specs.Worked.{first, second, third, neighbour, talk, control, on_link, heard, answered, gone, delivered, reset, sending, opened, own_reset, own_opening, first_in, second_in, closed, rst_out, rst_taken, ready, want_again, RTS, STR, CLS, ECO, ERP, RST, RRP}
 use Rattle.sockets.specs.declared.fault.NcpFault.TheVariants as fault
-use Rattle.sockets.specs.declared.notice.Notice.TheVariants as notice
+use Rattle.host_pairs.specs.declared.notice.Notice.TheVariants as notice
 use Rattle.sockets.specs.declared.request.Request.TheVariants as request
 
 pub resets_own_peer : (talk (own_reset ++ own_opening)).notices ≡ (first, notice.Ready first) ∷ (first, notice.Opened 33 first 16 9 7) ∷ (first, notice.Opened 16 first 33 6 10) ∷ []

@@ -1,38 +1,18 @@
 -- When the program wants memory: only where it has something more to say, to the peer or to its user.
-use Rattle.std.specs.Prelude.{ℕ, ◌+◌, ◌-◌, ◌==◌, Bool, if◌then◌else◌, List, [], ◌∷◌, length, Option, Some, None}
+use Rattle.std.specs.Prelude.{ℕ, ◌+◌, ◌-◌, if◌then◌else◌, length, Option, Some, None}
 use Rattle.leader1822.specs.Host.{Host, same_host}
-use Rattle.leader1822.specs.declared.crossing.Answer.{Answer}
 use Rattle.leader1822.specs.declared.crossing.Inbound.{Inbound}
 use Rattle.leader1822.specs.declared.crossing.Inbound.TheVariants as inbound
-use Rattle.sockets.specs.Accepting.{TurnState, order_taken, if_ready, answered_turn, turn_of}
-use Rattle.sockets.specs.Control.{Order, orders_of}
-use Rattle.sockets.specs.Data.{data_taken}
-use Rattle.sockets.specs.Entries.{is_busy}
-use Rattle.sockets.specs.Pairs.{DeskState, NcpState, pair_with}
-use Rattle.sockets.specs.Requests.{closed_end}
-
--- how much waits to be said, to the peer and to the user
-abbrev pub said : DeskState → ℕ
-said d = length d.queue + length d.notices
-
--- how much is newly said, to the peer and to the user. A reset leaves less to be said to the peer
-abbrev pub newly_said : TurnState → TurnState → ℕ
-newly_said old new = (length new.pair.queue - length old.pair.queue) + (length new.notices - length old.notices)
-
--- how much these orders have said, one after another
-abbrev pub said_by : Host → ℕ → List Order → TurnState → ℕ
-said_by peer stamp [] t = 0
-said_by peer stamp (o ∷ os) t = newly_said t (order_taken peer stamp o t) + said_by peer stamp os (order_taken peer stamp o t)
-
--- how much a message has said
-abbrev pub said_by_message : Host → ℕ → ℕ → List Bool → TurnState → ℕ
-said_by_message peer stamp link text t =
-    if link == 0 then said_by peer stamp (orders_of text) t
-    else newly_said t (if_ready (data_taken link text) t)
-
--- how much an answer has said
-abbrev pub said_by_answer : Host → Answer → ℕ → TurnState → ℕ
-said_by_answer peer kind link t = newly_said t (answered_turn peer kind link t)
+use Rattle.sockets.specs.Accepting.{turn_of}
+use Rattle.host_pairs.specs.Entries.{is_busy}
+use Rattle.host_pairs.specs.Asked.{contact_notices}
+use Rattle.sockets.specs.Others.{owner_host}
+use Rattle.sockets.specs.Pairs.{NcpState, owner_of, pair_with}
+use Rattle.sockets.specs.Requests.{served}
+use Rattle.sockets.specs.declared.request.Request.{Request}
+use Rattle.sockets.specs.declared.request.Request.TheVariants as request
+use Rattle.host_pairs.specs.Asked.{closed_end}
+use Rattle.host_pairs.specs.Said.{said_by_message, said_by_answer}
 
 -- how much what comes in has said; nothing where it isn't for this host, or answers nothing that it has out
 abbrev pub said_by_inbound : NcpState → Inbound → ℕ → ℕ
@@ -51,3 +31,11 @@ newly_known old new = length new.peers - length old.peers
 abbrev pub queued_by_closing : NcpState → ℕ → Option Host → ℕ
 queued_by_closing s socket None = 0
 queued_by_closing s socket (Some peer) = length (closed_end socket (pair_with peer s.peers)).queue - length (pair_with peer s.peers).queue
+
+-- how much more is kept once a request is served: for a contact what is told and a host that comes to be known, for a send its bits,
+-- for a close the commands that it queues at once; for any other request one thing, a socket that listens or a command
+abbrev pub newly_kept : NcpState → Request → ℕ
+newly_kept s (request.Contact peer) = length (contact_notices peer (pair_with peer s.peers).phase) + newly_known s (served s (request.Contact peer))
+newly_kept s (request.Send socket bits) = length bits
+newly_kept s (request.Close socket) = queued_by_closing s socket (owner_host (owner_of socket s.peers))
+newly_kept s r = 1

@@ -1,25 +1,22 @@
 -- What a user asks for (NIC 8246 leaves the calls to each host; RTS, STR, CLS, ALL, GVB, INR, INS, ECO and RST go out by them).
-use Rattle.std.specs.Prelude.{ℕ, ◌+◌, ◌%◌, ◌==◌, ◌&&◌, ◌||◌, not, Bool, false, nat_lt, if◌then◌else◌, List, [], ◌∷◌, ◌++◌, length, Option, Some, None, is_some}
+use Rattle.std.specs.Prelude.{ℕ, ◌&&◌, ◌||◌, not, Bool, if◌then◌else◌, List, [], ◌∷◌, ◌++◌, length, Option, Some, None, is_some}
 use Rattle.leader1822.specs.Host.{Host}
 use Rattle.ncp_control.specs.Numbers.{is_receive_socket, is_send_socket, is_byte_size}
-use Rattle.ncp_control.specs.declared.allocation.Allocation.{Allocation}
-use Rattle.ncp_control.specs.declared.command.Command.{Command}
 use Rattle.ncp_control.specs.declared.command.Command.TheVariants as command
-use Rattle.sockets.specs.Commands.{granted}
-use Rattle.sockets.specs.Entries.{is_receiving, entry_at, changed_first, is_mine_on, sending_end, receiving_end, was_closed, is_open, free_link, called_off}
-use Rattle.sockets.specs.Pair.{PairState}
-use Rattle.sockets.specs.Pairs.{DeskState, NcpState, pair_with, with_pair, listens_on, without_listener, owner_of, desk_of, settled}
-use Rattle.sockets.specs.Phases.{is_ready}
-use Rattle.sockets.specs.Sending.{link_of}
-use Rattle.sockets.specs.declared.entry.Entry.{Entry}
+use Rattle.host_pairs.specs.Commands.{granted}
+use Rattle.host_pairs.specs.Entries.{entry_at, sending_end, was_closed, is_open, free_link}
+use Rattle.host_pairs.specs.Pair.{PairState}
+use Rattle.sockets.specs.Pairs.{NcpState, pair_with, with_pair, owner_of}
+use Rattle.host_pairs.specs.Desk.{listens_on, without_listener}
+use Rattle.host_pairs.specs.Phases.{is_ready}
+use Rattle.host_pairs.specs.Parcels.{link_of}
+use Rattle.host_pairs.specs.declared.entry.Entry.{Entry}
 use Rattle.sockets.specs.declared.fault.NcpFault.{NcpFault}
 use Rattle.sockets.specs.declared.fault.NcpFault.TheVariants as fault
-use Rattle.sockets.specs.declared.notice.Notice.{Notice}
-use Rattle.sockets.specs.declared.notice.Notice.TheVariants as notice
-use Rattle.sockets.specs.declared.phase.Phase.{Phase}
-use Rattle.sockets.specs.declared.phase.Phase.TheVariants as phase
+use Rattle.host_pairs.specs.declared.notice.Notice.{Notice}
 use Rattle.sockets.specs.declared.request.Request.{Request}
 use Rattle.sockets.specs.declared.request.Request.TheVariants as request
+use Rattle.host_pairs.specs.Asked.{are_bytes, passes, contacted, requested, receiver_requested, with_end, commanded, with_more_bits, interrupt_of, closed_end, contact_notices}
 
 -- ---- refusals, in their order
 
@@ -58,20 +55,11 @@ abbrev pub on_open : (Entry → Option NcpFault) → Option (Host × Entry) → 
 on_open others None = Some fault.NoSuchSocket
 on_open others (Some found) = first_if (not (is_open found.1)) fault.NotOpen (others found.1)
 
--- so many bits are whole bytes of a size
-abbrev pub are_bytes : ℕ → Option ℕ → Bool
-are_bytes bits None = false
-are_bytes bits (Some size) = bits % size == 0
-
 -- whole bytes; and an end that drains takes no more
 abbrev pub send_fault : ℕ → Entry → Option NcpFault
 send_fault bits e =
     first_if (not (are_bytes bits e.size)) fault.BadSize
     (first_if (was_closed e) fault.Closing None)
-
--- what is granted at a time stays within 65535 messages and 4294967295 bits
-abbrev pub passes : Allocation → ℕ → ℕ → Bool
-passes a messages bits = nat_lt 65535 (a.messages + messages) || nat_lt 4294967295 (a.bits + bits)
 
 abbrev pub grant_fault : ℕ → ℕ → Entry → Option NcpFault
 grant_fault messages bits e =
@@ -126,43 +114,10 @@ refusal s (request.Echo peer octet) = echo_refusal s peer
 abbrev pub with_peer : NcpState → Host → (PairState → PairState) → NcpState
 with_peer s peer change = record s { peers = with_pair peer (change (pair_with peer s.peers)) s.peers }
 
--- all that was with the peer is gone, and an RST will go out
-abbrev pub contacted : PairState → PairState
-contacted q = record q { phase = phase.Want; entries = []; queue = [] }
-
--- a new end, and its request
-abbrev pub requested : Entry → Command → PairState → PairState
-requested e c q = record q { entries = q.entries ++ e ∷ []; queue = q.queue ++ c ∷ [] }
-
-abbrev pub receiver_requested : ℕ → ℕ → Option ℕ → PairState → PairState
-receiver_requested own foreign None q = q
-receiver_requested own foreign (Some link) q = requested (receiving_end own foreign link) (command.Rts own foreign link) q
-
--- this host's own end on a socket is changed
-abbrev pub with_end : ℕ → (Entry → Entry) → PairState → PairState
-with_end socket change q = record q { entries = changed_first (is_mine_on socket) change q.entries }
-
--- a command is queued
-abbrev pub commanded : Command → PairState → PairState
-commanded c q = record q { queue = q.queue ++ c ∷ [] }
-
-abbrev pub with_more_bits : List Bool → Entry → Entry
-with_more_bits bits e = record e { bits = e.bits ++ bits }
-
-abbrev pub interrupt_of : Entry → Command
-interrupt_of e = if is_receiving e then command.Inr (link_of e.link) else command.Ins (link_of e.link)
-
 -- the connection of a socket is changed
 abbrev pub at_owner : NcpState → Option (Host × Entry) → (Entry → PairState → PairState) → NcpState
 at_owner s None change = s
 at_owner s (Some (peer, e)) change = with_peer s peer (change e)
-
--- the end closes, at once or when it is drained
-abbrev pub settled_pair : PairState → DeskState → PairState
-settled_pair q d = record q { entries = d.entries; queue = d.queue }
-
-abbrev pub closed_end : ℕ → PairState → PairState
-closed_end socket q = settled_pair q (settled q.busy (desk_of (with_end socket called_off q) []))
 
 abbrev pub closed_socket : NcpState → ℕ → NcpState
 closed_socket s socket =
@@ -184,10 +139,6 @@ served s (request.AskBack socket messages bits) =
 served s (request.Interrupt socket) = at_owner s (owner_of socket s.peers) (λ e. commanded (interrupt_of e))
 served s (request.Close socket) = closed_socket s socket
 served s (request.Echo peer octet) = with_peer s peer (commanded (command.Eco octet))
-
--- a contact with an opened pair is told of, since all its connections are gone
-abbrev pub contact_notices : Host → Phase → List Notice
-contact_notices peer p = if is_ready p then notice.PairReset peer ∷ [] else []
 
 unfoldable pub served_notices : NcpState → Request → List Notice
 served_notices s (request.Contact peer) = contact_notices peer (pair_with peer s.peers).phase

@@ -1,5 +1,5 @@
 -- Worked dialogues of two hosts: 0 at IMP 1, and 0 at IMP 2.
-use Rattle.std.specs.Prelude.{ℕ, ◌+◌, ◌*◌, List, [], ◌∷◌, ◌++◌, map, take, replicate}
+use Rattle.std.specs.Prelude.{ℕ, ◌+◌, ◌*◌, List, [], ◌∷◌, ◌++◌, map, take, replicate, Option, Some}
 use Rattle.std.specs.List.{range_with_len}
 use Rattle.bit_messages.specs.Octets.{bits_of}
 use Rattle.leader1822.specs.Host.{Host}
@@ -9,12 +9,14 @@ use Rattle.leader1822.specs.declared.crossing.Answer.TheVariants as answer
 use Rattle.leader1822.specs.declared.crossing.Inbound.TheVariants as inbound
 use Rattle.leader1822.specs.declared.message.HostMessage.{HostMessage}
 use Rattle.sockets.specs.Accepting.{accepted}
-use Rattle.sockets.specs.Control.{control_text}
+use Rattle.host_pairs.specs.Control.{control_text}
 use Rattle.sockets.specs.Dialogue.{Talk, Step, Ask, Offer, Take, GiveUp, opening_talk, played, state_of}
 use Rattle.sockets.specs.Pairs.{NcpState}
 use Rattle.sockets.specs.Requests.{served}
 use Rattle.sockets.specs.Sending.{offered}
-use Rattle.sockets.specs.declared.notice.Notice.{Notice}
+use Rattle.host_pairs.specs.Entries.{sending_end}
+use Rattle.host_pairs.specs.declared.entry.Entry.{Entry}
+use Rattle.host_pairs.specs.declared.notice.Notice.{Notice}
 use Rattle.sockets.specs.declared.request.Request.TheVariants as request
 
 abbrev pub first : Host
@@ -273,3 +275,9 @@ two_senders =
 -- a host at the first's IMP
 abbrev pub neighbour : Host
 neighbour = record { imp = 1; host = 1 }
+
+-- ---- one end
+
+-- an open sending end with a link or without one: an octet waits, and a message of 100 bits is granted
+abbrev pub open_sender : Option ℕ → Entry
+open_sender link = record (sending_end 33 16 8) { asked = Some 1; partner = Some 2; link = link; allocation = record { messages = 1; bits = 100 }; bits = bits_of (65 ∷ []) }

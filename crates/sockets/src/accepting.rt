@@ -3,17 +3,16 @@
 ghost use Rattle.std.specs.Prelude.{◌≡◌, ◌+◌, ◌<◌, [], false, IfErr, IfOk, OnErr, length};
 ghost use Rattle.leader1822.specs.declared.crossing.Inbound.TheVariants as inbound;
 ghost use Rattle.sockets.specs.Accepting as accepting;
-ghost use Rattle.sockets.specs.Accepting.{TurnState};
+ghost use Rattle.host_pairs.specs.Turn.{TurnState};
 ghost use Rattle.sockets.specs.Calls.{Turns};
-ghost use Rattle.sockets.specs.Entries.{is_busy};
+ghost use Rattle.host_pairs.specs.Entries.{is_busy};
 ghost use Rattle.sockets.specs.Memory.{newly_known, said_by_inbound};
-ghost use Rattle.sockets.specs.Pair.{PairState};
+ghost use Rattle.host_pairs.specs.Pair.{PairState};
 ghost use Rattle.sockets.specs.Pairs.{pair_with, with_pair};
 
-use crate::entry::is_busy;
 use crate::ncp::Ncp;
-use crate::turn::Turn;
 use crate::{NcpFault, Notice};
+use host_pairs::{Turn, is_busy};
 use leader1822::{Answer, Flow, HostAddr, HostMessage, Inbound};
 use std::alloc::AllocError;
 use std::mem;

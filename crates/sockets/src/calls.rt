@@ -4,19 +4,20 @@
 ghost use Rattle.std.specs.Prelude.{◌≡◌, ◌+◌, ◌<◌, ◌++◌, ◌∷◌, [], false, IfErr, IfOk, None, OnErr, OnOk, Some, length};
 ghost use Rattle.ncp_control.specs.Command.{is_alone};
 ghost use Rattle.sockets.specs.Calls.{IsRefused, IsServed};
-ghost use Rattle.sockets.specs.Commands.{granted};
-ghost use Rattle.sockets.specs.Memory.{newly_known, queued_by_closing};
+ghost use Rattle.host_pairs.specs.Commands.{granted};
+ghost use Rattle.sockets.specs.Memory.{newly_kept, newly_known, queued_by_closing};
 ghost use Rattle.sockets.specs.Others.{owner_host};
 ghost use Rattle.sockets.specs.Pairs.{owner_of, pair_with};
+ghost use Rattle.host_pairs.specs.Asked as asked;
 ghost use Rattle.sockets.specs.Requests as requests;
-ghost use Rattle.sockets.specs.Requests.{with_end, with_more_bits, with_peer};
+ghost use Rattle.host_pairs.specs.Asked.{with_end, with_more_bits};
+ghost use Rattle.sockets.specs.Requests.{with_peer};
 ghost use Rattle.sockets.specs.declared.request.Request.TheVariants as request;
 
-use crate::entry::Entry;
-use crate::listener::{Listener, listens_on, stop_listening};
 use crate::ncp::Ncp;
 use crate::{NcpFault, Notice, Request};
 use bit_messages::Bits;
+use host_pairs::{Entry, Listener, listens_on, stop_listening};
 use leader1822::HostAddr;
 use ncp_control::Command;
 use std::alloc::AllocError;
@@ -26,9 +27,9 @@ use std::alloc::AllocError;
 impl Ncp {
     /// All that was with a peer is gone, and an RST will go out.
     fn reset(&mut self, peer: HostAddr) -> Result<Vec<Notice>, AllocError>
-        ensures state { OnOk result (self.new ≡ with_peer self.old peer requests.contacted) }
-        ensures notices { IfOk result (λ notices. notices.items ≡ requests.contact_notices peer (pair_with peer self.old.peers).phase) }
-        ensures memory { OnErr result (0 < length (requests.contact_notices peer (pair_with peer self.old.peers).phase) + newly_known self.old (with_peer self.old peer requests.contacted)) }
+        ensures state { OnOk result (self.new ≡ with_peer self.old peer asked.contacted) }
+        ensures notices { IfOk result (λ notices. notices.items ≡ asked.contact_notices peer (pair_with peer self.old.peers).phase) }
+        ensures memory { OnErr result (0 < length (asked.contact_notices peer (pair_with peer self.old.peers).phase) + newly_known self.old (with_peer self.old peer asked.contacted)) }
     {
         let mut notices = Vec::new(self.alloc);
         let mut pair = self.peers.take(self.alloc, peer);
@@ -43,7 +44,7 @@ impl Ncp {
     /// A new end with a peer, and its request.
     fn request(&mut self, peer: HostAddr, entry: Entry, command: Command) -> Result<(), AllocError>
         requires joint { is_alone command ≡ false }
-        ensures { OnOk result (self.new ≡ with_peer self.old peer (requests.requested entry command)) }
+        ensures { OnOk result (self.new ≡ with_peer self.old peer (asked.requested entry command)) }
     {
         let mut pair = self.peers.take(self.alloc, peer);
         pair.request(entry, command)?;
@@ -53,7 +54,7 @@ impl Ncp {
     /// A command waits to go out to a peer.
     fn command(&mut self, peer: HostAddr, command: Command) -> Result<(), AllocError>
         requires joint { is_alone command ≡ false }
-        ensures { OnOk result (self.new ≡ with_peer self.old peer (requests.commanded command)) }
+        ensures { OnOk result (self.new ≡ with_peer self.old peer (asked.commanded command)) }
     {
         let mut pair = self.peers.take(self.alloc, peer);
         pair.command(command)?;
@@ -80,7 +81,7 @@ impl Ncp {
         command: Command,
     ) -> Result<(), AllocError>
         requires joint { is_alone command ≡ false }
-        ensures { OnOk result (self.new ≡ with_peer self.old peer (λ q. requests.commanded command (with_end socket (granted messages bits) q))) }
+        ensures { OnOk result (self.new ≡ with_peer self.old peer (λ q. asked.commanded command (with_end socket (granted messages bits) q))) }
     {
         let mut pair = self.peers.take(self.alloc, peer);
         pair.grant(socket, messages, bits, command)?;
@@ -89,8 +90,8 @@ impl Ncp {
 
     /// The connection of a socket with a peer closes, at once or when it is drained.
     fn close_end(&mut self, peer: HostAddr, socket: u32) -> Result<(), AllocError>
-        ensures state { OnOk result (self.new ≡ with_peer self.old peer (requests.closed_end socket)) }
-        ensures memory { OnErr result (0 < queued_by_closing self.old socket (Some peer) + newly_known self.old (with_peer self.old peer (requests.closed_end socket))) }
+        ensures state { OnOk result (self.new ≡ with_peer self.old peer (asked.closed_end socket)) }
+        ensures memory { OnErr result (0 < queued_by_closing self.old socket (Some peer) + newly_known self.old (with_peer self.old peer (asked.closed_end socket))) }
     {
         let mut pair = self.peers.take(self.alloc, peer);
         pair.close(socket)?;
@@ -118,7 +119,7 @@ impl Ncp {
         requires live { self.old.spent ≡ false }
         ensures refused { IsRefused self.old (request.Contact peer) result self.new }
         ensures served { IsServed (λ notices. notices.items) self.old (request.Contact peer) result self.new }
-        ensures memory { IfErr result (λ f. 0 < length (requests.contact_notices peer (pair_with peer self.old.peers).phase) + newly_known self.old (requests.served self.old (request.Contact peer))) }
+        ensures memory { IfErr result (λ f. 0 < length (asked.contact_notices peer (pair_with peer self.old.peers).phase) + newly_known self.old (requests.served self.old (request.Contact peer))) }
     {
         let done = self.reset(peer);
         self.end(done)
@@ -206,7 +207,7 @@ impl Ncp {
         requires live { self.old.spent ≡ false }
         ensures refused { IsRefused self.old (request.Send socket bits) result self.new }
         ensures served { IsServed (λ _. []) self.old (request.Send socket bits) result self.new }
-        ensures memory { requests.refusal self.old (request.Send socket bits) ≡ None → IfErr result (λ f. 0 < length bits + newly_known self.old (requests.served self.old (request.Send socket bits))) }
+        ensures memory { requests.refusal self.old (request.Send socket bits) ≡ None → IfErr result (λ f. 0 < length bits) }
     {
         let peer = self.check_send(socket, bits.len())?;
         let done = self.add_bits(peer, socket, &bits);
@@ -282,7 +283,7 @@ impl Ncp {
         requires live { self.old.spent ≡ false }
         ensures refused { IsRefused self.old (request.Close socket) result self.new }
         ensures served { IsServed (λ _. []) self.old (request.Close socket) result self.new }
-        ensures memory { requests.refusal self.old (request.Close socket) ≡ None → IfErr result (λ f. 0 < queued_by_closing self.old socket (owner_host (owner_of socket self.old.peers)) + newly_known self.old (requests.served self.old (request.Close socket))) }
+        ensures memory { requests.refusal self.old (request.Close socket) ≡ None → IfErr result (λ f. 0 < queued_by_closing self.old socket (owner_host (owner_of socket self.old.peers))) }
     {
         if listens_on(&self.listening, socket) {
             stop_listening(&mut self.listening, socket);
@@ -311,12 +312,13 @@ impl Ncp {
 
     /// Runs a request, as the programs above the sockets make them, and returns what is told of it.
     ///
-    /// Errors: those of the request's own call.
+    /// Errors: those of the request's own call, `OutOfMemory` only where something more is kept once it is served.
     #[tactic(auto, unfolding(crate::specs::Requests::served_notices))]
     pub fn ask(&mut self, request: Request) -> Result<Vec<Notice>, NcpFault>
         requires live { self.old.spent ≡ false }
         ensures refused { IsRefused self.old request result self.new }
         ensures served { IsServed (λ notices. notices.items) self.old request result self.new }
+        ensures memory { requests.refusal self.old request ≡ None → IfErr result (λ f. 0 < newly_kept self.old request) }
     {
         match request {
             Request::Contact { peer } => return self.contact(peer),

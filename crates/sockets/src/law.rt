@@ -9,15 +9,18 @@ ghost use Rattle.leader1822.specs.declared.crossing.Inbound.TheVariants as inbou
 ghost use Rattle.leader1822.specs.declared.message.HostMessage.{HostMessage};
 ghost use Rattle.sockets.specs.Accepting.{accepted};
 ghost use Rattle.sockets.specs.Dialogue.{state_of, Ask};
-ghost use Rattle.sockets.specs.Others.{AreAbout, MayGo, peer_of, is_about};
-ghost use Rattle.sockets.specs.Pair.{PairState};
+ghost use Rattle.host_pairs.specs.About.{AreAbout};
+ghost use Rattle.host_pairs.specs.Allowed.{MayGo};
+ghost use Rattle.sockets.specs.Others.{peer_of, is_about};
+ghost use Rattle.host_pairs.specs.Pair.{PairState};
 ghost use Rattle.sockets.specs.Pairs.{NcpState, pair_with, with_pair};
 ghost use Rattle.sockets.specs.Requests.{refusal, served, served_notices};
 ghost use Rattle.sockets.specs.declared.peer.Peer.{Peer};
-ghost use Rattle.sockets.specs.Sending.{Parcel, Reset, Reply, message_for, next_in, next_of, next_out, offered};
+ghost use Rattle.host_pairs.specs.Parcels.{Parcel, Reset, Reply, next_of};
+ghost use Rattle.sockets.specs.Sending.{message_for, next_in, next_out, offered};
 ghost use Rattle.sockets.specs.Worked.{first, second, third, talk, message, control, reset, opening, closing, crossing, failing, sending, asking_back, giving_back, many_opened, twelve, second_after};
 ghost use Rattle.sockets.specs.declared.fault.NcpFault.TheVariants as fault;
-ghost use Rattle.sockets.specs.declared.notice.Notice.TheVariants as notice;
+ghost use Rattle.host_pairs.specs.declared.notice.Notice.TheVariants as notice;
 ghost use Rattle.sockets.specs.declared.request.Request.{Request};
 ghost use Rattle.sockets.specs.declared.request.Request.TheVariants as request;
 

@@ -5,47 +5,25 @@
 //! Host/Host Protocol for the ARPA Network). Here lives that program as a machine: what its user asks for,
 //! what comes in from the IMP, and what goes out next.
 //!
+//! What it does with one peer stands in `host_pairs`; here are the peers, the sockets that listen, and the calls.
 //! Nothing here knows of IMPs, of the log or of programs above the sockets.
 #![tactic(auto)]
 
 mod accepting;
-mod bits_gone;
 mod calls;
-mod commands;
-mod control;
-mod data;
-mod desk;
-mod ends;
-mod entry;
 mod fault;
-mod found;
-mod gone;
 pub mod law;
-mod listener;
 mod ncp;
-mod notice;
 mod offering;
-mod outgoing;
-mod pair;
 mod peer;
 mod peers;
-mod phase;
-mod queue;
 mod refusals;
 mod request;
-mod requests;
 mod sending;
-mod turn;
-mod turn_gone;
 pub mod worked;
 
-pub use entry::{Closing, Entry};
 pub use fault::NcpFault;
-pub use listener::Listener;
+pub use host_pairs::{Closing, Entry, Listener, Notice, Pair, Phase, Queue};
 pub use ncp::Ncp;
-pub use notice::Notice;
-pub use pair::Pair;
 pub use peer::Peer;
-pub use phase::Phase;
-pub use queue::Queue;
 pub use request::Request;

@@ -6,8 +6,8 @@ ghost use Rattle.sockets.specs.Pairs as pairs;
 ghost use Rattle.sockets.specs.declared.fault.NcpFault.TheVariants as fault;
 
 use crate::NcpFault;
-use crate::listener::Listener;
 use crate::peers::Peers;
+use host_pairs::Listener;
 use leader1822::HostAddr;
 use std::alloc::{AllocError, Global};
 use std::marker::Model;

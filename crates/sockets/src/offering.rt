@@ -2,15 +2,15 @@
 
 ghost use Rattle.std.specs.Prelude.{◌≡◌, false, true, is_some, IfErr, IfOk, OnErr, IfSome, MatchOption, None, Some};
 ghost use Rattle.sockets.specs.Calls.{Turns};
-ghost use Rattle.sockets.specs.Outgoing.{IsThere, parcel_of};
+ghost use Rattle.host_pairs.specs.Outgoing.{IsThere, parcel_of};
 ghost use Rattle.sockets.specs.Pairs.{pair_with};
 ghost use Rattle.sockets.specs.Sending as sending;
 
 use crate::ncp::Ncp;
-use crate::outgoing::Outgoing;
 use crate::peers::Peers;
 use crate::sending::next_in;
 use crate::{NcpFault, Notice};
+use host_pairs::Outgoing;
 use leader1822::HostAddr;
 use std::alloc::AllocError;
 

@@ -1,6 +1,6 @@
 //! A host that this one speaks to.
 
-use crate::pair::Pair;
+use host_pairs::Pair;
 use leader1822::HostAddr;
 
 /// Another host, and what this one knows of it.

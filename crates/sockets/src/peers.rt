@@ -5,15 +5,13 @@ ghost use Rattle.std.specs.Bool.{OnTrue, OnFalse};
 ghost use Rattle.std.specs.List as lists;
 ghost use Rattle.std.specs.List.Sorted.{IsPartitionPoint};
 ghost use Rattle.leader1822.specs.Host.{address_octet, same_host};
-ghost use Rattle.sockets.specs.Pair.{PairState, opening_pair};
+ghost use Rattle.host_pairs.specs.Pair.{PairState, opening_pair};
 ghost use Rattle.sockets.specs.Pairs.{owner_of, pair_with, with_pair, placed, without_peer};
 ghost use Rattle.sockets.specs.Peers.{AreInOrder};
 ghost use Rattle.sockets.specs.declared.peer.Peer.{Peer};
 
-use crate::ends::own_place;
-use crate::entry::Entry;
-use crate::pair::Pair;
 use crate::peer::Peer;
+use host_pairs::{Entry, Pair, own_place};
 use leader1822::HostAddr;
 use std::alloc::{AllocError, Global};
 use std::marker::Model;
@@ -68,7 +66,8 @@ impl Peers {
 
     /// This host's own end on a socket, and its peer.
     pub fn owner(&self, socket: u32) -> Option<(HostAddr, &Entry)>
-        ensures { MatchOption result (owner_of socket self.now ≡ None) (λ found. owner_of socket self.now ≡ Some (found.0, found.1.now)) }
+        ensures found { MatchOption result (owner_of socket self.now ≡ None) (λ found. owner_of socket self.now ≡ Some (found.0, found.1.now)) }
+        ensures order { AreInOrder self.now }
     {
         for peer in self.as_slice() {
             let entries = &peer.pair.entries;

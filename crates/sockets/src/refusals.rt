@@ -3,26 +3,67 @@
 ghost use Rattle.std.specs.Prelude.{◌≡◌, MatchResult, Option, Some, None, is_some, ℕ, IfOk, false};
 ghost use Rattle.sockets.specs.Others.{owner_host};
 ghost use Rattle.sockets.specs.Pairs.{pair_with, owner_of};
-ghost use Rattle.sockets.specs.Phases.{is_ready};
+ghost use Rattle.sockets.specs.Peers.{AreInOrder};
+ghost use Rattle.host_pairs.specs.Phases.{is_ready};
 ghost use Rattle.sockets.specs.Requests as requests;
-ghost use Rattle.sockets.specs.Requests.{at_owner, with_peer, interrupt_of};
-ghost use Rattle.sockets.specs.Sending.{link_of};
-ghost use Rattle.sockets.specs.Pair.{PairState};
-ghost use Rattle.sockets.specs.Entries.{entry_at, free_link};
+ghost use Rattle.sockets.specs.Requests.{at_owner, with_peer};
+ghost use Rattle.host_pairs.specs.Asked.{interrupt_of};
+ghost use Rattle.host_pairs.specs.Parcels.{link_of};
+ghost use Rattle.host_pairs.specs.Pair.{PairState};
+ghost use Rattle.host_pairs.specs.Entries.{entry_at, free_link};
 ghost use Rattle.ncp_control.specs.Command.{is_alone};
 ghost use Rattle.ncp_control.specs.declared.command.Command.{Command};
-ghost use Rattle.sockets.specs.declared.entry.Entry.{Entry};
+ghost use Rattle.host_pairs.specs.declared.entry.Entry.{Entry};
 ghost use Rattle.sockets.specs.declared.fault.NcpFault.{NcpFault};
 
-use crate::NcpFault;
-use crate::ends::{free_link, place};
-use crate::entry::Entry;
-use crate::listener::listens_on;
 use crate::ncp::Ncp;
+use crate::{NcpFault, Request};
+use host_pairs::{Entry, free_link, has_end, listens_on};
 use leader1822::HostAddr;
 use ncp_control::{Allocation, ByteSize, Command, ConnectionLink, ReceiveSocket, SendSocket};
 
 impl Ncp {
+    /// Why a request would be refused now: the first fault that applies, and none where the request would be served.
+    /// Nothing changes, and no memory is wanted.
+    #[tactic(auto, unfolding(crate::specs::Requests::refusal))]
+    pub fn refusal(&self, request: &Request) -> Option<NcpFault>
+        ensures { result ≡ requests.refusal self.now request.now }
+    {
+        match request {
+            Request::Contact { .. } => None,
+            Request::Listen { socket, size } => self.check_listen(*socket, *size).err(),
+            Request::OpenSend {
+                peer,
+                own,
+                foreign,
+                size,
+            } => self.check_open_send(*peer, *own, *foreign, *size).err(),
+            Request::OpenReceive { peer, own, foreign } => {
+                self.check_open_receive(*peer, *own, *foreign).err()
+            }
+            Request::Send { socket, bits } => self.check_send(*socket, bits.len()).err(),
+            Request::Grant {
+                socket,
+                messages,
+                bits,
+            } => self.check_grant(*socket, *messages, *bits).err(),
+            Request::AskBack { socket, .. } => self.check_ask_back(*socket).err(),
+            Request::Interrupt { socket } => self.check_interrupt(*socket).err(),
+            Request::Close { socket } if listens_on(&self.listening, *socket) => None,
+            Request::Close { socket } => self.check_close(*socket).err(),
+            Request::Echo { peer, .. } if self.is_ready(*peer) => None,
+            Request::Echo { .. } => Some(NcpFault::NotContacted),
+        }
+    }
+
+    /// Why so many bits would be refused to be sent on a socket now: the first fault that applies. Nothing changes, and no memory
+    /// is wanted.
+    pub fn send_refusal(&self, socket: u32, bits: usize) -> Option<NcpFault>
+        ensures { result ≡ requests.send_refusal self.now socket bits }
+    {
+        self.check_send(socket, bits).err()
+    }
+
     /// Whether the reset with a peer is done.
     pub(crate) fn is_ready(&self, peer: HostAddr) -> bool
         ensures { result ≡ is_ready (pair_with peer self.now.peers).phase }
@@ -118,7 +159,8 @@ impl Ncp {
 
     /// The open end on a socket, and its peer.
     fn open_end(&self, socket: u32) -> Result<(HostAddr, &Entry), NcpFault>
-        ensures { MatchResult result (λ found. (owner_of socket self.now.peers ≡ Some (found.0, found.1.now)) × (requests.on_open (λ e. None) (owner_of socket self.now.peers) ≡ None)) (λ f. (others : Entry → Option NcpFault) → requests.on_open others (owner_of socket self.now.peers) ≡ Some f) }
+        ensures order { IfOk result (λ found. AreInOrder self.now.peers) }
+        ensures open { MatchResult result (λ found. (owner_of socket self.now.peers ≡ Some (found.0, found.1.now)) × (requests.on_open (λ e. None) (owner_of socket self.now.peers) ≡ None)) (λ f. (others : Entry → Option NcpFault) → requests.on_open others (owner_of socket self.now.peers) ≡ Some f) }
     {
         let Some((peer, entry)) = self.peers.owner(socket) else {
             return Err(NcpFault::NoSuchSocket);
@@ -131,7 +173,8 @@ impl Ncp {
 
     /// The peer to which bits of a socket go.
     pub(crate) fn check_send(&self, socket: u32, bits: usize) -> Result<HostAddr, NcpFault>
-        ensures { MatchResult result (λ peer. (requests.send_refusal self.now socket bits ≡ None) × ((change : PairState → PairState) → at_owner self.now (owner_of socket self.now.peers) (λ e. change) ≡ with_peer self.now peer change)) (λ f. requests.send_refusal self.now socket bits ≡ Some f) }
+        ensures order { IfOk result (λ peer. AreInOrder self.now.peers) }
+        ensures checked { MatchResult result (λ peer. (requests.send_refusal self.now socket bits ≡ None) × ((change : PairState → PairState) → at_owner self.now (owner_of socket self.now.peers) (λ e. change) ≡ with_peer self.now peer change)) (λ f. requests.send_refusal self.now socket bits ≡ Some f) }
     {
         if socket % 2 == 0 {
             return Err(NcpFault::WrongEnd);
@@ -209,6 +252,7 @@ impl Ncp {
     /// The peer of a connection that may be closed. What listens may always be closed, and is seen to before.
     pub(crate) fn check_close(&self, socket: u32) -> Result<HostAddr, NcpFault>
         ensures host { IfOk result (λ peer. owner_host (owner_of socket self.now.peers) ≡ Some peer) }
+        ensures order { IfOk result (λ peer. AreInOrder self.now.peers) }
         ensures checked { MatchResult result (λ peer. (requests.close_fault (owner_of socket self.now.peers) ≡ None) × ((change : PairState → PairState) → at_owner self.now (owner_of socket self.now.peers) (λ e. change) ≡ with_peer self.now peer change)) (λ f. requests.close_fault (owner_of socket self.now.peers) ≡ Some f) }
     {
         let Some((peer, entry)) = self.peers.owner(socket) else {
@@ -218,56 +262,5 @@ impl Ncp {
             return Err(NcpFault::Closing);
         }
         Ok(peer)
-    }
-}
-
-/// Whether two sockets have an end.
-fn has_end(entries: &[Entry], own: u32, foreign: u32) -> bool
-    ensures { result ≡ is_some (entry_at own foreign entries.now) }
-{
-    place(entries, own, foreign).is_some()
-}
-
-impl Entry {
-    /// Whether so many bits are whole bytes of the connection.
-    fn has_bytes(&self, bits: usize) -> bool
-        ensures { result ≡ requests.are_bytes bits self.now.size }
-    {
-        self.size
-            .is_some_and(|size| bits % size.bits() as usize == 0)
-    }
-
-    /// Whether what is granted would pass what the counters can hold.
-    fn would_pass(&self, messages: u16, bits: u32) -> bool
-        ensures { result ≡ requests.passes self.now.allocation messages bits }
-    {
-        let Allocation {
-            messages: open_messages,
-            bits: open_bits,
-        } = self.allocation;
-        messages > u16::MAX - open_messages || bits > u32::MAX - open_bits
-    }
-
-    /// The number of its link; 0 where it isn't known yet.
-    pub(crate) fn link_number(&self) -> u8
-        ensures { result ≡ link_of self.now.link }
-    {
-        match self.link {
-            Some(link) => link.number(),
-            None => 0,
-        }
-    }
-
-    /// The command that interrupts the other end.
-    fn interrupt(&self) -> Command
-        ensures command { result ≡ interrupt_of self.now }
-        ensures joint { is_alone result ≡ false }
-    {
-        let link = self.link_number();
-        if self.is_receiving() {
-            Command::Inr { link }
-        } else {
-            Command::Ins { link }
-        }
     }
 }

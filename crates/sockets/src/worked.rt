@@ -5,15 +5,17 @@ ghost use Rattle.std.specs.Prelude.{◌≡◌, [], ◌∷◌, ◌++◌, Some, No
 ghost use Rattle.std.specs.List.{range_with_len};
 ghost use Rattle.bit_messages.specs.Octets.{bits_of};
 ghost use Rattle.sockets.specs.Accepting.{accepted};
-ghost use Rattle.sockets.specs.Control.{Legal, Wrong, orders_of, control_text};
+ghost use Rattle.host_pairs.specs.Control.{Legal, Wrong, orders_of, control_text};
+ghost use Rattle.host_pairs.specs.Parcels.{Bytes, next_bytes};
+ghost use Rattle.sockets.specs.Memory.{newly_kept};
 ghost use Rattle.sockets.specs.Requests.{refusal, served, served_notices};
 ghost use Rattle.sockets.specs.Sending.{next_out, offered};
-ghost use Rattle.sockets.specs.Worked.{first, second, third, neighbour, talk, news, message, control, on_link, heard, got, answered, gone, delivered, reset, closing, sending, many_opened, twelve, opened, closed_early, opening_by_sender, closed_unasked, both_asking, one_refused, refused_closed, draining, own_reset, own_opening, first_in, second_in, closed, want, rst_out, rst_taken, ready, want_again, two_senders, every_command, RTS, STR, CLS, ALL, GVB, RET, INR, INS, ECO, ERP, ERR, RST, RRP};
+ghost use Rattle.sockets.specs.Worked.{first, second, third, neighbour, open_sender, talk, news, message, control, on_link, heard, got, answered, gone, delivered, reset, closing, sending, many_opened, twelve, opened, closed_early, opening_by_sender, closed_unasked, both_asking, one_refused, refused_closed, draining, own_reset, own_opening, first_in, second_in, closed, want, rst_out, rst_taken, ready, want_again, two_senders, every_command, RTS, STR, CLS, ALL, GVB, RET, INR, INS, ECO, ERP, ERR, RST, RRP};
 ghost use Rattle.leader1822.specs.declared.crossing.Answer.TheVariants as answer;
 ghost use Rattle.leader1822.specs.declared.crossing.Inbound.TheVariants as inbound;
 ghost use Rattle.ncp_control.specs.declared.command.Command.TheVariants as command;
 ghost use Rattle.sockets.specs.declared.fault.NcpFault.TheVariants as fault;
-ghost use Rattle.sockets.specs.declared.notice.Notice.TheVariants as notice;
+ghost use Rattle.host_pairs.specs.declared.notice.Notice.TheVariants as notice;
 ghost use Rattle.sockets.specs.declared.request.Request.TheVariants as request;
 
 /// What becomes of a request of the peer.
@@ -67,6 +69,10 @@ pub fn worked_links()
     // a sending end's link isn't the receiver's to give, and another peer has thirty links of its own
     ensures links_of_senders { next_out (served (second_in opened) (request.OpenReceive first 18 35)) ≡ Some (control second first (RTS 18 35 2)) }
     ensures links_of_another_peer { refusal (heard (first_in (reset ++ many_opened)) third RST).0 (request.OpenReceive third 76 33) ≡ None }
+
+    // an open sending end sends on its link; one without a link, which no call leaves, would send nothing
+    ensures linked { next_bytes [] (open_sender (Some 2) ∷ []) ≡ Some (Bytes (open_sender (Some 2)) 8 1) }
+    ensures not_linked { next_bytes [] (open_sender None ∷ []) ≡ None }
 
     // without a free link a request is refused, and the socket goes on listening
     ensures listens_without_link { refusal (heard (served (first_in (reset ++ many_opened)) (request.Listen 76 8)) second (STR 33 76 8)).0 (request.Grant 76 0 0) ≡ Some fault.NoSuchSocket }
@@ -366,4 +372,26 @@ pub fn worked_calls()
     ensures close_not_open { refusal (served ready (request.OpenReceive second 16 33)) (request.Close 16) ≡ None }
     ensures close_draining { refusal (second_in (opened ++ draining)) (request.Close 33) ≡ Some fault.Closing }
     ensures close_called_off { refusal (heard (gone (second_in (opened ++ sending))) first (CLS 16 33)).0 (request.Close 33) ≡ Some fault.Closing }
+{}
+
+/// How much more a host keeps once a request is served.
+pub fn worked_memory()
+    // a first contact makes the peer known, one before the RST has gone out keeps nothing more, and one of a ready pair is told
+    ensures contact_known { newly_kept closed (request.Contact second) ≡ 1 }
+    ensures contact_again { newly_kept want (request.Contact second) ≡ 0 }
+    ensures contact_ready { newly_kept ready (request.Contact second) ≡ 1 }
+
+    // bits, where there are any
+    ensures send_bits { newly_kept (second_in opened) (request.Send 33 (replicate 8 true)) ≡ 8 }
+    ensures send_nothing { newly_kept (second_in opened) (request.Send 33 []) ≡ 0 }
+
+    // a receiving end queues its CLS at once, a sending end where nothing waits; one that drains doesn't, nor does a socket that listens
+    ensures close_receiver { newly_kept (first_in opened) (request.Close 16) ≡ 1 }
+    ensures close_sender { newly_kept (second_in opened) (request.Close 33) ≡ 1 }
+    ensures close_draining { newly_kept (served (second_in opened) (request.Send 33 (replicate 8 true))) (request.Close 33) ≡ 0 }
+    ensures close_listening { newly_kept (served ready (request.Listen 16 8)) (request.Close 16) ≡ 0 }
+
+    // a socket that listens, or a command
+    ensures listen { newly_kept closed (request.Listen 16 8) ≡ 1 }
+    ensures echo { newly_kept ready (request.Echo second 65) ≡ 1 }
 {}

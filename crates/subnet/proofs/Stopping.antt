@@ -1,11 +1,14 @@
 -- An IMP stops.
-use Rattle.std.proofs.Common.{◌≡◌, ℕ, ◌+◌, zero, suc, Bool, true, false, List, [], ◌∷◌, ◌++◌, drop, reverse, get_or, set, Option, None, refl, ap, sym, ◌∙◌, ◌≤◌, ◌<◌, length, arith, append_assoc, append-nil}
+use Rattle.std.proofs.Common.{◌≡◌, ℕ, ◌+◌, zero, suc, Bool, true, false, List, [], ◌∷◌, ◌++◌, drop, reverse, get_or, set, Option, Some, None, ◌||◌, refl, ap, sym, subst, ◌∙◌, ◌≤◌, ◌<◌, length, arith, append_assoc, append-nil}
 use Rattle.std.specs.Prelude.{if◌then◌else◌}
-use Rattle.std.proofs.lemmas.List.{reverse-append, reverse-reverse}
+use Rattle.std.specs.List.{list_any}
+use Rattle.std.proofs.lemmas.Bool.{or_right}
+use Rattle.std.proofs.lemmas.List.{reverse-append, reverse-reverse, length-reverse}
 use Rattle.leader1822.specs.declared.crossing.Crossing.{Crossing}
 use Rattle.leader1822.specs.declared.crossing.Crossing.TheVariants as crossing
 use Rattle.imp_node.specs.State.{State, HostState, no_host}
-use Rattle.subnet.specs.Events.{downs_from}
+use Rattle.subnet.specs.Calls.{grows_at, has_host_up}
+use Rattle.subnet.specs.Events.{downs_from, downs_at}
 use Rattle.subnet.specs.Inside.Calling.{IsLive, AreLive, down_of, downs_in_order}
 use Rattle.subnet.proofs.Living.{all_set}
 
@@ -58,17 +61,23 @@ no_more hosts i k items past =
 
 -- ---- memory
 
-more_behind : (xs ys : List Crossing) → 0 < length xs → 0 < length (xs ++ ys)
-more_behind [] ys some = absurd (omega arith)
-more_behind (x ∷ xs) ys some = omega arith
+-- a host that is up is one of those that go down
+pub up_among : (hosts : List HostState) (k : ℕ) → (get_or hosts k no_host).up ≡ true → list_any (λ host. host.up) hosts ≡ true
+up_among [] k up = cc
+up_among (h ∷ hosts) zero up = rw up refl
+up_among (h ∷ hosts) (suc k) up = or_right h.up _ (up_among hosts k up)
 
-one_behind : (xs : List Crossing) (c : Crossing) (up : Bool) → up ≡ true → 0 < length (xs ++ (if up then c ∷ [] else []))
-one_behind [] c true is = omega arith
-one_behind (x ∷ xs) c true is = omega arith
-one_behind xs c false is = cc
+-- and where one goes down, one was up
+one_up : (b : Bool) (c : Crossing) (xs : List Crossing) (others : Bool) → (0 < length xs → others ≡ true) → 0 < length (xs ++ (if b then c ∷ [] else [])) → (b || others) ≡ true
+one_up true c xs others later some = refl
+one_up false c xs others later some = later (subst (λ (ys : List Crossing). 0 < length ys) (append-nil xs) some)
 
--- a host that is up crosses
-pub up_crosses : (hosts : List HostState) (i n k : ℕ) → (get_or hosts k no_host).up ≡ true → 0 < length (downs_from i n hosts)
-up_crosses [] i n k up = cc
-up_crosses (h ∷ hosts) i n zero up = one_behind (downs_from i (n + 1) hosts) (crossing.Down (record { imp = i; host = n })) h.up up
-up_crosses (h ∷ hosts) i n (suc k) up = more_behind (downs_from i (n + 1) hosts) (down_of i n h) (up_crosses hosts i (n + 1) k up)
+some_up : (i k : ℕ) (hosts : List HostState) → 0 < length (downs_from i k hosts) → list_any (λ host. host.up) hosts ≡ true
+some_up i k [] some = absurd (omega arith)
+some_up i k (h ∷ hosts) some = one_up h.up (crossing.Down (record { imp = i; host = k })) (downs_from i (k + 1) hosts) (list_any (λ host. host.up) hosts) (some_up i (k + 1) hosts) some
+
+pub crossed_up : (o : Option State) (i : ℕ) (items : List Crossing) → items ≡ reverse (downs_at i o) → 0 < length items → grows_at o has_host_up ≡ true
+crossed_up None i items is some = let none : length items ≡ 0 = ap length is in absurd (omega arith)
+crossed_up (Some s) i items is some =
+    let same : length items ≡ length (downs_from i 0 s.hosts) = ap length is ∙ length-reverse (downs_from i 0 s.hosts) in
+    some_up i 0 s.hosts (omega arith)

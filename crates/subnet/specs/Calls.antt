@@ -1,21 +1,20 @@
 -- How a call of a subnet ends, and which calls may want memory.
-use Rattle.std.specs.Prelude.{◌≡◌, ℕ, zero, suc, Bool, true, false, List, [], ◌∷◌, Option, Some, None, Result, Ok, Err, is_some, nat_lt, length, slice_get, ◌||◌}
-use Rattle.std.specs.List.{range_with_len}
+use Rattle.std.specs.Prelude.{◌≡◌, ℕ, Bool, true, false, List, Option, Some, None, Result, Ok, Err, is_some, nat_lt, length, slice_get, ◌||◌, ◌&&◌}
+use Rattle.std.specs.List.{list_any}
 use Rattle.leader1822.specs.Calls.{is_memory}
 use Rattle.leader1822.specs.Host.{Host}
 use Rattle.leader1822.specs.declared.carrier.CarrierFault.{CarrierFault}
 use Rattle.leader1822.specs.declared.carrier.CarrierFault.TheVariants as fault
 use Rattle.leader1822.specs.declared.event.Direction.{Direction}
-use Rattle.leader1822.specs.declared.event.Direction.TheVariants as way
 use Rattle.leader1822.specs.declared.event.NetEvent.{NetEvent}
 use Rattle.leader1822.specs.declared.event.NetEvent.TheVariants as event
 use Rattle.imp_channel.specs.Holding.{bits_carried}
 use Rattle.imp_channel.specs.declared.frame.Frame.{Frame}
-use Rattle.imp_node.specs.Lines.{route}
 use Rattle.imp_node.specs.State.{State}
 use Rattle.imp_node.specs.Turns.{resend_grows, route_grows, end_down_grows, end_up_grows, give_up_grows, forget_grows, abandon_grows, from_line_grows, to_host_grows}
-use Rattle.subnet.specs.Net.{Net, imp_at, wire_at, port_of, frames_on, far_end}
-use Rattle.subnet.specs.Events.{first_of, taken, at_imp, downs_at, deliver, drop_frame, refreshed, all_refreshed, turn_of}
+use Rattle.subnet.specs.Net.{Net, Wire, imp_at, wire_at, port_of, frames_on, far_end}
+use Rattle.subnet.specs.Flows.{imp_is_up}
+use Rattle.subnet.specs.Events.{first_of, taken}
 
 -- ---- a subnet that may have stopped
 
@@ -69,8 +68,8 @@ delivered_grows n l d (Some f) =
     grows_at (imp_at n.imps (far_end d (wire_at n.lines l))) (λ s. copy_grows f || from_line_grows s (port_of n.lines (far_end d (wire_at n.lines l)) l) f)
 
 -- an IMP that stops puts on the log that its hosts go down, if one is up
-abbrev pub stop_grows : Net → ℕ → Bool
-stop_grows n i = nat_lt 0 (length (downs_at i (imp_at n.imps i)))
+abbrev pub has_host_up : State → Bool
+has_host_up s = list_any (λ host. host.up) s.hosts
 
 -- An event that is not refused may want memory where its IMP does, where something crosses, and where an IMP is made that starts
 abbrev pub step_grows : Net → NetEvent → Bool
@@ -80,7 +79,7 @@ step_grows n (event.Resend i) = grows_at (imp_at n.imps i) resend_grows
 step_grows n (event.Route i) = grows_at (imp_at n.imps i) route_grows
 step_grows n (event.EndDown i l) = grows_at (imp_at n.imps i) (λ s. end_down_grows s (port_of n.lines i l))
 step_grows n (event.EndUp i l) = grows_at (imp_at n.imps i) (λ s. end_up_grows s (port_of n.lines i l))
-step_grows n (event.ImpDown i) = stop_grows n i
+step_grows n (event.ImpDown i) = grows_at (imp_at n.imps i) has_host_up
 step_grows n (event.ImpUp i) = true
 step_grows n (event.HostDown h) = true
 step_grows n (event.HostUp h) = true
@@ -90,26 +89,12 @@ step_grows n (event.Abandon f) = grows_at (imp_at n.imps f.destination.imp) (λ 
 
 -- ---- memory in a quiet round
 
--- an IMP that tells its distances and sends again
-abbrev pub refreshed_grows : Net → ℕ → Bool
-refreshed_grows n i = (let told : Net = at_imp (imp_at n.imps i) i route n in grows_at (imp_at n.imps i) route_grows || grows_at (imp_at told.imps i) resend_grows)
+-- a frame that has bits is live on its way to an IMP that is up
+abbrev pub brings_bits : List (Option State) → Wire → Bool
+brings_bits imps w = (imp_is_up (imp_at imps w.b) && list_any copy_grows w.forward) || (imp_is_up (imp_at imps w.a) && list_any copy_grows w.back)
 
-abbrev pub all_refreshed_grow : List ℕ → Net → Bool
-all_refreshed_grow [] n = false
-all_refreshed_grow (i ∷ numbers) n = refreshed_grows n i || all_refreshed_grow numbers (refreshed n i)
-
--- so many frames of a directed line that are each delivered and dropped: what is dropped wants none
-abbrev pub carried_grows : ℕ → ℕ → Direction → Net → Bool
-carried_grows zero l d n = false
-carried_grows (suc count) l d n = delivered_grows n l d (slice_get (frames_on d (wire_at n.lines l)) 0) || carried_grows count l d (drop_frame (deliver n l d 0) l d 0)
-
-abbrev pub turn_grows : ℕ → Direction → Net → Bool
-turn_grows l d n = carried_grows (length (frames_on d (wire_at n.lines l))) l d n
-
-abbrev pub all_turns_grow : List ℕ → Net → Bool
-all_turns_grow [] n = false
-all_turns_grow (l ∷ lines) n = turn_grows l way.Forward n || (turn_grows l way.Back (turn_of l way.Forward n) || all_turns_grow lines (turn_of l way.Back (turn_of l way.Forward n)))
-
--- A quiet round may want memory where one of its calls and deliveries may, in the subnet as that one finds it
+-- A quiet round may want memory in two cases: an IMP that is up puts a frame on a line when it tells its distances, as it does on
+-- each of its ends that is up; or a frame that has bits goes to an IMP that is up, and is copied when it is delivered. In every other
+-- subnet no IMP sends anything in the round, and nothing is copied
 abbrev pub round_grows : Net → Bool
-round_grows n = all_refreshed_grow (range_with_len 0 (length n.imps)) n || all_turns_grow (range_with_len 0 (length n.lines)) (all_refreshed (range_with_len 0 (length n.imps)) n)
+round_grows n = list_any (λ imp. grows_at imp route_grows) n.imps || list_any (brings_bits n.imps) n.lines

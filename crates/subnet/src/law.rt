@@ -21,7 +21,7 @@ ghost use Rattle.leader1822.specs.declared.message.HostMessage.{HostMessage};
 ghost use Rattle.imp_channel.specs.declared.frame.Content.TheVariants as content;
 ghost use Rattle.imp_node.specs.Examples.{host, flow, packets_to, no_acks, ack_frame};
 ghost use Rattle.imp_node.specs.Lines.{on_port};
-ghost use Rattle.imp_node.specs.State.{opening, no_host};
+ghost use Rattle.imp_node.specs.State.{State, opening, no_host, port_at};
 ghost use Rattle.subnet.specs.Calls.{Kept, running, step_grows, round_grows};
 ghost use Rattle.subnet.specs.Alive.{packets, messages, is_alive};
 ghost use Rattle.subnet.specs.Events.{offer_refusal, offer_out, take_refusal, taken, crossings_of, take_in, deliver, drop_frame, giving_up_refusal, forgetting_refusal, starting_refusal, imp_stopped, imp_started, refreshed, quiet_round, step_refusal, stepped};
@@ -206,6 +206,9 @@ pub fn sound_steps()
 pub fn round_memory()
     // never where no IMP is up, whatever frames are live
     ensures no_imp { (n : Net) → ((i : ℕ) → imp_at n.imps i ≡ None) → round_grows n ≡ false }
+
+    // and wherever an IMP that is up has an end that is up
+    ensures end_up { (n : Net) (i k : ℕ) (s : State) → imp_at n.imps i ≡ Some s → (port_at s.ports k).up ≡ true → round_grows n ≡ true }
 {}
 
 /// Lines and their ends.

@@ -1,10 +1,10 @@
 //! Quiet rounds.
 
-ghost use Rattle.std.specs.Prelude.{◌≡◌, length, slice_get, true, OnOk, OnErr};
+ghost use Rattle.std.specs.Prelude.{◌≡◌, length, true, OnOk, OnErr};
 ghost use Rattle.std.specs.List.{range_with_len};
 ghost use Rattle.subnet.specs.Net.{wire_at, frames_on};
 ghost use Rattle.subnet.specs.Events as events;
-ghost use Rattle.subnet.specs.Calls.{delivered_grows, refreshed_grows, all_refreshed_grow, carried_grows, turn_grows, all_turns_grow, round_grows};
+ghost use Rattle.subnet.specs.Calls.{round_grows};
 ghost use Rattle.subnet.specs.Inside.Calling.{AreLive, SameLog, carried_first};
 
 use crate::imp_call::ImpCall;
@@ -17,7 +17,6 @@ impl Parts {
     /// dropped, one way after the other.
     ///
     /// Errors: want of memory alone.
-    #[tactic(auto, using(crate::proofs::RoundMemory::imps_grow, crate::proofs::RoundMemory::lines_grow))]
     pub(crate) fn quiet_round(&mut self) -> Result<(), AllocError>
         requires { AreLive self.old.imps }
         ensures ok { OnOk result (self.new ≡ events.quiet_round self.old) }
@@ -46,12 +45,13 @@ impl Parts {
     }
 
     /// Each IMP that is up tells its distances and sends again.
-    #[tactic(auto, using(crate::proofs::Carries::range_more, crate::proofs::RoundMemory::refresh_now, crate::proofs::RoundMemory::refresh_later))]
+    #[tactic(auto, using(crate::proofs::Carries::range_more, crate::proofs::RoundMemory::refreshed_earlier))]
     fn refresh_all(&mut self, places: u8) -> Result<(), AllocError>
         requires { AreLive self.old.imps }
         ensures ok { OnOk result (self.new ≡ events.all_refreshed (range_with_len 0 places) self.old) }
         ensures live { OnOk result (AreLive self.new.imps) }
-        ensures memory { OnErr result (all_refreshed_grow (range_with_len 0 places) self.old ≡ true) }
+        ensures memory { OnErr result (round_grows self.old ≡ true) }
+        ensures earlier { OnOk result (round_grows self.new ≡ true → round_grows self.old ≡ true) }
         ensures keeps { SameLog self.old self.new }
     {
         for imp in 0..places {
@@ -61,12 +61,12 @@ impl Parts {
     }
 
     /// An IMP tells its distances and sends again, if it is up.
-    #[tactic(auto, using(crate::proofs::Attempting::resend_ignores, crate::proofs::Attempting::route_ignores, crate::proofs::RoundMemory::told_grows, crate::proofs::RoundMemory::sent_grows))]
+    #[tactic(auto, using(crate::proofs::Attempting::resend_ignores, crate::proofs::Attempting::route_ignores, crate::proofs::RoundMemory::telling_wants, crate::proofs::RoundMemory::sending_wants))]
     fn refresh(&mut self, imp: u8) -> Result<(), AllocError>
         requires { AreLive self.old.imps }
         ensures ok { OnOk result (self.new ≡ events.refreshed self.old imp) }
         ensures live { OnOk result (AreLive self.new.imps) }
-        ensures memory { OnErr result (refreshed_grows self.old imp ≡ true) }
+        ensures memory { OnErr result (round_grows self.old ≡ true) }
         ensures keeps { SameLog self.old self.new }
     {
         self.attempt(imp, ImpCall::Route)?;
@@ -74,12 +74,13 @@ impl Parts {
     }
 
     /// The frames of each of so many lines are delivered and dropped, one way after the other.
-    #[tactic(auto, using(crate::proofs::Carries::range_more, crate::proofs::RoundMemory::turn_there, crate::proofs::RoundMemory::turn_back, crate::proofs::RoundMemory::turns_later))]
+    #[tactic(auto, using(crate::proofs::Carries::range_more))]
     fn turn_all(&mut self, lines: usize) -> Result<(), AllocError>
         requires { AreLive self.old.imps }
         ensures ok { OnOk result (self.new ≡ events.all_turns (range_with_len 0 lines) self.old) }
         ensures live { OnOk result (AreLive self.new.imps) }
-        ensures memory { OnErr result (all_turns_grow (range_with_len 0 lines) self.old ≡ true) }
+        ensures memory { OnErr result (round_grows self.old ≡ true) }
+        ensures earlier { OnOk result (round_grows self.new ≡ true → round_grows self.old ≡ true) }
         ensures keeps { SameLog self.old self.new }
     {
         for line in 0..lines {
@@ -94,7 +95,8 @@ impl Parts {
         requires { AreLive self.old.imps }
         ensures ok { OnOk result (self.new ≡ events.turn_of line direction self.old) }
         ensures live { OnOk result (AreLive self.new.imps) }
-        ensures memory { OnErr result (turn_grows line direction self.old ≡ true) }
+        ensures memory { OnErr result (round_grows self.old ≡ true) }
+        ensures earlier { OnOk result (round_grows self.new ≡ true → round_grows self.old ≡ true) }
         ensures keeps { SameLog self.old self.new }
     {
         let live = self.live(line, direction);
@@ -113,12 +115,13 @@ impl Parts {
     }
 
     /// So many frames of a directed line, the oldest first, are each delivered once and dropped.
-    #[tactic(auto, using(crate::proofs::Carries::carried_more, crate::proofs::RoundMemory::carry_now, crate::proofs::RoundMemory::carry_later))]
+    #[tactic(auto, using(crate::proofs::Carries::carried_more, crate::proofs::RoundMemory::carried_earlier))]
     fn carry(&mut self, count: usize, line: usize, direction: Direction) -> Result<(), AllocError>
         requires { AreLive self.old.imps }
         ensures ok { OnOk result (self.new ≡ events.carried count line direction self.old) }
         ensures live { OnOk result (AreLive self.new.imps) }
-        ensures memory { OnErr result (carried_grows count line direction self.old ≡ true) }
+        ensures memory { OnErr result (round_grows self.old ≡ true) }
+        ensures earlier { OnOk result (round_grows self.new ≡ true → round_grows self.old ≡ true) }
         ensures keeps { SameLog self.old self.new }
     {
         for _ in 0..count {
@@ -128,12 +131,12 @@ impl Parts {
     }
 
     /// The oldest frame of a directed line, if there is one, is delivered and dropped.
-    #[tactic(auto, using(crate::proofs::Carries::delivered_none))]
+    #[tactic(auto, using(crate::proofs::Carries::delivered_none, crate::proofs::RoundMemory::delivering_wants))]
     fn carry_first(&mut self, line: usize, direction: Direction) -> Result<(), AllocError>
         requires { AreLive self.old.imps }
         ensures ok { OnOk result (self.new ≡ carried_first line direction self.old) }
         ensures live { OnOk result (AreLive self.new.imps) }
-        ensures memory { OnErr result (delivered_grows self.old line direction (slice_get (frames_on direction (wire_at self.old.lines line)) 0) ≡ true) }
+        ensures memory { OnErr result (round_grows self.old ≡ true) }
         ensures keeps { SameLog self.old self.new }
     {
         if self.has_frame(line, direction, 0) {

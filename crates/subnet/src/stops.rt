@@ -3,7 +3,7 @@
 ghost use Rattle.std.specs.Prelude.{◌≡◌, ◌<◌, ◌≤◌, ◌++◌, length, None, true, reverse, slice_set, IfOk, OnOk, OnErr};
 ghost use Rattle.leader1822.specs.declared.event.NetEvent.TheVariants as event;
 ghost use Rattle.subnet.specs.Net.{imp_at};
-ghost use Rattle.subnet.specs.Calls.{stop_grows};
+ghost use Rattle.subnet.specs.Calls.{grows_at, has_host_up};
 ghost use Rattle.subnet.specs.Events.{logging, downs_at, downs_from};
 ghost use Rattle.subnet.specs.Inside.Calling.{AreLive, Steps, SameLog, down_of};
 ghost use Rattle.imp_node.specs.State.{host_at};
@@ -75,11 +75,11 @@ impl Parts {
     }
 
     /// Puts on the log that the hosts of an IMP go down, in their order.
-    #[tactic(auto, using(crate::proofs::Stopping::all_crossed))]
+    #[tactic(auto, using(crate::proofs::Stopping::all_crossed, crate::proofs::Stopping::crossed_up))]
     fn cross_downs(&mut self, imp: ImpNumber) -> Result<(), AllocError>
         ensures ok { OnOk result (self.new ≡ logging (downs_at imp (imp_at self.old.imps imp)) self.old) }
         ensures err { OnErr result (self.new ≡ self.old) }
-        ensures memory { OnErr result (stop_grows self.old imp ≡ true) }
+        ensures memory { OnErr result (grows_at (imp_at self.old.imps imp) has_host_up ≡ true) }
     {
         let mut downs = self.downs(imp)?;
         if downs.is_empty() {
@@ -91,7 +91,7 @@ impl Parts {
     /// The crossings of an IMP's hosts that go down with it, the oldest first.
     fn downs(&self, imp: ImpNumber) -> Result<Vec<Crossing>, AllocError>
         ensures downs { IfOk result (λ downs. downs.items ≡ reverse (downs_at imp (imp_at self.now.imps imp))) }
-        ensures memory { OnErr result (0 < length (downs_at imp (imp_at self.now.imps imp))) }
+        ensures memory { OnErr result (grows_at (imp_at self.now.imps imp) has_host_up ≡ true) }
     {
         match self.imp(imp.number()) {
             Some(up) => downs_of(self.alloc, imp, up),
@@ -114,7 +114,7 @@ impl Parts {
 #[tactic(auto, using(crate::proofs::Stopping::in_order_is))]
 fn downs_of(alloc: Global, imp: ImpNumber, up: &Imp) -> Result<Vec<Crossing>, AllocError>
     ensures downs { IfOk result (λ downs. downs.items ≡ reverse (downs_from imp 0 up.now.hosts)) }
-    ensures memory { OnErr result (0 < length (downs_from imp 0 up.now.hosts)) }
+    ensures memory { OnErr result (has_host_up up.now ≡ true) }
 {
     let mut downs = Vec::new(alloc);
     for host in 0..MOST_HOSTS {

@@ -5,8 +5,8 @@ use Rattle.std.proofs.lemmas.Grind.{flat_map-append}
 use Rattle.std.specs.List.{flat_map}
 use Rattle.bit_messages.specs.Octets.{bits_of, octets_of}
 use Rattle.bit_messages.proofs.PackedLemmas.{bits_of-append}
-use Rattle.sockets.specs.declared.notice.Notice.{Notice}
-use Rattle.sockets.specs.declared.notice.Notice.TheVariants as notice
+use Rattle.host_pairs.specs.declared.notice.Notice.{Notice}
+use Rattle.host_pairs.specs.declared.notice.Notice.TheVariants as notice
 use Rattle.sockets.specs.declared.request.Request.{Request}
 use Rattle.terminal.specs.Ends.{arrived_on, closed_by, closing, sending}
 use Rattle.terminal.specs.Lines.{Heard, heard, spelled}

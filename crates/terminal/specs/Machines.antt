@@ -1,7 +1,7 @@
 -- The echo service and the line terminal.
 use Rattle.std.specs.Prelude.{ℕ, Bool, false, List, [], ◌∷◌, ◌++◌, Option, Some, None}
 use Rattle.bit_messages.specs.Octets.{octets_of}
-use Rattle.sockets.specs.declared.notice.Notice.{Notice}
+use Rattle.host_pairs.specs.declared.notice.Notice.{Notice}
 use Rattle.sockets.specs.declared.request.Request.{Request}
 use Rattle.terminal.specs.Ends.{granted_again, closed_by, sending, arrived_on}
 use Rattle.terminal.specs.Lines.{heard}

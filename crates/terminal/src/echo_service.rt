@@ -4,7 +4,7 @@ ghost use Rattle.std.specs.Prelude.{◌≡◌, ◌<◌, true, false, length, Err
 ghost use Rattle.terminal.specs.Ends as ends;
 ghost use Rattle.terminal.specs.Machines as machines;
 
-use crate::ends::{arrived_on, closed_by, first_requests, granted_again};
+use crate::ends::{arrived_on, closed_by, ended, first_requests, granted_again};
 use crate::octets::join;
 use bit_messages::Bits;
 use ncp_control::{ReceiveSocket, SendSocket};
@@ -95,16 +95,6 @@ impl EchoService {
         Ok(requests)
     }
 
-    /// Ends a call: the service is spent where memory ran out.
-    fn end<T: Drop>(&mut self, done: Result<T, AllocError>) -> Result<T, AllocError>
-        ensures { MatchResult done (λ x. (result ≡ Ok x) × (self.new ≡ self.old)) (λ e. (result ≡ Err e) × (self.new.spent ≡ true)) }
-    {
-        if done.is_err() {
-            self.spent = true;
-        }
-        done
-    }
-
     /// Tells it of something that happened to its host. Returns what it asks for, in order: at an arrival on
     /// its receive socket a grant, and the octets that go back; at the end of one of its connections that
     /// the other be closed; at any other notice nothing.
@@ -125,6 +115,6 @@ impl EchoService {
                 notice,
             ),
         };
-        self.end(done)
+        ended(done, &mut self.spent)
     }
 }

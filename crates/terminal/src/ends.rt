@@ -1,6 +1,6 @@
 //! What both programs ask for on their two connections.
 
-ghost use Rattle.std.specs.Prelude.{◌≡◌, ◌<◌, ℕ, [], ◌∷◌, length, Some, None, IfOk, OnErr, MatchOption};
+ghost use Rattle.std.specs.Prelude.{◌≡◌, ◌<◌, ℕ, true, [], ◌∷◌, length, Some, None, Ok, Err, IfOk, OnErr, MatchOption, MatchResult};
 ghost use Rattle.terminal.specs.Ends as ends;
 
 use bit_messages::Bits;
@@ -48,7 +48,7 @@ pub(crate) fn arrived_on(receive: u32, notice: &Notice) -> Option<&Bits>
 }
 
 /// The socket of a connection that a notice tells the end of.
-fn ended(notice: &Notice) -> Option<u32>
+fn socket_ended(notice: &Notice) -> Option<u32>
     ensures { (receive send : ℕ) → MatchOption result (ends.closed_by receive send notice.now ≡ []) (λ socket. ends.closed_by receive send notice.now ≡ ends.closing receive send socket) }
 {
     match notice {
@@ -68,7 +68,7 @@ pub(crate) fn closed_by(
     ensures memory { OnErr result (0 < length (ends.closed_by receive send notice.now)) }
 {
     let mut requests = Vec::new(alloc);
-    let Some(ended) = ended(notice) else {
+    let Some(ended) = socket_ended(notice) else {
         return Ok(requests);
     };
     if ended == receive {
@@ -77,4 +77,14 @@ pub(crate) fn closed_by(
         requests.push(Request::Close { socket: receive })?;
     }
     Ok(requests)
+}
+
+/// Ends a call of a program, which is spent where memory ran out.
+pub(crate) fn ended<T: Drop>(done: Result<T, AllocError>, spent: &mut bool) -> Result<T, AllocError>
+    ensures { MatchResult done (λ x. (result ≡ Ok x) × (spent.new ≡ spent.old)) (λ e. (result ≡ Err e) × (spent.new ≡ true)) }
+{
+    if done.is_err() {
+        *spent = true;
+    }
+    done
 }

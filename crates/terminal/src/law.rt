@@ -3,7 +3,7 @@
 ghost use Rattle.std.specs.Prelude.{◌≡◌, ℕ, ◌*◌, ◌<◌, true, false, Bool, List, [], ◌∷◌, ◌++◌, length};
 ghost use Rattle.std.specs.List.{flat_map, list_all};
 ghost use Rattle.bit_messages.specs.Octets.{bits_of, octets_of};
-ghost use Rattle.sockets.specs.declared.notice.Notice.{Notice};
+ghost use Rattle.host_pairs.specs.declared.notice.Notice.{Notice};
 ghost use Rattle.terminal.specs.Lines.{AreLines, has_end, heard, is_printable, spelled};
 ghost use Rattle.terminal.specs.Machines.{EchoState, TerminalState};
 ghost use Rattle.terminal.specs.Octets.{part, whole};

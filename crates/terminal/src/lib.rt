@@ -20,5 +20,5 @@ pub mod worked;
 
 pub use echo_service::EchoService;
 pub use fault::TerminalFault;
-pub use line::Line;
+pub use line::{Line, typed};
 pub use line_terminal::{LineTerminal, Told};

@@ -4,6 +4,7 @@ ghost use Rattle.std.specs.Prelude.{◌≡◌, ◌<◌, [], ◌∷◌, ◌++◌,
 ghost use Rattle.std.specs.List.{list_all};
 ghost use Rattle.terminal.specs.Lines as lines;
 
+use crate::TerminalFault;
 use std::alloc::{AllocError, Global};
 use std::marker::Model;
 use std::mem;
@@ -45,14 +46,14 @@ fn is_printable(octet: u8) -> bool
 }
 
 /// Whether all octets of a text may be typed.
-pub(crate) fn is_text(text: &[u8]) -> bool
+fn is_text(text: &[u8]) -> bool
     ensures { result ≡ list_all lines.is_printable text.now }
 {
     text.iter().all(|octet| is_printable(*octet))
 }
 
 /// The octets of a line: its text, and its end.
-pub(crate) fn spelled(alloc: Global, text: &[u8]) -> Result<Vec<u8>, AllocError>
+fn spelled(alloc: Global, text: &[u8]) -> Result<Vec<u8>, AllocError>
     ensures { IfOk result (λ octets. octets.items ≡ lines.spelled text.now) }
 {
     let mut octets = Vec::new(alloc);
@@ -60,6 +61,18 @@ pub(crate) fn spelled(alloc: Global, text: &[u8]) -> Result<Vec<u8>, AllocError>
     octets.push(CARRIAGE_RETURN)?;
     octets.push(LINE_FEED)?;
     Ok(octets)
+}
+
+/// The octets of a line with this text: the text, 13 and 10.
+///
+/// Errors: `NotPrintable` where an octet of the text isn't from 32 to 126, then `OutOfMemory`.
+pub fn typed(alloc: Global, text: &[u8]) -> Result<Vec<u8>, TerminalFault>
+    ensures { lines.Decided (lines.line_fault text.now) (λ octets. octets.items ≡ lines.spelled text.now) result }
+{
+    if !is_text(text) {
+        return Err(TerminalFault::NotPrintable);
+    }
+    Ok(spelled(alloc, text)?)
 }
 
 /// Whether this octet ends a line, where these came since the last end.

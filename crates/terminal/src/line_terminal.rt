@@ -6,8 +6,8 @@ ghost use Rattle.terminal.specs.Lines as lines;
 ghost use Rattle.terminal.specs.Machines as machines;
 
 use crate::TerminalFault;
-use crate::ends::{arrived_on, closed_by, first_requests, granted_again};
-use crate::line::{Line, hear, is_text, spelled};
+use crate::ends::{arrived_on, closed_by, ended, first_requests, granted_again};
+use crate::line::{Line, hear, typed};
 use crate::octets::join;
 use bit_messages::Bits;
 use ncp_control::{ReceiveSocket, SendSocket};
@@ -98,10 +98,7 @@ impl LineTerminal {
     pub fn line(&self, text: &[u8]) -> Result<Vec<u8>, TerminalFault>
         ensures { lines.Decided (lines.line_fault text.now) (λ octets. octets.items ≡ lines.spelled text.now) result }
     {
-        if !is_text(text) {
-            return Err(TerminalFault::NotPrintable);
-        }
-        Ok(spelled(self.alloc, text)?)
+        typed(self.alloc, text)
     }
 
     /// These bits came: with those that were kept they are octets, and the octets are lines.
@@ -117,16 +114,6 @@ impl LineTerminal {
         hear(self.alloc, &mut self.rest, octets.as_octets())
     }
 
-    /// Ends a call: the terminal is spent where memory ran out.
-    fn end<T: Drop>(&mut self, done: Result<T, AllocError>) -> Result<T, AllocError>
-        ensures { MatchResult done (λ x. (result ≡ Ok x) × (self.new ≡ self.old)) (λ e. (result ≡ Err e) × (self.new.spent ≡ true)) }
-    {
-        if done.is_err() {
-            self.spent = true;
-        }
-        done
-    }
-
     /// Takes bits in that came for it. Returns the lines that have ended, in order, each without its end.
     /// Bits that are no whole octet are kept for the next that come, and octets that are no whole line too.
     ///
@@ -137,7 +124,7 @@ impl LineTerminal {
         ensures memory { OnErr result (0 < length bits.now) }
     {
         let done = self.join(bits);
-        self.end(done)
+        ended(done, &mut self.spent)
     }
 
     /// Bits arrived on its socket: they are granted again, and lines may have ended.
@@ -182,6 +169,6 @@ impl LineTerminal {
             Some(bits) => self.hear(bits),
             None => self.pass(notice),
         };
-        self.end(done)
+        ended(done, &mut self.spent)
     }
 }

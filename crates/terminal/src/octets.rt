@@ -1,6 +1,7 @@
 //! Bits that come in pieces, as whole octets.
 
-ghost use Rattle.std.specs.Prelude.{◌≡◌, ◌<◌, ◌++◌, length, IfOk, OnOk};
+ghost use Rattle.std.specs.Prelude.{◌≡◌, ◌<◌, ◌++◌, length, IfOk, IfErr, OnOk};
+ghost use Rattle.bit_messages.specs.declared.fault.BitFault.TheVariants as fault;
 ghost use Rattle.terminal.specs.Octets.{whole, part};
 
 use bit_messages::{BitFault, Bits};
@@ -10,6 +11,7 @@ use std::alloc::{AllocError, Global};
 fn join_bits(alloc: Global, kept: &mut Bits, bits: &Bits) -> Result<Bits, BitFault>
     ensures octets { IfOk result (λ octets. octets ≡ whole (kept.old ++ bits.now)) }
     ensures kept { OnOk result (kept.new ≡ part (kept.old ++ bits.now)) }
+    ensures fault { IfErr result (λ e. e ≡ fault.OutOfMemory) }
 {
     kept.append(bits)?;
     let len = kept.len();
@@ -29,9 +31,10 @@ pub(crate) fn join(alloc: Global, kept: &mut Bits, bits: &Bits) -> Result<Bits, 
 {
     match join_bits(alloc, kept, bits) {
         Ok(octets) => Ok(octets),
-        Err(_) => {
+        Err(BitFault::OutOfMemory) => {
             *kept = Bits::new(alloc);
             Err(AllocError)
         }
+        Err(BitFault::NoMark | BitFault::TooLong | BitFault::Range) => unreachable!(),
     }
 }

@@ -1,11 +1,11 @@
 //! What each public type derives: copies, equality, the default, the printed text.
 
+use crate::values::is_told;
 use ncp_control::{
     Allocation, ByteSize, Command, ConnectionLink, ControlFault, DataHeader, ReceiveSocket,
     SendSocket,
 };
-use std::alloc::{AllocError, Global};
-use std::fmt::Error;
+use std::alloc::AllocError;
 
 /// Whether a clone equals its value, the two values are equal, and the first equals itself.
 fn compared<T: Clone + PartialEq>(first: T, second: T) -> Result<[bool; 3], AllocError> {
@@ -76,21 +76,20 @@ fn values_that_differ_in_one_field_are_different(rt: HostRuntime) -> Result<(), 
     Ok(())
 }
 
-/// The texts of the faults, in their order.
-fn texts(alloc: Global) -> Result<[bool; 4], Error> {
-    Ok([
-        format!(in alloc; "{}", ControlFault::IllegalCode { quoted: 1 })?.as_str()
-            == "illegal code",
-        format!(in alloc; "{}", ControlFault::Short { quoted: 1 })?.as_str() == "short",
-        format!(in alloc; "{}", ControlFault::Erroneous { quoted: 10 })?.as_str() == "erroneous",
-        format!(in alloc; "{}", ControlFault::OutOfMemory)?.as_str() == "out of memory",
-    ])
-}
-
 #[test]
-fn faults_are_told_in_words(rt: HostRuntime) -> Result<(), Error> {
-    assert_eq!(rt; texts(rt.alloc())?, [true; 4]);
-    Ok(())
+fn faults_are_told_in_words(rt: HostRuntime) {
+    let alloc = rt.alloc();
+    let are_told = [
+        is_told(
+            alloc,
+            ControlFault::IllegalCode { quoted: 1 },
+            "illegal code",
+        ),
+        is_told(alloc, ControlFault::Short { quoted: 1 }, "short"),
+        is_told(alloc, ControlFault::Erroneous { quoted: 10 }, "erroneous"),
+        is_told(alloc, ControlFault::OutOfMemory, "out of memory"),
+    ];
+    assert_eq!(rt; are_told, [true; 4]);
 }
 
 #[test]

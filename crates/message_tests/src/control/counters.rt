@@ -2,7 +2,7 @@
 
 use super::commands::is_written_as;
 use bit_messages::BitFault;
-use ncp_control::{Allocation, Command, ControlFault, DataHeader};
+use ncp_control::{Allocation, Command, DataHeader};
 use std::alloc::Global;
 
 fn of(messages: u16, bits: u32) -> Allocation {
@@ -41,75 +41,79 @@ fn a_message_takes_the_least_that_may_go(rt: HostRuntime) {
     assert_eq!(rt; counts, [8023, 1002, 31, 7, 0, 0, 1, 0]);
 }
 
+/// What is given back of these messages and bits for these fractions of them, and what is left.
+fn shared(messages: u16, bits: u32, message_fraction: u8, bit_fraction: u8) -> [u32; 4] {
+    let mut allocation = of(messages, bits);
+    let given = allocation.give_back(message_fraction, bit_fraction);
+    [
+        given.0 as u32,
+        given.1,
+        allocation.messages as u32,
+        allocation.bits,
+    ]
+}
+
 #[test]
 fn shares_are_rounded_down(rt: HostRuntime) {
-    let table = [
-        (of(3, 100), 64, 200, (1, 100), of(2, 0)),
-        (of(3, 100), 127, 1, (2, 0), of(1, 100)),
-        (of(3, 100), 128, 0, (3, 0), of(0, 100)),
+    for (messages, bits, f, g, shares) in [
+        (3, 100, 64, 200, [1, 100, 2, 0]),
+        (3, 100, 127, 1, [2, 0, 1, 100]),
+        (3, 100, 128, 0, [3, 0, 0, 100]),
+        (65535, 4294967295, 255, 255, [65535, 4294967295, 0, 0]),
         (
-            of(65535, 4294967295),
-            255,
-            255,
-            (65535, 4294967295),
-            of(0, 0),
-        ),
-        (
-            of(65535, 4294967295),
+            65535,
+            4294967295,
             127,
             127,
-            (65023, 4261412863),
-            of(512, 33554432),
+            [65023, 4261412863, 512, 33554432],
         ),
-        (of(0, 0), 255, 255, (0, 0), of(0, 0)),
-    ];
-    for (before, f, g, returned, after) in table {
-        let mut allocation = before;
-        let given = allocation.give_back(f, g);
-        assert!(rt;
-            given == returned && allocation == after,
-            "{before:?}: {given:?} {allocation:?}"
-        );
+        (0, 0, 255, 255, [0, 0, 0, 0]),
+    ] {
+        let found = shared(messages, bits, f, g);
+        assert_eq!(rt; found, shares, "{f} and {g} of {messages} and {bits}");
     }
 }
 
-/// Whether a header is written as these octets.
-fn header_is_written_as(
-    alloc: Global,
-    header: DataHeader,
-    spelling: &[u8],
-) -> Result<bool, BitFault> {
-    let bits = header.write(alloc)?;
-    Ok(bits.to_octets(alloc)?.as_slice() == spelling)
+/// What is left of a grant of these messages and bits when a message with so many bits of data has gone.
+fn left(messages: u16, bits: u32, gone: u32) -> Option<(u16, u32)> {
+    let mut allocation = of(messages, bits);
+    if allocation.messages == 0 {
+        return None;
+    }
+    if allocation.bits < gone {
+        return None;
+    }
+    allocation.spend(gone);
+    Some((allocation.messages, allocation.bits))
+}
+
+/// How many bits of data so many bytes of this size are, if their header is written as these octets.
+fn spelled(alloc: Global, size: u8, count: u16, octets: &[u8]) -> Result<Option<u32>, BitFault> {
+    let header = DataHeader { size, count };
+    let is_spelled = header.write(alloc)?.as_octets() == octets;
+    Ok(is_spelled.then_some(header.data_bits()))
 }
 
 #[test]
-fn thirteen_octets_and_room_for_twelve(rt: HostRuntime) -> Result<(), BitFault> {
-    let mut allocation = Allocation::new();
-    allocation.grant(2, 100);
-    let count = allocation.may_send(8, 13);
-    let header = DataHeader { size: 8, count };
-    let written = header_is_written_as(rt.alloc(), header, &[0, 8, 0, 12, 0])?;
-    let bits = header.data_bits();
-    assert!(rt; allocation == of(2, 100) && bits == 96);
-    allocation.spend(bits);
+fn thirteen_octets_and_room_for_twelve(rt: HostRuntime) {
+    let bits = spelled(rt.alloc(), 8, 12, &[0, 8, 0, 12, 0]);
+    let counts = [of(2, 100).may_send(8, 13), of(1, 4).may_send(8, 1)];
     assert_eq!(rt;
-        (count, written, allocation, allocation.may_send(8, 1)),
-        (12, true, of(1, 4), 0)
+        (bits, counts, left(2, 100, 96)),
+        (Ok(Some(96)), [12, 0], Some((1, 4)))
     );
-    Ok(())
 }
 
 #[test]
-fn what_is_asked_back_is_returned(rt: HostRuntime) -> Result<(), ControlFault> {
-    let mut allocation = of(3, 100);
-    let (messages, bits) = allocation.give_back(64, 200);
+fn what_is_asked_back_is_returned(rt: HostRuntime) {
     let ret = Command::Ret {
         link: 5,
-        messages,
-        bits,
+        messages: 1,
+        bits: 100,
     };
-    let written = is_written_as(rt.alloc(), ret, &[6, 5, 0, 1, 0, 0, 0, 0x64])?;
-    assert_eq!(rt; (written, allocation), (true, of(2, 0)));
-    Ok(())
+    let written = is_written_as(rt.alloc(), ret, &[6, 5, 0, 1, 0, 0, 0, 0x64]);
+    assert_eq!(rt;
+        (shared(3, 100, 64, 200), written),
+        ([1, 100, 2, 0], Ok(true))
+    );
 }

@@ -1,10 +1,13 @@
 -- What happens to the lives and to what was handed over, apart from all else that is kept.
-use Rattle.std.specs.Prelude.{ℕ, Bool, List, [], ◌∷◌, ◌++◌, Option, Some, None, reverse}
+use Rattle.std.specs.Prelude.{◌≡◌, ℕ, Bool, List, [], ◌∷◌, ◌++◌, Option, Some, None, reverse}
 use Rattle.leader1822.specs.Host.{Host}
 use Rattle.leader1822.specs.declared.crossing.Crossing.{Crossing}
-use Rattle.sockets.specs.declared.notice.Notice.{Notice}
+use Rattle.host_pairs.specs.declared.notice.Notice.{Notice}
 use Rattle.sockets.specs.declared.request.Request.{Request}
-use Rattle.net_sim.specs.Book.{Life, Told, Called, Kept, lives_crossed, lives_told, lives_asked, handed_told, handed_asked}
+use Rattle.net_sim.specs.Book as book
+use Rattle.net_sim.specs.Book.{Life, Told, Called, Reported, Kept, where_it, lives_crossed, lives_told, lives_asked, handed_told, handed_asked}
+use Rattle.net_sim.specs.Inside.Endings.{Ending, ends}
+use Rattle.net_sim.specs.Inside.Places.{places}
 
 pub record LivesState : Type 0 where
   pub lives : List Life
@@ -21,6 +24,9 @@ begun x l = record { lives = l.lives ++ x ∷ []; handed = l.handed ++ [] ∷ []
 
 abbrev pub crossed : Crossing → LivesState → LivesState
 crossed c l = record { lives = lives_crossed c l.lives; handed = l.handed }
+
+abbrev pub ended : Ending → LivesState → LivesState
+ended e l = record { lives = where_it (ends e) book.ended l.lives; handed = l.handed }
 
 abbrev pub told : Host → Notice → LivesState → LivesState
 told h n l = record { lives = lives_told h n l.lives; handed = handed_told n l.handed }
@@ -41,22 +47,36 @@ abbrev pub asked_by : Option (Host × Request) → LivesState → LivesState
 asked_by None l = l
 asked_by (Some a) l = asked a.0 a.1 l
 
--- what crossed, what a user asked for, and what users were told
-abbrev pub followed : List Crossing → Option (Host × Request) → List Told → LivesState → LivesState
-followed cs a ts l = all_told ts (asked_by a (all_crossed cs l))
+-- a host's services asked for all this
+abbrev pub all_asked : Host → List Request → LivesState → LivesState
+all_asked h [] l = l
+all_asked h (r ∷ requests) l = all_asked h requests (asked h r l)
 
--- all of that, written down, with the contacts among what was asked for
-abbrev pub written : List Crossing → Option (Host × Request) → List Called → List Told → Kept → Kept
-written cs a calls ts k = record {
+abbrev pub ran_by : Option Host → List Request → LivesState → LivesState
+ran_by None requests l = l
+ran_by (Some h) requests l = all_asked h requests l
+
+-- what crossed, what a user asked for, what users were told, and what the services of a host asked for then
+abbrev pub followed : List Crossing → Option (Host × Request) → List Told → Option Host → List Request → LivesState → LivesState
+followed cs a ts h rs l = ran_by h rs (all_told ts (asked_by a (all_crossed cs l)))
+
+-- all of that, written down, with the contacts among what was asked for, and what was reported
+abbrev pub written : List Crossing → Option (Host × Request) → List Called → List Told → Option Host → List Request → List Reported → Kept → Kept
+written cs a calls ts h rs reports k = record {
   book = record {
     crossings = reverse cs ++ k.book.crossings;
     notices = k.book.notices ++ ts;
     contacts = k.book.contacts ++ calls;
-    lives = (followed cs a ts (of_kept k)).lives;
+    reports = k.book.reports ++ reports;
+    lives = (followed cs a ts h rs (of_kept k)).lives;
   };
-  handed = (followed cs a ts (of_kept k)).handed;
+  handed = (followed cs a ts h rs (of_kept k)).handed;
 }
 
 -- what a host was told when there were so many crossings
 abbrev pub told_at : Host → ℕ → Notice → Told
 told_at h place n = record { host = h; place = place; notice = n }
+
+-- the places that are known are those of the open lives
+abbrev pub AreKnown : List ℕ → List Life → Type 0
+AreKnown known lives = known ≡ places lives

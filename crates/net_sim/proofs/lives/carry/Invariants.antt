@@ -1,6 +1,12 @@
-use Rattle.std.proofs.Common.{◌≡◌, ◌++◌, take, drop}
-use Rattle.net_sim.specs.Book.{lives_at, carried, where_it}
+use Rattle.std.proofs.Common.{◌≡◌, drop}
+use Rattle.net_sim.specs.Book.{lives_at, carried}
+use Rattle.net_sim.specs.Inside.Places.{places}
+use Rattle.net_sim.proofs.Places.{changed_at, where_here}
 use Rattle.net_sim.proofs.lives.carry.Given as goal
 
-abbrev pub invariant-loop-life : goal.invariant-loop-life
-invariant-loop-life l = l.lives ≡ where_it (lives_at l.host l.socket) (carried l.bits) (take l.life-index l.fn.lives) ++ drop l.life-index l.fn.lives
+-- what is left makes of the lives what the whole does, and the open ones are where they were
+abbrev pub invariant-loop-at : goal.invariant-loop-at
+invariant-loop-at l = record {
+  rest : changed_at (where_here (lives_at l.host l.socket) (carried l.bits)) (drop l.at-index l.open_at) l.lives ≡ changed_at (where_here (lives_at l.host l.socket) (carried l.bits)) l.open_at l.fn.lives;
+  kept : places l.lives ≡ places l.fn.lives;
+}

@@ -1,7 +1,26 @@
-use Rattle.std.proofs.Common.{rules}
+use Rattle.std.proofs.Common.{rules, ◌<◌, length, slice_index_or, sym, ◌∙◌}
 use Rattle.net_sim.specs.Book.{lives_at, returned}
-use Rattle.net_sim.proofs.LifeLoops.{one_more}
+use Rattle.net_sim.proofs.Places.{where_here, next_changed, all_changed, at_within, at_spares, places_set}
 use Rattle.net_sim.proofs.lives.give_back.Goals as goal
 
-pub loop-life-preserved : goal.loop-life-preserved
-loop-life-preserved c = one_more (lives_at c.args.host c.args.socket) (returned c.args.messages c.args.bits) c.args.lives.now c.loop-life.lives c.loop-life.life-index c.life-item.result c.give_back_at.new.self (search rules) (search rules) c.loop-life.invariant (search rules)
+pub bounds-lives-at : goal.bounds-lives-at
+bounds-lives-at c = at_within c.loop-at.lives c.args.open_at.now c.loop-at.at-index 0 (c.requires ∙ sym c.loop-at.invariant.kept) (search rules)
+
+pub offset_bounds-lives-at : goal.offset_bounds-lives-at
+offset_bounds-lives-at c =
+    let at : slice_index_or c.args.open_at.now c.loop-at.at-index 0 < length c.loop-at.lives = at_within c.loop-at.lives c.args.open_at.now c.loop-at.at-index 0 (c.requires ∙ sym c.loop-at.invariant.kept) (search rules) in
+    search (rules, at)
+
+pub loop-at-preserved : goal.loop-at-preserved
+loop-at-preserved c = record {
+  rest = next_changed (where_here (lives_at c.args.host c.args.socket) (returned c.args.messages c.args.bits)) c.args.open_at.now c.loop-at.at-index c.loop-at.lives _ c.index-lives-at.result c.give_back_at.new.self (search rules) (search rules) c.loop-at.invariant.rest;
+  kept = places_set c.loop-at.lives (slice_index_or c.args.open_at.now c.loop-at.at-index 0) c.index-lives-at.result c.give_back_at.new.self (search rules) ∙ c.loop-at.invariant.kept;
+}
+
+pub returns-in_err-give_back_at-clause-kept : goal.returns-in_err-give_back_at-clause-kept
+returns-in_err-give_back_at-clause-kept c =
+    places_set c.loop-at.lives (slice_index_or c.args.open_at.now c.loop-at.at-index 0) c.index-lives-at.result c.give_back_at.new.self (search rules) ∙ c.loop-at.invariant.kept
+
+pub returns-clause-done : goal.returns-clause-done
+returns-clause-done c =
+    all_changed (lives_at c.args.host c.args.socket) (returned c.args.messages c.args.bits) (at_spares c.args.host c.args.socket) c.args.open_at.now c.loop-at.at-index c.args.lives.now c.loop-at.lives c.requires (search rules) c.loop-at.invariant.rest

@@ -1,7 +1,8 @@
-use Rattle.std.proofs.Common.{◌≡◌, ◌++◌, take, drop}
-use Rattle.net_sim.specs.Book.{lives_at, handed_to}
+use Rattle.std.proofs.Common.{◌≡◌, drop}
+use Rattle.net_sim.specs.Book.{lives_at}
+use Rattle.net_sim.proofs.Places.{handed_at}
 use Rattle.net_sim.proofs.lives.hand.Given as goal
 
 -- what is left makes of the bits what the whole does
 abbrev pub invariant-loop-at : goal.invariant-loop-at
-invariant-loop-at l = take l.at l.handed ++ handed_to (lives_at l.host l.socket) l.bits (drop l.at l.lives) (drop l.at l.handed) ≡ handed_to (lives_at l.host l.socket) l.bits l.fn.lives l.fn.handed
+invariant-loop-at l = handed_at (lives_at l.host l.socket) l.bits (drop l.at-index l.open_at) l.lives l.handed ≡ handed_at (lives_at l.host l.socket) l.bits l.open_at l.lives l.fn.handed

@@ -1,5 +1,5 @@
 use Rattle.std.proofs.Common.{rules, ◌≡◌, Some, refl, ap, ◌∙◌}
-use Rattle.sockets.proofs.EntryLemmas.{one_found, none_found}
+use Rattle.host_pairs.proofs.EntryLemmas.{one_found, none_found}
 use Rattle.sockets.specs.Pairs.{NcpState}
 use Rattle.leader1822.specs.Host.{same_host}
 use Rattle.net_sim.specs.Inside.Parts.{NoSeat, NoProgram}

@@ -1,4 +1,5 @@
 use Rattle.std.proofs.Common.{refl}
+use Rattle.host_services.specs.Turns as turns
 use Rattle.sockets.specs.Requests.{refusal, served_notices}
 use Rattle.sockets.specs.Sending.{next_out}
 use Rattle.net_sim.proofs.worked.worked_worlds.Goals as goal
@@ -12,5 +13,9 @@ unfolding next_out
 returns-clause-nothing c r new h = h
 
 pub returns-clause-asked : goal.returns-clause-asked
-unfolding served_notices
+unfolding served_notices turns.told
 returns-clause-asked c = refl
+
+pub returns-clause-served : goal.returns-clause-served
+unfolding served_notices turns.told
+returns-clause-served c = (refl, refl)

@@ -2,7 +2,7 @@ use Rattle.std.proofs.Common.{◌≡◌, ℕ, ◌<◌, [], ◌∷◌, Option, So
 use Rattle.bit_messages.specs.Octets.{octets_of}
 use Rattle.leader1822.specs.declared.crossing.Crossing.TheVariants as crossing
 use Rattle.ncp_control.specs.Reading.{command_of, read_of}
-use Rattle.sockets.specs.Control.{orders_of}
+use Rattle.host_pairs.specs.Control.{orders_of}
 use Rattle.sockets.specs.Worked.{first, second}
 use Rattle.net_sim.specs.Clean.{IsFresh}
 use Rattle.net_sim.specs.WorkedResets.{call, reset_on, text}

@@ -1,35 +1,39 @@
-use Rattle.std.proofs.Common.{rules, ◌≡◌, ◌++◌, Err, List, subst}
-use Rattle.replay.specs.Output.{Shown}
-use Rattle.replay.specs.Replay.{Calls, MayDo, StopsIn}
+use Rattle.std.proofs.Common.{rules, ◌≡◌, ◌+◌, ◌++◌, Err, List, drop, take, subst}
+use Rattle.std.proofs.lemmas.List.{take_all}
+use Rattle.replay.specs.Output.{Shown, Writes, shown_text}
+use Rattle.replay.specs.Replay.{Calls, Happens, MayDo, Replays, StopsIn}
 use Rattle.replay.specs.Steps.{EventEnds}
-use Rattle.replay.proofs.Replays.{all_replayed, ends_in, ends_written, nothing_yet, one_more}
+use Rattle.script.specs.declared.event.Event.{Event}
+use Rattle.replay.proofs.InTurn.{cut_at, last_shown, last_written, nothing_written, one_more, one_written}
 use Rattle.replay.specs.declared.events.ReplayFault.TheVariants as fault
 use Rattle.replay.proofs.events.replay_in_turn.Goals as goal
 
 pub loop-event-init : goal.loop-event-init
 loop-event-init g c =
     let calls : Calls g.row.C.Denot = record { seen = g.C.Carrier.seen; offers = g.C.Carrier.offers; takes = g.C.Carrier.takes; steps = g.C.Carrier.steps; rounds = g.C.Carrier.rounds } in
-    nothing_yet calls c.args.carrier.now c.args.events.now (g.W.Write.contents c.args.writer.now)
+    nothing_written (Happens calls) shown_text c.args.carrier.now (g.W.Write.contents c.args.writer.now)
 
 pub loop-event-preserved : goal.loop-event-preserved
 loop-event-preserved g c =
     let calls : Calls g.row.C.Denot = record { seen = g.C.Carrier.seen; offers = g.C.Carrier.offers; takes = g.C.Carrier.takes; steps = g.C.Carrier.steps; rounds = g.C.Carrier.rounds } in
-    one_more calls c.args.carrier.now c.loop-event.carrier c.replay_event.new.carrier c.args.events.now c.loop-event.event-index c.event-item.result
-    (g.W.Write.contents c.args.writer.now) (g.W.Write.contents c.loop-event.writer) (g.W.Write.contents c.replay_event.new.writer) c.loop-event-test.true c.event-item.is c.loop-event.invariant
-    c.in_ok-replay_event.ensures
+    subst (λ (es : List Event). Writes (Replays calls c.args.carrier.now es c.replay_event.new.carrier) (g.W.Write.contents c.args.writer.now) (g.W.Write.contents c.replay_event.new.writer))
+    (one_more c.args.events.now c.loop-event.event-index c.event-item.result c.loop-event-test.true c.event-item.is)
+    (one_written (Happens calls) shown_text c.args.carrier.now c.loop-event.carrier c.replay_event.new.carrier (take c.loop-event.event-index c.args.events.now) c.event-item.result
+    (g.W.Write.contents c.args.writer.now) (g.W.Write.contents c.loop-event.writer) (g.W.Write.contents c.replay_event.new.writer) c.loop-event.invariant c.in_ok-replay_event.ensures)
 
 pub returns-clause-replayed : goal.returns-clause-replayed
 returns-clause-replayed g c =
     let calls : Calls g.row.C.Denot = record { seen = g.C.Carrier.seen; offers = g.C.Carrier.offers; takes = g.C.Carrier.takes; steps = g.C.Carrier.steps; rounds = g.C.Carrier.rounds } in
-    all_replayed calls c.args.carrier.now c.loop-event.carrier c.args.events.now c.loop-event.event-index (g.W.Write.contents c.args.writer.now) (g.W.Write.contents c.loop-event.writer)
-    c.loop-event-test.false c.loop-event.invariant
+    subst (λ (es : List Event). Writes (Replays calls c.args.carrier.now es c.loop-event.carrier) (g.W.Write.contents c.args.writer.now) (g.W.Write.contents c.loop-event.writer))
+    (take_all c.loop-event.event-index c.args.events.now c.loop-event-test.false) c.loop-event.invariant
 
 pub returns-in_err-replay_event-clause-memory : goal.returns-in_err-replay_event-clause-memory
 returns-in_err-replay_event-clause-memory g c = λ e.
     let calls : Calls g.row.C.Denot = record { seen = g.C.Carrier.seen; offers = g.C.Carrier.offers; takes = g.C.Carrier.takes; steps = g.C.Carrier.steps; rounds = g.C.Carrier.rounds } in
     let told : c.replay_event.result ≡ Err fault.OutOfMemory = search (rules, e) in
-    ends_written calls StopsIn c.args.carrier.now c.loop-event.carrier c.replay_event.new.carrier c.args.events.now c.loop-event.event-index c.event-item.result
-    (g.W.Write.contents c.args.writer.now) (g.W.Write.contents c.loop-event.writer) (g.W.Write.contents c.replay_event.new.writer) c.loop-event-test.true c.event-item.is c.loop-event.invariant
+    last_written (Happens calls) (StopsIn calls) shown_text c.args.carrier.now c.loop-event.carrier c.replay_event.new.carrier c.args.events.now (take c.loop-event.event-index c.args.events.now) c.event-item.result
+    (drop (c.loop-event.event-index + 1) c.args.events.now) (g.W.Write.contents c.args.writer.now) (g.W.Write.contents c.loop-event.writer) (g.W.Write.contents c.replay_event.new.writer)
+    (cut_at c.args.events.now c.loop-event.event-index c.event-item.result c.loop-event-test.true c.event-item.is) c.loop-event.invariant
     (subst (λ r. EventEnds calls c.loop-event.carrier c.event-item.result r c.replay_event.new.carrier (g.W.Write.contents c.loop-event.writer) (g.W.Write.contents c.replay_event.new.writer)) told c.replay_event.ensures)
 
 pub returns-in_err-replay_event-clause-cannot_write : goal.returns-in_err-replay_event-clause-cannot_write
@@ -39,6 +43,7 @@ returns-in_err-replay_event-clause-cannot_write g c = λ e.
     let may : (shown : List Shown) × MayDo calls c.loop-event.carrier c.event-item.result c.replay_event.new.carrier shown =
     subst (λ r. EventEnds calls c.loop-event.carrier c.event-item.result r c.replay_event.new.carrier (g.W.Write.contents c.loop-event.writer) (g.W.Write.contents c.replay_event.new.writer)) told c.replay_event.ensures in (
       c.loop-event.invariant.shown ++ may.0,
-      ends_in calls MayDo c.args.carrier.now c.loop-event.carrier c.replay_event.new.carrier c.args.events.now c.loop-event.event-index c.event-item.result may.0
-          (g.W.Write.contents c.args.writer.now) (g.W.Write.contents c.loop-event.writer) c.loop-event-test.true c.event-item.is c.loop-event.invariant may.1,
+      last_shown (Happens calls) (MayDo calls) c.args.carrier.now c.loop-event.carrier c.replay_event.new.carrier c.args.events.now (take c.loop-event.event-index c.args.events.now) c.event-item.result
+          (drop (c.loop-event.event-index + 1) c.args.events.now) c.loop-event.invariant.shown may.0
+          (cut_at c.args.events.now c.loop-event.event-index c.event-item.result c.loop-event-test.true c.event-item.is) c.loop-event.invariant.is_shown may.1,
     )

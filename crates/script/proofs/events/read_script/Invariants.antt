@@ -1,6 +1,5 @@
 use Rattle.std.proofs.Common.{◌≡◌, ◌≤◌, drop, take, length}
-use Rattle.script.specs.Script.{lines_of, AskFor}
-use Rattle.script.specs.Steps.{lines_after}
+use Rattle.script.specs.Script.{lines_of, lines_after, AskFor}
 use Rattle.script.proofs.events.read_script.Given as goal
 
 abbrev pub invariant-lines : goal.invariant-lines

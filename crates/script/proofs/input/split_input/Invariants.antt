@@ -1,5 +1,5 @@
 use Rattle.std.proofs.Common.{◌≤◌, length}
-use Rattle.script.specs.Steps.{lines_after}
+use Rattle.script.specs.Script.{lines_after}
 use Rattle.script.proofs.Parts.{Passed}
 use Rattle.script.proofs.input.split_input.Given as goal
 

@@ -1,5 +1,6 @@
 use Rattle.std.proofs.Common.{refl}
-use Rattle.sockets.proofs.ParcelLemmas.{what_goes, next_is}
+use Rattle.host_pairs.proofs.ParcelLemmas.{what_goes}
+use Rattle.sockets.proofs.ParcelLemmas.{next_is}
 use Rattle.sockets.proofs.law.parcels.Goals as goal
 
 pub returns-clause-goes : goal.returns-clause-goes

@@ -1,5 +1,5 @@
-use Rattle.subnet.proofs.RoundMemory.{round_wants_none}
+use Rattle.subnet.proofs.RoundMemory.{round_wants_none, round_wants}
 use Rattle.subnet.proofs.law.round_memory.Goals as goal
 
 pub returns : goal.returns
-returns c = record { no_imp = round_wants_none }
+returns c = record { no_imp = round_wants_none; end_up = round_wants }

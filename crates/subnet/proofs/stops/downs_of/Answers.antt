@@ -2,7 +2,7 @@ use Rattle.std.proofs.Common.{◌+◌, ◌++◌, List, drop, ap, ◌∙◌}
 use Rattle.std.proofs.lemmas.Result.{err_from_is_err_and}
 use Rattle.leader1822.specs.declared.crossing.Crossing.{Crossing}
 use Rattle.subnet.specs.Inside.Calling.{downs_in_order}
-use Rattle.subnet.proofs.Stopping.{one_more, up_crosses}
+use Rattle.subnet.proofs.Stopping.{one_more, up_among}
 use Rattle.subnet.proofs.stops.downs_of.Goals as goal
 
 pub loop-host-preserved : goal.loop-host-preserved
@@ -17,4 +17,4 @@ loop-host-preserved c = record {
 pub returns-in_err-push_down-clause-memory : goal.returns-in_err-push_down-clause-memory
 returns-in_err-push_down-clause-memory c =
     let p = err_from_is_err_and c.from_residual.result c.from_residual.ensures.1 in
-    rw p.1 (up_crosses c.args.up.now.hosts c.args.imp 0 c.loop-host.host c.in_err-push_down.ensures.memory)
+    rw p.1 (up_among c.args.up.now.hosts c.loop-host.host c.in_err-push_down.ensures.memory)

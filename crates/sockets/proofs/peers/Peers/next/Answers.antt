@@ -1,5 +1,5 @@
 use Rattle.std.proofs.Common.{◌≡◌, Some, rules}
-use Rattle.sockets.specs.Outgoing.{IsThere, parcel_of}
+use Rattle.host_pairs.specs.Outgoing.{IsThere, parcel_of}
 use Rattle.sockets.specs.Sending.{next_in}
 use Rattle.sockets.proofs.NextLemmas.{next_by_host}
 use Rattle.sockets.proofs.peers.Peers.next.Goals as goal

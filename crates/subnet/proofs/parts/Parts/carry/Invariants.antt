@@ -1,14 +1,14 @@
 use Rattle.std.proofs.Common.{◌≡◌, ◌-◌, true}
-use Rattle.subnet.specs.Calls.{carried_grows}
+use Rattle.subnet.specs.Calls.{round_grows}
 use Rattle.subnet.specs.Events.{carried}
 use Rattle.subnet.specs.Inside.Calling.{AreLive, SameLog}
 use Rattle.subnet.proofs.parts.Parts.carry.Given as goal
 
--- the frames that are left, after those so far, and the memory that they may want
+-- the frames that are left, after those so far
 abbrev pub invariant-loop : goal.invariant-loop
 invariant-loop l = record {
   live : AreLive l.self.imps;
   state : carried (l.count - l.counter) l.line l.direction l.self ≡ carried l.count l.line l.direction l.fn.self;
-  grows : carried_grows (l.count - l.counter) l.line l.direction l.self ≡ true → carried_grows l.count l.line l.direction l.fn.self ≡ true;
+  earlier : round_grows l.self ≡ true → round_grows l.fn.self ≡ true;
   keeps : SameLog l.fn.self l.self;
 }

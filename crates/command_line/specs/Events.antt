@@ -1,0 +1,30 @@
+-- What scripts ask for.
+use Rattle.std.specs.Prelude.{ℕ, Bool, true, false, List}
+use Rattle.script.specs.Script.{AskFor, IsFirstBad, IsFirstBadAs}
+use Rattle.script.specs.declared.event.Event.{Event}
+use Rattle.world_script.specs.WorldScript as world
+use Rattle.world_script.specs.WorldSpelling.{IsWorldEvent, world_spelling}
+use Rattle.world_script.specs.declared.event.WorldEvent.{WorldEvent}
+use Rattle.command_line.specs.declared.input.Events.{Events}
+use Rattle.command_line.specs.declared.input.Events.TheVariants as given
+
+-- events of a network without host programs, or of one whose hosts have programs
+pub data Asked : Type 0 where
+  Raw : List Event → Asked
+  World : List WorldEvent → Asked
+
+abbrev pub asked_of : Events → Asked
+asked_of (given.Raw events) = Raw events.items
+asked_of (given.World events) = World events.items
+
+-- a script's lines ask for these events, where its network is raw or has host programs
+abbrev pub AsksFor : Bool → Asked → List (List ℕ) → Type 0
+AsksFor true (Raw events) lines = AskFor events lines
+AsksFor true (World events) lines = ⊥
+AsksFor false (Raw events) lines = ⊥
+AsksFor false (World events) lines = world.AskFor events lines
+
+-- this is the first line that asks for no event
+abbrev pub IsFirstBadIn : Bool → List ℕ → ℕ → Type 0
+IsFirstBadIn true text number = IsFirstBad text number
+IsFirstBadIn false text number = IsFirstBadAs world_spelling IsWorldEvent text number

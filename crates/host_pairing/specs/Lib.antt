@@ -1,0 +1,5 @@
+pub mod Words
+pub mod Ends
+pub mod Hearing
+pub mod Openings
+pub mod Spoken

@@ -1,0 +1,10 @@
+pub mod ControlLemmas
+pub mod EntryLemmas
+pub mod FoundLemmas
+pub mod GoneLemmas
+pub mod NoticeLemmas
+pub mod OpeningLemmas
+pub mod ParcelLemmas
+pub mod QueueLemmas
+pub mod ReadLemmas
+pub mod SendingLemmas

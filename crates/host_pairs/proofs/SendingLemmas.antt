@@ -1,0 +1,61 @@
+-- The lowest of links, found from the front.
+use Rattle.std.proofs.Common.{◌≡◌, ℕ, ◌*◌, ◌≤◌, true, Bool, suc, length, take, ◌++◌, List, [], ◌∷◌, Option, Some, None, refl, ap, arith}
+use Rattle.ncp_control.specs.Command.{is_alone, spelling}
+use Rattle.ncp_control.specs.Packing.{packed_count, spellings}
+use Rattle.ncp_control.specs.declared.command.Command.{Command}
+use Rattle.ncp_control.specs.declared.command.Command.TheVariants as command
+use Rattle.ncp_control.proofs.Fronts.{longest_front}
+use Rattle.bit_messages.specs.Octets.{bits_of, octet_bits}
+use Rattle.bit_messages.proofs.OctetLemmas.{length-bits_of}
+use Rattle.std.proofs.lemmas.List.{length-take}
+use Rattle.host_pairs.specs.Control.{control_text}
+use Rattle.host_pairs.specs.Data.{data_text}
+use Rattle.host_pairs.specs.Parcels.{lower}
+
+-- the lower of a link that was found and of one behind it
+abbrev pub lower_of : Option ℕ → Option ℕ → Option ℕ
+lower_of None later = later
+lower_of (Some link) later = Some (lower link later)
+
+-- one link more is the lower of it and of what was found
+pub lower_more : (found : Option ℕ) (link : ℕ) (later : Option ℕ) → lower_of (Some (lower link found)) later ≡ lower_of found (Some (lower link later))
+lower_more None link later = refl
+lower_more (Some other) link None = ap (λ (n : ℕ). Some n) (omega arith)
+lower_more (Some other) link (Some last) = ap (λ (n : ℕ). Some n) (omega arith)
+
+-- with no link behind
+pub lower_end : (found : Option ℕ) → lower_of found None ≡ found
+lower_end None = refl
+lower_end (Some link) = refl
+
+-- ---- octets as bits
+
+whole : (octets : List ℕ) → take (8 * length octets) (bits_of octets) ≡ bits_of octets
+whole [] = refl
+whole (o ∷ os) =
+    let more : 8 * length (o ∷ os) ≡ suc (suc (suc (suc (suc (suc (suc (suc (8 * length os)))))))) = omega arith in
+    rw more (ap (λ (bits : List Bool). octet_bits o ++ bits) (whole os))
+
+-- all bits of so many octets
+pub whole_octets : (octets : List ℕ) (n : ℕ) → n ≡ length octets → take (8 * n) (bits_of octets) ≡ bits_of octets
+whole_octets octets n is = rw is (whole octets)
+
+-- ---- commands
+
+-- a front of whole commands has room in one control message
+pub packed_room : (commands : List Command) → length (spellings (take (packed_count commands) commands)) ≤ 120
+packed_room commands = (longest_front commands).fits
+
+-- so has an RST or an RRP
+pub alone_room : (c : Command) → is_alone c ≡ true → length (spelling c) ≤ 120
+alone_room command.Rst e = omega arith
+alone_room command.Rrp e = omega arith
+alone_room c e = absurd (cc)
+
+-- ---- what a message may hold
+
+pub control_short : (octets : List ℕ) → length octets ≤ 120 → length (control_text octets) ≤ 8063
+control_short octets room = omega (arith, room, length-bits_of octets)
+
+pub data_short : (size count : ℕ) (bits : List Bool) → size * count ≤ 8023 → length (data_text size count (take (size * count) bits)) ≤ 8063
+data_short size count bits room = omega (arith, room, length-take (size * count) bits)

@@ -1,0 +1,11 @@
+use Rattle.std.proofs.Common.{sym, rules}
+use Rattle.host_pairs.specs.Data.{spent}
+use Rattle.host_pairs.specs.Entries.{receives_on}
+use Rattle.host_pairs.proofs.EntryLemmas.{one_changed, none_changed}
+use Rattle.host_pairs.proofs.ends.spend.Goals as goal
+
+pub returns-in-Some : goal.returns-in-Some
+returns-in-Some c = one_changed (receives_on c.args.link) c.in-Some.at (spent c.args.bits) c.index-entries-at.result _ _ (search rules) (search rules)
+
+pub returns-in_default : goal.returns-in_default
+returns-in_default c = sym (none_changed (receives_on c.args.link) (spent c.args.bits) _ (search rules))

@@ -1,0 +1,17 @@
+pub mod Phases
+pub mod Entries
+pub mod Queue
+pub mod Pair
+pub mod Desk
+pub mod Control
+pub mod Commands
+pub mod Found
+pub mod Data
+pub mod Turn
+pub mod Said
+pub mod Parcels
+pub mod Asked
+pub mod Outgoing
+pub mod Gone
+pub mod About
+pub mod Allowed

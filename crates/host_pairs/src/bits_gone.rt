@@ -1,0 +1,93 @@
+//! What the going out of data changes in the connections of a pair (NIC 8246, message format; ALL).
+
+ghost use Rattle.std.specs.Prelude.{◌≡◌, ◌<◌, ◌≤◌, ◌∷◌, [], IfOk, OnErr, OnOk, drop, length, take};
+ghost use Rattle.host_pairs.specs.Commands.{changed};
+ghost use Rattle.host_pairs.specs.Entries.{changed_first};
+ghost use Rattle.host_pairs.specs.Outgoing.{end_at};
+ghost use Rattle.host_pairs.specs.Desk.{told};
+ghost use Rattle.host_pairs.specs.Parcels as parcels;
+ghost use Rattle.host_pairs.specs.declared.notice.Notice.TheVariants as notice;
+
+use crate::Notice;
+use crate::desk::Desk;
+use crate::entry::Entry;
+use crate::outgoing::sending_place;
+use bit_messages::{BitFault, Bits};
+use std::alloc::{AllocError, Global};
+
+/// The bits of a range that is there.
+pub(crate) fn part(alloc: Global, bits: &Bits, from: usize, to: usize) -> Result<Bits, AllocError>
+    requires order { from ≤ to }
+    requires there { to ≤ length bits.now }
+    ensures part { IfOk result (λ part. part ≡ drop from (take to bits.now)) }
+    ensures memory { OnErr result (from < to) }
+{
+    match bits.slice(alloc, from, to) {
+        Ok(part) => Ok(part),
+        Err(BitFault::OutOfMemory) => Err(AllocError),
+        Err(_) => unreachable!(),
+    }
+}
+
+/// So many bits from the front.
+pub(crate) fn front(alloc: Global, bits: &Bits, count: usize) -> Result<Bits, AllocError>
+    ensures { IfOk result (λ front. front ≡ take count bits.now) }
+{
+    part(alloc, bits, 0, count.min(bits.len()))
+}
+
+/// The bits behind so many.
+fn behind(alloc: Global, bits: &Bits, count: usize) -> Result<Bits, AllocError>
+    ensures { IfOk result (λ rest. rest ≡ drop count bits.now) }
+{
+    part(alloc, bits, count.min(bits.len()), bits.len())
+}
+
+impl Entry {
+    /// So many bits have gone out in a message.
+    fn send(&mut self, alloc: Global, bits: u32) -> Result<(), AllocError>
+        ensures { OnOk result (self.new ≡ parcels.bits_gone bits self.old) }
+    {
+        self.bits = behind(alloc, &self.bits, bits as usize)?;
+        self.allocation.messages = self.allocation.messages.saturating_sub(1);
+        self.allocation.bits = self.allocation.bits.saturating_sub(bits);
+        Ok(())
+    }
+}
+
+/// So many bits of the end that may send on a link have gone out.
+fn send_bits(
+    alloc: Global,
+    entries: &mut [Entry],
+    busy: &[u8],
+    link: u8,
+    bits: u32,
+) -> Result<(), AllocError>
+    ensures { OnOk result (entries.new ≡ changed_first (parcels.may_send_on busy.now link) (parcels.bits_gone bits) entries.old) }
+{
+    if let Some(at) = sending_place(entries, busy, link) {
+        entries[at].send(alloc, bits)?;
+    }
+    Ok(())
+}
+
+impl Desk {
+    /// So many bits of the end at a place have gone out, and the user is told of them.
+    pub fn bits_gone(
+        &mut self,
+        alloc: Global,
+        busy: &[u8],
+        at: usize,
+        bits: u32,
+    ) -> Result<(), AllocError>
+        requires { at < length self.old.entries }
+        ensures { OnOk result (self.new ≡ told (notice.Sent (end_at self.old.entries at).own (take bits (end_at self.old.entries at).bits) ∷ []) (changed (parcels.may_send_on busy.now (parcels.link_of (end_at self.old.entries at).link)) (parcels.bits_gone bits) self.old)) }
+    {
+        let entry = &self.entries[at];
+        let socket = entry.own;
+        let link = entry.link_number();
+        let sent = front(alloc, &entry.bits, bits as usize)?;
+        send_bits(alloc, &mut self.entries, busy, link, bits)?;
+        self.tell(Notice::Sent { socket, bits: sent })
+    }
+}

@@ -1,0 +1,278 @@
+//! The ends of a pair's connections, found and changed.
+
+ghost use Rattle.std.specs.Prelude.{◌≡◌, ◌<◌, OnErr, length, ◌++◌, OnOk, map, filter, position, find, not, MatchOption, Some, None, slice_index_or};
+ghost use Rattle.std.specs.List.{flat_map, list_any};
+ghost use Rattle.host_pairs.specs.declared.entry.Entry.{Entry};
+ghost use Rattle.host_pairs.specs.Commands.{asked_on_link, asked_with_size, granted, given_back, returned};
+ghost use Rattle.host_pairs.specs.Data.{spent};
+ghost use Rattle.host_pairs.specs.Parcels.{asked_at, cls_sent};
+ghost use Rattle.host_pairs.specs.Entries.{is_at, entry_at, sends_on, receives_on, is_mine_on, changed_first, changed_at, closed_by_partner, must_close, closed_when, cls_of, is_over, ending, free_link};
+
+use crate::Notice;
+use crate::entry::{Closing, Entry};
+use crate::queue::Queue;
+use leader1822::HostAddr;
+use ncp_control::{ByteSize, Command, ConnectionLink};
+use std::alloc::{AllocError, Global};
+
+// ---- found
+
+/// The place of the end of two sockets.
+pub(crate) fn place(entries: &[Entry], own: u32, foreign: u32) -> Option<usize>
+    ensures place { result ≡ position (is_at own foreign) entries.now }
+    ensures found { MatchOption result (entry_at own foreign entries.now ≡ None) (λ at. (d : Entry) → entry_at own foreign entries.now ≡ Some (slice_index_or entries.now at d)) }
+{
+    first_place(entries, own, foreign)
+}
+
+/// The same place.
+fn first_place(entries: &[Entry], own: u32, foreign: u32) -> Option<usize>
+    ensures { result ≡ position (is_at own foreign) entries.now }
+{
+    entries
+        .iter()
+        .position(|e| e.own == own && e.foreign == foreign)
+}
+
+/// The place of the end that sends on a link.
+pub(crate) fn sender_place(entries: &[Entry], link: u8) -> Option<usize>
+    ensures place { result ≡ position (sends_on link) entries.now }
+    ensures found { MatchOption result (find (sends_on link) entries.now ≡ None) (λ at. (d : Entry) → find (sends_on link) entries.now ≡ Some (slice_index_or entries.now at d)) }
+{
+    first_sender(entries, link)
+}
+
+/// The same place.
+fn first_sender(entries: &[Entry], link: u8) -> Option<usize>
+    ensures { result ≡ position (sends_on link) entries.now }
+{
+    entries.iter().position(|e| e.sends_on(link))
+}
+
+/// The place of the end that receives on a link.
+pub(crate) fn receiver_place(entries: &[Entry], link: u8) -> Option<usize>
+    ensures place { result ≡ position (receives_on link) entries.now }
+    ensures found { MatchOption result (find (receives_on link) entries.now ≡ None) (λ at. (d : Entry) → find (receives_on link) entries.now ≡ Some (slice_index_or entries.now at d)) }
+{
+    first_receiver(entries, link)
+}
+
+/// The same place.
+fn first_receiver(entries: &[Entry], link: u8) -> Option<usize>
+    ensures { result ≡ position (receives_on link) entries.now }
+{
+    entries.iter().position(|e| e.receives_on(link))
+}
+
+/// The place of this host's own end on a socket.
+pub fn own_place(entries: &[Entry], socket: u32) -> Option<usize>
+    ensures place { result ≡ position (is_mine_on socket) entries.now }
+    ensures found { MatchOption result (find (is_mine_on socket) entries.now ≡ None) (λ at. (d : Entry) → find (is_mine_on socket) entries.now ≡ Some (slice_index_or entries.now at d)) }
+{
+    first_own(entries, socket)
+}
+
+/// The same place.
+fn first_own(entries: &[Entry], socket: u32) -> Option<usize>
+    ensures { result ≡ position (is_mine_on socket) entries.now }
+{
+    entries.iter().position(|e| e.mine && e.own == socket)
+}
+
+/// The links that connections may have.
+const CONNECTION_LINKS: [u8; 30] = [
+    2, 3, 4, 5, 6, 7, 8, 9, 10, 11, 12, 13, 14, 15, 16, 17, 18, 19, 20, 21, 22, 23, 24, 25, 26, 27,
+    28, 29, 30, 31,
+];
+
+/// Whether an end receives on a link.
+fn has_receiver_on(entries: &[Entry], link: u8) -> bool
+    ensures { result ≡ list_any (receives_on link) entries.now }
+{
+    entries.iter().any(|e| e.receives_on(link))
+}
+
+/// The number of the lowest link that no receiving end has.
+fn free_number(entries: &[Entry]) -> Option<u8>
+    ensures { result ≡ free_link entries.now }
+{
+    CONNECTION_LINKS
+        .iter()
+        .copied()
+        .find(|link| !has_receiver_on(entries, *link))
+}
+
+/// The lowest link that no receiving end has.
+pub fn free_link(entries: &[Entry]) -> Option<ConnectionLink>
+    ensures { result ≡ free_link entries.now }
+{
+    ConnectionLink::new(free_number(entries)?)
+}
+
+// ---- changed
+
+/// The peer's request is taken for a sending end, and tells its link.
+pub(crate) fn ask_on_link(
+    entries: &mut [Entry],
+    own: u32,
+    foreign: u32,
+    stamp: usize,
+    link: ConnectionLink,
+)
+    ensures { entries.new ≡ changed_at own foreign (asked_on_link stamp link) entries.old }
+{
+    if let Some(at) = place(entries, own, foreign) {
+        let entry = &mut entries[at];
+        entry.partner = Some(stamp);
+        entry.link = Some(link);
+    }
+}
+
+/// The peer's request is taken for a receiving end, and tells its byte size.
+pub(crate) fn ask_with_size(
+    entries: &mut [Entry],
+    own: u32,
+    foreign: u32,
+    stamp: usize,
+    size: ByteSize,
+)
+    ensures { entries.new ≡ changed_at own foreign (asked_with_size stamp size) entries.old }
+{
+    if let Some(at) = place(entries, own, foreign) {
+        let entry = &mut entries[at];
+        entry.partner = Some(stamp);
+        entry.size = Some(size);
+    }
+}
+
+/// This host's request for an end has gone out.
+pub(crate) fn ask(entries: &mut [Entry], own: u32, foreign: u32, stamp: usize)
+    ensures { entries.new ≡ changed_at own foreign (asked_at stamp) entries.old }
+{
+    if let Some(at) = place(entries, own, foreign) {
+        let entry = &mut entries[at];
+        entry.asked = Some(stamp);
+    }
+}
+
+/// This host's CLS for an end has gone out.
+pub(crate) fn send_cls(entries: &mut [Entry], own: u32, foreign: u32)
+    ensures { entries.new ≡ changed_at own foreign cls_sent entries.old }
+{
+    if let Some(at) = place(entries, own, foreign) {
+        let entry = &mut entries[at];
+        entry.closing = Closing::Sent;
+    }
+}
+
+/// The partner's CLS is taken for an end.
+pub(crate) fn close_by_partner(entries: &mut [Entry], alloc: Global, own: u32, foreign: u32)
+    ensures { entries.new ≡ changed_at own foreign closed_by_partner entries.old }
+{
+    if let Some(at) = place(entries, own, foreign) {
+        entries[at].close_by_partner(alloc);
+    }
+}
+
+/// The sender on a link may send more.
+pub(crate) fn grant(entries: &mut [Entry], link: u8, messages: u16, bits: u32)
+    ensures { entries.new ≡ changed_first (sends_on link) (granted messages bits) entries.old }
+{
+    if let Some(at) = sender_place(entries, link) {
+        let entry = &mut entries[at];
+        entry.allocation.grant(messages, bits);
+    }
+}
+
+/// The sender on a link gives parts of its allocation back, in 128ths.
+pub(crate) fn give_back(entries: &mut [Entry], link: u8, messages: u8, bits: u8)
+    ensures { entries.new ≡ changed_first (sends_on link) (given_back messages bits) entries.old }
+{
+    if let Some(at) = sender_place(entries, link) {
+        let entry = &mut entries[at];
+        let _ = entry.allocation.give_back(messages, bits);
+    }
+}
+
+/// The receiver on a link has so much less that may still come.
+pub(crate) fn take_back(entries: &mut [Entry], link: u8, messages: u16, bits: u32)
+    ensures { entries.new ≡ changed_first (receives_on link) (returned messages bits) entries.old }
+{
+    if let Some(at) = receiver_place(entries, link) {
+        let entry = &mut entries[at];
+        entry.allocation.messages = entry.allocation.messages.saturating_sub(messages);
+        entry.allocation.bits = entry.allocation.bits.saturating_sub(bits);
+    }
+}
+
+/// The receiver on a link has taken a message with these bits.
+pub(crate) fn spend(entries: &mut [Entry], link: u8, bits: u32)
+    ensures { entries.new ≡ changed_first (receives_on link) (spent bits) entries.old }
+{
+    if let Some(at) = receiver_place(entries, link) {
+        let entry = &mut entries[at];
+        entry.allocation.messages = entry.allocation.messages.saturating_sub(1);
+        entry.allocation.bits = entry.allocation.bits.saturating_sub(bits);
+    }
+}
+
+// ---- closing
+
+/// The CLS of each end that has to close now waits to go out.
+pub(crate) fn queue_closings(
+    entries: &[Entry],
+    busy: &[u8],
+    queue: &mut Queue,
+) -> Result<(), AllocError>
+    ensures state { OnOk result (queue.new ≡ queue.old ++ map cls_of (filter (must_close busy.now) entries.now)) }
+    ensures memory { OnErr result (length queue.old < length (queue.old ++ map cls_of (filter (must_close busy.now) entries.now))) }
+{
+    for entry in entries {
+        if entry.must_close(busy) {
+            queue.push(Command::Cls {
+                own: entry.own,
+                foreign: entry.foreign,
+            })?;
+        }
+    }
+    Ok(())
+}
+
+/// Each end that has to close now does.
+pub(crate) fn close(entries: &mut [Entry], busy: &[u8])
+    ensures { entries.new ≡ map (λ e. closed_when (must_close busy.now e) e) entries.old }
+{
+    for entry in entries.iter_mut() {
+        if entry.must_close(busy) {
+            entry.closing = Closing::Queued;
+        }
+    }
+}
+
+/// The user is told of each end of this host's own that is over.
+pub(crate) fn tell_endings(
+    entries: &[Entry],
+    peer: HostAddr,
+    notices: &mut Vec<Notice>,
+) -> Result<(), AllocError>
+    ensures state { OnOk result (notices.new.items ≡ notices.old.items ++ flat_map (ending peer) (filter is_over entries.now)) }
+    ensures memory { OnErr result (length notices.old.items < length (notices.old.items ++ flat_map (ending peer) (filter is_over entries.now))) }
+{
+    for entry in entries {
+        if entry.is_over() && entry.mine {
+            notices.push(Notice::Ended {
+                socket: entry.own,
+                peer,
+                foreign: entry.foreign,
+            })?;
+        }
+    }
+    Ok(())
+}
+
+/// Each end that is over goes.
+pub(crate) fn sweep(entries: &mut Vec<Entry>)
+    ensures { entries.new.items ≡ filter (λ e. not (is_over e)) entries.old.items }
+{
+    entries.retain(|e| !e.is_over());
+}

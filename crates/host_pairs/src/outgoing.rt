@@ -1,0 +1,168 @@
+//! What goes out next to a peer (NIC 8246: RST and RRP go alone, control messages hold 120 octets, data go
+//! within the allocation).
+
+ghost use Rattle.std.specs.Prelude.{◌≡◌, ◌==◌, if◌then◌else◌, length, MatchOption, IfSome, Some, None, List, filter, find, position, slice_index_or};
+ghost use Rattle.host_pairs.specs.Outgoing.{HasRoom, IsThere, parcel_of};
+ghost use Rattle.host_pairs.specs.Parcels as parcels;
+ghost use Rattle.host_pairs.specs.Parcels.{may_send_on};
+ghost use Rattle.ncp_control.specs.declared.command.Command.{Command};
+ghost use Rattle.host_pairs.specs.declared.entry.Entry.{Entry};
+
+use crate::entry::{Entry, is_answered, is_busy};
+use crate::pair::Pair;
+use ncp_control::{ByteSize, packed_count};
+
+/// What goes out in one message to a peer.
+#[derive(Clone, Copy, Debug)]
+pub enum Outgoing {
+    /// The RST.
+    Reset,
+    /// The RRP.
+    Reply,
+    /// So many of the commands that wait.
+    Commands {
+        count: usize,
+    },
+    /// So many bytes of the end at this place.
+    Bytes {
+        at: usize,
+        size: ByteSize,
+        count: u16,
+    },
+}
+
+impl Entry {
+    /// How many bytes may go out now: as many as wait, as are granted, and as one message holds.
+    fn sendable(&self) -> u16
+        ensures { result ≡ parcels.sendable self.now }
+    {
+        match self.size {
+            Some(size) => {
+                let waiting = self.bits.len() / size.bits() as usize;
+                self.allocation.may_send(size.bits(), waiting)
+            }
+            None => 0,
+        }
+    }
+
+    /// Whether something may go out now.
+    fn may_send(&self, busy: &[u8]) -> bool
+        ensures { result ≡ parcels.may_send busy.now self.now }
+    {
+        !self.is_receiving()
+            && self.is_open()
+            && self.link.is_some()
+            && is_answered(busy, self.link)
+            && self.sendable() > 0
+    }
+
+    /// Whether something may go out now on this link.
+    pub(crate) fn may_send_on(&self, busy: &[u8], link: u8) -> bool
+        ensures { result ≡ may_send_on busy.now link self.now }
+    {
+        self.may_send(busy) && self.link_number() == link
+    }
+}
+
+/// The lowest link of the ends that may send now.
+#[tactic(auto, using(crate::proofs::SendingLemmas::lower_more, crate::proofs::SendingLemmas::lower_end))]
+fn lowest_link(entries: &[Entry], busy: &[u8]) -> Option<u8>
+    ensures { result ≡ parcels.lowest_link (filter (parcels.may_send busy.now) entries.now) }
+{
+    let mut lowest = None;
+    for entry in entries {
+        if entry.may_send(busy) {
+            lowest = Some(lower(entry.link_number(), lowest));
+        }
+    }
+    lowest
+}
+
+/// The lower of two links.
+fn lower(link: u8, other: Option<u8>) -> u8
+    ensures { result ≡ parcels.lower link other }
+{
+    match other {
+        Some(other) => link.min(other),
+        None => link,
+    }
+}
+
+/// The place of the end that may send now on a link.
+pub(crate) fn sending_place(entries: &[Entry], busy: &[u8], link: u8) -> Option<usize>
+    ensures place { result ≡ position (may_send_on busy.now link) entries.now }
+    ensures found { MatchOption result (find (may_send_on busy.now link) entries.now ≡ None) (λ at. (d : Entry) → find (may_send_on busy.now link) entries.now ≡ Some (slice_index_or entries.now at d)) }
+{
+    first_sending(entries, busy, link)
+}
+
+/// The same place.
+fn first_sending(entries: &[Entry], busy: &[u8], link: u8) -> Option<usize>
+    ensures { result ≡ position (may_send_on busy.now link) entries.now }
+{
+    entries.iter().position(|e| e.may_send_on(busy, link))
+}
+
+/// Of the ends that may send, that with the lowest link does.
+#[tactic(auto, using(crate::proofs::ParcelLemmas::within_message, crate::proofs::ParcelLemmas::within_bits))]
+fn next_bytes(entries: &[Entry], busy: &[u8]) -> Option<Outgoing>
+    ensures next { MatchOption result (parcels.next_bytes busy.now entries.now ≡ None) (λ out. parcels.next_bytes busy.now entries.now ≡ Some (parcel_of entries.now out)) }
+    ensures there { IfSome result (IsThere entries.now) }
+    ensures room { (queue : List Command) → IfSome result (HasRoom entries.now queue) }
+{
+    let link = lowest_link(entries, busy)?;
+    let at = sending_place(entries, busy, link)?;
+    let entry = &entries[at];
+    let size = entry.size?;
+    Some(Outgoing::Bytes {
+        at,
+        size,
+        count: entry.sendable(),
+    })
+}
+
+impl Pair {
+    /// Once the pair is ready, commands go before data.
+    fn next_of_ready(&self) -> Option<Outgoing>
+        ensures next { MatchOption result (parcels.next_of_ready self.now ≡ None) (λ out. parcels.next_of_ready self.now ≡ Some (parcel_of self.now.entries out)) }
+        ensures there { IfSome result (IsThere self.now.entries) }
+        ensures room { IfSome result (HasRoom self.now.entries self.now.queue) }
+    {
+        if !self.queue.is_empty() && !is_busy(&self.busy, 0) {
+            return Some(Outgoing::Commands {
+                count: packed_count(self.queue.as_slice()),
+            });
+        }
+        next_bytes(&self.entries, &self.busy)
+    }
+
+    /// What goes out next. The RST goes first, then the RRP, each when no message to the peer is outstanding;
+    /// while one of them waits nothing else goes.
+    pub fn next(&self) -> Option<Outgoing>
+        ensures next { MatchOption result (parcels.next_of self.now ≡ None) (λ out. parcels.next_of self.now ≡ Some (parcel_of self.now.entries out)) }
+        ensures there { IfSome result (IsThere self.now.entries) }
+        ensures room { IfSome result (HasRoom self.now.entries self.now.queue) }
+    {
+        if self.phase.is_want() {
+            return self.if_silent(Outgoing::Reset);
+        }
+        if self.owed {
+            return self.if_silent(Outgoing::Reply);
+        }
+        if self.phase.is_ready() {
+            return self.next_of_ready();
+        }
+        None
+    }
+
+    /// What goes out only when no message to the peer is outstanding.
+    fn if_silent(&self, out: Outgoing) -> Option<Outgoing>
+        ensures { result ≡ (if length self.now.busy == 0 then Some out else None) }
+    {
+        if self.busy.is_empty() {
+            Some(out)
+        } else {
+            None
+        }
+    }
+}

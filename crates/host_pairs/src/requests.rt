@@ -1,0 +1,171 @@
+//! What a request of the user does to a pair of hosts.
+
+ghost use Rattle.std.specs.Prelude.{◌≡◌, ◌<◌, OnErr, OnOk, false, is_some, length};
+ghost use Rattle.ncp_control.specs.Command.{is_alone};
+ghost use Rattle.host_pairs.specs.Commands.{granted};
+ghost use Rattle.host_pairs.specs.Entries.{called_off, changed_first, entry_at, is_mine_on};
+ghost use Rattle.host_pairs.specs.Asked as asked;
+ghost use Rattle.host_pairs.specs.Asked.{interrupt_of, with_end, with_more_bits};
+ghost use Rattle.host_pairs.specs.Parcels.{link_of};
+
+use crate::ends::{close, own_place, place, queue_closings};
+use crate::entry::Entry;
+use crate::pair::Pair;
+use crate::phase::Phase;
+use crate::queue::Queue;
+use bit_messages::Bits;
+use ncp_control::{Allocation, Command};
+use std::alloc::{AllocError, Global};
+
+// ---- this host's own end on a socket
+
+/// Bits wait to be sent.
+fn add_bits(entries: &mut [Entry], socket: u32, bits: &Bits) -> Result<(), AllocError>
+    ensures state { OnOk result (entries.new ≡ changed_first (is_mine_on socket) (with_more_bits bits.now) entries.old) }
+    ensures memory { OnErr result (0 < length bits.now) }
+{
+    if let Some(at) = own_place(entries, socket) {
+        let entry = &mut entries[at];
+        let Ok(()) = entry.bits.append(bits) else {
+            return Err(AllocError);
+        };
+    }
+    Ok(())
+}
+
+/// So much more may come.
+fn grant(entries: &mut [Entry], socket: u32, messages: u16, bits: u32)
+    ensures { entries.new ≡ changed_first (is_mine_on socket) (granted messages bits) entries.old }
+{
+    if let Some(at) = own_place(entries, socket) {
+        let entry = &mut entries[at];
+        entry.allocation.grant(messages, bits);
+    }
+}
+
+/// It is to be closed.
+fn call_off(entries: &mut [Entry], socket: u32)
+    ensures { entries.new ≡ changed_first (is_mine_on socket) called_off entries.old }
+{
+    if let Some(at) = own_place(entries, socket) {
+        let entry = &mut entries[at];
+        entry.call_off();
+    }
+}
+
+// ---- the pair
+
+impl Pair {
+    /// All that was with the peer is gone, and an RST will go out.
+    pub fn contact(&mut self, alloc: Global)
+        ensures { self.new ≡ asked.contacted self.old }
+    {
+        self.phase = Phase::Want;
+        self.entries = Vec::new(alloc);
+        self.queue = Queue::new(alloc);
+    }
+
+    /// A new end, and its request.
+    pub fn request(&mut self, entry: Entry, command: Command) -> Result<(), AllocError>
+        requires joint { is_alone command ≡ false }
+        ensures { OnOk result (self.new ≡ asked.requested entry command self.old) }
+    {
+        self.entries.push(entry)?;
+        self.queue.push(command)
+    }
+
+    /// A command waits to go out.
+    pub fn command(&mut self, command: Command) -> Result<(), AllocError>
+        requires joint { is_alone command ≡ false }
+        ensures { OnOk result (self.new ≡ asked.commanded command self.old) }
+    {
+        self.queue.push(command)
+    }
+
+    /// Bits of a socket wait to be sent.
+    pub fn add_bits(&mut self, socket: u32, bits: &Bits) -> Result<(), AllocError>
+        ensures state { OnOk result (self.new ≡ with_end socket (with_more_bits bits.now) self.old) }
+        ensures memory { OnErr result (0 < length bits.now) }
+    {
+        add_bits(&mut self.entries, socket, bits)
+    }
+
+    /// The sender to a socket is granted so much more, and an ALL will tell it.
+    pub fn grant(
+        &mut self,
+        socket: u32,
+        messages: u16,
+        bits: u32,
+        command: Command,
+    ) -> Result<(), AllocError>
+        requires joint { is_alone command ≡ false }
+        ensures { OnOk result (self.new ≡ asked.commanded command (with_end socket (granted messages bits) self.old)) }
+    {
+        grant(&mut self.entries, socket, messages, bits);
+        self.command(command)
+    }
+
+    /// The connection of a socket closes, at once or when it is drained.
+    pub fn close(&mut self, socket: u32) -> Result<(), AllocError>
+        ensures state { OnOk result (self.new ≡ asked.closed_end socket self.old) }
+        ensures memory { OnErr result (length self.old.queue < length (asked.closed_end socket self.old).queue) }
+    {
+        call_off(&mut self.entries, socket);
+        queue_closings(&self.entries, &self.busy, &mut self.queue)?;
+        close(&mut self.entries, &self.busy);
+        Ok(())
+    }
+}
+
+// ---- what a request finds
+
+/// Whether two sockets have an end.
+pub fn has_end(entries: &[Entry], own: u32, foreign: u32) -> bool
+    ensures { result ≡ is_some (entry_at own foreign entries.now) }
+{
+    place(entries, own, foreign).is_some()
+}
+
+impl Entry {
+    /// Whether so many bits are whole bytes of the connection.
+    pub fn has_bytes(&self, bits: usize) -> bool
+        ensures { result ≡ asked.are_bytes bits self.now.size }
+    {
+        self.size
+            .is_some_and(|size| bits % size.bits() as usize == 0)
+    }
+
+    /// Whether what is granted would pass what the counters can hold.
+    pub fn would_pass(&self, messages: u16, bits: u32) -> bool
+        ensures { result ≡ asked.passes self.now.allocation messages bits }
+    {
+        let Allocation {
+            messages: open_messages,
+            bits: open_bits,
+        } = self.allocation;
+        messages > u16::MAX - open_messages || bits > u32::MAX - open_bits
+    }
+
+    /// The number of its link; 0 where it isn't known yet.
+    pub fn link_number(&self) -> u8
+        ensures { result ≡ link_of self.now.link }
+    {
+        match self.link {
+            Some(link) => link.number(),
+            None => 0,
+        }
+    }
+
+    /// The command that interrupts the other end.
+    pub fn interrupt(&self) -> Command
+        ensures command { result ≡ interrupt_of self.now }
+        ensures joint { is_alone result ≡ false }
+    {
+        let link = self.link_number();
+        if self.is_receiving() {
+            Command::Inr { link }
+        } else {
+            Command::Ins { link }
+        }
+    }
+}

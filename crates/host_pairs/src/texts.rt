@@ -1,0 +1,131 @@
+//! The text of what goes out.
+
+ghost use Rattle.std.specs.Prelude.{◌≡◌, ◌*◌, ◌≤◌, ◌∷◌, [], IfOk, map, List, length, take, true};
+ghost use Rattle.bit_messages.specs.Octets.{bits_of};
+ghost use Rattle.ncp_control.specs.Command.{is_alone, spelling};
+ghost use Rattle.ncp_control.specs.Packing.{AreRead, packed_count, spellings};
+ghost use Rattle.ncp_control.specs.declared.command.Command.{Command};
+ghost use Rattle.host_pairs.specs.Control as control;
+ghost use Rattle.host_pairs.specs.Control.{Legal, orders_of};
+ghost use Rattle.host_pairs.specs.Data as texts;
+ghost use Rattle.host_pairs.specs.Allowed.{IsReadAs};
+ghost use Rattle.host_pairs.specs.Outgoing.{HasRoom, IsThere, parcel_of};
+ghost use Rattle.host_pairs.specs.Queue.{are_joint};
+ghost use Rattle.host_pairs.specs.Parcels as parcels;
+
+use crate::bits_gone::front;
+use crate::outgoing::Outgoing;
+use crate::pair::Pair;
+use crate::queue::Queue;
+use bit_messages::{BitFault, Bits};
+use ncp_control::{Command, DataHeader, pack};
+use std::alloc::{AllocError, Global};
+
+/// The bits of octets that have room in one control message.
+#[tactic(auto, using(crate::proofs::SendingLemmas::whole_octets))]
+fn whole(alloc: Global, octets: &[u8]) -> Result<Bits, AllocError>
+    requires room { length octets.now ≤ 120 }
+    ensures { IfOk result (λ bits. bits ≡ bits_of octets.now) }
+{
+    match Bits::from_octets(alloc, octets, 8 * octets.len()) {
+        Ok(bits) => Ok(bits),
+        Err(BitFault::OutOfMemory) => Err(AllocError),
+        Err(_) => unreachable!(),
+    }
+}
+
+/// The text of a control message with these octets.
+#[tactic(auto, using(crate::proofs::SendingLemmas::control_short))]
+fn control_text(alloc: Global, octets: &[u8]) -> Result<Bits, AllocError>
+    requires room { length octets.now ≤ 120 }
+    ensures short { IfOk result (λ text. length text ≤ 8063) }
+    ensures again { (commands : List Command) → AreRead octets.now commands → IfOk result (λ text. orders_of text ≡ map Legal commands) }
+    ensures text { IfOk result (λ text. text ≡ control.control_text octets.now) }
+{
+    let count = octets.len() as u16;
+    let header = DataHeader { size: 8, count };
+    let Ok(mut text) = header.write(alloc) else {
+        return Err(AllocError);
+    };
+    let Ok(()) = text.append(&whole(alloc, octets)?) else {
+        return Err(AllocError);
+    };
+    Ok(text)
+}
+
+/// The text of the message of an RST or an RRP, which goes alone.
+#[tactic(auto, using(crate::proofs::SendingLemmas::alone_room, crate::proofs::ReadLemmas::signal_again))]
+fn signal_text(alloc: Global, command: Command) -> Result<Bits, AllocError>
+    requires alone { is_alone command ≡ true }
+    ensures short { IfOk result (λ text. length text ≤ 8063) }
+    ensures again { IfOk result (λ text. orders_of text ≡ Legal command ∷ []) }
+    ensures text { IfOk result (λ text. text ≡ control.control_text (spelling command)) }
+{
+    let Ok(octets) = command.write(alloc) else {
+        return Err(AllocError);
+    };
+    control_text(alloc, &octets)
+}
+
+/// The text of a message with as many of the commands that wait as have room.
+#[tactic(auto, using(crate::proofs::SendingLemmas::packed_room))]
+fn commands_text(alloc: Global, queue: &Queue) -> Result<Bits, AllocError>
+    ensures short { IfOk result (λ text. length text ≤ 8063) }
+    ensures again { IfOk result (λ text. orders_of text ≡ map Legal (take (packed_count queue.now) queue.now)) }
+    ensures joint { are_joint queue.now ≡ true }
+    ensures text { IfOk result (λ text. text ≡ control.control_text (spellings (take (packed_count queue.now) queue.now))) }
+{
+    let Ok((octets, _)) = pack(alloc, queue.as_slice()) else {
+        return Err(AllocError);
+    };
+    control_text(alloc, &octets)
+}
+
+/// The text of a message with the first bytes of these bits.
+#[tactic(auto, using(crate::proofs::SendingLemmas::data_short))]
+fn data_text(alloc: Global, size: u8, count: u16, bits: &Bits) -> Result<Bits, AllocError>
+    requires room { size * count ≤ 8023 }
+    ensures short { IfOk result (λ text. length text ≤ 8063) }
+    ensures text { IfOk result (λ text. text ≡ texts.data_text size count (take (size * count) bits.now)) }
+{
+    let header = DataHeader { size, count };
+    let Ok(mut text) = header.write(alloc) else {
+        return Err(AllocError);
+    };
+    let front = front(alloc, bits, size as usize * count as usize)?;
+    let Ok(()) = text.append(&front) else {
+        return Err(AllocError);
+    };
+    Ok(text)
+}
+
+impl Pair {
+    /// The link of what goes out.
+    pub fn link_for(&self, out: &Outgoing) -> u8
+        requires { IsThere self.now.entries out.now }
+        ensures { result ≡ parcels.link_for (parcel_of self.now.entries out.now) }
+    {
+        match *out {
+            Outgoing::Bytes { at, .. } => self.entries[at].link_number(),
+            Outgoing::Reset | Outgoing::Reply | Outgoing::Commands { .. } => 0,
+        }
+    }
+
+    /// The text of what goes out.
+    pub fn text_for(&self, alloc: Global, out: &Outgoing) -> Result<Bits, AllocError>
+        requires there { IsThere self.now.entries out.now }
+        requires room { HasRoom self.now.entries self.now.queue out.now }
+        ensures short { IfOk result (λ text. length text ≤ 8063) }
+        ensures again { IfOk result (λ text. IsReadAs self.now (parcel_of self.now.entries out.now) text) }
+        ensures text { IfOk result (λ text. text ≡ parcels.text_for self.now (parcel_of self.now.entries out.now)) }
+    {
+        match *out {
+            Outgoing::Reset => signal_text(alloc, Command::Rst),
+            Outgoing::Reply => signal_text(alloc, Command::Rrp),
+            Outgoing::Commands { .. } => commands_text(alloc, &self.queue),
+            Outgoing::Bytes { at, size, count } => {
+                data_text(alloc, size.bits(), count, &self.entries[at].bits)
+            }
+        }
+    }
+}

@@ -1,0 +1,284 @@
+//! A pair of hosts while something of the peer is taken: its reset and its connections.
+
+ghost use Rattle.host_pairs.specs.Said.{newly_said, said_by_answer};
+ghost use Rattle.std.specs.Prelude.{◌≡◌, ◌<◌, OnErr, length, ◌++◌, ◌∷◌, [], OnOk, not, ◌==◌, filter};
+ghost use Rattle.host_pairs.specs.Turn as turns;
+ghost use Rattle.host_pairs.specs.Commands.{taken};
+ghost use Rattle.host_pairs.specs.Data.{data_taken};
+ghost use Rattle.host_pairs.specs.Desk.{desk_of};
+
+use crate::Notice;
+use crate::desk::Desk;
+use crate::listener::Listener;
+use crate::pair::Pair;
+use crate::phase::Phase;
+use crate::queue::Queue;
+use bit_messages::Bits;
+use leader1822::{Answer, HostAddr};
+use ncp_control::Command;
+use std::alloc::{AllocError, Global};
+use std::marker::Model;
+use std::mem;
+
+/// A pair, what listens, and what the user is told.
+#[derive(Drop)]
+pub struct Turn {
+    /// The pair.
+    pub pair: Pair,
+    /// The host's sockets that listen.
+    pub listening: Vec<Listener>,
+    /// What the user is told, the oldest first.
+    pub notices: Vec<Notice>,
+}
+
+impl Model for Turn {
+    ghost use Rattle.host_pairs.specs.Turn.{TurnState};
+
+    ghost Value = { TurnState };
+
+    ghost view = { λ t. record { pair = t.pair; listening = t.listening.items; notices = t.notices.items } };
+}
+
+// ---- the connections
+
+impl Turn {
+    /// Tells the user something.
+    fn tell(&mut self, notice: Notice) -> Result<(), AllocError>
+        ensures { OnOk result (self.new ≡ record self.old { notices = self.old.notices ++ notice ∷ [] }) }
+    {
+        self.notices.push(notice)?;
+        Ok(())
+    }
+
+    /// Takes the pair's connections out, to be worked on.
+    pub(crate) fn desk(&mut self, alloc: Global) -> Desk
+        ensures desk { result ≡ desk_of self.old.pair self.old.listening }
+        ensures rest { self.new ≡ record { pair = record self.old.pair { entries = []; queue = [] }; listening = []; notices = self.old.notices } }
+    {
+        Desk {
+            entries: mem::replace(&mut self.pair.entries, Vec::new(alloc)),
+            queue: mem::replace(&mut self.pair.queue, Queue::new(alloc)),
+            listening: mem::replace(&mut self.listening, Vec::new(alloc)),
+            notices: Vec::new(alloc),
+        }
+    }
+
+    /// Puts the pair's connections back, and tells what is to be told of them.
+    pub(crate) fn restore(&mut self, desk: Desk) -> Result<(), AllocError>
+        ensures state { OnOk result (self.new ≡ turns.with_desk self.old desk) }
+        ensures memory { OnErr result (0 < length desk.notices) }
+    {
+        let Desk {
+            entries,
+            queue,
+            listening,
+            mut notices,
+        } = desk;
+        self.pair.entries = entries;
+        self.pair.queue = queue;
+        self.listening = listening;
+        self.notices.append(&mut notices)
+    }
+
+    /// A command about connections is taken, while the pair is opened.
+    fn hear(
+        &mut self,
+        alloc: Global,
+        peer: HostAddr,
+        stamp: usize,
+        command: Command,
+    ) -> Result<(), AllocError>
+        ensures state { OnOk result (self.new ≡ turns.if_ready (taken peer self.old.pair.busy stamp command) self.old) }
+        ensures memory { OnErr result (0 < newly_said self.old (turns.if_ready (taken peer self.old.pair.busy stamp command) self.old)) }
+    {
+        if !self.pair.phase.is_ready() {
+            return Ok(());
+        }
+        let mut desk = self.desk(alloc);
+        desk.take(alloc, peer, &self.pair.busy, stamp, command)?;
+        self.restore(desk)
+    }
+
+    /// A message of data is taken, while the pair is opened.
+    pub(crate) fn hear_data(
+        &mut self,
+        alloc: Global,
+        link: u8,
+        text: &Bits,
+    ) -> Result<(), AllocError>
+        ensures state { OnOk result (self.new ≡ turns.if_ready (data_taken link text.now) self.old) }
+        ensures memory { OnErr result (0 < newly_said self.old (turns.if_ready (data_taken link text.now) self.old)) }
+    {
+        if !self.pair.phase.is_ready() {
+            return Ok(());
+        }
+        let mut desk = self.desk(alloc);
+        desk.take_data(alloc, link, text)?;
+        self.restore(desk)
+    }
+
+    /// Each end that waited for an answer and has it closes now.
+    fn settle(&mut self, alloc: Global) -> Result<(), AllocError>
+        ensures state { OnOk result (self.new ≡ turns.settled_turn self.old) }
+        ensures memory { OnErr result (0 < newly_said self.old (turns.settled_turn self.old)) }
+    {
+        let mut desk = self.desk(alloc);
+        desk.settle(&self.pair.busy)?;
+        self.restore(desk)
+    }
+}
+
+// ---- the reset
+
+impl Turn {
+    /// All of the pair's connections and what waits to be said are gone.
+    fn forget(&mut self, alloc: Global)
+        ensures { self.new ≡ record self.old { pair = record self.old.pair { entries = []; queue = [] } } }
+    {
+        self.pair.entries = Vec::new(alloc);
+        self.pair.queue = Queue::new(alloc);
+    }
+
+    /// An RST of the peer is taken: all of the pair's connections are gone, and an RRP is owed.
+    fn take_reset(&mut self, alloc: Global, peer: HostAddr) -> Result<(), AllocError>
+        ensures state { OnOk result (self.new ≡ turns.reset_taken peer self.old) }
+        ensures memory { OnErr result (0 < newly_said self.old (turns.reset_taken peer self.old)) }
+    {
+        let before = self.pair.phase;
+        self.pair.phase = before.after_reset();
+        self.pair.owed = true;
+        self.forget(alloc);
+        match before {
+            Phase::Closed => self.tell(Notice::Ready { peer }),
+            Phase::Ready => self.tell(Notice::PairReset { peer }),
+            _ => Ok(()),
+        }
+    }
+
+    /// An RRP of the peer is taken.
+    fn take_reply(&mut self, peer: HostAddr) -> Result<(), AllocError>
+        ensures state { OnOk result (self.new ≡ turns.reply_taken peer self.old) }
+        ensures memory { OnErr result (0 < newly_said self.old (turns.reply_taken peer self.old)) }
+    {
+        let before = self.pair.phase;
+        self.pair.phase = before.after_reply();
+        match before {
+            Phase::Heard => self.tell(Notice::Ready { peer }),
+            _ => Ok(()),
+        }
+    }
+
+    /// A command of the peer is taken.
+    pub(crate) fn take_command(
+        &mut self,
+        alloc: Global,
+        peer: HostAddr,
+        stamp: usize,
+        command: Command,
+    ) -> Result<(), AllocError>
+        ensures state { OnOk result (self.new ≡ turns.command_taken peer stamp command self.old) }
+        ensures memory { OnErr result (0 < newly_said self.old (turns.command_taken peer stamp command self.old)) }
+    {
+        match command {
+            Command::Rst => self.take_reset(alloc, peer),
+            Command::Rrp => self.take_reply(peer),
+            other => self.hear(alloc, peer, stamp, other),
+        }
+    }
+}
+
+// ---- answers
+
+/// A link has no message outstanding any more.
+fn free(busy: &mut Vec<u8>, link: u8)
+    ensures { busy.new.items ≡ filter (λ l. not (l == link)) busy.old.items }
+{
+    busy.retain(|l| *l != link);
+}
+
+impl Turn {
+    /// The pair is closed: its connections and what waits to be said are gone, and the user is told why.
+    fn close(&mut self, alloc: Global, notice: Notice) -> Result<(), AllocError>
+        ensures state { OnOk result (self.new ≡ turns.closed (notice ∷ []) self.old) }
+        ensures memory { OnErr result (0 < newly_said self.old (turns.closed (notice ∷ []) self.old)) }
+    {
+        self.pair.phase = Phase::Closed;
+        self.forget(alloc);
+        self.tell(notice)
+    }
+
+    /// A message was lost, or the peer is dead: what that means by the phase.
+    fn fail_by_phase(&mut self, alloc: Global, peer: HostAddr) -> Result<(), AllocError>
+        ensures state { OnOk result (self.new ≡ turns.failed_by peer self.old.pair.phase self.old) }
+        ensures memory { OnErr result (0 < newly_said self.old (turns.failed_by peer self.old.pair.phase self.old)) }
+    {
+        match self.pair.phase {
+            Phase::Closed | Phase::Want => Ok(()),
+            Phase::Gone { .. } | Phase::Heard => self.close(alloc, Notice::ContactFailed { peer }),
+            Phase::Ready => self.close(alloc, Notice::PairReset { peer }),
+        }
+    }
+
+    /// A message was lost, or the peer is dead. An RST that failed ends the contact in any case; any other
+    /// message's failure is passed over while an RRP is owed.
+    fn fail(&mut self, alloc: Global, peer: HostAddr) -> Result<(), AllocError>
+        ensures state { OnOk result (self.new ≡ turns.failed peer self.old) }
+        ensures memory { OnErr result (0 < newly_said self.old (turns.failed peer self.old)) }
+    {
+        let is_gone = matches!(self.pair.phase, Phase::Gone { .. });
+        if is_gone || !self.pair.owed {
+            self.fail_by_phase(alloc, peer)
+        } else {
+            self.settle(alloc)
+        }
+    }
+
+    /// An RFNM is taken: the peer has the message.
+    fn take_rfnm(&mut self, alloc: Global, link: u8) -> Result<(), AllocError>
+        ensures state { OnOk result (self.new ≡ turns.rfnm_taken link self.old) }
+        ensures memory { OnErr result (0 < newly_said self.old (turns.rfnm_taken link self.old)) }
+    {
+        self.pair.phase = self.pair.phase.after_rfnm(link);
+        self.settle(alloc)
+    }
+
+    /// What an answer means, once its link is free.
+    fn hear_answer(
+        &mut self,
+        alloc: Global,
+        peer: HostAddr,
+        kind: Answer,
+        link: u8,
+    ) -> Result<(), AllocError>
+        ensures state { OnOk result (self.new ≡ turns.answer_taken peer kind link self.old) }
+        ensures memory { OnErr result (0 < newly_said self.old (turns.answer_taken peer kind link self.old)) }
+    {
+        match kind {
+            Answer::Rfnm => self.take_rfnm(alloc, link),
+            Answer::Incomplete | Answer::Dead => self.fail(alloc, peer),
+        }
+    }
+
+    /// A link has no message outstanding any more.
+    fn free(&mut self, link: u8)
+        ensures { self.new ≡ record self.old { pair = turns.freed link self.old.pair } }
+    {
+        free(&mut self.pair.busy, link);
+    }
+
+    /// An answer about a message that this host has out is taken: the link is free, and what follows by its
+    /// kind (BBN Report 1822, RFNM, Incomplete Transmission, Destination Dead).
+    pub fn take_answer(
+        &mut self,
+        alloc: Global,
+        peer: HostAddr,
+        kind: Answer,
+        link: u8,
+    ) -> Result<(), AllocError>
+        ensures state { OnOk result (self.new ≡ turns.answered_turn peer kind link self.old) }
+        ensures memory { OnErr result (0 < said_by_answer peer kind link self.old) }
+    {
+        self.free(link);
+        self.hear_answer(alloc, peer, kind, link)
+    }
+}

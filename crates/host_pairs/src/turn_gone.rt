@@ -1,0 +1,99 @@
+//! What the going out of a parcel changes in a pair.
+
+ghost use Rattle.std.specs.Prelude.{◌≡◌, ◌++◌, ◌<◌, ◌∷◌, ◌*◌, OnOk, length};
+ghost use Rattle.host_pairs.specs.Gone.{desk_after, gone_with, left_with};
+ghost use Rattle.host_pairs.specs.Outgoing.{IsThere, end_at, parcel_of};
+ghost use Rattle.host_pairs.specs.Parcels as parcels;
+
+use crate::outgoing::Outgoing;
+use crate::phase::Phase;
+use crate::turn::Turn;
+use leader1822::HostAddr;
+use std::alloc::{AllocError, Global};
+
+impl Turn {
+    /// So many of the commands that wait have gone out.
+    fn commands_gone(
+        &mut self,
+        alloc: Global,
+        peer: HostAddr,
+        stamp: usize,
+        count: usize,
+    ) -> Result<(), AllocError>
+        ensures { OnOk result (self.new ≡ left_with (parcels.Commands count) self.old (desk_after peer stamp (parcels.Commands count) self.old)) }
+    {
+        let mut desk = self.desk(alloc);
+        desk.commands_gone(peer, stamp, count)?;
+        self.restore(desk)
+    }
+
+    /// So many bytes of the end at a place have gone out.
+    fn bytes_gone(
+        &mut self,
+        alloc: Global,
+        peer: HostAddr,
+        stamp: usize,
+        at: usize,
+        size: u8,
+        count: u16,
+    ) -> Result<(), AllocError>
+        requires { at < length self.old.pair.entries }
+        ensures { OnOk result (self.new ≡ left_with (parcels.Bytes (end_at self.old.pair.entries at) size count) self.old (desk_after peer stamp (parcels.Bytes (end_at self.old.pair.entries at) size count) self.old)) }
+    {
+        let mut desk = self.desk(alloc);
+        desk.bits_gone(alloc, &self.pair.busy, at, size as u32 * count as u32)?;
+        self.restore(desk)
+    }
+
+    /// What goes out has gone out, but for its link.
+    fn leave(
+        &mut self,
+        alloc: Global,
+        peer: HostAddr,
+        stamp: usize,
+        out: Outgoing,
+    ) -> Result<(), AllocError>
+        requires { IsThere self.old.pair.entries out }
+        ensures { OnOk result (self.new ≡ left_with (parcel_of self.old.pair.entries out) self.old (desk_after peer stamp (parcel_of self.old.pair.entries out) self.old)) }
+    {
+        match out {
+            Outgoing::Reset => {
+                self.pair.phase = Phase::Gone { early: false };
+                Ok(())
+            }
+            Outgoing::Reply => {
+                self.pair.owed = false;
+                Ok(())
+            }
+            Outgoing::Commands { count } => self.commands_gone(alloc, peer, stamp, count),
+            Outgoing::Bytes { at, size, count } => {
+                self.bytes_gone(alloc, peer, stamp, at, size.bits(), count)
+            }
+        }
+    }
+
+    /// A message is outstanding on a link.
+    fn busy(&mut self, link: u8) -> Result<(), AllocError>
+        ensures { OnOk result (self.new ≡ record self.old { pair = parcels.busied link self.old.pair }) }
+    {
+        self.pair.busy.insert(0, link)?;
+        Ok(())
+    }
+
+    /// What goes out has gone out: it leaves the pair, its link has a message outstanding, and the user is told
+    /// of what it opens, ends or sends.
+    pub fn gone(
+        &mut self,
+        alloc: Global,
+        peer: HostAddr,
+        stamp: usize,
+        out: Outgoing,
+    ) -> Result<(), AllocError>
+        requires { IsThere self.old.pair.entries out }
+        ensures { OnOk result (self.new ≡ gone_with (parcel_of self.old.pair.entries out) self.old (desk_after peer stamp (parcel_of self.old.pair.entries out) self.old)) }
+    {
+        let link = self.pair.link_for(&out);
+        self.leave(alloc, peer, stamp, out)?;
+        self.busy(link)
+    }
+}

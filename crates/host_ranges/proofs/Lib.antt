@@ -1,0 +1,5 @@
+pub mod Orders
+pub mod Desks
+pub mod Takes
+pub mod Calls
+pub mod Requests

@@ -1,0 +1,32 @@
+-- What services ask for, and whom they name.
+use Rattle.std.specs.Prelude.{◌≡◌, List, ◌++◌, All}
+use Rattle.std.specs.List.{fold}
+use Rattle.leader1822.specs.Host.{IsAddress}
+use Rattle.sockets.specs.Requests.{served}
+use Rattle.sockets.specs.declared.request.Request.{Request}
+use Rattle.sockets.specs.declared.request.Request.TheVariants as request
+use Rattle.host_services.specs.Services.{Service, ServicesState, DeskState}
+use Rattle.host_services.specs.declared.service.Service.TheVariants as service
+
+-- a request names its peer by an address
+abbrev pub IsAddressed : Request → Type 0
+IsAddressed (request.Contact peer) = IsAddress peer
+IsAddressed (request.OpenSend peer own foreign size) = IsAddress peer
+IsAddressed (request.OpenReceive peer own foreign) = IsAddress peer
+IsAddressed (request.Echo peer octet) = IsAddress peer
+IsAddressed r = Unit {0}
+
+-- a user names its peer by an address
+abbrev pub NamesPeer : Service → Type 0
+NamesPeer (service.User s) = IsAddress s.peer
+NamesPeer s = Unit {0}
+
+abbrev pub NamePeers : ServicesState → Type 0
+NamePeers s = All NamesPeer s.running
+
+-- services have asked for more: the program has served that in its order, and each request names its peer by an address
+pub record HasAsked (before after : DeskState) : Type 0 where
+  pub more : List Request
+  pub asked : after.asked ≡ before.asked ++ more
+  pub program : after.program ≡ fold served before.program more
+  pub addressed : All IsAddressed more

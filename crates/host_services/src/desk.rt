@@ -1,0 +1,210 @@
+//! A host while its services have their turns.
+
+ghost use Rattle.std.specs.Prelude.{◌≡◌, OnOk, IfOk};
+ghost use Rattle.host_services.specs.Services as services;
+ghost use Rattle.host_services.specs.Turns as turns;
+ghost use Rattle.sockets.specs.Requests.{refusal};
+
+use crate::{Report, Reported};
+use leader1822::HostAddr;
+use ncp_control::SendSocket;
+use sockets::{Ncp, NcpFault, Request};
+use std::alloc::{AllocError, Global};
+use std::marker::Model;
+use terminal::Line;
+
+/// A host while its services have their turns: its control program, which of their requests were served, and what they have
+/// reported.
+///
+/// A call that runs out of memory leaves it of no use.
+#[derive(Drop)]
+pub struct Desk {
+    host: HostAddr,
+    notices: usize,
+    program: Ncp,
+    pub(crate) typing: Option<SendSocket>,
+    asked: Vec<Request>,
+    reports: Vec<Reported>,
+}
+
+impl Model for Desk {
+    ghost use Rattle.host_services.specs.Services.{DeskState};
+
+    ghost Value = { DeskState };
+
+    ghost view = { λ d. record { host = d.host; notices = d.notices; program = d.program; typing = d.typing; asked = d.asked.items; reports = d.reports.items } };
+}
+
+/// What the services of a host did in one call.
+#[derive(Debug, Drop)]
+pub struct Deeds {
+    /// The host.
+    pub host: HostAddr,
+    /// Those of their requests that were served, in order.
+    pub asked: Vec<Request>,
+    /// What they have reported, in order.
+    pub reports: Vec<Reported>,
+}
+
+/// A copy of a request.
+pub fn copy_of(request: &Request) -> Result<Request, AllocError>
+    ensures { IfOk result (λ copy. copy ≡ request.now) }
+{
+    let copy = match request {
+        Request::Contact { peer } => Request::Contact { peer: *peer },
+        Request::Listen { socket, size } => Request::Listen {
+            socket: *socket,
+            size: *size,
+        },
+        Request::OpenSend {
+            peer,
+            own,
+            foreign,
+            size,
+        } => Request::OpenSend {
+            peer: *peer,
+            own: *own,
+            foreign: *foreign,
+            size: *size,
+        },
+        Request::OpenReceive { peer, own, foreign } => Request::OpenReceive {
+            peer: *peer,
+            own: *own,
+            foreign: *foreign,
+        },
+        Request::Send { socket, bits } => Request::Send {
+            socket: *socket,
+            bits: bits.clone()?,
+        },
+        Request::Grant {
+            socket,
+            messages,
+            bits,
+        } => Request::Grant {
+            socket: *socket,
+            messages: *messages,
+            bits: *bits,
+        },
+        Request::AskBack {
+            socket,
+            messages,
+            bits,
+        } => Request::AskBack {
+            socket: *socket,
+            messages: *messages,
+            bits: *bits,
+        },
+        Request::Interrupt { socket } => Request::Interrupt { socket: *socket },
+        Request::Close { socket } => Request::Close { socket: *socket },
+        Request::Echo { peer, octet } => Request::Echo {
+            peer: *peer,
+            octet: *octet,
+        },
+    };
+    Ok(copy)
+}
+
+impl Desk {
+    /// Nothing was asked and reported yet. So many notices stand in the book before those that the services will be told of.
+    pub fn new(alloc: Global, host: HostAddr, notices: usize, program: Ncp) -> Desk
+        ensures { result ≡ services.opening_desk host notices program }
+    {
+        Desk {
+            host,
+            notices,
+            program,
+            typing: None,
+            asked: Vec::new(alloc),
+            reports: Vec::new(alloc),
+        }
+    }
+
+    /// The control program, and what the services did.
+    pub fn into_parts(self) -> (Ncp, Deeds)
+        ensures program { result.0 ≡ self.program }
+        ensures host { result.1.host ≡ self.host }
+        ensures asked { result.1.asked.items ≡ self.asked }
+        ensures reports { result.1.reports.items ≡ self.reports }
+    {
+        let deeds = Deeds {
+            host: self.host,
+            asked: self.asked,
+            reports: self.reports,
+        };
+        (self.program, deeds)
+    }
+
+    /// The services are told of one notice more.
+    pub(crate) fn count(&mut self) -> Result<(), AllocError>
+        ensures { OnOk result (self.new ≡ services.noticing self.old) }
+    {
+        let Some(notices) = self.notices.checked_add(1) else {
+            return Err(AllocError);
+        };
+        self.notices = notices;
+        Ok(())
+    }
+
+    /// Something is reported.
+    pub(crate) fn report(&mut self, report: Report) -> Result<(), AllocError>
+        ensures { OnOk result (self.new ≡ services.reporting report self.old) }
+    {
+        self.reports.push(Reported {
+            host: self.host,
+            notices: self.notices,
+            report,
+        })?;
+        Ok(())
+    }
+
+    /// A request is asked of the control program. Returns why it is refused, if it is; otherwise it is served.
+    fn ask(&mut self, request: Request) -> Result<Option<NcpFault>, AllocError>
+        ensures fault { IfOk result (λ fault. fault ≡ refusal self.old.program request) }
+        ensures desk { OnOk result (self.new ≡ turns.tried self.old request) }
+    {
+        if let Some(fault) = self.program.refusal(&request) {
+            return Ok(Some(fault));
+        }
+        if self.program.is_spent() {
+            return Err(AllocError);
+        }
+        let copy = copy_of(&request)?;
+        if self.program.ask(copy).is_err() {
+            return Err(AllocError);
+        }
+        self.asked.push(request)?;
+        Ok(None)
+    }
+
+    /// These requests are asked one after another, whatever is refused.
+    pub(crate) fn try_all(&mut self, requests: Vec<Request>) -> Result<(), AllocError>
+        ensures { OnOk result (self.new ≡ turns.tries self.old requests.items) }
+    {
+        for request in requests {
+            self.ask(request)?;
+        }
+        Ok(())
+    }
+
+    /// These requests are asked one after another until one is refused. Returns why it was.
+    pub(crate) fn ask_all(&mut self, requests: Vec<Request>) -> Result<Option<NcpFault>, AllocError>
+        ensures { IfOk result (λ fault. turns.asks self.old requests.items ≡ (self.new, fault)) }
+    {
+        for request in requests {
+            if let Some(fault) = self.ask(request)? {
+                return Ok(Some(fault));
+            }
+        }
+        Ok(None)
+    }
+
+    /// Lines are reported one by one.
+    pub(crate) fn tell_lines(&mut self, lines: Vec<Line>) -> Result<(), AllocError>
+        ensures { OnOk result (self.new ≡ turns.lines_told self.old lines.items) }
+    {
+        for line in lines {
+            self.report(Report::Line(line))?;
+        }
+        Ok(())
+    }
+}

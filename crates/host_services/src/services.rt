@@ -1,0 +1,157 @@
+//! The services of a host.
+
+ghost use Rattle.std.specs.Prelude.{◌≡◌, IfOk};
+ghost use Rattle.host_services.specs.Services.{no_services};
+ghost use Rattle.host_services.specs.Turns as turns;
+ghost use Rattle.icp.specs.declared.outcome.Failure.TheVariants as failure;
+ghost use Rattle.icp.specs.declared.outcome.Outcome.TheVariants as outcome;
+
+use crate::desk::Desk;
+use crate::{Report, Service};
+use icp::{Failure, Outcome, Said, Server, StartFault, User};
+use leader1822::HostAddr;
+use ncp_control::SendSocket;
+use sockets::Notice;
+use std::alloc::{AllocError, Global};
+use std::marker::Model;
+
+/// The services of a host, in the order in which they began.
+#[derive(Drop)]
+pub struct Services {
+    running: Vec<Service>,
+    typing: Option<SendSocket>,
+    alloc: Global,
+}
+
+impl Model for Services {
+    ghost use Rattle.host_services.specs.Services.{ServicesState};
+
+    ghost Value = { ServicesState };
+
+    ghost view = { λ s. record { running = s.running.items; typing = s.typing } };
+}
+
+/// Each of these services is told of a notice, one after another.
+fn tell_each(
+    alloc: Global,
+    services: &mut [Service],
+    desk: &mut Desk,
+    notice: &Notice,
+) -> Result<(), AllocError>
+    ensures { IfOk result (λ _. turns.heard notice.now services.old desk.old ≡ (services.new, desk.new)) }
+{
+    for at in 0..services.len() {
+        desk.tell(alloc, &mut services[at], notice)?;
+    }
+    Ok(())
+}
+
+/// These services are told of several notices, one after another.
+fn tell_all(
+    alloc: Global,
+    services: &mut [Service],
+    desk: &mut Desk,
+    notices: &[Notice],
+) -> Result<(), AllocError>
+    ensures { IfOk result (λ _. turns.all_heard notices.now services.old desk.old ≡ (services.new, desk.new)) }
+{
+    for notice in notices {
+        desk.count()?;
+        tell_each(alloc, services, desk, notice)?;
+    }
+    Ok(())
+}
+
+/// The outcome of a machine that can't begin.
+fn bad_start() -> Outcome
+    ensures { result ≡ outcome.Failed failure.BadSocket }
+{
+    Outcome::Failed(Failure::BadSocket)
+}
+
+impl Services {
+    /// Nothing runs on the host.
+    pub fn new(alloc: Global) -> Services
+        ensures { result ≡ no_services }
+    {
+        Services {
+            running: Vec::new(alloc),
+            typing: None,
+            alloc,
+        }
+    }
+
+    /// The socket on which the terminal that came last sends what is typed; none where there was no terminal yet.
+    pub fn typing(&self) -> Option<SendSocket>
+        ensures { result ≡ self.now.typing }
+    {
+        self.typing
+    }
+
+    /// They are told of these notices of their host, one after another. What they ask for is asked at once.
+    ///
+    /// Errors: `AllocError` where memory is wanted for what they do.
+    #[tactic(auto, unfolding(crate::specs::Turns::told))]
+    pub fn tell(&mut self, desk: &mut Desk, notices: &[Notice]) -> Result<(), AllocError>
+        ensures { IfOk result (λ _. turns.told notices.now self.old desk.old ≡ (self.new, desk.new)) }
+    {
+        desk.typing = self.typing;
+        tell_all(self.alloc, &mut self.running, desk, notices)?;
+        self.typing = desk.typing;
+        Ok(())
+    }
+
+    /// A server of an initial connection begins, on the odd socket `listen` and with an even base. One that can't begin, or whose
+    /// first requests are refused, is reported to have failed.
+    ///
+    /// Errors: `AllocError` where memory is wanted.
+    #[tactic(auto, unfolding(crate::specs::Turns::server_begun))]
+    pub fn serve(&mut self, desk: &mut Desk, listen: u32, base: u32) -> Result<(), AllocError>
+        ensures { IfOk result (λ _. turns.server_begun listen base self.old desk.old ≡ (self.new, desk.new)) }
+    {
+        desk.typing = self.typing;
+        let (mut server, requests) = match Server::start(self.alloc, listen, base) {
+            Ok(started) => started,
+            Err(StartFault::BadSocket) => return desk.report(Report::Server(bad_start())),
+            Err(StartFault::OutOfMemory) => return Err(AllocError),
+        };
+        let said = Said {
+            requests,
+            outcome: None,
+        };
+        let next = desk.settle_server(self.alloc, &mut server, said)?;
+        self.running.push(next.unwrap_or(Service::Server(server)))?;
+        self.typing = desk.typing;
+        Ok(())
+    }
+
+    /// A user of an initial connection begins, from the even socket `own` to the odd socket `listen` of a peer. One that can't
+    /// begin, or whose first request is refused, is reported to have failed.
+    ///
+    /// Errors: `AllocError` where memory is wanted.
+    #[tactic(auto, unfolding(crate::specs::Turns::user_begun))]
+    pub fn connect(
+        &mut self,
+        desk: &mut Desk,
+        peer: HostAddr,
+        listen: u32,
+        own: u32,
+    ) -> Result<(), AllocError>
+        ensures { IfOk result (λ _. turns.user_begun peer listen own self.old desk.old ≡ (self.new, desk.new)) }
+    {
+        desk.typing = self.typing;
+        let (mut user, requests) = match User::start(self.alloc, peer, listen, own) {
+            Ok(started) => started,
+            Err(StartFault::BadSocket) => return desk.report(Report::User(bad_start())),
+            Err(StartFault::OutOfMemory) => return Err(AllocError),
+        };
+        let said = Said {
+            requests,
+            outcome: None,
+        };
+        let next = desk.settle_user(self.alloc, &mut user, said)?;
+        self.running.push(next.unwrap_or(Service::User(user)))?;
+        self.typing = desk.typing;
+        Ok(())
+    }
+}

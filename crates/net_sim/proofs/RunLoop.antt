@@ -1,0 +1,24 @@
+-- A run, event by event.
+use Rattle.std.proofs.Common.{◌≡◌, ℕ, ◌+◌, Bool, true, false, List, ◌∷◌, drop, Result, refl, sym, subst}
+use Rattle.std.specs.Bool.{MatchBool}
+use Rattle.net_sim.specs.World.{Calls, WorldState, WorldFault, Carrier, Event, Refuses, StepGives, Runs, RunGives, stops}
+use Rattle.leader1822.specs.declared.carrier.CarrierFault.TheVariants as fault
+
+module _ {C : Type 0} (calls : Calls C) (events : List Event) (i : ℕ) (e : Event) (is : drop i events ≡ e ∷ drop (i + 1) events) (old mid : WorldState C) (answer : Result (Unit {0}) WorldFault)
+    (step : StepGives calls old e answer mid) where
+  -- one event, after which the rest goes on
+  pub run_more : stops answer ≡ false → (r : Result (Unit {0}) WorldFault) (new : WorldState C) → Runs calls mid (drop (i + 1) events) r new → Runs calls old (drop i events) r new
+  run_more on r new rest =
+      let now : MatchBool (stops answer) ((r ≡ answer) × (new ≡ mid)) (Runs calls mid (drop (i + 1) events) r new) =
+      subst (λ (b : Bool). MatchBool b ((r ≡ answer) × (new ≡ mid)) (Runs calls mid (drop (i + 1) events) r new)) (sym on) rest in
+      subst (λ (es : List Event). Runs calls old es r new) (sym is) (answer, mid, step, now)
+
+  -- one event that ends it
+  pub run_stops : stops answer ≡ true → Runs calls old (drop i events) answer mid
+  run_stops off =
+      let now : MatchBool (stops answer) ((answer ≡ answer) × (mid ≡ mid)) (Runs calls mid (drop (i + 1) events) answer mid) =
+      subst (λ (b : Bool). MatchBool b ((answer ≡ answer) × (mid ≡ mid)) (Runs calls mid (drop (i + 1) events) answer mid)) (sym off) (refl, refl) in
+      subst (λ (es : List Event). Runs calls old es answer mid) (sym is) (answer, mid, step, now)
+
+pub runs_on : {C : Type 0} (calls : Calls C) (events : List Event) (old : WorldState C) (r : Result (Unit {0}) WorldFault) (new : WorldState C) → old.stopped ≡ false → Runs calls old events r new → RunGives calls old events r new
+runs_on {C} calls events old r new running runs = subst (λ (b : Bool). MatchBool b (Refuses (Carrier fault.Stopped) old r new) (Runs calls old events r new)) (sym running) runs

@@ -1,0 +1,18 @@
+use Rattle.net_sim.specs.Inside.Parts.{Serves}
+use Rattle.net_sim.specs.World.{services_of}
+use Rattle.net_sim.proofs.Serving.{serves}
+use Rattle.net_sim.proofs.Ends.{user_ends}
+use Rattle.net_sim.proofs.events.begin_user.Goals as goal
+
+pub user_at-requires-clause-services : goal.user_at-requires-clause-services
+user_at-requires-clause-services g c =
+    let sits = c.in_ok-at.ensures in
+    let here : Serves c.args.host c.in_ok-at.at (services_of c.args.host c.args.services.now) c.args.services.now = serves c.args.host c.in_ok-at.at sits.0 c.args.seats.now c.args.services.now c.requires.once c.requires.order sits.1 in
+    here.within
+
+pub returns : goal.returns
+returns g c =
+    let sits = c.in_ok-at.ensures in
+    let here : Serves c.args.host c.in_ok-at.at (services_of c.args.host c.args.services.now) c.args.services.now = serves c.args.host c.in_ok-at.at sits.0 c.args.seats.now c.args.services.now c.requires.once c.requires.order sits.1 in
+    user_ends c.args.host c.args.peer c.args.listen c.args.own c.in_ok-at.at sits.0 c.args.carrier.now c.args.seats.now c.user_at.new.seats c.args.services.now c.user_at.new.services c.args.book.now c.user_at.new.book c.user_at.result
+    sits.1 (c.user_at.ensures.done c.args.host sits.0 (services_of c.args.host c.args.services.now) sits.1 here) c.user_at.ensures.kept

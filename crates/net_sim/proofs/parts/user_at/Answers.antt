@@ -1,0 +1,13 @@
+use Rattle.std.proofs.Common.{rules, length, reverse}
+use Rattle.leader1822.specs.Host.{Host}
+use Rattle.sockets.specs.Pairs.{NcpState}
+use Rattle.host_services.specs.Services.{ServicesState}
+use Rattle.host_services.specs.Services.{opening_desk}
+use Rattle.host_services.specs.Turns.{user_begun}
+use Rattle.net_sim.proofs.Doing.{call_done}
+use Rattle.net_sim.proofs.parts.user_at.Goals as goal
+
+pub returns-clause-done : goal.returns-clause-done
+returns-clause-done c = λ h s x sits serves.
+    call_done h c.args.at s c.in-Some.program c.in-Ok.program x c.take.new.self c.args.seats.now c.args.services.now c.index-seats-at.result c.index-seats-at-2.result c.index-services-at.result c.begin_user.new.self c.begin_user.new.book
+    (λ (g : Host) (z : ServicesState) (u : NcpState). user_begun c.args.peer c.args.listen c.args.own z (opening_desk g (length c.args.book.now.book.notices) u)) (λ (g : Host) (u : NcpState). c.args.book.now) sits serves (search rules) (search rules) (search rules)

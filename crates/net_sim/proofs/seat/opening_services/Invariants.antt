@@ -1,0 +1,6 @@
+use Rattle.std.proofs.Common.{◌≡◌, take}
+use Rattle.net_sim.specs.World.{opening_services}
+use Rattle.net_sim.proofs.seat.opening_services.Given as goal
+
+abbrev pub invariant-loop-host : goal.invariant-loop-host
+invariant-loop-host l = l.all.items ≡ opening_services (take l.host-index l.hosts)

@@ -1,0 +1,9 @@
+use Rattle.std.proofs.Common.{rules}
+use Rattle.net_sim.specs.Inside.Held.{IsHeld}
+use Rattle.net_sim.proofs.Held.{held_once}
+use Rattle.net_sim.proofs.world.World.seats.Goals as goal
+
+pub returns-clause-once : goal.returns-clause-once
+returns-clause-once g c =
+    let held : IsHeld g.C.Carrier.seen c.args.self.now = search rules in
+    λ running. held_once g.C.Carrier.seen c.args.self.now held running

@@ -1,0 +1,117 @@
+//! A calm: quiet rounds, and after each of them every host that is up takes what came for it and says what it has to say.
+
+ghost use Rattle.std.specs.Prelude.{◌≡◌, ◌<◌, length, if◌then◌else◌, is_some, slice_get, None, Some};
+ghost use Rattle.net_sim.specs.Carriers.{shown};
+ghost use Rattle.net_sim.specs.Inside.Calm.{Turn, Round};
+ghost use Rattle.net_sim.specs.World as world;
+ghost use Rattle.net_sim.specs.World.{CalmGives, Repeats, Offer, Take};
+
+use crate::seat::Seat;
+use crate::world::{World, stops};
+use crate::{Event, WorldFault};
+use leader1822::{Carrier, CarrierFault, HostAddr};
+
+/// How often a host takes in one round at most.
+const TAKINGS: u8 = 16;
+
+/// How often a host offers in one round at most.
+const OFFERS: u8 = 32;
+
+/// The host whose seat is here, if it is up.
+fn up_here(seats: &[Seat], at: usize) -> Option<HostAddr>
+    requires { at < length seats.now }
+    ensures { (seat : world.Seat) → slice_get seats.now at ≡ Some seat → result ≡ (if is_some seat.program then Some seat.host else None) }
+{
+    let seat = &seats[at];
+    if seat.program.is_none() {
+        return None;
+    }
+    Some(seat.host)
+}
+
+impl<C: Carrier> World<C> {
+    /// So many times: a quiet round of the network, and then each host that is up has its turn, in order of IMP and host. It
+    /// takes until nothing waits for it, or 16 times; then it offers until it has nothing to say or is refused, or 32 times.
+    /// Refusals are passed over. Memory is wanted as [`World::step`] wants it.
+    ///
+    /// Errors: want of memory, which ends the calm, and `Stopped` after it.
+    pub fn calm(&mut self, rounds: u32) -> Result<(), WorldFault>
+        ensures { CalmGives (shown (record { seen = C.seen; offers = C.offers; takes = C.takes; steps = C.steps; rounds = C.rounds })) rounds self.old result self.new }
+    {
+        if self.is_stopped() {
+            return Err(WorldFault::Carrier(CarrierFault::Stopped));
+        }
+        for _ in 0..rounds {
+            let answer = self.pass_round();
+            if stops(&answer) {
+                return answer;
+            }
+        }
+        Ok(())
+    }
+
+    /// One quiet round of the network, and then each host that is up has its turn.
+    fn pass_round(&mut self) -> Result<(), WorldFault>
+        ensures { Round (shown (record { seen = C.seen; offers = C.offers; takes = C.takes; steps = C.steps; rounds = C.rounds })) self.old result self.new }
+    {
+        let passed = self.step(Event::Quiet);
+        if stops(&passed) {
+            return passed;
+        }
+        let seats = self.seats().len();
+        for at in 0..seats {
+            if let Some(host) = up_here(self.seats(), at) {
+                let answer = self.take_turn(host);
+                if stops(&answer) {
+                    return answer;
+                }
+            }
+        }
+        Ok(())
+    }
+
+    /// A host takes what came for it, and then says what it has to say.
+    fn take_turn(&mut self, host: HostAddr) -> Result<(), WorldFault>
+        ensures { Turn (shown (record { seen = C.seen; offers = C.offers; takes = C.takes; steps = C.steps; rounds = C.rounds })) host self.old result self.new }
+    {
+        let answer = self.take_all(host);
+        if stops(&answer) {
+            return answer;
+        }
+        self.offer_all(host)
+    }
+
+    /// A host takes until nothing crosses by it, or 16 times.
+    fn take_all(&mut self, host: HostAddr) -> Result<(), WorldFault>
+        ensures { Repeats (shown (record { seen = C.seen; offers = C.offers; takes = C.takes; steps = C.steps; rounds = C.rounds })) (Take host) 16 self.old result self.new }
+    {
+        for _ in 0..TAKINGS {
+            let before = self.book().crossings().len();
+            let answer = self.step(Event::Take(host));
+            if stops(&answer) {
+                return answer;
+            }
+            if self.book().crossings().len() <= before {
+                return Ok(());
+            }
+        }
+        Ok(())
+    }
+
+    /// A host offers until nothing crosses by it, or 32 times.
+    fn offer_all(&mut self, host: HostAddr) -> Result<(), WorldFault>
+        ensures { Repeats (shown (record { seen = C.seen; offers = C.offers; takes = C.takes; steps = C.steps; rounds = C.rounds })) (Offer host) 32 self.old result self.new }
+    {
+        for _ in 0..OFFERS {
+            let before = self.book().crossings().len();
+            let answer = self.step(Event::Offer(host));
+            if stops(&answer) {
+                return answer;
+            }
+            if self.book().crossings().len() <= before {
+                return Ok(());
+            }
+        }
+        Ok(())
+    }
+}

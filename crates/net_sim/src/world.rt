@@ -1,0 +1,179 @@
+//! Hosts with their programs over a carrier.
+
+ghost use Rattle.std.specs.Prelude.{◌≡◌, false, List, [], IfOk, OnOk, All};
+ghost use Rattle.leader1822.specs.Calls.{InOrder};
+ghost use Rattle.leader1822.specs.Host.{Host, IsAddress};
+ghost use Rattle.leader1822.specs.Messages.{SafeMessages};
+ghost use Rattle.net_sim.specs.Carriers.{shown};
+ghost use Rattle.net_sim.specs.Clean.{IsLawful};
+ghost use Rattle.net_sim.specs.Inside.Parts as parts;
+ghost use Rattle.net_sim.specs.Inside.Parts.{IsOnce, hosts_of};
+ghost use Rattle.net_sim.specs.World as world;
+ghost use Rattle.net_sim.specs.World.{opening_world, StepGives, RunGives};
+
+use crate::book::Book;
+use crate::events::{follow, is_named};
+use crate::seat::{HostServices, Seat, opening_seats, opening_services};
+use crate::{Event, WorldFault};
+use leader1822::{Carrier, CarrierFault, HostAddr};
+use sockets::NcpFault;
+use std::alloc::{AllocError, Global};
+use std::marker::Model;
+
+/// A carrier, the programs of its hosts, what else runs on them, and the book of all that happens to them.
+///
+/// A world is seen as its carrier, a seat and the services of each host in the carrier's order, the book with what was handed
+/// over, and whether want of memory has stopped it. An event that is refused changes nothing. One in which memory runs out leaves
+/// the book as it was, and after it every event is refused as `Stopped`.
+#[derive(Drop)]
+pub struct World<C: Carrier> {
+    carrier: C,
+    seats: Vec<Seat>,
+    services: Vec<HostServices>,
+    book: Book,
+    stopped: bool,
+    alloc: Global,
+}
+
+impl<C: Carrier> Model for World<C> {
+    ghost use Rattle.net_sim.specs.Inside.Held.{IsHeld};
+    ghost use Rattle.net_sim.specs.World.{WorldState};
+
+    ghost Value = { WorldState C };
+
+    ghost view = { λ w. record { carrier = w.carrier; seats = w.seats.items; services = w.services.items; kept = w.book; stopped = w.stopped } };
+
+    ghost invariant = { λ w. IsHeld C.seen (record { carrier = w.carrier; seats = w.seats.items; services = w.services.items; kept = w.book; stopped = w.stopped }) };
+}
+
+impl<C: Carrier> World<C> {
+    /// Hosts with programs that have just come up, over a carrier that hasn't been used, and an empty book.
+    ///
+    /// It fails only where no memory is left for the seats of the hosts.
+    pub fn new(alloc: Global, carrier: C) -> Result<World<C>, AllocError>
+        requires unused { (C.seen carrier).log ≡ [] }
+        ensures { IfOk result (λ w. w ≡ opening_world (shown (record { seen = C.seen; offers = C.offers; takes = C.takes; steps = C.steps; rounds = C.rounds })) carrier) }
+    {
+        let seats = opening_seats(alloc, carrier.hosts())?;
+        let services = opening_services(alloc, carrier.hosts())?;
+        are_addresses(carrier.hosts());
+        Ok(World {
+            carrier,
+            seats,
+            services,
+            book: Book::new(alloc),
+            stopped: false,
+            alloc,
+        })
+    }
+
+    /// What happened so far. It is that of a lawful world, of which `law::clean_resets` speaks: a host that is through a
+    /// reset with a peer takes of it only what went out after its last clean point. And a message that was answered by
+    /// RFNM was taken exactly once, and none was taken twice.
+    pub fn book(&self) -> &Book
+        ensures value { result.now ≡ self.now.kept }
+        ensures lawful { IsLawful C.seen (C.seen self.now.carrier).hosts self.now }
+        ensures messages { SafeMessages self.now.kept.book.crossings }
+    {
+        &self.book
+    }
+
+    /// The hosts with their programs, in the carrier's order.
+    pub(crate) fn seats(&self) -> &[Seat]
+        ensures value { result.now ≡ self.now.seats }
+        ensures once { self.now.stopped ≡ false → IsOnce (hosts_of self.now.seats) }
+    {
+        &self.seats
+    }
+
+    /// Whether want of memory has stopped it.
+    pub(crate) fn is_stopped(&self) -> bool
+        ensures { result ≡ self.now.stopped }
+    {
+        self.stopped
+    }
+
+    /// One event.
+    ///
+    /// Errors: `Carrier(NoSuch)` for an offer, a taking or a request at a host that the network doesn't have and
+    /// `Carrier(IsDown)` at one that is down, before anything else; what the carrier refuses; what the host's program
+    /// refuses, as `Program`. Want of memory comes only by the carrier, at an offer of something, at a taking of
+    /// something, at an event by which something crosses, and at a request that isn't refused.
+    pub fn step(&mut self, event: Event) -> Result<(), WorldFault>
+        ensures { StepGives (shown (record { seen = C.seen; offers = C.offers; takes = C.takes; steps = C.steps; rounds = C.rounds })) self.old event result self.new }
+    {
+        self.follow(&event)
+    }
+
+    /// One event after the other. A refused one is passed over, and want of memory ends it.
+    pub fn run(&mut self, events: &[Event]) -> Result<(), WorldFault>
+        ensures { RunGives (shown (record { seen = C.seen; offers = C.offers; takes = C.takes; steps = C.steps; rounds = C.rounds })) self.old events.now result self.new }
+    {
+        if self.stopped {
+            return Err(WorldFault::Carrier(CarrierFault::Stopped));
+        }
+        for event in events {
+            let done = self.follow(event);
+            if stops(&done) {
+                return done;
+            }
+        }
+        Ok(())
+    }
+
+    /// One event.
+    fn follow(&mut self, event: &Event) -> Result<(), WorldFault>
+        ensures { StepGives (shown (record { seen = C.seen; offers = C.offers; takes = C.takes; steps = C.steps; rounds = C.rounds })) self.old event.now result self.new }
+    {
+        if self.stopped {
+            return Err(WorldFault::Carrier(CarrierFault::Stopped));
+        }
+        is_named(event);
+        let done = follow(
+            self.alloc,
+            &mut self.carrier,
+            &mut self.seats,
+            &mut self.services,
+            &mut self.book,
+            event,
+        );
+        let _ = self.carrier.log();
+        self.stopped = runs_out(&done);
+        done
+    }
+}
+
+/// Each host has an address, as the type of an address has it.
+fn are_addresses(hosts: &[HostAddr])
+    ensures { All (λ h. IsAddress h) hosts.now }
+{
+    for host in hosts {
+        let _ = (host.imp(), host.host());
+    }
+}
+
+/// Whether memory ran out.
+fn runs_out(done: &Result<(), WorldFault>) -> bool
+    ensures { result ≡ parts.runs_out done.now }
+{
+    matches!(
+        done,
+        Err(
+            WorldFault::Carrier(CarrierFault::OutOfMemory)
+                | WorldFault::Program(NcpFault::OutOfMemory)
+        )
+    )
+}
+
+/// Whether nothing is done after this any more.
+pub(crate) fn stops(done: &Result<(), WorldFault>) -> bool
+    ensures { result ≡ world.stops done.now }
+{
+    matches!(
+        done,
+        Err(
+            WorldFault::Carrier(CarrierFault::OutOfMemory | CarrierFault::Stopped)
+                | WorldFault::Program(NcpFault::OutOfMemory)
+        )
+    )
+}

@@ -1,0 +1,97 @@
+//! Networks whose tables have settled.
+
+ghost use Rattle.std.specs.Prelude.{◌≡◌, ◌≤◌, length, IfOk};
+
+use crate::values::far_from_others;
+use routing::{RouteTable, Vector, settle};
+use std::alloc::{AllocError, Global};
+
+/// The table of an IMP whose every port has heard the distance 0 to all IMPs.
+fn misled(alloc: Global, own: u8, ports: u8) -> Result<RouteTable, AllocError>
+    requires { ports ≤ 2 }
+    ensures own { IfOk result (λ table. table.own ≡ own) }
+    ensures ports { IfOk result (λ table. length table.heard ≡ ports) }
+{
+    let mut table = RouteTable::new(alloc, own, ports)?;
+    if ports > 0 {
+        table.hear(0, Vector::new([0; 16]));
+    }
+    if ports > 1 {
+        table.hear(1, Vector::new([0; 16]));
+    }
+    Ok(table)
+}
+
+/// What a table says: its distances, and its next line to IMP 3.
+type Said = ([u8; 16], Option<usize>);
+
+/// What each of four tables says.
+fn told(tables: &[RouteTable; 4]) -> [Said; 4] {
+    let mut found = [([0; 16], None); 4];
+    for (place, table) in tables.iter().enumerate() {
+        let mut distances = [0; 16];
+        distances.copy_from_slice(table.vector().distances());
+        found[place] = (distances, table.next(3));
+    }
+    found
+}
+
+/// IMPs 1, 2 and 3 in a row, and IMP 4 alone.
+fn row(alloc: Global) -> Result<[Said; 4], AllocError> {
+    let mut tables = [
+        misled(alloc, 1, 1)?,
+        misled(alloc, 2, 2)?,
+        misled(alloc, 3, 1)?,
+        misled(alloc, 4, 0)?,
+    ];
+    settle(alloc, &[(1, 2), (2, 3)], &mut tables, 16)?;
+    Ok(told(&tables))
+}
+
+/// The four IMPs in a ring.
+fn ring(alloc: Global) -> Result<[Said; 4], AllocError> {
+    let mut tables = [
+        misled(alloc, 1, 2)?,
+        misled(alloc, 2, 2)?,
+        misled(alloc, 3, 2)?,
+        misled(alloc, 4, 2)?,
+    ];
+    settle(alloc, &[(1, 2), (2, 3), (3, 4), (4, 1)], &mut tables, 16)?;
+    Ok(told(&tables))
+}
+
+/// Two islands: IMPs 1 and 2, and IMPs 3 and 4.
+fn islands(alloc: Global) -> Result<[Said; 4], AllocError> {
+    let mut tables = [
+        misled(alloc, 1, 1)?,
+        misled(alloc, 2, 1)?,
+        misled(alloc, 3, 1)?,
+        misled(alloc, 4, 1)?,
+    ];
+    settle(alloc, &[(1, 2), (3, 4)], &mut tables, 16)?;
+    Ok(told(&tables))
+}
+
+#[test]
+fn sixteen_rounds_tell_shortest_walks(rt: HostRuntime) {
+    let in_a_row = [
+        (far_from_others([0, 1, 2, 16]), Some(0)),
+        (far_from_others([1, 0, 1, 16]), Some(1)),
+        (far_from_others([2, 1, 0, 16]), None),
+        (far_from_others([16, 16, 16, 0]), None),
+    ];
+    let in_a_ring = [
+        (far_from_others([0, 1, 2, 1]), Some(0)),
+        (far_from_others([1, 0, 1, 2]), Some(1)),
+        (far_from_others([2, 1, 0, 1]), None),
+        (far_from_others([1, 2, 1, 0]), Some(0)),
+    ];
+    let on_islands = [
+        (far_from_others([0, 1, 16, 16]), None),
+        (far_from_others([1, 0, 16, 16]), None),
+        (far_from_others([16, 16, 0, 1]), None),
+        (far_from_others([16, 16, 1, 0]), Some(0)),
+    ];
+    let found = [row(rt.alloc()), ring(rt.alloc()), islands(rt.alloc())];
+    assert_eq!(rt; found, [Ok(in_a_row), Ok(in_a_ring), Ok(on_islands)]);
+}

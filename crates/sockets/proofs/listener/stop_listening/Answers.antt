@@ -1,7 +1,0 @@
-use Rattle.std.proofs.Common.{rules, not, ◌==◌}
-use Rattle.std.proofs.lemmas.Fn.{filter_same}
-use Rattle.sockets.specs.declared.listener.Listener.{Listener}
-use Rattle.sockets.proofs.listener.stop_listening.Goals as goal
-
-pub returns : goal.returns
-returns c = filter_same _ (λ (l : Listener). not (l.socket == c.args.socket)) _ (λ x b f' k. search rules) _ _ c.retain.ensures.filtered

@@ -1,7 +1,0 @@
-use Rattle.std.proofs.Common.{◌∙◌}
-use Rattle.sockets.proofs.EntryLemmas.{found_some}
-use Rattle.sockets.proofs.refusals.has_end.Goals as goal
-
-pub returns : goal.returns
-returns c =
-    c.is_some.ensures ∙ found_some c.args.own c.args.foreign c.args.entries.now c.place.result c.place.ensures.found

@@ -1,0 +1,6 @@
+pub mod Amounts
+pub mod Words
+pub mod Keeps
+pub mod Receives
+pub mod Sends
+pub mod Runs

@@ -1,0 +1,383 @@
+-- What the receiver does keeps all of it.
+use Rattle.std.proofs.Common.{◌≡◌, ℕ, ◌+◌, ◌-◌, ◌≤◌, Bool, true, false, not, ◌&&◌, List, [], ◌∷◌, ◌++◌, length, Option, Some, None, is_some, refl, ap, sym, subst, ◌∙◌, inl, inr, if◌then◌else◌, append-nil, arith}
+use Rattle.ncp_control.specs.Allocation as counters
+use Rattle.stream_law.specs.Words.{Word, Rts, Str, All, Gvb, Ret, Cls, for, covers, holds, is_size}
+use Rattle.stream_law.specs.Receivers as receivers
+use Rattle.stream_law.specs.Receivers.{Receiver}
+use Rattle.stream_law.specs.Senders.{Sender}
+use Rattle.stream_law.specs.Streams.{Stream, Box, Empty, Waiting, Taken}
+use Rattle.stream_law.specs.Within.{IsFront}
+use Rattle.stream_law.proofs.Amounts.{parts, not_true, unlike, some_is, at, for_here, for_more, for_less, mine, mine_same, mine_most, number, amount, cost, total, number_all, number_spent, number_less, number_for, total_for, granted_in, granted_more}
+use Rattle.stream_law.proofs.Words.{unless, unless_none, DownFits, down_more, no_rts_said, down_said, down_asked, up_more, closed_more}
+use Rattle.stream_law.proofs.Keeps.{made, waits, Account, Inv, all_over, sole, waits_of, acceptable}
+
+-- the last connection of which anything was said
+last_of : (r : Receiver) (c : ℕ) → r.end ≡ Some c → r.closed ≡ false → unless r.closed r.end ≡ Some c
+last_of r c end closed = ap (λ (v : Bool). unless v r.end) closed ∙ end
+
+-- two connections that are the end's
+both_are : (o : Option ℕ) (c k : ℕ) → o ≡ Some c → o ≡ Some k → k ≡ c
+both_are o c k e f = some_is k c (sym f ∙ e)
+
+opens : (c : ℕ) (r : Receiver) → receivers.is_open c r ≡ true → (r.opened ≡ true) × (r.closed ≡ false) × (r.over c ≡ false)
+opens c r e =
+    let p : ((r.opened && not r.closed) ≡ true) × (not (r.over c) ≡ true) = parts (r.opened && not r.closed) (not (r.over c)) e in
+    let q : (r.opened ≡ true) × (not r.closed ≡ true) = parts r.opened (not r.closed) p.0 in
+    (q.0, not_true r.closed q.1, not_true (r.over c) p.1)
+
+no_front : (xs : List (List Bool)) → IsFront xs [] → xs ≡ []
+no_front [] f = refl
+no_front (x ∷ xs) f = let e : x ∷ (xs ++ f.0) ≡ [] = f.1 in absurd (cc)
+
+-- nothing waits where the link is free
+none_waits : (x : Stream) → Inv x → x.receiver.end ≡ None → (b : Box) → x.box ≡ b → waits b ≡ []
+none_waits x h none Empty e = refl
+none_waits x h none (Waiting c z bits) e = let both : None ≡ Some c = sym none ∙ waits_of x h c z bits e in absurd (cc)
+none_waits x h none Taken e = refl
+
+module _ (r : Receiver) (s : Sender) (d u : List Word) (b : Box) (h : Inv (made r s d u b)) where
+  pub kept_ask : (c : ℕ) → r.end ≡ None → r.asked c ≡ false → Inv (made (receivers.asks c r) s (d ++ Rts c ∷ []) u b)
+  kept_ask c none fresh = record {
+    known = λ k e. elim (at c true r.asked k) [ inl t ↦ inl (ap (λ (n : ℕ). Some n) (sym t.0)) | inr t ↦ inr (over k (sym t.1 ∙ e)) ];
+    own = λ k e. subst (λ (j : ℕ). for c true r.asked j ≡ true) (some_is c k e) (for_here c true r.asked);
+    passed = h.passed;
+    heard = λ k e. for_more c r.asked k (h.heard k e);
+    half = h.half;
+    down = down_asked r.over r.asked (for c true r.asked) c over (for_more c r.asked) (for_here c true r.asked) (unless s.shut s.end) d before;
+    still = λ k e f. (let both : None ≡ Some k = sym none ∙ sole (made r s d u b) h k (h.heard k e) f in absurd (cc));
+    up = up_more r.asked s.closed (for c true r.asked) s.closed s.size s.size (for_more c r.asked) (λ k e. e) (λ k z e. e) r.over u h.up;
+    told = h.told;
+    sized = λ k e f. absurd (cc);
+    waiting = h.waiting;
+    whole = λ k e f g. subst (λ (j : ℕ). s.sent j ≡ r.taken j ++ waits b) (some_is c k e) (h.unsent c fresh ∙ sym (ap (λ (l : List (List Bool)). l ++ waits b) untaken ∙ none_waits (made r s d u b) h none b refl));
+    fronts = h.fronts;
+    unsent = λ k e. h.unsent k (for_less c r.asked k e);
+    account = λ u' k. (let a : Account u' k r s d u = h.account u' k in let g : granted_in u' k (d ++ Rts c ∷ []) ≡ granted_in u' k d + 0 = granted_more u' k d (Rts c) in omega (arith, a, g));
+    left = λ u' k e. (let g : number u' (r.granted k) ≡ 0 = subst (λ (j : ℕ). number u' (r.granted j) ≡ 0) (some_is c k e) (h.ungranted u' c fresh) in omega (arith, g));
+    unopened = λ u' k e f. subst (λ (j : ℕ). number u' (r.granted j) ≡ 0) (some_is c k e) (h.ungranted u' c fresh);
+    ungranted = λ u' k e. h.ungranted u' k (for_less c r.asked k e);
+  } where
+    over : (k : ℕ) → r.asked k ≡ true → r.over k ≡ true
+    over = all_over (made r s d u b) h none
+
+    before : DownFits r.over r.asked (unless s.shut s.end) d None
+    before = subst (λ (o : Option ℕ). DownFits r.over r.asked (unless s.shut s.end) d o) (ap (λ (o : Option ℕ). unless r.closed o) none ∙ unless_none r.closed) h.down
+
+    untaken : r.taken c ≡ []
+    untaken = no_front (r.taken c) (subst (λ (l : List (List Bool)). IsFront (r.taken c) l) (h.unsent c fresh) (h.fronts c))
+
+  pub kept_open : (c : ℕ) → r.end ≡ Some c → is_some (r.size c) ≡ true → Inv (made (record r { opened = true }) s d u b)
+  kept_open c end size = record {
+    known = h.known;
+    own = h.own;
+    passed = h.passed;
+    heard = h.heard;
+    half = h.half;
+    down = h.down;
+    still = h.still;
+    up = h.up;
+    told = h.told;
+    sized = λ k e f. subst (λ (j : ℕ). is_some (r.size j) ≡ true) (some_is c k (sym end ∙ e)) size;
+    waiting = h.waiting;
+    whole = h.whole;
+    fronts = h.fronts;
+    unsent = h.unsent;
+    account = h.account;
+    left = h.left;
+    unopened = λ u' k e f. absurd (cc);
+    ungranted = h.ungranted;
+  }
+
+  pub kept_grant : (c m n : ℕ) → r.end ≡ Some c → receivers.is_open c r ≡ true → r.allocation.messages + m ≤ 65535 → r.allocation.bits + n ≤ 4294967295
+      → Inv (made (receivers.grants c m n r) s (d ++ All c m n ∷ []) u b)
+  kept_grant c m n end is_open messages bits = record {
+    known = h.known;
+    own = h.own;
+    passed = h.passed;
+    heard = h.heard;
+    half = h.half;
+    down = down_said r.over r.asked (All c m n) (unless r.closed r.end) (unless r.closed r.end) tt (λ view e. (e ∙ last, e)) (unless s.shut s.end) d h.down;
+    still = λ k e f. no_rts_said (All c m n) d tt (h.still k e f);
+    up = h.up;
+    told = h.told;
+    sized = h.sized;
+    waiting = h.waiting;
+    whole = h.whole;
+    fronts = h.fronts;
+    unsent = h.unsent;
+    account = λ u' k. (
+        let a : Account u' k r s d u = h.account u' k in
+        let g : granted_in u' k (d ++ All c m n ∷ []) ≡ granted_in u' k d + (mine k c (amount u' m n) + 0) = granted_more u' k d (All c m n) in
+        let f : number u' (for c (counters.added (r.granted c) m n) r.granted k) ≡ number u' (r.granted k) + mine k c (amount u' m n) = number_for u' k c m n r.granted in
+        omega (arith, a, g, f));
+    left = λ u' k e. (
+        let l : number u' (r.granted k) ≤ number u' r.allocation + total u' (r.taken k) + number u' (r.returned k) = h.left u' k e in
+        let f : number u' (for c (counters.added (r.granted c) m n) r.granted k) ≡ number u' (r.granted k) + mine k c (amount u' m n) = number_for u' k c m n r.granted in
+        let most : mine k c (amount u' m n) ≤ amount u' m n = mine_most k c (amount u' m n) in
+        let all : number u' (counters.granted r.allocation m n) ≡ number u' r.allocation + amount u' m n = number_all u' r.allocation m n messages bits in
+        omega (arith, l, f, most, all));
+    unopened = λ u' k e f. absurd (unlike r.opened (opens c r is_open).0 f);
+    ungranted = λ u' k e. elim (at c (counters.added (r.granted c) m n) r.granted k) [
+      | inl t ↦ absurd (unlike (r.asked k) (ap r.asked t.0 ∙ h.own c end) e)
+      | inr t ↦ (ap (number u') t.1 ∙ h.ungranted u' k e)
+    ];
+  } where
+    last : unless r.closed r.end ≡ Some c
+    last = last_of r c end (opens c r is_open).1
+
+  pub kept_ask_back : (c m n : ℕ) → r.end ≡ Some c → receivers.is_open c r ≡ true → Inv (made r s (d ++ Gvb c m n ∷ []) u b)
+  kept_ask_back c m n end is_open = record {
+    known = h.known;
+    own = h.own;
+    passed = h.passed;
+    heard = h.heard;
+    half = h.half;
+    down = down_said r.over r.asked (Gvb c m n) (unless r.closed r.end) (unless r.closed r.end) tt (λ view e. (e ∙ last, e)) (unless s.shut s.end) d h.down;
+    still = λ k e f. no_rts_said (Gvb c m n) d tt (h.still k e f);
+    up = h.up;
+    told = h.told;
+    sized = h.sized;
+    waiting = h.waiting;
+    whole = h.whole;
+    fronts = h.fronts;
+    unsent = h.unsent;
+    account = λ u' k. (let a : Account u' k r s d u = h.account u' k in let g : granted_in u' k (d ++ Gvb c m n ∷ []) ≡ granted_in u' k d + 0 = granted_more u' k d (Gvb c m n) in omega (arith, a, g));
+    left = h.left;
+    unopened = h.unopened;
+    ungranted = h.ungranted;
+  } where
+    last : unless r.closed r.end ≡ Some c
+    last = last_of r c end (opens c r is_open).1
+
+  pub kept_close : (c : ℕ) → r.end ≡ Some c → r.closed ≡ false → Inv (made (record r { closed = true }) s (d ++ Cls c ∷ []) u b)
+  kept_close c end closed = record {
+    known = h.known;
+    own = h.own;
+    passed = h.passed;
+    heard = h.heard;
+    half = h.half;
+    down = down_said r.over r.asked (Cls c) (unless r.closed r.end) None tt (λ view e. (e ∙ last_of r c end closed, refl)) (unless s.shut s.end) d h.down;
+    still = λ k e f. no_rts_said (Cls c) d tt (h.still k e f);
+    up = h.up;
+    told = h.told;
+    sized = h.sized;
+    waiting = h.waiting;
+    whole = λ k e f g. absurd (cc);
+    fronts = h.fronts;
+    unsent = h.unsent;
+    account = λ u' k. (let a : Account u' k r s d u = h.account u' k in let g : granted_in u' k (d ++ Cls c ∷ []) ≡ granted_in u' k d + 0 = granted_more u' k d (Cls c) in omega (arith, a, g));
+    left = h.left;
+    unopened = h.unopened;
+    ungranted = h.ungranted;
+  }
+
+  pub kept_free : (c : ℕ) → r.end ≡ Some c → r.closed ≡ true → r.over c ≡ true → Inv (made (record r { end = None }) s d u b)
+  kept_free c end closed over = record {
+    known = λ k e. elim (h.known k e) [
+      | inl f ↦ inr (ap r.over (both_are r.end c k end f) ∙ over)
+      | inr o ↦ inr o
+    ];
+    own = λ k e. absurd (cc);
+    passed = h.passed;
+    heard = h.heard;
+    half = h.half;
+    down = subst (λ (o : Option ℕ). DownFits r.over r.asked (unless s.shut s.end) d o) (ap (λ (v : Bool). unless v r.end) closed ∙ sym (ap (λ (v : Bool). unless v None) closed)) h.down;
+    still = h.still;
+    up = h.up;
+    told = h.told;
+    sized = λ k e f. absurd (cc);
+    waiting = h.waiting;
+    whole = λ k e f g. absurd (cc);
+    fronts = h.fronts;
+    unsent = h.unsent;
+    account = h.account;
+    left = λ u' k e. absurd (cc);
+    unopened = λ u' k e f. absurd (cc);
+    ungranted = h.ungranted;
+  }
+
+-- it hears what the sender said
+module _ (r : Receiver) (s : Sender) (d rest : List Word) (b : Box) where
+  pub kept_str : (c z : ℕ) → Inv (made r s d (Str c z ∷ rest) b) → Inv (made (record r { size = for c (Some z) r.size }) s d rest b)
+  kept_str c z h = record {
+    known = h.known;
+    own = h.own;
+    passed = h.passed;
+    heard = h.heard;
+    half = h.half;
+    down = h.down;
+    still = h.still;
+    up = h.up.1;
+    told = λ k y e. elim (at c (Some z) r.size k) [
+      | inl t ↦ (ap s.size t.0 ∙ h.up.0 ∙ sym t.1 ∙ e)
+      | inr t ↦ h.told k y (sym t.1 ∙ e)
+    ];
+    sized = λ k e f. elim (at c (Some z) r.size k) [
+      | inl t ↦ ap is_some t.1
+      | inr t ↦ (ap is_some t.1 ∙ h.sized k e f)
+    ];
+    waiting = h.waiting;
+    whole = h.whole;
+    fronts = h.fronts;
+    unsent = h.unsent;
+    account = h.account;
+    left = h.left;
+    unopened = h.unopened;
+    ungranted = h.ungranted;
+  }
+
+  pub kept_cls : (c : ℕ) → Inv (made r s d (Cls c ∷ rest) b) → Inv (made (record r { over = for c true r.over }) s d rest b)
+  kept_cls c h = record {
+    known = λ k e. elim (h.known k e) [ inl f ↦ inl f | inr o ↦ inr (for_more c r.over k o) ];
+    own = h.own;
+    passed = closed_more c r.over s.closed h.up.0 h.passed;
+    heard = h.heard;
+    half = h.half;
+    down = down_more r.over (for c true r.over) r.asked (for_more c r.over) (unless s.shut s.end) d (unless r.closed r.end) h.down;
+    still = h.still;
+    up = h.up.1;
+    told = h.told;
+    sized = h.sized;
+    waiting = h.waiting;
+    whole = λ k e f g. h.whole k e f (for_less c r.over k g);
+    fronts = h.fronts;
+    unsent = h.unsent;
+    account = h.account;
+    left = h.left;
+    unopened = h.unopened;
+    ungranted = h.ungranted;
+  }
+
+  taken_back : (c m n : ℕ) → r.end ≡ Some c → Inv (made r s d (Ret c m n ∷ rest) b) → (v : Bool) → (receivers.is_open c r && holds r.allocation m n) ≡ v
+      → Inv (made (if v then record r { allocation = record { messages = r.allocation.messages - m; bits = r.allocation.bits - n }; returned = for c (counters.added (r.returned c) m n) r.returned } else r) s d rest b)
+  taken_back c m n end h true e = record {
+    known = h.known;
+    own = h.own;
+    passed = h.passed;
+    heard = h.heard;
+    half = h.half;
+    down = h.down;
+    still = h.still;
+    up = h.up.2;
+    told = h.told;
+    sized = h.sized;
+    waiting = h.waiting;
+    whole = h.whole;
+    fronts = h.fronts;
+    unsent = h.unsent;
+    account = λ u' k. (
+        let a : Account u' k r s d (Ret c m n ∷ rest) = h.account u' k in
+        let f : number u' (for c (counters.added (r.returned c) m n) r.returned k) ≡ number u' (r.returned k) + mine k c (amount u' m n) = number_for u' k c m n r.returned in
+        omega (arith, a, f));
+    left = λ u' k i. (
+        let l : number u' (r.granted k) ≤ number u' r.allocation + total u' (r.taken k) + number u' (r.returned k) = h.left u' k i in
+        let f : number u' (for c (counters.added (r.returned c) m n) r.returned k) ≡ number u' (r.returned k) + mine k c (amount u' m n) = number_for u' k c m n r.returned in
+        let same : mine k c (amount u' m n) ≡ amount u' m n = mine_same k c (amount u' m n) (both_are r.end c k end i) in
+        let less : number u' (record { messages = r.allocation.messages - m; bits = r.allocation.bits - n }) + amount u' m n ≡ number u' r.allocation
+        = number_less u' r.allocation m n (parts (receivers.is_open c r) (holds r.allocation m n) e).1 in
+        omega (arith, l, f, same, less));
+    unopened = h.unopened;
+    ungranted = h.ungranted;
+  }
+  taken_back c m n end h false e = record {
+    known = h.known;
+    own = h.own;
+    passed = h.passed;
+    heard = h.heard;
+    half = h.half;
+    down = h.down;
+    still = h.still;
+    up = h.up.2;
+    told = h.told;
+    sized = h.sized;
+    waiting = h.waiting;
+    whole = h.whole;
+    fronts = h.fronts;
+    unsent = h.unsent;
+    account = λ u' k. (let a : Account u' k r s d (Ret c m n ∷ rest) = h.account u' k in omega (arith, a));
+    left = h.left;
+    unopened = h.unopened;
+    ungranted = h.ungranted;
+  }
+
+  pub returned_to : (c m n : ℕ) → Inv (made r s d (Ret c m n ∷ rest) b) → r.end ≡ Some c
+  returned_to c m n h = elim (h.known c h.up.1) [
+    | inl e ↦ e
+    | inr o ↦ absurd (unlike (r.over c) o h.up.0)
+  ]
+
+  pub kept_ret : (c m n : ℕ) → Inv (made r s d (Ret c m n ∷ rest) b) → Inv (made (receivers.takes_back m n r.end r) s d rest b)
+  kept_ret c m n h =
+      subst (λ (o : Option ℕ). Inv (made (receivers.takes_back m n o r) s d rest b)) (sym (returned_to c m n h)) (taken_back c m n (returned_to c m n h) h (receivers.is_open c r && holds r.allocation m n) refl)
+
+-- it takes data
+module _ (r : Receiver) (s : Sender) (d u : List Word) (c z : ℕ) (bits : List Bool) (h : Inv (made r s d u (Waiting c z bits))) where
+  end_is : r.end ≡ Some c
+  end_is = waits_of (made r s d u (Waiting c z bits)) h c z bits refl
+
+  taken_if : (v : Bool) → (receivers.is_open c r && is_size z (r.size c) && covers r.allocation (length bits)) ≡ v
+      → Inv (made (if v then record r { allocation = counters.spent r.allocation (length bits); taken = for c (r.taken c ++ bits ∷ []) r.taken } else r) s d u Taken)
+  taken_if true e = record {
+    known = h.known;
+    own = h.own;
+    passed = h.passed;
+    heard = h.heard;
+    half = h.half;
+    down = h.down;
+    still = h.still;
+    up = h.up;
+    told = h.told;
+    sized = h.sized;
+    waiting = tt;
+    whole = λ k i f g. (same k (both_are r.end c k end_is i) ∙ sym (append-nil (for c (r.taken c ++ bits ∷ []) r.taken k)));
+    fronts = λ k. elim (at c (r.taken c ++ bits ∷ []) r.taken k) [
+      | inl t ↦ ([], append-nil (for c (r.taken c ++ bits ∷ []) r.taken k) ∙ sym (same k t.0))
+      | inr t ↦ subst (λ (l : List (List Bool)). IsFront l (s.sent k)) (sym t.1) (h.fronts k)
+    ];
+    unsent = h.unsent;
+    account = h.account;
+    left = λ u' k i. (
+        let l : number u' (r.granted k) ≤ number u' r.allocation + total u' (r.taken k) + number u' (r.returned k) = h.left u' k i in
+        let f : total u' (for c (r.taken c ++ bits ∷ []) r.taken k) ≡ total u' (r.taken k) + mine k c (cost u' bits) = total_for u' k c bits r.taken in
+        let own : mine k c (cost u' bits) ≡ cost u' bits = mine_same k c (cost u' bits) (both_are r.end c k end_is i) in
+        let less : number u' (counters.spent r.allocation (length bits)) + cost u' bits ≡ number u' r.allocation = number_spent u' r.allocation bits covered in
+        omega (arith, l, f, own, less));
+    unopened = h.unopened;
+    ungranted = h.ungranted;
+  } where
+    fits : ((receivers.is_open c r && is_size z (r.size c)) ≡ true) × (covers r.allocation (length bits) ≡ true)
+    fits = parts (receivers.is_open c r && is_size z (r.size c)) (covers r.allocation (length bits)) e
+
+    covered : covers r.allocation (length bits) ≡ true
+    covered = fits.1
+
+    opened : (r.opened ≡ true) × (r.closed ≡ false) × (r.over c ≡ false)
+    opened = opens c r (parts (receivers.is_open c r) (is_size z (r.size c)) fits.0).0
+
+    same : (k : ℕ) → k ≡ c → s.sent k ≡ for c (r.taken c ++ bits ∷ []) r.taken k
+    same k e = subst (λ (j : ℕ). s.sent j ≡ for c (r.taken c ++ bits ∷ []) r.taken j) (sym e) (h.whole c end_is opened.1 opened.2 ∙ sym (for_here c (r.taken c ++ bits ∷ []) r.taken))
+  taken_if false e = record {
+    known = h.known;
+    own = h.own;
+    passed = h.passed;
+    heard = h.heard;
+    half = h.half;
+    down = h.down;
+    still = h.still;
+    up = h.up;
+    told = h.told;
+    sized = h.sized;
+    waiting = tt;
+    whole = λ k i f g. absurd (unlike (receivers.is_open c r && is_size z (r.size c) && covers r.allocation (length bits))
+        (acceptable (made r s d u (Waiting c z bits)) h c z bits refl f (ap r.over (sym (both_are r.end c k end_is i)) ∙ g)) e);
+    fronts = h.fronts;
+    unsent = h.unsent;
+    account = h.account;
+    left = h.left;
+    unopened = h.unopened;
+    ungranted = h.ungranted;
+  }
+
+  pub kept_take : Inv (made (receivers.takes z bits r.end r) s d u Taken)
+  kept_take =
+      subst (λ (o : Option ℕ). Inv (made (receivers.takes z bits o r) s d u Taken)) (sym end_is) (taken_if (receivers.is_open c r && is_size z (r.size c) && covers r.allocation (length bits)) refl)

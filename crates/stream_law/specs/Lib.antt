@@ -1,0 +1,6 @@
+pub mod Words
+pub mod Receivers
+pub mod Senders
+pub mod Streams
+pub mod Within
+pub mod Example

@@ -1,0 +1,38 @@
+-- What is promised of streams.
+use Rattle.std.specs.Prelude.{◌≡◌, ℕ, ◌+◌, ◌≤◌, Bool, true, List, [], ◌∷◌, ◌++◌, length, Some}
+use Rattle.ncp_control.specs.declared.allocation.Allocation.{Allocation}
+use Rattle.stream_law.specs.Words.{Word, Ret}
+use Rattle.stream_law.specs.Streams.{Stream, Waiting}
+
+-- these messages are the first of those
+abbrev pub IsFront : List (List Bool) → List (List Bool) → Type 0
+IsFront xs ys = (rest : List (List Bool)) × (xs ++ rest ≡ ys)
+
+-- the bits of messages
+abbrev pub bits_in : List (List Bool) → ℕ
+bits_in [] = 0
+bits_in (m ∷ messages) = length m + bits_in messages
+
+-- these messages, with what was returned, are no more than what was granted
+pub record AreGranted (messages : List (List Bool)) (returned granted : Allocation) : Type 0 where
+  pub in_messages : length messages + returned.messages ≤ granted.messages
+  pub in_bits : bits_in messages + returned.bits ≤ granted.bits
+
+-- of each connection: what was taken is a front of what was sent; and both are granted
+pub record IsSafe (x : Stream) (c : ℕ) : Type 0 where
+  pub front : IsFront (x.receiver.taken c) (x.sender.sent c)
+  pub taken : AreGranted (x.receiver.taken c) (x.receiver.returned c) (x.receiver.granted c)
+  pub sent : AreGranted (x.sender.sent c) (x.receiver.returned c) (x.receiver.granted c)
+
+-- ---- nothing is left over
+
+abbrev pub NoneReturned : List Word → Type 0
+NoneReturned [] = Unit {0}
+NoneReturned (Ret c messages bits ∷ words) = ⊥
+NoneReturned (w ∷ words) = NoneReturned words
+
+-- nothing that could be taken for another connection's is under way: no data wait, nothing is being returned, and no end sends on the link any more
+pub record NothingLeft (x : Stream) : Type 0 where
+  pub data_none : (c size : ℕ) (bits : List Bool) → x.box ≡ Waiting c size bits → ⊥
+  pub returned_none : NoneReturned x.to_receiver
+  pub sender_closed : (c : ℕ) → x.sender.end ≡ Some c → x.sender.closed c ≡ true

@@ -1,0 +1,145 @@
+//! What becomes of a stream. The functions here do nothing: each clause is the law.
+
+ghost use Rattle.std.specs.Prelude.{◌≡◌, ℕ, Bool, true, false, List, [], ◌∷◌, ◌++◌, Some, None};
+ghost use Rattle.ncp_control.specs.Allocation as counters;
+ghost use Rattle.stream_law.specs.Words.{Rts, Str, All, Gvb, Ret, Cls};
+ghost use Rattle.stream_law.specs.Receivers as receivers;
+ghost use Rattle.stream_law.specs.Senders as senders;
+ghost use Rattle.stream_law.specs.Streams.{Event, Receives, Sends, Empty, Waiting, Taken, stream, IsRun};
+ghost use Rattle.stream_law.specs.Within.{IsFront, bits_in, AreGranted, IsSafe, NoneReturned, NothingLeft};
+ghost use Rattle.stream_law.specs.Example.{two, three, opened, granted, sent, taken, returned, closed, next, hasty, early};
+
+/// Whatever the two hosts of a link do while they stay together, connection after connection. What is assumed of them stands in
+/// `IsRun`: their own rules, and that what one said is heard in order.
+pub fn streams()
+    // in each connection what was taken is a front of what was sent. What was taken and what was returned are granted, and so are what was
+    // sent and what was returned
+    ensures safe { (events : List Event) (c : ℕ) → IsRun events → IsSafe (stream events) c }
+
+    // where the link is asked for, nothing of a connection before is left over
+    ensures fresh { (events : List Event) (c : ℕ) → IsRun (Receives (receivers.Ask c) ∷ events) → NothingLeft (stream events) }
+
+    // what waits for an end that doesn't close is taken by it: it is open, the byte size is the one that it was told, and it granted as much
+    ensures accepted { (events : List Event) (c size : ℕ) (bits : List Bool) → IsRun (Receives (receivers.Take size bits) ∷ events) → (stream events).receiver.end ≡ Some c → (stream events).receiver.closed ≡ false → (stream events).receiver.over c ≡ false → (stream (Receives (receivers.Take size bits) ∷ events)).receiver.taken c ≡ (stream events).receiver.taken c ++ bits ∷ [] }
+{}
+
+/// Data, ALL, GVB and RET name the link alone. Whoever takes one has on that link the end of the connection in which it was said.
+pub fn owners()
+    ensures data { (events : List Event) (c size size_told : ℕ) (bits told : List Bool) → IsRun (Receives (receivers.Take size_told told) ∷ events) → (stream events).box ≡ Waiting c size bits → (stream events).receiver.end ≡ Some c }
+    ensures returned { (events : List Event) (c messages bits : ℕ) → IsRun (Receives (receivers.Hear (Ret c messages bits)) ∷ events) → (stream events).receiver.end ≡ Some c }
+    ensures granted { (events : List Event) (c messages bits : ℕ) → IsRun (Sends (senders.Hear (All c messages bits)) ∷ events) → (stream events).sender.end ≡ Some c }
+    ensures asked_back { (events : List Event) (c messages bits : ℕ) → IsRun (Sends (senders.Hear (Gvb c messages bits)) ∷ events) → (stream events).sender.end ≡ Some c }
+
+    // a request finds the link free: it is never refused for it
+    ensures asked { (events : List Event) (c : ℕ) → IsRun (Sends (senders.Hear (Rts c)) ∷ events) → (stream events).sender.end ≡ None }
+{}
+
+/// A stream from its request to its end, and the next one on its link.
+pub fn worked_stream()
+    // both ends are of connection 1, and open
+    ensures opened { ((stream opened).receiver.end ≡ Some 1) × ((stream opened).sender.end ≡ Some 1) × (receivers.is_open 1 (stream opened).receiver ≡ true) × (senders.is_open 1 (stream opened).sender ≡ true) }
+
+    // a message of two bits waits; it costs the sender one of two messages and two of ten bits, and the receiver as much when it is taken
+    ensures sent { ((stream sent).box ≡ Waiting 1 1 two) × ((stream sent).sender.allocation ≡ record { messages = 1; bits = 8 }) × ((stream sent).receiver.allocation ≡ record { messages = 2; bits = 10 }) }
+    ensures taken { ((stream taken).receiver.taken 1 ≡ two ∷ []) × ((stream taken).sender.sent 1 ≡ two ∷ []) × ((stream taken).receiver.allocation ≡ record { messages = 1; bits = 8 }) × ((stream taken).box ≡ Taken) }
+
+    // half of one message is none, half of eight bits is four; what was granted meanwhile is under way
+    ensures returned { ((stream returned).receiver.returned 1 ≡ record { messages = 0; bits = 4 }) × ((stream returned).receiver.granted 1 ≡ record { messages = 3; bits = 13 }) × ((stream returned).receiver.allocation ≡ record { messages = 2; bits = 7 }) }
+    ensures left { ((stream returned).sender.allocation ≡ record { messages = 1; bits = 4 }) × ((stream returned).to_sender ≡ All 1 1 3 ∷ []) }
+
+    // the link is free at the receiver, and the sender hasn't heard of it yet
+    ensures closed { ((stream closed).receiver.end ≡ None) × ((stream closed).sender.end ≡ Some 1) × ((stream closed).to_sender ≡ All 1 1 3 ∷ Cls 1 ∷ []) }
+
+    // the late grant is nobody's, and the next end doesn't open, since it was closed before its request was heard
+    ensures next { ((stream next).sender.end ≡ Some 2) × ((stream next).sender.allocation ≡ counters.nothing) × (senders.is_open 2 (stream next).sender ≡ false) }
+{}
+
+/// Lists of events that may be, so the laws don't speak of nothing; and two that may not, which would break them.
+pub fn worked_runs()
+    ensures next { IsRun next }
+
+    // a sender that closes while its message has no answer: the next connection takes it
+    ensures hasty { IsRun hasty → ⊥ }
+    ensures hasty_breaks { IsSafe (stream hasty) 2 → ⊥ }
+
+    // a receiver whose link is free too early: what it grants in one connection is spent in another
+    ensures early { IsRun early → ⊥ }
+    ensures early_breaks { IsSafe (stream early) 1 → ⊥ }
+{}
+
+/// What a host may not do.
+pub fn worked_rules()
+    // it sends at an open end, in bytes of the size that it told, what it was granted, and one message at a time
+    ensures past { IsRun (Sends (senders.Send 1 1 (two ++ three ++ three ++ three)) ∷ granted) → ⊥ }
+    ensures ungranted { IsRun (Sends (senders.Send 1 1 []) ∷ opened) → ⊥ }
+    ensures size { IsRun (Sends (senders.Send 1 8 two) ∷ granted) → ⊥ }
+    ensures outstanding { IsRun (Sends (senders.Send 1 1 two) ∷ taken) → ⊥ }
+    ensures behind { IsRun (Sends (senders.Send 1 1 two) ∷ Sends (senders.Close 1) ∷ granted) → ⊥ }
+
+    // it closes where all that it sent is answered, and once
+    ensures unanswered { IsRun (Sends (senders.Close 1) ∷ taken) → ⊥ }
+    ensures twice { IsRun (Sends (senders.Close 1) ∷ Sends (senders.Close 1) ∷ granted) → ⊥ }
+
+    // a receiver asks on a free link, for each connection once, and its link is free when a CLS has passed both ways
+    ensures used { IsRun (Receives (receivers.Ask 2) ∷ opened) → ⊥ }
+    ensures again { IsRun (Receives (receivers.Ask 1) ∷ closed) → ⊥ }
+    ensures unheard { IsRun (Receives (receivers.Free 1) ∷ Receives (receivers.Close 1) ∷ granted) → ⊥ }
+
+    ensures unclosed { IsRun (Receives (receivers.Free 1) ∷ Receives (receivers.Hear (Cls 1)) ∷ Sends (senders.Close 1) ∷ granted) → ⊥ }
+
+    // it grants at an open end, no more than its counters hold
+    ensures unopened { IsRun (Receives (receivers.Grant 1 1 1) ∷ Receives (receivers.Ask 1) ∷ []) → ⊥ }
+    ensures too_many { IsRun (Receives (receivers.Grant 1 65534 0) ∷ granted) → ⊥ }
+    ensures too_much { IsRun (Receives (receivers.Grant 1 0 4294967286) ∷ granted) → ⊥ }
+
+    // nothing is heard that wasn't said, or out of its order; nothing is taken that doesn't wait
+    ensures unsaid { IsRun (Sends (senders.Hear (All 1 1 1)) ∷ granted) → ⊥ }
+    ensures order { IsRun (Sends (senders.Hear (Cls 1)) ∷ closed) → ⊥ }
+    ensures nothing { IsRun (Receives (receivers.Take 1 two) ∷ granted) → ⊥ }
+{}
+
+/// What is dropped.
+pub fn worked_dropping()
+    // data for an end that closes, in bytes of another size, or past what was granted
+    ensures closing { (stream (Receives (receivers.Take 1 two) ∷ Receives (receivers.Close 1) ∷ sent)).receiver.taken 1 ≡ [] }
+    ensures over { (receivers.takes 1 two (Some 1) (record (stream sent).receiver { over = λ c. true })).taken 1 ≡ [] }
+    ensures size { (receivers.takes 8 two (Some 1) (stream sent).receiver).taken 1 ≡ [] }
+    ensures bits { (receivers.takes 1 two (Some 1) (record (stream sent).receiver { allocation = record { messages = 1; bits = 1 } })).taken 1 ≡ [] }
+    ensures messages { (receivers.takes 1 two (Some 1) (record (stream sent).receiver { allocation = record { messages = 0; bits = 2 } })).taken 1 ≡ [] }
+    ensures just { (receivers.takes 1 two (Some 1) (record (stream sent).receiver { allocation = record { messages = 1; bits = 2 } })).taken 1 ≡ two ∷ [] }
+
+    // more returned than is left, or to an end that closes
+    ensures returned { receivers.takes_back 3 0 (Some 1) (stream sent).receiver ≡ (stream sent).receiver }
+    ensures returned_bits { receivers.takes_back 0 11 (Some 1) (stream sent).receiver ≡ (stream sent).receiver }
+    ensures late { receivers.takes_back 1 1 (Some 1) (record (stream sent).receiver { closed = true }) ≡ record (stream sent).receiver { closed = true } }
+
+    // a grant, and what is asked back, at an end that closes; a request on a link that an end has
+    ensures granted { (senders.hears (All 1 1 1) (record (stream sent).sender { shut = true })).allocation ≡ (stream sent).sender.allocation }
+    ensures asked_back { senders.says (senders.Hear (Gvb 1 64 64)) (record (stream sent).sender { shut = true }) ≡ None }
+    ensures asked { senders.hears (Rts 2) (stream sent).sender ≡ (stream sent).sender }
+
+    // the CLS of a connection that isn't on the link
+    ensures other { senders.hears (Cls 2) (stream sent).sender ≡ (stream sent).sender }
+{}
+
+/// What a promise says.
+pub fn worked_within()
+    // fronts are of whole messages, from the first on
+    ensures front { IsFront (two ∷ []) (two ∷ three ∷ []) }
+    ensures behind { IsFront (three ∷ []) (two ∷ three ∷ []) → ⊥ }
+    ensures longer { IsFront (two ∷ three ∷ []) (two ∷ []) → ⊥ }
+    ensures bits { bits_in (two ∷ three ∷ []) ≡ 5 }
+
+    // what was returned counts with the messages and with the bits
+    ensures granted { AreGranted (two ∷ three ∷ []) (record { messages = 1; bits = 2 }) (record { messages = 3; bits = 7 }) }
+    ensures many { AreGranted (two ∷ three ∷ []) (record { messages = 1; bits = 2 }) (record { messages = 2; bits = 7 }) → ⊥ }
+    ensures much { AreGranted (two ∷ three ∷ []) (record { messages = 1; bits = 2 }) (record { messages = 3; bits = 6 }) → ⊥ }
+
+    // a return behind other words is under way
+    ensures returned { NoneReturned (Str 2 1 ∷ Cls 1 ∷ Ret 1 0 4 ∷ []) → ⊥ }
+
+    // data that wait are left over, and so is an end of the sender that isn't closed
+    ensures waiting { NothingLeft (stream sent) → ⊥ }
+    ensures unclosed { NothingLeft (stream granted) → ⊥ }
+    ensures left { NothingLeft (stream closed) }
+{}

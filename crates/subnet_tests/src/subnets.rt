@@ -1,0 +1,457 @@
+//! Worked examples of a subnet, by its calls.
+//!
+//! Each test is a table of acts, each with what has to come of it. Three IMPs stand in a row: line 0 joins IMPs 1
+//! and 2, and line 1 IMPs 2 and 3. IMP 1 has hosts 0 and 1, and the others have host 0.
+
+use bit_messages::Bits;
+use leader1822::{
+    Answer, Carrier, CarrierFault, Direction, Flow, HostAddr, HostMessage, ImpNumber, Inbound,
+    Link, NetEvent, Text,
+};
+use std::alloc::{AllocError, Global};
+use subnet::{Ends, Subnet};
+
+/// The hosts of the rows.
+#[derive(Clone, Copy)]
+enum Who {
+    /// Host 0/1, from which all flows of the rows go.
+    Here,
+    /// Host 1/1.
+    Beside,
+    /// Host 0/2.
+    Near,
+    /// Host 0/3.
+    Far,
+    /// Host 3/1, which isn't there.
+    Nobody,
+}
+
+/// A host's address.
+fn host_of(who: Who) -> HostAddr {
+    match who {
+        Who::Here => HostAddr::new(0, 1).unwrap(),
+        Who::Beside => HostAddr::new(1, 1).unwrap(),
+        Who::Near => HostAddr::new(0, 2).unwrap(),
+        Who::Far => HostAddr::new(0, 3).unwrap(),
+        Who::Nobody => HostAddr::new(3, 1).unwrap(),
+    }
+}
+
+/// The flow from 0/1 to a host on this link.
+fn flow_to(who: Who, link: u8) -> Flow {
+    Flow {
+        source: host_of(Who::Here),
+        destination: host_of(who),
+        link: Link(link),
+    }
+}
+
+/// Something done to a subnet, or asked of it. Flows are told by their destination, and are on link 5 where no
+/// link is told.
+#[derive(Clone, Copy)]
+enum Act {
+    /// A message on this link is offered, with so many bits of octets that are all this one.
+    Offer(Who, u8, usize, u8),
+    /// This host takes what waits for it.
+    Take(Who),
+    /// This happens.
+    Step(Event),
+    /// So many quiet rounds.
+    Rounds(u8),
+    /// Whether something of the flow's message with this number is alive.
+    Ask(Who, u8),
+}
+
+/// Something that happens in a subnet.
+#[derive(Clone, Copy)]
+enum Event {
+    /// The oldest frame of line 0 this way arrives.
+    Deliver(Direction),
+    /// The frame at this place of line 0 from IMP 1 on is lost.
+    Drop(u32),
+    /// IMP 1 sends again.
+    Resend,
+    /// IMP 2 tells its distances.
+    Route,
+    /// The end of line 0 at IMP 1 stops.
+    EndDown,
+    /// It starts.
+    EndUp,
+    /// IMP 3 stops.
+    ImpDown,
+    /// It starts.
+    ImpUp,
+    /// This host stops.
+    HostDown(Who),
+    /// This host starts.
+    HostUp(Who),
+    /// The outstanding message to this host is given up.
+    GiveUp(Who),
+    /// The slot of the flow to this host is thrown away.
+    Abandon(Who),
+    /// IMP 2 drops the last numbers of flows from IMP 1.
+    Forget,
+}
+
+/// An event as a carrier is told of it.
+fn event_of(event: Event) -> NetEvent {
+    let one = ImpNumber::new(1).unwrap();
+    let two = ImpNumber::new(2).unwrap();
+    let three = ImpNumber::new(3).unwrap();
+    match event {
+        Event::Deliver(direction) => NetEvent::Deliver {
+            line: 0,
+            direction,
+            frame: 0,
+        },
+        Event::Drop(frame) => NetEvent::Drop {
+            line: 0,
+            direction: Direction::Forward,
+            frame,
+        },
+        Event::Resend => NetEvent::Resend(one),
+        Event::Route => NetEvent::Route(two),
+        Event::EndDown => NetEvent::EndDown { imp: one, line: 0 },
+        Event::EndUp => NetEvent::EndUp { imp: one, line: 0 },
+        Event::ImpDown => NetEvent::ImpDown(three),
+        Event::ImpUp => NetEvent::ImpUp(three),
+        Event::HostDown(who) => NetEvent::HostDown(host_of(who)),
+        Event::HostUp(who) => NetEvent::HostUp(host_of(who)),
+        Event::GiveUp(who) => NetEvent::GiveUp(flow_to(who, 5)),
+        Event::Abandon(who) => NetEvent::Abandon(flow_to(who, 5)),
+        Event::Forget => NetEvent::Forget { at: two, from: one },
+    }
+}
+
+/// What has to come of an act.
+#[derive(Clone, Copy)]
+enum Want {
+    /// It is done.
+    Done,
+    /// It is refused.
+    Refused(CarrierFault),
+    /// Nothing waits for the host.
+    Nothing,
+    /// The host gets this answer.
+    Answered(Answer, Who),
+    /// The host gets a message on this link of so many bits, the first eight of which are this octet.
+    Given(Who, u8, usize, u8),
+    /// Something is alive, or nothing is.
+    Alive(bool),
+}
+
+/// What came of an act.
+#[derive(Clone, Copy, PartialEq)]
+enum Outcome {
+    /// It is done.
+    Done,
+    /// It is refused.
+    Refused(CarrierFault),
+    /// Nothing waits for the host.
+    Nothing,
+    /// The host gets this answer.
+    Answered(Answer, Flow),
+    /// The host gets a message of so many bits, and this is its first octet, or 0 without one.
+    Given(Flow, usize, u8),
+    /// Something is alive, or nothing is.
+    Alive(bool),
+}
+
+/// The outcome that is wanted.
+fn outcome_of(want: Want) -> Outcome {
+    match want {
+        Want::Done => Outcome::Done,
+        Want::Refused(fault) => Outcome::Refused(fault),
+        Want::Nothing => Outcome::Nothing,
+        Want::Answered(kind, who) => Outcome::Answered(kind, flow_to(who, 5)),
+        Want::Given(who, link, bits, octet) => Outcome::Given(flow_to(who, link), bits, octet),
+        Want::Alive(alive) => Outcome::Alive(alive),
+    }
+}
+
+/// What comes of a call that gives nothing.
+fn done(reply: Result<(), CarrierFault>) -> Outcome {
+    match reply {
+        Ok(()) => Outcome::Done,
+        Err(fault) => Outcome::Refused(fault),
+    }
+}
+
+/// What comes of an offer: so many bits of octets that are all this one.
+fn offer(alloc: Global, subnet: &mut Subnet, flow: Flow, bits: usize, octet: u8) -> Outcome {
+    let Ok(bits) = Bits::from_octets(alloc, &[octet; 127], bits) else {
+        return Outcome::Refused(CarrierFault::OutOfMemory);
+    };
+    let Some(text) = Text::new(bits) else {
+        return Outcome::Refused(CarrierFault::OutOfMemory);
+    };
+    done(subnet.offer_out(HostMessage { flow, text }))
+}
+
+/// What comes of a host's taking.
+fn taken(reply: Result<Option<Inbound>, CarrierFault>) -> Outcome {
+    match reply {
+        Ok(None) => Outcome::Nothing,
+        Ok(Some(Inbound::Answer(kind, flow))) => Outcome::Answered(kind, flow),
+        Ok(Some(Inbound::Message(message))) => {
+            let text = message.text.bits();
+            let octet = match text.as_octets() {
+                [first, ..] => *first,
+                [] => 0,
+            };
+            Outcome::Given(message.flow, text.len(), octet)
+        }
+        Err(fault) => Outcome::Refused(fault),
+    }
+}
+
+/// What comes of so many quiet rounds.
+fn rounds(subnet: &mut Subnet, count: u8) -> Result<(), CarrierFault> {
+    for _ in 0..count {
+        subnet.quiet_round()?;
+    }
+    Ok(())
+}
+
+/// What comes of an act.
+fn acted(alloc: Global, subnet: &mut Subnet, act: Act) -> Outcome {
+    match act {
+        Act::Offer(who, link, bits, octet) => {
+            offer(alloc, subnet, flow_to(who, link), bits, octet)
+        }
+        Act::Take(who) => taken(subnet.take_in(host_of(who))),
+        Act::Step(event) => done(subnet.step(event_of(event))),
+        Act::Rounds(count) => done(rounds(subnet, count)),
+        Act::Ask(who, number) => Outcome::Alive(subnet.alive(&flow_to(who, 5), number)),
+    }
+}
+
+/// An act, and what has to come of it.
+type Row = (Act, Want);
+
+/// How many rows go as they have to, from the first on.
+fn fitting(alloc: Global, subnet: &mut Subnet, rows: &[Row]) -> usize {
+    for (place, row) in rows.iter().enumerate() {
+        if acted(alloc, subnet, row.0) != outcome_of(row.1) {
+            return place;
+        }
+    }
+    rows.len()
+}
+
+/// The three IMPs in a row, at their opening.
+fn row(alloc: Global) -> Result<Subnet, AllocError> {
+    let hosts = vec![in alloc;
+        HostAddr::new(0, 1).unwrap(),
+        HostAddr::new(1, 1).unwrap(),
+        HostAddr::new(0, 2).unwrap(),
+        HostAddr::new(0, 3).unwrap(),
+    ]?;
+    let sites = vec![in alloc; None, Some(2), Some(1), Some(1)]?;
+    Subnet::new(
+        alloc,
+        hosts,
+        sites,
+        &[Ends { a: 1, b: 2 }, Ends { a: 2, b: 3 }],
+    )
+}
+
+/// Whether the log, a line for each crossing, is this text.
+fn is_log(alloc: Global, subnet: &Subnet, log: &str) -> Result<bool, AllocError> {
+    let mut text = String::new(alloc);
+    for crossing in subnet.log() {
+        let line = format!(in alloc; "{crossing}\n")?;
+        text.push_str(&line)?;
+    }
+    Ok(text.as_str() == log)
+}
+
+/// How many rows go as they have to from the opening on, and whether this is the log then.
+fn played(alloc: Global, rows: &[Row], log: &str) -> Result<(usize, bool), AllocError> {
+    let mut subnet = row(alloc)?;
+    let count = fitting(alloc, &mut subnet, rows);
+    Ok((count, is_log(alloc, &subnet, log)?))
+}
+
+/// A message to a host two lines away, and its RFNM.
+const THERE_AND_BACK: [Row; 12] = [
+    (Act::Rounds(2), Want::Done),
+    (Act::Ask(Who::Far, 0), Want::Alive(false)),
+    (Act::Offer(Who::Far, 5, 8, 0xA5), Want::Done),
+    (Act::Ask(Who::Far, 0), Want::Alive(true)),
+    (Act::Ask(Who::Far, 1), Want::Alive(false)),
+    (Act::Take(Who::Far), Want::Nothing),
+    // line 0 has its turns before line 1: the packet arrives, and the RFNM needs a second round
+    (Act::Rounds(1), Want::Done),
+    (Act::Take(Who::Far), Want::Given(Who::Far, 5, 8, 0xA5)),
+    (Act::Rounds(1), Want::Done),
+    (Act::Take(Who::Here), Want::Nothing),
+    (Act::Rounds(1), Want::Done),
+    (Act::Take(Who::Here), Want::Answered(Answer::Rfnm, Who::Far)),
+];
+
+#[test]
+fn a_message_goes_over_two_lines_and_its_answer_back(rt: HostRuntime) {
+    let log = "out 0/1 0/3 5 8\nin 0/1 0/3 5 8\nanswer rfnm 0/1 0/3 5\n";
+    assert_eq!(rt; played(rt.alloc(), &THERE_AND_BACK, log), Ok((12, true)));
+}
+
+/// Whether the hosts of the subnet are those of its IMPs, in order.
+fn has_hosts(alloc: Global) -> Result<bool, AllocError> {
+    let hosts = [
+        host_of(Who::Here),
+        host_of(Who::Beside),
+        host_of(Who::Near),
+        host_of(Who::Far),
+    ];
+    let subnet = row(alloc)?;
+    Ok(subnet.hosts() == hosts.as_slice())
+}
+
+#[test]
+fn a_subnet_has_the_hosts_of_its_imps(rt: HostRuntime) {
+    assert_eq!(rt; has_hosts(rt.alloc()), Ok(true));
+}
+
+/// A message to a host one line away, and what is refused before and meanwhile.
+const REFUSED: [Row; 15] = [
+    (Act::Rounds(1), Want::Done),
+    (Act::Take(Who::Nobody), Want::Refused(CarrierFault::NoSuch)),
+    (
+        Act::Step(Event::GiveUp(Who::Near)),
+        Want::Refused(CarrierFault::NotOutstanding),
+    ),
+    (Act::Offer(Who::Near, 5, 0, 0), Want::Done),
+    (
+        Act::Offer(Who::Near, 5, 0, 0),
+        Want::Refused(CarrierFault::Blocked),
+    ),
+    // the packet is on the line, and in its channel
+    (
+        Act::Step(Event::GiveUp(Who::Near)),
+        Want::Refused(CarrierFault::StillAlive),
+    ),
+    (
+        Act::Step(Event::HostUp(Who::Here)),
+        Want::Refused(CarrierFault::IsUp),
+    ),
+    (Act::Step(Event::HostDown(Who::Here)), Want::Done),
+    (
+        Act::Step(Event::HostDown(Who::Here)),
+        Want::Refused(CarrierFault::IsDown),
+    ),
+    (
+        Act::Step(Event::HostUp(Who::Here)),
+        Want::Refused(CarrierFault::Unsettled),
+    ),
+    // its message arrives, and the RFNM settles it
+    (Act::Rounds(1), Want::Done),
+    (Act::Take(Who::Near), Want::Given(Who::Near, 5, 0, 0)),
+    (Act::Rounds(1), Want::Done),
+    (Act::Step(Event::HostUp(Who::Here)), Want::Done),
+    (Act::Take(Who::Here), Want::Nothing),
+];
+
+#[test]
+fn each_refusal_has_its_cause(rt: HostRuntime) {
+    let log = "out 0/1 0/2 5 0\ndown 0/1\nin 0/1 0/2 5 0\nup 0/1\n";
+    assert_eq!(rt; played(rt.alloc(), &REFUSED, log), Ok((15, true)));
+}
+
+/// Messages to a host at the same IMP, on links 0 to 15.
+const SIXTEEN: [Row; 16] = [
+    (Act::Offer(Who::Beside, 0, 0, 0), Want::Done),
+    (Act::Offer(Who::Beside, 1, 0, 0), Want::Done),
+    (Act::Offer(Who::Beside, 2, 0, 0), Want::Done),
+    (Act::Offer(Who::Beside, 3, 0, 0), Want::Done),
+    (Act::Offer(Who::Beside, 4, 0, 0), Want::Done),
+    (Act::Offer(Who::Beside, 5, 0, 0), Want::Done),
+    (Act::Offer(Who::Beside, 6, 0, 0), Want::Done),
+    (Act::Offer(Who::Beside, 7, 0, 0), Want::Done),
+    (Act::Offer(Who::Beside, 8, 0, 0), Want::Done),
+    (Act::Offer(Who::Beside, 9, 0, 0), Want::Done),
+    (Act::Offer(Who::Beside, 10, 0, 0), Want::Done),
+    (Act::Offer(Who::Beside, 11, 0, 0), Want::Done),
+    (Act::Offer(Who::Beside, 12, 0, 0), Want::Done),
+    (Act::Offer(Who::Beside, 13, 0, 0), Want::Done),
+    (Act::Offer(Who::Beside, 14, 0, 0), Want::Done),
+    (Act::Offer(Who::Beside, 15, 0, 0), Want::Done),
+];
+
+/// A further one, before and after one is taken.
+const SEVENTEENTH: [Row; 3] = [
+    (
+        Act::Offer(Who::Beside, 16, 0, 0),
+        Want::Refused(CarrierFault::NoRoom),
+    ),
+    (Act::Take(Who::Beside), Want::Given(Who::Beside, 0, 0, 0)),
+    (Act::Offer(Who::Beside, 16, 0, 0), Want::Done),
+];
+
+/// How many of sixteen messages are accepted, and how many rows go as they have to behind them.
+fn filled(alloc: Global) -> Result<[usize; 2], AllocError> {
+    let mut subnet = row(alloc)?;
+    let accepted = fitting(alloc, &mut subnet, &SIXTEEN);
+    Ok([accepted, fitting(alloc, &mut subnet, &SEVENTEENTH)])
+}
+
+#[test]
+fn sixteen_messages_wait_for_a_host_and_no_more(rt: HostRuntime) {
+    assert_eq!(rt; filled(rt.alloc()), Ok([16, 3]));
+}
+
+/// Single events: a message of which a piece is thrown away, a line that is cut, an IMP that stops.
+const BY_EVENTS: [Row; 25] = [
+    // IMP 2 tells IMP 1 its distances
+    (Act::Step(Event::Route), Want::Done),
+    (Act::Step(Event::Deliver(Direction::Back)), Want::Done),
+    // a message of two packets, of which one arrives and is thrown away
+    (Act::Offer(Who::Near, 5, 1016, 0x11), Want::Done),
+    (Act::Step(Event::Deliver(Direction::Forward)), Want::Done),
+    (Act::Step(Event::Abandon(Who::Near)), Want::Done),
+    (
+        Act::Step(Event::Abandon(Who::Near)),
+        Want::Refused(CarrierFault::NoSuch),
+    ),
+    (Act::Step(Event::Drop(0)), Want::Done),
+    (
+        Act::Step(Event::Drop(9)),
+        Want::Refused(CarrierFault::NoSuch),
+    ),
+    // the second piece is sent again and arrives, and the message is never whole
+    (Act::Step(Event::Resend), Want::Done),
+    (Act::Rounds(1), Want::Done),
+    (Act::Take(Who::Near), Want::Nothing),
+    (
+        Act::Step(Event::Forget),
+        Want::Refused(CarrierFault::StillAlive),
+    ),
+    (Act::Step(Event::Abandon(Who::Near)), Want::Done),
+    (Act::Step(Event::GiveUp(Who::Near)), Want::Done),
+    (
+        Act::Take(Who::Here),
+        Want::Answered(Answer::Incomplete, Who::Near),
+    ),
+    (Act::Step(Event::Forget), Want::Done),
+    (Act::Step(Event::EndDown), Want::Done),
+    (
+        Act::Step(Event::EndDown),
+        Want::Refused(CarrierFault::IsDown),
+    ),
+    (Act::Step(Event::EndUp), Want::Done),
+    (Act::Step(Event::EndUp), Want::Refused(CarrierFault::IsUp)),
+    (Act::Step(Event::ImpDown), Want::Done),
+    (
+        Act::Step(Event::ImpDown),
+        Want::Refused(CarrierFault::IsDown),
+    ),
+    (Act::Take(Who::Far), Want::Refused(CarrierFault::IsDown)),
+    (Act::Step(Event::ImpUp), Want::Done),
+    (Act::Step(Event::HostUp(Who::Far)), Want::Done),
+];
+
+#[test]
+fn lines_imps_and_slots_by_single_events(rt: HostRuntime) {
+    let log = "out 0/1 0/2 5 1016\nanswer incomplete 0/1 0/2 5\ndown 0/3\nup 0/3\n";
+    assert_eq!(rt; played(rt.alloc(), &BY_EVENTS, log), Ok((25, true)));
+}

@@ -1,0 +1,57 @@
+-- What is asked of the moments of a world: what users ask for, where messages went out, and that links are free.
+use Rattle.std.specs.Prelude.{◌≡◌, ℕ, ◌==◌, true, List, [], ◌∷◌, Option, Some, None}
+use Rattle.leader1822.specs.Host.{Host}
+use Rattle.leader1822.specs.declared.crossing.Crossing.{Crossing}
+use Rattle.leader1822.specs.declared.crossing.Crossing.TheVariants as crossing
+use Rattle.host_pairs.specs.Control.{orders_of}
+use Rattle.host_pairs.specs.Phases.{is_ready}
+use Rattle.sockets.specs.Accepting.{turn_of}
+use Rattle.sockets.specs.Pairs.{pair_with}
+use Rattle.sockets.specs.Requests.{refusal}
+use Rattle.host_ranges.specs.Ranges.{IsAsked}
+use Rattle.host_pairing.specs.Hearing.{AreFree}
+use Rattle.pairing_law.specs.Places.{placed, placed_event}
+use Rattle.pairing_law.specs.Links.{Word, Receiver, Sender, Step, Says, NamesFree}
+use Rattle.reset_law.specs.Events.{Event}
+use Rattle.reset_law.specs.Stays as stay
+use Rattle.net_sim.specs.Story.{Moment, Crossed, Asked, event_in, events_of, places, program}
+use Rattle.net_sim.specs.Safe.{before, control_flow, last_out}
+use Rattle.world_pairing.specs.Steps.{all_said, steps, words_of}
+
+-- users ask for what isn't refused, in numbers of their types
+abbrev pub AreServed : List Moment → Type 0
+AreServed [] = Unit {0}
+AreServed (Asked h r ∷ moments) = (refusal (program h moments) r ≡ None) × IsAsked r × AreServed moments
+AreServed (Crossed c ∷ moments) = AreServed moments
+
+-- the place where the message went out that a host took of its peer when there were so many crossings
+abbrev pub place_or : Option ℕ → ℕ
+place_or None = 0
+place_or (Some place) = place
+
+abbrev pub origin_in : List Crossing → Host → Host → ℕ → ℕ
+origin_in log h peer stamp = place_or (last_out (control_flow peer h) (before stamp log))
+
+-- the events of moments, each text with its place
+abbrev pub law_events : List Moment → List Event
+law_events moments = placed (events_of moments)
+
+-- ---- links
+
+-- each request of a receiver names a link that is free, where its turn comes
+abbrev pub NameFree : List Word → List Step → Type 0
+NameFree [] xs = Unit {0}
+NameFree (w ∷ ws) xs = NamesFree w.mark w.link xs × NameFree ws (Says Receiver w ∷ xs)
+
+-- what `a` says to `b` by a moment names free links
+abbrev pub NamesFreeAt : Host → Host → Moment → List Moment → Type 0
+NamesFreeAt a b x moments =
+    NameFree (words_of Receiver (stay.said_by a b 0 (placed_event (event_in x) (events_of moments))))
+    (all_said Sender (words_of Sender (stay.said_by b a 0 (placed_event (event_in x) (events_of moments)))) (steps a b (law_events moments)))
+
+-- each RTS that a host takes names a link that none of its sending ends has
+abbrev pub TakesFreeAt : Moment → List Moment → Type 0
+TakesFreeAt (Crossed (crossing.In m)) moments =
+    is_ready (pair_with m.flow.source (program m.flow.destination moments).peers).phase ≡ true → (m.flow.link.0 == 0) ≡ true
+    → AreFree m.flow.source (places moments) (orders_of m.text) (turn_of (program m.flow.destination moments) m.flow.source)
+TakesFreeAt x moments = Unit {0}

@@ -1,0 +1,85 @@
+//! What two hosts say and hear of their connections one way. The functions here do nothing: each clause is a law.
+
+ghost use Rattle.std.specs.Prelude.{◌≡◌, true, false, List, [], ◌∷◌};
+ghost use Rattle.leader1822.specs.Host.{Host};
+ghost use Rattle.reset_law.specs.Events as reset;
+ghost use Rattle.reset_law.specs.Stays as stay;
+ghost use Rattle.reset_law.specs.Runs as runs;
+ghost use Rattle.leader1822.specs.Mailboxes as mail;
+ghost use Rattle.ncp_control.specs.Numbers.{is_receive_socket, is_send_socket};
+ghost use Rattle.leader1822.specs.declared.crossing.Crossing.TheVariants as crossing;
+ghost use Rattle.leader1822.specs.declared.message.HostMessage.{HostMessage};
+ghost use Rattle.ncp_control.specs.declared.command.Command.TheVariants as command;
+ghost use Rattle.host_pairs.specs.Control.{Legal, Wrong};
+ghost use Rattle.host_pairing.specs.Spoken.{asking, reset_of_two};
+ghost use Rattle.reset_law.specs.Events.{Contact, In, Other, Out, Reset};
+ghost use Rattle.reset_law.specs.Example.{one, two};
+ghost use Rattle.pairing_law.specs.Marks.{Ask, Close};
+ghost use Rattle.pairing_law.specs.Partners.{SafePartners};
+ghost use Rattle.pairing_law.specs.Places.{tagged};
+ghost use Rattle.pairing_law.specs.Sides.{both};
+ghost use Rattle.pairing_law.specs.Example.{first, second};
+ghost use Rattle.net_sim.specs.Safe.{control_flow};
+ghost use Rattle.sockets.specs.Pairs.{pair_with};
+ghost use Rattle.host_pairing.specs.Ends.{HasEnd};
+ghost use Rattle.net_sim.specs.Clean.{HaveAddresses};
+ghost use Rattle.net_sim.specs.Story.{Moment, program};
+ghost use Rattle.net_sim.specs.Timeline.{IsTimeline, crossings_of};
+ghost use Rattle.pairing_law.specs.Links.{AreSteps, Leaves, Receiver, Says, Sender, Sockets, events_at, heard, receiver, said, sender, stays};
+ghost use Rattle.world_pairing.specs.Free.{AreServed, law_events, origin_in};
+ghost use Rattle.world_pairing.specs.Steps.{onto, spoken_by, steps, words_by, words_of};
+
+/// The steps of two hosts, over any list of events of the law of resets.
+pub fn dialogues()
+    // each stays where that law has it
+    ensures stays { (a b : Host) (events : List reset.Event) → (stays Receiver (steps a b events) ≡ stay.stays a b events) × (stays Sender (steps a b events) ≡ stay.stays b a events) }
+
+    // what each said and heard in its last stay is what stands in the texts of that law
+    ensures said { (a b : Host) (events : List reset.Event) → (said Receiver (steps a b events) ≡ onto (words_of Receiver (stay.said a b 0 events)) []) × (said Sender (steps a b events) ≡ onto (words_of Sender (stay.said b a 0 events)) []) }
+    ensures heard { (a b : Host) (events : List reset.Event) → (heard Receiver (steps a b events) ≡ onto (words_of Sender (stay.heard b a 0 events)) []) × (heard Sender (steps a b events) ≡ onto (words_of Receiver (stay.heard a b 0 events)) []) }
+
+    // in a run, whatever they say, if they may say it, each hears only what it may, and they meet as they may
+    ensures may { (hosts : List Host) (e : reset.Event) (events : List reset.Event) (a b : Host) → runs.IsRun hosts (e ∷ events) → AreSteps (spoken_by a b e (steps a b events)) → AreSteps (steps a b (e ∷ events)) }
+{}
+
+/// The programs of two hosts, over any list of moments of a world: all that crosses between them, and what their users ask for.
+pub fn programs()
+    // their steps may be, by the law of pairing: all that each hears is in order, and no RTS names a link that another end has
+    ensures steps { (hosts : List Host) (moments : List Moment) → HaveAddresses hosts → mail.IsRun hosts (crossings_of moments) → IsTimeline hosts moments → AreServed moments → (a b : Host) → AreSteps (steps a b (law_events moments)) }
+
+    // and each program has, for each receiving socket and each sending one, the end that the law says. A partner's request is told by
+    // the place where the peer's last message before it went out
+    ensures receiver { (hosts : List Host) (moments : List Moment) → HaveAddresses hosts → mail.IsRun hosts (crossings_of moments) → IsTimeline hosts moments → AreServed moments → (a b : Host) → (s : Sockets) → is_receive_socket s.receive ≡ true → is_send_socket s.send ≡ true → HasEnd (origin_in (crossings_of moments) a b) s.receive s.send (pair_with b (program a moments).peers) (receiver s (steps a b (law_events moments))).end }
+    ensures sender { (hosts : List Host) (moments : List Moment) → HaveAddresses hosts → mail.IsRun hosts (crossings_of moments) → IsTimeline hosts moments → AreServed moments → (a b : Host) → (s : Sockets) → is_receive_socket s.receive ≡ true → is_send_socket s.send ≡ true → HasEnd (origin_in (crossings_of moments) b a) s.send s.receive (pair_with a (program b moments).peers) (sender s (steps a b (law_events moments))).end }
+
+    // so for each pair of their sockets no two openings of a host have one request, their own or their partner's, and where the partner's
+    // request of one is the other host's own the reverse holds too
+    ensures partners { (hosts : List Host) (moments : List Moment) → HaveAddresses hosts → mail.IsRun hosts (crossings_of moments) → IsTimeline hosts moments → AreServed moments → (a b : Host) → (s : Sockets) → SafePartners (both (events_at s (steps a b (law_events moments)))) }
+{}
+
+/// Words and steps: host `one` asks host `two` for a connection, and closes it, in one message.
+pub fn worked_steps()
+    // the receiver's words are its RTS with its link and the CLS of its receiving sockets; the sender's its STR and the others
+    ensures receiver { words_by Receiver 5 (Legal (command.Rts 16 33 2) ∷ Legal (command.Str 35 18 8) ∷ Legal (command.Cls 16 33) ∷ Legal (command.Cls 35 18) ∷ Wrong 1 [] ∷ []) ≡ record { sockets = first; link = 2; mark = Ask 5 } ∷ record { sockets = first; link = 0; mark = Close } ∷ [] }
+    ensures sender { words_by Sender 5 (Legal (command.Rts 16 33 2) ∷ Legal (command.Str 35 18 8) ∷ Legal (command.Cls 16 33) ∷ Legal (command.Cls 35 18) ∷ Wrong 1 [] ∷ []) ≡ record { sockets = second; link = 0; mark = Ask 5 } ∷ record { sockets = second; link = 0; mark = Close } ∷ [] }
+
+    // what is said of two receiving sockets, or of two sending ones, is no word
+    ensures none { (words_by Receiver 5 (Legal (command.Cls 16 18) ∷ Legal (command.Rts 33 35 2) ∷ []) ≡ []) × (words_by Sender 5 (Legal (command.Cls 33 35) ∷ Legal (command.Str 16 18 8) ∷ []) ≡ []) }
+
+    // the message goes out at place 5, while both stay
+    ensures said { steps one two (Out one two 0 (Other (tagged 5 asking)) ∷ reset_of_two) ≡ Says Receiver (record { sockets = first; link = 0; mark = Close }) ∷ Says Receiver (record { sockets = first; link = 2; mark = Ask 5 }) ∷ steps one two reset_of_two }
+
+    // and is heard at that place, by a host that stays; by one that has left nothing is
+    ensures heard { heard Sender (steps one two (In one two 0 (Other (tagged 5 asking)) ∷ reset_of_two)) ≡ record { sockets = first; link = 0; mark = Close } ∷ record { sockets = first; link = 2; mark = Ask 5 } ∷ [] }
+    ensures unheard { heard Sender (steps one two (In one two 0 (Other (tagged 5 asking)) ∷ [])) ≡ [] }
+
+    // they meet where the RRP is taken, and leave where the first contacts the second anew
+    ensures meets { (stays Receiver (steps one two reset_of_two) ≡ true) × (stays Sender (steps one two reset_of_two) ≡ true) }
+    ensures leaves { (stays Receiver (steps one two (Contact one two ∷ reset_of_two)) ≡ false) × (stays Sender (steps one two (Contact one two ∷ reset_of_two)) ≡ true) }
+
+    // a host that takes an RST leaves though it is ready, since its peer's older requests are dropped
+    ensures reset { steps two one (In one two 0 Reset ∷ Out one two 0 Reset ∷ Contact one two ∷ []) ≡ Leaves Receiver ∷ Leaves Sender ∷ Leaves Receiver ∷ Leaves Sender ∷ Leaves Receiver ∷ Leaves Sender ∷ [] }
+
+    // the place where a message went out is that of the last one of its flow before it was taken
+    ensures origin { (out : HostMessage) → out.flow ≡ control_flow two one → origin_in (crossing.Out out ∷ crossing.In out ∷ crossing.Out out ∷ crossing.Down two ∷ []) one two 2 ≡ 1 }
+{}

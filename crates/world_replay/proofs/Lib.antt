@@ -1,0 +1,5 @@
+pub mod Grown
+pub mod News
+pub mod Replays
+pub mod Reports
+pub mod Steady

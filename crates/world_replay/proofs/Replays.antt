@@ -1,0 +1,225 @@
+-- One event of a world's script, and what it shows.
+use Rattle.std.proofs.Common.{◌≡◌, ℕ, ◌+◌, true, false, List, [], ◌∷◌, ◌++◌, drop, length, reverse, Option, Result, Ok, Err, OnOk, refl, ap, sym, subst, ◌∙◌, arith}
+use Rattle.std.proofs.lemmas.List.{append_assoc, append-nil, append_cancel_left, append_cancel_right, drop_at, length-append, length-reverse, reverse-append, reverse-reverse}
+use Rattle.std.specs.Io.KnownBytes.{Appends}
+use Rattle.leader1822.specs.declared.crossing.Crossing.{Crossing}
+use Rattle.net_sim.specs.Book.{Kept}
+use Rattle.net_sim.specs.Carriers.{shown}
+use Rattle.net_sim.specs.World as world
+use Rattle.net_sim.specs.World.{Calls, WorldState, stops}
+use Rattle.net_sim.specs.declared.event.WorldFault.{WorldFault}
+use Rattle.replay.specs.InTurn.{HappensOnce, ShowsFront}
+use Rattle.replay.proofs.InTurn.{ends_front, in_turn_once}
+use Rattle.replay.specs.Settled.{AreSettled, Grows}
+use Rattle.world_script.specs.declared.event.WorldEvent.{WorldEvent}
+use Rattle.world_script.specs.declared.event.WorldEvent.TheVariants as event
+use Rattle.world_replay.specs.Gains.{Gains, news}
+use Rattle.world_replay.specs.Output.{Shown, crossings_of, output, shown_in_turn, shown_refusal, told_in_turn}
+use Rattle.world_replay.specs.Replay.{EndsIn, EventGives, Happens, Replays, StopsIn}
+use Rattle.world_replay.specs.Settled.{carried}
+use Rattle.net_sim.proofs.Always.{calm_keeps}
+use Rattle.replay.proofs.Shown.{appends_more}
+use Rattle.replay.specs.declared.events.ReplayFault.{ReplayFault}
+use Rattle.replay.specs.declared.events.ReplayFault.TheVariants as fault
+use Rattle.world_replay.specs.Steps.{EventEnds}
+use Rattle.world_replay.proofs.Grown.{Grew, begins, gains_none, grew_more, grew_none, step_gains, step_grows, step_kept}
+use Rattle.world_replay.proofs.News.{crossings_in_turn, crossings_of-append, news_later, output-append, told_begin, told_later, told_want}
+use Rattle.world_replay.proofs.Steady.{Steady, steady_calm, step_once}
+
+-- ---- one event
+
+event_once : {C : Type 0} (calls : Calls C) → AreSettled (carried calls) → (e : WorldEvent) (old : WorldState C) (r q : Result (Unit {0}) WorldFault) (new other : WorldState C) → EventGives calls old e r new → stops r ≡ false → EventGives calls old e q other → stops q ≡ false
+    → (r ≡ q) × (new ≡ other)
+event_once calls settled (event.Happen e) old r q new other h hg k kg = step_once calls settled e old r q new other h hg k kg
+event_once calls settled (event.Calm rounds) old r q new other h hg k kg = (steady_calm calls settled rounds old).once r q new other h hg k kg
+
+-- a book gains one list of crossings, one of notices and one of reports
+pub record SameGains {old new other : Kept} (g : Gains old new) (k : Gains old other) : Type 0 where
+  pub crossings : g.crossings ≡ k.crossings
+  pub notices : g.notices ≡ k.notices
+  pub reports : g.reports ≡ k.reports
+
+-- what a book gained, in the order in which it is shown
+abbrev pub gained : {old new : Kept} → Gains old new → List Shown
+gained {old} {new} g = news old g.crossings g.notices g.reports
+
+same_news : (old new other : Kept) (g : Gains old new) (k : Gains old other) → SameGains g k → gained g ≡ gained k
+same_news old new other g k same =
+    ap (λ cs. news old cs g.notices g.reports) same.crossings ∙ ap (λ ns. news old k.crossings ns g.reports) same.notices ∙ ap (λ rs. news old k.crossings k.notices rs) same.reports
+
+pub gains_once : (old new other : Kept) (g : Gains old new) (k : Gains old other) → new ≡ other → SameGains g k
+gains_once old new other g k same =
+    let both : reverse g.crossings ++ old.book.crossings ≡ reverse k.crossings ++ old.book.crossings = sym g.crossed ∙ ap (λ (x : Kept). x.book.crossings) same ∙ k.crossed in
+    let told : old.book.notices ++ g.notices ≡ old.book.notices ++ k.notices = sym g.told ∙ ap (λ (x : Kept). x.book.notices) same ∙ k.told in
+    let said : old.book.reports ++ g.reports ≡ old.book.reports ++ k.reports = sym g.said ∙ ap (λ (x : Kept). x.book.reports) same ∙ k.said in
+    record {
+      crossings = sym (reverse-reverse g.crossings) ∙ ap reverse (append_cancel_right (reverse g.crossings) (reverse k.crossings) old.book.crossings both) ∙ reverse-reverse k.crossings;
+      notices = append_cancel_left old.book.notices g.notices k.notices told;
+      reports = append_cancel_left old.book.reports g.reports k.reports said;
+    }
+
+-- ---- no choice
+
+pub happens_once : {C : Type 0} (calls : Calls C) → AreSettled (carried calls) → HappensOnce (Happens calls)
+happens_once {C} calls settled old e new other shown more h k =
+    let one : (h.outcome ≡ k.outcome) × (new ≡ other) = event_once calls settled e old h.outcome k.outcome new other h.gives h.goes_on k.gives k.goes_on in
+    let same : SameGains h.gains k.gains = gains_once old.kept new.kept other.kept h.gains k.gains (ap (λ (w : WorldState C). w.kept) one.1) in (
+      one.1,
+      h.lines ∙ ap (λ xs. xs ++ shown_refusal h.outcome) (same_news old.kept new.kept other.kept h.gains k.gains same) ∙ ap (λ r. gained k.gains ++ shown_refusal r) one.0 ∙ sym k.lines,
+    )
+
+-- so many crossings were there, and so many came
+counted : (old new : Kept) (g : Gains old new) → length new.book.crossings ≡ length old.book.crossings + length g.crossings
+counted old new g =
+    let all : length new.book.crossings ≡ length (reverse g.crossings ++ old.book.crossings) = ap length g.crossed in
+    omega (arith, all, length-append (reverse g.crossings) old.book.crossings, length-reverse g.crossings)
+
+-- and so many notices
+noticed : (old new : Kept) (g : Gains old new) → length new.book.notices ≡ length old.book.notices + length g.notices
+noticed old new g =
+    let all : length new.book.notices ≡ length (old.book.notices ++ g.notices) = ap length g.told in
+    omega (arith, all, length-append old.book.notices g.notices)
+
+-- the lines of two events in turn are the lines of each
+gained_more : (old mid new : Kept) (g : Grew old mid) (k : Grew mid new) → gained (grew_more old mid new g k).gains ≡ gained g.gains ++ gained k.gains
+unfolding grew_more
+gained_more old mid new g k =
+    let n : ℕ = length old.book.notices in
+    let told : told_in_turn n (g.gains.notices ++ k.gains.notices) (g.gains.reports ++ k.gains.reports) ≡ told_in_turn n g.gains.notices g.gains.reports ++ told_in_turn (length mid.book.notices) k.gains.notices k.gains.reports =
+    told_later n (length mid.book.notices) n (length new.book.notices) g.gains.notices k.gains.notices g.gains.reports k.gains.reports (noticed old mid g.gains) g.about k.about in
+    ap (shown_in_turn (length old.book.crossings) (g.gains.crossings ++ k.gains.crossings)) told
+    ∙ news_later (length old.book.crossings) (length mid.book.crossings) g.gains.crossings k.gains.crossings (told_in_turn n g.gains.notices g.gains.reports) (told_in_turn (length mid.book.notices) k.gains.notices k.gains.reports) (counted old mid g.gains)
+    (told_want (length old.book.crossings) (length mid.book.crossings) n g.gains.notices g.gains.reports g.between)
+    (told_begin (length mid.book.crossings) (length new.book.crossings) (length mid.book.notices) (length new.book.notices) k.gains.notices k.gains.reports (noticed mid new k.gains) k.between k.about)
+
+-- where memory ran out, what is shown is the first part of what is shown where it doesn't
+pub stops_front : {C : Type 0} (calls : Calls C) → AreSettled (carried calls) → ShowsFront (StopsIn calls) (Happens calls)
+stops_front {C} calls settled old (event.Happen e) new other part whole h k =
+    let stood : SameGains h.gains (gains_none old.kept) = gains_once old.kept new.kept old.kept h.gains (gains_none old.kept) (step_kept calls e old h.outcome new h.gives h.stops) in
+    (whole, ap (λ xs. xs ++ whole) (sym (h.lines ∙ same_news old.kept new.kept old.kept h.gains (gains_none old.kept) stood)))
+stops_front {C} calls settled old (event.Calm rounds) new other part whole h k =
+    let way : Steady old.kept (EventGives calls old (event.Calm rounds)) = steady_calm calls settled rounds old in
+    let mine : Grew old.kept new.kept = way.grows h.outcome new h.gives in
+    let later : Grew new.kept other.kept = way.first h.outcome k.outcome new other h.gives h.stops k.gives k.goes_on in
+    let all : Grew old.kept other.kept = grew_more old.kept new.kept other.kept mine later in
+    let part_is : part ≡ gained mine.gains = h.lines ∙ same_news old.kept new.kept new.kept h.gains mine.gains (gains_once old.kept new.kept new.kept h.gains mine.gains refl) in
+    let whole_is : whole ≡ gained all.gains ++ shown_refusal k.outcome =
+    k.lines ∙ ap (λ xs. xs ++ shown_refusal k.outcome) (same_news old.kept other.kept other.kept k.gains all.gains (gains_once old.kept other.kept other.kept k.gains all.gains refl)) in (
+      gained later.gains ++ shown_refusal k.outcome,
+      whole_is ∙ ap (λ xs. xs ++ shown_refusal k.outcome) (gained_more old.kept new.kept other.kept mine later) ∙ append_assoc (gained mine.gains) (gained later.gains) (shown_refusal k.outcome)
+          ∙ ap (λ xs. xs ++ (gained later.gains ++ shown_refusal k.outcome)) (sym part_is),
+    )
+
+-- ---- what is shown has all that crossed
+
+no_crossing : (r : Result (Unit {0}) WorldFault) → crossings_of (shown_refusal r) ≡ []
+no_crossing (Ok done) = refl
+no_crossing (Err f) = refl
+
+grown_more : (old mid new cs ds : List Crossing) → mid ≡ reverse cs ++ old → new ≡ reverse ds ++ mid → new ≡ reverse (cs ++ ds) ++ old
+grown_more old mid new cs ds h k = k ∙ ap (λ log. reverse ds ++ log) h ∙ sym (append_assoc (reverse ds) (reverse cs) old) ∙ ap (λ log. log ++ old) (sym (reverse-append cs ds))
+
+happens_shows : {C : Type 0} (calls : Calls C) (old : WorldState C) (e : WorldEvent) (new : WorldState C) (shown : List Shown) → Happens calls old e new shown → new.kept.book.crossings ≡ reverse (crossings_of shown) ++ old.kept.book.crossings
+happens_shows calls old e new shown h =
+    let all : crossings_of shown ≡ h.gains.crossings =
+    ap crossings_of h.lines ∙ crossings_of-append (gained h.gains) (shown_refusal h.outcome) ∙ ap (λ cs. crossings_of (gained h.gains) ++ cs) (no_crossing h.outcome) ∙ append-nil (crossings_of (gained h.gains))
+    ∙ crossings_in_turn (length old.kept.book.crossings) (length old.kept.book.notices) h.gains.crossings h.gains.notices h.gains.reports in
+    h.gains.crossed ∙ ap (λ cs. reverse cs ++ old.kept.book.crossings) (sym all)
+
+pub replays_show : {C : Type 0} (calls : Calls C) (old : WorldState C) (events : List WorldEvent) (new : WorldState C) (shown : List Shown) → Replays calls old events new shown
+    → new.kept.book.crossings ≡ reverse (crossings_of shown) ++ old.kept.book.crossings
+replays_show {C} calls old [] new shown h = ap (λ (w : WorldState C). w.kept.book.crossings) h.0 ∙ ap (λ s. reverse (crossings_of s) ++ old.kept.book.crossings) (sym h.1)
+replays_show calls old (e ∷ events) new shown (mid, first, rest, happens, more, whole) =
+    grown_more old.kept.book.crossings mid.kept.book.crossings new.kept.book.crossings (crossings_of first) (crossings_of rest) (happens_shows calls old e mid first happens) (replays_show calls mid events new rest more)
+    ∙ ap (λ cs. reverse cs ++ old.kept.book.crossings) (sym (ap crossings_of whole ∙ crossings_of-append first rest))
+
+pub stops_show : {C : Type 0} (calls : Calls C) (old : WorldState C) (events : List WorldEvent) (new : WorldState C) (shown : List Shown) → EndsIn calls (StopsIn calls) old events new shown
+    → new.kept.book.crossings ≡ reverse (crossings_of shown) ++ old.kept.book.crossings
+stops_show calls old events new shown h =
+    let own : crossings_of h.own ≡ h.goes.gains.crossings =
+    ap crossings_of h.goes.lines ∙ crossings_in_turn (length h.mid.kept.book.crossings) (length h.mid.kept.book.notices) h.goes.gains.crossings h.goes.gains.notices h.goes.gains.reports in
+    grown_more old.kept.book.crossings h.mid.kept.book.crossings new.kept.book.crossings (crossings_of h.front) (crossings_of h.own) (replays_show calls old h.done h.mid h.front h.before)
+    (h.goes.gains.crossed ∙ ap (λ cs. reverse cs ++ h.mid.kept.book.crossings) (sym own))
+    ∙ ap (λ cs. reverse cs ++ old.kept.book.crossings) (sym (ap crossings_of h.lines ∙ crossings_of-append h.front h.own))
+
+-- ---- printing an event
+
+pub event_gains : {C : Type 0} (calls : Calls C) (e : WorldEvent) (old : WorldState C) (r : Result (Unit {0}) WorldFault) (new : WorldState C) → EventGives calls old e r new → Gains old.kept new.kept
+event_gains calls (event.Happen e) old r new h = step_gains calls e old r new h
+event_gains {C} calls (event.Calm rounds) old r new h =
+    let grew : Grew old.kept new.kept =
+    calm_keeps calls (λ (w : WorldState C). Grew old.kept w.kept) (λ e. begins e ≡ false) refl (λ x. refl) (λ x. refl) (λ e v q w n g s. grew_more old.kept v.kept w.kept g (step_grows calls e v q w n s)) rounds old r new (grew_none old.kept) h in
+    grew.gains
+
+-- the crossings, notices and reports behind those of before are what the book gained
+pub news_is : (old new : Kept) (g : Gains old new) (crossed told said : ℕ) → crossed ≡ length old.book.crossings → told ≡ length old.book.notices → said ≡ length old.book.reports
+    → shown_in_turn crossed (drop crossed (reverse new.book.crossings)) (told_in_turn told (drop told new.book.notices) (drop said new.book.reports)) ≡ gained g
+news_is old new g crossed told said is same alike =
+    let whole : reverse new.book.crossings ≡ reverse old.book.crossings ++ g.crossings =
+    ap reverse g.crossed ∙ reverse-append (reverse g.crossings) old.book.crossings ∙ ap (λ cs. reverse old.book.crossings ++ cs) (reverse-reverse g.crossings) in
+    let front : crossed ≡ length (reverse old.book.crossings) = is ∙ sym (length-reverse old.book.crossings) in
+    let crossings : drop crossed (reverse new.book.crossings) ≡ g.crossings = ap (drop crossed) whole ∙ drop_at (reverse old.book.crossings) g.crossings crossed (sym front) in
+    let notices : drop told new.book.notices ≡ g.notices = ap (drop told) g.told ∙ drop_at old.book.notices g.notices told (sym same) in
+    let reports : drop said new.book.reports ≡ g.reports = ap (drop said) g.said ∙ drop_at old.book.reports g.reports said (sym alike) in
+    ap (λ cs. shown_in_turn crossed cs (told_in_turn told (drop told new.book.notices) (drop said new.book.reports))) crossings
+    ∙ ap (λ ns. shown_in_turn crossed g.crossings (told_in_turn told ns (drop said new.book.reports))) notices
+    ∙ ap (λ rs. shown_in_turn crossed g.crossings (told_in_turn told g.notices rs)) reports
+    ∙ ap (λ n. shown_in_turn n g.crossings (told_in_turn told g.notices g.reports)) is
+    ∙ ap (λ n. shown_in_turn (length old.book.crossings) g.crossings (told_in_turn n g.notices g.reports)) same
+
+-- this book's news are written
+abbrev pub News : {W : Type 0} → (W → Option (List ℕ)) → ℕ → ℕ → ℕ → Option (List ℕ) → W → Kept → Type 0
+News contents crossed told said a mid k =
+    Appends a (contents mid) (output (shown_in_turn crossed (drop crossed (reverse k.book.crossings)) (told_in_turn told (drop told k.book.notices) (drop said k.book.reports))))
+
+-- an event ends as its printing ends
+pub event_ends : {C W : Type 0} (contents : W → Option (List ℕ)) (calls : Calls C) (old : WorldState C) (e : WorldEvent) (outcome : Result (Unit {0}) WorldFault) (new : WorldState C) (printed : Result (Unit {0}) ReplayFault) (crossed told said : ℕ) (a : Option (List ℕ)) (mid last : W)
+    → EventGives calls old e outcome new → crossed ≡ length old.kept.book.crossings → told ≡ length old.kept.book.notices → said ≡ length old.kept.book.reports
+    → News contents crossed told said a mid new.kept
+    → OnOk printed (Appends (contents mid) (contents last) (output (shown_refusal outcome))) → OnOk printed (stops outcome ≡ false)
+    → (printed ≡ Err fault.OutOfMemory → (stops outcome ≡ true) × (last ≡ mid)) → EventEnds calls old e printed new a (contents last)
+event_ends contents calls old e outcome new (Ok done) crossed told said a mid last gives is same alike lines refusal goes memory =
+    let gains : Gains old.kept new.kept = event_gains calls e old outcome new gives in
+    record {
+      shown = gained gains ++ shown_refusal outcome;
+      is_shown = record { outcome = outcome; gives = gives; goes_on = goes; gains = gains; lines = refl };
+      written = subst (Appends a (contents last)) (sym (output-append (gained gains) (shown_refusal outcome)))
+          (appends_more a (contents mid) (contents last) (output (gained gains)) (output (shown_refusal outcome))
+          (subst (λ xs. Appends a (contents mid) (output xs)) (news_is old.kept new.kept gains crossed told said is same alike) lines) refusal);
+    }
+event_ends contents calls old e outcome new (Err fault.OutOfMemory) crossed told said a mid last gives is same alike lines refusal goes memory =
+    let gains : Gains old.kept new.kept = event_gains calls e old outcome new gives in
+    let out : (stops outcome ≡ true) × (last ≡ mid) = memory refl in
+    record {
+      shown = gained gains;
+      is_shown = record { outcome = outcome; gives = gives; stops = out.0; gains = gains; lines = refl };
+      written = subst (λ w. Appends a (contents w) (output (gained gains))) (sym out.1)
+          (subst (λ xs. Appends a (contents mid) (output xs)) (news_is old.kept new.kept gains crossed told said is same alike) lines);
+    }
+event_ends contents calls old e outcome new (Err fault.CannotWrite) crossed told said a mid last gives is same alike lines refusal goes memory =
+    ([], record { outcome = outcome; gives = gives; unknown = refl })
+
+-- ---- a carrier that shows what every carrier shows is settled where it is settled without that
+
+same_growth : {C : Type 0} (own : world.Calls C) (old new : C) → Grows (carried own) old new → Grows (carried (shown own)) old new
+same_growth own old new g = record { crossings = g.crossings; grown = g.grown }
+
+pub shown_settled : {C : Type 0} (own : world.Calls C) → AreSettled (carried own) → AreSettled (carried (shown own))
+shown_settled own s = record {
+  offers_once = λ old m r q new other h hg k kg. s.offers_once old m r q new other h.0 hg k.0 kg;
+  takes_once = λ old g r q new other h hg k kg. s.takes_once old g r q new other h.0 hg k.0 kg;
+  steps_once = λ old e r q new other h hg k kg. s.steps_once old e r q new other h.0 hg k.0 kg;
+  rounds_once = λ old r q new other h hg k kg. s.rounds_once old r q new other h.0 hg k.0 kg;
+  taking_grows = λ old g r new h. same_growth own old new (s.taking_grows old g r new h.0);
+  refused_taking = λ old g f new h. s.refused_taking old g f new h.0;
+  quiet_round = λ old r new h. s.quiet_round old r new h.0;
+}
+
+pub one_replay : {C : Type 0} (own : world.Calls C) → AreSettled (carried own) → (old new other : WorldState C) (events : List WorldEvent) (lines more : List Shown)
+    → Replays (shown own) old events new lines → Replays (shown own) old events other more → (new ≡ other) × (lines ≡ more)
+one_replay own s old new other events lines more h k = in_turn_once (Happens (shown own)) (happens_once (shown own) (shown_settled own s)) old events new other lines more h k
+
+pub first_part : {C : Type 0} (own : world.Calls C) → AreSettled (carried own) → (old new other : WorldState C) (events : List WorldEvent) (part whole : List Shown)
+    → EndsIn (shown own) (StopsIn (shown own)) old events new part → Replays (shown own) old events other whole → (rest : List Shown) × (whole ≡ part ++ rest)
+first_part own s old new other events part whole h k =
+    ends_front (Happens (shown own)) (StopsIn (shown own)) (happens_once (shown own) (shown_settled own s)) (stops_front (shown own) (shown_settled own s)) old events new other part whole h k

@@ -1,0 +1,48 @@
+-- The events of a world's script over a carrier, whatever it is made of.
+use Rattle.std.specs.Prelude.{◌≡◌, true, false, List, [], ◌++◌, Result}
+use Rattle.net_sim.specs.World.{Calls, WorldState, StepGives, CalmGives, stops}
+use Rattle.net_sim.specs.declared.event.WorldFault.{WorldFault}
+use Rattle.replay.specs.InTurn.{InTurn, EndsInTurn}
+use Rattle.world_replay.specs.Gains.{Gains, news}
+use Rattle.world_replay.specs.Output.{Shown, shown_refusal}
+use Rattle.world_script.specs.declared.event.WorldEvent.{WorldEvent}
+use Rattle.world_script.specs.declared.event.WorldEvent.TheVariants as event
+
+-- how one event may go: the world before, the event, whether it was refused, and the world after
+abbrev pub EventGives : {C : Type 0} → Calls C → WorldState C → WorldEvent → Result (Unit {0}) WorldFault → WorldState C → Type 0
+EventGives calls old (event.Happen e) r new = StepGives calls old e r new
+EventGives calls old (event.Calm rounds) r new = CalmGives calls rounds old r new
+
+-- one event happens, refused or not, and shows what its world's book gained, each notice behind the crossings that were before
+-- it and each report behind its notice, and then its refusal. Of a single event these are its crossings and then its notices with
+-- their reports, and of a calm those of each of its events in turn, without the refusals
+pub record Happens {C : Type 0} (calls : Calls C) (old : WorldState C) (e : WorldEvent) (new : WorldState C) (shown : List Shown) : Type 0 where
+  pub outcome : Result (Unit {0}) WorldFault
+  pub gives : EventGives calls old e outcome new
+  pub goes_on : stops outcome ≡ false
+  pub gains : Gains old.kept new.kept
+  pub lines : shown ≡ news old.kept gains.crossings gains.notices gains.reports ++ shown_refusal outcome
+
+-- the events happen one after the other, and show these lines together
+abbrev pub Replays : {C : Type 0} → Calls C → WorldState C → List WorldEvent → WorldState C → List Shown → Type 0
+Replays calls old events new shown = InTurn (Happens calls) old events new shown
+
+-- ---- a replay that ends early, in one of its events
+
+-- memory ran out at this event: a calm shows what its world's book gained before that, and a single event nothing
+pub record StopsIn {C : Type 0} (calls : Calls C) (old : WorldState C) (e : WorldEvent) (new : WorldState C) (shown : List Shown) : Type 0 where
+  pub outcome : Result (Unit {0}) WorldFault
+  pub gives : EventGives calls old e outcome new
+  pub stops : stops outcome ≡ true
+  pub gains : Gains old.kept new.kept
+  pub lines : shown ≡ news old.kept gains.crossings gains.notices gains.reports
+
+-- the world processed this event, and may have answered anything; how much was written of what it showed the writer alone knows
+pub record MayDo {C : Type 0} (calls : Calls C) (old : WorldState C) (e : WorldEvent) (new : WorldState C) (shown : List Shown) : Type 0 where
+  pub outcome : Result (Unit {0}) WorldFault
+  pub gives : EventGives calls old e outcome new
+  pub unknown : shown ≡ []
+
+-- the events before the last one happened, the last one went as is said, and these lines were shown by then
+abbrev pub EndsIn : {C : Type 0} → Calls C → (WorldState C → WorldEvent → WorldState C → List Shown → Type 0) → WorldState C → List WorldEvent → WorldState C → List Shown → Type 0
+EndsIn calls Goes old events new shown = EndsInTurn (Happens calls) Goes old events new shown

@@ -1,0 +1,25 @@
+-- Words for worked examples.
+use Rattle.std.specs.Prelude.{ℕ, codes}
+use Rattle.host_services.specs.declared.report.Report.TheVariants as report
+use Rattle.host_services.specs.declared.report.Reported.{Reported}
+use Rattle.leader1822.specs.declared.crossing.Crossing.{Crossing}
+use Rattle.leader1822.specs.declared.crossing.Crossing.TheVariants as crossing
+use Rattle.net_sim.specs.Worked.{message}
+use Rattle.net_sim.specs.declared.book.Told.{Told}
+use Rattle.sockets.specs.Worked.{first, second}
+use Rattle.host_pairs.specs.declared.notice.Notice.TheVariants as notice
+
+-- a message of the first host goes out, and comes to the second
+abbrev pub went : Crossing
+went = crossing.Out (message first second 0)
+
+abbrev pub came : Crossing
+came = crossing.In (message first second 0)
+
+-- the second host is told something where there were so many crossings
+abbrev pub told_at : ℕ → Told
+told_at place = record { host = second; place = place; notice = notice.Ready first }
+
+-- a line comes to its terminal, where so many notices stood in the book
+abbrev pub said_at : ℕ → Reported
+said_at notices = record { host = second; notices = notices; report = report.Line (codes "A") }

@@ -1,0 +1,94 @@
+//! Replaying the events of a world's script.
+
+ghost use Rattle.std.specs.Prelude.{◌≡◌, Err, List, OnOk};
+ghost use Rattle.leader1822.specs.Messages.{SafeMessages};
+ghost use Rattle.net_sim.specs.Carriers.{shown};
+ghost use Rattle.world_replay.specs.Output.{Shown, Writes};
+ghost use Rattle.world_replay.specs.Replay.{EndsIn, EventGives, MayDo, Replays, StopsIn};
+ghost use Rattle.world_replay.specs.Steps.{EventEnds};
+
+use crate::print::{print_news, print_refusal};
+use leader1822::Carrier;
+use net_sim::{World, WorldFault};
+use replay::ReplayFault;
+use std::io::Write;
+use world_script::WorldEvent;
+
+/// Lets each event happen in order, and prints what it shows: each crossing, each notice behind the crossings that
+/// were before it, each report behind its notice, and then the refusal, if there is one.
+///
+/// A refused event changes nothing, and the replay continues with the next one. A calm shows what each of its events
+/// shows, and its refusals are not printed.
+///
+/// However it ends, each RFNM in the book belongs to one message that was taken exactly once (BBN Report 1822: a link
+/// carries one message at a time).
+///
+/// Errors:
+/// - `OutOfMemory`: memory ran out at one event. The lines of the events before it were written, and no line of its
+///   own, save that of a calm what happened before memory ran out was written.
+/// - `CannotWrite`: a write failed. The event whose line it was had already happened. The writer alone knows how much
+///   of its last lines it wrote.
+pub fn replay_events<C: Carrier, W: Write>(
+    world: &mut World<C>,
+    events: Vec<WorldEvent>,
+    writer: &mut W,
+) -> Result<(), ReplayFault>
+    // each RFNM belongs to one message, which was taken exactly once
+    ensures messages { SafeMessages world.new.kept.book.crossings }
+
+    // each event in turn went as the world says that its calls may go, and what it showed was printed
+    ensures replayed { OnOk result (Writes (Replays (shown (record { seen = C.seen; offers = C.offers; takes = C.takes; steps = C.steps; rounds = C.rounds })) world.old events.items world.new) (W.contents writer.old) (W.contents writer.new)) }
+
+    // memory ran out at one event: what the events before it showed was printed, and nothing of that event, save what a calm
+    // showed before memory ran out
+    ensures memory { result ≡ Err ReplayFault.OutOfMemory → Writes (EndsIn (shown (record { seen = C.seen; offers = C.offers; takes = C.takes; steps = C.steps; rounds = C.rounds })) (StopsIn (shown (record { seen = C.seen; offers = C.offers; takes = C.takes; steps = C.steps; rounds = C.rounds }))) world.old events.items world.new) (W.contents writer.old) (W.contents writer.new) }
+
+    // a write failed: the event had already happened
+    ensures cannot_write { result ≡ Err ReplayFault.CannotWrite → (lines : List Shown) × EndsIn (shown (record { seen = C.seen; offers = C.offers; takes = C.takes; steps = C.steps; rounds = C.rounds })) (MayDo (shown (record { seen = C.seen; offers = C.offers; takes = C.takes; steps = C.steps; rounds = C.rounds }))) world.old events.items world.new lines }
+{
+    let outcome = replay_in_turn(world, events, writer);
+    let _book = world.book();
+    outcome
+}
+
+/// Lets each event happen in order, and prints what it shows.
+fn replay_in_turn<C: Carrier, W: Write>(
+    world: &mut World<C>,
+    events: Vec<WorldEvent>,
+    writer: &mut W,
+) -> Result<(), ReplayFault>
+    ensures replayed { OnOk result (Writes (Replays (shown (record { seen = C.seen; offers = C.offers; takes = C.takes; steps = C.steps; rounds = C.rounds })) world.old events.items world.new) (W.contents writer.old) (W.contents writer.new)) }
+    ensures memory { result ≡ Err ReplayFault.OutOfMemory → Writes (EndsIn (shown (record { seen = C.seen; offers = C.offers; takes = C.takes; steps = C.steps; rounds = C.rounds })) (StopsIn (shown (record { seen = C.seen; offers = C.offers; takes = C.takes; steps = C.steps; rounds = C.rounds }))) world.old events.items world.new) (W.contents writer.old) (W.contents writer.new) }
+    ensures cannot_write { result ≡ Err ReplayFault.CannotWrite → (lines : List Shown) × EndsIn (shown (record { seen = C.seen; offers = C.offers; takes = C.takes; steps = C.steps; rounds = C.rounds })) (MayDo (shown (record { seen = C.seen; offers = C.offers; takes = C.takes; steps = C.steps; rounds = C.rounds }))) world.old events.items world.new lines }
+{
+    for event in events {
+        replay_event(world, event, writer)?;
+    }
+    Ok(())
+}
+
+/// Lets one event happen, and prints what it shows.
+fn replay_event<C: Carrier, W: Write>(
+    world: &mut World<C>,
+    event: WorldEvent,
+    writer: &mut W,
+) -> Result<(), ReplayFault>
+    ensures { EventEnds (shown (record { seen = C.seen; offers = C.offers; takes = C.takes; steps = C.steps; rounds = C.rounds })) world.old event result world.new (W.contents writer.old) (W.contents writer.new) }
+{
+    let crossed = world.book().crossings().len();
+    let told = world.book().notices().len();
+    let said = world.book().reports().len();
+    let outcome = happen(world, event);
+    print_news(world.book(), crossed, told, said, writer)?;
+    print_refusal(outcome, writer)
+}
+
+/// Lets one event happen.
+fn happen<C: Carrier>(world: &mut World<C>, event: WorldEvent) -> Result<(), WorldFault>
+    ensures { EventGives (shown (record { seen = C.seen; offers = C.offers; takes = C.takes; steps = C.steps; rounds = C.rounds })) world.old event result world.new }
+{
+    match event {
+        WorldEvent::Happen(event) => world.step(event),
+        WorldEvent::Calm(rounds) => world.calm(rounds),
+    }
+}

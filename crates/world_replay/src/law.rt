@@ -1,0 +1,19 @@
+//! What the replay of a world's script promises, as laws over its definitions. The functions here do nothing: their
+//! clauses are the laws.
+
+ghost use Rattle.std.specs.Prelude.{◌≡◌, ◌++◌, List};
+ghost use Rattle.net_sim.specs.Carriers.{shown};
+ghost use Rattle.net_sim.specs.World.{WorldState};
+ghost use Rattle.replay.specs.Settled.{AreSettled};
+ghost use Rattle.world_replay.specs.Output.{Shown};
+ghost use Rattle.world_replay.specs.Replay.{EndsIn, Replays, StopsIn};
+ghost use Rattle.world_script.specs.declared.event.WorldEvent.{WorldEvent};
+
+use leader1822::Carrier;
+
+/// A carrier whose calls leave no choice leaves none to the replay of a world over it: events have one outcome and show one
+/// list of lines. What is shown where memory runs out is the first part of that list.
+pub fn one_replay<C: Carrier>()
+    ensures same { AreSettled (record { seen = C.seen; offers = C.offers; takes = C.takes; steps = C.steps; rounds = C.rounds }) → (old new other : WorldState C) (events : List WorldEvent) (lines more : List Shown) → Replays (shown (record { seen = C.seen; offers = C.offers; takes = C.takes; steps = C.steps; rounds = C.rounds })) old events new lines → Replays (shown (record { seen = C.seen; offers = C.offers; takes = C.takes; steps = C.steps; rounds = C.rounds })) old events other more → (new ≡ other) × (lines ≡ more) }
+    ensures first_part { AreSettled (record { seen = C.seen; offers = C.offers; takes = C.takes; steps = C.steps; rounds = C.rounds }) → (old new other : WorldState C) (events : List WorldEvent) (part whole : List Shown) → EndsIn (shown (record { seen = C.seen; offers = C.offers; takes = C.takes; steps = C.steps; rounds = C.rounds })) (StopsIn (shown (record { seen = C.seen; offers = C.offers; takes = C.takes; steps = C.steps; rounds = C.rounds }))) old events new part → Replays (shown (record { seen = C.seen; offers = C.offers; takes = C.takes; steps = C.steps; rounds = C.rounds })) old events other whole → (rest : List Shown) × (whole ≡ part ++ rest) }
+{}

@@ -1,0 +1,22 @@
+//! Replaying the events of a world's script over any carrier.
+//!
+//! [`replay_events`] lets each event happen in a world. It writes one line for each crossing of the interface between a
+//! host and its IMP, one for each thing that the user of a host is told, one for each thing that a service of a host
+//! reports, and one for each refusal. A notice stands behind the crossings that were before it, and a report behind its
+//! notice. [`print_lives`] writes the lives of connections, one line each.
+//!
+//! A caller may rely on three things. Each event goes as the world says that its calls may go. What is written is what the
+//! events showed. Where memory runs out, the output is the first part of that.
+//!
+//! Nothing here knows what a carrier is made of, where the events come from, or who reads the output.
+#![tactic(auto)]
+
+mod events;
+pub mod law;
+mod lines;
+mod print;
+pub mod worked;
+
+pub use events::replay_events;
+pub use print::print_lives;
+pub use replay::ReplayFault;

@@ -1,0 +1,140 @@
+//! The lines for what users are told, for what becomes of initial connections and for lives, without their ends.
+
+ghost use Rattle.std.specs.Prelude.{◌≡◌, Some};
+ghost use Rattle.world_replay.specs.Printed.{reason_name};
+
+use icp::{Failure, Outcome};
+use leader1822::HostAddr;
+use net_sim::{Life, Told};
+use sockets::Notice;
+use std::fmt;
+
+/// The line for something that the user of a host was told.
+#[derive(Drop)]
+pub(crate) struct ToldLine<'a>(pub &'a Told);
+
+/// Prints a word for what it is, the host, and what it is about. Of bits it prints their number.
+impl fmt::Display for ToldLine<'_> {
+    ghost use Rattle.world_replay.specs.Printed.{told_text};
+
+    ghost output = { λ line. Some (told_text line.0.now) };
+
+    fn fmt<W: fmt::Write>(&self, f: &mut fmt::Formatter<W>) -> fmt::Result {
+        let host = &self.0.host;
+        match &self.0.notice {
+            Notice::Ready { peer } => write!(f, "ready {host} {peer}"),
+            Notice::ContactFailed { peer } => write!(f, "contactfailed {host} {peer}"),
+            Notice::PairReset { peer } => write!(f, "pairreset {host} {peer}"),
+            Notice::Opened {
+                socket,
+                peer,
+                foreign,
+                ..
+            } => write!(f, "opened {host} {socket} {peer} {foreign}"),
+            Notice::Ended {
+                socket,
+                peer,
+                foreign,
+            } => write!(f, "ended {host} {socket} {peer} {foreign}"),
+            Notice::Sent { socket, bits } => {
+                let bits = bits.len();
+                write!(f, "sent {host} {socket} {bits}")
+            }
+            Notice::Arrived { socket, bits } => {
+                let bits = bits.len();
+                write!(f, "arrived {host} {socket} {bits}")
+            }
+            Notice::Returned {
+                socket,
+                messages,
+                bits,
+            } => write!(f, "returned {host} {socket} {messages} {bits}"),
+            Notice::Interrupt { socket } => write!(f, "interrupt {host} {socket}"),
+            Notice::Echoed { peer, octet } => write!(f, "echoed {host} {peer} {octet}"),
+            Notice::RemoteError { peer, code, .. } => write!(f, "error {host} {peer} {code}"),
+        }
+    }
+}
+
+/// The line for what became of a server or of a user of an initial connection.
+#[derive(Drop)]
+pub(crate) struct OutcomeLine<'a> {
+    /// Which of the two it was.
+    pub who: &'static str,
+    /// Its host.
+    pub host: &'a HostAddr,
+    /// What became of it.
+    pub outcome: &'a Outcome,
+}
+
+/// Prints the own sockets, the one that receives first, or the reason.
+impl fmt::Display for OutcomeLine<'_> {
+    ghost use Rattle.world_replay.specs.Printed.{outcome_text};
+
+    ghost output = { λ line. Some (outcome_text line.who.now line.host.now line.outcome.now) };
+
+    fn fmt<W: fmt::Write>(&self, f: &mut fmt::Formatter<W>) -> fmt::Result {
+        let who = self.who;
+        let host = self.host;
+        match self.outcome {
+            Outcome::Done { receive, send } => {
+                let receive = receive.number();
+                let send = send.number();
+                write!(f, "done {who} {host} {receive} {send}")
+            }
+            Outcome::Failed(failure) => {
+                let reason = reason_name(failure);
+                write!(f, "failed {who} {host} {reason}")
+            }
+        }
+    }
+}
+
+/// The word for why an initial connection failed.
+fn reason_name(failure: &Failure) -> &'static str
+    ensures { result.now ≡ reason_name failure.now }
+{
+    match failure {
+        Failure::Refused => "refused",
+        Failure::Reset => "reset",
+        Failure::Stranger => "stranger",
+        Failure::BadSocket => "badsocket",
+        Failure::Local(_) => "local",
+    }
+}
+
+/// The line for a life of a connection.
+#[derive(Drop)]
+pub(crate) struct LifeLine<'a>(pub &'a Life);
+
+/// Prints both ends, the places of their requests in the log, the kind, what was carried, granted and returned, and
+/// whether it has ended.
+impl fmt::Display for LifeLine<'_> {
+    ghost use Rattle.world_replay.specs.Printed.{life_text};
+
+    ghost output = { λ line. Some (life_text line.0.now) };
+
+    fn fmt<W: fmt::Write>(&self, f: &mut fmt::Formatter<W>) -> fmt::Result {
+        let Life {
+            host,
+            socket,
+            peer,
+            foreign,
+            own_stamp,
+            partner_stamp,
+            bits,
+            messages,
+            granted,
+            returned,
+            ended,
+        } = self.0;
+        let bits = bits.len();
+        let kind = if *socket % 2 == 0 { "receive" } else { "send" };
+        let state = if *ended { "ended" } else { "open" };
+        write!(
+            f,
+            "life {host} {socket} {peer} {foreign} {own_stamp} {partner_stamp} {kind} {messages} {bits} {} {} {} {} {state}",
+            granted.messages, granted.bits, returned.messages, returned.bits
+        )
+    }
+}

@@ -1,0 +1,239 @@
+//! Printing what an event shows, and the lives of connections.
+
+ghost use Rattle.std.specs.Prelude.{◌≡◌, ◌↔◌, ◌≤◌, ◌-◌, Err, OnOk, IfErr, IfSome, IsSome, drop, false, length, max, reverse, take, true};
+ghost use Rattle.std.specs.Io.KnownBytes.{Appends};
+ghost use Rattle.host_services.specs.declared.report.Report.TheVariants as report;
+ghost use Rattle.net_sim.specs.World.{stops};
+ghost use Rattle.script.specs.Input.{ended};
+ghost use Rattle.world_replay.specs.Output.{lives_output, output, shown_crossings, shown_in_turn, shown_notices, shown_refusal, told_in_turn};
+ghost use Rattle.world_replay.specs.Printed.{problem_name, refusal_name, report_text, reported_text, shown_octet};
+ghost use Rattle.world_replay.specs.Steps.{Fronts};
+
+use crate::lines::{LifeLine, OutcomeLine, ToldLine};
+use leader1822::{Crossing, HostAddr};
+use net_sim::{Book, Life, Report, Reported, Told, WorldFault};
+use replay::{ReplayFault, carrier_refusal, check_written};
+use sockets::NcpFault;
+use std::io::Write;
+
+/// Prints what stands in a book behind so many crossings, notices and reports of before.
+///
+/// Errors: `CannotWrite`.
+pub(crate) fn print_news<W: Write>(
+    book: &Book,
+    crossed: usize,
+    told: usize,
+    said: usize,
+    writer: &mut W,
+) -> Result<(), ReplayFault>
+    requires crossed { crossed ≤ length book.now.book.crossings }
+    requires told { told ≤ length book.now.book.notices }
+    requires said { said ≤ length book.now.book.reports }
+    ensures written { OnOk result (Appends (W.contents writer.old) (W.contents writer.new) (output (shown_in_turn crossed (drop crossed (reverse book.now.book.crossings)) (told_in_turn told (drop told book.now.book.notices) (drop said book.now.book.reports))))) }
+    ensures fault { IfErr result (λ f. f ≡ ReplayFault.CannotWrite) }
+{
+    let (_, left) = book.crossings().split_at(crossed);
+    let (_, notices) = book.notices().split_at(told);
+    let (_, reports) = book.reports().split_at(said);
+    let mut crossings = Crossings {
+        before: crossed,
+        left,
+    };
+    print_told(&mut crossings, told, notices, reports, writer)?;
+    print_crossings(crossings.left, writer)
+}
+
+/// Crossings that are still to be printed.
+#[derive(Drop)]
+struct Crossings<'a> {
+    /// How many there were before them.
+    before: usize,
+    /// The crossings.
+    left: &'a [Crossing],
+}
+
+impl Crossings<'_> {
+    /// Prints those before a place.
+    fn print_before<W: Write>(&mut self, place: usize, writer: &mut W) -> Result<(), ReplayFault>
+        ensures before { OnOk result (self.new.before ≡ max self.old.before place) }
+        ensures left { OnOk result (self.new.left.now ≡ drop (place - self.old.before) self.old.left.now) }
+        ensures written { OnOk result (Appends (W.contents writer.old) (W.contents writer.new) (output (shown_crossings (take (place - self.old.before) self.old.left.now)))) }
+        ensures fault { IfErr result (λ f. f ≡ ReplayFault.CannotWrite) }
+    {
+        let count = place.saturating_sub(self.before).min(self.left.len());
+        let (first, rest) = self.left.split_at(count);
+        print_crossings(first, writer)?;
+        self.left = rest;
+        self.before = self.before.max(place);
+        Ok(())
+    }
+}
+
+/// Prints notices and reports, each report behind its notice, and the crossings that were before them. Before all of
+/// them there were so many notices.
+fn print_told<W: Write>(
+    crossings: &mut Crossings<'_>,
+    before: usize,
+    notices: &[Told],
+    reports: &[Reported],
+    writer: &mut W,
+) -> Result<(), ReplayFault>
+    ensures written { OnOk result (Fronts crossings.old.before crossings.old.left.now (told_in_turn before notices.now reports.now) crossings.new.before crossings.new.left.now (W.contents writer.old) (W.contents writer.new)) }
+    ensures fault { IfErr result (λ f. f ≡ ReplayFault.CannotWrite) }
+{
+    let mut before = before;
+    let mut waiting = notices;
+    for reported in reports {
+        let count = reported.notices.saturating_sub(before).min(waiting.len());
+        let (first, rest) = waiting.split_at(count);
+        print_notices(crossings, first, writer)?;
+        print_report(reported, writer)?;
+        waiting = rest;
+        before = before.max(reported.notices);
+    }
+    print_notices(crossings, waiting, writer)
+}
+
+/// Prints notices, each behind the crossings that were before it.
+fn print_notices<W: Write>(
+    crossings: &mut Crossings<'_>,
+    notices: &[Told],
+    writer: &mut W,
+) -> Result<(), ReplayFault>
+    ensures written { OnOk result (Fronts crossings.old.before crossings.old.left.now (shown_notices notices.now) crossings.new.before crossings.new.left.now (W.contents writer.old) (W.contents writer.new)) }
+    ensures fault { IfErr result (λ f. f ≡ ReplayFault.CannotWrite) }
+{
+    for told in notices {
+        crossings.print_before(told.place, writer)?;
+        check_written(writeln!(writer, "{}", ToldLine(told)))?;
+    }
+    Ok(())
+}
+
+/// Prints what a service reports.
+fn print_report<W: Write>(reported: &Reported, writer: &mut W) -> Result<(), ReplayFault>
+    ensures written { OnOk result (Appends (W.contents writer.old) (W.contents writer.new) (ended (reported_text reported.now))) }
+    ensures fault { IfErr result (λ f. f ≡ ReplayFault.CannotWrite) }
+{
+    let host = &reported.host;
+    match &reported.report {
+        Report::Server(outcome) => check_written(writeln!(
+            writer,
+            "{}",
+            OutcomeLine {
+                who: "server",
+                host,
+                outcome
+            }
+        )),
+        Report::User(outcome) => check_written(writeln!(
+            writer,
+            "{}",
+            OutcomeLine {
+                who: "user",
+                host,
+                outcome
+            }
+        )),
+        Report::Line(line) => print_line(host, line.as_octets(), writer),
+    }
+}
+
+/// Prints a line that came to a terminal, behind the terminal's host. An octet that is no printing character of ASCII
+/// is printed as a question mark.
+fn print_line<W: Write>(host: &HostAddr, octets: &[u8], writer: &mut W) -> Result<(), ReplayFault>
+    ensures written { OnOk result (Appends (W.contents writer.old) (W.contents writer.new) (ended (report_text host.now (report.Line octets.now)))) }
+    ensures fault { IfErr result (λ f. f ≡ ReplayFault.CannotWrite) }
+{
+    check_written(write!(writer, "line {host} "))?;
+    for octet in octets {
+        check_written(writer.write_all(&[shown_octet(*octet)]))?;
+    }
+    check_written(writer.write_all(b"\n"))
+}
+
+/// The octet that is printed for one of a line.
+fn shown_octet(octet: u8) -> u8
+    ensures { result ≡ shown_octet octet }
+{
+    if matches!(octet, 32..=126) {
+        octet
+    } else {
+        b'?'
+    }
+}
+
+/// Prints crossings.
+fn print_crossings<W: Write>(crossings: &[Crossing], writer: &mut W) -> Result<(), ReplayFault>
+    ensures written { OnOk result (Appends (W.contents writer.old) (W.contents writer.new) (output (shown_crossings crossings.now))) }
+    ensures fault { IfErr result (λ f. f ≡ ReplayFault.CannotWrite) }
+{
+    for crossing in crossings {
+        check_written(writeln!(writer, "{crossing}"))?;
+    }
+    Ok(())
+}
+
+/// Prints the name of a refusal. It prints nothing for an event that was not refused.
+///
+/// Errors: `CannotWrite`; `OutOfMemory` where memory has run out, after which nothing is printed.
+pub(crate) fn print_refusal<W: Write>(
+    outcome: Result<(), WorldFault>,
+    writer: &mut W,
+) -> Result<(), ReplayFault>
+    ensures shown { OnOk result (Appends (W.contents writer.old) (W.contents writer.new) (output (shown_refusal outcome))) }
+    ensures goes_on { OnOk result (stops outcome ≡ false) }
+    ensures memory { result ≡ Err ReplayFault.OutOfMemory → (stops outcome ≡ true) × (writer.new ≡ writer.old) }
+{
+    let Err(fault) = outcome else {
+        return Ok(());
+    };
+    let name = match name_of(fault) {
+        Some(name) => name,
+        None => return Err(ReplayFault::OutOfMemory),
+    };
+    check_written(writeln!(writer, "refused {name}"))
+}
+
+/// The name of a refusal. `None` where want of memory has stopped the world.
+fn name_of(fault: WorldFault) -> Option<&'static str>
+    ensures name { IfSome result (λ name. name.now ≡ refusal_name fault) }
+    ensures goes_on { IsSome result ↔ (stops (Err fault) ≡ false) }
+{
+    match fault {
+        WorldFault::Carrier(fault) => carrier_refusal(fault),
+        WorldFault::Program(fault) => program_refusal(fault),
+    }
+}
+
+/// The name of a refusal by a host's program. `None` for want of memory.
+fn program_refusal(fault: NcpFault) -> Option<&'static str>
+    ensures name { IfSome result (λ name. name.now ≡ problem_name fault) }
+    ensures goes_on { IsSome result ↔ (stops (Err (WorldFault.Program fault)) ≡ false) }
+{
+    match fault {
+        NcpFault::NotContacted => Some("NotContacted"),
+        NcpFault::WrongEnd => Some("WrongEnd"),
+        NcpFault::InUse => Some("InUse"),
+        NcpFault::NoSuchSocket => Some("NoSuchSocket"),
+        NcpFault::NotOpen => Some("NotOpen"),
+        NcpFault::BadSize => Some("BadSize"),
+        NcpFault::Closing => Some("Closing"),
+        NcpFault::NoLink => Some("NoLink"),
+        NcpFault::OverGrant => Some("OverGrant"),
+        NcpFault::OutOfMemory => None,
+    }
+}
+
+/// Writes the lives of connections, one line each.
+///
+/// Errors: `CannotWrite`.
+pub fn print_lives<W: Write>(lives: &[Life], writer: &mut W) -> Result<(), ReplayFault>
+    ensures written { OnOk result (Appends (W.contents writer.old) (W.contents writer.new) (lives_output lives.now)) }
+    ensures fault { IfErr result (λ f. f ≡ ReplayFault.CannotWrite) }
+{
+    for life in lives {
+        check_written(writeln!(writer, "{}", LifeLine(life)))?;
+    }
+    Ok(())
+}

@@ -1,0 +1,3 @@
+mod Lines
+mod Requests
+pub mod WorldOnce

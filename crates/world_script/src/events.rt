@@ -1,0 +1,108 @@
+//! Scripts of worlds: one event a line.
+
+ghost use Rattle.std.specs.Prelude.{◌≡◌, ◌≢◌, ℕ, ◌≤◌, List, ◌∷◌, ◌++◌, codes, length, MatchResult, IfOk, IfErr};
+ghost use Rattle.script.specs.Script.{lines_of};
+ghost use Rattle.script.specs.Spelling.{ReadsAs};
+ghost use Rattle.script.specs.Steps.{Lacks};
+ghost use Rattle.world_script.specs.Steps.{IsVerb, verb_text};
+ghost use Rattle.world_script.specs.WorldScript.{AskFor, IsLineFault};
+ghost use Rattle.world_script.specs.WorldSpelling.{IsSendRead, IsWorldEvent, WantsMemory, world_spelling};
+ghost use Rattle.world_script.specs.declared.verb.Verb.{Verb as VerbName};
+
+use crate::event::WorldEvent;
+use crate::request::read_request;
+use crate::services::{read_server, read_typed, read_user};
+use crate::verb::{Verb, read_verb};
+use net_sim::Event;
+use script::reading::{cut, first_line, is_passed_over, plain_number, read_host, read_net};
+use script::{LineFault, MAX_INPUT};
+use std::alloc::{AllocError, Global};
+
+/// The events of a world's script, in order. Empty lines and lines that begin with `#` are passed over, but
+/// they are counted.
+///
+/// Errors: `BadLine` with the number of the first line, counted from 1, that is no event. `OutOfMemory` only
+/// at a line that wants memory, an event or a `send` whose octets are hexadecimal, with no bad line before it.
+pub fn read_world_script(alloc: Global, text: &[u8]) -> Result<Vec<WorldEvent>, LineFault>
+    requires { length text.now ≤ MAX_INPUT }
+    ensures { MatchResult result (λ events. AskFor events.items (lines_of text.now)) (IsLineFault text.now) }
+{
+    let mut events = Vec::new(alloc);
+    let mut passed = 0;
+    let mut rest = Some(text);
+    'lines: while let Some(left) = rest {
+        let (line, more) = first_line(left);
+        if !is_passed_over(line) {
+            let Some(event) = read_event(alloc, line)? else {
+                return Err(LineFault::BadLine(passed + 1));
+            };
+            events.push(event)?;
+        }
+        passed += 1;
+        rest = more;
+    }
+    Ok(events)
+}
+
+/// The event that a line asks for. `None` if the line is not a valid event.
+///
+/// Errors: `AllocError`, only for octets to send and for a line that is typed.
+fn read_event(alloc: Global, line: &[u8]) -> Result<Option<WorldEvent>, AllocError>
+    ensures read { IfOk result (ReadsAs world_spelling IsWorldEvent line.now) }
+    ensures memory { IfErr result (λ _. WantsMemory line.now) }
+{
+    let Some((word, rest)) = cut(line, b' ') else {
+        return Ok(None);
+    };
+    if let Some(verb) = read_verb(word) {
+        return read_ask(alloc, verb, rest);
+    }
+    if word == b"type".as_slice() {
+        return read_typed(alloc, rest);
+    }
+    Ok(read_plain(word, rest))
+}
+
+/// What the user of a host asks for, from its verb and what follows it.
+///
+/// Errors: `AllocError`, only for octets to send.
+fn read_ask(alloc: Global, verb: Verb, words: &[u8]) -> Result<Option<WorldEvent>, AllocError>
+    ensures read { IfOk result (ReadsAs world_spelling IsWorldEvent (verb_text verb ++ 32 ∷ words.now)) }
+    ensures memory { IfErr result (λ _. IsSendRead (verb_text verb ++ 32 ∷ words.now)) }
+{
+    let Some((host, rest)) = cut(words, b' ') else {
+        return Ok(None);
+    };
+    let Some(host) = read_host(host) else {
+        return Ok(None);
+    };
+    let Some(request) = read_request(alloc, verb, rest)? else {
+        return Ok(None);
+    };
+    Ok(Some(WorldEvent::Happen(Event::Ask(host, request))))
+}
+
+/// The event of a line that is no user's request and types nothing, from its first word and what follows it.
+fn read_plain(word: &[u8], rest: &[u8]) -> Option<WorldEvent>
+    requires word { Lacks 32 word.now }
+    requires not_asked { (v : VerbName) → IsVerb v → word.now ≢ verb_text v }
+    requires not_typed { word.now ≢ codes "type" }
+    ensures { ReadsAs world_spelling IsWorldEvent (word.now ++ 32 ∷ rest.now) result }
+{
+    if word == b"offer".as_slice() {
+        return Some(WorldEvent::Happen(Event::Offer(read_host(rest)?)));
+    }
+    if word == b"take".as_slice() {
+        return Some(WorldEvent::Happen(Event::Take(read_host(rest)?)));
+    }
+    if word == b"server".as_slice() {
+        return read_server(rest);
+    }
+    if word == b"user".as_slice() {
+        return read_user(rest);
+    }
+    if word == b"calm".as_slice() {
+        return Some(WorldEvent::Calm(plain_number(rest)?));
+    }
+    Some(WorldEvent::Happen(Event::Net(read_net(word, rest)?)))
+}

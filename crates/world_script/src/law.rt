@@ -1,0 +1,13 @@
+//! What scripts of worlds promise, as laws over their definitions. The functions here do nothing: each clause is
+//! the law.
+
+ghost use Rattle.std.specs.Prelude.{◌≡◌, ℕ, List};
+ghost use Rattle.world_script.specs.WorldScript.{AskFor};
+ghost use Rattle.world_script.specs.WorldSpelling.{IsWorldEvent, world_spelling};
+ghost use Rattle.world_script.specs.declared.event.WorldEvent.{WorldEvent};
+
+/// There is one reading: a line settles its event, and lines ask for one list of events.
+pub fn one_reading()
+    ensures event { (event other : WorldEvent) → IsWorldEvent event → IsWorldEvent other → world_spelling event ≡ world_spelling other → event ≡ other }
+    ensures events { (lines : List (List ℕ)) (events others : List WorldEvent) → AskFor events lines → AskFor others lines → events ≡ others }
+{}

@@ -1,0 +1,144 @@
+//! Each call of a world with memory left for it.
+
+ghost use Rattle.std.specs.Prelude.{◌≡◌};
+
+use leader1822::{CarrierFault, HostAddr, PlainBoxes};
+use net_sim::{Called, Event, World, WorldFault};
+use script::MAX_INPUT;
+use sockets::NcpFault;
+use std::alloc::{AllocError, Global};
+use std::process::Abort;
+use world_script::{WorldEvent, read_world_script};
+
+/// A host at IMP 1.
+fn first() -> HostAddr
+    ensures { result ≡ record { imp = 1; host = 0 } }
+{
+    HostAddr::new(0, 1).unwrap()
+}
+
+/// A host at IMP 2.
+fn second() -> HostAddr
+    ensures { result ≡ record { imp = 2; host = 0 } }
+{
+    HostAddr::new(0, 2).unwrap()
+}
+
+/// A world of 0/1 and 0/2 in which nothing has happened.
+pub(crate) fn world(alloc: Global) -> Result<World<PlainBoxes>, AllocError> {
+    let mut hosts = Vec::new(alloc);
+    hosts.push(first())?;
+    hosts.push(second())?;
+    World::new(alloc, PlainBoxes::new(alloc, hosts))
+}
+
+/// Two hosts are made ready, a connection is opened and asked for all that a user may ask for, and what 0/2 has said by then
+/// crosses before it stops.
+const CALLS: &str =
+    "contact 0/1 0/2\noffer 0/1\ntake 0/2\noffer 0/2\ntake 0/1\ntake 0/1\ntake 0/2\nlisten 0/2 33 8\nopenrecv 0/1 0/2 16 33\noffer 0/1\ntake 0/2\noffer 0/2\ntake 0/1\ntake 0/1\nopensend 0/1 0/2 17 18 8\nsend 0/2 33 16 4142\ngrant 0/1 16 65535 8\ngrant 0/1 16 1 0\naskback 0/1 16 128 128\necho 0/1 0/2 65\ninterrupt 0/1 16\nclose 0/1 16\nhostdown 0/2\ntake 0/2\n";
+
+/// The events of a script, without its calms, and a quiet round behind them. `None` where the script is bad or memory runs
+/// out.
+fn events(alloc: Global, script: &str) -> Option<Vec<Event>> {
+    if script.len() > MAX_INPUT {
+        return None;
+    }
+    let mut events = Vec::new(alloc);
+    for event in read_world_script(alloc, script.as_bytes()).ok()? {
+        if let WorldEvent::Happen(event) = event {
+            events.push(event).ok()?;
+        }
+    }
+    events.push(Event::Quiet).ok()?;
+    Some(events)
+}
+
+/// How the events of a script and a quiet round happen.
+#[derive(Clone, Copy)]
+enum Way {
+    /// Each by a step.
+    Steps,
+    /// All in one run.
+    Run,
+    /// In one run, and then so many rounds of a calm.
+    Calm(u32),
+}
+
+/// How many were refused by the carrier and by a program, or 0 of both if nobody tells.
+type Refused = [usize; 2];
+
+/// Lets each event happen by a step. `None` where memory runs out.
+fn take_steps(world: &mut World<PlainBoxes>, events: Vec<Event>) -> Option<Refused> {
+    let (mut by_carrier, mut by_program) = (0usize, 0usize);
+    for event in events {
+        match world.step(event) {
+            Ok(()) => {}
+            Err(WorldFault::Carrier(CarrierFault::OutOfMemory | CarrierFault::Stopped)) =>
+                return None,
+            Err(WorldFault::Program(NcpFault::OutOfMemory)) => return None,
+            Err(WorldFault::Carrier(_)) => by_carrier = by_carrier.saturating_add(1),
+            Err(WorldFault::Program(_)) => by_program = by_program.saturating_add(1),
+        }
+    }
+    Some([by_carrier, by_program])
+}
+
+/// What comes of events: what was refused; how many crossings, notices, contacts and lives stand in the book, and how many
+/// bits were handed over in the first life; and the first contact.
+type Outcome = (Refused, [usize; 5], Option<Called>);
+
+/// What comes of the events of a script and a quiet round. `None` where the script is bad or memory runs out.
+fn outcome(alloc: Global, script: &str, way: Way) -> Option<Outcome> {
+    let events = events(alloc, script)?;
+    let mut world = world(alloc).ok()?;
+    let mut refused = [0, 0];
+    match way {
+        Way::Steps => refused = take_steps(&mut world, events)?,
+        Way::Run => world.run(&events).ok()?,
+        Way::Calm(rounds) => {
+            world.run(&events).ok()?;
+            world.calm(rounds).ok()?;
+        }
+    }
+    let book = world.book();
+    let counts = [
+        book.crossings().len(),
+        book.notices().len(),
+        book.contacts().len(),
+        book.lives().len(),
+        book.handed().first().map_or(0, |bits| bits.len()),
+    ];
+    Some((refused, counts, book.contacts().first().copied()))
+}
+
+/// Scripts, how their events happen, and what comes of them.
+const ROWS: [(&str, Way, Refused, [usize; 5]); 4] = [
+    // a grant past what a counter holds is refused by a program, and a host that is down by the carrier
+    (CALLS, Way::Steps, [1, 1], [12, 4, 1, 2, 16]),
+    // a run passes over them
+    (CALLS, Way::Run, [0, 0], [12, 4, 1, 2, 16]),
+    // 0/1 has nothing to take and offers its RST; then 0/2 takes it and offers its RRP
+    ("contact 0/1 0/2", Way::Calm(1), [0, 0], [3, 1, 1, 0, 0]),
+    ("contact 0/1 0/2", Way::Calm(3), [0, 0], [6, 2, 1, 0, 0]),
+];
+
+/// The one contact: of 0/1 with 0/2, before anything crossed.
+fn contact() -> Called {
+    Called {
+        host: first(),
+        place: 0,
+        peer: second(),
+    }
+}
+
+#[test]
+fn events_come_to_what_was_written_down(rt: HostRuntime) {
+    for (row, (script, way, refused, counts)) in ROWS.iter().enumerate() {
+        let wanted = (*refused, *counts, Some(contact()));
+        assert_eq!(rt;
+            outcome(rt.alloc(), script, *way),
+            Some(wanted),
+            "row {row}"
+        );
+    }
+}

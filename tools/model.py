@@ -1,0 +1,68 @@
+#!/usr/bin/env python3
+"""Runs an input by the second reading of the rules alone, without the program: tools/model.py [--book] [--check] < FILE
+
+With --cases FOLDER it runs each file of a folder, with the options of NAME.args, and compares what it prints with
+NAME.stdout. Of TOML it reads the plain spelling that the examples have, one key a line.
+"""
+
+import glob
+import os
+import sys
+
+from script_rules import expected
+
+
+def network_of(text):
+    """The network that a document of the plain spelling describes: its carrier, whether it is raw, its IMPs and its lines."""
+    document = {"carrier": "subnet", "raw": "false", "imp": [], "line": []}
+    table = document
+    for line in filter(None, (line.split("#")[0].strip() for line in text.splitlines())):
+        if line in ("[[imp]]", "[[line]]"):
+            table = {}
+            document[line.strip("[]")].append(table)
+        else:
+            key, value = line.split(" = ")
+            table[key] = value.strip('"')
+    imps = [(int(imp["id"]), int(imp["hosts"])) for imp in document["imp"]]
+    lines = [(int(line["a"]), int(line["b"])) for line in document["line"]]
+    return document["carrier"], document["raw"] == "true", imps, lines
+
+
+def ends(octets, options):
+    """How the program has to end on an input."""
+    lines = octets.decode("latin-1").split("\n")
+    marker = lines.index("%")
+    return expected(options, network_of("\n".join(lines[:marker])), lines[marker + 1 :])
+
+
+def read(path):
+    if not os.path.exists(path):
+        return b""
+    with open(path, "rb") as file:
+        return file.read()
+
+
+def check_cases(folder):
+    """Whether each case of a folder prints what its file says."""
+    wrong, names = 0, [it.removesuffix(".stdout") for it in sorted(glob.glob(f"{folder}/*.stdout"))]
+    for name in names:
+        options = read(f"{name}.args").decode().split()
+        status, output, said = ends(read(name), options)
+        if output != read(f"{name}.stdout").decode():
+            wrong += 1
+            print(f"model: {name} ends with {status} {said.strip()} and prints\n{output}")
+    print(f"model: {len(names)} cases of {folder}, {wrong} wrong")
+    return 1 if wrong else 0
+
+
+def main():
+    if sys.argv[1:2] == ["--cases"]:
+        return max(check_cases(folder) for folder in sys.argv[2:])
+    status, output, said = ends(sys.stdin.buffer.read(), sys.argv[1:])
+    print(output, end="")
+    print(said, end="", file=sys.stderr)
+    return status
+
+
+if __name__ == "__main__":
+    sys.exit(main())

@@ -1,0 +1,297 @@
+"""Scripts for hosts with their programs, made by chance.
+
+Each event is chosen by looking at what the model has come to, and then happens in the model: so that connections open, carry
+data, close and are reset, and scripts don't stay at the door. Runs differ: some lose much, some reset much, some ask for
+wrong things.
+"""
+
+import random
+from collections import Counter
+
+from host_rules import spell_bits
+from imp_rules import spell_flow, spell_host
+from script_rules import opened
+
+RECEIVERS = [16, 18, 20, 4294967292]
+SENDERS = [33, 35, 1, 4294967295]
+SIZES = [8, 8, 8, 1, 7, 32, 255]
+SERVICES = [(7, 100), (9, 200)]
+
+
+# ---- events as lines
+
+
+def spell_part(part):
+    match part:
+        case (_, _):
+            return spell_host(part)
+        case (_, _, _):
+            return spell_flow(part)
+    return str(part)
+
+
+def spell_event(kind, *parts):
+    """The script line of an event."""
+    if kind in ("send", "out"):
+        return " ".join([kind, spell_part(parts[0]), *map(str, parts[1:-1]), spell_bits(parts[-1])])
+    return " ".join([kind, *map(spell_part, parts)])
+
+
+# ---- networks
+
+
+def some_world(chance):
+    """A network for hosts with programs."""
+    numbers = sorted(chance.sample(range(1, 17), chance.choice([1, 2, 2, 2, 3])))
+    imps = [(number, chance.choice([1, 1, 1, 2])) for number in numbers]
+    lines = [*zip(numbers, numbers[1:])]
+    if len(numbers) == 3 and chance.random() < 0.4:
+        lines.append((numbers[0], numbers[2]))
+    return chance.choice(["plain", "plain", "subnet"]), False, imps, lines
+
+
+# ---- scripts
+
+
+class Script:
+    """The lines of a script that is being made, the world that they lead to, and what they came to."""
+
+    def __init__(self, chance, network, length, with_services=True, world=None):
+        self.chance, self.network = chance, network
+        self.world = world or opened(network)
+        self.subnet = network[0] == "subnet"
+        self.names = self.world.carrier.hosts()
+        self.lines, self.events = [], []
+        self.losses = chance.choice([0, 0, 0.01, 0.04])  # how often something is lost or stops
+        self.contacts = chance.choice([0.003, 0.01, 0.1])
+        self.wrong = chance.choice([0.02, 0.15])
+        self.users = chance.choice([0.1, 0.3, 0.5])
+        self.services = chance.choice([0, 0.1]) if with_services else 0
+        if self.subnet:
+            self.do("calm", 3)
+        if len(self.names) > 1 and chance.random() < 0.5:
+            begins = self.serve if self.services and chance.random() < 0.7 else self.begin
+            begins(*chance.sample(self.names, 2))
+        while len(self.lines) < length and self.names:
+            self.something()
+        self.do("calm", chance.choice([0, 1, 20]))
+
+    def do(self, *event):
+        self.events.append(event)
+        self.lines.append(spell_event(*event))
+        self.world.happen(*event)
+
+    def begin(self, receiver, sender):
+        """A contact, and as a rule a connection on which something may be sent."""
+        own, foreign, calms = RECEIVERS[0], SENDERS[0], 5 if self.subnet else 2
+        self.do("contact", receiver, sender)
+        self.do("calm", calms)
+        if self.chance.random() < 0.8:
+            self.do("listen", sender, foreign, self.one(*SIZES))
+            self.do("openrecv", receiver, sender, own, foreign)
+            self.do("calm", calms)
+            self.do("grant", receiver, own, 3, self.one(100, 4000))
+
+    def serve(self, user, server):
+        """An initial connection, as far as it comes in so many rounds."""
+        calms = 12 if self.subnet else 5
+        self.do("server", server, *SERVICES[0])
+        self.do("contact", user, server)
+        self.do("calm", calms)
+        self.do("user", user, server, SERVICES[0][0], 40)
+        self.do("calm", self.one(2, calms, calms))
+        self.do("type", user, "LOGIN")
+
+    # what there is to choose from
+
+    def one(self, *choices):
+        return self.chance.choice(choices)
+
+    def up(self):
+        return {name: program for name, program in self.world.hosts.items() if program is not None}
+
+    def ends(self, host):
+        return [end for pair in host.pairs.values() for end in pair.ends if end.mine]
+
+    def peer(self):
+        return self.one(*self.names * 8, (3, 63), (0, 1))
+
+    def waits(self, name):
+        """Whether something waits for a host."""
+        carrier = self.world.carrier
+        if not self.subnet:
+            return any(flow[0] == name for _, flow in carrier.answers) or any(flow[1] == name for flow, _ in carrier.messages)
+        imp = carrier.imps[name[1]]
+        return imp is not None and bool(imp.hosts[name[0]].answers or imp.hosts[name[0]].messages)
+
+    def something(self):
+        chance = self.chance.random()
+        if chance < self.losses:
+            return self.trouble()
+        down = [name for name, program in self.world.hosts.items() if program is None]
+        if down and chance < 0.15:
+            return self.recover(self.chance.choice(down))
+        ways = [("offer", name) for name, program in self.up().items() if program.next_out()]
+        ways += [("take", name) for name in self.up() if self.waits(name)]
+        if self.subnet and (not ways or self.chance.random() < 0.5):
+            ways = self.inside() or ways
+        if not ways or self.chance.random() < self.users:
+            return self.user()
+        event = self.chance.choice(ways)
+        self.do(*event)
+        if event[0] == "deliver" and self.chance.random() < 0.9:
+            self.do("drop", *event[1:])
+
+    def inside(self):
+        """What may happen in a subnet."""
+        frames = [(line, way) for line, ways in enumerate(self.world.carrier.live) for way, live in ways.items() if live]
+        ways = [("deliver", line, way, 0 if self.chance.random() < 0.9 else 1) for line, way in frames]
+        if self.chance.random() < 0.05:
+            ways = [("resend", imp) for imp, _ in self.network[2]] + [("calm", 1)] * 2
+        return ways
+
+    def trouble(self):
+        """Something stops, or is given up or lost."""
+        flows = [(name, peer, link) for name, host in self.up().items() for peer, pair in host.pairs.items() for link in pair.busy]
+        ways = [("hostdown", name) for name in self.up()]
+        ways += [("giveup", *flow) for flow in flows] * 3
+        if self.subnet:
+            imp, other = self.one(*self.network[2])[0], self.one(*self.network[2])[0]
+            line = self.chance.randrange(len(self.network[3]) + 1)
+            ways += [("impdown", imp), ("enddown", imp, line), ("forget", imp, other)]
+            frames = [(at, way) for at, lives in enumerate(self.world.carrier.live) for way, live in lives.items() if live]
+            ways += [("drop", at, way, 0) for at, way in frames] * 2
+            ways += [("abandon", *flow) for flow in flows]
+        event = self.chance.choice(ways or [("calm", 1)])
+        if event[0] in ("giveup", "abandon"):
+            event = event[0], event[1:]
+        self.do(*event)
+        if event[0] == "enddown" and self.chance.random() < 0.7:
+            self.do("endup", *event[1:])
+
+    def recover(self, name):
+        """What is on the way for a host that should come up again."""
+        if self.subnet and self.world.carrier.imps[name[1]] is None:
+            for imp, _ in self.network[2]:
+                self.do("forget", imp, name[1])
+            self.do("calm", 1)
+            self.do("impup", name[1])
+        waiting = [flow for flow in self.outstanding() if flow[0] == name]
+        for flow in waiting if self.chance.random() < 0.7 else []:
+            self.do("giveup", flow)
+        self.do("hostup", name)
+
+    def outstanding(self):
+        if not self.subnet:
+            return [flow for flow, _ in self.world.carrier.messages]
+        return [flow for imp in self.world.carrier.imps.values() if imp is not None for flow in imp.outstanding]
+
+    # what users ask for
+
+    def user(self):
+        up = self.up()
+        name = self.one(*up) if up and self.chance.random() > self.wrong / 4 else self.peer()
+        host = up.get(name)
+        if host is None:
+            return self.do(*self.one(("take", name), ("offer", name), ("contact", name, self.peer()), ("close", name, 16)))
+        if self.chance.random() < self.services:
+            return self.service(name)
+        self.do(*self.request(name, host))
+
+    def service(self, name):
+        """The initial connection, and lines that are typed."""
+        known = [(place, it) for place in self.names for it in self.world.programs[place] if hasattr(it, "listens") and not it.outcome]
+        if name in self.world.terminals and self.chance.random() < 0.6:
+            return self.do("type", name, self.one("", "HELLO", " ~", "A" * 200))
+        if known and self.chance.random() < 0.6:
+            place, machine = self.chance.choice(known)
+            peer, listens = place, machine.listens
+        else:
+            peer, listens = self.peer(), self.one(7, 9)
+        ready = name in self.up() and self.up()[name].phase(peer) == "ready"
+        if known and not ready and self.chance.random() < 0.8:
+            return self.do("contact", name, peer)
+        if known and self.chance.random() < 0.8:
+            return self.do("user", name, peer, listens, self.one(16, 40, 60, 4294967292) if self.chance.random() > self.wrong else self.one(17, 4294967294))
+        listens, base = self.one(*SERVICES)
+        if self.chance.random() < self.wrong:
+            listens, base = self.one((8, 100), (7, 101), (101, 100))
+        self.do("server", name, listens, base)
+
+    def request(self, name, host):
+        """A request of a host's user: mostly one that means something."""
+        ready = [peer for peer, pair in host.pairs.items() if pair.phase == "ready"]
+        if self.chance.random() < (self.contacts if ready else 0.5):
+            return "contact", name, self.peer()
+        ends = self.ends(host)
+        is_open = any(end.is_open() for end in ends)
+        kinds = ["listen", "open", "send", "grant", "askback", "interrupt", "close", "echo"]
+        weights = [3, 10, 24, 24, 6, 4, 4, 2] if is_open else [8, 16, 1, 1, 1, 1, 2, 1]
+        kind = self.chance.choices(kinds, weights)[0]
+        sends = self.chance.random() < 0.5
+        match kind:
+            case "listen":
+                size = 0 if self.chance.random() < self.wrong else self.one(*SIZES)
+                return kind, name, self.one(*(SENDERS if sends else RECEIVERS)), size
+            case "open":
+                return self.opening(name, sends)
+            case "send":
+                own = self.socket(ends, 1)
+                size = next((end.size for end in ends if end.own == own and end.size), 8)
+                return kind, name, own, self.bits(size)
+            case "grant":
+                few = self.chance.random() < 0.9
+                counts = (self.one(1, 2, 2, 3), self.one(8, 64, 100, 500, 8000)) if few else (self.one(0, 65534), self.one(0, 4294967294))
+                return kind, name, self.socket(ends, 0), *counts
+            case "askback":
+                fractions = 0, 1, 64, 127, 128, 129, 255
+                return kind, name, self.socket(ends, 0), self.one(*fractions), self.one(*fractions)
+            case "echo":
+                return kind, name, self.one(*ready * 4, self.peer()), self.chance.randrange(256)
+        return kind, name, self.socket(ends, sends)
+
+    def bits(self, size):
+        count = self.one(0, 1, 2, 5, 13, 100, 1003, self.chance.randrange(40))
+        return "".join(self.chance.choices("01", k=min(size * count, 9000 // size * size) + (self.chance.random() < self.wrong)))
+
+    def socket(self, ends, sends):
+        """Mostly a socket that this host uses."""
+        used = [end.own for end in ends if end.own % 2 == sends]
+        if used and self.chance.random() > self.wrong:
+            return self.chance.choice(used)
+        return self.one(*(SENDERS if sends != (self.chance.random() < self.wrong) else RECEIVERS))
+
+    def opening(self, name, sends):
+        """A request that opens an end: as a rule one that another host waits for, or hears of."""
+        own, foreign = (SENDERS, RECEIVERS) if sends else (RECEIVERS, SENDERS)
+        if self.chance.random() < self.wrong:
+            chosen = self.peer(), self.one(*own, *foreign), self.one(*own, *foreign)
+        else:
+            chosen = self.chance.choice(self.waited_for(name, sends) or [(self.peer(), self.one(*own), foreign[0])])
+        if not sends:
+            return "openrecv", name, *chosen
+        return "opensend", name, *chosen, 0 if self.chance.random() < self.wrong else self.one(*SIZES)
+
+    def waited_for(self, name, sends):
+        """What an end here could be opened with: ends at other hosts that have no partner, and sockets that listen."""
+        found = []
+        for peer, host in self.up().items():
+            ends = host.pairs[name].ends if name in host.pairs else []
+            found += [(peer, end.foreign, end.own) for end in ends if end.receives() == sends and not end.asked]
+            sockets = SENDERS[:2] if sends else RECEIVERS[:2]
+            found += [(peer, self.one(*sockets), socket) for socket in host.listening if socket % 2 != sends]
+        return found
+
+
+def reached(printed):
+    """What the lines of an output tell of how deep a run went."""
+    words = (line.split(" ") for line in printed)
+    return Counter(" ".join(it[:2]) if it[0] in ("refused", "answer", "done", "failed") else it[0] for it in words)
+
+
+def some_script(seed, with_services=True, most=300):
+    """A network and a script, with the world that it leads to."""
+    chance = random.Random(seed)
+    network = some_world(chance)
+    length = chance.choice([40, 150, most]) // (2 if network[0] == "subnet" else 1)
+    return network, Script(chance, network, length, with_services)
