@@ -10,3 +10,4 @@ pub mod Timeline
 pub mod Whole
 pub mod Clean
 pub mod WorkedResets
+pub mod Told
