@@ -2,6 +2,7 @@ pub mod Words
 pub mod Balance
 pub mod Lives
 pub mod Joint
+pub mod Open
 pub mod Runs
 pub mod Seen
 pub mod Linked

@@ -1,5 +1,6 @@
 -- What is promised of the ends that two hosts opened: no request opens two ends of one sort, and partners are partners both ways.
-use Rattle.std.specs.Prelude.{◌≡◌, ◌≢◌, ◌⊎◌, ℕ, List, [], ◌∷◌}
+use Rattle.std.specs.Prelude.{◌≡◌, ◌≢◌, ◌⊎◌, ℕ, List, [], ◌∷◌, Some}
+use Rattle.pairing_law.specs.Ends.{End}
 use Rattle.pairing_law.specs.Sides.{Life, Both}
 
 -- no life of these has this own request, or this request of a partner
@@ -34,3 +35,7 @@ pub record SafePartners (b : Both) : Type 0 where
   pub own_once : OwnOnce b.one.lives × OwnOnce b.two.lives
   pub partner_once : PartnerOnce b.one.lives × PartnerOnce b.two.lives
   pub both_ways : AreBoth b.one.lives b.two.lives × AreBoth b.two.lives b.one.lives
+
+-- an end is open where its own request went out and it took its partner's: these
+abbrev pub IsOpen : ℕ → ℕ → End → Type 0
+IsOpen own partner e = (e.asked ≡ Some own) × (e.partner ≡ Some partner)

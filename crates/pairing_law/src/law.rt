@@ -13,7 +13,7 @@ ghost use Rattle.pairing_law.specs.Places.{tagged, placed};
 ghost use Rattle.pairing_law.specs.Marks.{Mark, Ask, Close, closes, Asks};
 ghost use Rattle.pairing_law.specs.Ends.{nothing, fits};
 ghost use Rattle.pairing_law.specs.Sides.{Event, One, Two, Meet, Say, Hear, Leave, both, IsRun};
-ghost use Rattle.pairing_law.specs.Partners.{OwnOnce, PartnerOnce, SafePartners};
+ghost use Rattle.pairing_law.specs.Partners.{IsOpen, OwnOnce, PartnerOnce, SafePartners};
 ghost use Rattle.pairing_law.specs.Links.{Sockets, Word, Receiver, Sender, Step, Says, Hears, Leaves, Meets, events_at, receiver, sender, stays, said, heard, IsFree, IsUnused, MayStep, AreSteps};
 ghost use Rattle.pairing_law.specs.Example.{connected, over, again, refused, both_close, late, left, anew, stale, unreset, first, second, asked_link, taken_link, used_link, next_link};
 
@@ -22,6 +22,9 @@ ghost use Rattle.pairing_law.specs.Example.{connected, over, again, refused, bot
 pub fn partners()
     // no two ends have one request, their own or their partner's, and partners are partners both ways
     ensures safe { (events : List Event) → IsRun events → SafePartners (both events) }
+
+    // where both have an open end, each is the other's partner
+    ensures live { (events : List Event) (p q r s : ℕ) → IsRun events → IsOpen p q (both events).one.end → IsOpen r s (both events).two.end → (q ≡ r) × (s ≡ p) }
 
     // all that a host takes of its peer is in order: it never answers with an error
     ensures one { (events : List Event) (mark : Mark) → IsRun (One (Hear mark) ∷ events) → fits mark (both events).one.end ≡ true }
@@ -34,6 +37,7 @@ pub fn links()
     // for each pair of their sockets it is as above
     ensures at { (steps : List Step) → AreSteps steps → (s : Sockets) → IsRun (events_at s steps) }
     ensures safe { (steps : List Step) → AreSteps steps → (s : Sockets) → SafePartners (both (events_at s steps)) }
+    ensures live { (steps : List Step) (p q r t : ℕ) → AreSteps steps → (s : Sockets) → IsOpen p q (receiver s steps).end → IsOpen r t (sender s steps).end → (q ≡ r) × (t ≡ p) }
 
     // where the receiver names a link that none of its ends has, none of the sender's has it either when the request is taken: it is
     // never refused for its link
@@ -79,6 +83,8 @@ pub fn worked_places()
 /// A connection that is opened, closed, and opened again.
 pub fn worked_connection()
     // each end opens where its second request has passed, the first host's with the two places turned about
+    ensures live { IsOpen 3 5 (both connected).one.end × IsOpen 5 3 (both connected).two.end }
+    ensures half_open { (IsOpen 3 0 (both left).two.end → ⊥) × (IsOpen 0 3 (both left).two.end → ⊥) }
     ensures opened { ((both connected).one.lives ≡ record { own = 3; partner = 5 } ∷ []) × ((both connected).two.lives ≡ record { own = 5; partner = 3 } ∷ []) }
 
     // a CLS each way ends both

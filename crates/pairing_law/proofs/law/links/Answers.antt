@@ -1,5 +1,7 @@
 use Rattle.pairing_law.specs.Links.{events_at}
-use Rattle.pairing_law.proofs.Runs.{safe_run}
+use Rattle.pairing_law.specs.Sides.{both}
+use Rattle.pairing_law.proofs.Open.{open_match}
+use Rattle.pairing_law.proofs.Runs.{joined_run, safe_run}
 use Rattle.pairing_law.proofs.Linked.{run_at, unused}
 use Rattle.pairing_law.proofs.law.links.Goals as goal
 
@@ -11,3 +13,6 @@ returns-clause-safe c steps r s = safe_run (events_at s steps) (run_at s steps r
 
 pub returns-clause-unused : goal.returns-clause-unused
 returns-clause-unused c = unused
+
+pub returns-clause-live : goal.returns-clause-live
+returns-clause-live c steps p q r t run s = open_match (both (events_at s steps)).one (both (events_at s steps)).two p q r t (joined_run (events_at s steps) (run_at s steps run))

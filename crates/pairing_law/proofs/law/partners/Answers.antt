@@ -1,5 +1,6 @@
 use Rattle.pairing_law.specs.Sides.{both}
 use Rattle.pairing_law.proofs.Joint.{turned}
+use Rattle.pairing_law.proofs.Open.{open_match}
 use Rattle.pairing_law.proofs.Runs.{safe_run, joined_run, joined_fits}
 use Rattle.pairing_law.proofs.law.partners.Goals as goal
 
@@ -11,3 +12,6 @@ returns-clause-one c events mark r = joined_fits mark (both events).one (both ev
 
 pub returns-clause-two : goal.returns-clause-two
 returns-clause-two c events mark r = joined_fits mark (both events).two (both events).one (turned (both events).one (both events).two (joined_run events r.1)) r.0
+
+pub returns-clause-live : goal.returns-clause-live
+returns-clause-live c events p q r s run = open_match (both events).one (both events).two p q r s (joined_run events run)
