@@ -1,5 +1,5 @@
 -- What services ask for.
-use Rattle.std.proofs.Common.{◌≡◌, ℕ, ◌+◌, ◌==◌, ◌&&◌, if◌then◌else◌, is_none, is_some, nat_lt, take, Bool, true, false, List, [], ◌∷◌, ◌++◌, Option, Some, None, length, All, refl, ap, sym, ◌∙◌}
+use Rattle.std.proofs.Common.{◌≡◌, ℕ, ◌+◌, ◌==◌, ◌&&◌, if◌then◌else◌, is_none, is_some, min, nat_lt, take, Bool, true, false, List, [], ◌∷◌, ◌++◌, Option, Some, None, length, All, refl, ap, sym, ◌∙◌}
 use Rattle.std.specs.List.{fold}
 use Rattle.std.specs.Option.{option_or}
 use Rattle.std.proofs.lemmas.List.{append-nil, append_assoc}
@@ -27,7 +27,7 @@ use Rattle.sockets.specs.declared.request.Request.TheVariants as request
 use Rattle.terminal.specs.Ends as ends
 use Rattle.terminal.specs.Machines.{EchoState, TerminalState, echo_by, echo_turn, terminal_by, terminal_turn}
 use Rattle.terminal.specs.Octets.{whole}
-use Rattle.host_services.specs.Named.{HasAsked, IsAddressed, NamesPeer, NamePeers}
+use Rattle.host_services.specs.Named.{HasAsked, MayAsk, NamesPeer, NamePeers}
 use Rattle.host_services.specs.Services.{Service, ServicesState, DeskState, serving, reporting, noticing, typing_on}
 use Rattle.host_services.specs.Turns.{Turned, asked_by, asks, became, heard, heard_by, all_heard, tried, tried_by, tries, told, lines_told, server_asks, server_begins, server_begun, server_ends, server_asked, user_asks, user_begins, user_begun, user_ends, user_asked}
 use Rattle.host_services.specs.Services.{Report}
@@ -38,33 +38,51 @@ use Rattle.host_services.specs.declared.service.Service.TheVariants as service
 
 -- a desk on which nothing more was asked
 pub same_asked : (d e : DeskState) → e.asked ≡ d.asked → e.program ≡ d.program → HasAsked d e
-same_asked d e a p = record { more = []; asked = a ∙ sym (append-nil d.asked); program = p; addressed = All-nil IsAddressed }
+same_asked d e a p = record { more = []; asked = a ∙ sym (append-nil d.asked); program = p; each = All-nil MayAsk }
 
 pub then_asked : (d e f : DeskState) → HasAsked d e → HasAsked e f → HasAsked d f
 then_asked d e f x y = record {
   more = x.more ++ y.more;
   asked = y.asked ∙ ap (λ (rs : List Request). rs ++ y.more) x.asked ∙ append_assoc d.asked x.more y.more;
   program = y.program ∙ ap (λ (s : NcpState). fold served s y.more) x.program ∙ sym (fold-append served d.program x.more y.more);
-  addressed = All-append IsAddressed x.more y.more x.addressed y.addressed;
+  each = All-append MayAsk x.more y.more x.each y.each;
 }
 
-pub one_asked : (d : DeskState) (r : Request) → IsAddressed r → HasAsked d (serving r d)
-one_asked d r is = record { more = r ∷ []; asked = refl; program = refl; addressed = All-cons IsAddressed r [] is (All-nil IsAddressed) }
+pub one_asked : (d : DeskState) (r : Request) → MayAsk r → HasAsked d (serving r d)
+one_asked d r is = record { more = r ∷ []; asked = refl; program = refl; each = All-cons MayAsk r [] is (All-nil MayAsk) }
 
-one_tried : (d : DeskState) (r : Request) (f : Option NcpFault) → IsAddressed r → HasAsked d (tried_by f r d)
+one_tried : (d : DeskState) (r : Request) (f : Option NcpFault) → MayAsk r → HasAsked d (tried_by f r d)
 one_tried d r None is = one_asked d r is
 one_tried d r (Some f) is = same_asked d d refl refl
 
--- requests, each of which names its peer by an address
+-- requests that services may ask for
 abbrev pub Fine : List Request → Type 0
 Fine [] = Unit {0}
-Fine (r ∷ rs) = IsAddressed r × Fine rs
+Fine (r ∷ rs) = MayAsk r × Fine rs
+
+listens : (socket size : ℕ) → MayAsk (request.Listen socket size)
+listens socket size = record { addressed = tt; silent = tt }
+
+asks_to_send : (peer : Host) (own foreign size : ℕ) → IsAddress peer → MayAsk (request.OpenSend peer own foreign size)
+asks_to_send peer own foreign size is = record { addressed = is; silent = tt }
+
+asks_to_receive : (peer : Host) (own foreign : ℕ) → IsAddress peer → MayAsk (request.OpenReceive peer own foreign)
+asks_to_receive peer own foreign is = record { addressed = is; silent = tt }
+
+sends : (socket : ℕ) (bits : List Bool) → MayAsk (request.Send socket bits)
+sends socket bits = record { addressed = tt; silent = tt }
+
+grants : (socket messages bits : ℕ) → MayAsk (request.Grant socket messages bits)
+grants socket messages bits = record { addressed = tt; silent = tt }
+
+closes : (socket : ℕ) → MayAsk (request.Close socket)
+closes socket = record { addressed = tt; silent = tt }
 
 pub all_tried : (d : DeskState) (rs : List Request) → Fine rs → HasAsked d (tries d rs)
 all_tried d [] fine = same_asked d d refl refl
 all_tried d (r ∷ rs) fine = then_asked d (tried d r) (tries (tried d r) rs) (one_tried d r (refusal d.program r) fine.0) (all_tried (tried d r) rs fine.1)
 
-asks_by : (d : DeskState) (r : Request) (rs : List Request) (f : Option NcpFault) → IsAddressed r → HasAsked (serving r d) (asks (serving r d) rs).0 → HasAsked d (asked_by f d (asks (serving r d) rs)).0
+asks_by : (d : DeskState) (r : Request) (rs : List Request) (f : Option NcpFault) → MayAsk r → HasAsked (serving r d) (asks (serving r d) rs).0 → HasAsked d (asked_by f d (asks (serving r d) rs)).0
 asks_by d r rs None is h = then_asked d (serving r d) (asks (serving r d) rs).0 (one_asked d r is) h
 asks_by d r rs (Some f) is h = same_asked d d refl refl
 
@@ -89,14 +107,14 @@ IsFine d t = HasAsked d t.1 × NamesPeer t.0
 server_end : (d : DeskState) (s : ServerState) (o : Option Outcome) → IsFine d (became (service.Server s) (server_ends d o))
 server_end d s None = (same_asked d d refl refl, tt)
 server_end d s (Some (outcome.Failed f)) = (same_asked d (server_ends d (Some (outcome.Failed f))).1 refl refl, tt)
-server_end d s (Some (outcome.Done receive send)) = (reported_asked d (tries (reporting (report.Server (outcome.Done receive send)) d) (ends.first_requests receive)) (report.Server (outcome.Done receive send)) (all_tried (reporting (report.Server (outcome.Done receive send)) d) (ends.first_requests receive) (tt, tt)), tt)
+server_end d s (Some (outcome.Done receive send)) = (reported_asked d (tries (reporting (report.Server (outcome.Done receive send)) d) (ends.first_requests receive)) (report.Server (outcome.Done receive send)) (all_tried (reporting (report.Server (outcome.Done receive send)) d) (ends.first_requests receive) (grants receive 4 4096, tt)), tt)
 
 user_end : (d : DeskState) (s : UserState) (o : Option Outcome) → IsAddress s.peer → IsFine d (became (service.User s) (user_ends d o))
 user_end d s None is = (same_asked d d refl refl, is)
 user_end d s (Some (outcome.Failed f)) is = (same_asked d (user_ends d (Some (outcome.Failed f))).1 refl refl, is)
 user_end d s (Some (outcome.Done receive send)) is =
     let e : DeskState = typing_on (Some send) (reporting (report.User (outcome.Done receive send)) d) in
-    (then_asked d e (tries e (ends.first_requests receive)) (same_asked d e refl refl) (all_tried e (ends.first_requests receive) (tt, tt)), tt)
+    (then_asked d e (tries e (ends.first_requests receive)) (same_asked d e refl refl) (all_tried e (ends.first_requests receive) (grants receive 4 4096, tt)), tt)
 
 onward : (d e : DeskState) (t : Turned) → HasAsked d e → IsFine e t → IsFine d t
 onward d e t h x = (then_asked d e t.1 h x.0, x.1)
@@ -115,7 +133,7 @@ user_after d s o (e, Some f) is h =
 -- ---- what each asks for at a notice
 
 server_says_fine : (s : ServerState) (b : Bool) → Fine (if b then request.Send s.listen (socket_bits s.receive) ∷ request.Close s.listen ∷ [] else [])
-server_says_fine s true = (tt, (tt, tt))
+server_says_fine s true = (sends s.listen (socket_bits s.receive), (closes s.listen, tt))
 server_says_fine s false = tt
 
 server_by_fine : (s : ServerState) (n : Notice) (over : Bool) (f : Option Failure) → Fine (if over then passed s else server_by s n f).1
@@ -132,15 +150,15 @@ abbrev UserFine : UserState → Turn UserState → Type 0
 UserFine s t = Fine t.1 × IsAddress t.0.peer
 
 opened_fine : (s : UserState) (b : Bool) → IsAddress s.peer → UserFine s (if b then (record s { opened = true }, request.Grant s.own 1 32 ∷ [], None) else passed s)
-opened_fine s true is = ((tt, tt), is)
+opened_fine s true is = ((grants s.own 1 32, tt), is)
 opened_fine s false is = (tt, is)
 
 told_fine : (s : UserState) (base : ℕ) (b : Bool) → IsAddress s.peer
     → UserFine s (if b
     then (record s { base = Some base }, request.Close s.own ∷ request.OpenReceive s.peer s.receive (base + 1) ∷ request.OpenSend s.peer s.send base 8 ∷ [], None)
     else (record s { over = true }, request.Close s.own ∷ [], Some (outcome.Failed failure.BadSocket)))
-told_fine s base true is = ((tt, (is, (is, tt))), is)
-told_fine s base false is = ((tt, tt), is)
+told_fine s base true is = ((closes s.own, (asks_to_receive s.peer s.receive (base + 1) is, (asks_to_send s.peer s.send base 8 is, tt))), is)
+told_fine s base false is = ((closes s.own, tt), is)
 
 joined_fine : (s : UserState) (bits : List Bool) (b : Bool) → IsAddress s.peer
     → UserFine s (if b then passed (record s { bits = bits }) else user_told (record s { bits = [] }) (socket_of (take 32 bits)))
@@ -173,8 +191,8 @@ unfolding user_turn
 user_fine s n is = user_by_fine s n s.over (user_failure s n) is
 
 closing_fine : (receive send : ℕ) (a b : Bool) → Fine (if a then request.Close send ∷ [] else (if b then request.Close receive ∷ [] else []))
-closing_fine receive send true b = (tt, tt)
-closing_fine receive send false true = (tt, tt)
+closing_fine receive send true b = (closes send, tt)
+closing_fine receive send false true = (closes receive, tt)
 closing_fine receive send false false = tt
 
 closed_fine : (receive send : ℕ) (n : Notice) → Fine (ends.closed_by receive send n)
@@ -192,11 +210,11 @@ closed_fine receive send (notice.RemoteError peer code detail) = tt
 
 sending_fine : (send : ℕ) (bits : List Bool) → Fine (ends.sending send bits)
 sending_fine send [] = tt
-sending_fine send (b ∷ bits) = (tt, tt)
+sending_fine send (b ∷ bits) = (sends send (b ∷ bits), tt)
 
 echo_by_fine : (s : EchoState) (o : Option (List Bool)) (closes : List Request) → Fine closes → Fine (echo_by s o closes).1
 echo_by_fine s None closes fine = fine
-echo_by_fine s (Some bits) closes fine = (tt, sending_fine s.send (whole (s.part ++ bits)))
+echo_by_fine s (Some bits) closing fine = (grants s.receive 1 (min (length bits) 4294967295), sending_fine s.send (whole (s.part ++ bits)))
 
 echo_fine : (s : EchoState) (n : Notice) → Fine (echo_turn s n).1
 unfolding echo_turn
@@ -204,7 +222,7 @@ echo_fine s n = echo_by_fine s (ends.arrived_on s.receive n) (ends.closed_by s.r
 
 terminal_by_fine : (s : TerminalState) (o : Option (List Bool)) (closes : List Request) → Fine closes → Fine (terminal_by s o closes).requests
 terminal_by_fine s None closes fine = fine
-terminal_by_fine s (Some bits) closes fine = (tt, tt)
+terminal_by_fine s (Some bits) closing fine = (grants s.receive 1 (min (length bits) 4294967295), tt)
 
 terminal_fine : (s : TerminalState) (n : Notice) → Fine (terminal_turn s n).requests
 unfolding terminal_turn
@@ -244,7 +262,7 @@ told_fine_all (n ∷ ns) ss d named =
 
 -- where what is typed goes changes nothing of it
 from_typing : (typing : Option ℕ) (d e : DeskState) → HasAsked (typing_on typing d) e → HasAsked d e
-from_typing typing d e h = record { more = h.more; asked = h.asked; program = h.program; addressed = h.addressed }
+from_typing typing d e h = record { more = h.more; asked = h.asked; program = h.program; each = h.each }
 
 pub told_asked : (ns : List Notice) (s : ServicesState) (d : DeskState) → NamePeers s → HasAsked d (told ns s d).1 × NamePeers (told ns s d).0
 unfolding told
@@ -258,7 +276,7 @@ last_named : (ss : List Service) (t : Turned) → All NamesPeer ss → NamesPeer
 last_named ss t named is = All-append NamesPeer ss (t.0 ∷ []) named (All-cons NamesPeer t.0 [] is (All-nil NamesPeer))
 
 server_begun_by : (listen base : ℕ) (d : DeskState) → IsFine d (server_asks (opening_server listen base, server_requests listen base, None) d)
-server_begun_by listen base d = server_after d (opening_server listen base) None (asks d (server_requests listen base)) (all_asks d (server_requests listen base) (tt, (tt, (tt, tt))))
+server_begun_by listen base d = server_after d (opening_server listen base) None (asks d (server_requests listen base)) (all_asks d (server_requests listen base) (listens listen 32, (listens base 8, (listens (base + 1) 8, tt))))
 
 server_begins_fine : (listen base : ℕ) (ss : List Service) (d : DeskState) (f : Option StartFault) → HasAsked d (server_begins listen base ss d f).1
 server_begins_fine listen base ss d (Some f) = same_asked d (server_begins listen base ss d (Some f)).1 refl refl
@@ -278,7 +296,7 @@ unfolding server_begun
 server_named_all listen base s d named = server_begins_named listen base s.running (typing_on s.typing d) (server_fault listen base) named
 
 user_begun_by : (peer : Host) (listen own : ℕ) (d : DeskState) → IsAddress peer → IsFine d (user_asks (opening_user peer listen own, user_requests peer listen own, None) d)
-user_begun_by peer listen own d is = user_after d (opening_user peer listen own) None (asks d (user_requests peer listen own)) is (all_asks d (user_requests peer listen own) (is, tt))
+user_begun_by peer listen own d is = user_after d (opening_user peer listen own) None (asks d (user_requests peer listen own)) is (all_asks d (user_requests peer listen own) (asks_to_receive peer own listen is, tt))
 
 user_begins_fine : (peer : Host) (listen own : ℕ) (ss : List Service) (d : DeskState) (f : Option StartFault) → IsAddress peer → HasAsked d (user_begins peer listen own ss d f).1
 user_begins_fine peer listen own ss d (Some f) is = same_asked d (user_begins peer listen own ss d (Some f)).1 refl refl

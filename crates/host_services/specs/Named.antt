@@ -16,6 +16,16 @@ IsAddressed (request.OpenReceive peer own foreign) = IsAddress peer
 IsAddressed (request.Echo peer octet) = IsAddress peer
 IsAddressed r = Unit {0}
 
+-- a request of which the program tells its user nothing: only a contact has notices
+abbrev pub IsSilent : Request → Type 0
+IsSilent (request.Contact peer) = ⊥
+IsSilent r = Unit {0}
+
+-- what a service may ask for
+pub record MayAsk (r : Request) : Type 0 where
+  pub addressed : IsAddressed r
+  pub silent : IsSilent r
+
 -- a user names its peer by an address
 abbrev pub NamesPeer : Service → Type 0
 NamesPeer (service.User s) = IsAddress s.peer
@@ -24,9 +34,9 @@ NamesPeer s = Unit {0}
 abbrev pub NamePeers : ServicesState → Type 0
 NamePeers s = All NamesPeer s.running
 
--- services have asked for more: the program has served that in its order, and each request names its peer by an address
+-- services have asked for more: the program has served that in its order
 pub record HasAsked (before after : DeskState) : Type 0 where
   pub more : List Request
   pub asked : after.asked ≡ before.asked ++ more
   pub program : after.program ≡ fold served before.program more
-  pub addressed : All IsAddressed more
+  pub each : All MayAsk more

@@ -7,7 +7,6 @@ use Rattle.leader1822.specs.declared.crossing.Crossing.{Crossing}
 use Rattle.leader1822.specs.declared.crossing.Crossing.TheVariants as crossing
 pub use Rattle.host_services.specs.Named.{IsAddressed}
 use Rattle.sockets.specs.Sending.{next_out}
-use Rattle.sockets.specs.declared.request.Request.{Request}
 use Rattle.reset_law.specs.Boxes.{Box, Empty, Waiting, Taken}
 use Rattle.reset_law.specs.Events.{Event, Contact}
 use Rattle.net_sim.specs.Book.{Called, contacts_asked}

@@ -5,6 +5,7 @@ use Rattle.leader1822.specs.Host.{Host, IsAddress}
 use Rattle.leader1822.specs.Mailboxes.{is_up}
 use Rattle.net_sim.specs.Story.{Moment, program}
 use Rattle.net_sim.specs.Timeline.{IsAddressed, IsTimeline, crossings_of, contacts_of}
+use Rattle.net_sim.specs.Told.{kept_in, without_reports}
 use Rattle.host_services.specs.Named.{NamePeers}
 use Rattle.net_sim.specs.World.{Event, Net, Quiet, Offer, Take, Ask, Server, User, Typed, Seat, HostServices, WorldState}
 
@@ -17,14 +18,15 @@ pub record AreServed (hosts : List Host) (all : List HostServices) : Type 0 wher
   pub order : map (λ s. s.host) all ≡ hosts
   pub named : All (λ s. NamePeers s.services) all
 
--- the book has the crossings and the contacts of these moments, and until want of memory each host that is up has the program
--- that comes of them
+-- the book has the crossings and the contacts of these moments, and all else that is kept, but for what services report, is what
+-- they tell. Until want of memory each host that is up has the program that comes of them
 pub record IsWhole {C : Type 0} (seen : C → Seen) (hosts : List Host) (w : WorldState C) : Type 0 where
   pub moments : List Moment
   pub timeline : IsTimeline hosts moments
   pub network : (seen w.carrier).hosts ≡ hosts
   pub crossings : w.kept.book.crossings ≡ crossings_of moments
   pub contacts : w.kept.book.contacts ≡ contacts_of moments
+  pub kept : without_reports w.kept ≡ kept_in moments
   pub seats : w.stopped ≡ false → w.seats ≡ map (seat_in hosts moments) hosts
   pub services : w.stopped ≡ false → AreServed hosts w.services
 
