@@ -14,6 +14,7 @@ use Rattle.leader1822.specs.declared.crossing.Inbound.{Inbound}
 use Rattle.leader1822.specs.declared.crossing.Inbound.TheVariants as inbound
 use Rattle.leader1822.specs.declared.event.NetEvent.{NetEvent}
 use Rattle.leader1822.specs.declared.message.HostMessage.{HostMessage}
+use Rattle.ncp_control.specs.Command.{IsWord}
 use Rattle.sockets.specs.Accepting.{accepted}
 use Rattle.sockets.specs.Pairs.{NcpState}
 use Rattle.sockets.specs.Requests.{refusal, served, served_notices}
@@ -24,14 +25,14 @@ use Rattle.sockets.specs.declared.fault.NcpFault.TheVariants as problem
 use Rattle.sockets.specs.declared.request.Request.{Request}
 use Rattle.sockets.specs.declared.request.Request.TheVariants as request
 use Rattle.host_services.proofs.Asking.{server_asked_all, server_named_all, told_asked, user_asked_all, user_named_all}
-use Rattle.host_services.specs.Named.{HasAsked, MayAsk, NamePeers}
+use Rattle.host_services.specs.Named.{HasAsked, MayAsk, NamePeers, NoneRefused}
 use Rattle.host_services.specs.Services.{DeskState, ServicesState, opening_desk}
 use Rattle.host_services.specs.Turns.{server_begun, user_begun}
 use Rattle.host_services.specs.TypedLines.{line_bits}
 use Rattle.net_sim.specs.Book.{Called, Kept, contacts_asked, crossed, all_crossed, told, all_told, asked}
 use Rattle.net_sim.specs.Carriers.{shown}
 use Rattle.net_sim.specs.Story.{Moment, Crossed, Asked, program, places}
-use Rattle.net_sim.specs.Timeline.{Happens, IsAddressed, IsTimeline, contacts_of, crossings_of}
+use Rattle.net_sim.specs.Timeline.{Happens, IsAddressed, IsAsked, IsTimeline, contacts_of, crossings_of}
 use Rattle.net_sim.specs.Told.{host_in, kept_in, notices_by, without_reports}
 use Rattle.net_sim.specs.Whole.{AreServed, Each, IsNamed, IsWhole, seat_in}
 use Rattle.net_sim.specs.World.{Calls, WorldState, WorldFault, Carrier, Program, Event, Net, Quiet, Offer, Take, Ask, Server, User, Typed, Seat, opening_world, seat_of, seated, all_turned, services_of, noticed, heard, tended, turn_of, with_server, with_user, DoesOrHalts, TypeGives, with_program, with_carrier, moved, changed, Refuses, Does, Halts, Passes, OfferEnds, OfferGives, TakeEnds, TakeGives, NetEnds, QuietEnds, AskGives, AtProgram, AtSeat, EventGives, StepGives, RunGives, CalmGives, opening_seats}
@@ -122,11 +123,12 @@ module _ {C : Type 0} (own : Calls C) (hosts : List Host) where
       let rs : List Request = t.1.asked in
       let more : t.1.asked ≡ asks.more = asks.asked ∙ ap (λ (xs : List Request). xs ++ asks.more) none in
       let may : All MayAsk t.1.asked = subst (All MayAsk) (sym more) asks.each in
+      let none_refused : NoneRefused d.program t.1.asked = subst (NoneRefused d.program) (sym more) asks.unrefused in
       let made : t.1.program ≡ fold served d.program t.1.asked = asks.program ∙ ap (λ (xs : List Request). fold served d.program xs) (sym more) in
       let place : length mid.kept.book.crossings ≡ places moments = ap (λ (xs : List Crossing). length xs) crossings ∙ sym (places_same moments) in
       let all : (g : Host) → with_program (same_host h g) (Some (fold served d.program t.1.asked)) (seat_in hosts before g) ≡ seat_in hosts (asks_of h t.1.asked moments) g =
       after_each hosts h d.program (fold served d.program t.1.asked) before moments (asks_of h t.1.asked moments) each (asks_each hosts h t.1.asked moments d.program u.up u.program) in
-      done_whole (asks_of h t.1.asked moments) (tended h t mid) r new (asks_timeline hosts h t.1.asked moments u.up may timeline) network
+      done_whole (asks_of h t.1.asked moments) (tended h t mid) r new (asks_timeline hosts h t.1.asked moments d.program u.up u.program may none_refused timeline) network
       (asked_crossings h t.1.asked mid.kept ∙ crossings ∙ sym (asks_crossings h t.1.asked moments))
       (asks_contacts h t.1.asked mid.kept moments place contacts)
       (kept_asked h t.1.asked mid.kept moments may kept)
@@ -231,23 +233,23 @@ module _ {C : Type 0} (own : Calls C) (hosts : List Host) where
   quiet_ends (Ok done) c old r new w running shows ends = quiet_by c old r new w running (grown_hosts (own.seen old.carrier) [] (own.seen c) shows ∙ w.network) ends
   quiet_ends (Err e) c old r new w running shows ends = passed_whole e c old r new w running (refused_hosts (own.seen old.carrier) e (own.seen c) shows ∙ w.network) ends
 
-  ask_whole : (h : Host) (q : Request) (s : NcpState) (o : Option NcpFault) (old : WorldState C) (r : Result (Unit {0}) WorldFault) (new : WorldState C) → IsAddressed q → (w : Whole old)
+  ask_whole : (h : Host) (q : Request) (s : NcpState) (o : Option NcpFault) (old : WorldState C) (r : Result (Unit {0}) WorldFault) (new : WorldState C) → IsAddressed q × IsAsked q → refusal s q ≡ o → (w : Whole old)
       → old.stopped ≡ false → IsUp w.moments h s → AskGives h q s o old r new → Whole new
-  ask_whole h q s (Some f) old r new named w running u gives = refused_whole (Program f) old r new w gives
-  ask_whole h q s None old r new named w running u (inl d) =
+  ask_whole h q s (Some f) old r new named e w running u gives = refused_whole (Program f) old r new w gives
+  ask_whole h q s None old r new named e w running u (inl d) =
       let called : old.kept.book.contacts ++ contacts_asked h (length old.kept.book.crossings) q ≡ contacts_of w.moments ++ contacts_asked h (places w.moments) q =
       ap (λ (xs : List Called). xs ++ contacts_asked h (length old.kept.book.crossings) q) w.contacts ∙ ap (λ (n : ℕ). contacts_of w.moments ++ contacts_asked h n q) (place_is old w) in
       let made : (served s q, served_notices s q) ≡ (served (program h w.moments) q, served_notices (program h w.moments) q) = called_is old w h s u (λ y n. (served y q, served_notices y q)) in
-      heard_whole h (served s q, served_notices s q) w.moments (Asked h q ∷ w.moments) old (record old { kept = asked h q old.kept }) r new ((u.up, named), w.timeline) w.network
+      heard_whole h (served s q, served_notices s q) w.moments (Asked h q ∷ w.moments) old (record old { kept = asked h q old.kept }) r new ((u.up, named.0, ap (λ (x : NcpState). refusal x q) u.program ∙ e, named.1), w.timeline) w.network
       w.crossings called (kept_more (Asked h q) h (served_notices s q) old.kept w.moments refl (ap (λ (t : NcpState × List Notice). t.1) made) w.kept)
       (w.seats running) (seated_at hosts w.moments h h (λ g. served (program g w.moments) q) (served s q) refl u.up (ap (λ (t : NcpState × List Notice). t.0) made)) (w.services running) d
-  ask_whole h q s None old r new named w running u (inr k) = halt_whole old old.carrier r new w w.network k
+  ask_whole h q s None old r new named e w running u (inr k) = halt_whole old old.carrier r new w w.network k
 
   type_whole : (h : Host) (line : List ℕ) (s : NcpState) (o : Option ℕ) (old : WorldState C) (r : Result (Unit {0}) WorldFault) (new : WorldState C) → (w : Whole old)
       → old.stopped ≡ false → IsUp w.moments h s → TypeGives h line s o old r new → Whole new
   type_whole h line s None old r new w running u gives = refused_whole (Program problem.NotOpen) old r new w gives
   type_whole h line s (Some socket) old r new w running u gives =
-      ask_whole h (request.Send socket (line_bits line)) s (refusal s (request.Send socket (line_bits line))) old r new tt w running u gives
+      ask_whole h (request.Send socket (line_bits line)) s (refusal s (request.Send socket (line_bits line))) old r new (tt, tt) refl w running u gives
 
   -- a service begins
   begun_whole : (h : Host) (s : NcpState) (t : ServicesState × DeskState) (old : WorldState C) (r : Result (Unit {0}) WorldFault) (new : WorldState C) → (w : Whole old) → old.stopped ≡ false → IsUp w.moments h s
@@ -264,12 +266,12 @@ module _ {C : Type 0} (own : Calls C) (hosts : List Host) where
       (server_asked_all listen base (services_of h old.services) (opening_desk h (noticed old) s))
       (server_named_all listen base (services_of h old.services) (opening_desk h (noticed old) s) (named_of h old.services (w.services running).named)) g
 
-  user_whole : (h peer : Host) (listen mine : ℕ) (s : NcpState) (old : WorldState C) (r : Result (Unit {0}) WorldFault) (new : WorldState C) → IsAddress peer → (w : Whole old) → old.stopped ≡ false
+  user_whole : (h peer : Host) (listen mine : ℕ) (s : NcpState) (old : WorldState C) (r : Result (Unit {0}) WorldFault) (new : WorldState C) → IsAddress peer × IsWord listen → (w : Whole old) → old.stopped ≡ false
       → IsUp w.moments h s → DoesOrHalts (with_user h peer listen mine s old) old r new → Whole new
   user_whole h peer listen mine s old r new is w running u g =
       begun_whole h s (user_begun peer listen mine (services_of h old.services) (opening_desk h (noticed old) s)) old r new w running u
-      (user_asked_all peer listen mine (services_of h old.services) (opening_desk h (noticed old) s) is)
-      (user_named_all peer listen mine (services_of h old.services) (opening_desk h (noticed old) s) is (named_of h old.services (w.services running).named)) g
+      (user_asked_all peer listen mine (services_of h old.services) (opening_desk h (noticed old) s) is.0 is.1)
+      (user_named_all peer listen mine (services_of h old.services) (opening_desk h (noticed old) s) is.0 is.1 (named_of h old.services (w.services running).named)) g
 
   -- ---- the program that an event names
 
@@ -292,7 +294,7 @@ module _ {C : Type 0} (own : Calls C) (hosts : List Host) where
   event_whole Quiet old r new named w running t = quiet_ends t.0 t.1 old r new w running t.2.1 t.3
   event_whole (Offer h) old r new named w running t = at_seat (λ s. OfferGives calls h s (next_out s) old r new) (seat_of h old.seats) h old r new w running refl (λ s u g. offer_whole h s (next_out s) old r new w running u refl g) t
   event_whole (Take h) old r new named w running t = at_seat (λ s. TakeGives calls h s old r new) (seat_of h old.seats) h old r new w running refl (λ s u g. take_ends h s g.0 g.1 old r new w running u g.2.1 g.3) t
-  event_whole (Ask h q) old r new named w running t = at_seat (λ s. AskGives h q s (refusal s q) old r new) (seat_of h old.seats) h old r new w running refl (λ s u g. ask_whole h q s (refusal s q) old r new named w running u g) t
+  event_whole (Ask h q) old r new named w running t = at_seat (λ s. AskGives h q s (refusal s q) old r new) (seat_of h old.seats) h old r new w running refl (λ s u g. ask_whole h q s (refusal s q) old r new named refl w running u g) t
   event_whole (Server h listen base) old r new named w running t =
       at_seat (λ s. DoesOrHalts (with_server h listen base s old) old r new) (seat_of h old.seats) h old r new w running refl (λ s u g. server_whole h listen base s old r new w running u g) t
   event_whole (User h peer listen mine) old r new named w running t =

@@ -3,8 +3,9 @@ use Rattle.std.specs.Prelude.{◌≡◌, false, if◌then◌else◌, List, [], �
 use Rattle.leader1822.specs.Calls.{Seen}
 use Rattle.leader1822.specs.Host.{Host, IsAddress}
 use Rattle.leader1822.specs.Mailboxes.{is_up}
+use Rattle.ncp_control.specs.Command.{IsWord}
 use Rattle.net_sim.specs.Story.{Moment, program}
-use Rattle.net_sim.specs.Timeline.{IsAddressed, IsTimeline, crossings_of, contacts_of}
+use Rattle.net_sim.specs.Timeline.{IsAddressed, IsAsked, IsTimeline, crossings_of, contacts_of}
 use Rattle.net_sim.specs.Told.{kept_in, without_reports}
 use Rattle.host_services.specs.Named.{NamePeers}
 use Rattle.net_sim.specs.World.{Event, Net, Quiet, Offer, Take, Ask, Server, User, Typed, Seat, HostServices, WorldState}
@@ -30,15 +31,15 @@ pub record IsWhole {C : Type 0} (seen : C → Seen) (hosts : List Host) (w : Wor
   pub seats : w.stopped ≡ false → w.seats ≡ map (seat_in hosts moments) hosts
   pub services : w.stopped ≡ false → AreServed hosts w.services
 
--- what a user asks for names its peer by an address
+-- what a user asks for names its peer by an address, and has numbers of their types
 abbrev pub IsNamed : Event → Type 0
 IsNamed (Net e) = Unit {0}
 IsNamed Quiet = Unit {0}
 IsNamed (Offer h) = Unit {0}
 IsNamed (Take h) = Unit {0}
-IsNamed (Ask h r) = IsAddressed r
+IsNamed (Ask h r) = IsAddressed r × IsAsked r
 IsNamed (Server h listen base) = Unit {0}
-IsNamed (User h peer listen own) = IsAddress peer
+IsNamed (User h peer listen own) = IsAddress peer × IsWord listen
 IsNamed (Typed h line) = Unit {0}
 
 abbrev pub Each : (Event → Type 0) → List Event → Type 0
