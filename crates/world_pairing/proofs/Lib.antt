@@ -23,3 +23,14 @@ pub mod LinkAll
 pub mod LinkGone
 pub mod LinkTied
 pub mod LinkRun
+pub mod Books
+pub mod Opened
+pub mod Listened
+pub mod LivesRun
+pub mod Unpaired
+pub mod UnpairedRun
+pub mod UnpairedMoments
+pub mod LivesAmong
+pub mod LifeLists
+pub mod Went
+pub mod BookPartners

@@ -24,13 +24,18 @@ AreServed [] = Unit {0}
 AreServed (Asked h r ∷ moments) = (refusal (program h moments) r ≡ None) × IsAsked r × AreServed moments
 AreServed (Crossed c ∷ moments) = AreServed moments
 
--- the place where the message went out that a host took of its peer when there were so many crossings
-abbrev pub place_or : Option ℕ → ℕ
-place_or None = 0
-place_or (Some place) = place
+-- a place, or this number where there is none
+abbrev pub place_or : ℕ → Option ℕ → ℕ
+place_or none None = none
+place_or none (Some place) = place
+
+-- the place where the message went out that a host took of its peer when there were so many crossings; and this number where nothing
+-- had gone out
+abbrev pub origin_or : ℕ → List Crossing → Host → Host → ℕ → ℕ
+origin_or none log h peer stamp = place_or none (last_out (control_flow peer h) (before stamp log))
 
 abbrev pub origin_in : List Crossing → Host → Host → ℕ → ℕ
-origin_in log h peer stamp = place_or (last_out (control_flow peer h) (before stamp log))
+origin_in log h peer stamp = origin_or 0 log h peer stamp
 
 -- the events of moments, each text with its place
 abbrev pub law_events : List Moment → List Event

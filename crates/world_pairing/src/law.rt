@@ -1,6 +1,7 @@
 //! What two hosts say and hear of their connections one way. The functions here do nothing: each clause is a law.
 
-ghost use Rattle.std.specs.Prelude.{◌≡◌, true, false, List, [], ◌∷◌};
+ghost use Rattle.std.specs.Prelude.{◌≡◌, ℕ, ◌+◌, true, false, List, [], ◌∷◌};
+ghost use Rattle.std.specs.List.{Contains};
 ghost use Rattle.leader1822.specs.Host.{Host};
 ghost use Rattle.reset_law.specs.Events as reset;
 ghost use Rattle.reset_law.specs.Stays as stay;
@@ -15,10 +16,12 @@ ghost use Rattle.host_pairing.specs.Spoken.{asking, reset_of_two};
 ghost use Rattle.reset_law.specs.Events.{Contact, In, Other, Out, Reset};
 ghost use Rattle.reset_law.specs.Example.{one, two};
 ghost use Rattle.pairing_law.specs.Marks.{Ask, Close};
-ghost use Rattle.pairing_law.specs.Partners.{SafePartners};
+ghost use Rattle.pairing_law.specs.Partners.{IsIn, SafePartners};
 ghost use Rattle.pairing_law.specs.Places.{tagged};
 ghost use Rattle.pairing_law.specs.Sides.{both};
 ghost use Rattle.pairing_law.specs.Example.{first, second};
+ghost use Rattle.net_sim.specs.declared.life.Life.{Life};
+ghost use Rattle.net_sim.specs.Safe as book;
 ghost use Rattle.net_sim.specs.Safe.{control_flow};
 ghost use Rattle.sockets.specs.Pairs.{pair_with};
 ghost use Rattle.host_pairing.specs.Ends.{HasEnd};
@@ -28,6 +31,11 @@ ghost use Rattle.net_sim.specs.Timeline.{IsTimeline, crossings_of};
 ghost use Rattle.pairing_law.specs.Links.{AreSteps, Leaves, Receiver, Says, Sender, Sockets, events_at, heard, receiver, said, sender, stays};
 ghost use Rattle.world_pairing.specs.Free.{AreServed, law_events, origin_in};
 ghost use Rattle.world_pairing.specs.Steps.{onto, spoken_by, steps, words_by, words_of};
+ghost use Rattle.host_pairing.specs.Openings.{AreAmong};
+ghost use Rattle.net_sim.specs.Told.{kept_in};
+ghost use Rattle.net_sim.specs.Worked as books;
+ghost use Rattle.sockets.specs.Worked as dialogue;
+ghost use Rattle.world_pairing.specs.Lives.{life_of, openings, with_lives};
 
 /// The steps of two hosts, over any list of events of the law of resets.
 pub fn dialogues()
@@ -55,6 +63,32 @@ pub fn programs()
     // so for each pair of their sockets no two openings of a host have one request, their own or their partner's, and where the partner's
     // request of one is the other host's own the reverse holds too
     ensures partners { (hosts : List Host) (moments : List Moment) → HaveAddresses hosts → mail.IsRun hosts (crossings_of moments) → IsTimeline hosts moments → AreServed moments → (a b : Host) → (s : Sockets) → SafePartners (both (events_at s (steps a b (law_events moments)))) }
+{}
+
+/// The lives of a book, over any list of moments of a world.
+pub fn lives()
+    // the lives of a host's socket with a peer's are some of the openings that the law says, in their order: each with the place where
+    // its own request went out, and that where its partner's did
+    ensures openings { (hosts : List Host) (moments : List Moment) → HaveAddresses hosts → mail.IsRun hosts (crossings_of moments) → IsTimeline hosts moments → AreServed moments → (h peer : Host) (own foreign : ℕ) → AreAmong (with_lives (origin_in (crossings_of moments) h peer) h peer own foreign (kept_in moments).book.lives []) (openings h peer own foreign moments) }
+
+    // so each of them is an opening of the law
+    ensures opening { (hosts : List Host) (moments : List Moment) → HaveAddresses hosts → mail.IsRun hosts (crossings_of moments) → IsTimeline hosts moments → AreServed moments → (x : Life) → Contains (kept_in moments).book.lives x → IsIn (life_of (origin_in (crossings_of moments) x.host x.peer) x) (openings x.host x.peer x.socket x.foreign moments) }
+
+    // and no request opens two ends of one sort in the whole book, and partners are partners both ways
+    ensures partners { (hosts : List Host) (moments : List Moment) → HaveAddresses hosts → mail.IsRun hosts (crossings_of moments) → IsTimeline hosts moments → AreServed moments → book.SafePartners (crossings_of moments) (kept_in moments).book.lives }
+{}
+
+/// Lives of a book, as the law tells them.
+pub fn worked_lives()
+    // the first host's life of socket 16 with the second's 33, and the other way; the newest comes first
+    ensures receiver { with_lives (λ p. p + 20) dialogue.first dialogue.second 16 33 books.used.book.lives [] ≡ record { own = 0; partner = 24 } ∷ [] }
+    ensures sender { with_lives (λ p. p + 20) dialogue.second dialogue.first 33 16 books.used.book.lives (record { own = 7; partner = 8 } ∷ []) ≡ record { own = 2; partner = 21 } ∷ record { own = 7; partner = 8 } ∷ [] }
+
+    // no life is of other sockets, of the same the other way, or of another host
+    ensures others { (with_lives (λ p. p) dialogue.first dialogue.second 16 35 books.used.book.lives [] ≡ []) × (with_lives (λ p. p) dialogue.first dialogue.second 33 16 books.used.book.lives [] ≡ []) × (with_lives (λ p. p) dialogue.second dialogue.first 16 33 books.used.book.lives [] ≡ []) }
+
+    // two sockets that both receive, or both send, have no openings, whatever happens
+    ensures none { (moments : List Moment) → (openings dialogue.first dialogue.second 16 18 moments ≡ []) × (openings dialogue.first dialogue.second 33 35 moments ≡ []) }
 {}
 
 /// Words and steps: host `one` asks host `two` for a connection, and closes it, in one message.

@@ -14,6 +14,7 @@ use Rattle.pairing_law.proofs.Runs.{safe_run}
 use Rattle.world_pairing.specs.Steps.{steps}
 use Rattle.world_pairing.specs.Free.{AreServed, law_events, origin_in}
 use Rattle.world_pairing.proofs.LinkRun.{all_tied}
+use Rattle.world_pairing.proofs.Origins.{are_origins}
 use Rattle.world_pairing.proofs.Sides.{receiver_half, sender_half}
 use Rattle.world_pairing.proofs.Tied.{Tied}
 use Rattle.world_pairing.proofs.law.programs.Goals as goal
@@ -21,7 +22,7 @@ use Rattle.world_pairing.proofs.law.programs.Goals as goal
 tied : (hosts : List Host) (moments : List Moment) → HaveAddresses hosts → mail.IsRun hosts (crossings_of moments) → IsTimeline hosts moments → AreServed moments → (a b : Host) → Tied (origin_in (crossings_of moments)) a b moments
 tied hosts moments addresses run time served a b =
     let c : Coupled hosts moments = coupled hosts addresses moments run time in
-    (all_tied hosts (crossings_of moments) [] moments refl c.story c.run served).tied a b
+    (all_tied hosts (origin_in (crossings_of moments)) moments (are_origins 0 (crossings_of moments) [] moments refl) c.story c.run served).tied a b
 
 pub returns-clause-steps : goal.returns-clause-steps
 returns-clause-steps c hosts moments addresses run time served a b = (tied hosts moments addresses run time served a b).steps
