@@ -33,7 +33,7 @@ use Rattle.host_pairing.proofs.Passes.{parcel_goes, parcel_may}
 use Rattle.host_pairing.proofs.Turns.{after_answer, after_data, after_reply, after_reset, orders_idle, orders_ready, same_kept}
 
 -- the pair that is changed
-put : (g : Host) (q : PairState) (peers : List Peer) → pair_with g (with_pair g q peers) ≡ q
+pub put : (g : Host) (q : PairState) (peers : List Peer) → pair_with g (with_pair g q peers) ≡ q
 put g q peers = let r : pair_with g (with_pair g q peers) ≡ cond (same_host g g) q (pair_with g peers) = pair_changed g g q peers in let e : same_host g g ≡ true = same_host-refl g in rw e at r
 
 -- ---- a message

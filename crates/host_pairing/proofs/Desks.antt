@@ -105,7 +105,7 @@ module _ (origin : ℕ → ℕ) (own foreign place : ℕ) where
   closes busy [] = []
   closes busy (e ∷ es) = (if must_close busy e then Close ∷ [] else []) ++ closes busy es
 
-  abbrev close_one : List ℕ → Entry → Entry
+  abbrev pub close_one : List ℕ → Entry → Entry
   close_one busy e = closed_when (must_close busy e) e
 
   closed_step : (busy : List ℕ) (e : Entry) (es : List Entry) → filter (is_at own foreign) (map (close_one busy) es) ≡ map (close_one busy) (filter (is_at own foreign) es) → (b : Bool) → is_at own foreign e ≡ b
@@ -113,7 +113,7 @@ module _ (origin : ℕ → ℕ) (own foreign place : ℕ) where
   closed_step busy e es rest true f = rw f (ap (λ (xs : List Entry). close_one busy e ∷ xs) rest)
   closed_step busy e es rest false f = rw f rest
 
-  closed_ends : (busy : List ℕ) (es : List Entry) → filter (is_at own foreign) (map (close_one busy) es) ≡ map (close_one busy) (filter (is_at own foreign) es)
+  pub closed_ends : (busy : List ℕ) (es : List Entry) → filter (is_at own foreign) (map (close_one busy) es) ≡ map (close_one busy) (filter (is_at own foreign) es)
   closed_ends busy [] = refl
   closed_ends busy (e ∷ es) = closed_step busy e es (closed_ends busy es) (is_at own foreign e) refl
 
@@ -183,5 +183,5 @@ module _ (origin : ℕ → ℕ) (own foreign place : ℕ) where
   -- an end that isn't over is as well one that isn't swept
   pub loose : (ss : List Standing) (ws : List Mark) (x : End) → Stand true origin place ss ws x → Stand false origin place ss ws x
   loose [] ws x h = h
-  loose (s ∷ []) ws x h = (record { live = λ e. absurd (cc); refused = h.0.refused; asked = h.0.asked }, h.1, h.2)
+  loose (s ∷ []) ws x h = (record { live = λ e. absurd (cc); refused = h.0.refused; asked = h.0.asked; own = h.0.own }, h.1, h.2)
   loose (s ∷ t ∷ ss) ws x h = h

@@ -11,3 +11,5 @@ pub mod Openings
 pub mod Told
 pub mod Fronts
 pub mod SpokenRows
+pub mod Known
+pub mod Endings

@@ -46,7 +46,7 @@ among_taken (Ask p) x xs ys h = among_opened x.asked (Some p) xs ys h
 among_taken Close x xs ys h = h
 
 -- where an entry is found
-found_is : (a b : ℕ) (es : List Entry) (e : Entry) → entry_at a b es ≡ Some e → is_at a b e ≡ true
+pub found_is : (a b : ℕ) (es : List Entry) (e : Entry) → entry_at a b es ≡ Some e → is_at a b e ≡ true
 found_is a b [] e f = absurd (cc)
 found_is a b (x ∷ es) e f = step (is_at a b x) refl (found_is a b es e) where
   out : Entry → Option Entry → Entry
@@ -102,12 +102,12 @@ module _ (origin : ℕ → ℕ) (own foreign : ℕ) where
     by false = ap (λ (v : Bool). if v then record { own = a; partner = origin p } ∷ told else told) t
 
   -- the sockets of what is found
-  sockets_are : (a b : ℕ) (e : Entry) → is_at a b e ≡ true → (e.own == own && e.foreign == foreign) ≡ are a b own foreign
+  pub sockets_are : (a b : ℕ) (e : Entry) → is_at a b e ≡ true → (e.own == own && e.foreign == foreign) ≡ are a b own foreign
   sockets_are a b e f =
       let s : (e.own ≡ a) × (e.foreign ≡ b) = they_are e.own e.foreign a b f in
       ap (λ (n : ℕ). n == own && e.foreign == foreign) s.0 ∙ ap (λ (n : ℕ). a == own && n == foreign) s.1
 
-  one_end : (place : ℕ) (e : Entry) (rest : List Standing) (words : List Mark) (x : End) → Stand true origin place (standing e ∷ rest) words x → x ≡ plain origin (standing e)
+  pub one_end : (place : ℕ) (e : Entry) (rest : List Standing) (words : List Mark) (x : End) → Stand true origin place (standing e ∷ rest) words x → x ≡ plain origin (standing e)
   one_end place e [] words x h = h.2 ∙ live_end origin (standing e) (h.0.live refl)
   one_end place e (s ∷ rest) words x h = absurd h
 

@@ -75,12 +75,16 @@ module _ (origin : ℕ → ℕ) (own foreign place : ℕ) where
       (λ s rest same. change_here origin own foreign place false a b closes_now cls_sent d.entries (Close ∷ words) words x (gone Close x) (λ y. (refl, refl, refl)) t h
       (λ r more there j. stand_closes origin place r words x j) s rest same)
 
+  -- before the ends that are over go
+  pub cls_unswept : (a b : ℕ) (d : DeskState) (words : List Mark) (x : End) (t : Bool) → are a b own foreign ≡ t → Stand true origin place (at own foreign d.entries) ((if t then Close ∷ [] else []) ++ words) x
+      → Stand false origin place (at own foreign (changed_at a b cls_sent d.entries)) words (all_gone (if t then Close ∷ [] else []) x)
+  cls_unswept a b d words x true t h = cls_here a b d words x t h
+  cls_unswept a b d words x false t h =
+      loose origin own foreign place (at own foreign (changed_at a b cls_sent d.entries)) words x (change_away origin own foreign place true a b closes_now cls_sent d.entries words x (λ y. (refl, refl, refl)) t h)
+
   cls_by : (peer : Host) (stamp a b : ℕ) (d : DeskState) (words : List Mark) (x : End) (t : Bool) → are a b own foreign ≡ t → Stand true origin place (at own foreign d.entries) ((if t then Close ∷ [] else []) ++ words) x
       → Stand true origin place (at own foreign (command_gone peer stamp (command.Cls a b) d).entries) words (all_gone (if t then Close ∷ [] else []) x)
-  cls_by peer stamp a b d words x true t h = ends_swept origin own foreign place (changed_at a b cls_sent d.entries) words (gone Close x) (cls_here a b d words x t h)
-  cls_by peer stamp a b d words x false t h =
-      ends_swept origin own foreign place (changed_at a b cls_sent d.entries) words x
-      (loose origin own foreign place (at own foreign (changed_at a b cls_sent d.entries)) words x (change_away origin own foreign place true a b closes_now cls_sent d.entries words x (λ y. (refl, refl, refl)) t h))
+  cls_by peer stamp a b d words x t e h = ends_swept origin own foreign place (changed_at a b cls_sent d.entries) words (all_gone (if t then Close ∷ [] else []) x) (cls_unswept a b d words x t e h)
 
   pub one_gone : (peer : Host) (stamp : ℕ) (c : Command) (d : DeskState) (words : List Mark) (x : End) → Stand true origin place (at own foreign d.entries) (mark_of place own foreign c ++ words) x
       → Stand true origin place (at own foreign (command_gone peer stamp c d).entries) words (all_gone (mark_of stamp own foreign c) x)

@@ -78,7 +78,7 @@ module _ (origin : ℕ → ℕ) (own foreign place : ℕ) where
       → Stand true origin place (record { mine = m; asked = a; partner = p; closing = c; partner_closed = b } ∷ []) words x
       → Stand true origin place (called (record { mine = m; asked = a; partner = p; closing = c; partner_closed = b }) ∷ []) words x
   unfolding called
-  stand_called m a p closing.No b words x h = (record { live = λ e. refl; refused = λ e. ((h.0.refused e).0, absurd (let r : false ≡ true = (h.0.refused e).1 in cc)); asked = λ e. absurd (cc) }, h.1, h.2)
+  stand_called m a p closing.No b words x h = (record { live = λ e. refl; refused = λ e. ((h.0.refused e).0, absurd (let r : false ≡ true = (h.0.refused e).1 in cc)); asked = λ e. absurd (cc); own = h.0.own }, h.1, h.2)
   stand_called m a p closing.Due b words x h = h
   stand_called m a p closing.Queued b words x h = h
   stand_called m a p closing.Sent b words x h = h
@@ -135,13 +135,13 @@ module _ (origin : ℕ → ℕ) (own foreign place : ℕ) where
   pub sender_new : (a b size : ℕ) (q : PairState) (x : End) → entry_at a b q.entries ≡ None → Stand true origin place (at own foreign q.entries) (marks place own foreign q.queue) x
       → Stand true origin place (at own foreign (requested (sending_end a b size) (command.Str a b size) q).entries) (marks place own foreign (requested (sending_end a b size) (command.Str a b size) q).queue) x
   sender_new a b size q x none h =
-      on_joined origin own foreign place a b (sending_end a b size) (command.Str a b size) (desk_of q []) x x refl refl (record { live = λ e. refl; refused = λ m. absurd (cc); asked = λ e. absurd (cc) }) none (λ t is. is) (λ t. refl) h
+      on_joined origin own foreign place a b (sending_end a b size) (command.Str a b size) (desk_of q []) x x refl refl (record { live = λ e. refl; refused = λ m. absurd (cc); asked = λ e. absurd (cc); own = λ e. absurd (cc) }) none (λ t is. is) (λ t. refl) h
 
   pub receiver_new : (a b : ℕ) (link : Option ℕ) (q : PairState) (x : End) → entry_at a b q.entries ≡ None → Stand true origin place (at own foreign q.entries) (marks place own foreign q.queue) x
       → Stand true origin place (at own foreign (receiver_requested a b link q).entries) (marks place own foreign (receiver_requested a b link q).queue) x
   receiver_new a b None q x none h = h
   receiver_new a b (Some link) q x none h =
-      on_joined origin own foreign place a b (receiving_end a b link) (command.Rts a b link) (desk_of q []) x x refl refl (record { live = λ e. refl; refused = λ m. absurd (cc); asked = λ e. absurd (cc) }) none (λ t is. is) (λ t. refl) h
+      on_joined origin own foreign place a b (receiving_end a b link) (command.Rts a b link) (desk_of q []) x x refl refl (record { live = λ e. refl; refused = λ m. absurd (cc); asked = λ e. absurd (cc); own = λ e. absurd (cc) }) none (λ t is. is) (λ t. refl) h
 
   pub interrupt_quiet : (b : Bool) (link : ℕ) → mark_of place own foreign (if b then command.Inr link else command.Ins link) ≡ []
   interrupt_quiet true link = refl

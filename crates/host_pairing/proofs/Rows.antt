@@ -1,5 +1,5 @@
 -- Ends of programs in a dialogue, computed.
-use Rattle.std.proofs.Common.{◌≡◌, ℕ, ◌==◌, if◌then◌else◌, true, false, List, [], ◌∷◌, ◌++◌, map, filter, Some, refl, sym, subst, ◌∙◌}
+use Rattle.std.proofs.Common.{◌≡◌, ℕ, ◌==◌, if◌then◌else◌, true, false, List, [], ◌∷◌, ◌++◌, map, filter, Some, None, refl, sym, subst, ◌∙◌}
 use Rattle.bit_messages.specs.Octets.{octets_of}
 use Rattle.ncp_control.specs.Packing.{packed_count}
 use Rattle.ncp_control.specs.Reading.{command_of, read_of}
@@ -15,6 +15,7 @@ use Rattle.sockets.specs.Sending.{next_out, offered}
 use Rattle.sockets.specs.Worked.{first, second, talk, reset, opening, closing}
 use Rattle.host_pairs.specs.declared.entry.Closing.TheVariants as closing
 use Rattle.leader1822.specs.Host.{same_host}
+use Rattle.host_pairing.specs.Known.{all_known}
 use Rattle.host_pairing.specs.Openings.{with_openings}
 use Rattle.host_pairing.specs.Words.{marks}
 use Rattle.host_pairing.specs.Ends.{HasEnd, IsSound, Stand, Standing, at, due, end_of}
@@ -30,7 +31,7 @@ none : (origin : ℕ → ℕ) (own foreign : ℕ) (q : PairState) → at own for
 none origin own foreign q e words = record { ends = λ place. subst (λ (ss : List Standing). Stand true origin place ss (marks place own foreign q.queue) nothing) (sym e) (words place, refl); idle = λ i. refl }
 
 opened : (own partner : ℕ) → IsSound true (record { mine = true; asked = Some own; partner = Some partner; closing = closing.No; partner_closed = false })
-opened own partner = record { live = λ e. refl; refused = λ m. absurd (cc); asked = λ e m. refl }
+opened own partner = record { live = λ e. refl; refused = λ m. absurd (cc); asked = λ e m. refl; own = λ e. refl }
 
 pub receiver_end : HasEnd (λ p. if p == 10 then 8 else 0) 16 33 (pair_with second (state_of (talk (reset ++ opening)) first).peers) (record { asked = Some 6; partner = Some 8; gone = false; taken = false })
 unfolding octets_of orders_of read_of command_of packed_count accepted refusal served served_notices next_out offered
@@ -55,3 +56,11 @@ sender_none = none (λ p. p) 33 16 (pair_with first (state_of (talk (reset ++ op
 pub dialogue_lives : with_openings (λ p. if p == 10 then 8 else 0) 16 33 (map (λ n. n.1) (filter (λ n. same_host first n.0) (talk (reset ++ opening ++ closing)).notices)) [] ≡ record { own = 6; partner = 8 } ∷ []
 unfolding octets_of orders_of read_of command_of packed_count accepted refusal served served_notices next_out offered
 dialogue_lives = refl
+
+pub dialogue_known : all_known (λ p. if p == 10 then 8 else 0) second 16 33 (map (λ n. n.1) (filter (λ n. same_host first n.0) (talk (reset ++ opening)).notices)) None ≡ Some (record { own = 6; partner = 8 })
+unfolding octets_of orders_of read_of command_of packed_count accepted refusal served served_notices next_out offered
+dialogue_known = refl
+
+pub dialogue_over : all_known (λ p. if p == 10 then 8 else 0) second 16 33 (map (λ n. n.1) (filter (λ n. same_host first n.0) (talk (reset ++ opening ++ closing)).notices)) None ≡ None
+unfolding octets_of orders_of read_of command_of packed_count accepted refusal served served_notices next_out offered
+dialogue_over = refl

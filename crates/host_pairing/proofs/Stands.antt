@@ -37,7 +37,7 @@ stand_asked origin place stamp s words x h fit =
     let parts : (not (is_some (came_from origin s.partner)) ≡ true) × (not s.partner_closed ≡ true) = both (not (is_some (came_from origin s.partner))) (not s.partner_closed) fit_plain in (
       none_came origin s.partner parts.0,
       (
-        record { live = h.0.live; refused = λ m. (refl, (h.0.refused m).1); asked = h.0.asked },
+        record { live = h.0.live; refused = λ m. (refl, (h.0.refused m).1); asked = h.0.asked; own = h.0.own },
         h.1,
         ap (taken (Ask (origin stamp))) is ∙ sym (live_end origin (asked_by stamp s) live),
       ),
@@ -82,7 +82,7 @@ stand_closed origin place s words x h fit =
     let parts : (is_begun (plain origin s) ≡ true) × (not s.partner_closed ≡ true) = both (is_begun (plain origin s)) (not s.partner_closed) fit_plain in (
       not_true s.partner_closed parts.1,
       (
-        record { live = λ e. absurd (cc); refused = λ m. ((h.0.refused m).0, due_cls s.closing (h.0.refused m).1); asked = λ e m. h.0.asked (sym (due_sent s.closing) ∙ e) m },
+        record { live = λ e. absurd (cc); refused = λ m. ((h.0.refused m).0, due_cls s.closing (h.0.refused m).1); asked = λ e m. h.0.asked (sym (due_sent s.closing) ∙ e) m; own = h.0.own },
         h.1 ∙ ap (λ (l : List Mark). request_due place s.mine s.asked ++ l) (sym (due_waits s.closing)),
         ap (taken Close) is ∙ closed_end origin s (is_sent s.closing) refl (due_sent s.closing),
       ),
@@ -95,7 +95,7 @@ pub stand_queued : (swept : Bool) (origin : ℕ → ℕ) (place : ℕ) (mine : B
     → Stand swept origin place (record { mine = mine; asked = asked; partner = partner; closing = closing.Queued; partner_closed = partner_closed } ∷ []) (words ++ Close ∷ []) x
 stand_queued swept origin place mine asked partner closing.No partner_closed words x e h = absurd (cc)
 stand_queued swept origin place mine asked partner closing.Due partner_closed words x e h = (
-  record { live = λ e. refl; refused = λ m. ((h.0.refused m).0, refl); asked = λ e. absurd (cc) },
+  record { live = λ e. refl; refused = λ m. ((h.0.refused m).0, refl); asked = λ e. absurd (cc); own = h.0.own },
   ap (λ (l : List Mark). l ++ Close ∷ []) (h.1 ∙ append-nil (request_due place mine asked)),
   h.2,
 )
@@ -121,7 +121,7 @@ stand_past origin place s words x h past =
     (h.1 ∙ past_due place s.mine s.asked s.closing parts.0 (h.0.asked parts.0), h.2 ∙ ap (λ (b : Bool). if b then nothing else plain origin s) past)
 
 pub stand_live : (origin : ℕ → ℕ) (place : ℕ) (s : Standing) (words : List Mark) (x : End) → Stand false origin place (s ∷ []) words x → is_past s ≡ false → Stand true origin place (s ∷ []) words x
-stand_live origin place s words x h live = (record { live = λ e. live; refused = h.0.refused; asked = h.0.asked }, h.1, h.2)
+stand_live origin place s words x h live = (record { live = λ e. live; refused = h.0.refused; asked = h.0.asked; own = h.0.own }, h.1, h.2)
 
 -- ---- what goes out
 
@@ -178,7 +178,7 @@ pub stand_asks : (origin : ℕ → ℕ) (place stamp : ℕ) (s : Standing) (word
     → Stand true origin place (asks_at stamp s ∷ []) words (gone (Ask stamp) x)
 stand_asks origin place stamp s words x h = elim (heads place s.mine s.asked s.closing (Ask place) words h.1) [
   | inl r ↦ (
-    record { live = h.0.live; refused = λ m. absurd (let q : true ≡ false = sym r.own ∙ m in cc); asked = λ e m. refl },
+    record { live = h.0.live; refused = λ m. absurd (let q : true ≡ false = sym r.own ∙ m in cc); asked = λ e m. refl; own = λ e. r.own },
     r.rest ∙ ap (λ (l : List Mark). l ++ close_waits s.closing) (asked_due place s.mine stamp),
     ap (gone (Ask stamp)) (h.2 ∙ live_end origin s (h.0.live refl)) ∙ sym (live_end origin (asks_at stamp s) (h.0.live refl)),
   )
@@ -205,7 +205,7 @@ pub stand_closes : (origin : ℕ → ℕ) (place : ℕ) (s : Standing) (words : 
 stand_closes origin place s words x h = elim (heads place s.mine s.asked s.closing Close words h.1) [
   | inl r ↦ absurd (let q : Close ≡ Ask place = r.mark in cc)
   | inr r ↦ (
-    record { live = λ e. absurd (cc); refused = λ m. ((h.0.refused m).0, refl); asked = λ e m. r.own m },
+    record { live = λ e. absurd (cc); refused = λ m. ((h.0.refused m).0, refl); asked = λ e m. r.own m; own = h.0.own },
     r.rest ∙ none_due place s.mine s.asked r.own,
     ap (gone Close) (h.2 ∙ live_end origin s (h.0.live refl)) ∙ closes_end origin s,
   )
@@ -220,7 +220,7 @@ begun_by false None None origin h k = absurd (let r : false ≡ true = k refl in
 begun_by false None (Some q) origin h k = refl
 begun_by false (Some p) partner origin h k = refl
 
-may_ask : (origin : ℕ → ℕ) (place : ℕ) (s : Standing) (words : List Mark) (x : End) → Stand true origin place (s ∷ []) (Ask place ∷ words) x → MayGo (Ask place) x
+pub may_ask : (origin : ℕ → ℕ) (place : ℕ) (s : Standing) (words : List Mark) (x : End) → Stand true origin place (s ∷ []) (Ask place ∷ words) x → MayGo (Ask place) x
 may_ask origin place s words x h = elim (heads place s.mine s.asked s.closing (Ask place) words h.1) [
   | inl r ↦
       (let is : x ≡ plain origin s = h.2 ∙ live_end origin s (h.0.live refl) in

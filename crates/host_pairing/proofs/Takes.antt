@@ -81,12 +81,12 @@ module _ (origin : ℕ → ℕ) (own foreign place : ℕ) where
 
   on_refused : (a b stamp : ℕ) (d : DeskState) (x : End) → entry_at a b d.entries ≡ None → On origin own foreign place true d x → On origin own foreign place true (commands.refused a b stamp d) (after a b (Ask (origin stamp)) x)
   on_refused a b stamp d x none h =
-      on_begun a b stamp (refused_end a b stamp) (cls_of (refused_end a b stamp)) d x refl refl (record { live = λ e. refl; refused = λ m. (refl, refl); asked = λ e. absurd (cc) }) refl none h
+      on_begun a b stamp (refused_end a b stamp) (cls_of (refused_end a b stamp)) d x refl refl (record { live = λ e. refl; refused = λ m. (refl, refl); asked = λ e. absurd (cc); own = λ e. absurd (cc) }) refl none h
 
   on_rts_heard : (a b link stamp : ℕ) (l : Option Listener) (d : DeskState) (x : End) → entry_at a b d.entries ≡ None → On origin own foreign place true d x → On origin own foreign place true (rts_heard a b link stamp l d) (after a b (Ask (origin stamp)) x)
   on_rts_heard a b link stamp None d x none h = on_refused a b stamp d x none h
   on_rts_heard a b link stamp (Some l) d x none h =
-      on_begun a b stamp (asked_on_link stamp link (sending_end a b l.size)) (command.Str a b l.size) (answered_on a d) x refl refl (record { live = λ e. refl; refused = λ m. absurd (cc); asked = λ e. absurd (cc) }) refl none h
+      on_begun a b stamp (asked_on_link stamp link (sending_end a b l.size)) (command.Str a b l.size) (answered_on a d) x refl refl (record { live = λ e. refl; refused = λ m. absurd (cc); asked = λ e. absurd (cc); own = λ e. absurd (cc) }) refl none h
 
   on_rts_by : (peer : Host) (a b link stamp : ℕ) (o : Option Entry) (d : DeskState) (x : End) → entry_at a b d.entries ≡ o → Fits a b (Ask (origin stamp)) x → On origin own foreign place true d x
       → On origin own foreign place true (rts_taken_by peer a b link stamp o d) (after a b (Ask (origin stamp)) x)
@@ -103,7 +103,7 @@ module _ (origin : ℕ → ℕ) (own foreign place : ℕ) where
   on_str_linked : (a b size stamp : ℕ) (l : Option ℕ) (d : DeskState) (x : End) → entry_at a b d.entries ≡ None → On origin own foreign place true d x → On origin own foreign place true (str_linked a b size stamp l d) (after a b (Ask (origin stamp)) x)
   on_str_linked a b size stamp None d x none h = on_refused a b stamp d x none h
   on_str_linked a b size stamp (Some link) d x none h =
-      on_begun a b stamp (asked_with_size stamp size (receiving_end a b link)) (command.Rts a b link) (answered_on a d) x refl refl (record { live = λ e. refl; refused = λ m. absurd (cc); asked = λ e. absurd (cc) }) refl none h
+      on_begun a b stamp (asked_with_size stamp size (receiving_end a b link)) (command.Rts a b link) (answered_on a d) x refl refl (record { live = λ e. refl; refused = λ m. absurd (cc); asked = λ e. absurd (cc); own = λ e. absurd (cc) }) refl none h
 
   on_str_heard : (a b size stamp : ℕ) (l : Option Listener) (d : DeskState) (x : End) → entry_at a b d.entries ≡ None → On origin own foreign place true d x → On origin own foreign place true (str_heard a b size stamp l d) (after a b (Ask (origin stamp)) x)
   on_str_heard a b size stamp None d x none h = on_refused a b stamp d x none h
@@ -116,19 +116,34 @@ module _ (origin : ℕ → ℕ) (own foreign place : ℕ) where
 
   -- ---- a CLS
 
-  closed_rest : (peer : Host) (busy : List ℕ) (a b : ℕ) (e : Entry) (d : DeskState) (x : End) → are a b own foreign ≡ true → fits Close x ≡ true → On origin own foreign place true d x
-      → (rest : List Standing) → at own foreign d.entries ≡ standing e ∷ rest → On origin own foreign place true (closed_once peer busy a b e d) (taken Close x)
-  closed_rest peer busy a b e d x t fit h [] same =
+  -- the connections after a CLS, before the ends that are over go
+  abbrev pub shut : List ℕ → ℕ → ℕ → DeskState → DeskState
+  shut busy a b d = settled busy (changed (is_at a b) closed_by_partner d)
+
+  closed_rest : (busy : List ℕ) (a b : ℕ) (e : Entry) (d : DeskState) (x : End) → are a b own foreign ≡ true → fits Close x ≡ true → On origin own foreign place true d x
+      → (rest : List Standing) → at own foreign d.entries ≡ standing e ∷ rest → (e.partner_closed ≡ false) × On origin own foreign place false (shut busy a b d) (taken Close x)
+  closed_rest busy a b e d x t fit h [] same =
       let k : Stand true origin place (standing e ∷ []) (marks place own foreign d.queue) x = subst (λ (ss : List Standing). Stand true origin place ss (marks place own foreign d.queue) x) same h in
       let none : e.partner_closed ≡ false = (stand_closed origin place (standing e) (marks place own foreign d.queue) x k fit).0 in
       let marked : On origin own foreign place false (changed (is_at a b) closed_by_partner d) (taken Close x) =
       change_here origin own foreign place false a b closed_by closed_by_partner d.entries (marks place own foreign d.queue) (marks place own foreign d.queue) x (taken Close x) (λ y. (refl, refl, refl)) t h
       (λ s rest there j. (stand_closed origin place s (marks place own foreign d.queue) x j fit).1) (standing e) [] same in
-      let queued : On origin own foreign place false (settled busy (changed (is_at a b) closed_by_partner d)) (taken Close x) = on_settled origin own foreign place false busy (changed (is_at a b) closed_by_partner d) (taken Close x) marked in
-      let done : On origin own foreign place true (swept peer (settled busy (changed (is_at a b) closed_by_partner d))) (taken Close x) =
-      ends_swept origin own foreign place (settled busy (changed (is_at a b) closed_by_partner d)).entries (marks place own foreign (settled busy (changed (is_at a b) closed_by_partner d)).queue) (taken Close x) queued in
-      subst (λ (v : Bool). On origin own foreign place true (if v then d else swept peer (settled busy (changed (is_at a b) closed_by_partner d))) (taken Close x)) (sym none) done
-  closed_rest peer busy a b e d x t fit h (s ∷ rest) same = absurd (subst (λ (ss : List Standing). Stand true origin place ss (marks place own foreign d.queue) x) same h)
+      (none, on_settled origin own foreign place false busy (changed (is_at a b) closed_by_partner d) (taken Close x) marked)
+  closed_rest busy a b e d x t fit h (s ∷ rest) same = absurd (subst (λ (ss : List Standing). Stand true origin place ss (marks place own foreign d.queue) x) same h)
+
+  pub on_shut : (busy : List ℕ) (a b : ℕ) (e : Entry) (d : DeskState) (x : End) → entry_at a b d.entries ≡ Some e → Fits a b Close x → On origin own foreign place true d x
+      → (are a b own foreign ≡ true → e.partner_closed ≡ false) × On origin own foreign place false (shut busy a b d) (after a b Close x)
+  on_shut busy a b e d x f fit h = by (are a b own foreign) refl where
+    by : (t : Bool) → are a b own foreign ≡ t → (t ≡ true → e.partner_closed ≡ false) × On origin own foreign place false (shut busy a b d) (if t then taken Close x else x)
+    by true t =
+        let g : Found own foreign d.entries e = found_here a b own foreign d.entries e t f in
+        let r : (e.partner_closed ≡ false) × On origin own foreign place false (shut busy a b d) (taken Close x) = closed_rest busy a b e d x t (fit t) h g.rest g.first in
+        (λ is. r.0, r.1)
+    by false t =
+        let marked : On origin own foreign place true (changed (is_at a b) closed_by_partner d) x = change_away origin own foreign place true a b closed_by closed_by_partner d.entries (marks place own foreign d.queue) x (λ y. (refl, refl, refl)) t h in (
+          λ is. absurd (cc),
+          loose origin own foreign place (at own foreign (shut busy a b d).entries) (marks place own foreign (shut busy a b d).queue) x (on_settled origin own foreign place true busy (changed (is_at a b) closed_by_partner d) x marked),
+        )
 
   on_cls : (peer : Host) (busy : List ℕ) (a b : ℕ) (o : Option Entry) (d : DeskState) (x : End) → entry_at a b d.entries ≡ o → Fits a b Close x → On origin own foreign place true d x
       → On origin own foreign place true (cls_taken_by peer busy a b o d) (after a b Close x)
@@ -138,17 +153,15 @@ module _ (origin : ℕ → ℕ) (own foreign place : ℕ) where
         let was : (marks place own foreign d.queue ≡ []) × (x ≡ nothing) = subst (λ (ss : List Standing). Stand true origin place ss (marks place own foreign d.queue) x) (none_here a b own foreign d.entries t f) h in
         absurd (let r : fits Close nothing ≡ true = subst (λ (y : End). fits Close y ≡ true) was.1 (fit t) in cc)
     by false t = on_queued origin own foreign place true (error NO_SOCKET (spelling (command.Cls b a))) d x refl h
-  on_cls peer busy a b (Some e) d x f fit h = by (are a b own foreign) refl where
-    by : (t : Bool) → are a b own foreign ≡ t → On origin own foreign place true (cls_taken_by peer busy a b (Some e) d) (if t then taken Close x else x)
-    by true t =
-        let g : Found own foreign d.entries e = found_here a b own foreign d.entries e t f in
-        closed_rest peer busy a b e d x t (fit t) h g.rest g.first
-    by false t =
-        let marked : On origin own foreign place true (changed (is_at a b) closed_by_partner d) x = change_away origin own foreign place true a b closed_by closed_by_partner d.entries (marks place own foreign d.queue) x (λ y. (refl, refl, refl)) t h in
-        let queued : On origin own foreign place true (settled busy (changed (is_at a b) closed_by_partner d)) x = on_settled origin own foreign place true busy (changed (is_at a b) closed_by_partner d) x marked in
-        let next : DeskState = settled busy (changed (is_at a b) closed_by_partner d) in
-        on_if origin own foreign place true e.partner_closed d (swept peer next) x h
-        (ends_swept origin own foreign place next.entries (marks place own foreign next.queue) x (loose origin own foreign place (at own foreign next.entries) (marks place own foreign next.queue) x queued))
+  on_cls peer busy a b (Some e) d x f fit h = by (are a b own foreign) refl (on_shut busy a b e d x f fit h) where
+    by : (t : Bool) → are a b own foreign ≡ t → (t ≡ true → e.partner_closed ≡ false) × On origin own foreign place false (shut busy a b d) (if t then taken Close x else x)
+        → On origin own foreign place true (closed_once peer busy a b e d) (if t then taken Close x else x)
+    by true t r =
+        subst (λ (v : Bool). On origin own foreign place true (if v then d else swept peer (shut busy a b d)) (taken Close x)) (sym (r.0 refl))
+        (ends_swept origin own foreign place (shut busy a b d).entries (marks place own foreign (shut busy a b d).queue) (taken Close x) r.1)
+    by false t r =
+        on_if origin own foreign place true e.partner_closed d (swept peer (shut busy a b d)) x h
+        (ends_swept origin own foreign place (shut busy a b d).entries (marks place own foreign (shut busy a b d).queue) x r.1)
 
   -- ---- allocation, interrupts and data
 
@@ -186,7 +199,7 @@ module _ (origin : ℕ → ℕ) (own foreign place : ℕ) where
 
   -- ---- all commands
 
-  one_mark : (s t : Bool) (m : Mark) (x : End) → s ≡ t → (if t then taken m x else x) ≡ words.all_taken (when s m) x
+  pub one_mark : (s t : Bool) (m : Mark) (x : End) → s ≡ t → (if t then taken m x else x) ≡ words.all_taken (when s m) x
   one_mark true true m x e = refl
   one_mark false false m x e = refl
   one_mark true false m x e = absurd (cc)

@@ -113,12 +113,12 @@ module _ (origin : ℕ → ℕ) (own foreign : ℕ) where
 
   -- ---- a host
 
-  message_notices : (s : NcpState) (m : HostMessage) (stamp : ℕ) → same_host s.own m.flow.destination ≡ true → (accepted s (inbound.Message m) stamp).1 ≡ (message_taken m.flow.source stamp m.flow.link.0 m.text (turn_of s m.flow.source)).notices
+  pub message_notices : (s : NcpState) (m : HostMessage) (stamp : ℕ) → same_host s.own m.flow.destination ≡ true → (accepted s (inbound.Message m) stamp).1 ≡ (message_taken m.flow.source stamp m.flow.link.0 m.text (turn_of s m.flow.source)).notices
   unfolding accepted
   message_notices s m stamp mine =
       rw mine refl
 
-  control_notices : (s : NcpState) (m : HostMessage) (stamp : ℕ) → same_host s.own m.flow.destination ≡ true → (m.flow.link.0 == 0) ≡ true → (accepted s (inbound.Message m) stamp).1 ≡ (orders_taken m.flow.source stamp (orders_of m.text) (turn_of s m.flow.source)).notices
+  pub control_notices : (s : NcpState) (m : HostMessage) (stamp : ℕ) → same_host s.own m.flow.destination ≡ true → (m.flow.link.0 == 0) ≡ true → (accepted s (inbound.Message m) stamp).1 ≡ (orders_taken m.flow.source stamp (orders_of m.text) (turn_of s m.flow.source)).notices
   control_notices s m stamp mine zero =
       message_notices s m stamp mine ∙ ap (λ (b : Bool). (if b then orders_taken m.flow.source stamp (orders_of m.text) (turn_of s m.flow.source) else if_ready (data_taken m.flow.link.0 m.text) (turn_of s m.flow.source)).notices) zero
 

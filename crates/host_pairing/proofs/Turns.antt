@@ -75,7 +75,7 @@ module _ (origin : ℕ → ℕ) (own foreign : ℕ) where
   one_order peer stamp (Wrong code octets) t x joint free fit ready h =
       done t (queued (error code octets) (desk_of t.pair t.listening)) x ready (λ place. on_queued origin own foreign place true (error code octets) (desk_of t.pair t.listening) x refl (h.ends place))
 
-  all_taken_append : (ms ns : List Mark) (x : End) → all_taken (ms ++ ns) x ≡ all_taken ns (all_taken ms x)
+  pub all_taken_append : (ms ns : List Mark) (x : End) → all_taken (ms ++ ns) x ≡ all_taken ns (all_taken ms x)
   all_taken_append [] ns x = refl
   all_taken_append (m ∷ ms) ns x = all_taken_append ms ns (taken m x)
 
@@ -123,7 +123,7 @@ module _ (origin : ℕ → ℕ) (own foreign : ℕ) where
 
   -- ---- answers
 
-  rfnm_idle : (zero : Bool) (ph : Phase) → is_ready (if zero then taken_phase ph else ph) ≡ false → is_ready ph ≡ false
+  pub rfnm_idle : (zero : Bool) (ph : Phase) → is_ready (if zero then taken_phase ph else ph) ≡ false → is_ready ph ≡ false
   rfnm_idle false ph e = e
   rfnm_idle true phase.Closed e = refl
   rfnm_idle true phase.Want e = refl

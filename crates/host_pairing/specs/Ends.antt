@@ -63,11 +63,12 @@ due place s = request_due place s.mine s.asked ++ close_waits s.closing
 -- ---- how it stands
 
 -- an end whose CLS have both passed is there only until it is swept; an end that isn't this host's own is that of a request
--- which it refuses; and no CLS goes out before the own request
+-- which it refuses; no CLS goes out before the own request, and only an own end has one
 pub record IsSound (swept : Bool) (s : Standing) : Type 0 where
   pub live : swept ≡ true → is_past s ≡ false
   pub refused : s.mine ≡ false → (is_some s.partner ≡ true) × (has_cls s.closing ≡ true)
   pub asked : is_sent s.closing ≡ true → s.mine ≡ true → is_some s.asked ≡ true
+  pub own : is_some s.asked ≡ true → s.mine ≡ true
 
 -- there is no end, and nothing waits; or there is one, and what waits is what it still has to say
 abbrev pub Stand : Bool → (ℕ → ℕ) → ℕ → List Standing → List Mark → End → Type 0

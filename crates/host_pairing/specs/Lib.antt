@@ -3,3 +3,4 @@ pub mod Ends
 pub mod Hearing
 pub mod Openings
 pub mod Spoken
+pub mod Known

@@ -1,6 +1,6 @@
 //! What a host's program says and hears of connections. The functions here do nothing: each clause is a law.
 
-ghost use Rattle.std.specs.Prelude.{◌≡◌, ℕ, Bool, ◌+◌, ◌≤◌, ◌==◌, if◌then◌else◌, true, false, List, [], ◌∷◌, ◌++◌, Some, None, map, filter};
+ghost use Rattle.std.specs.Prelude.{◌≡◌, ℕ, Bool, ◌+◌, ◌≤◌, ◌==◌, if◌then◌else◌, true, false, List, [], ◌∷◌, ◌++◌, Option, Some, None, map, filter};
 ghost use Rattle.leader1822.specs.Host.{Host, same_host};
 ghost use Rattle.leader1822.specs.declared.address.Flow.{Flow};
 ghost use Rattle.leader1822.specs.declared.crossing.Answer.{Answer};
@@ -15,6 +15,7 @@ ghost use Rattle.reset_law.specs.Events.{Event, In, Out, Other};
 ghost use Rattle.reset_law.specs.Example.{one, two};
 ghost use Rattle.reset_law.specs.Runs.{IsRun};
 ghost use Rattle.sockets.specs.Accepting.{accepted, turn_of};
+ghost use Rattle.host_pairs.specs.About.{AreAbout};
 ghost use Rattle.host_pairs.specs.Commands.{asked_on_link};
 ghost use Rattle.host_pairs.specs.Control.{Legal, Wrong, orders_of};
 ghost use Rattle.sockets.specs.Dialogue.{state_of};
@@ -30,6 +31,7 @@ ghost use Rattle.sockets.specs.Sending.{next_in, offered};
 ghost use Rattle.sockets.specs.Worked.{first, second, third, talk, reset, opening, closing};
 ghost use Rattle.host_pairs.specs.declared.phase.Phase.TheVariants as phase;
 ghost use Rattle.host_pairs.specs.declared.entry.Closing.TheVariants as closing;
+ghost use Rattle.host_pairs.specs.declared.notice.Notice.{Notice};
 ghost use Rattle.host_pairs.specs.declared.notice.Notice.TheVariants as notice;
 ghost use Rattle.sockets.specs.declared.peer.Peer.{Peer};
 ghost use Rattle.sockets.specs.declared.request.Request.{Request};
@@ -39,6 +41,7 @@ ghost use Rattle.host_pairing.specs.Ends.{HasEnd, IsSound, Stand, Standing, due,
 ghost use Rattle.host_pairing.specs.Hearing.{AreFree, AreJoint, IsFree, after_request};
 ghost use Rattle.host_pairing.specs.Spoken.{asking, listened, reset_of_two, spoken, untagged};
 ghost use Rattle.host_pairing.specs.Openings.{AreAmong, all_lives_gone, all_lives_taken, with_openings};
+ghost use Rattle.host_pairing.specs.Known.{Knows, all_known};
 
 /// What a host says: where its program has, for two sockets and a peer, an end of the law of pairing, all that goes out of it is
 /// what the law lets it say of that end, and the program has the end after it.
@@ -91,6 +94,25 @@ pub fn openings()
     ensures request { (origin : ℕ → ℕ) (own foreign : ℕ) (s : NcpState) (r : Request) (told : List Life) → with_openings origin own foreign (served_notices s r) told ≡ told }
 {}
 
+/// What a host's user knows to be open is open: where its program told it of an end on two sockets with a peer, and hasn't told since that the
+/// end is over, the law's end there is open by the two requests that were told. Each call keeps this.
+pub fn endings()
+    // what goes out, and commands that are in order, have the end that the law gives. Where both CLS have passed the user is told
+    ensures offer { (origin : ℕ → ℕ) (own foreign : ℕ) (s : NcpState) (stamp : ℕ) (g : Peer) (parcel : Parcel) (x : End) (known : Option Life) → AreInOrder s.peers → next_in s.peers ≡ Some (g, parcel) → HasEnd origin own foreign (pair_with g.host s.peers) x → Knows known x → Knows (all_known origin g.host own foreign (offered s stamp).1 known) (all_gone (marks stamp own foreign (commands_of g.pair parcel)) x) }
+    ensures commands { (origin : ℕ → ℕ) (own foreign : ℕ) (s : NcpState) (m : HostMessage) (stamp : ℕ) (x : End) (known : Option Life) → same_host s.own m.flow.destination ≡ true → (m.flow.link.0 == 0) ≡ true → is_ready (pair_with m.flow.source s.peers).phase ≡ true → AreJoint (orders_of m.text) → AreFree m.flow.source stamp (orders_of m.text) (turn_of s m.flow.source) → AllFit (marks_in (origin stamp) foreign own (orders_of m.text)) x → HasEnd origin own foreign (pair_with m.flow.source s.peers) x → Knows known x → Knows (all_known origin m.flow.source own foreign (accepted s (inbound.Message m) stamp).1 known) (all_taken (marks_in (origin stamp) foreign own (orders_of m.text)) x) }
+
+    // an RST leaves no end, and the user is told; so does an answer where the pair is ready no longer, and a contact
+    ensures reset { (origin : ℕ → ℕ) (own foreign : ℕ) (s : NcpState) (m : HostMessage) (stamp : ℕ) (x : End) (known : Option Life) → same_host s.own m.flow.destination ≡ true → (m.flow.link.0 == 0) ≡ true → orders_of m.text ≡ Legal command.Rst ∷ [] → HasEnd origin own foreign (pair_with m.flow.source s.peers) x → Knows known x → Knows (all_known origin m.flow.source own foreign (accepted s (inbound.Message m) stamp).1 known) nothing }
+    ensures answer { (origin : ℕ → ℕ) (own foreign : ℕ) (s : NcpState) (kind : Answer) (f : Flow) (stamp : ℕ) (x : End) (known : Option Life) → HasEnd origin own foreign (pair_with f.destination s.peers) x → Knows known x → Knows (all_known origin f.destination own foreign (accepted s (inbound.Answer kind f) stamp).1 known) (kept_in (pair_with f.destination (accepted s (inbound.Answer kind f) stamp).0.peers) x) }
+    ensures request { (origin : ℕ → ℕ) (own foreign : ℕ) (s : NcpState) (r : Request) (peer : Host) (x : End) (known : Option Life) → HasEnd origin own foreign (pair_with peer s.peers) x → Knows known x → Knows (all_known origin peer own foreign (served_notices s r) known) (after_request peer r x) }
+
+    // commands where the pair isn't ready, an RRP and data change nothing of what is known, nor does what is told of another peer
+    ensures idle { (origin : ℕ → ℕ) (own foreign : ℕ) (s : NcpState) (m : HostMessage) (stamp : ℕ) (known : Option Life) → same_host s.own m.flow.destination ≡ true → (m.flow.link.0 == 0) ≡ true → is_ready (pair_with m.flow.source s.peers).phase ≡ false → AreJoint (orders_of m.text) → all_known origin m.flow.source own foreign (accepted s (inbound.Message m) stamp).1 known ≡ known }
+    ensures reply { (origin : ℕ → ℕ) (own foreign : ℕ) (s : NcpState) (m : HostMessage) (stamp : ℕ) (known : Option Life) → same_host s.own m.flow.destination ≡ true → (m.flow.link.0 == 0) ≡ true → orders_of m.text ≡ Legal command.Rrp ∷ [] → all_known origin m.flow.source own foreign (accepted s (inbound.Message m) stamp).1 known ≡ known }
+    ensures data { (origin : ℕ → ℕ) (own foreign : ℕ) (s : NcpState) (m : HostMessage) (stamp : ℕ) (known : Option Life) → same_host s.own m.flow.destination ≡ true → (m.flow.link.0 == 0) ≡ false → all_known origin m.flow.source own foreign (accepted s (inbound.Message m) stamp).1 known ≡ known }
+    ensures others { (origin : ℕ → ℕ) (own foreign : ℕ) (peer other : Host) (notices : List Notice) (known : Option Life) → AreAbout other notices → same_host peer other ≡ false → all_known origin peer own foreign notices known ≡ known }
+{}
+
 /// Openings that are told, and lives.
 pub fn worked_openings()
     // an opening of the two sockets is a life, the newest first; one of other sockets, or the same the other way, is none
@@ -112,6 +134,38 @@ pub fn worked_openings()
 
     // both programs of a dialogue tell of the life that the other's has, turned about
     ensures dialogue { with_openings (λ p. if p == 10 then 8 else 0) 16 33 (map (λ n. n.1) (filter (λ n. same_host first n.0) (talk (reset ++ opening ++ closing)).notices)) [] ≡ record { own = 6; partner = 8 } ∷ [] }
+{}
+
+/// What a host's user knows of its end on socket 16, with socket 33 of host `second`.
+pub fn worked_endings()
+    // an opening is known by its two requests, the partner's by the place where it went out
+    ensures opened { all_known (λ p. p + 20) second 16 33 (notice.Opened 16 second 33 14 15 ∷ []) None ≡ Some (record { own = 14; partner = 35 }) }
+
+    // until the end is told to be over, or all connections with the peer are
+    ensures ended { all_known (λ p. p + 20) second 16 33 (notice.Opened 16 second 33 14 15 ∷ notice.Ended 16 second 33 ∷ []) None ≡ None }
+    ensures reset { all_known (λ p. p + 20) second 16 33 (notice.Opened 16 second 33 14 15 ∷ notice.PairReset second ∷ []) None ≡ None }
+
+    // the next opening is another one
+    ensures again { all_known (λ p. p + 20) second 16 33 (notice.Opened 16 second 33 14 15 ∷ notice.Ended 16 second 33 ∷ notice.Opened 16 second 33 6 10 ∷ []) None ≡ Some (record { own = 6; partner = 30 }) }
+
+    // ends of other sockets, of the same the other way and of another peer are others, and data tell nothing
+    ensures sockets { all_known (λ p. p + 20) second 16 33 (notice.Ended 33 second 16 ∷ notice.Ended 16 second 35 ∷ notice.Ended 18 second 33 ∷ notice.Opened 33 second 16 8 7 ∷ notice.Opened 16 second 35 6 10 ∷ notice.Opened 18 second 33 6 10 ∷ []) (Some (record { own = 14; partner = 35 })) ≡ Some (record { own = 14; partner = 35 }) }
+    ensures peers { all_known (λ p. p + 20) second 16 33 (notice.Ended 16 third 33 ∷ notice.PairReset third ∷ notice.Opened 16 third 33 6 10 ∷ []) (Some (record { own = 14; partner = 35 })) ≡ Some (record { own = 14; partner = 35 }) }
+    ensures data { all_known (λ p. p + 20) second 16 33 (notice.Sent 16 (true ∷ []) ∷ notice.Arrived 16 (true ∷ []) ∷ notice.Interrupt 16 ∷ []) None ≡ None }
+
+    // an end that is known is open by these two requests, also while it closes; not by others, and not turned about
+    ensures open { Knows (Some (record { own = 6; partner = 8 })) (record { asked = Some 6; partner = Some 8; gone = true; taken = false }) }
+    ensures turned { Knows (Some (record { own = 6; partner = 8 })) (record { asked = Some 8; partner = Some 6; gone = false; taken = false }) → ⊥ }
+    ensures older { Knows (Some (record { own = 6; partner = 8 })) (record { asked = Some 6; partner = Some 4; gone = false; taken = false }) → ⊥ }
+
+    // one that waits for its partner isn't, nor is one that is over; where nothing is known nothing is said
+    ensures waiting { Knows (Some (record { own = 6; partner = 8 })) (record { asked = Some 6; partner = None; gone = false; taken = false }) → ⊥ }
+    ensures over { Knows (Some (record { own = 6; partner = 8 })) nothing → ⊥ }
+    ensures nobody { Knows None (record { asked = Some 6; partner = Some 8; gone = false; taken = false }) }
+
+    // in a dialogue host `first` knows of its end while it is open
+    ensures dialogue { all_known (λ p. if p == 10 then 8 else 0) second 16 33 (map (λ n. n.1) (filter (λ n. same_host first n.0) (talk (reset ++ opening)).notices)) None ≡ Some (record { own = 6; partner = 8 }) }
+    ensures closed { all_known (λ p. if p == 10 then 8 else 0) second 16 33 (map (λ n. n.1) (filter (λ n. same_host first n.0) (talk (reset ++ opening ++ closing)).notices)) None ≡ None }
 {}
 
 /// What two hosts said and heard of two sockets since both were through a reset, over the law of resets.
@@ -187,9 +241,10 @@ pub fn worked_ends()
     // once both CLS have passed there is none
     ensures past { end_of (λ p. p) (record { mine = true; asked = Some 3; partner = Some 5; closing = closing.Sent; partner_closed = true }) ≡ nothing }
 
-    // a CLS before the own request, a foreign end that doesn't close, and two ends of the same sockets don't stand
+    // a CLS before the own request, a foreign end that doesn't close or that has asked, and two ends of the same sockets don't stand
     ensures early { IsSound true (record { mine = true; asked = None; partner = Some 5; closing = closing.Sent; partner_closed = false }) → ⊥ }
     ensures kept { IsSound true (record { mine = false; asked = None; partner = Some 5; closing = closing.No; partner_closed = false }) → ⊥ }
+    ensures stranger { IsSound true (record { mine = false; asked = Some 3; partner = Some 5; closing = closing.Queued; partner_closed = false }) → ⊥ }
     ensures twins { (s : Standing) (x : End) → Stand true (λ p. p) 5 (s ∷ s ∷ []) [] x → ⊥ }
 
     // nor does one whose CLS have both passed, once it is to be swept

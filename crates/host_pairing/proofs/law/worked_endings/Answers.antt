@@ -1,0 +1,8 @@
+use Rattle.host_pairing.proofs.Rows.{dialogue_known, dialogue_over}
+use Rattle.host_pairing.proofs.law.worked_endings.Goals as goal
+
+pub returns-clause-dialogue : goal.returns-clause-dialogue
+returns-clause-dialogue c = dialogue_known
+
+pub returns-clause-closed : goal.returns-clause-closed
+returns-clause-closed c = dialogue_over
