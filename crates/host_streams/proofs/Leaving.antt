@@ -23,13 +23,13 @@ use Rattle.host_streams.proofs.Lists.{away, filter_both, filter_map, sent_is, un
 use Rattle.host_streams.proofs.Senders.{closed_shut, open_same, own_sender}
 use Rattle.host_streams.proofs.Ending.{shut_one, stays, close_now, not_called, or_parts}
 
-due_open : (v : Closing) → is_due v ≡ true → has_cls v ≡ false
+pub due_open : (v : Closing) → is_due v ≡ true → has_cls v ≡ false
 due_open closing.No e = absurd (cc)
 due_open closing.Due e = refl
 due_open closing.Queued e = absurd (cc)
 due_open closing.Sent e = absurd (cc)
 
-cls_not_due : (v : Closing) → has_cls v ≡ true → is_due v ≡ false
+pub cls_not_due : (v : Closing) → has_cls v ≡ true → is_due v ≡ false
 cls_not_due closing.No e = absurd (cc)
 cls_not_due closing.Due e = absurd (cc)
 cls_not_due closing.Queued e = refl
@@ -44,29 +44,29 @@ none_open c e s i shut k f = let same : c ≡ k = some_is c k (sym i.end ∙ f) 
 goes_none : (c : ℕ) (v : Bool) (o : Option ℕ) → o ≡ Some c → v ≡ true → senders.goes c v o ≡ None
 goes_none c v o end shut = ap (λ (p : Option ℕ). senders.goes c v p) end ∙ (let t : (c == c) ≡ true = eq-eqb c c refl in rw (shut, t) refl)
 
-goes_on : (c : ℕ) (v : Bool) (o : Option ℕ) → o ≡ Some c → v ≡ false → senders.goes c v o ≡ Some c
+pub goes_on : (c : ℕ) (v : Bool) (o : Option ℕ) → o ≡ Some c → v ≡ false → senders.goes c v o ≡ Some c
 goes_on c v o end open_end = ap (λ (p : Option ℕ). senders.goes c v p) end ∙ (let t : (c == c) ≡ true = eq-eqb c c refl in rw (open_end, t) refl)
 
 shuts_is : (c : ℕ) (s : Sender) → s.end ≡ Some c → senders.shuts c s.end s ≡ (if s.closed c then record s { end = None } else record s { shut = true })
 shuts_is c s end = ap (λ (o : Option ℕ). senders.shuts c o s) end ∙ ap (λ (v : Bool). if v then (if s.closed c then record s { end = None } else record s { shut = true }) else s) (eq-eqb c c refl)
 
-heard_unclosed : (c : ℕ) (s : Sender) → s.end ≡ Some c → s.closed c ≡ false → senders.shuts c s.end s ≡ record s { shut = true }
+pub heard_unclosed : (c : ℕ) (s : Sender) → s.end ≡ Some c → s.closed c ≡ false → senders.shuts c s.end s ≡ record s { shut = true }
 heard_unclosed c s end e = shuts_is c s end ∙ ap (λ (v : Bool). if v then record s { end = None } else record s { shut = true }) e
 
-heard_closed : (c : ℕ) (s : Sender) → s.end ≡ Some c → s.closed c ≡ true → senders.shuts c s.end s ≡ record s { end = None }
+pub heard_closed : (c : ℕ) (s : Sender) → s.end ≡ Some c → s.closed c ≡ true → senders.shuts c s.end s ≡ record s { end = None }
 heard_closed c s end e = shuts_is c s end ∙ ap (λ (v : Bool). if v then record s { end = None } else record s { shut = true }) e
 
 module _ (name : ℕ → ℕ → ℕ) (link : ℕ) where
   -- ---- ends that have to close do so when they are drained
 
-  closes : (x : Entry) (s : Sender) → IsSender (name x.own x.foreign) x s → is_due x.closing ≡ true → (w : Bool) → x.partner_closed ≡ w
+  pub closes_one : (x : Entry) (s : Sender) → IsSender (name x.own x.foreign) x s → is_due x.closing ≡ true → (w : Bool) → x.partner_closed ≡ w
       → MayAllSend (senders.Close (name x.own x.foreign) ∷ []) s × AreSender name (record x { closing = closing.Queued } ∷ []) (senders.moved (senders.Close (name x.own x.foreign)) s)
-  closes x s i due true t =
+  closes_one x s i due true t =
       let none : senders.goes (name x.own x.foreign) s.shut s.end ≡ None = goes_none (name x.own x.foreign) s.shut s.end i.end (i.shut ∙ t) in (
         (i.closed ∙ due_open x.closing due, tt),
         inr (record { closed = refl; shut = t; live = refl; none = λ k f. (let both : None ≡ Some k = sym none ∙ f in absurd (cc)) }),
       )
-  closes x s i due false t = (
+  closes_one x s i due false t = (
     (i.closed ∙ due_open x.closing due, tt),
     inl (record {
       end = goes_on (name x.own x.foreign) s.shut s.end i.end (i.shut ∙ t);
@@ -83,7 +83,7 @@ module _ (name : ℕ → ℕ → ℕ) (link : ℕ) where
       → MayAllSend (sent_close v (name x.own x.foreign)) s × AreSender name (map (shut_one busy) (x ∷ [])) (all_sent (sent_close v (name x.own x.foreign)) s)
   settle_one busy x s (inl i) true t =
       let p : (is_due x.closing ≡ true) × (is_drained busy x ≡ true) = both (is_due x.closing) (is_drained busy x) t in
-      let done : MayAllSend (senders.Close (name x.own x.foreign) ∷ []) s × AreSender name (record x { closing = closing.Queued } ∷ []) (senders.moved (senders.Close (name x.own x.foreign)) s) = closes x s i p.0 x.partner_closed refl in
+      let done : MayAllSend (senders.Close (name x.own x.foreign) ∷ []) s × AreSender name (record x { closing = closing.Queued } ∷ []) (senders.moved (senders.Close (name x.own x.foreign)) s) = closes_one x s i p.0 x.partner_closed refl in
       (done.0, subst (λ (y : Entry). AreSender name (y ∷ []) (senders.moved (senders.Close (name x.own x.foreign)) s)) (sym (close_now busy x p.0 p.1)) done.1)
   settle_one busy x s (inr n) true t = absurd (unlike (is_due x.closing) (both (is_due x.closing) (is_drained busy x) t).0 (cls_not_due x.closing n.closed))
   settle_one busy x s a false t = (tt, subst (λ (y : Entry). AreSender name (y ∷ []) s) (sym (rest t)) a) where
@@ -206,7 +206,7 @@ module _ (name : ℕ → ℕ → ℕ) (link : ℕ) where
       subst (λ (xs : List Entry). AreSender name xs s) (sym (filter_both (sends_on link) stays (changed_first (is_at own foreign) cls_sent d.entries) ∙ ap (λ (xs : List Entry). filter stays xs) k.1))
       (gone_by e s k.0 closed e.partner_closed refl)
 
-  still_swept : (xs : List Entry) (s : Sender) → AreSender name xs s → filter stays xs ≡ xs
+  pub still_swept : (xs : List Entry) (s : Sender) → AreSender name xs s → filter stays xs ≡ xs
   still_swept [] s h = refl
   still_swept (x ∷ []) s (inl i) = let live : is_over x ≡ false = i.live in rw live refl
   still_swept (x ∷ []) s (inr n) = let live : is_over x ≡ false = n.live in rw live refl

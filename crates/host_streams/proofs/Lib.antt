@@ -6,3 +6,13 @@ pub mod Asking
 pub mod Ending
 pub mod Leaving
 pub mod Opening
+pub mod Names
+pub mod ReceiverHears
+pub mod Known
+pub mod Settling
+pub mod Sweeping
+pub mod Formed
+pub mod SenderHears
+pub mod SenderShuts
+pub mod SenderTakes
+pub mod Sound

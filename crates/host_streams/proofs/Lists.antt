@@ -1,5 +1,6 @@
 -- A list of ends of which one is changed, as far as those on a link go.
-use Rattle.std.proofs.Common.{◌≡◌, ℕ, Bool, true, false, not, ◌&&◌, ◌==◌, List, [], ◌∷◌, map, filter, find, Option, Some, None, refl, ap, sym, ◌∙◌}
+use Rattle.std.proofs.Common.{◌≡◌, ℕ, Bool, true, false, not, ◌&&◌, ◌==◌, List, [], ◌∷◌, ◌++◌, map, filter, find, Option, Some, None, refl, ap, sym, ◌∙◌, append-nil}
+use Rattle.std.proofs.lemmas.List.Elements.{filter-append}
 use Rattle.std.proofs.lemmas.Bool.{eqb-true}
 use Rattle.std.specs.List.{list_any}
 use Rattle.host_pairs.specs.Entries.{changed_first, is_link, is_receiving, receives_on, sends_on}
@@ -194,3 +195,15 @@ received_is link e t = (both (is_receiving e) (is_link link e.link) t).0
 
 pub sent_is : (link : ℕ) (e : Entry) → sends_on link e ≡ true → is_receiving e ≡ false
 sent_is link e t = not_is (is_receiving e) (both (not (is_receiving e)) (is_link link e.link) t).0
+
+-- ---- one more end
+
+pub append_off : (on : Entry → Bool) (e : Entry) (es : List Entry) → on e ≡ false → filter on (es ++ e ∷ []) ≡ filter on es
+append_off on e es off =
+    let none : filter on (e ∷ []) ≡ [] = (rw off refl) in
+    filter-append on es (e ∷ []) ∙ ap (λ (xs : List Entry). filter on es ++ xs) none ∙ append-nil (filter on es)
+
+pub append_on : (on : Entry → Bool) (e : Entry) (es : List Entry) → on e ≡ true → filter on es ≡ [] → filter on (es ++ e ∷ []) ≡ e ∷ []
+append_on on e es there empty =
+    let one : filter on (e ∷ []) ≡ e ∷ [] = (rw there refl) in
+    filter-append on es (e ∷ []) ∙ ap (λ (xs : List Entry). xs ++ filter on (e ∷ [])) empty ∙ one

@@ -25,7 +25,7 @@ use Rattle.host_streams.specs.Ends.{IsReceiver, AreReceiver, HasReceiver, IsSend
 use Rattle.host_streams.proofs.Lists.{joins, none_any, not_is}
 use Rattle.host_streams.proofs.Receivers.{own_receiver}
 
-and_no : (v : Bool) → (v && false) ≡ false
+pub and_no : (v : Bool) → (v && false) ≡ false
 and_no true = refl
 and_no false = refl
 
@@ -139,7 +139,7 @@ passes_step : (test : ℕ → Bool) (x y : ℕ) (ys : List ℕ) → (find test y
 passes_step test x y ys rest true t e = let r : Some y ≡ Some x = rw t at e in sym (ap test (some_is y x r)) ∙ t
 passes_step test x y ys rest false t e = rest (rw t at e)
 
-number_passes : (test : ℕ → Bool) (x : ℕ) (xs : List ℕ) → find test xs ≡ Some x → test x ≡ true
+pub number_passes : (test : ℕ → Bool) (x : ℕ) (xs : List ℕ) → find test xs ≡ Some x → test x ≡ true
 number_passes test x [] e = absurd (cc)
 number_passes test x (y ∷ ys) e = passes_step test x y ys (number_passes test x ys) (test y) refl e
 
@@ -172,7 +172,7 @@ module _ (name : ℕ → ℕ → ℕ) (link own foreign : ℕ) (q : PairState) (
 -- ---- a user opens an end that sends: it has no link yet
 
 module _ (name : ℕ → ℕ → ℕ) (link c z : ℕ) (s : Sender) (other : s.end ≡ Some c → ⊥) where
-  told_keeps : (xs : List Entry) → AreSender name xs s → AreSender name xs (senders.moved (senders.Ask c z) s)
+  pub told_keeps : (xs : List Entry) → AreSender name xs s → AreSender name xs (senders.moved (senders.Ask c z) s)
   told_keeps [] h = h
   told_keeps (x ∷ []) (inl i) =
       let kept : for c (Some z) s.size (name x.own x.foreign) ≡ s.size (name x.own x.foreign) = elim (at c (Some z) s.size (name x.own x.foreign)) [

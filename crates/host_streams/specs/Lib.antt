@@ -1,3 +1,6 @@
 pub mod Ends
 pub mod Said
 pub mod Closings
+pub mod Names
+pub mod Moves
+pub mod Formed

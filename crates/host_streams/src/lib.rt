@@ -5,4 +5,5 @@
 //! nothing.
 #![tactic(auto)]
 
+pub mod calls;
 pub mod law;
