@@ -1,7 +1,7 @@
 //! What two hosts say and hear of their connections one way, and the lives of a book. The functions here do nothing: each clause
 //! is a law.
 
-ghost use Rattle.std.specs.Prelude.{◌≡◌, ℕ, ◌+◌, true, false, List, [], ◌∷◌, IsSome};
+ghost use Rattle.std.specs.Prelude.{◌≡◌, ℕ, ◌+◌, true, false, List, [], ◌∷◌, Some, IsSome};
 ghost use Rattle.std.specs.List.{Contains};
 ghost use Rattle.leader1822.specs.Host.{Host};
 ghost use Rattle.reset_law.specs.Events as reset;
@@ -23,7 +23,7 @@ ghost use Rattle.pairing_law.specs.Sides.{both};
 ghost use Rattle.pairing_law.specs.Example.{first, second};
 ghost use Rattle.net_sim.specs.declared.life.Life.{Life};
 ghost use Rattle.net_sim.specs.Safe as book;
-ghost use Rattle.net_sim.specs.Safe.{control_flow, partner_request};
+ghost use Rattle.net_sim.specs.Safe.{AreTwo, Match, control_flow, own_request, partner_request, receives};
 ghost use Rattle.sockets.specs.Pairs.{pair_with};
 ghost use Rattle.host_pairing.specs.Ends.{HasEnd};
 ghost use Rattle.net_sim.specs.Clean.{HaveAddresses, IsLawful};
@@ -38,7 +38,7 @@ ghost use Rattle.net_sim.specs.World.{WorldState};
 ghost use Rattle.net_sim.specs.Worked as worked;
 ghost use Rattle.net_sim.specs.WorkedMoments.{connected};
 ghost use Rattle.sockets.specs.Worked as dialogue;
-ghost use Rattle.world_pairing.specs.Lives.{life_of, openings, with_lives};
+ghost use Rattle.world_pairing.specs.Lives.{ArePaired, life_of, openings, with_lives};
 ghost use Rattle.world_pairing.specs.WorkedLives.{closed_early};
 
 use leader1822::Carrier;
@@ -80,11 +80,18 @@ pub fn lives()
     // so each of them is an opening of the law
     ensures opening { (hosts : List Host) (moments : List Moment) → HaveAddresses hosts → mail.IsRun hosts (crossings_of moments) → IsTimeline hosts moments → (x : Life) → Contains (kept_in moments).book.lives x → IsIn (life_of (origin_in (crossings_of moments) x.host x.peer) x) (openings x.host x.peer x.socket x.foreign moments) }
 
+    // one of its sockets receives and the other sends
+    ensures paired { (hosts : List Host) (moments : List Moment) → HaveAddresses hosts → mail.IsRun hosts (crossings_of moments) → IsTimeline hosts moments → (x : Life) → Contains (kept_in moments).book.lives x → ArePaired x }
+
     // each took a request of its partner's, which had gone out
     ensures named { (hosts : List Host) (moments : List Moment) → HaveAddresses hosts → mail.IsRun hosts (crossings_of moments) → IsTimeline hosts moments → (x : Life) → Contains (kept_in moments).book.lives x → IsSome (partner_request (crossings_of moments) x) }
 
     // and no request opens two ends of one sort in the whole book, and partners are partners both ways
     ensures partners { (hosts : List Host) (moments : List Moment) → HaveAddresses hosts → mail.IsRun hosts (crossings_of moments) → IsTimeline hosts moments → book.SafePartners (crossings_of moments) (kept_in moments).book.lives }
+
+    // so a life that receives matches the life whose own request it took, and no other
+    ensures matches { (hosts : List Host) (moments : List Moment) → HaveAddresses hosts → mail.IsRun hosts (crossings_of moments) → IsTimeline hosts moments → (receiver sender : Life) → Contains (kept_in moments).book.lives receiver → Contains (kept_in moments).book.lives sender → receives receiver ≡ true → partner_request (crossings_of moments) receiver ≡ Some (own_request sender) → Match (crossings_of moments) receiver sender }
+    ensures one { (hosts : List Host) (moments : List Moment) → HaveAddresses hosts → mail.IsRun hosts (crossings_of moments) → IsTimeline hosts moments → (receiver x y : Life) → AreTwo (kept_in moments).book.lives x y → Match (crossings_of moments) receiver x → Match (crossings_of moments) receiver y → ⊥ }
 {}
 
 /// The lives in the book of a world, over any carrier.
@@ -94,6 +101,10 @@ pub fn books<C: Carrier>()
 
     // no request opens two ends of one sort, and partners are partners both ways
     ensures partners { (hosts : List Host) (w : WorldState C) → IsLawful C.seen hosts w → book.SafePartners w.kept.book.crossings w.kept.book.lives }
+
+    // a life that receives matches the life whose own request it took, and no other
+    ensures matches { (hosts : List Host) (w : WorldState C) → IsLawful C.seen hosts w → (receiver sender : Life) → Contains w.kept.book.lives receiver → Contains w.kept.book.lives sender → receives receiver ≡ true → partner_request w.kept.book.crossings receiver ≡ Some (own_request sender) → Match w.kept.book.crossings receiver sender }
+    ensures one { (hosts : List Host) (w : WorldState C) → IsLawful C.seen hosts w → (receiver x y : Life) → AreTwo w.kept.book.lives x y → Match w.kept.book.crossings receiver x → Match w.kept.book.crossings receiver y → ⊥ }
 {}
 
 /// Lives of a book, as the law tells them.

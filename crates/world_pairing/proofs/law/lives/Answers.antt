@@ -2,7 +2,7 @@ use Rattle.std.proofs.Common.{[], refl}
 use Rattle.net_sim.specs.Timeline.{crossings_of}
 use Rattle.net_sim.proofs.Coupled.{Coupled, coupled}
 use Rattle.world_pairing.specs.Free.{origin_in}
-use Rattle.world_pairing.proofs.BookPartners.{life_in, partner_named, safe_partners}
+use Rattle.world_pairing.proofs.BookPartners.{life_alone, life_in, life_matches, life_paired, partner_named, safe_partners}
 use Rattle.world_pairing.proofs.LivesAmong.{lives_among}
 use Rattle.world_pairing.proofs.Origins.{are_origins}
 use Rattle.world_pairing.proofs.Served.{served_in}
@@ -27,3 +27,18 @@ pub returns-clause-partners : goal.returns-clause-partners
 returns-clause-partners c hosts moments addresses run time =
     let k : Coupled hosts moments = coupled hosts addresses moments run time in
     safe_partners hosts moments k.story k.run run (served_in hosts moments time)
+
+pub returns-clause-paired : goal.returns-clause-paired
+returns-clause-paired c hosts moments addresses run time x there =
+    let k : Coupled hosts moments = coupled hosts addresses moments run time in
+    life_paired hosts moments k.story k.run run (served_in hosts moments time) x there
+
+pub returns-clause-matches : goal.returns-clause-matches
+returns-clause-matches c hosts moments addresses run time receiver sender here there receiving asked =
+    let k : Coupled hosts moments = coupled hosts addresses moments run time in
+    life_matches hosts moments k.story k.run run (served_in hosts moments time) receiver sender here there receiving asked
+
+pub returns-clause-one : goal.returns-clause-one
+returns-clause-one c hosts moments addresses run time receiver x y two mx my =
+    let k : Coupled hosts moments = coupled hosts addresses moments run time in
+    life_alone hosts moments k.story k.run run (served_in hosts moments time) receiver x y two mx my
