@@ -1,5 +1,5 @@
 -- No two lives of a book have one request, and partners are partners both ways.
-use Rattle.std.proofs.Common.{◌≡◌, inl, inr, ℕ, suc, true, List, [], ◌∷◌, ◌++◌, Option, Some, None, refl, ap, sym, subst, ◌∙◌, arith}
+use Rattle.std.proofs.Common.{◌≡◌, inl, inr, ℕ, suc, true, List, [], ◌∷◌, ◌++◌, Option, Some, None, refl, ap, sym, subst, ◌∙◌, arith, false, IsSome}
 use Rattle.std.specs.List.{Contains}
 use Rattle.std.proofs.lemmas.List.Elements.{Contains-append_left, Contains-append_right}
 use Rattle.leader1822.specs.Host.{Host}
@@ -8,19 +8,20 @@ use Rattle.leader1822.specs.declared.crossing.Crossing.{Crossing}
 use Rattle.ncp_control.specs.Numbers.{is_receive_socket, is_send_socket}
 use Rattle.host_pairing.specs.Openings.{AreAmong}
 use Rattle.pairing_law.specs.Partners as law
-use Rattle.pairing_law.specs.Partners.{AreBoth, IsIn, OwnOnce, PartnerOnce}
+use Rattle.pairing_law.specs.Partners.{AreBoth, IsIn, NoneOwns, OwnOnce, PartnerOnce}
 use Rattle.pairing_law.specs.Sides.{Life, Side, both}
 use Rattle.pairing_law.specs.Links.{Receiver, Sender, Sockets, events_at, receiver, sender}
 use Rattle.pairing_law.proofs.Linked.{run_at}
 use Rattle.pairing_law.proofs.Runs.{safe_run}
 use Rattle.reset_law.specs.Runs.{IsRun}
 use Rattle.net_sim.specs.declared.life.Life as book
-use Rattle.net_sim.specs.Safe.{AreTwo, Name, SafePartners, before, control_flow, last_out, named, own_request, partner_request}
+use Rattle.net_sim.specs.Safe.{AreTwo, Match, Name, SafePartners, before, control_flow, last_out, named, own_request, partner_request, receives}
 use Rattle.net_sim.specs.Story.{Moment, IsStory, events_of}
 use Rattle.net_sim.specs.Timeline.{crossings_of}
 use Rattle.net_sim.specs.Told.{kept_in}
-use Rattle.world_pairing.specs.Free.{AreServed, law_events, origin_in, origin_or, place_or}
-use Rattle.world_pairing.specs.Lives.{is_between, life_of, openings, with_lives}
+use Rattle.world_pairing.specs.Free.{law_events, origin_in, origin_or, place_or}
+use Rattle.world_pairing.proofs.Served.{AreServed}
+use Rattle.world_pairing.specs.Lives.{ArePaired, is_between, life_of, openings, with_lives}
 use Rattle.world_pairing.specs.Steps.{steps}
 use Rattle.world_pairing.proofs.LifeLists.{between_itself, in_among, once_among, own_once, partner_once, told_in, two_apart}
 use Rattle.world_pairing.proofs.LinkRun.{all_tied}
@@ -32,7 +33,7 @@ use Rattle.world_pairing.proofs.Went.{AllWent, Went, before_went, last_went, sid
 
 -- ---- names
 
-out_name : Name → Option Name → Name
+abbrev out_name : Name → Option Name → Name
 out_name d None = d
 out_name d (Some n) = n
 
@@ -42,7 +43,6 @@ record NamedBy (x : book.Life) (o : Option ℕ) (name : Name) : Type 0 where
   pub foreign : x.socket ≡ name.foreign
 
 named_by : (x : book.Life) (o : Option ℕ) (name : Name) → named x o ≡ Some name → NamedBy x o name
-unfolding out_name
 named_by x None name e = absurd (let no_name : None ≡ Some name = e in cc)
 named_by x (Some place) name e =
     let is : record { place = place; own = x.foreign; foreign = x.socket } ≡ name = ap (out_name name) e in
@@ -76,6 +76,32 @@ two_left x y xs two =
 
 two_right : (x y : book.Life) (xs : List book.Life) → AreTwo xs x y → Contains xs y
 two_right x y xs two = subst (λ (l : List book.Life). Contains l y) (sym two.3) (Contains-append_right (two.0 ++ x ∷ two.1) (y ∷ two.2) y (first_of y two.2))
+
+-- a life is known by its own request
+not_owned : (p : ℕ) (y : Life) (lives : List Life) → NoneOwns p lives → IsIn y lives → y.own ≡ p → ⊥
+not_owned p y [] none i e = i
+not_owned p y (v ∷ lives) none (inl i) e = none.0 (ap (λ (l : Life). l.own) (sym i) ∙ e)
+not_owned p y (v ∷ lives) none (inr i) e = not_owned p y lives none.1 i e
+
+one_own : (x y : Life) (lives : List Life) → OwnOnce lives → IsIn x lives → IsIn y lives → x.own ≡ y.own → x ≡ y
+one_own x y [] once i j e = absurd i
+one_own x y (v ∷ lives) once (inl i) (inl j) e = i ∙ sym j
+one_own x y (v ∷ lives) once (inl i) (inr j) e = absurd (not_owned v.own y lives once.0 j (sym e ∙ ap (λ (l : Life). l.own) i))
+one_own x y (v ∷ lives) once (inr i) (inl j) e = absurd (not_owned v.own x lives once.0 i (e ∙ ap (λ (l : Life). l.own) j))
+one_own x y (v ∷ lives) once (inr i) (inr j) e = one_own x y lives once.1 i j e
+
+-- a place that is the same, whatever it is told by where there is none
+some_place : (o : Option ℕ) → place_or 0 o ≡ place_or 1 o → IsSome o
+some_place None e = absurd (omega (arith, e))
+some_place (Some k) e = refl
+
+some_name : (x : book.Life) (o : Option ℕ) → IsSome o → IsSome (named x o)
+some_name x None i = absurd (let no_place : false ≡ true = i in cc)
+some_name x (Some place) i = refl
+
+other_sends : (x : book.Life) → receives x ≡ true → ArePaired x → is_send_socket x.foreign ≡ true
+other_sends x here (inl p) = p.1
+other_sends x here (inr p) = absurd (even_odd x.socket here p.0)
 
 module _ (hosts : List Host) (moments : List Moment) (story : IsStory moments) (run : IsRun hosts (events_of moments)) (mails : mail.IsRun hosts (crossings_of moments)) (served : AreServed moments) where
   -- ---- what the law says of openings
@@ -173,5 +199,42 @@ module _ (hosts : List Host) (moments : List Moment) (story : IsStory moments) (
       ∙ ap (λ (n : ℕ). Some (record { place = x.own_stamp; own = n; foreign = y.socket })) (sym nx.foreign)
       ∙ ap (λ (n : ℕ). Some (record { place = x.own_stamp; own = x.socket; foreign = n })) (sym nx.own)
 
+  -- its partner's request went out too
+  partner_out : (x : book.Life) → Contains (kept_in moments).book.lives x → IsSome (last_out (control_flow x.peer x.host) (before x.partner_stamp (crossings_of moments)))
+  partner_out x c =
+      some_place (last_out (control_flow x.peer x.host) (before x.partner_stamp (crossings_of moments)))
+      (ap (λ (l : Life). l.partner)
+      (one_own (life_of (origin_or 0 (crossings_of moments) x.host x.peer) x) (life_of (origin_or 1 (crossings_of moments) x.host x.peer) x) (openings x.host x.peer x.socket x.foreign moments)
+      (owns x.host x.peer x.socket x.foreign) (life_in 0 x c) (life_in 1 x c) refl))
+
+  pub partner_named : (x : book.Life) → Contains (kept_in moments).book.lives x → IsSome (partner_request (crossings_of moments) x)
+  partner_named x c = some_name x (last_out (control_flow x.peer x.host) (before x.partner_stamp (crossings_of moments))) (partner_out x c)
+
   pub safe_partners : SafePartners (crossings_of moments) (kept_in moments).book.lives
   safe_partners = record { own_once = owned_once; partner_once = taken_once; both_ways = both_there }
+
+  -- ---- what matches
+
+  -- one of a life's sockets receives and the other sends
+  pub life_paired : (x : book.Life) → Contains (kept_in moments).book.lives x → ArePaired x
+  life_paired x c =
+      by_sockets (λ l. IsIn (life_of (origin_or 0 (crossings_of moments) x.host x.peer) x) l → ArePaired x) x.host x.peer x.socket x.foreign moments
+      (λ q i. inl q) (λ q i. inr (q.1, q.0)) (λ u i. absurd i) (life_in 0 x c)
+
+  -- a life that receives matches whose own request it took
+  pub life_matches : (x y : book.Life) → Contains (kept_in moments).book.lives x → Contains (kept_in moments).book.lives y → receives x ≡ true → partner_request (crossings_of moments) x ≡ Some (own_request y) → Match (crossings_of moments) x y
+  life_matches x y cx cy here e =
+      let nx : NamedBy x (last_out (control_flow x.peer x.host) (before x.partner_stamp (crossings_of moments))) (own_request y) = named_by x _ (own_request y) e in
+      let ends : (x.peer ≡ y.host) × (x.host ≡ y.peer) = went_once x.peer x.host y.host y.peer y.own_stamp (crossings_of moments) (partner_went x y.own_stamp nx.place) (own_went y cy) in
+      record {
+        receiving = here;
+        sending = subst (λ (n : ℕ). is_send_socket n ≡ true) nx.own (other_sends x here (life_paired x cx));
+        peers = (ends.0, sym ends.1);
+        sockets = (nx.own, sym nx.foreign);
+        asked = e;
+        answered = both_there x y cx cy e;
+      }
+
+  -- and no other
+  pub life_alone : (receiver x y : book.Life) → AreTwo (kept_in moments).book.lives x y → Match (crossings_of moments) receiver x → Match (crossings_of moments) receiver y → ⊥
+  life_alone receiver x y two mx my = owned_once x y two (ap (out_name (own_request x)) (sym mx.asked ∙ my.asked))

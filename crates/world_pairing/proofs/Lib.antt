@@ -1,5 +1,6 @@
 pub mod Views
 pub mod Sides
+pub mod Served
 pub mod Legal
 pub mod Marks
 pub mod Moves
@@ -34,3 +35,4 @@ pub mod LivesAmong
 pub mod LifeLists
 pub mod Went
 pub mod BookPartners
+pub mod Worlds

@@ -21,7 +21,8 @@ use Rattle.reset_law.specs.Stays as stay
 use Rattle.net_sim.specs.Projection.{event_of, message_on}
 use Rattle.net_sim.specs.Story.{Asked, Crossed, IsNext, IsStory, Moment, events_of, places, program}
 use Rattle.net_sim.proofs.Bridge.{by_request}
-use Rattle.world_pairing.specs.Free.{AreServed, NameFree, NamesFreeAt, TakesFreeAt, law_events}
+use Rattle.world_pairing.specs.Free.{NameFree, NamesFreeAt, TakesFreeAt, law_events}
+use Rattle.world_pairing.proofs.Served.{AreServed}
 use Rattle.world_pairing.specs.Steps.{all_said, steps, words_of}
 use Rattle.world_pairing.proofs.Claims.{Claim, heard_claims, said_claims}
 use Rattle.world_pairing.proofs.LinkAll.{Linked, heard_nothing, as_before, asked_links, down_links, if_links, told_links, up_links}

@@ -11,7 +11,8 @@ use Rattle.reset_law.specs.Runs.{IsRun}
 use Rattle.net_sim.specs.Story.{Moment, IsStory, events_of}
 use Rattle.net_sim.specs.Timeline.{crossings_of}
 use Rattle.net_sim.specs.Told.{kept_in}
-use Rattle.world_pairing.specs.Free.{AreServed, law_events}
+use Rattle.world_pairing.specs.Free.{law_events}
+use Rattle.world_pairing.proofs.Served.{AreServed}
 use Rattle.world_pairing.specs.Lives.{openings, with_lives}
 use Rattle.world_pairing.specs.Steps.{steps}
 use Rattle.world_pairing.proofs.LivesRun.{AllAmong, all_among}

@@ -7,7 +7,8 @@ use Rattle.host_ranges.specs.Ranges.{IsRanged}
 use Rattle.pairing_law.specs.Links.{Sockets, Who, Receiver, Sender}
 use Rattle.reset_law.specs.Runs.{IsRun}
 use Rattle.net_sim.specs.Story.{Moment, Crossed, Asked, IsStory, events_of, program}
-use Rattle.world_pairing.specs.Free.{AreServed, TakesFreeAt}
+use Rattle.world_pairing.specs.Free.{TakesFreeAt}
+use Rattle.world_pairing.proofs.Served.{AreServed}
 use Rattle.world_pairing.proofs.Listened.{in_among}
 use Rattle.world_pairing.proofs.LinkRun.{AllTied, all_tied, takes}
 use Rattle.world_pairing.proofs.Marks.{IsPair}

@@ -20,7 +20,8 @@ use Rattle.net_sim.specs.Timeline.{crossings_of, seen_box}
 use Rattle.net_sim.proofs.Bridge.{box_same, flow_of, places_same}
 use Rattle.net_sim.proofs.Clean.{waiting_out}
 use Rattle.host_pairing.proofs.Calls.{opening_has}
-use Rattle.world_pairing.specs.Free.{AreServed, origin_or, place_or}
+use Rattle.world_pairing.specs.Free.{origin_or, place_or}
+use Rattle.world_pairing.proofs.Served.{AreServed}
 use Rattle.world_pairing.proofs.Marks.{foreign_of, own_of}
 use Rattle.world_pairing.proofs.Tied.{AreOrigins, IsOrigin, Tied}
 

@@ -31,7 +31,8 @@ use Rattle.net_sim.proofs.Bridge.{by_request}
 use Rattle.net_sim.proofs.StoryLemmas.{story_agrees}
 use Rattle.world_pairing.specs.Steps.{words_of, all_said, all_heard, heard_in, keeps, left, met, spoken_by, taken_by, steps}
 use Rattle.world_pairing.proofs.Legal.{legal}
-use Rattle.world_pairing.specs.Free.{AreServed, NamesFreeAt, TakesFreeAt, law_events}
+use Rattle.world_pairing.specs.Free.{NamesFreeAt, TakesFreeAt, law_events}
+use Rattle.world_pairing.proofs.Served.{AreServed}
 use Rattle.world_pairing.proofs.Sides.{all_says, at_texts, before, hears_if, left_if, met_if, receiver_deaf_if, receiver_half, receiver_waits, sender_half}
 use Rattle.world_pairing.proofs.Marks.{AllAt, IsPair, foreign_of, marks_at, own_of, texts_pairs}
 use Rattle.world_pairing.proofs.Moves.{hears_next, left_next, met_next, receiver_fits, receiver_speaks, says_next, sender_fits, sender_speaks}

@@ -14,7 +14,8 @@ use Rattle.reset_law.specs.Runs.{IsRun}
 use Rattle.net_sim.specs.Story.{Moment, Crossed, Asked, IsNext, IsStory, events_of, places, program}
 use Rattle.net_sim.specs.Timeline.{crossings_of}
 use Rattle.net_sim.proofs.StoryLemmas.{story_agrees}
-use Rattle.world_pairing.specs.Free.{AreServed, TakesFreeAt}
+use Rattle.world_pairing.specs.Free.{TakesFreeAt}
+use Rattle.world_pairing.proofs.Served.{AreServed}
 use Rattle.world_pairing.proofs.LinkRun.{AllTied, all_tied, takes}
 use Rattle.world_pairing.proofs.Origins.{served_below}
 use Rattle.world_pairing.proofs.Programs.{out_may, read_marks}

@@ -1,5 +1,5 @@
 -- The lives of a book beside the openings of the law of pairing (NIC 8246, RTS and STR).
-use Rattle.std.specs.Prelude.{ℕ, ◌==◌, Bool, ◌&&◌, if◌then◌else◌, List, [], ◌∷◌}
+use Rattle.std.specs.Prelude.{◌≡◌, ◌⊎◌, ℕ, ◌==◌, Bool, true, ◌&&◌, if◌then◌else◌, List, [], ◌∷◌}
 use Rattle.leader1822.specs.Host.{Host, same_host}
 use Rattle.ncp_control.specs.Numbers.{is_receive_socket, is_send_socket}
 use Rattle.pairing_law.specs.Sides.{Life}
@@ -38,3 +38,7 @@ with_life origin h peer own foreign x lives =
 abbrev pub with_lives : (ℕ → ℕ) → Host → Host → ℕ → ℕ → List book.Life → List Life → List Life
 with_lives origin h peer own foreign [] lives = lives
 with_lives origin h peer own foreign (x ∷ written) lives = with_lives origin h peer own foreign written (with_life origin h peer own foreign x lives)
+
+-- its own socket receives and the foreign one sends, or the other way
+abbrev pub ArePaired : book.Life → Type 0
+ArePaired x = ((is_receive_socket x.socket ≡ true) × (is_send_socket x.foreign ≡ true)) ⊎ ((is_send_socket x.socket ≡ true) × (is_receive_socket x.foreign ≡ true))
