@@ -64,3 +64,7 @@ dialogue_known = refl
 pub dialogue_over : all_known (λ p. if p == 10 then 8 else 0) second 16 33 (map (λ n. n.1) (filter (λ n. same_host first n.0) (talk (reset ++ opening ++ closing)).notices)) None ≡ None
 unfolding octets_of orders_of read_of command_of packed_count accepted refusal served served_notices next_out offered
 dialogue_over = refl
+
+pub dialogue_peer : all_known (λ p. if p == 7 then 6 else 0) first 33 16 (map (λ n. n.1) (filter (λ n. same_host second n.0) (talk (reset ++ opening)).notices)) None ≡ Some (record { own = 8; partner = 6 })
+unfolding octets_of orders_of read_of command_of packed_count accepted refusal served served_notices next_out offered
+dialogue_peer = refl

@@ -1,5 +1,5 @@
 -- What a host's user knows of an end: its program tells when a connection opens, and when it is over (NIC 8246, RTS, STR and CLS).
-use Rattle.std.specs.Prelude.{ℕ, ◌==◌, ◌&&◌, if◌then◌else◌, List, [], ◌∷◌, Option, Some, None}
+use Rattle.std.specs.Prelude.{◌≡◌, ℕ, ◌==◌, ◌&&◌, if◌then◌else◌, List, [], ◌∷◌, Option, Some, None}
 use Rattle.leader1822.specs.Host.{Host, same_host}
 use Rattle.pairing_law.specs.Ends.{End}
 use Rattle.pairing_law.specs.Partners.{IsOpen}
@@ -25,3 +25,7 @@ all_known origin peer own foreign (n ∷ notices) known = all_known origin peer 
 abbrev pub Knows : Option Life → End → Type 0
 Knows None x = Unit {0}
 Knows (Some l) x = IsOpen l.own l.partner x
+
+-- each of the two ends is the other's partner
+abbrev pub ArePartners : Life → Life → Type 0
+ArePartners x y = (x.partner ≡ y.own) × (y.partner ≡ x.own)

@@ -10,7 +10,9 @@ ghost use Rattle.ncp_control.specs.declared.command.Command.TheVariants as comma
 ghost use Rattle.pairing_law.specs.Ends.{End, nothing};
 ghost use Rattle.pairing_law.specs.Marks.{Ask, Close, IsOlder};
 ghost use Rattle.pairing_law.specs.Places.{tagged};
-ghost use Rattle.pairing_law.specs.Sides.{Life};
+ghost use Rattle.pairing_law.specs.Links.{AreSteps, Sockets, Step, receiver, sender};
+ghost use Rattle.pairing_law.specs.Sides as pairing;
+ghost use Rattle.pairing_law.specs.Sides.{Life, both};
 ghost use Rattle.reset_law.specs.Events.{Event, In, Out, Other};
 ghost use Rattle.reset_law.specs.Example.{one, two};
 ghost use Rattle.reset_law.specs.Runs.{IsRun};
@@ -41,7 +43,7 @@ ghost use Rattle.host_pairing.specs.Ends.{HasEnd, IsSound, Stand, Standing, due,
 ghost use Rattle.host_pairing.specs.Hearing.{AreFree, AreJoint, IsFree, after_request};
 ghost use Rattle.host_pairing.specs.Spoken.{asking, listened, reset_of_two, spoken, untagged};
 ghost use Rattle.host_pairing.specs.Openings.{AreAmong, all_lives_gone, all_lives_taken, with_openings};
-ghost use Rattle.host_pairing.specs.Known.{Knows, all_known};
+ghost use Rattle.host_pairing.specs.Known.{ArePartners, Knows, all_known};
 
 /// What a host says: where its program has, for two sockets and a peer, an end of the law of pairing, all that goes out of it is
 /// what the law lets it say of that end, and the program has the end after it.
@@ -113,6 +115,16 @@ pub fn endings()
     ensures others { (origin : ℕ → ℕ) (own foreign : ℕ) (peer other : Host) (notices : List Notice) (known : Option Life) → AreAbout other notices → same_host peer other ≡ false → all_known origin peer own foreign notices known ≡ known }
 {}
 
+/// Where the users of two hosts both know of an open end on the same sockets, each end is the other's partner, if the two ends of
+/// which they know are those of a run of the law.
+pub fn known_partners()
+    // as far as one pair of their sockets goes
+    ensures pair { (events : List pairing.Event) (x y : Life) → pairing.IsRun events → Knows (Some x) (both events).one.end → Knows (Some y) (both events).two.end → ArePartners x y }
+
+    // and over all connections one way
+    ensures links { (steps : List Step) (s : Sockets) (x y : Life) → AreSteps steps → Knows (Some x) (receiver s steps).end → Knows (Some y) (sender s steps).end → ArePartners x y }
+{}
+
 /// Openings that are told, and lives.
 pub fn worked_openings()
     // an opening of the two sockets is a life, the newest first; one of other sockets, or the same the other way, is none
@@ -166,6 +178,12 @@ pub fn worked_endings()
     // in a dialogue host `first` knows of its end while it is open
     ensures dialogue { all_known (λ p. if p == 10 then 8 else 0) second 16 33 (map (λ n. n.1) (filter (λ n. same_host first n.0) (talk (reset ++ opening)).notices)) None ≡ Some (record { own = 6; partner = 8 }) }
     ensures closed { all_known (λ p. if p == 10 then 8 else 0) second 16 33 (map (λ n. n.1) (filter (λ n. same_host first n.0) (talk (reset ++ opening ++ closing)).notices)) None ≡ None }
+
+    // and `second` of its own, the other way about: each is the other's partner, and with another place neither is
+    ensures peer { all_known (λ p. if p == 7 then 6 else 0) first 33 16 (map (λ n. n.1) (filter (λ n. same_host second n.0) (talk (reset ++ opening)).notices)) None ≡ Some (record { own = 8; partner = 6 }) }
+    ensures partners { ArePartners (record { own = 6; partner = 8 }) (record { own = 8; partner = 6 }) }
+    ensures apart { ArePartners (record { own = 6; partner = 8 }) (record { own = 8; partner = 4 }) → ⊥ }
+    ensures older_partner { ArePartners (record { own = 6; partner = 4 }) (record { own = 8; partner = 6 }) → ⊥ }
 {}
 
 /// What two hosts said and heard of two sockets since both were through a reset, over the law of resets.

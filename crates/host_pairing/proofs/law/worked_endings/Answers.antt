@@ -1,4 +1,4 @@
-use Rattle.host_pairing.proofs.Rows.{dialogue_known, dialogue_over}
+use Rattle.host_pairing.proofs.Rows.{dialogue_known, dialogue_over, dialogue_peer}
 use Rattle.host_pairing.proofs.law.worked_endings.Goals as goal
 
 pub returns-clause-dialogue : goal.returns-clause-dialogue
@@ -6,3 +6,6 @@ returns-clause-dialogue c = dialogue_known
 
 pub returns-clause-closed : goal.returns-clause-closed
 returns-clause-closed c = dialogue_over
+
+pub returns-clause-peer : goal.returns-clause-peer
+returns-clause-peer c = dialogue_peer
