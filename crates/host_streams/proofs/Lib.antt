@@ -16,3 +16,6 @@ pub mod SenderHears
 pub mod SenderShuts
 pub mod SenderTakes
 pub mod Sound
+pub mod GoesOut
+pub mod Asks
+pub mod Requests

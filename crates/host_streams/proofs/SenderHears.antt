@@ -41,15 +41,15 @@ pub begun_closed : (c : ℕ) (o : Option ℕ) (s : Sender) → (senders.begins c
 begun_closed c None s = refl
 begun_closed c (Some other) s = refl
 
-opened_size : (c : ℕ) (v : Bool) (s : Sender) → (all_sent (sent_open v c) s).size ≡ s.size
+pub opened_size : (c : ℕ) (v : Bool) (s : Sender) → (all_sent (sent_open v c) s).size ≡ s.size
 opened_size c true s = refl
 opened_size c false s = refl
 
-opened_closed : (c : ℕ) (v : Bool) (s : Sender) → (all_sent (sent_open v c) s).closed ≡ s.closed
+pub opened_closed : (c : ℕ) (v : Bool) (s : Sender) → (all_sent (sent_open v c) s).closed ≡ s.closed
 opened_closed c true s = refl
 opened_closed c false s = refl
 
-ask_elsewhere : (c z : ℕ) (s : Sender) → Elsewhere c s (senders.moved (senders.Ask c z) s)
+pub ask_elsewhere : (c z : ℕ) (s : Sender) → Elsewhere c s (senders.moved (senders.Ask c z) s)
 ask_elsewhere c z s k e = (rw e refl, refl)
 
 module _ (name : ℕ → ℕ → ℕ) (link : ℕ) where

@@ -90,7 +90,7 @@ heard_apart name c (x ∷ []) s n (inl i) =
 heard_apart name c (x ∷ []) s n (inr l) = inr (record { closed = l.closed; shut = l.shut; live = l.live; none = heard_none c s l.none s.end refl })
 heard_apart name c (x ∷ y ∷ ys) s n h = absurd h
 
-due_cls : (v : Closing) → has_cls v ≡ has_cls (close_due v)
+pub due_cls : (v : Closing) → has_cls v ≡ has_cls (close_due v)
 due_cls closing.No = refl
 due_cls closing.Due = refl
 due_cls closing.Queued = refl

@@ -1,11 +1,11 @@
 -- How far the ends of a host's program have come, and what they know then (NIC 8246, RTS, STR and CLS).
-use Rattle.std.specs.Prelude.{◌≡◌, ℕ, true, false, List, [], ◌∷◌, None, is_some}
+use Rattle.std.specs.Prelude.{◌≡◌, ℕ, true, false, List, [], ◌∷◌, None, Some, is_some}
 use Rattle.std.specs.List.{list_any}
 use Rattle.ncp_control.specs.Allocation as counters
 use Rattle.ncp_control.specs.declared.command.Command.{Command}
 use Rattle.ncp_control.specs.declared.command.Command.TheVariants as command
 use Rattle.stream_law.specs.Senders.{Sender}
-use Rattle.host_pairs.specs.Entries.{has_cls, is_over, is_receiving, sends_on}
+use Rattle.host_pairs.specs.Entries.{entry_at, has_cls, is_over, is_receiving, sends_on}
 use Rattle.host_pairs.specs.declared.entry.Entry.{Entry}
 use Rattle.host_streams.specs.Names.{numbers, AreApart}
 
@@ -34,3 +34,8 @@ pub record AreSound (name : ℕ → ℕ → ℕ) (entries : List Entry) : Type 0
 abbrev pub FindsFree : ℕ → Command → List Entry → Sender → Type 0
 FindsFree link (command.Rts receive send l) entries s = l ≡ link → list_any (sends_on link) entries ≡ false → s.end ≡ None
 FindsFree link c entries s = Unit {0}
+
+-- a CLS that goes out is that of an end which said it
+abbrev pub HasSaid : Command → List Entry → Type 0
+HasSaid (command.Cls own foreign) entries = (e : Entry) → entry_at own foreign entries ≡ Some e → has_cls e.closing ≡ true
+HasSaid c entries = Unit {0}

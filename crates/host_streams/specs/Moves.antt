@@ -1,17 +1,20 @@
 -- What the calls of a host's program are on one link: moves of the law's receiver, and of its sender (NIC 8246, the control commands).
-use Rattle.std.specs.Prelude.{ℕ, ◌==◌, ◌&&◌, not, Bool, true, false, if◌then◌else◌, List, [], ◌∷◌, ◌++◌, Option, Some, None, is_some}
+use Rattle.std.specs.Prelude.{ℕ, ◌*◌, ◌==◌, ◌&&◌, not, Bool, true, false, if◌then◌else◌, List, [], ◌∷◌, ◌++◌, take, Option, Some, None, is_some}
 use Rattle.std.specs.List.{list_any}
 use Rattle.ncp_control.specs.declared.command.Command.{Command}
 use Rattle.ncp_control.specs.declared.command.Command.TheVariants as command
+use Rattle.ncp_control.specs.DataHeader.{data_bits}
+use Rattle.ncp_control.specs.declared.data_header.DataHeader.{DataHeader}
 use Rattle.stream_law.specs.Words.{Rts, Str, All, Gvb, Ret, Cls}
 use Rattle.stream_law.specs.Receivers as receivers
 use Rattle.stream_law.specs.Senders as senders
 use Rattle.stream_law.specs.Senders.{Sender}
+use Rattle.host_pairs.specs.Data.{data_of}
 use Rattle.host_pairs.specs.Desk.{DeskState, listener_on}
 use Rattle.host_pairs.specs.Entries.{changed_at, closed_by_partner, entry_at, free_link, is_receiving, must_close, receives_on, sends_on}
 use Rattle.host_pairs.specs.declared.entry.Entry.{Entry}
 use Rattle.host_pairs.specs.declared.listener.Listener.{Listener}
-use Rattle.host_streams.specs.Closings.{received_close, received_open, sent_open}
+use Rattle.host_streams.specs.Closings.{received_close, received_gone, received_open, sent_open}
 use Rattle.host_streams.specs.Names.{named}
 
 -- ---- the receiver
@@ -81,6 +84,61 @@ sent_by name link said busy (command.Cls foreign own) d s = cls_sent name busy o
 sent_by name link said busy (command.All l messages bits) d s = if l == link then senders.Hear (All said messages bits) ∷ [] else []
 sent_by name link said busy (command.Gvb l messages bits) d s = if l == link then senders.Hear (Gvb said messages bits) ∷ [] else []
 sent_by name link said busy c d s = []
+
+-- ---- data
+
+-- a message of data on link `l`. One without a header is an error
+abbrev pub data_received : ℕ → ℕ → List Bool → Option DataHeader → List receivers.Move
+data_received link l text None = []
+data_received link l text (Some h) = if l == link then receivers.Take h.size (data_of (data_bits h) text) ∷ [] else []
+
+-- ---- what goes out
+
+-- an own request has gone out, for an end on this link: it opens if its partner's was taken
+abbrev pub asked_received : (ℕ → ℕ → ℕ) → ℕ → Option Entry → List receivers.Move
+asked_received name link None = []
+asked_received name link (Some e) = if receives_on link e then received_open (is_some e.partner) (named name e) else []
+
+abbrev pub asked_sent : (ℕ → ℕ → ℕ) → ℕ → Sender → Option Entry → List senders.Move
+asked_sent name link s None = []
+asked_sent name link s (Some e) = if sends_on link e then of_end (named name e) s.end (sent_open (is_some e.partner) (named name e)) else []
+
+-- an own CLS has gone out: a receiving end is free if it heard one
+abbrev pub closed_received : (ℕ → ℕ → ℕ) → ℕ → Option Entry → List receivers.Move
+closed_received name link None = []
+closed_received name link (Some e) = if receives_on link e then received_gone e.partner_closed (named name e) else []
+
+-- a command that goes out
+abbrev pub received_out : (ℕ → ℕ → ℕ) → ℕ → Command → List Entry → List receivers.Move
+received_out name link (command.Rts receive send l) entries = asked_received name link (entry_at receive send entries)
+received_out name link (command.Str send receive size) entries = asked_received name link (entry_at send receive entries)
+received_out name link (command.Cls own foreign) entries = closed_received name link (entry_at own foreign entries)
+received_out name link c entries = []
+
+abbrev pub sent_out : (ℕ → ℕ → ℕ) → ℕ → Command → List Entry → Sender → List senders.Move
+sent_out name link (command.Rts receive send l) entries s = asked_sent name link s (entry_at receive send entries)
+sent_out name link (command.Str send receive size) entries s = asked_sent name link s (entry_at send receive entries)
+sent_out name link c entries s = []
+
+-- bytes that go out of an end
+abbrev pub bytes_sent : (ℕ → ℕ → ℕ) → ℕ → Entry → ℕ → ℕ → List senders.Move
+bytes_sent name link e size count = if sends_on link e then senders.Send (named name e) size (take (size * count) e.bits) ∷ [] else []
+
+-- ---- what a user asks of an end: to grant, to ask back, and to close
+
+abbrev pub on_link : ℕ → Entry → List receivers.Move → List receivers.Move
+on_link link e moves = if receives_on link e then moves else []
+
+-- a receiving end, on the lowest free link
+abbrev pub asks_for : ℕ → ℕ → Option ℕ → List receivers.Move
+asks_for link c None = []
+asks_for link c (Some other) = if other == link then receivers.Ask c ∷ [] else []
+
+-- ---- answers
+
+-- the answer to what was sent on link `l` has come, and ends that waited for it close
+abbrev pub told_on : ℕ → ℕ → List senders.Move
+told_on link l = if l == link then senders.Told ∷ [] else []
 
 -- ---- words for worked examples
 
