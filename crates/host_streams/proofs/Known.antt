@@ -88,7 +88,7 @@ module _ (name : ℕ → ℕ → ℕ) where
 
 -- ---- what is said of a connection that isn't on the link is no matter of its end
 
-goes_some : (c : ℕ) (v : Bool) (o : Option ℕ) (k : ℕ) → senders.goes c v o ≡ Some k → o ≡ Some k
+pub goes_some : (c : ℕ) (v : Bool) (o : Option ℕ) (k : ℕ) → senders.goes c v o ≡ Some k → o ≡ Some k
 goes_some c v None k e = absurd (cc)
 goes_some c v (Some own) k e = by (own == c && v) refl where
   by : (b : Bool) → (own == c && v) ≡ b → Some own ≡ Some k

@@ -19,3 +19,7 @@ pub mod Sound
 pub mod GoesOut
 pub mod Asks
 pub mod Requests
+pub mod EachCall
+pub mod Concerns
+pub mod Meets
+pub mod Chain

@@ -4,3 +4,4 @@ pub mod Closings
 pub mod Names
 pub mod Moves
 pub mod Formed
+pub mod Histories
