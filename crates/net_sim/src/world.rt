@@ -95,10 +95,12 @@ impl<C: Carrier> World<C> {
 
     /// One event.
     ///
-    /// Errors: `Carrier(NoSuch)` for an offer, a taking or a request at a host that the network doesn't have and
-    /// `Carrier(IsDown)` at one that is down, before anything else; what the carrier refuses; what the host's program
-    /// refuses, as `Program`. Want of memory comes only by the carrier, at an offer of something, at a taking of
-    /// something, at an event by which something crosses, and at a request that isn't refused.
+    /// Errors: `Carrier(NoSuch)` for an event at a host that the network doesn't have and `Carrier(IsDown)` at one that is
+    /// down, before anything else; what the carrier refuses; what the host's program refuses, as `Program`, and so
+    /// `NotOpen` for a line where no terminal came. What a server or a user asks for is never refused here: that is
+    /// reported. Want of memory comes only by the carrier, at an offer of something, at a taking of something, at an
+    /// event by which something crosses, at a request or a line that isn't refused, and where a server or a user
+    /// begins.
     pub fn step(&mut self, event: Event) -> Result<(), WorldFault>
         ensures { StepGives (shown (record { seen = C.seen; offers = C.offers; takes = C.takes; steps = C.steps; rounds = C.rounds })) self.old event result self.new }
     {

@@ -9,3 +9,6 @@
 #![tactic(auto)]
 
 pub mod law;
+mod promise;
+
+pub use promise::book_of;
