@@ -1,10 +1,14 @@
 -- What services ask for, and whom they name.
-use Rattle.std.specs.Prelude.{◌≡◌, List, ◌++◌, All}
+use Rattle.std.specs.Prelude.{◌≡◌, List, [], ◌∷◌, ◌++◌, None, All}
 use Rattle.std.specs.List.{fold}
 use Rattle.leader1822.specs.Host.{IsAddress}
-use Rattle.sockets.specs.Requests.{served}
+use Rattle.ncp_control.specs.Command.{IsWord}
+use Rattle.sockets.specs.Pairs.{NcpState}
+use Rattle.sockets.specs.Requests.{refusal, served}
 use Rattle.sockets.specs.declared.request.Request.{Request}
 use Rattle.sockets.specs.declared.request.Request.TheVariants as request
+use Rattle.icp.specs.User.{UserState}
+pub use Rattle.host_ranges.specs.Ranges.{IsAsked}
 use Rattle.host_services.specs.Services.{Service, ServicesState, DeskState}
 use Rattle.host_services.specs.declared.service.Service.TheVariants as service
 
@@ -16,17 +20,37 @@ IsAddressed (request.OpenReceive peer own foreign) = IsAddress peer
 IsAddressed (request.Echo peer octet) = IsAddress peer
 IsAddressed r = Unit {0}
 
--- a user names its peer by an address
+-- a request of which the program tells its user nothing: only a contact has notices
+abbrev pub IsSilent : Request → Type 0
+IsSilent (request.Contact peer) = ⊥
+IsSilent r = Unit {0}
+
+-- what a service may ask for: in numbers of their types, and no contact
+pub record MayAsk (r : Request) : Type 0 where
+  pub addressed : IsAddressed r
+  pub ranged : IsAsked r
+  pub silent : IsSilent r
+
+-- a user names its peer by an address, and its own two sockets are numbers of four octets
+abbrev pub IsUser : UserState → Type 0
+IsUser s = IsAddress s.peer × IsWord s.receive × IsWord s.send
+
 abbrev pub NamesPeer : Service → Type 0
-NamesPeer (service.User s) = IsAddress s.peer
+NamesPeer (service.User s) = IsUser s
 NamesPeer s = Unit {0}
 
 abbrev pub NamePeers : ServicesState → Type 0
 NamePeers s = All NamesPeer s.running
 
--- services have asked for more: the program has served that in its order, and each request names its peer by an address
+-- a program refuses none of these, one after another
+abbrev pub NoneRefused : NcpState → List Request → Type 0
+NoneRefused s [] = Unit {0}
+NoneRefused s (r ∷ requests) = (refusal s r ≡ None) × NoneRefused (served s r) requests
+
+-- services have asked for more: the program has served that in its order
 pub record HasAsked (before after : DeskState) : Type 0 where
   pub more : List Request
   pub asked : after.asked ≡ before.asked ++ more
   pub program : after.program ≡ fold served before.program more
-  pub addressed : All IsAddressed more
+  pub each : All MayAsk more
+  pub unrefused : NoneRefused before.program more

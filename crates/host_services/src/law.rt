@@ -1,14 +1,15 @@
 //! Laws of the turns of services, over their definitions. The functions here do nothing: each clause is the law.
 
 ghost use Rattle.std.specs.Prelude.{ℕ, List};
+ghost use Rattle.ncp_control.specs.Command.{IsWord};
 ghost use Rattle.host_pairs.specs.declared.notice.Notice.{Notice};
 ghost use Rattle.host_services.specs.Named.{HasAsked, NamePeers};
 ghost use Rattle.host_services.specs.Services.{DeskState, ServicesState};
 ghost use Rattle.host_services.specs.Turns.{server_begun, told, user_begun};
 ghost use Rattle.leader1822.specs.Host.{Host, IsAddress};
 
-/// What services do to their host: its program has served what they have asked for and nothing else, one request after another.
-/// They name peers by addresses, where their users did.
+/// What services do to their host: its program has served what they have asked for and nothing else, one request after another, and
+/// has refused none of that. They name peers by addresses, in numbers of their types, where their users did; they contact nobody.
 pub fn asked()
     // where a host is told something
     ensures told { (notices : List Notice) (s : ServicesState) (d : DeskState) → NamePeers s → HasAsked d (told notices s d).1 }
@@ -19,6 +20,6 @@ pub fn asked()
     ensures server_named { (listen base : ℕ) (s : ServicesState) (d : DeskState) → NamePeers s → NamePeers (server_begun listen base s d).0 }
 
     // where a user begins
-    ensures user { (peer : Host) (listen own : ℕ) (s : ServicesState) (d : DeskState) → IsAddress peer → HasAsked d (user_begun peer listen own s d).1 }
-    ensures user_named { (peer : Host) (listen own : ℕ) (s : ServicesState) (d : DeskState) → IsAddress peer → NamePeers s → NamePeers (user_begun peer listen own s d).0 }
+    ensures user { (peer : Host) (listen own : ℕ) (s : ServicesState) (d : DeskState) → IsAddress peer → IsWord listen → HasAsked d (user_begun peer listen own s d).1 }
+    ensures user_named { (peer : Host) (listen own : ℕ) (s : ServicesState) (d : DeskState) → IsAddress peer → IsWord listen → NamePeers s → NamePeers (user_begun peer listen own s d).0 }
 {}

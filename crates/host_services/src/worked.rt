@@ -4,6 +4,7 @@
 ghost use Rattle.std.specs.Prelude.{◌≡◌, [], ◌∷◌, Some, None};
 ghost use Rattle.bit_messages.specs.Octets.{bits_of};
 ghost use Rattle.host_pairs.specs.declared.notice.Notice.TheVariants as notice;
+ghost use Rattle.host_services.specs.Named.{MayAsk, NoneRefused};
 ghost use Rattle.host_services.specs.Services.{no_services};
 ghost use Rattle.host_services.specs.Turns.{server_begun, told, user_begun};
 ghost use Rattle.host_services.specs.Worked.{first, fresh, of_second};
@@ -44,4 +45,17 @@ pub fn worked_notices()
     // a line is reported with the notice that brings its end, and the grant that is asked for is passed over where it is refused
     ensures line { (told (notice.Arrived 18 (bits_of (72 ∷ 73 ∷ 13 ∷ [])) ∷ notice.Arrived 18 (bits_of (10 ∷ [])) ∷ []) (record { running = service.Terminal (opening_terminal 18 19) ∷ []; typing = Some 19 }) fresh).1.reports ≡ of_second 8 (report.Line (72 ∷ 73 ∷ [])) ∷ [] }
     ensures grant { (told (notice.Arrived 18 (bits_of (72 ∷ [])) ∷ []) (record { running = service.Terminal (opening_terminal 18 19) ∷ []; typing = Some 19 }) fresh).1.asked ≡ [] }
+{}
+
+/// What services may ask for, and what a program refuses.
+#[tactic(auto, unfolding(sockets::specs::Requests::refusal, sockets::specs::Requests::served))]
+pub fn worked_requests()
+    // a grant within its fields may be asked for, and neither one past them nor a contact
+    ensures grant { MayAsk (request.Grant 18 1 4294967295) }
+    ensures past { MayAsk (request.Grant 18 1 4294967296) → ⊥ }
+    ensures contact { MayAsk (request.Contact first) → ⊥ }
+
+    // each request finds what those before it left: a socket listens once
+    ensures listens { NoneRefused fresh.program (request.Listen 7 32 ∷ request.Listen 100 8 ∷ []) }
+    ensures twice { NoneRefused fresh.program (request.Listen 7 32 ∷ request.Listen 7 32 ∷ []) → ⊥ }
 {}

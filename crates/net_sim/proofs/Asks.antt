@@ -1,5 +1,5 @@
 -- What services of a host ask for, as one moment after the other; and the services of all hosts.
-use Rattle.std.proofs.Common.{◌≡◌, ℕ, Bool, true, false, cond, if◌then◌else◌, find, List, [], ◌∷◌, ◌++◌, map, length, Option, Some, None, All, refl, ap, sym, subst, ◌∙◌}
+use Rattle.std.proofs.Common.{◌≡◌, ℕ, Bool, true, false, if◌then◌else◌, find, List, [], ◌∷◌, ◌++◌, map, length, Option, Some, None, All, refl, ap, sym, ◌∙◌}
 use Rattle.std.specs.List.{fold}
 use Rattle.std.proofs.lemmas.List.Elements.{All-cons, All-head, All-nil, All-tail}
 use Rattle.leader1822.specs.Host.{Host, same_host}
@@ -8,15 +8,15 @@ use Rattle.leader1822.specs.declared.crossing.Crossing.{Crossing}
 use Rattle.leader1822.specs.declared.crossing.Crossing.TheVariants as crossing
 use Rattle.leader1822.proofs.Lists.{same_host-refl}
 use Rattle.sockets.specs.Pairs.{NcpState}
-use Rattle.sockets.specs.Requests.{served}
+use Rattle.sockets.specs.Requests.{refusal, served}
 use Rattle.sockets.specs.declared.request.Request.{Request}
-use Rattle.host_services.specs.Named.{IsAddressed, NamePeers, NamesPeer}
+use Rattle.host_services.specs.Named.{MayAsk, NamePeers, NamesPeer, NoneRefused}
 use Rattle.host_services.specs.Services.{ServicesState, no_services}
 use Rattle.net_sim.specs.Book.{Called, Kept, all_asked, asked, contacts_asked}
-use Rattle.net_sim.specs.Story.{Moment, Crossed, Asked, program, places}
+use Rattle.net_sim.specs.Story.{Moment, Asked, program, places}
 use Rattle.net_sim.specs.Timeline.{IsTimeline, contacts_of, crossings_of}
 use Rattle.net_sim.specs.Whole.{AreServed, seat_in}
-use Rattle.net_sim.specs.World.{HostServices, Seat, all_emptied, emptied, opening_services, services_in, services_of, serviced, with_program, with_services}
+use Rattle.net_sim.specs.World.{HostServices, Seat, all_emptied, opening_services, services_in, services_of, serviced, with_program, with_services}
 use Rattle.net_sim.proofs.Seats.{seated_at}
 
 -- ---- moments
@@ -35,11 +35,6 @@ asks_contacts h [] k moments place same = same
 asks_contacts h (r ∷ rs) k moments place same =
     asks_contacts h rs (asked h r k) (Asked h r ∷ moments) place
     (ap (λ (xs : List Called). xs ++ contacts_asked h (length k.book.crossings) r) same ∙ ap (λ (n : ℕ). contacts_of moments ++ contacts_asked h n r) place)
-
-pub asks_timeline : (hosts : List Host) (h : Host) (rs : List Request) (moments : List Moment) → mail.is_up hosts h (crossings_of moments) ≡ true → All IsAddressed rs → IsTimeline hosts moments
-    → IsTimeline hosts (asks_of h rs moments)
-asks_timeline hosts h [] moments up named t = t
-asks_timeline hosts h (r ∷ rs) moments up named t = asks_timeline hosts h rs (Asked h r ∷ moments) up (All-tail IsAddressed r rs named) ((up, All-head IsAddressed r rs named), t)
 
 -- a seat is given a program twice
 pub twice : (b : Bool) (p q : Option NcpState) (s : Seat) → with_program b q (with_program b p s) ≡ with_program b q s
@@ -68,6 +63,14 @@ asked_program : (h : Host) (r : Request) (moments : List Moment) (s : NcpState) 
 asked_program h r moments s is = by (same_host-refl h) where
   by : same_host h h ≡ true → program h (Asked h r ∷ moments) ≡ served s r
   by e = rw e (ap (λ (x : NcpState). served x r) is)
+
+pub asks_timeline : (hosts : List Host) (h : Host) (rs : List Request) (moments : List Moment) (s : NcpState) → mail.is_up hosts h (crossings_of moments) ≡ true → program h moments ≡ s → All MayAsk rs
+    → NoneRefused s rs → IsTimeline hosts moments → IsTimeline hosts (asks_of h rs moments)
+asks_timeline hosts h [] moments s up is each none t = t
+asks_timeline hosts h (r ∷ rs) moments s up is each none t =
+    let may : MayAsk r = All-head MayAsk r rs each in
+    asks_timeline hosts h rs (Asked h r ∷ moments) (served s r) up (asked_program h r moments s is) (All-tail MayAsk r rs each) none.1
+    ((up, may.addressed, ap (λ (x : NcpState). refusal x r) is ∙ none.0, may.ranged), t)
 
 pub asks_each : (hosts : List Host) (h : Host) (rs : List Request) (moments : List Moment) (s : NcpState) → mail.is_up hosts h (crossings_of moments) ≡ true → program h moments ≡ s
     → (g : Host) → with_program (same_host h g) (Some (fold served s rs)) (seat_in hosts moments g) ≡ seat_in hosts (asks_of h rs moments) g

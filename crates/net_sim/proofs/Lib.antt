@@ -26,5 +26,6 @@ pub mod Unheard
 pub mod Held
 pub mod RunLoop
 pub mod Asks
+pub mod Telling
 pub mod Serving
 pub mod Doing

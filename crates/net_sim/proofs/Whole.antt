@@ -14,6 +14,7 @@ use Rattle.leader1822.specs.declared.crossing.Inbound.{Inbound}
 use Rattle.leader1822.specs.declared.crossing.Inbound.TheVariants as inbound
 use Rattle.leader1822.specs.declared.event.NetEvent.{NetEvent}
 use Rattle.leader1822.specs.declared.message.HostMessage.{HostMessage}
+use Rattle.ncp_control.specs.Command.{IsWord}
 use Rattle.sockets.specs.Accepting.{accepted}
 use Rattle.sockets.specs.Pairs.{NcpState}
 use Rattle.sockets.specs.Requests.{refusal, served, served_notices}
@@ -24,16 +25,17 @@ use Rattle.sockets.specs.declared.fault.NcpFault.TheVariants as problem
 use Rattle.sockets.specs.declared.request.Request.{Request}
 use Rattle.sockets.specs.declared.request.Request.TheVariants as request
 use Rattle.host_services.proofs.Asking.{server_asked_all, server_named_all, told_asked, user_asked_all, user_named_all}
-use Rattle.host_services.specs.Named.{HasAsked, NamePeers}
+use Rattle.host_services.specs.Named.{HasAsked, MayAsk, NamePeers, NoneRefused}
 use Rattle.host_services.specs.Services.{DeskState, ServicesState, opening_desk}
 use Rattle.host_services.specs.Turns.{server_begun, user_begun}
 use Rattle.host_services.specs.TypedLines.{line_bits}
 use Rattle.net_sim.specs.Book.{Called, Kept, contacts_asked, crossed, all_crossed, told, all_told, asked}
 use Rattle.net_sim.specs.Carriers.{shown}
 use Rattle.net_sim.specs.Story.{Moment, Crossed, Asked, program, places}
-use Rattle.net_sim.specs.Timeline.{Happens, IsAddressed, IsTimeline, contacts_of, crossings_of}
+use Rattle.net_sim.specs.Timeline.{Happens, IsAddressed, IsAsked, IsTimeline, contacts_of, crossings_of}
+use Rattle.net_sim.specs.Told.{host_in, kept_in, notices_by, without_reports}
 use Rattle.net_sim.specs.Whole.{AreServed, Each, IsNamed, IsWhole, seat_in}
-use Rattle.net_sim.specs.World.{Calls, WorldState, WorldFault, Carrier, Program, Event, Net, Quiet, Offer, Take, Ask, Server, User, Typed, Seat, opening_world, seat_of, seated, all_turned, services_of, noticed, heard, tended, turn_of, with_server, with_user, DoesOrHalts, TypeGives, with_program, with_carrier, moved, changed, served_at, Refuses, Does, Halts, Passes, OfferEnds, OfferGives, TakeEnds, TakeGives, NetEnds, QuietEnds, AskGives, AtProgram, AtSeat, EventGives, StepGives, RunGives, CalmGives, opening_seats}
+use Rattle.net_sim.specs.World.{Calls, WorldState, WorldFault, Carrier, Program, Event, Net, Quiet, Offer, Take, Ask, Server, User, Typed, Seat, opening_world, seat_of, seated, all_turned, services_of, noticed, heard, tended, turn_of, with_server, with_user, DoesOrHalts, TypeGives, with_program, with_carrier, moved, changed, Refuses, Does, Halts, Passes, OfferEnds, OfferGives, TakeEnds, TakeGives, NetEnds, QuietEnds, AskGives, AtProgram, AtSeat, EventGives, StepGives, RunGives, CalmGives, opening_seats}
 use Rattle.net_sim.proofs.Always.{run_keeps, calm_keeps}
 use Rattle.net_sim.proofs.Asks.{after_each, asks_contacts, asks_crossings, asks_each, asks_of, asks_timeline, emptied_served, named_of, opening_served, same_each, still_served}
 use Rattle.net_sim.proofs.Booked.{asked_crossings, told_crossings, crossed_crossings}
@@ -41,6 +43,7 @@ use Rattle.net_sim.proofs.Bridge.{places_same}
 use Rattle.net_sim.proofs.Coupled.{Said, said}
 use Rattle.net_sim.proofs.Seats.{AreTurns, all_seated, found_seat, seated_at, step_turns, turned_contacts, turned_crossings, turned_seats, turned_timeline, with_crossings}
 use Rattle.net_sim.proofs.StoryLemmas.{program_own}
+use Rattle.net_sim.proofs.Telling.{kept_asked, kept_more, kept_turned}
 
 -- ---- the contacts of what is kept
 
@@ -86,9 +89,9 @@ module _ {C : Type 0} (own : Calls C) (hosts : List Host) where
     program : program h moments ≡ s
 
   done_whole : (moments : List Moment) (done : WorldState C) (r : Result (Unit {0}) WorldFault) (new : WorldState C) → IsTimeline hosts moments → (own.seen done.carrier).hosts ≡ hosts
-      → done.kept.book.crossings ≡ crossings_of moments → done.kept.book.contacts ≡ contacts_of moments → done.seats ≡ map (seat_in hosts moments) hosts → AreServed hosts done.services → Does done r new → Whole new
-  done_whole moments done r new timeline network crossings contacts seats served d =
-      subst Whole (sym d.1) (record { moments = moments; timeline = timeline; network = network; crossings = crossings; contacts = contacts; seats = λ running. seats; services = λ running. served })
+      → done.kept.book.crossings ≡ crossings_of moments → done.kept.book.contacts ≡ contacts_of moments → without_reports done.kept ≡ kept_in moments → done.seats ≡ map (seat_in hosts moments) hosts → AreServed hosts done.services → Does done r new → Whole new
+  done_whole moments done r new timeline network crossings contacts kept seats served d =
+      subst Whole (sym d.1) (record { moments = moments; timeline = timeline; network = network; crossings = crossings; contacts = contacts; kept = kept; seats = λ running. seats; services = λ running. served })
 
   refused_whole : (f : WorldFault) (old : WorldState C) (r : Result (Unit {0}) WorldFault) (new : WorldState C) → Whole old → Refuses f old r new → Whole new
   refused_whole f old r new w h = subst Whole (sym h.1) w
@@ -100,6 +103,7 @@ module _ {C : Type 0} (own : Calls C) (hosts : List Host) where
     network = ap (λ (x : C). (own.seen x).hosts) h.carrier ∙ network;
     crossings = ap (λ (k : Kept). k.book.crossings) h.kept ∙ w.crossings;
     contacts = ap (λ (k : Kept). k.book.contacts) h.kept ∙ w.contacts;
+    kept = ap (λ (k : Kept). without_reports k) h.kept ∙ w.kept;
     seats = λ running. absurd (let t : true ≡ false = sym h.stopped ∙ running in cc);
     services = λ running. absurd (let t : true ≡ false = sym h.stopped ∙ running in cc);
   }
@@ -107,25 +111,27 @@ module _ {C : Type 0} (own : Calls C) (hosts : List Host) where
   passed_whole : (e : CarrierFault) (c : C) (old : WorldState C) (r : Result (Unit {0}) WorldFault) (new : WorldState C) → Whole old → old.stopped ≡ false → (own.seen c).hosts ≡ hosts → Passes e c old r new → Whole new
   passed_whole e c old r new w running network h =
       let now : Whole (record old { carrier = c; stopped = is_memory e }) =
-      record { moments = w.moments; timeline = w.timeline; network = network; crossings = w.crossings; contacts = w.contacts; seats = λ on. w.seats running; services = λ on. w.services running } in
+      record { moments = w.moments; timeline = w.timeline; network = network; crossings = w.crossings; contacts = w.contacts; kept = w.kept; seats = λ on. w.seats running; services = λ on. w.services running } in
       subst Whole (sym h.1) now
 
   -- services had their turns at a host that is up: what they asked for comes as one moment after the other
   tended_whole : (h : Host) (d : DeskState) (t : ServicesState × DeskState) (before moments : List Moment) (mid : WorldState C) (r : Result (Unit {0}) WorldFault) (new : WorldState C) → IsTimeline hosts moments
-      → (own.seen mid.carrier).hosts ≡ hosts → mid.kept.book.crossings ≡ crossings_of moments → mid.kept.book.contacts ≡ contacts_of moments → IsUp moments h d.program
+      → (own.seen mid.carrier).hosts ≡ hosts → mid.kept.book.crossings ≡ crossings_of moments → mid.kept.book.contacts ≡ contacts_of moments → without_reports mid.kept ≡ kept_in moments → IsUp moments h d.program
       → mid.seats ≡ map (seat_in hosts before) hosts → ((g : Host) → with_program (same_host h g) (Some d.program) (seat_in hosts before g) ≡ seat_in hosts moments g)
       → AreServed hosts mid.services → d.asked ≡ [] → HasAsked d t.1 → NamePeers t.0 → Does (tended h t mid) r new → Whole new
-  tended_whole h d t before moments mid r new timeline network crossings contacts u seats each served_here none asks named does =
+  tended_whole h d t before moments mid r new timeline network crossings contacts kept u seats each served_here none asks named does =
       let rs : List Request = t.1.asked in
       let more : t.1.asked ≡ asks.more = asks.asked ∙ ap (λ (xs : List Request). xs ++ asks.more) none in
-      let addressed : All IsAddressed t.1.asked = subst (All IsAddressed) (sym more) asks.addressed in
+      let may : All MayAsk t.1.asked = subst (All MayAsk) (sym more) asks.each in
+      let none_refused : NoneRefused d.program t.1.asked = subst (NoneRefused d.program) (sym more) asks.unrefused in
       let made : t.1.program ≡ fold served d.program t.1.asked = asks.program ∙ ap (λ (xs : List Request). fold served d.program xs) (sym more) in
       let place : length mid.kept.book.crossings ≡ places moments = ap (λ (xs : List Crossing). length xs) crossings ∙ sym (places_same moments) in
       let all : (g : Host) → with_program (same_host h g) (Some (fold served d.program t.1.asked)) (seat_in hosts before g) ≡ seat_in hosts (asks_of h t.1.asked moments) g =
       after_each hosts h d.program (fold served d.program t.1.asked) before moments (asks_of h t.1.asked moments) each (asks_each hosts h t.1.asked moments d.program u.up u.program) in
-      done_whole (asks_of h t.1.asked moments) (tended h t mid) r new (asks_timeline hosts h t.1.asked moments u.up addressed timeline) network
+      done_whole (asks_of h t.1.asked moments) (tended h t mid) r new (asks_timeline hosts h t.1.asked moments d.program u.up u.program may none_refused timeline) network
       (asked_crossings h t.1.asked mid.kept ∙ crossings ∙ sym (asks_crossings h t.1.asked moments))
       (asks_contacts h t.1.asked mid.kept moments place contacts)
+      (kept_asked h t.1.asked mid.kept moments may kept)
       (ap (λ (ss : List Seat). seated h (Some t.1.program) ss) seats ∙ ap (λ (x : NcpState). seated h (Some x) (map (seat_in hosts before) hosts)) made
       ∙ all_seated hosts hosts before (asks_of h t.1.asked moments) h (Some (fold served d.program t.1.asked)) all)
       (still_served hosts h t.0 mid.services named served_here) does
@@ -140,31 +146,31 @@ module _ {C : Type 0} (own : Calls C) (hosts : List Host) where
 
   -- a program told this of a moment, and then its services had their turns
   heard_whole : (h : Host) (turn : NcpState × List Notice) (before moments : List Moment) (old : WorldState C) (mid : WorldState C) (r : Result (Unit {0}) WorldFault) (new : WorldState C) → IsTimeline hosts moments
-      → (own.seen mid.carrier).hosts ≡ hosts → mid.kept.book.crossings ≡ crossings_of moments → mid.kept.book.contacts ≡ contacts_of moments
+      → (own.seen mid.carrier).hosts ≡ hosts → mid.kept.book.crossings ≡ crossings_of moments → mid.kept.book.contacts ≡ contacts_of moments → without_reports (all_told h turn.1 mid.kept) ≡ kept_in moments
       → mid.seats ≡ map (seat_in hosts before) hosts → ((g : Host) → with_program (same_host h g) (Some turn.0) (seat_in hosts before g) ≡ seat_in hosts moments g)
       → AreServed hosts mid.services → Does (heard h turn mid) r new → Whole new
-  heard_whole h turn before moments old mid r new timeline network crossings contacts seats each served_here does =
+  heard_whole h turn before moments old mid r new timeline network crossings contacts kept seats each served_here does =
       let d : DeskState = opening_desk h (noticed mid) turn.0 in
       let asks : HasAsked (opening_desk h (noticed mid) turn.0) (turn_of h (noticed mid) (services_of h mid.services) turn).1 × NamePeers (turn_of h (noticed mid) (services_of h mid.services) turn).0 =
       told_asked turn.1 (services_of h mid.services) (opening_desk h (noticed mid) turn.0) (named_of h mid.services served_here.named) in
       tended_whole h (opening_desk h (noticed mid) turn.0) (turn_of h (noticed mid) (services_of h mid.services) turn) before moments (record mid { kept = all_told h turn.1 mid.kept }) r new timeline network
-      (told_crossings h turn.1 mid.kept ∙ crossings) (told_contacts h turn.1 mid.kept ∙ contacts) (up_by h turn.0 before moments each) seats each served_here refl asks.0 asks.1 does
+      (told_crossings h turn.1 mid.kept ∙ crossings) (told_contacts h turn.1 mid.kept ∙ contacts) kept (up_by h turn.0 before moments each) seats each served_here refl asks.0 asks.1 does
 
   -- what crosses for a host that is up, and what it is told
   crossed_whole : (h : Host) (x : Crossing) (c : C) (turn : NcpState × List Notice) (old : WorldState C) (r : Result (Unit {0}) WorldFault) (new : WorldState C) → (w : Whole old) → old.stopped ≡ false
-      → (own.seen c).hosts ≡ hosts → Happens hosts (Crossed x) w.moments
+      → (own.seen c).hosts ≡ hosts → Happens hosts (Crossed x) w.moments → host_in (Crossed x) ≡ h → turn.1 ≡ notices_by (Crossed x) w.moments
       → ((g : Host) → with_program (same_host h g) (Some turn.0) (seat_in hosts w.moments g) ≡ seat_in hosts (Crossed x ∷ w.moments) g)
       → Does (moved c h x turn old) r new ⊎ Halts c old r new → Whole new
-  crossed_whole h x c turn old r new w running network happens each (inl d) =
+  crossed_whole h x c turn old r new w running network happens its notices each (inl d) =
       heard_whole h turn w.moments (Crossed x ∷ w.moments) old (record old { carrier = c; kept = crossed x old.kept }) r new (happens, w.timeline) network
-      (ap (λ (xs : List Crossing). x ∷ xs) w.crossings) w.contacts (w.seats running) each (w.services running) d
-  crossed_whole h x c turn old r new w running network happens each (inr k) = halt_whole old c r new w network k
+      (ap (λ (xs : List Crossing). x ∷ xs) w.crossings) w.contacts (kept_more (Crossed x) h turn.1 old.kept w.moments its notices w.kept) (w.seats running) each (w.services running) d
+  crossed_whole h x c turn old r new w running network happens its notices each (inr k) = halt_whole old c r new w network k
 
   place_is : (old : WorldState C) (w : Whole old) → length old.kept.book.crossings ≡ places w.moments
   place_is old w = ap (λ (xs : List Crossing). length xs) w.crossings ∙ sym (places_same w.moments)
 
   -- a call of the program of a host that is up
-  called_is : (old : WorldState C) (w : Whole old) (h : Host) (s : NcpState) → IsUp w.moments h s → (call : NcpState → ℕ → NcpState) → call s (length old.kept.book.crossings) ≡ call (program h w.moments) (places w.moments)
+  called_is : (old : WorldState C) (w : Whole old) (h : Host) (s : NcpState) → IsUp w.moments h s → (call : NcpState → ℕ → NcpState × List Notice) → call s (length old.kept.book.crossings) ≡ call (program h w.moments) (places w.moments)
   called_is old w h s u call = ap (λ (n : ℕ). call s n) (place_is old w) ∙ ap (λ (x : NcpState). call x (places w.moments)) (sym u.program)
 
   offer_ends : (h : Host) (s : NcpState) (m : HostMessage) (answer : Result (Unit {0}) CarrierFault) (c : C) (old : WorldState C) (r : Result (Unit {0}) WorldFault) (new : WorldState C) → (w : Whole old)
@@ -173,8 +179,10 @@ module _ {C : Type 0} (own : Calls C) (hosts : List Host) where
       let x : Said s m = said s m next in
       let from : m.flow.source ≡ h = ap (λ (y : HostMessage). y.flow.source) x.message ∙ ap (λ (y : NcpState). y.own) (sym u.program) ∙ program_own h w.moments in
       let happens : next_out (program m.flow.source w.moments) ≡ Some m = ap (λ (y : Host). next_out (program y w.moments)) from ∙ ap next_out u.program ∙ next in
+      let made : offered s (length old.kept.book.crossings) ≡ offered (program h w.moments) (places w.moments) = called_is old w h s u (λ y n. offered y n) in
       crossed_whole h (crossing.Out m) c (offered s (length old.kept.book.crossings)) old r new w running (grown_hosts (own.seen old.carrier) (crossing.Out m ∷ []) (own.seen c) shows ∙ w.network) happens
-      (seated_at hosts w.moments h m.flow.source (λ g. (offered (program g w.moments) (places w.moments)).0) (offered s (length old.kept.book.crossings)).0 from u.up (called_is old w h s u (λ y n. (offered y n).0))) ends
+      from (ap (λ (t : NcpState × List Notice). t.1) made ∙ ap (λ (y : Host). (offered (program y w.moments) (places w.moments)).1) (sym from))
+      (seated_at hosts w.moments h m.flow.source (λ g. (offered (program g w.moments) (places w.moments)).0) (offered s (length old.kept.book.crossings)).0 from u.up (ap (λ (t : NcpState × List Notice). t.0) made)) ends
   offer_ends h s m (Err e) c old r new w running u next shows ends = passed_whole e c old r new w running (refused_hosts (own.seen old.carrier) e (own.seen c) shows ∙ w.network) ends
 
   offer_whole : (h : Host) (s : NcpState) (o : Option HostMessage) (old : WorldState C) (r : Result (Unit {0}) WorldFault) (new : WorldState C) → (w : Whole old) → old.stopped ≡ false → IsUp w.moments h s
@@ -184,19 +192,23 @@ module _ {C : Type 0} (own : Calls C) (hosts : List Host) where
   offer_whole h s (Some m) old r new w running u next (inr t) = offer_ends h s m t.0 t.1 old r new w running u next t.2.1 t.3
 
   quiet_by : (c : C) (old : WorldState C) (r : Result (Unit {0}) WorldFault) (new : WorldState C) → (w : Whole old) → old.stopped ≡ false → (own.seen c).hosts ≡ hosts → Does (with_carrier c old) r new → Whole new
-  quiet_by c old r new w running network d = done_whole w.moments (with_carrier c old) r new w.timeline network w.crossings w.contacts (w.seats running) (w.services running) d
+  quiet_by c old r new w running network d = done_whole w.moments (with_carrier c old) r new w.timeline network w.crossings w.contacts w.kept (w.seats running) (w.services running) d
 
   take_ends : (h : Host) (s : NcpState) (answer : Result (Option Inbound) CarrierFault) (c : C) (old : WorldState C) (r : Result (Unit {0}) WorldFault) (new : WorldState C) → (w : Whole old)
       → old.stopped ≡ false → IsUp w.moments h s → ShowsTake (own.seen old.carrier) h answer (own.seen c) → TakeEnds h s answer c old r new → Whole new
   take_ends h s (Ok None) c old r new w running u shows ends = quiet_by c old r new w running (grown_hosts (own.seen old.carrier) [] (own.seen c) shows ∙ w.network) ends
   take_ends h s (Ok (Some (inbound.Message m))) c old r new w running u shows ends =
+      let made : accepted s (inbound.Message m) (length old.kept.book.crossings) ≡ accepted (program h w.moments) (inbound.Message m) (places w.moments) = called_is old w h s u (λ y n. accepted y (inbound.Message m) n) in
       crossed_whole h (crossing.In m) c (accepted s (inbound.Message m) (length old.kept.book.crossings)) old r new w running (grown_hosts (own.seen old.carrier) (crossing.In m ∷ []) (own.seen c) shows.0 ∙ w.network) tt
+      shows.1 (ap (λ (t : NcpState × List Notice). t.1) made ∙ ap (λ (y : Host). (accepted (program y w.moments) (inbound.Message m) (places w.moments)).1) (sym shows.1))
       (seated_at hosts w.moments h m.flow.destination (λ g. (accepted (program g w.moments) (inbound.Message m) (places w.moments)).0) (accepted s (inbound.Message m) (length old.kept.book.crossings)).0 shows.1 u.up
-      (called_is old w h s u (λ y n. (accepted y (inbound.Message m) n).0))) ends
+      (ap (λ (t : NcpState × List Notice). t.0) made)) ends
   take_ends h s (Ok (Some (inbound.Answer kind f))) c old r new w running u shows ends =
+      let made : accepted s (inbound.Answer kind f) (length old.kept.book.crossings) ≡ accepted (program h w.moments) (inbound.Answer kind f) (places w.moments) = called_is old w h s u (λ y n. accepted y (inbound.Answer kind f) n) in
       crossed_whole h (crossing.Answer kind f) c (accepted s (inbound.Answer kind f) (length old.kept.book.crossings)) old r new w running (grown_hosts (own.seen old.carrier) (crossing.Answer kind f ∷ []) (own.seen c) shows.0 ∙ w.network) tt
+      shows.1 (ap (λ (t : NcpState × List Notice). t.1) made ∙ ap (λ (y : Host). (accepted (program y w.moments) (inbound.Answer kind f) (places w.moments)).1) (sym shows.1))
       (seated_at hosts w.moments h f.source (λ g. (accepted (program g w.moments) (inbound.Answer kind f) (places w.moments)).0) (accepted s (inbound.Answer kind f) (length old.kept.book.crossings)).0 shows.1 u.up
-      (called_is old w h s u (λ y n. (accepted y (inbound.Answer kind f) n).0))) ends
+      (ap (λ (t : NcpState × List Notice). t.0) made)) ends
   take_ends h s (Err e) c old r new w running u shows ends = passed_whole e c old r new w running (refused_hosts (own.seen old.carrier) e (own.seen c) shows ∙ w.network) ends
 
   net_ends : (e : NetEvent) (answer : Result (Unit {0}) CarrierFault) (c : C) (old : WorldState C) (r : Result (Unit {0}) WorldFault) (new : WorldState C) → (w : Whole old)
@@ -209,6 +221,7 @@ module _ {C : Type 0} (own : Calls C) (hosts : List Host) where
       (grown_hosts (own.seen old.carrier) (step_crossings (own.seen old.carrier) e) (own.seen c) shows ∙ w.network)
       (crossed_crossings cs old.kept ∙ ap (λ (xs : List Crossing). step_crossings (own.seen old.carrier) e ++ xs) w.crossings ∙ sym (turned_crossings cs w.moments))
       (crossed_contacts cs old.kept ∙ w.contacts ∙ sym (turned_contacts cs w.moments))
+      (kept_turned cs old.kept w.moments turns w.kept)
       (ap (λ (seats : List Seat). all_turned (step_crossings (own.seen old.carrier) e) seats) (w.seats running) ∙ turned_seats hosts cs w.moments turns)
       (emptied_served hosts cs old.services (w.services running)) d
   net_ends e (Ok done) c old r new w running shows (inr k) =
@@ -220,28 +233,29 @@ module _ {C : Type 0} (own : Calls C) (hosts : List Host) where
   quiet_ends (Ok done) c old r new w running shows ends = quiet_by c old r new w running (grown_hosts (own.seen old.carrier) [] (own.seen c) shows ∙ w.network) ends
   quiet_ends (Err e) c old r new w running shows ends = passed_whole e c old r new w running (refused_hosts (own.seen old.carrier) e (own.seen c) shows ∙ w.network) ends
 
-  ask_whole : (h : Host) (q : Request) (s : NcpState) (o : Option NcpFault) (old : WorldState C) (r : Result (Unit {0}) WorldFault) (new : WorldState C) → IsAddressed q → (w : Whole old)
+  ask_whole : (h : Host) (q : Request) (s : NcpState) (o : Option NcpFault) (old : WorldState C) (r : Result (Unit {0}) WorldFault) (new : WorldState C) → IsAddressed q × IsAsked q → refusal s q ≡ o → (w : Whole old)
       → old.stopped ≡ false → IsUp w.moments h s → AskGives h q s o old r new → Whole new
-  ask_whole h q s (Some f) old r new named w running u gives = refused_whole (Program f) old r new w gives
-  ask_whole h q s None old r new named w running u (inl d) =
+  ask_whole h q s (Some f) old r new named e w running u gives = refused_whole (Program f) old r new w gives
+  ask_whole h q s None old r new named e w running u (inl d) =
       let called : old.kept.book.contacts ++ contacts_asked h (length old.kept.book.crossings) q ≡ contacts_of w.moments ++ contacts_asked h (places w.moments) q =
       ap (λ (xs : List Called). xs ++ contacts_asked h (length old.kept.book.crossings) q) w.contacts ∙ ap (λ (n : ℕ). contacts_of w.moments ++ contacts_asked h n q) (place_is old w) in
-      let made : served s q ≡ served (program h w.moments) q = called_is old w h s u (λ y n. served y q) in
-      heard_whole h (served s q, served_notices s q) w.moments (Asked h q ∷ w.moments) old (record old { kept = asked h q old.kept }) r new ((u.up, named), w.timeline) w.network
-      w.crossings called (w.seats running) (seated_at hosts w.moments h h (λ g. served (program g w.moments) q) (served s q) refl u.up made) (w.services running) d
-  ask_whole h q s None old r new named w running u (inr k) = halt_whole old old.carrier r new w w.network k
+      let made : (served s q, served_notices s q) ≡ (served (program h w.moments) q, served_notices (program h w.moments) q) = called_is old w h s u (λ y n. (served y q, served_notices y q)) in
+      heard_whole h (served s q, served_notices s q) w.moments (Asked h q ∷ w.moments) old (record old { kept = asked h q old.kept }) r new ((u.up, named.0, ap (λ (x : NcpState). refusal x q) u.program ∙ e, named.1), w.timeline) w.network
+      w.crossings called (kept_more (Asked h q) h (served_notices s q) old.kept w.moments refl (ap (λ (t : NcpState × List Notice). t.1) made) w.kept)
+      (w.seats running) (seated_at hosts w.moments h h (λ g. served (program g w.moments) q) (served s q) refl u.up (ap (λ (t : NcpState × List Notice). t.0) made)) (w.services running) d
+  ask_whole h q s None old r new named e w running u (inr k) = halt_whole old old.carrier r new w w.network k
 
   type_whole : (h : Host) (line : List ℕ) (s : NcpState) (o : Option ℕ) (old : WorldState C) (r : Result (Unit {0}) WorldFault) (new : WorldState C) → (w : Whole old)
       → old.stopped ≡ false → IsUp w.moments h s → TypeGives h line s o old r new → Whole new
   type_whole h line s None old r new w running u gives = refused_whole (Program problem.NotOpen) old r new w gives
   type_whole h line s (Some socket) old r new w running u gives =
-      ask_whole h (request.Send socket (line_bits line)) s (refusal s (request.Send socket (line_bits line))) old r new tt w running u gives
+      ask_whole h (request.Send socket (line_bits line)) s (refusal s (request.Send socket (line_bits line))) old r new (tt, tt) refl w running u gives
 
   -- a service begins
   begun_whole : (h : Host) (s : NcpState) (t : ServicesState × DeskState) (old : WorldState C) (r : Result (Unit {0}) WorldFault) (new : WorldState C) → (w : Whole old) → old.stopped ≡ false → IsUp w.moments h s
       → HasAsked (opening_desk h (noticed old) s) t.1 → NamePeers t.0 → DoesOrHalts (tended h t old) old r new → Whole new
   begun_whole h s t old r new w running u asks named (inl d) =
-      tended_whole h (opening_desk h (noticed old) s) t w.moments w.moments old r new w.timeline w.network w.crossings w.contacts u (w.seats running) (same_each hosts w.moments h s u.up u.program)
+      tended_whole h (opening_desk h (noticed old) s) t w.moments w.moments old r new w.timeline w.network w.crossings w.contacts w.kept u (w.seats running) (same_each hosts w.moments h s u.up u.program)
       (w.services running) refl asks named d
   begun_whole h s t old r new w running u asks named (inr k) = halt_whole old old.carrier r new w w.network k
 
@@ -252,12 +266,12 @@ module _ {C : Type 0} (own : Calls C) (hosts : List Host) where
       (server_asked_all listen base (services_of h old.services) (opening_desk h (noticed old) s))
       (server_named_all listen base (services_of h old.services) (opening_desk h (noticed old) s) (named_of h old.services (w.services running).named)) g
 
-  user_whole : (h peer : Host) (listen mine : ℕ) (s : NcpState) (old : WorldState C) (r : Result (Unit {0}) WorldFault) (new : WorldState C) → IsAddress peer → (w : Whole old) → old.stopped ≡ false
+  user_whole : (h peer : Host) (listen mine : ℕ) (s : NcpState) (old : WorldState C) (r : Result (Unit {0}) WorldFault) (new : WorldState C) → IsAddress peer × IsWord listen → (w : Whole old) → old.stopped ≡ false
       → IsUp w.moments h s → DoesOrHalts (with_user h peer listen mine s old) old r new → Whole new
   user_whole h peer listen mine s old r new is w running u g =
       begun_whole h s (user_begun peer listen mine (services_of h old.services) (opening_desk h (noticed old) s)) old r new w running u
-      (user_asked_all peer listen mine (services_of h old.services) (opening_desk h (noticed old) s) is)
-      (user_named_all peer listen mine (services_of h old.services) (opening_desk h (noticed old) s) is (named_of h old.services (w.services running).named)) g
+      (user_asked_all peer listen mine (services_of h old.services) (opening_desk h (noticed old) s) is.0 is.1)
+      (user_named_all peer listen mine (services_of h old.services) (opening_desk h (noticed old) s) is.0 is.1 (named_of h old.services (w.services running).named)) g
 
   -- ---- the program that an event names
 
@@ -280,7 +294,7 @@ module _ {C : Type 0} (own : Calls C) (hosts : List Host) where
   event_whole Quiet old r new named w running t = quiet_ends t.0 t.1 old r new w running t.2.1 t.3
   event_whole (Offer h) old r new named w running t = at_seat (λ s. OfferGives calls h s (next_out s) old r new) (seat_of h old.seats) h old r new w running refl (λ s u g. offer_whole h s (next_out s) old r new w running u refl g) t
   event_whole (Take h) old r new named w running t = at_seat (λ s. TakeGives calls h s old r new) (seat_of h old.seats) h old r new w running refl (λ s u g. take_ends h s g.0 g.1 old r new w running u g.2.1 g.3) t
-  event_whole (Ask h q) old r new named w running t = at_seat (λ s. AskGives h q s (refusal s q) old r new) (seat_of h old.seats) h old r new w running refl (λ s u g. ask_whole h q s (refusal s q) old r new named w running u g) t
+  event_whole (Ask h q) old r new named w running t = at_seat (λ s. AskGives h q s (refusal s q) old r new) (seat_of h old.seats) h old r new w running refl (λ s u g. ask_whole h q s (refusal s q) old r new named refl w running u g) t
   event_whole (Server h listen base) old r new named w running t =
       at_seat (λ s. DoesOrHalts (with_server h listen base s old) old r new) (seat_of h old.seats) h old r new w running refl (λ s u g. server_whole h listen base s old r new w running u g) t
   event_whole (User h peer listen mine) old r new named w running t =
@@ -329,6 +343,7 @@ opening_whole own c = record {
   network = refl;
   crossings = refl;
   contacts = refl;
+  kept = refl;
   seats = λ running. opening_by (own.seen c).hosts (own.seen c).hosts (λ h is. is);
   services = λ running. opening_served (own.seen c).hosts;
 }

@@ -11,3 +11,4 @@ pub mod Whole
 pub mod Clean
 pub mod WorkedResets
 pub mod Told
+pub mod WorkedMoments

@@ -1,13 +1,13 @@
 -- The moments of a book, and what resets see of it: its crossings, and the contacts that users asked for.
-use Rattle.std.specs.Prelude.{◌≡◌, ℕ, ◌==◌, true, if◌then◌else◌, List, [], ◌∷◌, ◌++◌, length, Some}
+use Rattle.std.specs.Prelude.{◌≡◌, ℕ, ◌==◌, true, if◌then◌else◌, List, [], ◌∷◌, ◌++◌, length, Some, None}
 use Rattle.leader1822.specs.Host.{Host}
 use Rattle.leader1822.specs.Mailboxes as mail
 use Rattle.leader1822.specs.Mailboxes.{is_up}
 use Rattle.leader1822.specs.declared.crossing.Crossing.{Crossing}
 use Rattle.leader1822.specs.declared.crossing.Crossing.TheVariants as crossing
-pub use Rattle.host_services.specs.Named.{IsAddressed}
+pub use Rattle.host_services.specs.Named.{IsAddressed, IsAsked}
+use Rattle.sockets.specs.Requests.{refusal}
 use Rattle.sockets.specs.Sending.{next_out}
-use Rattle.sockets.specs.declared.request.Request.{Request}
 use Rattle.reset_law.specs.Boxes.{Box, Empty, Waiting, Taken}
 use Rattle.reset_law.specs.Events.{Event, Contact}
 use Rattle.net_sim.specs.Book.{Called, contacts_asked}
@@ -46,11 +46,12 @@ contacts_of [] = []
 contacts_of (Crossed c ∷ moments) = contacts_of moments
 contacts_of (Asked h r ∷ moments) = contacts_of moments ++ contacts_asked h (places moments) r
 
--- what a moment asks of those before it: what goes out is what its host's program says next, and users ask where hosts are up
+-- what a moment asks of those before it: what goes out is what its host's program says next, and users ask where hosts are up, for
+-- what isn't refused, in numbers of their types
 abbrev pub Happens : List Host → Moment → List Moment → Type 0
 Happens hosts (Crossed (crossing.Out m)) moments = next_out (program m.flow.source moments) ≡ Some m
 Happens hosts (Crossed c) moments = Unit {0}
-Happens hosts (Asked h r) moments = (is_up hosts h (crossings_of moments) ≡ true) × IsAddressed r
+Happens hosts (Asked h r) moments = (is_up hosts h (crossings_of moments) ≡ true) × IsAddressed r × (refusal (program h moments) r ≡ None) × IsAsked r
 
 abbrev pub IsTimeline : List Host → List Moment → Type 0
 IsTimeline hosts [] = Unit {0}

@@ -38,3 +38,7 @@ kept_by (Asked h r) k = asked h r k
 abbrev pub kept_in : List Moment → Kept
 kept_in [] = opening_kept
 kept_in (x ∷ moments) = all_told (host_in x) (notices_by x moments) (kept_by x (kept_in moments))
+
+-- what is kept, but for what services reported
+abbrev pub without_reports : Kept → Kept
+without_reports k = record k { book = record k.book { reports = [] } }

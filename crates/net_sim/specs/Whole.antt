@@ -3,8 +3,10 @@ use Rattle.std.specs.Prelude.{◌≡◌, false, if◌then◌else◌, List, [], �
 use Rattle.leader1822.specs.Calls.{Seen}
 use Rattle.leader1822.specs.Host.{Host, IsAddress}
 use Rattle.leader1822.specs.Mailboxes.{is_up}
+use Rattle.ncp_control.specs.Command.{IsWord}
 use Rattle.net_sim.specs.Story.{Moment, program}
-use Rattle.net_sim.specs.Timeline.{IsAddressed, IsTimeline, crossings_of, contacts_of}
+use Rattle.net_sim.specs.Timeline.{IsAddressed, IsAsked, IsTimeline, crossings_of, contacts_of}
+use Rattle.net_sim.specs.Told.{kept_in, without_reports}
 use Rattle.host_services.specs.Named.{NamePeers}
 use Rattle.net_sim.specs.World.{Event, Net, Quiet, Offer, Take, Ask, Server, User, Typed, Seat, HostServices, WorldState}
 
@@ -17,26 +19,27 @@ pub record AreServed (hosts : List Host) (all : List HostServices) : Type 0 wher
   pub order : map (λ s. s.host) all ≡ hosts
   pub named : All (λ s. NamePeers s.services) all
 
--- the book has the crossings and the contacts of these moments, and until want of memory each host that is up has the program
--- that comes of them
+-- the book has the crossings and the contacts of these moments, and all else that is kept, but for what services report, is what
+-- they tell. Until want of memory each host that is up has the program that comes of them
 pub record IsWhole {C : Type 0} (seen : C → Seen) (hosts : List Host) (w : WorldState C) : Type 0 where
   pub moments : List Moment
   pub timeline : IsTimeline hosts moments
   pub network : (seen w.carrier).hosts ≡ hosts
   pub crossings : w.kept.book.crossings ≡ crossings_of moments
   pub contacts : w.kept.book.contacts ≡ contacts_of moments
+  pub kept : without_reports w.kept ≡ kept_in moments
   pub seats : w.stopped ≡ false → w.seats ≡ map (seat_in hosts moments) hosts
   pub services : w.stopped ≡ false → AreServed hosts w.services
 
--- what a user asks for names its peer by an address
+-- what a user asks for names its peer by an address, and has numbers of their types
 abbrev pub IsNamed : Event → Type 0
 IsNamed (Net e) = Unit {0}
 IsNamed Quiet = Unit {0}
 IsNamed (Offer h) = Unit {0}
 IsNamed (Take h) = Unit {0}
-IsNamed (Ask h r) = IsAddressed r
+IsNamed (Ask h r) = IsAddressed r × IsAsked r
 IsNamed (Server h listen base) = Unit {0}
-IsNamed (User h peer listen own) = IsAddress peer
+IsNamed (User h peer listen own) = IsAddress peer × IsWord listen
 IsNamed (Typed h line) = Unit {0}
 
 abbrev pub Each : (Event → Type 0) → List Event → Type 0

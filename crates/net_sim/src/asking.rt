@@ -6,7 +6,7 @@ ghost use Rattle.host_services.specs.Services.{opening_desk};
 ghost use Rattle.host_services.specs.Turns.{server_begun, user_begun};
 ghost use Rattle.net_sim.specs.Book.{all_asked, all_reported, all_told, asked, contacts_asked};
 ghost use Rattle.net_sim.specs.Inside.Parts.{IsDone};
-ghost use Rattle.net_sim.specs.Timeline.{IsAddressed};
+ghost use Rattle.net_sim.specs.Timeline.{IsAddressed, IsAsked};
 ghost use Rattle.net_sim.specs.World as world;
 ghost use Rattle.sockets.specs.Requests.{refusal, served, served_notices};
 
@@ -18,23 +18,39 @@ use leader1822::HostAddr;
 use sockets::{Ncp, Notice, Request};
 use std::alloc::{AllocError, Global};
 
-/// A request names its peer by an address, as the type of an address has it.
+/// A request names its peer by an address, and has numbers in their ranges, as the types of both have it.
 pub(crate) fn is_addressed(request: &Request)
-    ensures { IsAddressed request.now }
+    ensures addressed { IsAddressed request.now }
+    ensures ranged { IsAsked request.now }
 {
     match request {
-        Request::Contact { peer }
-        | Request::OpenSend { peer, .. }
-        | Request::OpenReceive { peer, .. }
-        | Request::Echo { peer, .. } => {
+        Request::Contact { peer } => {
             let _ = (peer.imp(), peer.host());
         }
-        Request::Listen { .. }
-        | Request::Send { .. }
-        | Request::Grant { .. }
-        | Request::AskBack { .. }
-        | Request::Interrupt { .. }
-        | Request::Close { .. } => {}
+        Request::Listen { size, .. } => {
+            let _size = *size;
+        }
+        Request::OpenSend {
+            peer,
+            own,
+            foreign,
+            size,
+        } => {
+            let _ = (peer.imp(), peer.host(), *own, *foreign, *size);
+        }
+        Request::OpenReceive { peer, own, foreign } => {
+            let _ = (peer.imp(), peer.host(), *own, *foreign);
+        }
+        Request::Grant { messages, bits, .. } => {
+            let _ = (*messages, *bits);
+        }
+        Request::AskBack { messages, bits, .. } => {
+            let _ = (*messages, *bits);
+        }
+        Request::Echo { peer, octet } => {
+            let _ = (peer.imp(), peer.host(), *octet);
+        }
+        Request::Send { .. } | Request::Interrupt { .. } | Request::Close { .. } => {}
     }
 }
 

@@ -229,14 +229,14 @@ pub(crate) fn follow<C: Carrier>(
     }
 }
 
-/// A user names its peer by an address, as the type of an address has it.
+/// A user names its peer by an address, in numbers of their ranges, as the types of both have it.
 pub(crate) fn is_named(event: &Event)
     ensures { IsNamed event.now }
 {
     match event {
         Event::Ask(_, request) => is_addressed(request),
-        Event::User { peer, .. } => {
-            let _ = (peer.imp(), peer.host());
+        Event::User { peer, listen, .. } => {
+            let _ = (peer.imp(), peer.host(), *listen);
         }
         Event::Net(_)
         | Event::Quiet

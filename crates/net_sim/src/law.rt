@@ -109,14 +109,15 @@ pub fn mailboxes()
     ensures needs { (hosts : List Host) (c : Crossing) (moments : List Moment) → Needs hosts c (crossings_of moments) → runs.Needs hosts (event_of c) (events_of moments) }
 {}
 
-/// The book of a world tells one list of moments, the crossings and what users asked for, whatever the carrier is made of. Its
-/// crossings and contacts are theirs, and until want of memory each host has the program that comes of them.
+/// The book of a world tells one list of moments, the crossings and what users asked for and weren't refused, whatever the carrier is
+/// made of. All that is kept, but for what services report, is theirs, and until want of memory each host has the program that comes
+/// of them.
 pub fn worlds<C: Carrier>()
     // over a carrier that hasn't been used
     ensures opening { (c : C) → (C.seen c).log ≡ [] → IsWhole C.seen (C.seen c).hosts (opening_world (shown (record { seen = C.seen; offers = C.offers; takes = C.takes; steps = C.steps; rounds = C.rounds })) c) }
 
     // after one event, a list of events, and so many quiet rounds with all that the hosts take and say between them, where users
-    // name hosts by addresses
+    // name hosts by addresses, and sockets by numbers of their types
     ensures step { (hosts : List Host) (old new : WorldState C) (e : Event) (r : Result (Unit {0}) WorldFault) → IsNamed e → IsWhole C.seen hosts old → StepGives (shown (record { seen = C.seen; offers = C.offers; takes = C.takes; steps = C.steps; rounds = C.rounds })) old e r new → IsWhole C.seen hosts new }
     ensures run { (hosts : List Host) (old new : WorldState C) (events : List Event) (r : Result (Unit {0}) WorldFault) → Each IsNamed events → IsWhole C.seen hosts old → RunGives (shown (record { seen = C.seen; offers = C.offers; takes = C.takes; steps = C.steps; rounds = C.rounds })) old events r new → IsWhole C.seen hosts new }
     ensures calm { (hosts : List Host) (old new : WorldState C) (times : ℕ) (r : Result (Unit {0}) WorldFault) → IsWhole C.seen hosts old → CalmGives (shown (record { seen = C.seen; offers = C.offers; takes = C.takes; steps = C.steps; rounds = C.rounds })) times old r new → IsWhole C.seen hosts new }

@@ -22,6 +22,7 @@ mod lives;
 mod parts;
 mod seat;
 pub mod worked;
+pub mod worked_moments;
 pub mod worked_resets;
 mod world;
 

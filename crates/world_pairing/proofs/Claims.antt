@@ -1,5 +1,5 @@
 -- Which link the last request of a receiver named, for each pair of sockets.
-use Rattle.std.proofs.Common.{◌≡◌, ◌⊎◌, inl, inr, ℕ, ◌+◌, ◌<◌, ◌≤◌, ◌==◌, Bool, true, false, ◌&&◌, if◌then◌else◌, List, [], ◌∷◌, ◌++◌, Option, Some, None, refl, ap, sym, subst, ◌∙◌, eq-eqb, arith}
+use Rattle.std.proofs.Common.{◌≡◌, ◌⊎◌, inl, inr, ℕ, ◌<◌, ◌≤◌, ◌==◌, Bool, true, false, if◌then◌else◌, List, [], ◌∷◌, Option, Some, None, refl, ap, sym, subst, ◌∙◌, eq-eqb, arith}
 use Rattle.std.proofs.lemmas.Bool.{eqb-true}
 use Rattle.host_pairs.proofs.OpeningLemmas.{both}
 use Rattle.pairing_law.specs.Ends.{End, nothing, fits, gone, taken}
@@ -13,7 +13,7 @@ use Rattle.pairing_law.proofs.Linked.{joined_at, run_at}
 use Rattle.pairing_law.proofs.Runs.{joined_fits, joined_run}
 use Rattle.pairing_law.proofs.Joint.{turned}
 use Rattle.pairing_law.proofs.Seen.{put, at, BothSeen, seen}
-use Rattle.pairing_law.proofs.Words.{Below, below_asks}
+use Rattle.pairing_law.proofs.Words.{below_asks}
 
 -- a request for a pair of sockets named a link
 pub record Claim : Type 0 where

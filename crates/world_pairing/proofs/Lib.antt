@@ -1,5 +1,6 @@
 pub mod Views
 pub mod Sides
+pub mod Served
 pub mod Legal
 pub mod Marks
 pub mod Moves
@@ -23,3 +24,15 @@ pub mod LinkAll
 pub mod LinkGone
 pub mod LinkTied
 pub mod LinkRun
+pub mod Books
+pub mod Opened
+pub mod Listened
+pub mod LivesRun
+pub mod Unpaired
+pub mod UnpairedRun
+pub mod UnpairedMoments
+pub mod LivesAmong
+pub mod LifeLists
+pub mod Went
+pub mod BookPartners
+pub mod Worlds

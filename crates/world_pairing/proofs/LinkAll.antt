@@ -1,57 +1,27 @@
 -- Links are free at each moment of two programs.
-use Rattle.std.proofs.Common.{◌≡◌, ◌⊎◌, inl, inr, ℕ, ◌+◌, ◌≤◌, ◌==◌, Bool, true, false, not, ◌&&◌, if◌then◌else◌, List, [], ◌∷◌, ◌++◌, map, take, drop, Option, Some, None, refl, ap, sym, subst, ◌∙◌}
-use Rattle.std.proofs.lemmas.List.{append-nil, take-append-drop}
+use Rattle.std.proofs.Common.{◌≡◌, Bool, true, false, if◌then◌else◌, List, [], ◌∷◌, None, refl, ap, sym, subst, ◌∙◌}
 use Rattle.leader1822.specs.Host.{Host, same_host}
 use Rattle.leader1822.specs.declared.address.Flow.{Flow}
 use Rattle.leader1822.specs.declared.crossing.Answer.{Answer}
 use Rattle.leader1822.specs.declared.crossing.Crossing.TheVariants as crossing
 use Rattle.leader1822.specs.declared.crossing.Inbound.TheVariants as inbound
-use Rattle.leader1822.specs.declared.message.HostMessage.{HostMessage}
-use Rattle.leader1822.proofs.Lists.{same_host-true, same_host-refl}
-use Rattle.ncp_control.specs.declared.command.Command.{Command}
-use Rattle.ncp_control.specs.declared.command.Command.TheVariants as command
-use Rattle.host_pairs.specs.Allowed.{commands_of}
-use Rattle.host_pairs.specs.Control.{Legal, Order, orders_of}
-use Rattle.host_pairs.specs.Data.{data_taken}
-use Rattle.host_pairs.specs.Desk.{desk_of}
 use Rattle.host_pairs.specs.Pair.{PairState}
-use Rattle.host_pairs.specs.Parcels as parcel
-use Rattle.host_pairs.specs.Parcels.{Parcel, bits_gone, commands_gone, link_for, link_of, may_send_on, next_of, pair_after, parcel_gone, text_for}
-use Rattle.host_pairs.specs.Phases as phases
-use Rattle.host_pairs.specs.Turn.{TurnState, if_ready, message_taken, orders_taken, with_desk}
-use Rattle.host_ranges.specs.Ranges.{AreCommands, IsPair, IsRanged, IsReadBack}
-use Rattle.host_ranges.proofs.Calls.{offer_read, pair_range}
-use Rattle.host_ranges.proofs.Orders.{text_good}
-use Rattle.host_pairing.specs.Words.{MayAllGo}
-use Rattle.host_pairing.specs.Ends.{HasEnd}
-use Rattle.host_pairing.specs.Hearing.{AreFree, AreJoint}
-use Rattle.host_pairing.specs.Spoken.{untagged}
-use Rattle.host_pairing.proofs.Fronts.{untagged_is}
-use Rattle.host_pairing.proofs.Lists.{eqb-sym}
-use Rattle.sockets.specs.Accepting.{accepted, accepted_message, turn_of}
-use Rattle.sockets.specs.Pairs.{NcpState, opening_state, pair_with, with_pair}
+use Rattle.sockets.specs.Accepting.{accepted}
+use Rattle.sockets.specs.Pairs.{NcpState, opening_state, pair_with}
 use Rattle.sockets.specs.Requests.{refusal, served}
-use Rattle.sockets.specs.Sending.{message_for, next_in, offered}
-use Rattle.sockets.specs.declared.peer.Peer.{Peer}
 use Rattle.sockets.specs.declared.request.Request.{Request}
-use Rattle.sockets.proofs.NextLemmas.{next_pair}
-use Rattle.sockets.proofs.OtherLemmas.{message_leaves, offer_leaves}
-use Rattle.sockets.proofs.PairLemmas.{pair_changed}
-use Rattle.sockets.proofs.ParcelLemmas.{next_is}
-use Rattle.pairing_law.specs.Links.{Receiver, Sender, Sockets, Step, Word}
-use Rattle.pairing_law.specs.Places.{placed_event, tagged, with_box, with_place}
-use Rattle.reset_law.specs.Events.{Event, In, Message, Other, Out, Reply, Reset, are, place}
+use Rattle.pairing_law.specs.Links.{Receiver, Sender, Step}
+use Rattle.pairing_law.specs.Places.{placed_event}
+use Rattle.reset_law.specs.Events.{Event}
 use Rattle.reset_law.specs.Stays as stay
-use Rattle.net_sim.specs.Projection.{Agrees, event_by, event_of, message_on}
-use Rattle.net_sim.specs.Story.{Asked, Crossed, IsNext, IsStory, Moment, event_in, events_of, places, program}
+use Rattle.net_sim.specs.Projection.{event_by, event_of}
+use Rattle.net_sim.specs.Story.{Asked, Crossed, Moment, events_of, places, program}
 use Rattle.net_sim.proofs.Bridge.{by_request}
 use Rattle.world_pairing.specs.Free.{law_events}
-use Rattle.world_pairing.specs.Steps.{all_heard, all_said, heard_in, steps, words_by, words_of}
+use Rattle.world_pairing.specs.Steps.{all_said, heard_in, steps, words_of}
 use Rattle.world_pairing.proofs.Claims.{Claim, heard_claims, said_claims}
 use Rattle.world_pairing.proofs.LinkCalls.{LinksOf, answer_links, request_links}
 use Rattle.world_pairing.proofs.LinkMoments.{heard_next, said_next}
-use Rattle.world_pairing.proofs.Local.{Links}
-use Rattle.world_pairing.proofs.Programs.{AnRrp, AnRst, AText, Sort, sort_of}
 
 -- a host's ends with a peer have the links that were said and heard
 abbrev pub Linked : Host → Host → List Moment → Type 0

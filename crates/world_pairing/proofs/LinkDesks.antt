@@ -1,5 +1,5 @@
 -- Commands of the peer, and links.
-use Rattle.std.proofs.Common.{◌≡◌, ℕ, ◌==◌, Bool, true, false, not, ◌&&◌, ◌||◌, if◌then◌else◌, nat_le, List, [], ◌∷◌, ◌++◌, map, filter, find, Option, Some, None, is_some, refl, ap, sym, subst, ◌∙◌, eq-eqb}
+use Rattle.std.proofs.Common.{◌≡◌, ℕ, ◌==◌, Bool, true, false, not, ◌&&◌, if◌then◌else◌, nat_le, List, [], ◌∷◌, ◌++◌, map, filter, find, Option, Some, None, is_some, refl, ap, sym, subst, ◌∙◌, eq-eqb}
 use Rattle.std.proofs.lemmas.Bool.{eqb-true}
 use Rattle.std.specs.List.{list_any}
 use Rattle.bit_messages.specs.Octets.{octets_of}
@@ -19,9 +19,8 @@ use Rattle.host_pairs.specs.Entries.{closed_by_partner, closed_when, cls_of, con
 use Rattle.host_pairs.specs.declared.entry.Entry.{Entry}
 use Rattle.host_pairs.specs.declared.listener.Listener.{Listener}
 use Rattle.host_pairs.proofs.OpeningLemmas.{both}
-use Rattle.pairing_law.specs.Links.{Sockets}
 use Rattle.world_pairing.proofs.Claims.{Claim, last_link}
-use Rattle.world_pairing.proofs.Local.{AsksOwn, Each, IsQuiet, Links, One, ReceivesBy, SendsBy, all_claims, claim_first, claim_of, claims_join, links_changed, links_filter, links_heard, links_joined, links_linked, links_map, links_said, none_found}
+use Rattle.world_pairing.proofs.Local.{IsQuiet, Links, One, all_claims, claim_first, claim_of, claims_join, links_changed, links_filter, links_heard, links_joined, links_linked, links_map, links_said, none_found}
 
 -- a desk's ends have the links that were said and heard
 abbrev pub Linked : List Claim → List Claim → DeskState → Type 0

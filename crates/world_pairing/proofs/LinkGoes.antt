@@ -1,40 +1,27 @@
 -- A message that goes out, and links: each RTS in it names one that no receiving end has.
-use Rattle.std.proofs.Common.{◌≡◌, ◌⊎◌, inl, inr, ℕ, ◌+◌, ◌≤◌, ◌==◌, Bool, true, false, not, ◌&&◌, ◌||◌, if◌then◌else◌, List, [], ◌∷◌, ◌++◌, map, filter, Option, Some, None, is_some, refl, ap, sym, subst, ◌∙◌, eq-eqb}
+use Rattle.std.proofs.Common.{◌≡◌, ◌⊎◌, inl, inr, ℕ, ◌==◌, Bool, true, false, ◌&&◌, if◌then◌else◌, List, [], ◌∷◌, ◌++◌, map, Option, Some, None, is_some, refl, ap, sym, subst, ◌∙◌, eq-eqb}
 use Rattle.std.proofs.lemmas.Bool.{eqb-true}
 use Rattle.std.proofs.lemmas.List.{append_assoc}
 use Rattle.std.specs.List.{list_any}
-use Rattle.leader1822.specs.Host.{Host}
-use Rattle.ncp_control.specs.Command.{IsCommand}
 use Rattle.ncp_control.specs.Numbers.{is_receive_socket, is_send_socket}
 use Rattle.ncp_control.specs.declared.command.Command.{Command}
 use Rattle.ncp_control.specs.declared.command.Command.TheVariants as command
-use Rattle.host_pairs.specs.Control.{Legal, Order}
-use Rattle.host_pairs.specs.Desk.{DeskState}
-use Rattle.host_pairs.specs.Entries.{changed_at, is_at, is_link, is_over, receives_on}
-use Rattle.host_pairs.specs.Parcels.{asked_at, cls_sent, command_gone, commands_gone}
+use Rattle.host_pairs.specs.Entries.{is_at, is_link, receives_on}
 use Rattle.host_pairs.specs.declared.entry.Closing.{Closing}
 use Rattle.host_pairs.specs.declared.entry.Closing.TheVariants as closing
 use Rattle.host_pairs.specs.declared.entry.Entry.{Entry}
 use Rattle.host_pairs.proofs.OpeningLemmas.{both}
-use Rattle.host_ranges.specs.Ranges.{AreCommands}
-use Rattle.host_pairing.specs.Words.{MayAllGo, all_gone, mark_of, marks}
-use Rattle.host_pairing.specs.Ends.{Stand, Standing, at, close_waits, due, request_due, standing}
+use Rattle.host_pairing.specs.Words.{mark_of, marks}
+use Rattle.host_pairing.specs.Ends.{Stand, Standing, at, close_waits, request_due, standing}
 use Rattle.host_pairing.proofs.Lists.{at_one, eqb-sym}
-use Rattle.host_pairing.proofs.Passes.{one_gone}
 use Rattle.host_pairing.proofs.Stands.{live_end}
-use Rattle.pairing_law.specs.Ends.{End, nothing, gone}
+use Rattle.pairing_law.specs.Ends.{End, nothing}
 use Rattle.pairing_law.specs.Marks.{Mark, Ask, Close}
-use Rattle.pairing_law.specs.Sides.{Side, above, says}
-use Rattle.pairing_law.specs.Links.{Sockets, Word, Who, Receiver, Sender, Step, Says, receiver, same, said, stays, IsAmong, IsFree, NamesFree, AreSteps}
-use Rattle.pairing_law.proofs.Seen as words
-use Rattle.world_pairing.specs.Free.{NameFree}
-use Rattle.world_pairing.specs.Steps.{all_said, word, word_by, words_by}
-use Rattle.world_pairing.proofs.Claims.{Claim, asked_last, last_link, said_claims, same_true}
-use Rattle.world_pairing.proofs.LinkTurns.{Split, any_split, each_split, one_at, stands_alone}
-use Rattle.world_pairing.proofs.Local.{AllOff, AsksOwn, claim_first, Each, Links, One, ReceivesBy, all_claims, claim_of, links_asked, links_changed, links_filter}
-use Rattle.world_pairing.proofs.Marks.{AllPairs, IsPair, at_join, order_at, order_pairs}
-use Rattle.world_pairing.proofs.Moves.{receiver_speaks, says_end}
-use Rattle.world_pairing.proofs.Sides.{all_says, receiver_says}
+use Rattle.pairing_law.specs.Links.{Sockets, Word, Receiver, Step, receiver, said, IsAmong, IsFree, AreSteps}
+use Rattle.world_pairing.proofs.Claims.{Claim, asked_last, last_link, said_claims}
+use Rattle.world_pairing.proofs.LinkTurns.{Split, any_split, each_split, stands_alone}
+use Rattle.world_pairing.proofs.Local.{AllOff, AsksOwn, claim_first, Each, Links, One, ReceivesBy, all_claims, claim_of}
+use Rattle.world_pairing.proofs.Marks.{AllPairs, IsPair}
 
 -- ---- what waits of an end that has asked
 

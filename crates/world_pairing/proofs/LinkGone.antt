@@ -1,10 +1,10 @@
 -- What goes out of a pair, and links.
 use Rattle.std.proofs.Common.{◌≡◌, ℕ, ◌*◌, ◌==◌, zero, suc, Bool, true, false, ◌&&◌, if◌then◌else◌, List, [], ◌∷◌, ◌++◌, map, take, drop, Some, refl, ap, sym, subst, ◌∙◌}
 use Rattle.std.proofs.lemmas.List.{append-nil, take-append-drop}
-use Rattle.leader1822.specs.Host.{Host, same_host}
+use Rattle.leader1822.specs.Host.{Host}
 use Rattle.ncp_control.specs.declared.command.Command.{Command}
 use Rattle.ncp_control.specs.declared.command.Command.TheVariants as command
-use Rattle.host_pairs.specs.Allowed.{MayGo, commands_of}
+use Rattle.host_pairs.specs.Allowed.{MayGo}
 use Rattle.host_pairs.specs.Control.{Legal, Order, orders_of}
 use Rattle.host_pairs.specs.Desk.{DeskState, desk_of}
 use Rattle.host_pairs.specs.Pair.{PairState}
@@ -20,7 +20,7 @@ use Rattle.host_pairing.proofs.Lists.{eqb-sym}
 use Rattle.pairing_law.specs.Links.{AreSteps, Receiver, Sockets, Step, Who, Word, receiver, said}
 use Rattle.pairing_law.specs.Places.{tagged, with_place}
 use Rattle.pairing_law.proofs.Seen as words
-use Rattle.reset_law.specs.Events.{Message, Other, Out, Reply, Reset, are}
+use Rattle.reset_law.specs.Events.{Message, Out}
 use Rattle.reset_law.specs.Pairs.{Pair}
 use Rattle.reset_law.specs.Stays as stay
 use Rattle.net_sim.specs.Projection.{Agrees, message_on}

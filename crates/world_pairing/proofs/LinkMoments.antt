@@ -1,18 +1,11 @@
 -- Links are free, moment by moment.
-use Rattle.std.proofs.Common.{◌≡◌, ◌⊎◌, inl, inr, ℕ, ◌+◌, ◌≤◌, ◌==◌, Bool, true, false, not, ◌&&◌, if◌then◌else◌, List, [], ◌∷◌, ◌++◌, map, take, drop, Some, None, refl, ap, sym, subst, ◌∙◌}
-use Rattle.std.proofs.lemmas.List.{append-nil, take-append-drop}
-use Rattle.leader1822.specs.Host.{Host, same_host}
-use Rattle.leader1822.specs.declared.address.Flow.{Flow}
-use Rattle.leader1822.specs.declared.crossing.Answer.{Answer}
-use Rattle.leader1822.specs.declared.crossing.Crossing.TheVariants as crossing
-use Rattle.leader1822.specs.declared.crossing.Inbound.TheVariants as inbound
-use Rattle.leader1822.specs.declared.message.HostMessage.{HostMessage}
-use Rattle.leader1822.proofs.Lists.{same_host-true, same_host-refl}
+use Rattle.std.proofs.Common.{◌≡◌, Bool, true, false, List, [], ◌∷◌, refl, ap, ◌∙◌}
+use Rattle.leader1822.specs.Host.{Host}
 use Rattle.reset_law.specs.Events.{Event}
 use Rattle.reset_law.specs.Stays as stay
-use Rattle.pairing_law.specs.Links.{Sockets, Word, Who, Receiver, Sender, Step, Says, Hears, Leaves, Meets}
+use Rattle.pairing_law.specs.Links.{Word, Who, Receiver, Sender, Step, Says, Hears}
 use Rattle.world_pairing.specs.Steps.{all_heard, all_said, heard_in, keeps, left, met, spoken_by, steps, taken_by, words_of}
-use Rattle.world_pairing.proofs.Claims.{Claim, claimed, heard_claims, said_claims}
+use Rattle.world_pairing.proofs.Claims.{claimed, heard_claims, said_claims}
 
 -- ---- what was said and heard, after an event
 

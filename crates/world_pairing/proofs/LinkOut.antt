@@ -1,5 +1,5 @@
 -- All commands of a message that goes out, and links.
-use Rattle.std.proofs.Common.{◌≡◌, ℕ, ◌+◌, ◌≤◌, ◌==◌, Bool, true, false, not, ◌&&◌, if◌then◌else◌, List, [], ◌∷◌, ◌++◌, map, refl, ap, sym, subst, ◌∙◌, eq-eqb}
+use Rattle.std.proofs.Common.{◌≡◌, ℕ, ◌==◌, Bool, true, false, not, ◌&&◌, if◌then◌else◌, List, [], ◌∷◌, ◌++◌, map, refl, ap, sym, subst, ◌∙◌, eq-eqb}
 use Rattle.leader1822.specs.Host.{Host}
 use Rattle.ncp_control.specs.Command.{IsCommand}
 use Rattle.ncp_control.specs.Numbers.{is_receive_socket, is_send_socket}
@@ -24,7 +24,7 @@ use Rattle.world_pairing.specs.Steps.{all_said, word_by, words_by}
 use Rattle.world_pairing.proofs.Claims.{Claim, said_claims}
 use Rattle.world_pairing.proofs.LinkGoes.{Receives, is_free, mine_by}
 use Rattle.world_pairing.proofs.LinkTurns.{one_at}
-use Rattle.world_pairing.proofs.Local.{Each, IsQuiet, Links, all_claims, claim_of, links_asked, links_changed, links_filter}
+use Rattle.world_pairing.proofs.Local.{Links, all_claims, claim_of, links_asked, links_changed, links_filter}
 use Rattle.world_pairing.proofs.Marks.{AllPairs, IsPair, at_join, order_at, order_pairs}
 use Rattle.world_pairing.proofs.Moves.{receiver_speaks, says_end}
 use Rattle.world_pairing.proofs.Sides.{all_says, receiver_says}

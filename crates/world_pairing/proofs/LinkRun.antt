@@ -1,37 +1,36 @@
 -- Links are free over all moments, so two programs are tied to the law.
-use Rattle.std.proofs.Common.{◌≡◌, ℕ, ◌==◌, Bool, true, false, ◌&&◌, if◌then◌else◌, List, [], ◌∷◌, ◌++◌, None, refl, ap, sym, subst, ◌∙◌}
+use Rattle.std.proofs.Common.{◌≡◌, ℕ, Bool, true, false, ◌&&◌, if◌then◌else◌, List, [], ◌∷◌, None, refl, ap, sym, subst, ◌∙◌}
 use Rattle.leader1822.specs.Host.{Host, same_host}
-use Rattle.leader1822.specs.declared.crossing.Crossing.{Crossing}
 use Rattle.leader1822.specs.declared.crossing.Crossing.TheVariants as crossing
 use Rattle.leader1822.specs.declared.crossing.Inbound.TheVariants as inbound
 use Rattle.leader1822.specs.declared.message.HostMessage.{HostMessage}
 use Rattle.leader1822.proofs.Lists.{same_host-true}
 use Rattle.host_ranges.specs.Ranges.{IsRanged}
 use Rattle.sockets.specs.Accepting.{accepted}
-use Rattle.sockets.specs.Pairs.{NcpState, pair_with}
+use Rattle.sockets.specs.Pairs.{pair_with}
 use Rattle.sockets.specs.Requests.{refusal}
 use Rattle.sockets.specs.Sending.{offered}
 use Rattle.sockets.proofs.OtherLemmas.{message_leaves, offer_leaves}
 use Rattle.host_pairs.specs.Pair.{PairState}
-use Rattle.pairing_law.specs.Links.{Receiver, Sender, Step, Word}
+use Rattle.pairing_law.specs.Links.{Receiver, Sender, Word}
 use Rattle.pairing_law.specs.Places.{placed_event, with_box, with_place}
 use Rattle.reset_law.specs.Boxes.{boxes}
-use Rattle.reset_law.specs.Events.{Event, In, Message, Other, Out, Reply, Reset, are, place}
+use Rattle.reset_law.specs.Events.{In, Message, Other, Out, Reply, Reset, are, place}
 use Rattle.reset_law.specs.Runs.{IsRun}
 use Rattle.reset_law.specs.Stays as stay
 use Rattle.net_sim.specs.Projection.{event_of, message_on}
-use Rattle.net_sim.specs.Story.{Asked, Crossed, IsNext, IsStory, Moment, event_in, events_of, places, program}
-use Rattle.net_sim.specs.Timeline.{crossings_of}
+use Rattle.net_sim.specs.Story.{Asked, Crossed, IsNext, IsStory, Moment, events_of, places, program}
 use Rattle.net_sim.proofs.Bridge.{by_request}
-use Rattle.world_pairing.specs.Free.{AreServed, NameFree, NamesFreeAt, TakesFreeAt, law_events, origin_in}
+use Rattle.world_pairing.specs.Free.{NameFree, NamesFreeAt, TakesFreeAt, law_events}
+use Rattle.world_pairing.proofs.Served.{AreServed}
 use Rattle.world_pairing.specs.Steps.{all_said, steps, words_of}
 use Rattle.world_pairing.proofs.Claims.{Claim, heard_claims, said_claims}
 use Rattle.world_pairing.proofs.LinkAll.{Linked, heard_nothing, as_before, asked_links, down_links, if_links, told_links, up_links}
 use Rattle.world_pairing.proofs.LinkCalls.{LinksOf}
 use Rattle.world_pairing.proofs.LinkMoments.{heard_next, said_next, said_upon, sender_said}
 use Rattle.world_pairing.proofs.LinkTied.{in_free, in_linked, out_here}
-use Rattle.world_pairing.proofs.Origins.{is_origin, older_log, served_below, tied_opening}
-use Rattle.world_pairing.proofs.Tied.{IsOrigin, Tied, programs_ranged, tied_turn}
+use Rattle.world_pairing.proofs.Origins.{served_below, tied_opening}
+use Rattle.world_pairing.proofs.Tied.{AreOrigins, IsOrigin, Tied, programs_ranged, tied_turn}
 
 -- a message of others, or for others
 said_off : (a b x y : Host) (l : ℕ) (m : Message) → are a b x y ≡ false → stay.said_by a b 0 (Out x y l m) ≡ []
@@ -130,7 +129,7 @@ module _ (origin : Host → Host → ℕ → ℕ) (hosts : List Host) (ranged_at
   names a b (Asked g r) moments story ranged t =
       by_request (λ e. NameFree (words_of Receiver (stay.said_by a b 0 (placed_event e (events_of moments)))) (all_said Sender (words_of Sender (stay.said_by b a 0 (placed_event e (events_of moments)))) (steps a b (law_events moments)))) g r (λ peer. tt) tt
 
-  takes : (x : Moment) (moments : List Moment) → IsStory (x ∷ moments) → IsRun hosts (events_of (x ∷ moments)) → ((h : Host) → IsRanged (program h moments)) → IsOrigin origin x moments → AllTied origin moments → TakesFreeAt x moments
+  pub takes : (x : Moment) (moments : List Moment) → IsStory (x ∷ moments) → IsRun hosts (events_of (x ∷ moments)) → ((h : Host) → IsRanged (program h moments)) → IsOrigin origin x moments → AllTied origin moments → TakesFreeAt x moments
   takes (Crossed (crossing.Out m)) moments story run ranged from t = tt
   takes (Crossed (crossing.In m)) moments story run ranged from t = in_free origin hosts m moments story run ranged from (t.tied m.flow.source m.flow.destination) (t.linked m.flow.destination m.flow.source)
   takes (Crossed (crossing.Answer kind f)) moments story run ranged from t = tt
@@ -147,15 +146,13 @@ module _ (origin : Host → Host → ℕ → ℕ) (hosts : List Host) (ranged_at
   links a b (Asked g r) moments story run served ranged from t =
       asked_links a b g r moments (λ e. subst (λ (y : Host). refusal (program y moments) r ≡ None) (sym (same_host-true a g e)) served.0) (t.linked a b)
 
-pub all_tied : (hosts : List Host) (log newer : List Crossing) (moments : List Moment) → log ≡ newer ++ crossings_of moments → IsStory moments → IsRun hosts (events_of moments) → AreServed moments → AllTied (origin_in log) moments
-all_tied hosts log newer [] is story run served = record { tied = λ a b. tied_opening (origin_in log) a b; linked = λ a b. record { sends = tt; names = tt; own = tt; single = λ l. tt } }
-all_tied hosts log newer (x ∷ moments) is story run served =
+pub all_tied : (hosts : List Host) (origin : Host → Host → ℕ → ℕ) (moments : List Moment) → AreOrigins origin moments → IsStory moments → IsRun hosts (events_of moments) → AreServed moments → AllTied origin moments
+all_tied hosts origin [] from story run served = record { tied = λ a b. tied_opening origin a b; linked = λ a b. record { sends = tt; names = tt; own = tt; single = λ l. tt } }
+all_tied hosts origin (x ∷ moments) from story run served =
     let below : AreServed moments = served_below x moments served in
-    let more : (more : List Crossing) × (log ≡ more ++ crossings_of moments) = older_log log newer x moments is in
-    let t : AllTied (origin_in log) moments = all_tied hosts log more.0 moments more.1 story.1 run.2 below in
+    let t : AllTied origin moments = all_tied hosts origin moments from.1 story.1 run.2 below in
     let ranged : (h : Host) → IsRanged (program h moments) = programs_ranged moments below in
-    let from : IsOrigin (origin_in log) x moments = is_origin log newer x moments is in
     record {
-      tied = λ a b. tied_turn hosts (origin_in log) a b x moments story run served ranged from (names (origin_in log) hosts programs_ranged a b x moments story ranged t) (takes (origin_in log) hosts programs_ranged x moments story run ranged from t) (t.tied a b);
-      linked = λ a b. links (origin_in log) hosts programs_ranged a b x moments story run served ranged from t;
+      tied = λ a b. tied_turn hosts origin a b x moments story run served ranged from.0 (names origin hosts programs_ranged a b x moments story ranged t) (takes origin hosts programs_ranged x moments story run ranged from.0 t) (t.tied a b);
+      linked = λ a b. links origin hosts programs_ranged a b x moments story run served ranged from.0 t;
     }

@@ -1,17 +1,15 @@
 -- Two programs with all that crosses between them: links are free, and all is tied to the law.
-use Rattle.std.proofs.Common.{◌≡◌, ◌⊎◌, inl, inr, ℕ, ◌+◌, ◌≤◌, ◌==◌, Bool, true, false, not, ◌&&◌, if◌then◌else◌, List, [], ◌∷◌, ◌++◌, map, Option, Some, None, refl, ap, sym, subst, ◌∙◌, cond}
+use Rattle.std.proofs.Common.{◌≡◌, ℕ, ◌==◌, Bool, true, false, ◌&&◌, if◌then◌else◌, List, [], ◌∷◌, Some, refl, ap, sym, subst, ◌∙◌, cond}
 use Rattle.leader1822.specs.Host.{Host, same_host}
-use Rattle.leader1822.specs.declared.crossing.Crossing.{Crossing}
 use Rattle.leader1822.specs.declared.crossing.Crossing.TheVariants as crossing
 use Rattle.leader1822.specs.declared.crossing.Inbound.TheVariants as inbound
 use Rattle.leader1822.specs.declared.message.HostMessage.{HostMessage}
 use Rattle.leader1822.proofs.Lists.{same_host-true, same_host-refl}
-use Rattle.ncp_control.specs.declared.command.Command.TheVariants as command
-use Rattle.host_pairs.specs.Control.{Legal, Order, orders_of}
+use Rattle.host_pairs.specs.Control.{Order, orders_of}
 use Rattle.host_pairs.specs.Data.{data_taken}
 use Rattle.host_pairs.specs.Desk.{desk_of}
 use Rattle.host_pairs.specs.Pair.{PairState}
-use Rattle.host_pairs.specs.Parcels.{Parcel, link_for, next_of, pair_after, parcel_gone, text_for}
+use Rattle.host_pairs.specs.Parcels.{Parcel, link_for, pair_after, parcel_gone, text_for}
 use Rattle.host_pairs.specs.Phases as phases
 use Rattle.host_pairs.specs.Turn.{TurnState, if_ready, message_taken, orders_taken, with_desk}
 use Rattle.host_ranges.specs.Ranges.{IsRanged}
@@ -24,15 +22,14 @@ use Rattle.host_pairing.specs.Hearing.{AreFree, AreJoint}
 use Rattle.host_pairing.proofs.Turns.{orders_idle}
 use Rattle.sockets.specs.Accepting.{accepted, accepted_message, turn_of}
 use Rattle.sockets.specs.Pairs.{NcpState, pair_with, with_pair}
-use Rattle.sockets.specs.Sending.{message_for, next_in, offered}
+use Rattle.sockets.specs.Sending.{next_in, offered}
 use Rattle.sockets.specs.declared.peer.Peer.{Peer}
 use Rattle.sockets.proofs.NextLemmas.{next_pair}
-use Rattle.sockets.proofs.OtherLemmas.{message_leaves, offer_leaves}
 use Rattle.sockets.proofs.PairLemmas.{pair_changed}
 use Rattle.sockets.proofs.ParcelLemmas.{next_is}
 use Rattle.pairing_law.specs.Ends.{End}
 use Rattle.pairing_law.specs.Sides.{Side}
-use Rattle.pairing_law.specs.Links.{AreSteps, Receiver, Sender, Sockets, Step, Word, receiver, said, sender}
+use Rattle.pairing_law.specs.Links.{AreSteps, Receiver, Sender, Sockets, Step, Word, receiver, said}
 use Rattle.pairing_law.specs.Places.{placed_event, tagged, with_place}
 use Rattle.pairing_law.proofs.Seen as words
 use Rattle.reset_law.specs.Events.{Event, Message, Other, Out, Reply, Reset, are, place}
@@ -40,9 +37,9 @@ use Rattle.reset_law.specs.Pairs.{pair}
 use Rattle.reset_law.specs.Runs.{IsRun}
 use Rattle.reset_law.specs.Stays as stay
 use Rattle.net_sim.specs.Projection.{Agrees, event_of, message_on}
-use Rattle.net_sim.specs.Story.{Crossed, IsNext, IsStory, Moment, event_in, events_of, places, program}
+use Rattle.net_sim.specs.Story.{Crossed, IsNext, IsStory, Moment, events_of, places, program}
 use Rattle.net_sim.proofs.StoryLemmas.{program_own, story_agrees}
-use Rattle.world_pairing.specs.Free.{NameFree, NamesFreeAt, TakesFreeAt, law_events}
+use Rattle.world_pairing.specs.Free.{NameFree, TakesFreeAt, law_events}
 use Rattle.world_pairing.specs.Steps.{all_heard, all_said, heard_in, onto, steps, words_by, words_of}
 use Rattle.reset_law.specs.Boxes.{Waiting, boxes}
 use Rattle.reset_law.specs.Events.{In}
@@ -57,10 +54,10 @@ use Rattle.world_pairing.proofs.Messages.{are_same, boxed, boxed_is, heard_off, 
 use Rattle.world_pairing.proofs.Programs.{AnRrp, AnRst, AText, Sort, plain_joint, sort_of}
 use Rattle.world_pairing.proofs.Tied.{IsOrigin, heard_all, steps_turn, taken_steps, under_heard_in}
 use Rattle.world_pairing.proofs.Claims.{Claim, heard_claims, said_claims}
-use Rattle.world_pairing.proofs.LinkAll.{Linked, as_before}
+use Rattle.world_pairing.proofs.LinkAll.{Linked}
 use Rattle.world_pairing.proofs.LinkCalls.{LinksOf}
 use Rattle.world_pairing.proofs.LinkGone.{parcel_links, read_words, words_said}
-use Rattle.world_pairing.proofs.LinkMoments.{heard_next, said_next, said_upon, sender_said}
+use Rattle.world_pairing.proofs.LinkMoments.{heard_next, said_next, sender_said}
 use Rattle.world_pairing.proofs.Marks.{AllPairs, IsPair, texts_pairs}
 use Rattle.world_pairing.proofs.Moments.{Side_of, place_is}
 use Rattle.world_pairing.proofs.Moves.{sender_speaks}

@@ -1,15 +1,14 @@
 -- A message of the peer, and links: each RTS in it names one that no sending end has.
-use Rattle.std.proofs.Common.{◌≡◌, ℕ, zero, suc, ◌==◌, ◌%◌, Bool, true, false, not, ◌&&◌, ◌||◌, if◌then◌else◌, List, [], ◌∷◌, ◌++◌, map, Option, Some, None, is_some, refl, ap, sym, subst, ◌∙◌, eq-eqb, arith}
+use Rattle.std.proofs.Common.{◌≡◌, ℕ, zero, suc, ◌==◌, ◌%◌, Bool, true, false, not, ◌&&◌, if◌then◌else◌, List, [], ◌∷◌, ◌++◌, map, Option, Some, None, is_some, refl, ap, sym, subst, ◌∙◌, eq-eqb, arith}
 use Rattle.std.proofs.lemmas.Bool.{eqb-true}
 use Rattle.std.specs.List.{list_any}
 use Rattle.leader1822.specs.Host.{Host}
-use Rattle.ncp_control.specs.Command.{is_alone}
 use Rattle.ncp_control.specs.Numbers.{is_receive_socket, is_send_socket}
 use Rattle.ncp_control.specs.declared.command.Command.{Command}
 use Rattle.ncp_control.specs.declared.command.Command.TheVariants as command
 use Rattle.host_pairs.specs.Commands.{taken}
 use Rattle.host_pairs.specs.Control.{Legal, Order, Wrong}
-use Rattle.host_pairs.specs.Desk.{DeskState, desk_of}
+use Rattle.host_pairs.specs.Desk.{desk_of}
 use Rattle.host_pairs.specs.Entries.{entry_at, is_at, is_link, sends_on}
 use Rattle.host_pairs.specs.Phases.{is_ready}
 use Rattle.host_pairs.specs.Turn.{TurnState, order_taken, orders_taken, with_desk}
@@ -20,12 +19,12 @@ use Rattle.host_pairing.specs.Words.{AllFit, all_taken, mark_in, marks}
 use Rattle.host_pairing.specs.Ends.{HasEnd, Stand, Standing, at, came_from, standing}
 use Rattle.host_pairing.specs.Hearing.{AreFree, AreJoint, IsFreeIn, IsJoint}
 use Rattle.host_pairing.proofs.Lists.{Found, at_append, at_one, found_at}
-use Rattle.host_pairing.proofs.Stands.{live_end, plain, stand_asked}
+use Rattle.host_pairing.proofs.Stands.{live_end, stand_asked}
 use Rattle.host_pairing.proofs.Turns.{one_order, ready_when, work_of}
 use Rattle.pairing_law.specs.Ends.{End, fits}
 use Rattle.pairing_law.specs.Marks.{Mark, Ask, Close}
 use Rattle.pairing_law.specs.Sides.{Side}
-use Rattle.pairing_law.specs.Links.{Sockets, Word, Who, Receiver, Sender, Step, Hears, sender, same, heard, IsAmong, AreSteps}
+use Rattle.pairing_law.specs.Links.{Sockets, Word, Receiver, Sender, Step, Hears, sender, AreSteps}
 use Rattle.pairing_law.proofs.Linked.{unused}
 use Rattle.pairing_law.proofs.Seen.{put}
 use Rattle.pairing_law.proofs.Seen as words

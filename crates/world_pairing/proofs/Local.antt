@@ -1,5 +1,5 @@
 -- The links of a pair's ends, against what the receiver said and the sender heard.
-use Rattle.std.proofs.Common.{◌≡◌, ℕ, ◌==◌, Bool, true, false, not, ◌&&◌, ◌||◌, if◌then◌else◌, List, [], ◌∷◌, ◌++◌, map, filter, Option, Some, None, is_some, refl, ap, sym, subst, ◌∙◌, eq-eqb}
+use Rattle.std.proofs.Common.{◌≡◌, ℕ, ◌==◌, Bool, true, false, not, ◌&&◌, if◌then◌else◌, List, [], ◌∷◌, ◌++◌, map, filter, Option, Some, None, is_some, refl, ap, sym, subst, ◌∙◌, eq-eqb}
 use Rattle.std.proofs.lemmas.Bool.{eqb-true}
 use Rattle.std.specs.List.{list_any}
 use Rattle.ncp_control.specs.Numbers.{is_receive_socket, is_send_socket}
@@ -9,8 +9,7 @@ use Rattle.host_pairs.specs.Entries.{changed_at, changed_first, entry_at, is_at,
 use Rattle.host_pairs.specs.declared.entry.Entry.{Entry}
 use Rattle.host_pairs.proofs.OpeningLemmas.{both}
 use Rattle.pairing_law.specs.Links.{Sockets, same}
-use Rattle.pairing_law.specs.Marks.{Ask}
-use Rattle.world_pairing.proofs.Claims.{Claim, claimed, last_link, same_self, same_true}
+use Rattle.world_pairing.proofs.Claims.{Claim, last_link, same_self, same_true}
 
 -- ---- requests that wait
 

@@ -37,7 +37,7 @@ and_turned true false = refl
 and_turned false true = refl
 and_turned false false = refl
 
-even_odd : (n : ℕ) → is_receive_socket n ≡ true → is_send_socket n ≡ true → ⊥
+pub even_odd : (n : ℕ) → is_receive_socket n ≡ true → is_send_socket n ≡ true → ⊥
 even_odd n e o = let a : n % 2 ≡ 0 = eqb-true (n % 2) 0 e in let b : n % 2 ≡ 1 = eqb-true (n % 2) 1 o in absurd (omega (arith, a, b))
 
 -- sockets of which one is another's sort aren't these

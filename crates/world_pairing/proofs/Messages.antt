@@ -152,10 +152,10 @@ module _ (s : Sockets) (is_pair : IsPair s) (who : Who) (origin : ℕ → ℕ) (
   abbrev pub IsFrom : Type 0
   IsFrom = (place : ℕ) → boxes m.flow.source m.flow.destination (events_of moments) m.flow.link.0 ≡ Waiting place (message_on m.flow.link.0 m.text) → (m.flow.link.0 == 0) ≡ true → origin (places moments) ≡ place
 
-  own_is : same_host (program m.flow.destination moments).own m.flow.destination ≡ true
+  pub own_is : same_host (program m.flow.destination moments).own m.flow.destination ≡ true
   own_is = ap (λ (y : Host). same_host y m.flow.destination) (program_own m.flow.destination moments) ∙ same_host-refl m.flow.destination
 
-  joint_now : (m.flow.link.0 == 0) ≡ true → message_on m.flow.link.0 m.text ≡ Other m.text → AreJoint (orders_of m.text)
+  pub joint_now : (m.flow.link.0 == 0) ≡ true → message_on m.flow.link.0 m.text ≡ Other m.text → AreJoint (orders_of m.text)
   joint_now zero is = plain_joint (orders_of m.text) (subst (λ (n : Message). IsApart m.flow.link.0 m.text n) is story.0 zero)
 
   by_sort : Hears → IsFrom → (m.flow.link.0 == 0) ≡ true → Sort m.flow.link.0 m.text

@@ -139,7 +139,7 @@ module _ (origin : ℕ → ℕ) (own foreign : ℕ) where
   Has p s x = HasEnd origin own foreign (pair_with p s.peers) x
 
   -- the message of what goes out
-  goes_marks : (s : NcpState) (stamp : ℕ) (g : Peer) (x : Parcel) (a : Pair) → AreInOrder s.peers → next_in s.peers ≡ Some (g, x) → IsRanged s → Agrees (pair_with g.host s.peers) a
+  pub goes_marks : (s : NcpState) (stamp : ℕ) (g : Peer) (x : Parcel) (a : Pair) → AreInOrder s.peers → next_in s.peers ≡ Some (g, x) → IsRanged s → Agrees (pair_with g.host s.peers) a
       → marks stamp own foreign (commands_of g.pair x) ≡ read_marks stamp own foreign (link_for x) (text_for g.pair x)
   goes_marks s stamp g x a order n ranged agrees =
       parcel_marks stamp own foreign g.pair a x (subst (λ (q : PairState). Agrees q a) (next_pair s.peers g x order n) agrees) (next_is g x s.peers n) (offer_read s g x ranged n)

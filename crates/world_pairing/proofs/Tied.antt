@@ -31,7 +31,8 @@ use Rattle.net_sim.proofs.Bridge.{by_request}
 use Rattle.net_sim.proofs.StoryLemmas.{story_agrees}
 use Rattle.world_pairing.specs.Steps.{words_of, all_said, all_heard, heard_in, keeps, left, met, spoken_by, taken_by, steps}
 use Rattle.world_pairing.proofs.Legal.{legal}
-use Rattle.world_pairing.specs.Free.{AreServed, NamesFreeAt, TakesFreeAt, law_events}
+use Rattle.world_pairing.specs.Free.{NamesFreeAt, TakesFreeAt, law_events}
+use Rattle.world_pairing.proofs.Served.{AreServed}
 use Rattle.world_pairing.proofs.Sides.{all_says, at_texts, before, hears_if, left_if, met_if, receiver_deaf_if, receiver_half, receiver_waits, sender_half}
 use Rattle.world_pairing.proofs.Marks.{AllAt, IsPair, foreign_of, marks_at, own_of, texts_pairs}
 use Rattle.world_pairing.proofs.Moves.{hears_next, left_next, met_next, receiver_fits, receiver_speaks, says_next, sender_fits, sender_speaks}
@@ -103,7 +104,7 @@ module _ (s : Sockets) (is_pair : IsPair s) (who : Who) (h p : Host) (origin : �
   when_at true false n ms k = tt
   when_at false b n ms k = tt
 
-  read_at : (n link : ℕ) (text : List Bool) → AllAt n (read_marks n (own_of who s) (foreign_of who s) link text)
+  pub read_at : (n link : ℕ) (text : List Bool) → AllAt n (read_marks n (own_of who s) (foreign_of who s) link text)
   read_at n link text = by (link == 0) where
     by : (z : Bool) → AllAt n (if z then marks_in n (own_of who s) (foreign_of who s) (orders_of text) else [])
     by true = marks_at n (own_of who s) (foreign_of who s) (orders_of text)
@@ -283,6 +284,11 @@ IsOrigin origin (Crossed (crossing.In m)) moments =
     (place : ℕ) → boxes m.flow.source m.flow.destination (events_of moments) m.flow.link.0 ≡ Waiting place (message_on m.flow.link.0 m.text) → (m.flow.link.0 == 0) ≡ true → origin m.flow.destination m.flow.source (places moments) ≡ place
 IsOrigin origin x moments = Unit {0}
 
+-- and so it is at all moments
+abbrev pub AreOrigins : (Host → Host → ℕ → ℕ) → List Moment → Type 0
+AreOrigins origin [] = Unit {0}
+AreOrigins origin (x ∷ moments) = IsOrigin origin x moments × AreOrigins origin moments
+
 module _ (hosts : List Host) (origin : Host → Host → ℕ → ℕ) (a b : Host) (x : Moment) (moments : List Moment) (story : IsStory (x ∷ moments)) (run : IsRun hosts (events_of (x ∷ moments))) (ranged : (h : Host) → IsRanged (program h moments))
     (names : NamesFreeAt a b x moments) (t : Tied origin a b moments) where
   abbrev e : Event
@@ -319,43 +325,46 @@ tie_turn s q who h p origin hosts (Crossed (crossing.Up g)) moments story run ra
 tie_turn s q who h p origin hosts (Asked g r) moments story run ranged served k t =
     asked_turn s q who h p origin g r moments story (λ e. subst (λ (y : Host). refusal (program y moments) r ≡ None) (sym (same_host-true h g e)) served.0) t
 
+-- what a message says that is taken of a peer is in order, and is told by its origin
+module _ (hosts : List Host) (origin : Host → Host → ℕ → ℕ) (a b : Host) (x : Moment) (moments : List Moment) (from : IsOrigin origin x moments) (takes : TakesFreeAt x moments) where
+  from_there : (m : HostMessage) → x ≡ Crossed (crossing.In m) → IsOrigin origin (Crossed (crossing.In m)) moments
+  from_there m is = subst (λ (y : Moment). IsOrigin origin y moments) is from
+
+  free_there : (m : HostMessage) → x ≡ Crossed (crossing.In m) → TakesFreeAt (Crossed (crossing.In m)) moments
+  free_there m is = subst (λ (y : Moment). TakesFreeAt y moments) is takes
+
+  pub receiver_hears : (s : Sockets) (q : IsPair s) (m : HostMessage) (story : IsStory (Crossed (crossing.In m) ∷ moments)) (run : IsRun hosts (events_of (Crossed (crossing.In m) ∷ moments))) → x ≡ Crossed (crossing.In m)
+      → same_host a m.flow.destination ≡ true → same_host b m.flow.source ≡ true → AreSteps (steps a b (law_events (x ∷ moments))) → Hears s q Receiver (origin a b) hosts m moments story run × IsFrom s q Receiver (origin a b) hosts m moments story run
+  receiver_hears s q m story run is e f next =
+      let is_a : a ≡ m.flow.destination = same_host-true a m.flow.destination e in
+      let is_b : b ≡ m.flow.source = same_host-true b m.flow.source f in
+      let same : origin m.flow.destination m.flow.source ≡ origin a b = ap (λ (y : Host). origin y m.flow.source) (sym is_a) ∙ ap (λ (y : Host). origin a y) (sym is_b) in
+      let place : IsFrom s q Receiver (origin a b) hosts m moments story run = subst (λ (o : ℕ → ℕ). IsFrom s q Receiver o hosts m moments story run) same (from_there m is) in
+      let there : AreSteps (steps m.flow.destination m.flow.source (law_events (Crossed (crossing.In m) ∷ moments))) =
+      subst (λ (y : Host). AreSteps (steps y m.flow.source (law_events (Crossed (crossing.In m) ∷ moments)))) is_a
+      (subst (λ (y : Host). AreSteps (steps a y (law_events (Crossed (crossing.In m) ∷ moments)))) is_b (subst (λ (y : Moment). AreSteps (steps a b (law_events (y ∷ moments)))) is next)) in
+      (λ ready zero joint. (free_there m is ready zero, receiver_now s q (origin a b) hosts m moments story run (sort_of m.flow.link.0 m.text) place there ready zero), place)
+
+  pub sender_hears : (s : Sockets) (q : IsPair s) (m : HostMessage) (story : IsStory (Crossed (crossing.In m) ∷ moments)) (run : IsRun hosts (events_of (Crossed (crossing.In m) ∷ moments))) → x ≡ Crossed (crossing.In m)
+      → same_host b m.flow.destination ≡ true → same_host a m.flow.source ≡ true → AreSteps (steps a b (law_events (x ∷ moments))) → Hears s q Sender (origin b a) hosts m moments story run × IsFrom s q Sender (origin b a) hosts m moments story run
+  sender_hears s q m story run is e f next =
+      let is_b : b ≡ m.flow.destination = same_host-true b m.flow.destination e in
+      let is_a : a ≡ m.flow.source = same_host-true a m.flow.source f in
+      let same : origin m.flow.destination m.flow.source ≡ origin b a = ap (λ (y : Host). origin y m.flow.source) (sym is_b) ∙ ap (λ (y : Host). origin b y) (sym is_a) in
+      let place : IsFrom s q Sender (origin b a) hosts m moments story run = subst (λ (o : ℕ → ℕ). IsFrom s q Sender o hosts m moments story run) same (from_there m is) in
+      let there : AreSteps (steps m.flow.source m.flow.destination (law_events (Crossed (crossing.In m) ∷ moments))) =
+      subst (λ (y : Host). AreSteps (steps m.flow.source y (law_events (Crossed (crossing.In m) ∷ moments)))) is_b
+      (subst (λ (y : Host). AreSteps (steps y b (law_events (Crossed (crossing.In m) ∷ moments)))) is_a (subst (λ (y : Moment). AreSteps (steps a b (law_events (y ∷ moments)))) is next)) in
+      (λ ready zero joint. (free_there m is ready zero, sender_now s q (origin b a) hosts m moments story run (sort_of m.flow.link.0 m.text) place there ready zero), place)
+
 pub tied_turn : (hosts : List Host) (origin : Host → Host → ℕ → ℕ) (a b : Host) (x : Moment) (moments : List Moment) → IsStory (x ∷ moments) → IsRun hosts (events_of (x ∷ moments)) → AreServed (x ∷ moments) → ((h : Host) → IsRanged (program h moments))
     → IsOrigin origin x moments → NamesFreeAt a b x moments → TakesFreeAt x moments → Tied origin a b moments → Tied origin a b (x ∷ moments)
 tied_turn hosts origin a b x moments story run served ranged from names takes t =
     let next : AreSteps (steps a b (law_events (x ∷ moments))) = steps_turn hosts origin a b x moments story run ranged names t in
     record {
       steps = next;
-      receiver = λ s q. tie_turn s q Receiver a b (origin a b) hosts x moments story run (ranged a) served (λ m story run is e f. receiver_hears s q m story run is e f next) (t.receiver s q);
-      sender = λ s q. tie_turn s q Sender b a (origin b a) hosts x moments story run (ranged b) served (λ m story run is e f. sender_hears s q m story run is e f next) (t.sender s q);
+      receiver = λ s q. tie_turn s q Receiver a b (origin a b) hosts x moments story run (ranged a) served (λ m story run is e f. receiver_hears hosts origin a b x moments from takes s q m story run is e f next) (t.receiver s q);
+      sender = λ s q. tie_turn s q Sender b a (origin b a) hosts x moments story run (ranged b) served (λ m story run is e f. sender_hears hosts origin a b x moments from takes s q m story run is e f next) (t.sender s q);
       receiver_next = λ s q. next_turn s q Receiver a b (origin a b) x moments (t.receiver_next s q);
       sender_next = λ s q. next_turn s q Sender b a (origin b a) x moments (t.sender_next s q);
-    } where
-      from_there : (m : HostMessage) → x ≡ Crossed (crossing.In m) → IsOrigin origin (Crossed (crossing.In m)) moments
-      from_there m is = subst (λ (y : Moment). IsOrigin origin y moments) is from
-
-      free_there : (m : HostMessage) → x ≡ Crossed (crossing.In m) → TakesFreeAt (Crossed (crossing.In m)) moments
-      free_there m is = subst (λ (y : Moment). TakesFreeAt y moments) is takes
-
-      receiver_hears : (s : Sockets) (q : IsPair s) (m : HostMessage) (story : IsStory (Crossed (crossing.In m) ∷ moments)) (run : IsRun hosts (events_of (Crossed (crossing.In m) ∷ moments))) → x ≡ Crossed (crossing.In m)
-          → same_host a m.flow.destination ≡ true → same_host b m.flow.source ≡ true → AreSteps (steps a b (law_events (x ∷ moments))) → Hears s q Receiver (origin a b) hosts m moments story run × IsFrom s q Receiver (origin a b) hosts m moments story run
-      receiver_hears s q m story run is e f next =
-          let is_a : a ≡ m.flow.destination = same_host-true a m.flow.destination e in
-          let is_b : b ≡ m.flow.source = same_host-true b m.flow.source f in
-          let same : origin m.flow.destination m.flow.source ≡ origin a b = ap (λ (y : Host). origin y m.flow.source) (sym is_a) ∙ ap (λ (y : Host). origin a y) (sym is_b) in
-          let place : IsFrom s q Receiver (origin a b) hosts m moments story run = subst (λ (o : ℕ → ℕ). IsFrom s q Receiver o hosts m moments story run) same (from_there m is) in
-          let there : AreSteps (steps m.flow.destination m.flow.source (law_events (Crossed (crossing.In m) ∷ moments))) =
-          subst (λ (y : Host). AreSteps (steps y m.flow.source (law_events (Crossed (crossing.In m) ∷ moments)))) is_a
-          (subst (λ (y : Host). AreSteps (steps a y (law_events (Crossed (crossing.In m) ∷ moments)))) is_b (subst (λ (y : Moment). AreSteps (steps a b (law_events (y ∷ moments)))) is next)) in
-          (λ ready zero joint. (free_there m is ready zero, receiver_now s q (origin a b) hosts m moments story run (sort_of m.flow.link.0 m.text) place there ready zero), place)
-
-      sender_hears : (s : Sockets) (q : IsPair s) (m : HostMessage) (story : IsStory (Crossed (crossing.In m) ∷ moments)) (run : IsRun hosts (events_of (Crossed (crossing.In m) ∷ moments))) → x ≡ Crossed (crossing.In m)
-          → same_host b m.flow.destination ≡ true → same_host a m.flow.source ≡ true → AreSteps (steps a b (law_events (x ∷ moments))) → Hears s q Sender (origin b a) hosts m moments story run × IsFrom s q Sender (origin b a) hosts m moments story run
-      sender_hears s q m story run is e f next =
-          let is_b : b ≡ m.flow.destination = same_host-true b m.flow.destination e in
-          let is_a : a ≡ m.flow.source = same_host-true a m.flow.source f in
-          let same : origin m.flow.destination m.flow.source ≡ origin b a = ap (λ (y : Host). origin y m.flow.source) (sym is_b) ∙ ap (λ (y : Host). origin b y) (sym is_a) in
-          let place : IsFrom s q Sender (origin b a) hosts m moments story run = subst (λ (o : ℕ → ℕ). IsFrom s q Sender o hosts m moments story run) same (from_there m is) in
-          let there : AreSteps (steps m.flow.source m.flow.destination (law_events (Crossed (crossing.In m) ∷ moments))) =
-          subst (λ (y : Host). AreSteps (steps m.flow.source y (law_events (Crossed (crossing.In m) ∷ moments)))) is_b
-          (subst (λ (y : Host). AreSteps (steps y b (law_events (Crossed (crossing.In m) ∷ moments)))) is_a (subst (λ (y : Moment). AreSteps (steps a b (law_events (y ∷ moments)))) is next)) in
-          (λ ready zero joint. (free_there m is ready zero, sender_now s q (origin b a) hosts m moments story run (sort_of m.flow.link.0 m.text) place there ready zero), place)
+    }

@@ -1,4 +1,4 @@
--- What is asked of the moments of a world: what users ask for, where messages went out, and that links are free.
+-- What is asked of the moments of a world: where messages went out, and that links are free.
 use Rattle.std.specs.Prelude.{◌≡◌, ℕ, ◌==◌, true, List, [], ◌∷◌, Option, Some, None}
 use Rattle.leader1822.specs.Host.{Host}
 use Rattle.leader1822.specs.declared.crossing.Crossing.{Crossing}
@@ -7,30 +7,27 @@ use Rattle.host_pairs.specs.Control.{orders_of}
 use Rattle.host_pairs.specs.Phases.{is_ready}
 use Rattle.sockets.specs.Accepting.{turn_of}
 use Rattle.sockets.specs.Pairs.{pair_with}
-use Rattle.sockets.specs.Requests.{refusal}
-use Rattle.host_ranges.specs.Ranges.{IsAsked}
 use Rattle.host_pairing.specs.Hearing.{AreFree}
 use Rattle.pairing_law.specs.Places.{placed, placed_event}
 use Rattle.pairing_law.specs.Links.{Word, Receiver, Sender, Step, Says, NamesFree}
 use Rattle.reset_law.specs.Events.{Event}
 use Rattle.reset_law.specs.Stays as stay
-use Rattle.net_sim.specs.Story.{Moment, Crossed, Asked, event_in, events_of, places, program}
+use Rattle.net_sim.specs.Story.{Moment, Crossed, event_in, events_of, places, program}
 use Rattle.net_sim.specs.Safe.{before, control_flow, last_out}
 use Rattle.world_pairing.specs.Steps.{all_said, steps, words_of}
 
--- users ask for what isn't refused, in numbers of their types
-abbrev pub AreServed : List Moment → Type 0
-AreServed [] = Unit {0}
-AreServed (Asked h r ∷ moments) = (refusal (program h moments) r ≡ None) × IsAsked r × AreServed moments
-AreServed (Crossed c ∷ moments) = AreServed moments
+-- a place, or this number where there is none
+abbrev pub place_or : ℕ → Option ℕ → ℕ
+place_or none None = none
+place_or none (Some place) = place
 
--- the place where the message went out that a host took of its peer when there were so many crossings
-abbrev pub place_or : Option ℕ → ℕ
-place_or None = 0
-place_or (Some place) = place
+-- the place where the message went out that a host took of its peer when there were so many crossings; and this number where nothing
+-- had gone out
+abbrev pub origin_or : ℕ → List Crossing → Host → Host → ℕ → ℕ
+origin_or none log h peer stamp = place_or none (last_out (control_flow peer h) (before stamp log))
 
 abbrev pub origin_in : List Crossing → Host → Host → ℕ → ℕ
-origin_in log h peer stamp = place_or (last_out (control_flow peer h) (before stamp log))
+origin_in log h peer stamp = origin_or 0 log h peer stamp
 
 -- the events of moments, each text with its place
 abbrev pub law_events : List Moment → List Event

@@ -1,2 +1,4 @@
 pub mod Steps
 pub mod Free
+pub mod Lives
+pub mod WorkedLives

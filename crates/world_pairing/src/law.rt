@@ -1,6 +1,8 @@
-//! What two hosts say and hear of their connections one way. The functions here do nothing: each clause is a law.
+//! What two hosts say and hear of their connections one way, and the lives of a book. The functions here do nothing: each clause
+//! is a law.
 
-ghost use Rattle.std.specs.Prelude.{◌≡◌, true, false, List, [], ◌∷◌};
+ghost use Rattle.std.specs.Prelude.{◌≡◌, ℕ, ◌+◌, true, false, List, [], ◌∷◌, Some, IsSome};
+ghost use Rattle.std.specs.List.{Contains};
 ghost use Rattle.leader1822.specs.Host.{Host};
 ghost use Rattle.reset_law.specs.Events as reset;
 ghost use Rattle.reset_law.specs.Stays as stay;
@@ -15,19 +17,31 @@ ghost use Rattle.host_pairing.specs.Spoken.{asking, reset_of_two};
 ghost use Rattle.reset_law.specs.Events.{Contact, In, Other, Out, Reset};
 ghost use Rattle.reset_law.specs.Example.{one, two};
 ghost use Rattle.pairing_law.specs.Marks.{Ask, Close};
-ghost use Rattle.pairing_law.specs.Partners.{SafePartners};
+ghost use Rattle.pairing_law.specs.Partners.{IsIn, SafePartners};
 ghost use Rattle.pairing_law.specs.Places.{tagged};
 ghost use Rattle.pairing_law.specs.Sides.{both};
 ghost use Rattle.pairing_law.specs.Example.{first, second};
-ghost use Rattle.net_sim.specs.Safe.{control_flow};
+ghost use Rattle.net_sim.specs.declared.life.Life.{Life};
+ghost use Rattle.net_sim.specs.Safe as book;
+ghost use Rattle.net_sim.specs.Safe.{AreTwo, Match, control_flow, own_request, partner_request, receives};
 ghost use Rattle.sockets.specs.Pairs.{pair_with};
 ghost use Rattle.host_pairing.specs.Ends.{HasEnd};
-ghost use Rattle.net_sim.specs.Clean.{HaveAddresses};
+ghost use Rattle.net_sim.specs.Clean.{HaveAddresses, IsLawful};
 ghost use Rattle.net_sim.specs.Story.{Moment, program};
 ghost use Rattle.net_sim.specs.Timeline.{IsTimeline, crossings_of};
 ghost use Rattle.pairing_law.specs.Links.{AreSteps, Leaves, Receiver, Says, Sender, Sockets, events_at, heard, receiver, said, sender, stays};
-ghost use Rattle.world_pairing.specs.Free.{AreServed, law_events, origin_in};
+ghost use Rattle.world_pairing.specs.Free.{law_events, origin_in};
 ghost use Rattle.world_pairing.specs.Steps.{onto, spoken_by, steps, words_by, words_of};
+ghost use Rattle.host_pairing.specs.Openings.{AreAmong};
+ghost use Rattle.net_sim.specs.Told.{kept_in};
+ghost use Rattle.net_sim.specs.World.{WorldState};
+ghost use Rattle.net_sim.specs.Worked as worked;
+ghost use Rattle.net_sim.specs.WorkedMoments.{connected};
+ghost use Rattle.sockets.specs.Worked as dialogue;
+ghost use Rattle.world_pairing.specs.Lives.{ArePaired, life_of, openings, with_lives};
+ghost use Rattle.world_pairing.specs.WorkedLives.{closed_early};
+
+use leader1822::Carrier;
 
 /// The steps of two hosts, over any list of events of the law of resets.
 pub fn dialogues()
@@ -45,16 +59,73 @@ pub fn dialogues()
 /// The programs of two hosts, over any list of moments of a world: all that crosses between them, and what their users ask for.
 pub fn programs()
     // their steps may be, by the law of pairing: all that each hears is in order, and no RTS names a link that another end has
-    ensures steps { (hosts : List Host) (moments : List Moment) → HaveAddresses hosts → mail.IsRun hosts (crossings_of moments) → IsTimeline hosts moments → AreServed moments → (a b : Host) → AreSteps (steps a b (law_events moments)) }
+    ensures steps { (hosts : List Host) (moments : List Moment) → HaveAddresses hosts → mail.IsRun hosts (crossings_of moments) → IsTimeline hosts moments → (a b : Host) → AreSteps (steps a b (law_events moments)) }
 
     // and each program has, for each receiving socket and each sending one, the end that the law says. A partner's request is told by
     // the place where the peer's last message before it went out
-    ensures receiver { (hosts : List Host) (moments : List Moment) → HaveAddresses hosts → mail.IsRun hosts (crossings_of moments) → IsTimeline hosts moments → AreServed moments → (a b : Host) → (s : Sockets) → is_receive_socket s.receive ≡ true → is_send_socket s.send ≡ true → HasEnd (origin_in (crossings_of moments) a b) s.receive s.send (pair_with b (program a moments).peers) (receiver s (steps a b (law_events moments))).end }
-    ensures sender { (hosts : List Host) (moments : List Moment) → HaveAddresses hosts → mail.IsRun hosts (crossings_of moments) → IsTimeline hosts moments → AreServed moments → (a b : Host) → (s : Sockets) → is_receive_socket s.receive ≡ true → is_send_socket s.send ≡ true → HasEnd (origin_in (crossings_of moments) b a) s.send s.receive (pair_with a (program b moments).peers) (sender s (steps a b (law_events moments))).end }
+    ensures receiver { (hosts : List Host) (moments : List Moment) → HaveAddresses hosts → mail.IsRun hosts (crossings_of moments) → IsTimeline hosts moments → (a b : Host) → (s : Sockets) → is_receive_socket s.receive ≡ true → is_send_socket s.send ≡ true → HasEnd (origin_in (crossings_of moments) a b) s.receive s.send (pair_with b (program a moments).peers) (receiver s (steps a b (law_events moments))).end }
+    ensures sender { (hosts : List Host) (moments : List Moment) → HaveAddresses hosts → mail.IsRun hosts (crossings_of moments) → IsTimeline hosts moments → (a b : Host) → (s : Sockets) → is_receive_socket s.receive ≡ true → is_send_socket s.send ≡ true → HasEnd (origin_in (crossings_of moments) b a) s.send s.receive (pair_with a (program b moments).peers) (sender s (steps a b (law_events moments))).end }
 
     // so for each pair of their sockets no two openings of a host have one request, their own or their partner's, and where the partner's
     // request of one is the other host's own the reverse holds too
-    ensures partners { (hosts : List Host) (moments : List Moment) → HaveAddresses hosts → mail.IsRun hosts (crossings_of moments) → IsTimeline hosts moments → AreServed moments → (a b : Host) → (s : Sockets) → SafePartners (both (events_at s (steps a b (law_events moments)))) }
+    ensures partners { (hosts : List Host) (moments : List Moment) → HaveAddresses hosts → mail.IsRun hosts (crossings_of moments) → IsTimeline hosts moments → (a b : Host) → (s : Sockets) → SafePartners (both (events_at s (steps a b (law_events moments)))) }
+{}
+
+/// The lives of a book, over any list of moments of a world.
+pub fn lives()
+    // the lives of a host's socket with a peer's are some of the openings that the law says, in their order: each with the place where
+    // its own request went out, and that where its partner's did
+    ensures openings { (hosts : List Host) (moments : List Moment) → HaveAddresses hosts → mail.IsRun hosts (crossings_of moments) → IsTimeline hosts moments → (h peer : Host) (own foreign : ℕ) → AreAmong (with_lives (origin_in (crossings_of moments) h peer) h peer own foreign (kept_in moments).book.lives []) (openings h peer own foreign moments) }
+
+    // so each of them is an opening of the law
+    ensures opening { (hosts : List Host) (moments : List Moment) → HaveAddresses hosts → mail.IsRun hosts (crossings_of moments) → IsTimeline hosts moments → (x : Life) → Contains (kept_in moments).book.lives x → IsIn (life_of (origin_in (crossings_of moments) x.host x.peer) x) (openings x.host x.peer x.socket x.foreign moments) }
+
+    // one of its sockets receives and the other sends
+    ensures paired { (hosts : List Host) (moments : List Moment) → HaveAddresses hosts → mail.IsRun hosts (crossings_of moments) → IsTimeline hosts moments → (x : Life) → Contains (kept_in moments).book.lives x → ArePaired x }
+
+    // each took a request of its partner's, which had gone out
+    ensures named { (hosts : List Host) (moments : List Moment) → HaveAddresses hosts → mail.IsRun hosts (crossings_of moments) → IsTimeline hosts moments → (x : Life) → Contains (kept_in moments).book.lives x → IsSome (partner_request (crossings_of moments) x) }
+
+    // and no request opens two ends of one sort in the whole book, and partners are partners both ways
+    ensures partners { (hosts : List Host) (moments : List Moment) → HaveAddresses hosts → mail.IsRun hosts (crossings_of moments) → IsTimeline hosts moments → book.SafePartners (crossings_of moments) (kept_in moments).book.lives }
+
+    // so a life that receives matches the life whose own request it took, and no other
+    ensures matches { (hosts : List Host) (moments : List Moment) → HaveAddresses hosts → mail.IsRun hosts (crossings_of moments) → IsTimeline hosts moments → (receiver sender : Life) → Contains (kept_in moments).book.lives receiver → Contains (kept_in moments).book.lives sender → receives receiver ≡ true → partner_request (crossings_of moments) receiver ≡ Some (own_request sender) → Match (crossings_of moments) receiver sender }
+    ensures one { (hosts : List Host) (moments : List Moment) → HaveAddresses hosts → mail.IsRun hosts (crossings_of moments) → IsTimeline hosts moments → (receiver x y : Life) → AreTwo (kept_in moments).book.lives x y → Match (crossings_of moments) receiver x → Match (crossings_of moments) receiver y → ⊥ }
+{}
+
+/// The lives in the book of a world, over any carrier.
+pub fn books<C: Carrier>()
+    // each took a request of its partner's, which had gone out
+    ensures named { (hosts : List Host) (w : WorldState C) → IsLawful C.seen hosts w → (x : Life) → Contains w.kept.book.lives x → IsSome (partner_request w.kept.book.crossings x) }
+
+    // no request opens two ends of one sort, and partners are partners both ways
+    ensures partners { (hosts : List Host) (w : WorldState C) → IsLawful C.seen hosts w → book.SafePartners w.kept.book.crossings w.kept.book.lives }
+
+    // a life that receives matches the life whose own request it took, and no other
+    ensures matches { (hosts : List Host) (w : WorldState C) → IsLawful C.seen hosts w → (receiver sender : Life) → Contains w.kept.book.lives receiver → Contains w.kept.book.lives sender → receives receiver ≡ true → partner_request w.kept.book.crossings receiver ≡ Some (own_request sender) → Match w.kept.book.crossings receiver sender }
+    ensures one { (hosts : List Host) (w : WorldState C) → IsLawful C.seen hosts w → (receiver x y : Life) → AreTwo w.kept.book.lives x y → Match w.kept.book.crossings receiver x → Match w.kept.book.crossings receiver y → ⊥ }
+{}
+
+/// Lives of a book, as the law tells them.
+pub fn worked_lives()
+    // the first host's life of socket 16 with the second's 33, and the other way; the newest comes first
+    ensures receiver { with_lives (λ p. p + 20) dialogue.first dialogue.second 16 33 worked.used.book.lives [] ≡ record { own = 0; partner = 24 } ∷ [] }
+    ensures sender { with_lives (λ p. p + 20) dialogue.second dialogue.first 33 16 worked.used.book.lives (record { own = 7; partner = 8 } ∷ []) ≡ record { own = 2; partner = 21 } ∷ record { own = 7; partner = 8 } ∷ [] }
+
+    // no life is of other sockets, of the same the other way, or of another host
+    ensures others { (with_lives (λ p. p) dialogue.first dialogue.second 16 35 worked.used.book.lives [] ≡ []) × (with_lives (λ p. p) dialogue.first dialogue.second 33 16 worked.used.book.lives [] ≡ []) × (with_lives (λ p. p) dialogue.second dialogue.first 16 33 worked.used.book.lives [] ≡ []) }
+
+    // where the RTS of the first host's socket 16 went out at place 6, and the STR of the second's socket 33 at place 8, both have one
+    // opening, each with the other's request for its partner's; and so have their lives in the book
+    ensures law { (openings dialogue.first dialogue.second 16 33 connected ≡ record { own = 6; partner = 8 } ∷ []) × (openings dialogue.second dialogue.first 33 16 connected ≡ record { own = 8; partner = 6 } ∷ []) }
+    ensures told { with_lives (origin_in (crossings_of connected) dialogue.first dialogue.second) dialogue.first dialogue.second 16 33 (kept_in connected).book.lives [] ≡ record { own = 6; partner = 8 } ∷ [] }
+
+    // an end that its user closed before the STR was taken opens by the law, but it has no life in the book
+    ensures early { (openings dialogue.first dialogue.second 16 33 closed_early ≡ record { own = 6; partner = 8 } ∷ []) × (with_lives (λ p. p) dialogue.first dialogue.second 16 33 (kept_in closed_early).book.lives [] ≡ []) }
+
+    // two sockets that both receive, or both send, have no openings, whatever happens
+    ensures none { (moments : List Moment) → (openings dialogue.first dialogue.second 16 18 moments ≡ []) × (openings dialogue.first dialogue.second 33 35 moments ≡ []) }
 {}
 
 /// Words and steps: host `one` asks host `two` for a connection, and closes it, in one message.

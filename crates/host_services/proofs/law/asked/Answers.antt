@@ -14,7 +14,7 @@ pub returns-clause-server_named : goal.returns-clause-server_named
 returns-clause-server_named c = λ listen base s d named. server_named_all listen base s d named
 
 pub returns-clause-user : goal.returns-clause-user
-returns-clause-user c = λ peer listen own s d is. user_asked_all peer listen own s d is
+returns-clause-user c = λ peer listen own s d is word. user_asked_all peer listen own s d is word
 
 pub returns-clause-user_named : goal.returns-clause-user_named
-returns-clause-user_named c = λ peer listen own s d is named. user_named_all peer listen own s d is named
+returns-clause-user_named c = λ peer listen own s d is word named. user_named_all peer listen own s d is word named

@@ -1,4 +1,4 @@
-use Rattle.std.proofs.Common.{rules, length, reverse}
+use Rattle.std.proofs.Common.{rules, length}
 use Rattle.leader1822.specs.Host.{Host}
 use Rattle.sockets.specs.Pairs.{NcpState}
 use Rattle.host_services.specs.Services.{ServicesState}

@@ -1,8 +1,6 @@
-use Rattle.std.proofs.Common.{rules, ◌≡◌, ℕ, List, Some, None, slice_index_or, ap, sym, subst, ◌∙◌}
-use Rattle.host_services.specs.Services.{ServicesState}
+use Rattle.std.proofs.Common.{rules, ◌≡◌, ℕ, Some, slice_index_or, ap, sym, subst, ◌∙◌}
 use Rattle.host_services.specs.TypedLines.{line_bits}
-use Rattle.net_sim.specs.Inside.Parts.{Serves}
-use Rattle.net_sim.specs.World.{HostServices, WorldFault}
+use Rattle.net_sim.specs.World.{HostServices}
 use Rattle.net_sim.proofs.Doing.{same_number}
 use Rattle.net_sim.proofs.Ends.{IsAnswered}
 use Rattle.sockets.specs.Requests.{refusal}

@@ -12,30 +12,32 @@ use Rattle.pairing_law.specs.Links.{events_at}
 use Rattle.pairing_law.proofs.Linked.{run_at}
 use Rattle.pairing_law.proofs.Runs.{safe_run}
 use Rattle.world_pairing.specs.Steps.{steps}
-use Rattle.world_pairing.specs.Free.{AreServed, law_events, origin_in}
+use Rattle.world_pairing.specs.Free.{law_events, origin_in}
+use Rattle.world_pairing.proofs.Served.{served_in}
 use Rattle.world_pairing.proofs.LinkRun.{all_tied}
+use Rattle.world_pairing.proofs.Origins.{are_origins}
 use Rattle.world_pairing.proofs.Sides.{receiver_half, sender_half}
 use Rattle.world_pairing.proofs.Tied.{Tied}
 use Rattle.world_pairing.proofs.law.programs.Goals as goal
 
-tied : (hosts : List Host) (moments : List Moment) → HaveAddresses hosts → mail.IsRun hosts (crossings_of moments) → IsTimeline hosts moments → AreServed moments → (a b : Host) → Tied (origin_in (crossings_of moments)) a b moments
-tied hosts moments addresses run time served a b =
+tied : (hosts : List Host) (moments : List Moment) → HaveAddresses hosts → mail.IsRun hosts (crossings_of moments) → IsTimeline hosts moments → (a b : Host) → Tied (origin_in (crossings_of moments)) a b moments
+tied hosts moments addresses run time a b =
     let c : Coupled hosts moments = coupled hosts addresses moments run time in
-    (all_tied hosts (crossings_of moments) [] moments refl c.story c.run served).tied a b
+    (all_tied hosts (origin_in (crossings_of moments)) moments (are_origins 0 (crossings_of moments) [] moments refl) c.story c.run (served_in hosts moments time)).tied a b
 
 pub returns-clause-steps : goal.returns-clause-steps
-returns-clause-steps c hosts moments addresses run time served a b = (tied hosts moments addresses run time served a b).steps
+returns-clause-steps c hosts moments addresses run time a b = (tied hosts moments addresses run time a b).steps
 
 pub returns-clause-receiver : goal.returns-clause-receiver
-returns-clause-receiver c hosts moments addresses run time served a b s even odd =
+returns-clause-receiver c hosts moments addresses run time a b s even odd =
     subst (λ (x : Side). HasEnd (origin_in (crossings_of moments) a b) s.receive s.send (pair_with b (program a moments).peers) x.end) (sym (receiver_half s a b (law_events moments)))
-    ((tied hosts moments addresses run time served a b).receiver s (even, odd))
+    ((tied hosts moments addresses run time a b).receiver s (even, odd))
 
 pub returns-clause-sender : goal.returns-clause-sender
-returns-clause-sender c hosts moments addresses run time served a b s even odd =
+returns-clause-sender c hosts moments addresses run time a b s even odd =
     subst (λ (x : Side). HasEnd (origin_in (crossings_of moments) b a) s.send s.receive (pair_with a (program b moments).peers) x.end) (sym (sender_half s a b (law_events moments)))
-    ((tied hosts moments addresses run time served a b).sender s (even, odd))
+    ((tied hosts moments addresses run time a b).sender s (even, odd))
 
 pub returns-clause-partners : goal.returns-clause-partners
-returns-clause-partners c hosts moments addresses run time served a b s =
-    safe_run (events_at s (steps a b (law_events moments))) (run_at s (steps a b (law_events moments)) (tied hosts moments addresses run time served a b).steps)
+returns-clause-partners c hosts moments addresses run time a b s =
+    safe_run (events_at s (steps a b (law_events moments))) (run_at s (steps a b (law_events moments)) (tied hosts moments addresses run time a b).steps)

@@ -1,0 +1,54 @@
+-- Small lists of moments, newest first: words for worked examples.
+use Rattle.std.specs.Prelude.{List, [], ◌∷◌}
+use Rattle.leader1822.specs.Host.{Host}
+use Rattle.leader1822.specs.declared.crossing.Answer.TheVariants as answer
+use Rattle.leader1822.specs.declared.crossing.Crossing.TheVariants as crossing
+use Rattle.leader1822.specs.declared.message.HostMessage.{HostMessage}
+use Rattle.host_pairs.specs.declared.notice.Notice.{Notice}
+use Rattle.sockets.specs.Worked as sockets
+use Rattle.sockets.specs.Worked.{control, first, second, on_link}
+use Rattle.sockets.specs.declared.request.Request.TheVariants as request
+use Rattle.net_sim.specs.Book.{Told}
+use Rattle.net_sim.specs.Story.{Moment, Crossed, Asked}
+use Rattle.net_sim.specs.Worked.{eight}
+use Rattle.net_sim.specs.WorkedResets.{rst, rrp}
+
+-- the RTS of the first host's socket 16 for the second's socket 33, with link 2, and the STR that answers it
+abbrev pub rts : HostMessage
+rts = control first second (1 ∷ 0 ∷ 0 ∷ 0 ∷ 16 ∷ 0 ∷ 0 ∷ 0 ∷ 33 ∷ 2 ∷ [])
+
+abbrev pub str : HostMessage
+str = control second first (2 ∷ 0 ∷ 0 ∷ 0 ∷ 33 ∷ 0 ∷ 0 ∷ 0 ∷ 16 ∷ 8 ∷ [])
+
+-- an ALL for two messages and 100 bits, and a message with eight bits
+abbrev pub all_given : HostMessage
+all_given = control first second (4 ∷ 2 ∷ 0 ∷ 2 ∷ 0 ∷ 0 ∷ 0 ∷ 100 ∷ [])
+
+abbrev pub eight_sent : HostMessage
+eight_sent = sockets.message second first 2 (0 ∷ 8 ∷ 0 ∷ 1 ∷ 0 ∷ 255 ∷ [])
+
+-- a message on link 0 is answered
+abbrev pub answered : Host → Host → Moment
+answered from to = Crossed (crossing.Answer answer.Rfnm (on_link from to 0))
+
+-- the first host contacts the second
+abbrev pub contacted : List Moment
+contacted =
+    answered second first ∷ Crossed (crossing.In (rrp second first)) ∷ Crossed (crossing.Out (rrp second first)) ∷ answered first second
+    ∷ Crossed (crossing.In (rst first second)) ∷ Crossed (crossing.Out (rst first second)) ∷ Asked first (request.Contact second) ∷ []
+
+-- then it asks for a connection to its socket 16, and the second's socket 33 was listening
+abbrev pub connected : List Moment
+connected =
+    answered second first ∷ Crossed (crossing.In str) ∷ answered first second ∷ Crossed (crossing.Out str) ∷ Crossed (crossing.In rts)
+    ∷ Crossed (crossing.Out rts) ∷ Asked first (request.OpenReceive second 16 33) ∷ Asked second (request.Listen 33 8) ∷ contacted
+
+-- and eight bits are sent on it
+abbrev pub sent : List Moment
+sent =
+    Crossed (crossing.In eight_sent) ∷ Crossed (crossing.Out eight_sent) ∷ answered first second ∷ Crossed (crossing.In all_given)
+    ∷ Crossed (crossing.Out all_given) ∷ Asked second (request.Send 33 eight) ∷ Asked first (request.Grant 16 2 100) ∷ connected
+
+-- who was told what, without the places
+abbrev pub notice_of : Told → Host × Notice
+notice_of n = (n.host, n.notice)
