@@ -1,0 +1,23 @@
+-- What the users of a world's hosts know of their ends, by all that their programs told them (NIC 8246, RTS, STR and CLS).
+use Rattle.std.specs.Prelude.{ℕ, Bool, true, false, if◌then◌else◌, List, [], ◌∷◌, Option, None}
+use Rattle.leader1822.specs.Host.{Host, same_host}
+use Rattle.leader1822.specs.declared.crossing.Crossing.TheVariants as crossing
+use Rattle.pairing_law.specs.Sides.{Life}
+use Rattle.host_pairing.specs.Known.{all_known}
+use Rattle.net_sim.specs.Story.{Moment, Crossed}
+use Rattle.net_sim.specs.Told.{host_in, notices_by}
+
+-- a host stops, or starts
+abbrev pub is_outage : Moment → Bool
+is_outage (Crossed (crossing.Down h)) = true
+is_outage (Crossed (crossing.Up h)) = true
+is_outage x = false
+
+-- what the user of a host knows of its end on two sockets with a peer, after these moments: nothing where it starts, and then what its
+-- program told
+abbrev pub known_in : (ℕ → ℕ) → Host → Host → ℕ → ℕ → List Moment → Option Life
+known_in origin host peer own foreign [] = None
+known_in origin host peer own foreign (x ∷ moments) =
+    if same_host host (host_in x)
+    then (if is_outage x then None else all_known origin peer own foreign (notices_by x moments) (known_in origin host peer own foreign moments))
+    else known_in origin host peer own foreign moments
