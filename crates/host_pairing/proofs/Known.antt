@@ -36,17 +36,17 @@ use Rattle.host_pairing.proofs.Openings.{found_is, one_end, sockets_are}
 
 -- ---- what isn't known
 
-pub unasked : (k : Option Life) (x : End) → Knows k x → x.asked ≡ None → k ≡ None
-unasked None x h e = refl
-unasked (Some l) x h e = absurd (let r : None ≡ Some l.own = sym e ∙ h.0 in cc)
+pub unasked : (k : List Life) (x : End) → Knows k x → x.asked ≡ None → k ≡ []
+unasked [] x h e = refl
+unasked (l ∷ k) x h e = absurd (let r : None ≡ Some l.own = sym e ∙ h.0.0 in cc)
 
-unpartnered : (k : Option Life) (x : End) → Knows k x → is_some x.partner ≡ false → k ≡ None
-unpartnered None x h e = refl
-unpartnered (Some l) x h e = absurd (let r : true ≡ false = sym (ap is_some h.1) ∙ e in cc)
+unpartnered : (k : List Life) (x : End) → Knows k x → is_some x.partner ≡ false → k ≡ []
+unpartnered [] x h e = refl
+unpartnered (l ∷ k) x h e = absurd (let r : true ≡ false = sym (ap is_some h.0.1) ∙ e in cc)
 
 -- where nothing is known it stays so
-pub known_none : (k : Option Life) (x : End) → k ≡ None → Knows k x
-known_none k x e = subst (λ (j : Option Life). Knows j x) (sym e) tt
+pub known_none : (k : List Life) (x : End) → k ≡ [] → Knows k x
+known_none k x e = subst (λ (j : List Life). Knows j x) (sym e) tt
 
 no_partner : (origin : ℕ → ℕ) (stamp : ℕ) (x : End) → fits (Ask (origin stamp)) x ≡ true → is_some x.partner ≡ false
 no_partner origin stamp x fit = by (is_some x.partner) refl where
@@ -55,29 +55,29 @@ no_partner origin stamp x fit = by (is_some x.partner) refl where
   by false e = refl
 
 -- a CLS leaves the two requests, or the end is over
-knows_requests : (k : Option Life) (x y : End) → x.asked ≡ y.asked → x.partner ≡ y.partner → Knows k x → Knows k y
-knows_requests None x y e f h = tt
-knows_requests (Some l) x y e f h = (sym e ∙ h.0, sym f ∙ h.1)
+knows_requests : (k : List Life) (x y : End) → x.asked ≡ y.asked → x.partner ≡ y.partner → Knows k x → Knows k y
+knows_requests [] x y e f h = tt
+knows_requests (l ∷ k) x y e f h = ((sym e ∙ h.0.0, sym f ∙ h.0.1), knows_requests k x y e f h.1)
 
 module _ (origin : ℕ → ℕ) (peer : Host) (own foreign : ℕ) where
   -- what these notices leave known
-  abbrev pub tells : List Notice → Option Life → Option Life
+  abbrev pub tells : List Notice → List Life → List Life
   tells ns k = all_known origin peer own foreign ns k
 
   -- from these notices to those, and from this end of the law to that
   abbrev pub Learns : List Notice → List Notice → End → End → Type 0
-  Learns old new x y = (k : Option Life) → Knows (tells old k) x → Knows (tells new k) y
+  Learns old new x y = (k : List Life) → Knows (tells old k) x → Knows (tells new k) y
 
-  pub known_append : (xs ys : List Notice) (k : Option Life) → tells (xs ++ ys) k ≡ tells ys (tells xs k)
+  pub known_append : (xs ys : List Notice) (k : List Life) → tells (xs ++ ys) k ≡ tells ys (tells xs k)
   known_append [] ys k = refl
   known_append (x ∷ xs) ys k = known_append xs ys (known_after origin peer own foreign x k)
 
-  pub learns_on : (old ns : List Notice) (x y : End) → ((k : Option Life) → Knows k x → Knows (tells ns k) y) → Learns old (old ++ ns) x y
-  learns_on old ns x y work k h = subst (λ (j : Option Life). Knows j y) (sym (known_append old ns k)) (work (tells old k) h)
+  pub learns_on : (old ns : List Notice) (x y : End) → ((k : List Life) → Knows k x → Knows (tells ns k) y) → Learns old (old ++ ns) x y
+  learns_on old ns x y work k h = subst (λ (j : List Life). Knows j y) (sym (known_append old ns k)) (work (tells old k) h)
 
   -- notices that change nothing
-  pub learns_more : (old ns : List Notice) (x : End) → ((k : Option Life) → tells ns k ≡ k) → Learns old (old ++ ns) x x
-  learns_more old ns x none = learns_on old ns x x (λ k h. subst (λ (j : Option Life). Knows j x) (sym (none k)) h)
+  pub learns_more : (old ns : List Notice) (x : End) → ((k : List Life) → tells ns k ≡ k) → Learns old (old ++ ns) x x
+  learns_more old ns x none = learns_on old ns x x (λ k h. subst (λ (j : List Life). Knows j x) (sym (none k)) h)
 
   learns_if : (b : Bool) (old : List Notice) (d e : DeskState) (x y : End) → Learns old d.notices x y → Learns old e.notices x y → Learns old (if b then d else e).notices x y
   learns_if true old d e x y h k = h
@@ -91,15 +91,15 @@ module _ (origin : ℕ → ℕ) (peer : Host) (own foreign : ℕ) where
 
   -- ---- an opening
 
-  here : (e : Entry) (a p : Option ℕ) (k : Option Life) (y : End) → (e.own == own && e.foreign == foreign) ≡ true → y.asked ≡ a → y.partner ≡ came_from origin p → Knows k y → Knows (tells (opening_by peer e a p) k) y
+  here : (e : Entry) (a p : Option ℕ) (k : List Life) (y : End) → (e.own == own && e.foreign == foreign) ≡ true → y.asked ≡ a → y.partner ≡ came_from origin p → Knows k y → Knows (tells (opening_by peer e a p) k) y
   here e None p k y t f g h = h
   here e (Some a) None k y t f g h = h
   here e (Some a) (Some p) k y t f g h = by (is_ending e) where
     by : (v : Bool) → Knows (tells (if v then [] else notice.Opened e.own peer e.foreign a p ∷ []) k) y
     by true = h
-    by false = rw (itself, t) (f, g)
+    by false = rw (itself, t) ((f, g), h)
 
-  away : (e : Entry) (a p : Option ℕ) (k : Option Life) → (e.own == own && e.foreign == foreign) ≡ false → tells (opening_by peer e a p) k ≡ k
+  away : (e : Entry) (a p : Option ℕ) (k : List Life) → (e.own == own && e.foreign == foreign) ≡ false → tells (opening_by peer e a p) k ≡ k
   away e None p k t = refl
   away e (Some a) None k t = refl
   away e (Some a) (Some p) k t = by (is_ending e) where
@@ -108,59 +108,59 @@ module _ (origin : ℕ → ℕ) (peer : Host) (own foreign : ℕ) where
     by false = rw (itself, t) refl
 
   opens_here : (place a b : ℕ) (es : List Entry) (ws : List Mark) (x : End) → are a b own foreign ≡ true → Stand true origin place (at own foreign es) ws x → (o : Option Entry) → entry_at a b es ≡ o
-      → (k : Option Life) → Knows k x → Knows (tells (opening peer o) k) x
+      → (k : List Life) → Knows k x → Knows (tells (opening peer o) k) x
   opens_here place a b es ws x t h None f k knows = knows
   opens_here place a b es ws x t h (Some e) f k knows =
       let g : Found own foreign es e = found_here a b own foreign es e t f in
       let is : x ≡ plain origin (standing e) = one_end origin own foreign place e g.rest ws x (subst (λ (ss : List Standing). Stand true origin place ss ws x) g.first h) in
       here e e.asked e.partner k x (sockets_are origin own foreign a b e (found_is a b es e f) ∙ t) (ap (λ (y : End). y.asked) is) (ap (λ (y : End). y.partner) is) knows
 
-  opens_away : (a b : ℕ) (es : List Entry) → are a b own foreign ≡ false → (o : Option Entry) → entry_at a b es ≡ o → (k : Option Life) → tells (opening peer o) k ≡ k
+  opens_away : (a b : ℕ) (es : List Entry) → are a b own foreign ≡ false → (o : Option Entry) → entry_at a b es ≡ o → (k : List Life) → tells (opening peer o) k ≡ k
   opens_away a b es t None f k = refl
   opens_away a b es t (Some e) f k = away e e.asked e.partner k (sockets_are origin own foreign a b e (found_is a b es e f) ∙ t)
 
   -- ---- ends that are over
 
   -- what is known once they are told
-  abbrev swept_known : List Standing → Option Life → Option Life
+  abbrev swept_known : List Standing → List Life → List Life
   swept_known [] k = k
-  swept_known (s ∷ ss) k = swept_known ss (if is_past s && s.mine then None else k)
+  swept_known (s ∷ ss) k = swept_known ss (if is_past s && s.mine then [] else k)
 
-  ended_step : (e : Entry) (es : List Entry) → ((k : Option Life) → tells (flat_map (ending peer) (filter is_over es)) k ≡ swept_known (at own foreign es) k) → (k : Option Life) → (b c m : Bool) → is_over e ≡ b → is_at own foreign e ≡ c → e.mine ≡ m
+  ended_step : (e : Entry) (es : List Entry) → ((k : List Life) → tells (flat_map (ending peer) (filter is_over es)) k ≡ swept_known (at own foreign es) k) → (k : List Life) → (b c m : Bool) → is_over e ≡ b → is_at own foreign e ≡ c → e.mine ≡ m
       → tells (flat_map (ending peer) (filter is_over (e ∷ es))) k ≡ swept_known (at own foreign (e ∷ es)) k
-  ended_step e es rest k true true true f g i = rw (f, g, i, itself, g) (rest None ∙ ap (λ (b : Bool). swept_known (at own foreign es) (if b && true then None else k)) (sym f))
-  ended_step e es rest k true true false f g i = rw (f, g, i) (rest k ∙ ap (λ (b : Bool). swept_known (at own foreign es) (if b && false then None else k)) (sym f))
+  ended_step e es rest k true true true f g i = rw (f, g, i, itself, g) (rest [] ∙ ap (λ (b : Bool). swept_known (at own foreign es) (if b && true then [] else k)) (sym f))
+  ended_step e es rest k true true false f g i = rw (f, g, i) (rest k ∙ ap (λ (b : Bool). swept_known (at own foreign es) (if b && false then [] else k)) (sym f))
   ended_step e es rest k true false true f g i = rw (f, g, i, itself, g) (rest k)
   ended_step e es rest k true false false f g i = rw (f, g, i) (rest k)
-  ended_step e es rest k false true m f g i = rw (f, g) (rest k ∙ ap (λ (b : Bool). swept_known (at own foreign es) (if b && e.mine then None else k)) (sym f))
+  ended_step e es rest k false true m f g i = rw (f, g) (rest k ∙ ap (λ (b : Bool). swept_known (at own foreign es) (if b && e.mine then [] else k)) (sym f))
   ended_step e es rest k false false m f g i = rw (f, g) (rest k)
 
-  ended : (es : List Entry) (k : Option Life) → tells (flat_map (ending peer) (filter is_over es)) k ≡ swept_known (at own foreign es) k
+  ended : (es : List Entry) (k : List Life) → tells (flat_map (ending peer) (filter is_over es)) k ≡ swept_known (at own foreign es) k
   ended [] k = refl
   ended (e ∷ es) k = ended_step e es (ended es) k (is_over e) (is_at own foreign e) e.mine refl refl refl
 
   -- what was known of the ends before they are swept
-  abbrev Knew : Option Life → List Standing → Type 0
-  Knew k [] = k ≡ None
+  abbrev Knew : List Life → List Standing → Type 0
+  Knew k [] = k ≡ []
   Knew k (s ∷ ss) = Knows k (plain origin s)
 
-  not_own : (swept : Bool) (s : Standing) (k : Option Life) → IsSound swept s → s.mine ≡ false → Knows k (plain origin s) → k ≡ None
-  not_own swept s None sound e h = refl
-  not_own swept s (Some l) sound e h = absurd (let r : true ≡ false = sym (sound.own (ap is_some h.0)) ∙ e in cc)
+  not_own : (swept : Bool) (s : Standing) (k : List Life) → IsSound swept s → s.mine ≡ false → Knows k (plain origin s) → k ≡ []
+  not_own swept s [] sound e h = refl
+  not_own swept s (l ∷ k) sound e h = absurd (let r : true ≡ false = sym (sound.own (ap is_some h.0.0)) ∙ e in cc)
 
-  swept_knows : (place : ℕ) (ss : List Standing) (ws : List Mark) (x : End) (k : Option Life) → Stand false origin place ss ws x → Knew k ss → Knows (swept_known ss k) x
+  swept_knows : (place : ℕ) (ss : List Standing) (ws : List Mark) (x : End) (k : List Life) → Stand false origin place ss ws x → Knew k ss → Knows (swept_known ss k) x
   swept_knows place [] ws x k h knew = known_none k x knew
   swept_knows place (s ∷ []) ws x k h knew = by (is_past s) s.mine refl refl where
-    by : (b m : Bool) → is_past s ≡ b → s.mine ≡ m → Knows (if b && m then None else k) x
+    by : (b m : Bool) → is_past s ≡ b → s.mine ≡ m → Knows (if b && m then [] else k) x
     by true true e f = tt
     by true false e f = known_none k x (not_own false s k h.0 f knew)
     by false m e f = subst (λ (y : End). Knows k y) (sym (h.2 ∙ live_end origin s e)) knew
   swept_knows place (s ∷ t ∷ ss) ws x k h knew = absurd h
 
-  ended_knows : (place : ℕ) (es : List Entry) (ws : List Mark) (x : End) (k : Option Life) → Stand false origin place (at own foreign es) ws x → Knew k (at own foreign es) → Knows (tells (flat_map (ending peer) (filter is_over es)) k) x
-  ended_knows place es ws x k h knew = subst (λ (j : Option Life). Knows j x) (sym (ended es k)) (swept_knows place (at own foreign es) ws x k h knew)
+  ended_knows : (place : ℕ) (es : List Entry) (ws : List Mark) (x : End) (k : List Life) → Stand false origin place (at own foreign es) ws x → Knew k (at own foreign es) → Knows (tells (flat_map (ending peer) (filter is_over es)) k) x
+  ended_knows place es ws x k h knew = subst (λ (j : List Life). Knows j x) (sym (ended es k)) (swept_knows place (at own foreign es) ws x k h knew)
 
-  knew_of : (place : ℕ) (ss : List Standing) (ws : List Mark) (x : End) (k : Option Life) → Stand true origin place ss ws x → Knows k x → Knew k ss
+  knew_of : (place : ℕ) (ss : List Standing) (ws : List Mark) (x : End) (k : List Life) → Stand true origin place ss ws x → Knows k x → Knew k ss
   knew_of place [] ws x k h knows = unasked k x knows (ap (λ (y : End). y.asked) h.1)
   knew_of place (s ∷ []) ws x k h knows = subst (λ (y : End). Knows k y) (h.2 ∙ live_end origin s (h.0.live refl)) knows
   knew_of place (s ∷ t ∷ ss) ws x k h knows = absurd h
@@ -169,19 +169,19 @@ module _ (origin : ℕ → ℕ) (peer : Host) (own foreign : ℕ) where
   abbrev LeavesRequests : (Standing → Standing) → Type 0
   LeavesRequests to = (s : Standing) → (s.asked ≡ (to s).asked) × (s.partner ≡ (to s).partner)
 
-  knew_first : (to : Standing → Standing) (k : Option Life) (ss : List Standing) → LeavesRequests to → (t : Bool) → Knew k ss → Knew k (if t then first to ss else ss)
+  knew_first : (to : Standing → Standing) (k : List Life) (ss : List Standing) → LeavesRequests to → (t : Bool) → Knew k ss → Knew k (if t then first to ss else ss)
   knew_first to k ss same false h = h
   knew_first to k [] same true h = h
   knew_first to k (s ∷ ss) same true h = knows_requests k (plain origin s) (plain origin (to s)) (same s).0 (ap (came_from origin) (same s).1) h
 
-  knew_changed : (a b : ℕ) (to : Standing → Standing) (change : Entry → Entry) (es : List Entry) (k : Option Life) → Is to change → LeavesRequests to → Knew k (at own foreign es) → Knew k (at own foreign (changed_at a b change es))
+  knew_changed : (a b : ℕ) (to : Standing → Standing) (change : Entry → Entry) (es : List Entry) (k : List Life) → Is to change → LeavesRequests to → Knew k (at own foreign es) → Knew k (at own foreign (changed_at a b change es))
   knew_changed a b to change es k is same h = subst (λ (ss : List Standing). Knew k ss) (sym (at_changed a b own foreign to change es is)) (knew_first to k (at own foreign es) same (are a b own foreign) h)
 
-  knew_closed : (busy : List ℕ) (k : Option Life) (es : List Entry) → Knew k (map standing es) → Knew k (map standing (map (λ e. closed_when (must_close busy e) e) es))
+  knew_closed : (busy : List ℕ) (k : List Life) (es : List Entry) → Knew k (map standing es) → Knew k (map standing (map (λ e. closed_when (must_close busy e) e) es))
   knew_closed busy k [] h = h
   knew_closed busy k (e ∷ es) h = knows_requests k (plain origin (standing e)) (plain origin (standing (closed_when (must_close busy e) e))) refl refl h
 
-  knew_settled : (busy : List ℕ) (d : DeskState) (k : Option Life) → Knew k (at own foreign d.entries) → Knew k (at own foreign (settled busy d).entries)
+  knew_settled : (busy : List ℕ) (d : DeskState) (k : List Life) → Knew k (at own foreign d.entries) → Knew k (at own foreign (settled busy d).entries)
   knew_settled busy d k h =
       subst (λ (es : List Entry). Knew k (map standing es)) (sym (closed_ends origin own foreign 0 busy d.entries)) (knew_closed busy k (filter (is_at own foreign) d.entries) h)
 
@@ -201,12 +201,12 @@ module _ (origin : ℕ → ℕ) (peer : Host) (own foreign : ℕ) where
     new : DeskState
     new = commands.matched peer a b change d
 
-    told : (t : Bool) → are a b own foreign ≡ t → On origin own foreign place true new (if t then taken (Ask (origin stamp)) x else x) → (k : Option Life) → Knows k x
+    told : (t : Bool) → are a b own foreign ≡ t → On origin own foreign place true new (if t then taken (Ask (origin stamp)) x else x) → (k : List Life) → Knows k x
         → Knows (tells (opening peer (entry_at a b new.entries)) k) (if t then taken (Ask (origin stamp)) x else x)
     told true t there k knows =
         opens_here place a b new.entries (marks place own foreign new.queue) (taken (Ask (origin stamp)) x) t there (entry_at a b new.entries) refl k
         (known_none k (taken (Ask (origin stamp)) x) (unpartnered k x knows (no_partner origin stamp x (fit t))))
-    told false t there k knows = subst (λ (j : Option Life). Knows j x) (sym (opens_away a b new.entries t (entry_at a b new.entries) refl k)) knows
+    told false t there k knows = subst (λ (j : List Life). Knows j x) (sym (opens_away a b new.entries t (entry_at a b new.entries) refl k)) knows
 
     by : (v : Bool) → is_some e.partner ≡ v → Learns d.notices (if v then commands.faulted ERRONEOUS c d else new).notices x (after origin own foreign place a b (Ask (origin stamp)) x)
     by true g = learns_ask place d.notices a b stamp x fit
@@ -285,19 +285,19 @@ module _ (origin : ℕ → ℕ) (peer : Host) (own foreign : ℕ) where
       learns_if (nat_le messages e.allocation.messages && nat_le bits e.allocation.bits) d.notices _ _ x x (learns_more d.notices (notice.Returned e.own messages bits ∷ []) x (λ k. refl)) (learns_none d.notices x)
 
   -- data tell nothing of ends
-  arrived_leaves : (link : ℕ) (e : Entry) (text : List Bool) (o : Option DataHeader) (d : DeskState) (k : Option Life) → tells (arrived_if link e text o d).notices k ≡ tells d.notices k
+  arrived_leaves : (link : ℕ) (e : Entry) (text : List Bool) (o : Option DataHeader) (d : DeskState) (k : List Life) → tells (arrived_if link e text o d).notices k ≡ tells d.notices k
   arrived_leaves link e text None d k = refl
   arrived_leaves link e text (Some o) d k = by (is_acceptable e o) where
     by : (b : Bool) → tells (if b then arrived link e (data_bits o) text d else text_faulted ERRONEOUS text d).notices k ≡ tells d.notices k
     by true = known_append d.notices (notice.Arrived e.own (data_of (data_bits o) text) ∷ []) k
     by false = refl
 
-  found_leaves : (link : ℕ) (text : List Bool) (f : commands.Found) (d : DeskState) (k : Option Life) → tells (data_found link text f d).notices k ≡ tells d.notices k
+  found_leaves : (link : ℕ) (text : List Bool) (f : commands.Found) (d : DeskState) (k : List Life) → tells (data_found link text f d).notices k ≡ tells d.notices k
   found_leaves link text Unconnected d k = refl
   found_leaves link text Ending d k = refl
   found_leaves link text (Open e) d k = arrived_leaves link e text (header_of text) d k
 
-  pub data_leaves : (link : ℕ) (text : List Bool) (d : DeskState) (k : Option Life) → tells (data_taken link text d).notices k ≡ tells d.notices k
+  pub data_leaves : (link : ℕ) (text : List Bool) (d : DeskState) (k : List Life) → tells (data_taken link text d).notices k ≡ tells d.notices k
   data_leaves link text d k = found_leaves link text (receiver_on link d) d k
 
   -- ---- all commands

@@ -13,3 +13,4 @@ pub mod Fronts
 pub mod SpokenRows
 pub mod Known
 pub mod Endings
+pub mod Partners

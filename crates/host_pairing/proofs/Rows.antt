@@ -1,5 +1,5 @@
 -- Ends of programs in a dialogue, computed.
-use Rattle.std.proofs.Common.{◌≡◌, ℕ, ◌==◌, if◌then◌else◌, true, false, List, [], ◌∷◌, ◌++◌, map, filter, Some, None, refl, sym, subst, ◌∙◌}
+use Rattle.std.proofs.Common.{◌≡◌, ℕ, ◌==◌, if◌then◌else◌, true, false, List, [], ◌∷◌, ◌++◌, map, filter, Some, refl, sym, subst, ◌∙◌}
 use Rattle.bit_messages.specs.Octets.{octets_of}
 use Rattle.ncp_control.specs.Packing.{packed_count}
 use Rattle.ncp_control.specs.Reading.{command_of, read_of}
@@ -57,14 +57,14 @@ pub dialogue_lives : with_openings (λ p. if p == 10 then 8 else 0) 16 33 (map (
 unfolding octets_of orders_of read_of command_of packed_count accepted refusal served served_notices next_out offered
 dialogue_lives = refl
 
-pub dialogue_known : all_known (λ p. if p == 10 then 8 else 0) second 16 33 (map (λ n. n.1) (filter (λ n. same_host first n.0) (talk (reset ++ opening)).notices)) None ≡ Some (record { own = 6; partner = 8 })
+pub dialogue_known : all_known (λ p. if p == 10 then 8 else 0) second 16 33 (map (λ n. n.1) (filter (λ n. same_host first n.0) (talk (reset ++ opening)).notices)) [] ≡ record { own = 6; partner = 8 } ∷ []
 unfolding octets_of orders_of read_of command_of packed_count accepted refusal served served_notices next_out offered
 dialogue_known = refl
 
-pub dialogue_over : all_known (λ p. if p == 10 then 8 else 0) second 16 33 (map (λ n. n.1) (filter (λ n. same_host first n.0) (talk (reset ++ opening ++ closing)).notices)) None ≡ None
+pub dialogue_over : all_known (λ p. if p == 10 then 8 else 0) second 16 33 (map (λ n. n.1) (filter (λ n. same_host first n.0) (talk (reset ++ opening ++ closing)).notices)) [] ≡ []
 unfolding octets_of orders_of read_of command_of packed_count accepted refusal served served_notices next_out offered
 dialogue_over = refl
 
-pub dialogue_peer : all_known (λ p. if p == 7 then 6 else 0) first 33 16 (map (λ n. n.1) (filter (λ n. same_host second n.0) (talk (reset ++ opening)).notices)) None ≡ Some (record { own = 8; partner = 6 })
+pub dialogue_peer : all_known (λ p. if p == 7 then 6 else 0) first 33 16 (map (λ n. n.1) (filter (λ n. same_host second n.0) (talk (reset ++ opening)).notices)) [] ≡ record { own = 8; partner = 6 } ∷ []
 unfolding octets_of orders_of read_of command_of packed_count accepted refusal served served_notices next_out offered
 dialogue_peer = refl

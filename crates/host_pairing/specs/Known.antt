@@ -1,5 +1,5 @@
 -- What a host's user knows of an end: its program tells when a connection opens, and when it is over (NIC 8246, RTS, STR and CLS).
-use Rattle.std.specs.Prelude.{◌≡◌, ℕ, ◌==◌, ◌&&◌, if◌then◌else◌, List, [], ◌∷◌, Option, Some, None}
+use Rattle.std.specs.Prelude.{◌≡◌, ℕ, ◌==◌, ◌&&◌, if◌then◌else◌, List, [], ◌∷◌}
 use Rattle.leader1822.specs.Host.{Host, same_host}
 use Rattle.pairing_law.specs.Ends.{End}
 use Rattle.pairing_law.specs.Partners.{IsOpen}
@@ -7,24 +7,24 @@ use Rattle.pairing_law.specs.Sides.{Life}
 use Rattle.host_pairs.specs.declared.notice.Notice.{Notice}
 use Rattle.host_pairs.specs.declared.notice.Notice.TheVariants as notice
 
--- what is known after a notice of the end on these two sockets with this peer: it is open, by its own request and its partner's, from
--- where its opening is told until it is told to be over, or all connections with the peer are. Other notices change nothing
-abbrev pub known_after : (ℕ → ℕ) → Host → ℕ → ℕ → Notice → Option Life → Option Life
+-- the openings, on these two sockets with this peer, that are known after a notice: each by its own request and its partner's, from where
+-- it is told until the end is told to be over, or all connections with the peer are. Other notices change nothing
+abbrev pub known_after : (ℕ → ℕ) → Host → ℕ → ℕ → Notice → List Life → List Life
 known_after origin peer own foreign (notice.Opened socket host other asked partner) known =
-    if same_host peer host && (socket == own && other == foreign) then Some (record { own = asked; partner = origin partner }) else known
-known_after origin peer own foreign (notice.Ended socket host other) known = if same_host peer host && (socket == own && other == foreign) then None else known
-known_after origin peer own foreign (notice.PairReset host) known = if same_host peer host then None else known
+    if same_host peer host && (socket == own && other == foreign) then record { own = asked; partner = origin partner } ∷ known else known
+known_after origin peer own foreign (notice.Ended socket host other) known = if same_host peer host && (socket == own && other == foreign) then [] else known
+known_after origin peer own foreign (notice.PairReset host) known = if same_host peer host then [] else known
 known_after origin peer own foreign n known = known
 
 -- notices, the first first
-abbrev pub all_known : (ℕ → ℕ) → Host → ℕ → ℕ → List Notice → Option Life → Option Life
+abbrev pub all_known : (ℕ → ℕ) → Host → ℕ → ℕ → List Notice → List Life → List Life
 all_known origin peer own foreign [] known = known
 all_known origin peer own foreign (n ∷ notices) known = all_known origin peer own foreign notices (known_after origin peer own foreign n known)
 
--- what is known is so: where the user knows of an open end, the law's end is open by these two requests
-abbrev pub Knows : Option Life → End → Type 0
-Knows None x = Unit {0}
-Knows (Some l) x = IsOpen l.own l.partner x
+-- what is known is so: the law's end is open by these two requests
+abbrev pub Knows : List Life → End → Type 0
+Knows [] x = Unit {0}
+Knows (l ∷ known) x = IsOpen l.own l.partner x × Knows known x
 
 -- each of the two ends is the other's partner
 abbrev pub ArePartners : Life → Life → Type 0

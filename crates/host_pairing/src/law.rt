@@ -9,6 +9,7 @@ ghost use Rattle.leader1822.specs.declared.message.HostMessage.{HostMessage};
 ghost use Rattle.ncp_control.specs.declared.command.Command.TheVariants as command;
 ghost use Rattle.pairing_law.specs.Ends.{End, nothing};
 ghost use Rattle.pairing_law.specs.Marks.{Ask, Close, IsOlder};
+ghost use Rattle.pairing_law.specs.Partners.{IsIn};
 ghost use Rattle.pairing_law.specs.Places.{tagged};
 ghost use Rattle.pairing_law.specs.Links.{AreSteps, Sockets, Step, receiver, sender};
 ghost use Rattle.pairing_law.specs.Sides as pairing;
@@ -96,33 +97,33 @@ pub fn openings()
     ensures request { (origin : ℕ → ℕ) (own foreign : ℕ) (s : NcpState) (r : Request) (told : List Life) → with_openings origin own foreign (served_notices s r) told ≡ told }
 {}
 
-/// What a host's user knows to be open is open: where its program told it of an end on two sockets with a peer, and hasn't told since that the
+/// What a host's user knows to be open is open: where its program told it of an opening on two sockets with a peer, and hasn't told since that the
 /// end is over, the law's end there is open by the two requests that were told. Each call keeps this.
 pub fn endings()
     // what goes out, and commands that are in order, have the end that the law gives. Where both CLS have passed the user is told
-    ensures offer { (origin : ℕ → ℕ) (own foreign : ℕ) (s : NcpState) (stamp : ℕ) (g : Peer) (parcel : Parcel) (x : End) (known : Option Life) → AreInOrder s.peers → next_in s.peers ≡ Some (g, parcel) → HasEnd origin own foreign (pair_with g.host s.peers) x → Knows known x → Knows (all_known origin g.host own foreign (offered s stamp).1 known) (all_gone (marks stamp own foreign (commands_of g.pair parcel)) x) }
-    ensures commands { (origin : ℕ → ℕ) (own foreign : ℕ) (s : NcpState) (m : HostMessage) (stamp : ℕ) (x : End) (known : Option Life) → same_host s.own m.flow.destination ≡ true → (m.flow.link.0 == 0) ≡ true → is_ready (pair_with m.flow.source s.peers).phase ≡ true → AreJoint (orders_of m.text) → AreFree m.flow.source stamp (orders_of m.text) (turn_of s m.flow.source) → AllFit (marks_in (origin stamp) foreign own (orders_of m.text)) x → HasEnd origin own foreign (pair_with m.flow.source s.peers) x → Knows known x → Knows (all_known origin m.flow.source own foreign (accepted s (inbound.Message m) stamp).1 known) (all_taken (marks_in (origin stamp) foreign own (orders_of m.text)) x) }
+    ensures offer { (origin : ℕ → ℕ) (own foreign : ℕ) (s : NcpState) (stamp : ℕ) (g : Peer) (parcel : Parcel) (x : End) (known : List Life) → AreInOrder s.peers → next_in s.peers ≡ Some (g, parcel) → HasEnd origin own foreign (pair_with g.host s.peers) x → Knows known x → Knows (all_known origin g.host own foreign (offered s stamp).1 known) (all_gone (marks stamp own foreign (commands_of g.pair parcel)) x) }
+    ensures commands { (origin : ℕ → ℕ) (own foreign : ℕ) (s : NcpState) (m : HostMessage) (stamp : ℕ) (x : End) (known : List Life) → same_host s.own m.flow.destination ≡ true → (m.flow.link.0 == 0) ≡ true → is_ready (pair_with m.flow.source s.peers).phase ≡ true → AreJoint (orders_of m.text) → AreFree m.flow.source stamp (orders_of m.text) (turn_of s m.flow.source) → AllFit (marks_in (origin stamp) foreign own (orders_of m.text)) x → HasEnd origin own foreign (pair_with m.flow.source s.peers) x → Knows known x → Knows (all_known origin m.flow.source own foreign (accepted s (inbound.Message m) stamp).1 known) (all_taken (marks_in (origin stamp) foreign own (orders_of m.text)) x) }
 
     // an RST leaves no end, and the user is told; so does an answer where the pair is ready no longer, and a contact
-    ensures reset { (origin : ℕ → ℕ) (own foreign : ℕ) (s : NcpState) (m : HostMessage) (stamp : ℕ) (x : End) (known : Option Life) → same_host s.own m.flow.destination ≡ true → (m.flow.link.0 == 0) ≡ true → orders_of m.text ≡ Legal command.Rst ∷ [] → HasEnd origin own foreign (pair_with m.flow.source s.peers) x → Knows known x → Knows (all_known origin m.flow.source own foreign (accepted s (inbound.Message m) stamp).1 known) nothing }
-    ensures answer { (origin : ℕ → ℕ) (own foreign : ℕ) (s : NcpState) (kind : Answer) (f : Flow) (stamp : ℕ) (x : End) (known : Option Life) → HasEnd origin own foreign (pair_with f.destination s.peers) x → Knows known x → Knows (all_known origin f.destination own foreign (accepted s (inbound.Answer kind f) stamp).1 known) (kept_in (pair_with f.destination (accepted s (inbound.Answer kind f) stamp).0.peers) x) }
-    ensures request { (origin : ℕ → ℕ) (own foreign : ℕ) (s : NcpState) (r : Request) (peer : Host) (x : End) (known : Option Life) → HasEnd origin own foreign (pair_with peer s.peers) x → Knows known x → Knows (all_known origin peer own foreign (served_notices s r) known) (after_request peer r x) }
+    ensures reset { (origin : ℕ → ℕ) (own foreign : ℕ) (s : NcpState) (m : HostMessage) (stamp : ℕ) (x : End) (known : List Life) → same_host s.own m.flow.destination ≡ true → (m.flow.link.0 == 0) ≡ true → orders_of m.text ≡ Legal command.Rst ∷ [] → HasEnd origin own foreign (pair_with m.flow.source s.peers) x → Knows known x → Knows (all_known origin m.flow.source own foreign (accepted s (inbound.Message m) stamp).1 known) nothing }
+    ensures answer { (origin : ℕ → ℕ) (own foreign : ℕ) (s : NcpState) (kind : Answer) (f : Flow) (stamp : ℕ) (x : End) (known : List Life) → HasEnd origin own foreign (pair_with f.destination s.peers) x → Knows known x → Knows (all_known origin f.destination own foreign (accepted s (inbound.Answer kind f) stamp).1 known) (kept_in (pair_with f.destination (accepted s (inbound.Answer kind f) stamp).0.peers) x) }
+    ensures request { (origin : ℕ → ℕ) (own foreign : ℕ) (s : NcpState) (r : Request) (peer : Host) (x : End) (known : List Life) → HasEnd origin own foreign (pair_with peer s.peers) x → Knows known x → Knows (all_known origin peer own foreign (served_notices s r) known) (after_request peer r x) }
 
     // commands where the pair isn't ready, an RRP and data change nothing of what is known, nor does what is told of another peer
-    ensures idle { (origin : ℕ → ℕ) (own foreign : ℕ) (s : NcpState) (m : HostMessage) (stamp : ℕ) (known : Option Life) → same_host s.own m.flow.destination ≡ true → (m.flow.link.0 == 0) ≡ true → is_ready (pair_with m.flow.source s.peers).phase ≡ false → AreJoint (orders_of m.text) → all_known origin m.flow.source own foreign (accepted s (inbound.Message m) stamp).1 known ≡ known }
-    ensures reply { (origin : ℕ → ℕ) (own foreign : ℕ) (s : NcpState) (m : HostMessage) (stamp : ℕ) (known : Option Life) → same_host s.own m.flow.destination ≡ true → (m.flow.link.0 == 0) ≡ true → orders_of m.text ≡ Legal command.Rrp ∷ [] → all_known origin m.flow.source own foreign (accepted s (inbound.Message m) stamp).1 known ≡ known }
-    ensures data { (origin : ℕ → ℕ) (own foreign : ℕ) (s : NcpState) (m : HostMessage) (stamp : ℕ) (known : Option Life) → same_host s.own m.flow.destination ≡ true → (m.flow.link.0 == 0) ≡ false → all_known origin m.flow.source own foreign (accepted s (inbound.Message m) stamp).1 known ≡ known }
-    ensures others { (origin : ℕ → ℕ) (own foreign : ℕ) (peer other : Host) (notices : List Notice) (known : Option Life) → AreAbout other notices → same_host peer other ≡ false → all_known origin peer own foreign notices known ≡ known }
+    ensures idle { (origin : ℕ → ℕ) (own foreign : ℕ) (s : NcpState) (m : HostMessage) (stamp : ℕ) (known : List Life) → same_host s.own m.flow.destination ≡ true → (m.flow.link.0 == 0) ≡ true → is_ready (pair_with m.flow.source s.peers).phase ≡ false → AreJoint (orders_of m.text) → all_known origin m.flow.source own foreign (accepted s (inbound.Message m) stamp).1 known ≡ known }
+    ensures reply { (origin : ℕ → ℕ) (own foreign : ℕ) (s : NcpState) (m : HostMessage) (stamp : ℕ) (known : List Life) → same_host s.own m.flow.destination ≡ true → (m.flow.link.0 == 0) ≡ true → orders_of m.text ≡ Legal command.Rrp ∷ [] → all_known origin m.flow.source own foreign (accepted s (inbound.Message m) stamp).1 known ≡ known }
+    ensures data { (origin : ℕ → ℕ) (own foreign : ℕ) (s : NcpState) (m : HostMessage) (stamp : ℕ) (known : List Life) → same_host s.own m.flow.destination ≡ true → (m.flow.link.0 == 0) ≡ false → all_known origin m.flow.source own foreign (accepted s (inbound.Message m) stamp).1 known ≡ known }
+    ensures others { (origin : ℕ → ℕ) (own foreign : ℕ) (peer other : Host) (notices : List Notice) (known : List Life) → AreAbout other notices → same_host peer other ≡ false → all_known origin peer own foreign notices known ≡ known }
 {}
 
 /// Where the users of two hosts both know of an open end on the same sockets, each end is the other's partner, if the two ends of
 /// which they know are those of a run of the law.
 pub fn known_partners()
     // as far as one pair of their sockets goes
-    ensures pair { (events : List pairing.Event) (x y : Life) → pairing.IsRun events → Knows (Some x) (both events).one.end → Knows (Some y) (both events).two.end → ArePartners x y }
+    ensures pair { (events : List pairing.Event) (known others : List Life) (x y : Life) → pairing.IsRun events → Knows known (both events).one.end → Knows others (both events).two.end → IsIn x known → IsIn y others → ArePartners x y }
 
     // and over all connections one way
-    ensures links { (steps : List Step) (s : Sockets) (x y : Life) → AreSteps steps → Knows (Some x) (receiver s steps).end → Knows (Some y) (sender s steps).end → ArePartners x y }
+    ensures links { (steps : List Step) (s : Sockets) (known others : List Life) (x y : Life) → AreSteps steps → Knows known (receiver s steps).end → Knows others (sender s steps).end → IsIn x known → IsIn y others → ArePartners x y }
 {}
 
 /// Openings that are told, and lives.
@@ -151,36 +152,40 @@ pub fn worked_openings()
 /// What a host's user knows of its end on socket 16, with socket 33 of host `second`.
 pub fn worked_endings()
     // an opening is known by its two requests, the partner's by the place where it went out
-    ensures opened { all_known (λ p. p + 20) second 16 33 (notice.Opened 16 second 33 14 15 ∷ []) None ≡ Some (record { own = 14; partner = 35 }) }
+    ensures opened { all_known (λ p. p + 20) second 16 33 (notice.Opened 16 second 33 14 15 ∷ []) [] ≡ record { own = 14; partner = 35 } ∷ [] }
 
     // until the end is told to be over, or all connections with the peer are
-    ensures ended { all_known (λ p. p + 20) second 16 33 (notice.Opened 16 second 33 14 15 ∷ notice.Ended 16 second 33 ∷ []) None ≡ None }
-    ensures reset { all_known (λ p. p + 20) second 16 33 (notice.Opened 16 second 33 14 15 ∷ notice.PairReset second ∷ []) None ≡ None }
+    ensures ended { all_known (λ p. p + 20) second 16 33 (notice.Opened 16 second 33 14 15 ∷ notice.Ended 16 second 33 ∷ []) [] ≡ [] }
+    ensures reset { all_known (λ p. p + 20) second 16 33 (notice.Opened 16 second 33 14 15 ∷ notice.PairReset second ∷ []) [] ≡ [] }
 
     // the next opening is another one
-    ensures again { all_known (λ p. p + 20) second 16 33 (notice.Opened 16 second 33 14 15 ∷ notice.Ended 16 second 33 ∷ notice.Opened 16 second 33 6 10 ∷ []) None ≡ Some (record { own = 6; partner = 30 }) }
+    ensures again { all_known (λ p. p + 20) second 16 33 (notice.Opened 16 second 33 14 15 ∷ notice.Ended 16 second 33 ∷ notice.Opened 16 second 33 6 10 ∷ []) [] ≡ record { own = 6; partner = 30 } ∷ [] }
+
+    // where none was told to be over, both are known; but no end is open by both
+    ensures twice { all_known (λ p. p + 20) second 16 33 (notice.Opened 16 second 33 14 15 ∷ notice.Opened 16 second 33 6 10 ∷ []) [] ≡ record { own = 6; partner = 30 } ∷ record { own = 14; partner = 35 } ∷ [] }
+    ensures two { Knows (record { own = 6; partner = 8 } ∷ record { own = 6; partner = 4 } ∷ []) (record { asked = Some 6; partner = Some 8; gone = false; taken = false }) → ⊥ }
 
     // ends of other sockets, of the same the other way and of another peer are others, and data tell nothing
-    ensures sockets { all_known (λ p. p + 20) second 16 33 (notice.Ended 33 second 16 ∷ notice.Ended 16 second 35 ∷ notice.Ended 18 second 33 ∷ notice.Opened 33 second 16 8 7 ∷ notice.Opened 16 second 35 6 10 ∷ notice.Opened 18 second 33 6 10 ∷ []) (Some (record { own = 14; partner = 35 })) ≡ Some (record { own = 14; partner = 35 }) }
-    ensures peers { all_known (λ p. p + 20) second 16 33 (notice.Ended 16 third 33 ∷ notice.PairReset third ∷ notice.Opened 16 third 33 6 10 ∷ []) (Some (record { own = 14; partner = 35 })) ≡ Some (record { own = 14; partner = 35 }) }
-    ensures data { all_known (λ p. p + 20) second 16 33 (notice.Sent 16 (true ∷ []) ∷ notice.Arrived 16 (true ∷ []) ∷ notice.Interrupt 16 ∷ []) None ≡ None }
+    ensures sockets { all_known (λ p. p + 20) second 16 33 (notice.Ended 33 second 16 ∷ notice.Ended 16 second 35 ∷ notice.Ended 18 second 33 ∷ notice.Opened 33 second 16 8 7 ∷ notice.Opened 16 second 35 6 10 ∷ notice.Opened 18 second 33 6 10 ∷ []) (record { own = 14; partner = 35 } ∷ []) ≡ record { own = 14; partner = 35 } ∷ [] }
+    ensures peers { all_known (λ p. p + 20) second 16 33 (notice.Ended 16 third 33 ∷ notice.PairReset third ∷ notice.Opened 16 third 33 6 10 ∷ []) (record { own = 14; partner = 35 } ∷ []) ≡ record { own = 14; partner = 35 } ∷ [] }
+    ensures data { all_known (λ p. p + 20) second 16 33 (notice.Sent 16 (true ∷ []) ∷ notice.Arrived 16 (true ∷ []) ∷ notice.Interrupt 16 ∷ []) [] ≡ [] }
 
     // an end that is known is open by these two requests, also while it closes; not by others, and not turned about
-    ensures open { Knows (Some (record { own = 6; partner = 8 })) (record { asked = Some 6; partner = Some 8; gone = true; taken = false }) }
-    ensures turned { Knows (Some (record { own = 6; partner = 8 })) (record { asked = Some 8; partner = Some 6; gone = false; taken = false }) → ⊥ }
-    ensures older { Knows (Some (record { own = 6; partner = 8 })) (record { asked = Some 6; partner = Some 4; gone = false; taken = false }) → ⊥ }
+    ensures open { Knows (record { own = 6; partner = 8 } ∷ []) (record { asked = Some 6; partner = Some 8; gone = true; taken = false }) }
+    ensures turned { Knows (record { own = 6; partner = 8 } ∷ []) (record { asked = Some 8; partner = Some 6; gone = false; taken = false }) → ⊥ }
+    ensures older { Knows (record { own = 6; partner = 8 } ∷ []) (record { asked = Some 6; partner = Some 4; gone = false; taken = false }) → ⊥ }
 
     // one that waits for its partner isn't, nor is one that is over; where nothing is known nothing is said
-    ensures waiting { Knows (Some (record { own = 6; partner = 8 })) (record { asked = Some 6; partner = None; gone = false; taken = false }) → ⊥ }
-    ensures over { Knows (Some (record { own = 6; partner = 8 })) nothing → ⊥ }
-    ensures nobody { Knows None (record { asked = Some 6; partner = Some 8; gone = false; taken = false }) }
+    ensures waiting { Knows (record { own = 6; partner = 8 } ∷ []) (record { asked = Some 6; partner = None; gone = false; taken = false }) → ⊥ }
+    ensures over { Knows (record { own = 6; partner = 8 } ∷ []) nothing → ⊥ }
+    ensures nobody { Knows [] (record { asked = Some 6; partner = Some 8; gone = false; taken = false }) }
 
     // in a dialogue host `first` knows of its end while it is open
-    ensures dialogue { all_known (λ p. if p == 10 then 8 else 0) second 16 33 (map (λ n. n.1) (filter (λ n. same_host first n.0) (talk (reset ++ opening)).notices)) None ≡ Some (record { own = 6; partner = 8 }) }
-    ensures closed { all_known (λ p. if p == 10 then 8 else 0) second 16 33 (map (λ n. n.1) (filter (λ n. same_host first n.0) (talk (reset ++ opening ++ closing)).notices)) None ≡ None }
+    ensures dialogue { all_known (λ p. if p == 10 then 8 else 0) second 16 33 (map (λ n. n.1) (filter (λ n. same_host first n.0) (talk (reset ++ opening)).notices)) [] ≡ record { own = 6; partner = 8 } ∷ [] }
+    ensures closed { all_known (λ p. if p == 10 then 8 else 0) second 16 33 (map (λ n. n.1) (filter (λ n. same_host first n.0) (talk (reset ++ opening ++ closing)).notices)) [] ≡ [] }
 
     // and `second` of its own, the other way about: each is the other's partner, and with another place neither is
-    ensures peer { all_known (λ p. if p == 7 then 6 else 0) first 33 16 (map (λ n. n.1) (filter (λ n. same_host second n.0) (talk (reset ++ opening)).notices)) None ≡ Some (record { own = 8; partner = 6 }) }
+    ensures peer { all_known (λ p. if p == 7 then 6 else 0) first 33 16 (map (λ n. n.1) (filter (λ n. same_host second n.0) (talk (reset ++ opening)).notices)) [] ≡ record { own = 8; partner = 6 } ∷ [] }
     ensures partners { ArePartners (record { own = 6; partner = 8 }) (record { own = 8; partner = 6 }) }
     ensures apart { ArePartners (record { own = 6; partner = 8 }) (record { own = 8; partner = 4 }) → ⊥ }
     ensures older_partner { ArePartners (record { own = 6; partner = 4 }) (record { own = 8; partner = 6 }) → ⊥ }
