@@ -1,5 +1,5 @@
 -- What a host's user knows of an end is carried through each call of its program, with any peer.
-use Rattle.std.proofs.Common.{◌≡◌, ℕ, ◌==◌, Bool, true, false, List, [], ◌∷◌, Option, Some, None, refl, sym, subst, ◌∙◌}
+use Rattle.std.proofs.Common.{◌≡◌, ℕ, ◌==◌, Bool, true, false, List, [], ◌∷◌, Some, None, refl, sym, subst, ◌∙◌}
 use Rattle.leader1822.specs.Host.{Host, same_host}
 use Rattle.leader1822.specs.declared.address.Flow.{Flow}
 use Rattle.leader1822.specs.declared.crossing.Answer.{Answer}
@@ -44,17 +44,17 @@ module _ (origin : ℕ → ℕ) (own foreign : ℕ) where
     by (s ∷ []) a b = a.2 ∙ sym b.2
     by (s ∷ t ∷ ss) a b = absurd a
 
-  pub carries : (q : PairState) (x y : End) (k : Option Life) → HasEnd origin own foreign q x → HasEnd origin own foreign q y → Knows k x → Knows k y
+  pub carries : (q : PairState) (x y : End) (k : List Life) → HasEnd origin own foreign q x → HasEnd origin own foreign q y → Knows k x → Knows k y
   carries q x y k h j knows = subst (λ (z : End). Knows k z) (end_once q x y h j) knows
 
   -- what a call tells, and what its program has afterwards
   abbrev pub Carries : Host → NcpState → NcpState → List Notice → Type 0
-  Carries p old new ns = (x y : End) (k : Option Life) → HasEnd origin own foreign (pair_with p old.peers) x → HasEnd origin own foreign (pair_with p new.peers) y → Knows k x → Knows (all_known origin p own foreign ns k) y
+  Carries p old new ns = (x y : End) (k : List Life) → HasEnd origin own foreign (pair_with p old.peers) x → HasEnd origin own foreign (pair_with p new.peers) y → Knows k x → Knows (all_known origin p own foreign ns k) y
 
   -- a call that is about another peer
   carries_other : (p g : Host) (old new : NcpState) (ns : List Notice) → same_host p g ≡ false → AreAbout g ns → pair_with p new.peers ≡ pair_with p old.peers → Carries p old new ns
   carries_other p g old new ns away about same x y k h j knows =
-      subst (λ (l : Option Life). Knows l y) (sym (others_leave origin own foreign p g ns k about away))
+      subst (λ (l : List Life). Knows l y) (sym (others_leave origin own foreign p g ns k about away))
       (carries (pair_with p new.peers) x y k (subst (λ (q : PairState). HasEnd origin own foreign q x) (sym same) h) j knows)
 
   carries_by : (p g : Host) (old new : NcpState) (ns : List Notice) → AreAbout g ns → (same_host p g ≡ false → pair_with p new.peers ≡ pair_with p old.peers) → (same_host p g ≡ true → Carries g old new ns) → Carries p old new ns
@@ -90,11 +90,11 @@ module _ (origin : ℕ → ℕ) (own foreign : ℕ) where
 
   module _ (s : NcpState) (m : HostMessage) (stamp : ℕ) (mine : same_host s.own m.flow.destination ≡ true) (apart : IsApart m.flow.link.0 m.text (message_on m.flow.link.0 m.text)) where
     -- nothing is told of it, and the end stays
-    stays : (x y : End) (k : Option Life) → all_known origin m.flow.source own foreign (accepted s (inbound.Message m) stamp).1 k ≡ k → HasEnd origin own foreign (pair_with m.flow.source (accepted s (inbound.Message m) stamp).0.peers) x
+    stays : (x y : End) (k : List Life) → all_known origin m.flow.source own foreign (accepted s (inbound.Message m) stamp).1 k ≡ k → HasEnd origin own foreign (pair_with m.flow.source (accepted s (inbound.Message m) stamp).0.peers) x
         → HasEnd origin own foreign (pair_with m.flow.source (accepted s (inbound.Message m) stamp).0.peers) y → Knows k x → Knows (all_known origin m.flow.source own foreign (accepted s (inbound.Message m) stamp).1 k) y
-    stays x y k same h j knows = subst (λ (l : Option Life). Knows l y) (sym same) (carries (pair_with m.flow.source (accepted s (inbound.Message m) stamp).0.peers) x y k h j knows)
+    stays x y k same h j knows = subst (λ (l : List Life). Knows l y) (sym same) (carries (pair_with m.flow.source (accepted s (inbound.Message m) stamp).0.peers) x y k h j knows)
 
-    control_carries : (x y : End) (k : Option Life) → (m.flow.link.0 == 0) ≡ true → Fitting s m stamp x → Sort m.flow.link.0 m.text → HasEnd origin own foreign (pair_with m.flow.source s.peers) x
+    control_carries : (x y : End) (k : List Life) → (m.flow.link.0 == 0) ≡ true → Fitting s m stamp x → Sort m.flow.link.0 m.text → HasEnd origin own foreign (pair_with m.flow.source s.peers) x
         → HasEnd origin own foreign (pair_with m.flow.source (accepted s (inbound.Message m) stamp).0.peers) y → Knows k x → Knows (all_known origin m.flow.source own foreign (accepted s (inbound.Message m) stamp).1 k) y
     control_carries x y k zero fit (AnRst z orders is) h j knows =
         carries (pair_with m.flow.source (accepted s (inbound.Message m) stamp).0.peers) nothing y (all_known origin m.flow.source own foreign (accepted s (inbound.Message m) stamp).1 k)
@@ -111,14 +111,14 @@ module _ (origin : ℕ → ℕ) (own foreign : ℕ) where
           (message_hears origin own foreign s m stamp x mine zero ready joint f.0 f.1 h) j (message_knows origin own foreign s m stamp x k mine zero ready joint f.0 f.1 h knows)
       by false idle = stays x y k (idle_leaves origin own foreign s m stamp k mine zero idle joint) (message_idle origin own foreign s m stamp x mine zero idle joint h) j knows
 
-    source_carries : (x y : End) (k : Option Life) → Fitting s m stamp x → HasEnd origin own foreign (pair_with m.flow.source s.peers) x
+    source_carries : (x y : End) (k : List Life) → Fitting s m stamp x → HasEnd origin own foreign (pair_with m.flow.source s.peers) x
         → HasEnd origin own foreign (pair_with m.flow.source (accepted s (inbound.Message m) stamp).0.peers) y → Knows k x → Knows (all_known origin m.flow.source own foreign (accepted s (inbound.Message m) stamp).1 k) y
     source_carries x y k fit h j knows = by (m.flow.link.0 == 0) refl where
       by : (z : Bool) → (m.flow.link.0 == 0) ≡ z → Knows (all_known origin m.flow.source own foreign (accepted s (inbound.Message m) stamp).1 k) y
       by true zero = control_carries x y k zero fit (sort_of m.flow.link.0 m.text) h j knows
       by false away = stays x y k (data_told_same origin own foreign s m stamp k mine away) (message_data origin own foreign s m stamp x mine away h) j knows
 
-    pub message_carries : (p : Host) (x y : End) (k : Option Life) → (same_host p m.flow.source ≡ true → Fitting s m stamp x) → HasEnd origin own foreign (pair_with p s.peers) x
+    pub message_carries : (p : Host) (x y : End) (k : List Life) → (same_host p m.flow.source ≡ true → Fitting s m stamp x) → HasEnd origin own foreign (pair_with p s.peers) x
         → HasEnd origin own foreign (pair_with p (accepted s (inbound.Message m) stamp).0.peers) y → Knows k x → Knows (all_known origin p own foreign (accepted s (inbound.Message m) stamp).1 k) y
     message_carries p x y k fit h j knows = by (same_host p m.flow.source) refl where
       by : (b : Bool) → same_host p m.flow.source ≡ b → Knows (all_known origin p own foreign (accepted s (inbound.Message m) stamp).1 k) y

@@ -1,5 +1,5 @@
 -- At all moments of a world what a host's user knows of an end is so.
-use Rattle.std.proofs.Common.{◌≡◌, ℕ, Bool, true, false, if◌then◌else◌, List, [], ◌∷◌, Option, None, refl, ap, sym, subst, ◌∙◌}
+use Rattle.std.proofs.Common.{◌≡◌, ℕ, Bool, true, false, if◌then◌else◌, List, [], ◌∷◌, None, refl, ap, sym, subst, ◌∙◌}
 use Rattle.leader1822.specs.Host.{Host, same_host}
 use Rattle.leader1822.specs.declared.address.Flow.{Flow}
 use Rattle.leader1822.specs.declared.crossing.Answer.{Answer}
@@ -33,7 +33,7 @@ use Rattle.world_known.proofs.Carried.{Fitting, answer_carries, carries, message
 
 module _ (s : Sockets) (is_pair : IsPair s) (who : Who) (h p : Host) (origin : ℕ → ℕ) where
   -- what is known at these two sockets
-  abbrev pub known : List Moment → Option Life
+  abbrev pub known : List Moment → List Life
   known moments = known_in origin h p (own_of who s) (foreign_of who s) moments
 
   abbrev end_of : List Moment → End
@@ -43,7 +43,7 @@ module _ (s : Sockets) (is_pair : IsPair s) (who : Who) (h p : Host) (origin : �
   IsKnown moments = Knows (known_in origin h p (own_of who s) (foreign_of who s) moments) (Side_of s is_pair who h p origin moments).end
 
   -- what its program is told by a moment, where it is its own
-  turn_if : (b : Bool) (new old : NcpState) (now k : Option Life) (x y : End) → (b ≡ true → HasEnd origin (own_of who s) (foreign_of who s) (pair_with p new.peers) y → Knows now y) → HasEnd origin (own_of who s) (foreign_of who s) (pair_with p old.peers) x
+  turn_if : (b : Bool) (new old : NcpState) (now k : List Life) (x y : End) → (b ≡ true → HasEnd origin (own_of who s) (foreign_of who s) (pair_with p new.peers) y → Knows now y) → HasEnd origin (own_of who s) (foreign_of who s) (pair_with p old.peers) x
       → HasEnd origin (own_of who s) (foreign_of who s) (pair_with p (if b then new else old).peers) y → Knows k x → Knows (if b then now else k) y
   turn_if true new old now k x y work t next knows = work refl next
   turn_if false new old now k x y work t next knows = carries origin (own_of who s) (foreign_of who s) (pair_with p old.peers) x y k t next knows
@@ -78,8 +78,8 @@ module _ (s : Sockets) (is_pair : IsPair s) (who : Who) (h p : Host) (origin : �
 
   -- a host that stops or starts knows nothing
   outage_knows : (g : Host) (moments : List Moment) (y : End) → Tie s is_pair who h p origin moments → HasEnd origin (own_of who s) (foreign_of who s) (pair_with p (if same_host h g then opening_state h else program h moments).peers) y → IsKnown moments
-      → Knows (if same_host h g then None else known moments) y
-  outage_knows g moments y t next knows = turn_if (same_host h g) (opening_state h) (program h moments) None (known moments) (end_of moments) y (λ e has. tt) t next knows
+      → Knows (if same_host h g then [] else known moments) y
+  outage_knows g moments y t next knows = turn_if (same_host h g) (opening_state h) (program h moments) [] (known moments) (end_of moments) y (λ e has. tt) t next knows
 
   in_knows : (hosts : List Host) (m : HostMessage) (moments : List Moment) (story : IsStory (Crossed (crossing.In m) ∷ moments)) (run : IsRun hosts (events_of (Crossed (crossing.In m) ∷ moments)))
       → (same_host h m.flow.destination ≡ true → same_host p m.flow.source ≡ true → Hears s is_pair who origin hosts m moments story run × IsFrom s is_pair who origin hosts m moments story run)

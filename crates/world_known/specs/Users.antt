@@ -1,5 +1,5 @@
 -- What the users of a world's hosts know of their ends, by all that their programs told them (NIC 8246, RTS, STR and CLS).
-use Rattle.std.specs.Prelude.{ℕ, Bool, true, false, if◌then◌else◌, List, [], ◌∷◌, Option, None}
+use Rattle.std.specs.Prelude.{ℕ, Bool, true, false, if◌then◌else◌, List, [], ◌∷◌}
 use Rattle.leader1822.specs.Host.{Host, same_host}
 use Rattle.leader1822.specs.declared.crossing.Crossing.TheVariants as crossing
 use Rattle.pairing_law.specs.Sides.{Life}
@@ -13,11 +13,11 @@ is_outage (Crossed (crossing.Down h)) = true
 is_outage (Crossed (crossing.Up h)) = true
 is_outage x = false
 
--- what the user of a host knows of its end on two sockets with a peer, after these moments: nothing where it starts, and then what its
--- program told
-abbrev pub known_in : (ℕ → ℕ) → Host → Host → ℕ → ℕ → List Moment → Option Life
-known_in origin host peer own foreign [] = None
+-- the openings on two sockets with a peer that the user of a host knows of after these moments: none where the host starts, and then what
+-- its program told
+abbrev pub known_in : (ℕ → ℕ) → Host → Host → ℕ → ℕ → List Moment → List Life
+known_in origin host peer own foreign [] = []
 known_in origin host peer own foreign (x ∷ moments) =
     if same_host host (host_in x)
-    then (if is_outage x then None else all_known origin peer own foreign (notices_by x moments) (known_in origin host peer own foreign moments))
+    then (if is_outage x then [] else all_known origin peer own foreign (notices_by x moments) (known_in origin host peer own foreign moments))
     else known_in origin host peer own foreign moments

@@ -1,10 +1,11 @@
 //! What users know. The functions here do nothing: each clause is a law.
 
-ghost use Rattle.std.specs.Prelude.{◌≡◌, true, List, ◌∷◌, Some, None};
+ghost use Rattle.std.specs.Prelude.{◌≡◌, true, List, [], ◌∷◌};
 ghost use Rattle.leader1822.specs.Host.{Host};
 ghost use Rattle.leader1822.specs.Mailboxes as mail;
 ghost use Rattle.ncp_control.specs.Numbers.{is_receive_socket, is_send_socket};
 ghost use Rattle.pairing_law.specs.Links.{Sockets, receiver, sender};
+ghost use Rattle.pairing_law.specs.Partners.{IsIn};
 ghost use Rattle.pairing_law.specs.Sides.{Life};
 ghost use Rattle.host_pairing.specs.Known.{ArePartners, Knows};
 ghost use Rattle.net_sim.specs.Clean.{HaveAddresses};
@@ -26,24 +27,24 @@ pub fn users()
     ensures sender { (hosts : List Host) (moments : List Moment) → HaveAddresses hosts → mail.IsRun hosts (crossings_of moments) → IsTimeline hosts moments → (a b : Host) → (s : Sockets) → is_receive_socket s.receive ≡ true → is_send_socket s.send ≡ true → Knows (known_in (origin_in (crossings_of moments) b a) b a s.send s.receive moments) (sender s (steps a b (law_events moments))).end }
 
     // so where both know of an open end on the same sockets, each is the other's partner
-    ensures partners { (hosts : List Host) (moments : List Moment) → HaveAddresses hosts → mail.IsRun hosts (crossings_of moments) → IsTimeline hosts moments → (a b : Host) → (s : Sockets) → is_receive_socket s.receive ≡ true → is_send_socket s.send ≡ true → (x y : Life) → known_in (origin_in (crossings_of moments) a b) a b s.receive s.send moments ≡ Some x → known_in (origin_in (crossings_of moments) b a) b a s.send s.receive moments ≡ Some y → ArePartners x y }
+    ensures partners { (hosts : List Host) (moments : List Moment) → HaveAddresses hosts → mail.IsRun hosts (crossings_of moments) → IsTimeline hosts moments → (a b : Host) → (s : Sockets) → is_receive_socket s.receive ≡ true → is_send_socket s.send ≡ true → (x y : Life) → IsIn x (known_in (origin_in (crossings_of moments) a b) a b s.receive s.send moments) → IsIn y (known_in (origin_in (crossings_of moments) b a) b a s.send s.receive moments) → ArePartners x y }
 {}
 
 /// What users know in a small world: the first host's socket 16 is connected with the second's 33, by an RTS that goes out at place 6 and an STR
 /// that goes out at place 8.
 pub fn worked_users()
     // each user knows of its end, by the two requests
-    ensures open { known_in (origin_in (crossings_of connected) first second) first second 16 33 connected ≡ Some (record { own = 6; partner = 8 }) }
-    ensures peer { known_in (origin_in (crossings_of connected) second first) second first 33 16 connected ≡ Some (record { own = 8; partner = 6 }) }
+    ensures open { known_in (origin_in (crossings_of connected) first second) first second 16 33 connected ≡ record { own = 6; partner = 8 } ∷ [] }
+    ensures peer { known_in (origin_in (crossings_of connected) second first) second first 33 16 connected ≡ record { own = 8; partner = 6 } ∷ [] }
 
     // and of no other
-    ensures others { (known_in (origin_in (crossings_of connected) first second) first second 33 16 connected ≡ None) × (known_in (origin_in (crossings_of connected) second first) second first 16 33 connected ≡ None) }
+    ensures others { (known_in (origin_in (crossings_of connected) first second) first second 33 16 connected ≡ []) × (known_in (origin_in (crossings_of connected) second first) second first 16 33 connected ≡ []) }
 
     // a host that stops knows nothing, nor one that contacts its peer; the peer knows of its end until it is told
-    ensures stopped { known_in (origin_in (crossings_of connected) first second) first second 16 33 (Crossed (crossing.Down first) ∷ connected) ≡ None }
-    ensures contact { known_in (origin_in (crossings_of connected) first second) first second 16 33 (Asked first (request.Contact second) ∷ connected) ≡ None }
-    ensures alone { known_in (origin_in (crossings_of connected) second first) second first 33 16 (Asked first (request.Contact second) ∷ connected) ≡ Some (record { own = 8; partner = 6 }) }
+    ensures stopped { known_in (origin_in (crossings_of connected) first second) first second 16 33 (Crossed (crossing.Down first) ∷ connected) ≡ [] }
+    ensures contact { known_in (origin_in (crossings_of connected) first second) first second 16 33 (Asked first (request.Contact second) ∷ connected) ≡ [] }
+    ensures alone { known_in (origin_in (crossings_of connected) second first) second first 33 16 (Asked first (request.Contact second) ∷ connected) ≡ record { own = 8; partner = 6 } ∷ [] }
 
     // an end that its user closed before it could open was never known
-    ensures early { known_in (origin_in (crossings_of closed_early) first second) first second 16 33 closed_early ≡ None }
+    ensures early { known_in (origin_in (crossings_of closed_early) first second) first second 16 33 closed_early ≡ [] }
 {}

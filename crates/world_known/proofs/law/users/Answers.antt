@@ -3,10 +3,9 @@ use Rattle.leader1822.specs.Host.{Host}
 use Rattle.leader1822.specs.Mailboxes as mail
 use Rattle.ncp_control.specs.Numbers.{is_receive_socket, is_send_socket}
 use Rattle.pairing_law.specs.Links.{Sockets, events_at, receiver, sender}
-use Rattle.pairing_law.specs.Sides.{Side, both}
+use Rattle.pairing_law.specs.Sides.{Side}
 use Rattle.pairing_law.proofs.Linked.{run_at}
-use Rattle.pairing_law.proofs.Open.{open_match}
-use Rattle.pairing_law.proofs.Runs.{joined_run}
+use Rattle.host_pairing.proofs.Partners.{known_match}
 use Rattle.host_pairing.specs.Known.{Knows}
 use Rattle.net_sim.specs.Clean.{HaveAddresses}
 use Rattle.net_sim.specs.Story.{Moment}
@@ -51,8 +50,7 @@ pub returns-clause-sender : goal.returns-clause-sender
 returns-clause-sender c = at_sender
 
 pub returns-clause-partners : goal.returns-clause-partners
-returns-clause-partners c hosts moments addresses run time a b s even odd x y k j =
-    open_match (both (events_at s (steps a b (law_events moments)))).one (both (events_at s (steps a b (law_events moments)))).two x.own x.partner y.own y.partner
-    (joined_run (events_at s (steps a b (law_events moments))) (run_at s (steps a b (law_events moments)) ((tied hosts moments addresses run time).tied a b).steps))
-    (subst (λ l. Knows l (receiver s (steps a b (law_events moments))).end) k (at_receiver hosts moments addresses run time a b s even odd))
-    (subst (λ l. Knows l (sender s (steps a b (law_events moments))).end) j (at_sender hosts moments addresses run time a b s even odd))
+returns-clause-partners c hosts moments addresses run time a b s even odd x y i j =
+    known_match (events_at s (steps a b (law_events moments))) (known_in (origin_in (crossings_of moments) a b) a b s.receive s.send moments) (known_in (origin_in (crossings_of moments) b a) b a s.send s.receive moments) x y
+    (run_at s (steps a b (law_events moments)) ((tied hosts moments addresses run time).tied a b).steps)
+    (at_receiver hosts moments addresses run time a b s even odd) (at_sender hosts moments addresses run time a b s even odd) i j
