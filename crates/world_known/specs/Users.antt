@@ -1,9 +1,10 @@
 -- What the users of a world's hosts know of their ends, by all that their programs told them (NIC 8246, RTS, STR and CLS).
-use Rattle.std.specs.Prelude.{ℕ, Bool, true, false, if◌then◌else◌, List, [], ◌∷◌}
+use Rattle.std.specs.Prelude.{◌≡◌, ℕ, Bool, true, false, if◌then◌else◌, List, [], ◌∷◌}
 use Rattle.leader1822.specs.Host.{Host, same_host}
 use Rattle.leader1822.specs.declared.crossing.Crossing.TheVariants as crossing
 use Rattle.pairing_law.specs.Sides.{Life}
 use Rattle.host_pairing.specs.Known.{all_known}
+use Rattle.net_sim.specs.declared.life.Life as book
 use Rattle.net_sim.specs.Story.{Moment, Crossed}
 use Rattle.net_sim.specs.Told.{host_in, notices_by}
 
@@ -21,3 +22,7 @@ known_in origin host peer own foreign (x ∷ moments) =
     if same_host host (host_in x)
     then (if is_outage x then [] else all_known origin peer own foreign (notices_by x moments) (known_in origin host peer own foreign moments))
     else known_in origin host peer own foreign moments
+
+-- two lives of a book are at the two ends of the same sockets
+abbrev pub AreOpposite : book.Life → book.Life → Type 0
+AreOpposite x y = (x.peer ≡ y.host) × (y.peer ≡ x.host) × (x.foreign ≡ y.socket) × (y.foreign ≡ x.socket)

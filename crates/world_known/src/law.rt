@@ -1,6 +1,6 @@
 //! What users know. The functions here do nothing: each clause is a law.
 
-ghost use Rattle.std.specs.Prelude.{◌≡◌, true, List, [], ◌∷◌};
+ghost use Rattle.std.specs.Prelude.{◌≡◌, ℕ, true, false, List, [], ◌∷◌};
 ghost use Rattle.leader1822.specs.Host.{Host};
 ghost use Rattle.leader1822.specs.Mailboxes as mail;
 ghost use Rattle.ncp_control.specs.Numbers.{is_receive_socket, is_send_socket};
@@ -8,7 +8,12 @@ ghost use Rattle.pairing_law.specs.Links.{Sockets, receiver, sender};
 ghost use Rattle.pairing_law.specs.Partners.{IsIn};
 ghost use Rattle.pairing_law.specs.Sides.{Life};
 ghost use Rattle.host_pairing.specs.Known.{ArePartners, Knows};
+ghost use Rattle.std.specs.List.{Contains};
+ghost use Rattle.net_sim.specs.declared.life.Life as book;
+ghost use Rattle.net_sim.specs.Told.{kept_in};
+ghost use Rattle.world_pairing.specs.Lives.{life_of};
 ghost use Rattle.net_sim.specs.Clean.{HaveAddresses};
+ghost use Rattle.net_sim.specs.Safe.{Match, receives, sends};
 ghost use Rattle.leader1822.specs.declared.crossing.Crossing.TheVariants as crossing;
 ghost use Rattle.sockets.specs.Worked.{first, second};
 ghost use Rattle.sockets.specs.declared.request.Request.TheVariants as request;
@@ -18,7 +23,7 @@ ghost use Rattle.world_pairing.specs.WorkedLives.{closed_early};
 ghost use Rattle.net_sim.specs.Timeline.{IsTimeline, crossings_of};
 ghost use Rattle.world_pairing.specs.Free.{law_events, origin_in};
 ghost use Rattle.world_pairing.specs.Steps.{steps};
-ghost use Rattle.world_known.specs.Users.{known_in};
+ghost use Rattle.world_known.specs.Users.{AreOpposite, known_in};
 
 /// The users of two hosts, over any list of moments of a world: all that crosses between their programs, and what they ask for.
 pub fn users()
@@ -28,6 +33,16 @@ pub fn users()
 
     // so where both know of an open end on the same sockets, each is the other's partner
     ensures partners { (hosts : List Host) (moments : List Moment) → HaveAddresses hosts → mail.IsRun hosts (crossings_of moments) → IsTimeline hosts moments → (a b : Host) → (s : Sockets) → is_receive_socket s.receive ≡ true → is_send_socket s.send ≡ true → (x y : Life) → IsIn x (known_in (origin_in (crossings_of moments) a b) a b s.receive s.send moments) → IsIn y (known_in (origin_in (crossings_of moments) b a) b a s.send s.receive moments) → ArePartners x y }
+{}
+
+/// The lives of the book that go on, over any list of moments of a world.
+pub fn lives()
+    // each is an opening that the user of its host knows of
+    ensures known { (hosts : List Host) (moments : List Moment) → mail.IsRun hosts (crossings_of moments) → IsTimeline hosts moments → (origin : ℕ → ℕ) (x : book.Life) → Contains (kept_in moments).book.lives x → x.ended ≡ false → IsIn (life_of origin x) (known_in origin x.host x.peer x.socket x.foreign moments) }
+
+    // so where a life that receives and one that sends go on at the two ends of the same sockets, they match: each has the other's own request
+    // for its partner's
+    ensures matches { (hosts : List Host) (moments : List Moment) → HaveAddresses hosts → mail.IsRun hosts (crossings_of moments) → IsTimeline hosts moments → (receiver sender : book.Life) → Contains (kept_in moments).book.lives receiver → Contains (kept_in moments).book.lives sender → receiver.ended ≡ false → sender.ended ≡ false → AreOpposite receiver sender → receives receiver ≡ true → sends sender ≡ true → Match (crossings_of moments) receiver sender }
 {}
 
 /// What users know in a small world: the first host's socket 16 is connected with the second's 33, by an RTS that goes out at place 6 and an STR
