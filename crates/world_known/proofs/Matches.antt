@@ -6,7 +6,11 @@ use Rattle.leader1822.specs.Mailboxes as mail
 use Rattle.leader1822.proofs.Lists.{same_host-refl}
 use Rattle.ncp_control.specs.Numbers.{is_send_socket}
 use Rattle.host_pairing.specs.Known.{ArePartners}
-use Rattle.net_sim.specs.Clean.{HaveAddresses}
+use Rattle.leader1822.specs.Calls.{Seen}
+use Rattle.leader1822.specs.declared.crossing.Crossing.{Crossing}
+use Rattle.net_sim.specs.Clean.{HaveAddresses, IsLawful}
+use Rattle.net_sim.specs.World.{WorldState}
+use Rattle.world_pairing.proofs.Worlds.{book_lives, book_run}
 use Rattle.net_sim.specs.Safe.{Match, before, control_flow, last_out, named, own_request, receives, sends}
 use Rattle.net_sim.specs.Story.{Moment}
 use Rattle.net_sim.specs.Timeline.{IsTimeline, crossings_of}
@@ -50,3 +54,12 @@ live_match hosts moments addresses run time x y here there on also o receiving s
     (life_known (origin_in (crossings_of moments) x.peer x.host) x.peer x.host x.foreign x.socket hosts moments run time y there (between x y o) also) in
     life_matches hosts moments k.story k.run run (served_in hosts moments time) x y here there receiving
     (request_is (last_out (control_flow x.peer x.host) (before x.partner_stamp (crossings_of moments))) x y (partner_named hosts moments k.story k.run run (served_in hosts moments time) x here) partners.0 o.2 o.3)
+
+-- ---- over a carrier
+
+pub world_match : {C : Type 0} (seen : C → Seen) (hosts : List Host) (w : WorldState C) → IsLawful seen hosts w → (x y : book.Life) → Contains w.kept.book.lives x → Contains w.kept.book.lives y
+    → x.ended ≡ false → y.ended ≡ false → AreOpposite x y → receives x ≡ true → sends y ≡ true → Match w.kept.book.crossings x y
+world_match seen hosts w lawful x y here there on also o receiving sending =
+    subst (λ (log : List Crossing). Match log x y) (sym lawful.whole.crossings)
+    (live_match hosts lawful.whole.moments lawful.addresses (book_run seen hosts w lawful) lawful.whole.timeline x y (subst (λ (lives : List book.Life). Contains lives x) (book_lives seen hosts w lawful) here)
+    (subst (λ (lives : List book.Life). Contains lives y) (book_lives seen hosts w lawful) there) on also o receiving sending)

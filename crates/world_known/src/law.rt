@@ -1,6 +1,6 @@
 //! What users know. The functions here do nothing: each clause is a law.
 
-ghost use Rattle.std.specs.Prelude.{◌≡◌, ℕ, true, false, List, [], ◌∷◌};
+ghost use Rattle.std.specs.Prelude.{◌≡◌, ℕ, true, false, List, [], ◌∷◌, map};
 ghost use Rattle.leader1822.specs.Host.{Host};
 ghost use Rattle.leader1822.specs.Mailboxes as mail;
 ghost use Rattle.ncp_control.specs.Numbers.{is_receive_socket, is_send_socket};
@@ -12,7 +12,8 @@ ghost use Rattle.std.specs.List.{Contains};
 ghost use Rattle.net_sim.specs.declared.life.Life as book;
 ghost use Rattle.net_sim.specs.Told.{kept_in};
 ghost use Rattle.world_pairing.specs.Lives.{life_of};
-ghost use Rattle.net_sim.specs.Clean.{HaveAddresses};
+ghost use Rattle.net_sim.specs.Clean.{HaveAddresses, IsLawful};
+ghost use Rattle.net_sim.specs.World.{WorldState};
 ghost use Rattle.net_sim.specs.Safe.{Match, receives, sends};
 ghost use Rattle.leader1822.specs.declared.crossing.Crossing.TheVariants as crossing;
 ghost use Rattle.sockets.specs.Worked.{first, second};
@@ -24,6 +25,8 @@ ghost use Rattle.net_sim.specs.Timeline.{IsTimeline, crossings_of};
 ghost use Rattle.world_pairing.specs.Free.{law_events, origin_in};
 ghost use Rattle.world_pairing.specs.Steps.{steps};
 ghost use Rattle.world_known.specs.Users.{AreOpposite, known_in};
+
+use leader1822::Carrier;
 
 /// The users of two hosts, over any list of moments of a world: all that crosses between their programs, and what they ask for.
 pub fn users()
@@ -45,6 +48,12 @@ pub fn lives()
     ensures matches { (hosts : List Host) (moments : List Moment) → HaveAddresses hosts → mail.IsRun hosts (crossings_of moments) → IsTimeline hosts moments → (receiver sender : book.Life) → Contains (kept_in moments).book.lives receiver → Contains (kept_in moments).book.lives sender → receiver.ended ≡ false → sender.ended ≡ false → AreOpposite receiver sender → receives receiver ≡ true → sends sender ≡ true → Match (crossings_of moments) receiver sender }
 {}
 
+/// The lives in the book of a world that go on, over any carrier.
+pub fn books<C: Carrier>()
+    // where one that receives and one that sends go on at the two ends of the same sockets, they match
+    ensures matches { (hosts : List Host) (w : WorldState C) → IsLawful C.seen hosts w → (receiver sender : book.Life) → Contains w.kept.book.lives receiver → Contains w.kept.book.lives sender → receiver.ended ≡ false → sender.ended ≡ false → AreOpposite receiver sender → receives receiver ≡ true → sends sender ≡ true → Match w.kept.book.crossings receiver sender }
+{}
+
 /// What users know in a small world: the first host's socket 16 is connected with the second's 33, by an RTS that goes out at place 6 and an STR
 /// that goes out at place 8.
 pub fn worked_users()
@@ -62,4 +71,15 @@ pub fn worked_users()
 
     // an end that its user closed before it could open was never known
     ensures early { known_in (origin_in (crossings_of closed_early) first second) first second 16 33 closed_early ≡ [] }
+{}
+
+/// Lives at two ends: the lives of a small book.
+pub fn worked_lives()
+    // the first host's life of socket 16 and the second's of socket 33 are at the two ends of the same sockets, and both go on
+    ensures both { map (λ x. x.ended) (kept_in connected).book.lives ≡ false ∷ false ∷ [] }
+    ensures opposite { (x y : book.Life) → (kept_in connected).book.lives ≡ x ∷ y ∷ [] → AreOpposite x y }
+
+    // a life isn't at the other end of itself, nor of one of other sockets
+    ensures itself { (x : book.Life) → x.socket ≡ 16 → x.foreign ≡ 33 → AreOpposite x x → ⊥ }
+    ensures others { (x y : book.Life) → x.socket ≡ 16 → y.foreign ≡ 18 → AreOpposite x y → ⊥ }
 {}
