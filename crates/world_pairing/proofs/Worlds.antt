@@ -18,7 +18,7 @@ use Rattle.world_pairing.proofs.BookPartners.{life_alone, life_matches, partner_
 use Rattle.world_pairing.proofs.Served.{AreServed, served_in}
 
 module _ {C : Type 0} (seen : C → Seen) (hosts : List Host) (w : WorldState C) (lawful : IsLawful seen hosts w) where
-  book_run : mail.IsRun hosts (crossings_of lawful.whole.moments)
+  pub book_run : mail.IsRun hosts (crossings_of lawful.whole.moments)
   book_run =
       let all : mail.IsRun hosts (lawful.booked.unbooked ++ w.kept.book.crossings) = subst (λ (xs : List Crossing). mail.IsRun hosts xs) lawful.booked.book lawful.run in
       subst (λ (xs : List Crossing). mail.IsRun hosts xs) lawful.whole.crossings (run_below hosts lawful.booked.unbooked w.kept.book.crossings all)
@@ -29,7 +29,7 @@ module _ {C : Type 0} (seen : C → Seen) (hosts : List Host) (w : WorldState C)
   book_served : AreServed lawful.whole.moments
   book_served = served_in hosts lawful.whole.moments lawful.whole.timeline
 
-  book_lives : w.kept.book.lives ≡ (kept_in lawful.whole.moments).book.lives
+  pub book_lives : w.kept.book.lives ≡ (kept_in lawful.whole.moments).book.lives
   book_lives = ap (λ (k : Kept). k.book.lives) lawful.whole.kept
 
   pub world_partners : SafePartners w.kept.book.crossings w.kept.book.lives

@@ -1,0 +1,5 @@
+pub mod Carried
+pub mod Known
+pub mod Users
+pub mod Going
+pub mod Matches
