@@ -83,7 +83,7 @@ module _ (name : ℕ → ℕ → ℕ) (link l : ℕ) (text : List Bool) (d : Des
 
 -- ---- bytes that go out
 
-link_is : (link : ℕ) (o : Option ℕ) → is_link link o ≡ true → o ≡ Some link
+pub link_is : (link : ℕ) (o : Option ℕ) → is_link link o ≡ true → o ≡ Some link
 link_is link None e = absurd (cc)
 link_is link (Some l) e = ap (λ (n : ℕ). Some n) (eqb-true l link e)
 

@@ -13,9 +13,10 @@ use Rattle.host_pairs.specs.declared.listener.Listener.{Listener}
 use Rattle.host_streams.specs.Closings.{all_received, all_sent}
 use Rattle.host_streams.specs.Ends.{HasReceiver}
 use Rattle.host_streams.specs.Formed.{AreSound}
-use Rattle.host_streams.specs.Histories.{Call, Moment, ends_by, received_at, sent_at, IsAllowed, ends_now, IsHistory, gone_by, gone_now, IsTelling, receiver_now, sender_now, AreAllowed, MayReceiveAll, MaySendAll, paired, numbered}
+use Rattle.host_streams.specs.Histories.{Call, Moment, ends_by, received_at, sent_at, IsAllowed, ends_now, IsHistory, gone_by, gone_now, IsTelling, receiver_now, sender_now, AreAllowed, MayReceiveAll, MaySendAll, KeepBox, KeepBoxAll, is_out, paired, numbered}
 use Rattle.host_streams.specs.Names.{named, numbers, is_among, IsSending}
 use Rattle.host_streams.proofs.EachCall.{AllNewReceived, AllNewSent, call_received, call_sent, call_sound}
+use Rattle.host_streams.proofs.CallBoxes.{call_box}
 use Rattle.host_streams.proofs.Concerns.{IsUnknown, IsUnsaid, still_unknown, still_unsaid}
 use Rattle.host_streams.proofs.Known.{Sent}
 use Rattle.host_streams.proofs.Lists.{unlike}
@@ -170,7 +171,7 @@ module _ (number : ℕ → ℕ → ℕ → ℕ) (tells : IsTelling number) where
   begins link = record {
     sound = record { formed = tt; apart = tt };
     received = refl;
-    sent = record { here = λ k f. absurd (cc); known = tt };
+    sent = record { here = λ k f o. absurd (cc); known = tt };
     unknown = λ own foreign g a. record { unasked = refl; untold = refl; unheard = refl };
     unsaid = λ own foreign g a. record { untold = refl; unclosed = refl; unheard = λ e. absurd (cc) };
   }
@@ -181,6 +182,9 @@ module _ (number : ℕ → ℕ → ℕ → ℕ) (tells : IsTelling number) where
 
     pub step_sent : Sent (name_of number gone) link (sent_at (name_of number gone) link c q listening s) (ends_by peer c q listening) s
     step_sent = call_sent (name_of number gone) link peer q listening h.sound s h.sent.here h.sent.known (all_new_sent gone q.entries s h.unsaid) c allowed
+
+    pub step_box : KeepBox (is_out link c q) (sent_at (name_of number gone) link c q listening s) s
+    step_box = call_box (name_of number gone) link peer q listening h.sound s h.sent.here h.sent.known (all_new_sent gone q.entries s h.unsaid) c allowed
 
     pub step_holds : Holds link (gone_by q.entries (ends_by peer c q listening) gone) (ends_by peer c q listening) (all_received (received_at (name_of number gone) link c q listening) r) (all_sent (sent_at (name_of number gone) link c q listening s) s)
     step_holds =
@@ -220,6 +224,13 @@ module _ (number : ℕ → ℕ → ℕ → ℕ) (tells : IsTelling number) where
       let before : Holds link (gone_now peer ms) m.pair.entries (receiver_now number peer link ms) (sender_now number peer link ms)
       = subst (λ (es : List Entry). Holds link (gone_now peer ms) es (receiver_now number peer link ms) (sender_now number peer link ms)) (sym i.0) (holds_now peer link ms i.1 a.1) in
       ((step_sent peer link (gone_now peer ms) m.call m.pair m.listening (receiver_now number peer link ms) (sender_now number peer link ms) a.0 before).may, all_may_send peer link ms i.1 a.1)
+
+  pub all_keep_box : (peer : Host) (link : ℕ) (ms : List Moment) → IsHistory peer ms → AreAllowed number peer link ms → KeepBoxAll number peer link ms
+  all_keep_box peer link [] i a = tt
+  all_keep_box peer link (m ∷ ms) i a =
+      let before : Holds link (gone_now peer ms) m.pair.entries (receiver_now number peer link ms) (sender_now number peer link ms)
+      = subst (λ (es : List Entry). Holds link (gone_now peer ms) es (receiver_now number peer link ms) (sender_now number peer link ms)) (sym i.0) (holds_now peer link ms i.1 a.1) in
+      (step_box peer link (gone_now peer ms) m.call m.pair m.listening (receiver_now number peer link ms) (sender_now number peer link ms) a.0 before, all_keep_box peer link ms i.1 a.1)
 
 -- ---- such a number
 

@@ -114,8 +114,7 @@ module _ (name : ℕ → ℕ → ℕ) (link stamp : ℕ) (e : Entry) (s : Sender
   leaves n t none = inr (record { closed = n.closed; shut = n.shut; live = n.live; none = none })
 
   opened_none : IsKnown (named name e) e s → has_cls e.closing ≡ true → s.end ≡ Some (named name e) → NoneOpen (record s { opened = true })
-  opened_none k closed end = λ n t. (let same : named name e ≡ n = some_is (named name e) n (sym end ∙ t) in
-      subst (λ (m : ℕ). (not s.shut && not (s.closed m)) ≡ false) same (ap (λ (v : Bool). not s.shut && not v) (k.closed ∙ closed) ∙ and_no (not s.shut)))
+  opened_none k closed end = λ n t o. (let same : named name e ≡ n = some_is (named name e) n (sym end ∙ t) in subst (λ (m : ℕ). s.closed m ≡ true) same (k.closed ∙ closed))
 
   leaving_by : IsLeaving e s → IsKnown (named name e) e s → (v : Bool) → (o : Option ℕ) → s.end ≡ o → Opens (of_end (named name e) o (sent_open v (named name e)))
   leaving_by n k v None end = (tt, leaves n s n.none)

@@ -1,5 +1,5 @@
 -- What a link's law knows of all sending ends.
-use Rattle.std.proofs.Common.{◌≡◌, ℕ, Bool, true, false, not, ◌&&◌, ◌==◌, List, [], ◌∷◌, ◌++◌, filter, find, Option, Some, None, refl, ap, sym, subst, ◌∙◌, inl, inr}
+use Rattle.std.proofs.Common.{◌≡◌, ℕ, Bool, true, false, ◌&&◌, ◌==◌, List, [], ◌∷◌, ◌++◌, filter, find, Option, Some, None, refl, ap, sym, subst, ◌∙◌, inl, inr}
 use Rattle.std.proofs.lemmas.Bool.{ne_eqb, or_parts}
 use Rattle.stream_law.specs.Senders as senders
 use Rattle.stream_law.specs.Senders.{Sender}
@@ -12,7 +12,6 @@ use Rattle.host_streams.specs.Ends.{NoneOpen, AreSender, HasSender}
 use Rattle.host_streams.specs.Names.{named, numbers, is_among, AreApart, IsKnown, AreKnown}
 use Rattle.host_streams.proofs.Lists.{unlike}
 use Rattle.host_streams.proofs.Names.{found_among}
-use Rattle.host_streams.proofs.Opening.{and_no}
 
 -- what is known of all connections but one stays
 abbrev pub Elsewhere : ℕ → Sender → Sender → Type 0
@@ -96,9 +95,9 @@ goes_some c v (Some own) k e = by (own == c && v) refl where
   by false t = rw t at e
 
 pub none_closed : (c : ℕ) (s : Sender) → NoneOpen s → NoneOpen (senders.moved (senders.Close c) s)
-none_closed c s none k f = elim (at c true s.closed k) [
-  | inl t ↦ ap (λ (v : Bool). s.opened && not s.shut && not v) t.1 ∙ and_no (s.opened && not s.shut)
-  | inr t ↦ ap (λ (v : Bool). s.opened && not s.shut && not v) t.1 ∙ none k (goes_some c s.shut s.end k f)
+none_closed c s none k f o = elim (at c true s.closed k) [
+  | inl t ↦ t.1
+  | inr t ↦ t.1 ∙ none k (goes_some c s.shut s.end k f) o
 ]
 
 goes_away : (c own : ℕ) (v : Bool) → (own == c) ≡ false → senders.goes c v (Some own) ≡ Some own

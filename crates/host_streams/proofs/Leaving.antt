@@ -10,7 +10,7 @@ use Rattle.stream_law.proofs.Amounts.{for_here, some_is}
 use Rattle.host_pairs.specs.Asked.{closed_end}
 use Rattle.host_pairs.specs.Commands.{cls_taken_by, taken}
 use Rattle.host_pairs.specs.Desk.{DeskState}
-use Rattle.host_pairs.specs.Entries.{called_off, changed_first, closed_by_partner, closed_when, entry_at, has_cls, is_answered, is_at, is_called_off, is_drained, is_due, is_mine_on, is_open, is_over, is_receiving, must_close, sends_on, was_closed}
+use Rattle.host_pairs.specs.Entries.{called_off, changed_first, closed_by_partner, closed_when, entry_at, has_cls, is_answered, is_at, is_called_off, is_drained, is_due, is_mine_on, is_over, is_receiving, must_close, sends_on, was_closed}
 use Rattle.host_pairs.specs.Pair.{PairState}
 use Rattle.host_pairs.specs.Parcels.{cls_sent, command_gone}
 use Rattle.host_pairs.specs.declared.entry.Closing.{Closing}
@@ -20,7 +20,7 @@ use Rattle.host_pairs.proofs.OpeningLemmas.{both}
 use Rattle.host_streams.specs.Closings.{all_sent, MayAllSend, sent_close, sent_heard}
 use Rattle.host_streams.specs.Ends.{IsSender, NoneOpen, AreSender, HasSender}
 use Rattle.host_streams.proofs.Lists.{away, filter_both, filter_map, sent_is, unlike}
-use Rattle.host_streams.proofs.Senders.{closed_shut, open_same, own_sender}
+use Rattle.host_streams.proofs.Senders.{own_sender}
 use Rattle.host_streams.proofs.Ending.{shut_one, stays, close_now, not_called, or_parts}
 
 pub due_open : (v : Closing) → is_due v ≡ true → has_cls v ≡ false
@@ -36,8 +36,8 @@ cls_not_due closing.Queued e = refl
 cls_not_due closing.Sent e = refl
 
 -- the law's end that isn't open is none
-none_open : (c : ℕ) (e : Entry) (s : Sender) → IsSender c e s → is_open e ≡ false → NoneOpen s
-none_open c e s i shut k f = let same : c ≡ k = some_is c k (sym i.end ∙ f) in subst (λ (n : ℕ). senders.is_open n s ≡ false) same (open_same c e s i ∙ shut)
+none_open : (c : ℕ) (e : Entry) (s : Sender) → IsSender c e s → has_cls e.closing ≡ true → NoneOpen s
+none_open c e s i closed k f o = let same : c ≡ k = some_is c k (sym i.end ∙ f) in subst (λ (n : ℕ). s.closed n ≡ true) same (i.closed ∙ closed)
 
 -- ---- the law's moves
 
@@ -64,7 +64,7 @@ module _ (name : ℕ → ℕ → ℕ) (link : ℕ) where
   closes_one x s i due true t =
       let none : senders.goes (name x.own x.foreign) s.shut s.end ≡ None = goes_none (name x.own x.foreign) s.shut s.end i.end (i.shut ∙ t) in (
         (i.closed ∙ due_open x.closing due, tt),
-        inr (record { closed = refl; shut = t; live = refl; none = λ k f. (let both : None ≡ Some k = sym none ∙ f in absurd (cc)) }),
+        inr (record { closed = refl; shut = t; live = refl; none = λ k f o. (let both : None ≡ Some k = sym none ∙ f in absurd (cc)) }),
       )
   closes_one x s i due false t = (
     (i.closed ∙ due_open x.closing due, tt),
@@ -151,7 +151,7 @@ module _ (name : ℕ → ℕ → ℕ) (link : ℕ) where
       × AreSender name (record e { closing = closing.Queued; partner_closed = true; bits = [] } ∷ []) (senders.moved (senders.Close (name e.own e.foreign)) (record s { shut = true }))
   drained_by e s i unclosed =
       let none : senders.goes (name e.own e.foreign) true s.end ≡ None = goes_none (name e.own e.foreign) true s.end i.end refl in
-      ((unclosed, tt), inr (record { closed = refl; shut = refl; live = refl; none = λ k f. (let both : None ≡ Some k = sym none ∙ f in absurd (cc)) }))
+      ((unclosed, tt), inr (record { closed = refl; shut = refl; live = refl; none = λ k f o. (let both : None ≡ Some k = sym none ∙ f in absurd (cc)) }))
 
   waiting_by : (e : Entry) (s : Sender) → IsSender (name e.own e.foreign) e s → s.closed (name e.own e.foreign) ≡ false → AreSender name (record e { closing = closing.Due; partner_closed = true; bits = [] } ∷ []) (record s { shut = true })
   waiting_by e s i unclosed = inl (record { end = i.end; opened = i.opened; shut = refl; closed = unclosed; size = i.size; allocation = i.allocation; live = refl })
@@ -167,7 +167,7 @@ module _ (name : ℕ → ℕ → ℕ) (link : ℕ) where
       subst (λ (t : Sender). Done e closing.Due false t) (sym (heard_unclosed (name e.own e.foreign) s i.end (i.closed ∙ ap has_cls same))) (tt, waiting_by e s i (i.closed ∙ ap has_cls same))
   heard_by e s i closing.Queued same w =
       subst (λ (t : Sender). Done e closing.Queued w t) (sym (heard_closed (name e.own e.foreign) s i.end (i.closed ∙ ap has_cls same)))
-      (tt, inr (record { closed = refl; shut = refl; live = refl; none = λ k f. absurd (cc) }))
+      (tt, inr (record { closed = refl; shut = refl; live = refl; none = λ k f o. absurd (cc) }))
   heard_by e s i closing.Sent same w =
       subst (λ (t : Sender). Done e closing.Sent w t) (sym (heard_closed (name e.own e.foreign) s i.end (i.closed ∙ ap has_cls same))) (tt, λ k f. absurd (cc))
 
@@ -193,7 +193,7 @@ module _ (name : ℕ → ℕ → ℕ) (link : ℕ) where
   -- ---- the own CLS goes out
 
   gone_by : (e : Entry) (s : Sender) → AreSender name (e ∷ []) s → has_cls e.closing ≡ true → (v : Bool) → e.partner_closed ≡ v → AreSender name (filter stays (cls_sent e ∷ [])) s
-  gone_by e s (inl i) closed true t = rw t (none_open (name e.own e.foreign) e s i (closed_shut e closed))
+  gone_by e s (inl i) closed true t = rw t (none_open (name e.own e.foreign) e s i closed)
   gone_by e s (inl i) closed false t =
       rw t (inl (record { end = i.end; opened = i.opened; shut = i.shut ∙ t; closed = i.closed ∙ closed; size = i.size; allocation = i.allocation; live = refl }))
   gone_by e s (inr n) closed true t = rw t n.none

@@ -23,3 +23,5 @@ pub mod EachCall
 pub mod Concerns
 pub mod Meets
 pub mod Chain
+pub mod Boxes
+pub mod CallBoxes

@@ -11,11 +11,11 @@ use Rattle.host_streams.specs.Formed.{AreSound}
 use Rattle.host_streams.specs.Names.{named, numbers, is_among, AreApart, IsKnown, AreKnown, IsSending}
 use Rattle.host_streams.proofs.Lists.{unlike}
 
-or_right : (a b : Bool) → b ≡ true → (a || b) ≡ true
+pub or_right : (a b : Bool) → b ≡ true → (a || b) ≡ true
 or_right true b e = refl
 or_right false b e = e
 
-or_both : (a b : Bool) → a ≡ false → b ≡ false → (a || b) ≡ false
+pub or_both : (a b : Bool) → a ≡ false → b ≡ false → (a || b) ≡ false
 or_both true b e f = absurd (cc)
 or_both false b e f = f
 

@@ -11,7 +11,7 @@ use Rattle.stream_law.proofs.Amounts.{for_here}
 use Rattle.host_pairs.specs.Asked.{closed_end, passes, receiver_requested, requested, with_end, with_more_bits}
 use Rattle.host_pairs.specs.Commands.{granted}
 use Rattle.host_pairs.specs.Desk.{desk_of}
-use Rattle.host_pairs.specs.Entries.{called_off, changed_first, close_due, free_link, is_mine_on, is_open, is_over, is_receiving, is_sent, receiving_end, receives_on, sending_end, sends_on, was_closed}
+use Rattle.host_pairs.specs.Entries.{called_off, is_busy, changed_first, close_due, free_link, is_mine_on, is_open, is_over, is_receiving, is_sent, receiving_end, receives_on, sending_end, sends_on, was_closed}
 use Rattle.host_pairs.specs.Pair.{PairState}
 use Rattle.host_pairs.specs.declared.entry.Closing.{Closing}
 use Rattle.host_pairs.specs.declared.entry.Closing.TheVariants as closing
@@ -19,10 +19,12 @@ use Rattle.host_pairs.specs.declared.entry.Entry.{Entry}
 use Rattle.host_pairs.proofs.OpeningLemmas.{both}
 use Rattle.host_streams.specs.Ends.{AreReceiver, HasReceiver, AreSender, HasSender}
 use Rattle.host_streams.specs.Formed.{IsFormed, AreSound}
+use Rattle.host_streams.specs.Histories.{KeepBox}
 use Rattle.host_streams.specs.Moves.{asks_for, closes, on_link}
 use Rattle.host_streams.specs.Names.{named, numbers, is_among, IsKnown, AreKnown, IsNewReceived, IsNewSent}
 use Rattle.host_streams.proofs.Asking as asking
 use Rattle.host_streams.proofs.Asks.{settled_sound}
+use Rattle.host_streams.proofs.Boxes.{settled_box}
 use Rattle.host_streams.proofs.Ending as ending
 use Rattle.host_streams.proofs.Ending.{shut_one}
 use Rattle.host_streams.proofs.Formed.{formed_found, receiving_formed, sending_formed}
@@ -186,15 +188,24 @@ module _ (name : ℕ → ℕ → ℕ) (link socket : ℕ) (q : PairState) (e : E
       subst (λ (xs : List Entry). AreSender name xs s) (sym k.1) (off_sender name e s k.0)
   off_has s h false off = subst (λ (xs : List Entry). AreSender name xs s) (sym (away (is_mine_on socket) (sends_on link) called_off e q.entries off off found)) h
 
+  off_known : (s : Sender) → AreKnown name q.entries s → AreSound name q.entries → AreKnown name (changed_first (is_mine_on socket) called_off q.entries) s
+  off_known s k sound =
+      known_changed name (is_mine_on socket) called_off e q.entries s s (λ n out. (refl, refl)) (record { own = λ x. refl; foreign = λ x. refl })
+      (λ i. (let one : IsKnown (named name e) e s = known_found name (is_mine_on socket) e q.entries s i k found in record { size = one.size; closed = one.closed ∙ due_cls e.closing })) sound.apart k found
+
   pub closes_sent : (s : Sender) → HasSender name link q.entries s → AreKnown name q.entries s → AreSound name q.entries
       → Sent name link (closes name q.busy (changed_first (is_mine_on socket) called_off q.entries)) (closed_end socket q).entries s
   closes_sent s h k sound =
       settle_all name link q.busy (changed_first (is_mine_on socket) called_off q.entries) s (off_has s h (sends_on link e) refl)
-      (known_changed name (is_mine_on socket) called_off e q.entries s s (λ n out. (refl, refl)) (record { own = λ x. refl; foreign = λ x. refl })
-      (λ i. (let one : IsKnown (named name e) e s = known_found name (is_mine_on socket) e q.entries s i k found in record { size = one.size; closed = one.closed ∙ due_cls e.closing })) sound.apart k found)
+      (off_known s k sound)
       (apart_changed name (is_mine_on socket) called_off q.entries (λ x. refl) sound.apart)
 
   pub closes_sound : AreSound name q.entries → AreSound name (closed_end socket q).entries
   closes_sound sound =
       settled_sound name link q.busy (desk_of (with_end socket called_off q) [])
       (sound_changed name (is_mine_on socket) called_off e q.entries sound (λ x. refl) (off_formed e (formed_found (is_mine_on socket) e q.entries sound.formed found)) found)
+
+  -- and none is outstanding where it does
+  pub closes_box : (s : Sender) → HasSender name link q.entries s → AreKnown name q.entries s → AreSound name q.entries → KeepBox (is_busy q.busy link) (closes name q.busy (changed_first (is_mine_on socket) called_off q.entries)) s
+  closes_box s h k sound =
+      settled_box name q.busy link (changed_first (is_mine_on socket) called_off q.entries) s (off_has s h (sends_on link e) refl) (off_known s k sound) (apart_changed name (is_mine_on socket) called_off q.entries (λ x. refl) sound.apart)

@@ -30,7 +30,7 @@ use Rattle.host_streams.proofs.ReceiverHears.{own_name, own_parity}
 -- ---- an RTS begins an end, where the law has none
 
 pub begun_none : (c : ℕ) (o : Option ℕ) (s : Sender) → NoneOpen s → NoneOpen (senders.begins c o s)
-begun_none c None s n = λ k f. refl
+begun_none c None s n = λ k f o. absurd (cc)
 begun_none c (Some other) s n = n
 
 pub begun_size : (c : ℕ) (o : Option ℕ) (s : Sender) → (senders.begins c o s).size ≡ s.size
@@ -164,8 +164,8 @@ module _ (name : ℕ → ℕ → ℕ) (link : ℕ) where
     leaving_may e false one size = tt
 
     leaving_none : (e : Entry) (v : Bool) → IsKnown (named name e) e s → has_cls e.closing ≡ true → NoneOpen (all_sent (sent_open v (named name e)) (senders.begins (named name e) None s))
-    leaving_none e true one closed = λ n f. (let same : named name e ≡ n = some_is (named name e) n f in subst (λ (m : ℕ). not (s.closed m) ≡ false) same (ap not (one.closed ∙ closed)))
-    leaving_none e false one closed = λ n f. refl
+    leaving_none e true one closed = λ n f o. (let same : named name e ≡ n = some_is (named name e) n f in subst (λ (m : ℕ). s.closed m ≡ true) same (one.closed ∙ closed))
+    leaving_none e false one closed = λ n f o. absurd (cc)
 
     found_leaving : (e : Entry) → entry_at own foreign d.entries ≡ Some e → is_some e.partner ≡ false → (l == link) ≡ true → s.end ≡ None → e.partner_closed ≡ true
         → MayAllSend (senders.Hear (words.Rts (named name e)) ∷ sent_open (is_some e.asked) (named name e)) s

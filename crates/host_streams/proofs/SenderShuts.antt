@@ -1,5 +1,5 @@
 -- What the sender of a link does by a CLS of its peer.
-use Rattle.std.proofs.Common.{◌≡◌, ℕ, Bool, true, false, not, ◌&&◌, ◌==◌, if◌then◌else◌, List, [], ◌∷◌, ◌++◌, map, filter, Option, Some, None, refl, ap, sym, subst, ◌∙◌, inl, inr, eq-eqb}
+use Rattle.std.proofs.Common.{◌≡◌, ℕ, Bool, true, false, ◌==◌, if◌then◌else◌, List, [], ◌∷◌, ◌++◌, map, filter, Option, Some, None, refl, ap, sym, subst, ◌∙◌, inl, inr, eq-eqb}
 use Rattle.std.proofs.lemmas.Bool.{eqb-true, or_parts}
 use Rattle.leader1822.specs.Host.{Host}
 use Rattle.stream_law.specs.Words as words
@@ -8,20 +8,21 @@ use Rattle.stream_law.specs.Senders as senders
 use Rattle.stream_law.specs.Senders.{Sender}
 use Rattle.host_pairs.specs.Commands.{cls_taken_by}
 use Rattle.host_pairs.specs.Desk.{DeskState}
-use Rattle.host_pairs.specs.Entries.{changed_at, changed_first, close_due, closed_by_partner, entry_at, has_cls, is_at, is_over, is_receiving, sends_on}
+use Rattle.host_pairs.specs.Entries.{changed_at, changed_first, close_due, closed_by_partner, entry_at, has_cls, is_busy, is_at, is_over, is_receiving, sends_on}
 use Rattle.host_pairs.specs.declared.entry.Closing.{Closing}
 use Rattle.host_pairs.specs.declared.entry.Closing.TheVariants as closing
 use Rattle.host_pairs.specs.declared.entry.Entry.{Entry}
 use Rattle.host_streams.specs.Closings.{all_sent, MayAllSend}
 use Rattle.host_streams.specs.Ends.{IsSender, NoneOpen, AreSender, HasSender}
+use Rattle.host_streams.specs.Histories.{KeepBox}
 use Rattle.host_streams.specs.Moves.{closes, cls_sent, of_end}
 use Rattle.host_streams.specs.Names.{named, numbers, is_among, AreApart, IsKnown, AreKnown}
+use Rattle.host_streams.proofs.Boxes.{keep_both, settled_box}
 use Rattle.host_streams.proofs.Ending.{shut_one, stays}
 use Rattle.host_streams.proofs.Known.{Sent, known_changed, known_filter, known_found, then_sent}
 use Rattle.host_streams.proofs.Leaving.{heard_closed, heard_unclosed, still_swept}
 use Rattle.host_streams.proofs.Lists.{away, filter_both, not_sent, unlike}
 use Rattle.host_streams.proofs.Names.{apart_changed, apart_filter, others}
-use Rattle.host_streams.proofs.Opening.{and_no}
 use Rattle.host_streams.proofs.Senders.{own_sender}
 use Rattle.host_streams.proofs.Settling.{settle_all}
 use Rattle.host_streams.proofs.Sweeping.{closes_swept, swept_first}
@@ -69,17 +70,14 @@ heard_may c (Some own) s = by (own == c) refl where
   by false t = rw t tt
 
 none_ended : (s : Sender) → NoneOpen (record s { end = None })
-none_ended s = λ k f. absurd (cc)
-
-none_shut : (s : Sender) → NoneOpen (record s { shut = true })
-none_shut s = λ k f. ap (λ (v : Bool). v && not (s.closed k)) (and_no s.opened)
+none_ended s = λ k f o. absurd (cc)
 
 heard_none : (c : ℕ) (s : Sender) → NoneOpen s → (o : Option ℕ) → s.end ≡ o → NoneOpen (all_sent (heard c o) s)
 heard_none c s none None e = none
 heard_none c s none (Some own) e = by (own == c) (s.closed c) refl refl where
   by : (u v : Bool) → (own == c) ≡ u → s.closed c ≡ v → NoneOpen (all_sent (heard c (Some own)) s)
   by true true t f = rw t (subst NoneOpen (sym (heard_closed c s (e ∙ ap (λ (n : ℕ). Some n) (eqb-true own c t)) f)) (none_ended s))
-  by true false t f = rw t (subst NoneOpen (sym (heard_unclosed c s (e ∙ ap (λ (n : ℕ). Some n) (eqb-true own c t)) f)) (none_shut s))
+  by true false t f = rw t (subst NoneOpen (sym (heard_unclosed c s (e ∙ ap (λ (n : ℕ). Some n) (eqb-true own c t)) f)) none)
   by false v t f = rw t none
 
 heard_apart : (name : ℕ → ℕ → ℕ) (c : ℕ) (xs : List Entry) (s : Sender) → is_among c (numbers name xs) ≡ false → AreSender name xs s → AreSender name xs (all_sent (heard c s.end) s)
@@ -176,6 +174,36 @@ module _ (name : ℕ → ℕ → ℕ) (link : ℕ) where
           then_sent name link (heard (named name e) s.end) (closes name busy (changed_at own foreign closed_by_partner d.entries)) (filter stays (map (shut_one busy) (changed_first (is_at own foreign) closed_by_partner d.entries))) s
           (heard_may (named name e) s.end s)
           (then_settled (all_sent (heard (named name e) s.end) s) (shut_has (sends_on link e) refl i) (shut_known (all_sent (heard (named name e) s.end) s) (heard_size (named name e) s.end s) (heard_closes (named name e) s.end s)))
+
+    heard_box : (out : Bool) (c : ℕ) (o : Option ℕ) → KeepBox out (heard c o) s
+    heard_box out c None = tt
+    heard_box out c (Some n) = by (n == c) where
+      by : (u : Bool) → KeepBox out (if u then senders.Hear (words.Cls c) ∷ [] else []) s
+      by true = (tt, tt)
+      by false = tt
+
+    then_box : (t : Sender) → HasSender name link (filter stays (changed_first (is_at own foreign) closed_by_partner d.entries)) t → AreKnown name (filter stays (changed_first (is_at own foreign) closed_by_partner d.entries)) t
+        → KeepBox (is_busy busy link) (closes name busy (changed_first (is_at own foreign) closed_by_partner d.entries)) t
+    then_box t g j =
+        subst (λ (ms : List senders.Move). KeepBox (is_busy busy link) ms t) (sym (closes_swept name busy (changed_first (is_at own foreign) closed_by_partner d.entries)))
+        (settled_box name busy link (filter stays (changed_first (is_at own foreign) closed_by_partner d.entries)) t g j shut_apart)
+
+    -- none is outstanding where it closes
+    pub first_box : KeepBox (is_busy busy link) ((if is_receiving e then [] else heard (named name e) s.end) ++ closes name busy (changed_at own foreign closed_by_partner d.entries)) s
+    first_box = by (is_receiving e) refl where
+      by : (v : Bool) → is_receiving e ≡ v → KeepBox (is_busy busy link) ((if v then [] else heard (named name e) s.end) ++ closes name busy (changed_at own foreign closed_by_partner d.entries)) s
+      by true i = then_box s (shut_off s (not_sent link e i) h) (shut_known s refl refl)
+      by false i =
+          keep_both (is_busy busy link) (heard (named name e) s.end) (closes name busy (changed_at own foreign closed_by_partner d.entries)) s (heard_box (is_busy busy link) (named name e) s.end)
+          (then_box (all_sent (heard (named name e) s.end) s) (shut_has (sends_on link e) refl i) (shut_known (all_sent (heard (named name e) s.end) s) (heard_size (named name e) s.end s) (heard_closes (named name e) s.end s)))
+
+  pub cls_box : (peer : Host) (busy : List ℕ) (own foreign : ℕ) (d : DeskState) (s : Sender) → HasSender name link d.entries s → AreKnown name d.entries s → AreApart (numbers name d.entries) → (o : Option Entry) → entry_at own foreign d.entries ≡ o
+      → KeepBox (is_busy busy link) (cls_sent name busy own foreign d.entries s o) s
+  cls_box peer busy own foreign d s h k a None found = tt
+  cls_box peer busy own foreign d s h k a (Some e) found = by e.partner_closed refl where
+    by : (v : Bool) → e.partner_closed ≡ v → KeepBox (is_busy busy link) (cls_sent name busy own foreign d.entries s (Some e)) s
+    by true t = rw t tt
+    by false t = rw t (first_box peer busy own foreign d s h k a e found t)
 
   pub cls_hears : (peer : Host) (busy : List ℕ) (own foreign : ℕ) (d : DeskState) (s : Sender) → HasSender name link d.entries s → AreKnown name d.entries s → AreApart (numbers name d.entries) → (o : Option Entry) → entry_at own foreign d.entries ≡ o
       → Sent name link (cls_sent name busy own foreign d.entries s o) (cls_taken_by peer busy own foreign o d).entries s

@@ -52,6 +52,13 @@ closed_shut e closed = ap (λ (v : Bool). is_some e.asked && is_some e.partner &
 pub leaving_shut : (e : Entry) (s : Sender) → IsLeaving e s → is_open e ≡ false
 leaving_shut e s n = closed_shut e n.closed
 
+-- an end that didn't open, or has closed, isn't open
+unopened : (s : Sender) → NoneOpen s → (c : ℕ) → s.end ≡ Some c → senders.is_open c s ≡ false
+unopened s n c e = by s.opened refl where
+  by : (v : Bool) → s.opened ≡ v → senders.is_open c s ≡ false
+  by true t = ap (λ (v : Bool). s.opened && not s.shut && not v) (n c e t) ∙ and_no (s.opened && not s.shut)
+  by false t = ap (λ (v : Bool). v && not s.shut && not (s.closed c)) t
+
 -- what holds of the work that is done at the open end of a link, and of the law's move there
 pub at_link : (name : ℕ → ℕ → ℕ) (link : ℕ) (es : List Entry) (s : Sender) (P : Found → Sender → Type 0) (work : Option ℕ → Sender) → P Unconnected s → P Ending s → work None ≡ s
     → ((c : ℕ) → senders.is_open c s ≡ false → work (Some c) ≡ s)
@@ -65,7 +72,7 @@ at_link name link es s P work none ending idle shut opened h = by (filter (sends
   same n = kept s.end refl where
     kept : (o : Option ℕ) → s.end ≡ o → work s.end ≡ s
     kept None e = (ap work e ∙ idle)
-    kept (Some c) e = (ap work e ∙ shut c (n c e))
+    kept (Some c) e = (ap work e ∙ shut c (unopened s n c e))
 
   one : (x : Entry) → filter (sends_on link) es ≡ x ∷ [] → IsSender (name x.own x.foreign) x s → (v : Bool) → is_open x ≡ v → at (Some x)
   one x e i true o =
@@ -165,7 +172,7 @@ module _ (name : ℕ → ℕ → ℕ) (link : ℕ) where
     none_said k = of s.end refl where
       of : (o : Option ℕ) → s.end ≡ o → returned_in (senders.returns m n s.end s) ≡ []
       of None e = ap (λ (o : Option ℕ). returned_in (senders.returns m n o s)) e
-      of (Some c) e = ap (λ (o : Option ℕ). returned_in (senders.returns m n o s)) e ∙ silent c (k c e)
+      of (Some c) e = ap (λ (o : Option ℕ). returned_in (senders.returns m n o s)) e ∙ silent c (unopened s k c e)
 
     quiet : returned_in (senders.returns m n s.end s) ≡ [] → (returned_on link d.queue ≡ returned_on link d.queue ++ returned_in (senders.returns m n s.end s))
     quiet e = sym (ap (λ (l : List (ℕ × ℕ)). returned_on link d.queue ++ l) e ∙ append-nil (returned_on link d.queue))

@@ -1,7 +1,6 @@
 -- The ends of a host's program on one link, as the law of streams has them (NIC 8246, ALL, GVB and RET).
 use Rattle.std.specs.Prelude.{◌≡◌, ◌⊎◌, ℕ, Bool, true, false, ◌&&◌, List, [], ◌∷◌, filter, Some, None, is_some}
 use Rattle.stream_law.specs.Receivers.{Receiver}
-use Rattle.stream_law.specs.Senders as senders
 use Rattle.stream_law.specs.Senders.{Sender}
 use Rattle.host_pairs.specs.Entries.{has_cls, is_due, is_over, receives_on, sends_on}
 use Rattle.host_pairs.specs.declared.entry.Entry.{Entry}
@@ -31,9 +30,9 @@ pub record IsSender (c : ℕ) (e : Entry) (s : Sender) : Type 0 where
   pub allocation : s.allocation ≡ e.allocation
   pub live : is_over e ≡ false
 
--- the law's sender has no open end: the end of a request that was refused, or none
+-- the law's sender has no end, or one that didn't open or has closed, as that of a request which was refused
 abbrev pub NoneOpen : Sender → Type 0
-NoneOpen s = (c : ℕ) → s.end ≡ Some c → senders.is_open c s ≡ false
+NoneOpen s = (c : ℕ) → s.end ≡ Some c → s.opened ≡ true → s.closed c ≡ true
 
 -- the partner's CLS was taken and the own one waits to go out: the law's end is gone before
 pub record IsLeaving (e : Entry) (s : Sender) : Type 0 where

@@ -14,7 +14,7 @@ use Rattle.host_pairs.specs.Asked.{closed_end, passes, receiver_requested, reque
 use Rattle.host_pairs.specs.Commands.{asked_with_size, granted, taken}
 use Rattle.host_pairs.specs.Data.{data_taken}
 use Rattle.host_pairs.specs.Desk.{desk_of, settled}
-use Rattle.host_pairs.specs.Entries.{called_off, entry_at, free_link, is_mine_on, is_open, receiving_end, sending_end, was_closed}
+use Rattle.host_pairs.specs.Entries.{called_off, entry_at, free_link, is_busy, is_mine_on, is_open, receiving_end, sending_end, was_closed}
 use Rattle.host_pairs.specs.Pair.{PairState, opening_pair}
 use Rattle.host_pairs.specs.Parcels.{Bytes, asked_at, command_gone, next_of, parcel_gone}
 use Rattle.host_pairs.specs.Turn.{freed}
@@ -162,6 +162,28 @@ abbrev pub MaySendAll : (ℕ → ℕ → ℕ → ℕ) → Host → ℕ → List 
 MaySendAll number peer link [] = Unit {0}
 MaySendAll number peer link (m ∷ moments) =
     MayAllSend (sent_at (name_now number peer moments) link m.call m.pair m.listening (sender_now number peer link moments)) (sender_now number peer link moments) × MaySendAll number peer link moments
+
+-- ---- one message at a time
+
+-- a message goes out where none is outstanding on the link, and an end that has opened closes where none is
+abbrev pub KeepsBox : Bool → senders.Move → Sender → Type 0
+KeepsBox outstanding (senders.Send c size bits) s = outstanding ≡ false
+KeepsBox outstanding (senders.Close c) s = s.end ≡ Some c → s.opened ≡ true → outstanding ≡ false
+KeepsBox outstanding m s = Unit {0}
+
+abbrev pub KeepBox : Bool → List senders.Move → Sender → Type 0
+KeepBox outstanding [] s = Unit {0}
+KeepBox outstanding (m ∷ moves) s = KeepsBox outstanding m s × KeepBox outstanding moves (senders.moved m s)
+
+-- whether a message is outstanding on a link, where an answer has come before what it leads to
+abbrev pub is_out : ℕ → Call → PairState → Bool
+is_out link (Answered l) q = is_busy (freed l q).busy link
+is_out link c q = is_busy q.busy link
+
+abbrev pub KeepBoxAll : (ℕ → ℕ → ℕ → ℕ) → Host → ℕ → List Moment → Type 0
+KeepBoxAll number peer link [] = Unit {0}
+KeepBoxAll number peer link (m ∷ moments) =
+    KeepBox (is_out link m.call m.pair) (sent_at (name_now number peer moments) link m.call m.pair m.listening (sender_now number peer link moments)) (sender_now number peer link moments) × KeepBoxAll number peer link moments
 
 -- ---- such a number
 

@@ -4,10 +4,11 @@
 ghost use Rattle.std.specs.Prelude.{◌≡◌, ℕ, Bool, true, false, List, [], ◌∷◌, Some, None};
 ghost use Rattle.leader1822.specs.Host.{Host};
 ghost use Rattle.ncp_control.specs.declared.command.Command.TheVariants as command;
+ghost use Rattle.stream_law.specs.Senders as senders;
 ghost use Rattle.host_pairs.specs.Entries.{sending_end};
 ghost use Rattle.host_streams.specs.Ends.{HasReceiver};
 ghost use Rattle.host_streams.specs.Formed.{AreSound};
-ghost use Rattle.host_streams.specs.Histories.{Closes, IsHistory, IsTelling, AreAllowed, MayReceiveAll, MaySendAll, Moment, OpensReceiver, OpensSender, Says, closing_moments, ends_now, gone_now, moment, name_now, numbered, numbered_by_gone, numbered_by_own, opening_moments, receiver_now, sender_now, waiting};
+ghost use Rattle.host_streams.specs.Histories.{Closes, IsHistory, IsTelling, KeepBox, KeepBoxAll, AreAllowed, MayReceiveAll, MaySendAll, Moment, OpensReceiver, OpensSender, Says, closing_moments, ends_now, gone_now, moment, name_now, numbered, numbered_by_gone, numbered_by_own, opening_moments, receiver_now, sender_now, waiting};
 ghost use Rattle.host_streams.specs.Names.{IsSending};
 
 /// Whatever happens to the ends of a host with one peer while the two stay together, call after call, from where there were none. What is
@@ -16,6 +17,9 @@ pub fn histories()
     // all that the law's receiver of a link does by it the law lets it do, and so with the sender
     ensures received { (number : ℕ → ℕ → ℕ → ℕ) (peer : Host) (link : ℕ) (moments : List Moment) → IsTelling number → IsHistory peer moments → AreAllowed number peer link moments → MayReceiveAll number peer link moments }
     ensures sent { (number : ℕ → ℕ → ℕ → ℕ) (peer : Host) (link : ℕ) (moments : List Moment) → IsTelling number → IsHistory peer moments → AreAllowed number peer link moments → MaySendAll number peer link moments }
+
+    // one message at a time goes out on the link, and none is outstanding where an end that has opened closes
+    ensures one_message { (number : ℕ → ℕ → ℕ → ℕ) (peer : Host) (link : ℕ) (moments : List Moment) → IsTelling number → IsHistory peer moments → AreAllowed number peer link moments → KeepBoxAll number peer link moments }
 
     // and the program's ends are the law's after it
     ensures receiver { (number : ℕ → ℕ → ℕ → ℕ) (peer : Host) (link : ℕ) (moments : List Moment) → IsTelling number → IsHistory peer moments → AreAllowed number peer link moments → HasReceiver (name_now number peer moments) link (ends_now peer moments) (receiver_now number peer link moments) }
@@ -59,5 +63,10 @@ pub fn worked_histories()
     // a sending end tells its byte size on each link, and closes at once where nothing was sent
     ensures sends { (peer : Host) → MaySendAll numbered_by_own peer 5 (moment (Closes 33 (sending_end 33 16 8)) (sending_end 33 16 8 ∷ []) ∷ moment (OpensSender 33 16 8) [] ∷ []) }
     ensures closed { (peer : Host) → (sender_now numbered_by_own peer 5 (moment (Closes 33 (sending_end 33 16 8)) (sending_end 33 16 8 ∷ []) ∷ moment (OpensSender 33 16 8) [] ∷ [])).closed 33 ≡ true }
+    // a message goes out where none is outstanding, and an end that has opened closes where none is; one that hasn't opened may close at any time
+    ensures sends_free { (KeepBox false (senders.Send 33 8 [] ∷ []) senders.opening) × (KeepBox true (senders.Send 33 8 [] ∷ []) senders.opening → ⊥) }
+    ensures closes_free { KeepBox true (senders.Close 33 ∷ []) (record senders.opening { end = Some 33; opened = true }) → ⊥ }
+    ensures closes_other { KeepBox true (senders.Close 35 ∷ []) (record senders.opening { end = Some 33; opened = true }) }
+    ensures closes_unopened { KeepBox true (senders.Close 33 ∷ []) senders.opening }
     ensures told { (peer : Host) → (sender_now numbered_by_own peer 5 (moment (OpensSender 33 16 8) [] ∷ [])).size 33 ≡ Some 8 }
 {}

@@ -1,5 +1,5 @@
 use Rattle.host_streams.specs.Histories.{ends_now, gone_now, receiver_now, sender_now}
-use Rattle.host_streams.proofs.Chain.{Holds, all_may_receive, all_may_send, holds_now, numbered_tells}
+use Rattle.host_streams.proofs.Chain.{Holds, all_keep_box, all_may_receive, all_may_send, holds_now, numbered_tells}
 use Rattle.host_streams.proofs.histories.histories.Goals as goal
 
 pub returns-clause-received : goal.returns-clause-received
@@ -25,3 +25,6 @@ returns-clause-sound c number peer link moments tells chain allowed =
 
 pub returns-clause-telling : goal.returns-clause-telling
 returns-clause-telling c = numbered_tells
+
+pub returns-clause-one_message : goal.returns-clause-one_message
+returns-clause-one_message c number peer link moments tells chain allowed = all_keep_box number tells peer link moments chain allowed
