@@ -18,6 +18,7 @@ use std::alloc::{AllocError, Global};
 use std::io::Write;
 use subnet::Subnet;
 use topology::{CarrierKind, Ends, Topology};
+use world_pairing::book_of;
 use world_replay::print_lives;
 use world_script::WorldEvent;
 
@@ -122,7 +123,7 @@ fn write_book<C: Carrier, W: Write>(
     ensures written { OnOk result (Appends (W.contents writer.old) (W.contents writer.new) (book_text book world.now.kept.book.lives ++ codes "end\n")) }
     ensures fault { IfErr result (λ f. f ≡ ScriptFault.CannotWrite) }
 {
-    if book && print_lives(world.book().lives(), writer).is_err() {
+    if book && print_lives(book_of(world).lives(), writer).is_err() {
         return Err(ScriptFault::CannotWrite);
     }
     write_last(writer, b"end\n")
