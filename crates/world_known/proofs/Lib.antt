@@ -3,3 +3,4 @@ pub mod Known
 pub mod Users
 pub mod Going
 pub mod Matches
+pub mod Paired

@@ -6,4 +6,5 @@
 //! There is no code: the laws are the contracts of functions that do nothing.
 #![tactic(auto)]
 
+pub mod connections;
 pub mod law;
