@@ -187,6 +187,7 @@ pub fn worked_commands()
     // a CLS is heard where the law's end is of its connection, and the end closes on each link when all that it sent is answered
     ensures heard { sent_by (λ own foreign. own) 5 0 [] (command.Cls 16 33) (desk (asked_on_link 7 5 (sending_end 33 16 8) ∷ []) []) (record senders.opening { end = Some 33 }) ≡ senders.Hear (Cls 33) ∷ senders.Close 33 ∷ [] }
     ensures heard_elsewhere { sent_by (λ own foreign. own) 7 0 [] (command.Cls 16 33) (desk (asked_on_link 7 5 (sending_end 33 16 8) ∷ []) []) senders.opening ≡ senders.Close 33 ∷ [] }
+    ensures heard_other { sent_by (λ own foreign. own) 7 0 [] (command.Cls 16 33) (desk (asked_on_link 7 5 (sending_end 33 16 8) ∷ []) []) (record senders.opening { end = Some 35 }) ≡ senders.Close 33 ∷ [] }
     ensures outstanding { sent_by (λ own foreign. own) 5 0 (5 ∷ []) (command.Cls 16 33) (desk (asked_on_link 7 5 (sending_end 33 16 8) ∷ []) []) (record senders.opening { end = Some 33 }) ≡ senders.Hear (Cls 33) ∷ [] }
     ensures heard_again { sent_by (λ own foreign. own) 5 0 [] (command.Cls 16 33) (desk (record (asked_on_link 7 5 (sending_end 33 16 8)) { partner_closed = true; closing = closing.Queued } ∷ []) []) (record senders.opening { end = Some 33 }) ≡ [] }
 
