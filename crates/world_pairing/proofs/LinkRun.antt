@@ -38,7 +38,7 @@ said_off a b x y l Reset e = refl
 said_off a b x y l Reply e = refl
 said_off a b x y l (Other text) e = rw e refl
 
-heard_off_in : (a b x y : Host) (l : ℕ) (m : Message) → are b a x y ≡ false → stay.heard_by b a 0 (In x y l m) ≡ []
+pub heard_off_in : (a b x y : Host) (l : ℕ) (m : Message) → are b a x y ≡ false → stay.heard_by b a 0 (In x y l m) ≡ []
 heard_off_in a b x y l Reset e = refl
 heard_off_in a b x y l Reply e = refl
 heard_off_in a b x y l (Other text) e = rw e refl

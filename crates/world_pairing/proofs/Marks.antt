@@ -31,7 +31,7 @@ abbrev pub foreign_of : Who → Sockets → ℕ
 foreign_of Receiver s = s.send
 foreign_of Sender s = s.receive
 
-and_turned : (s t : Bool) → (s && t) ≡ (t && s)
+pub and_turned : (s t : Bool) → (s && t) ≡ (t && s)
 and_turned true true = refl
 and_turned true false = refl
 and_turned false true = refl

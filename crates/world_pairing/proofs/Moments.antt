@@ -213,7 +213,7 @@ module _ (s : Sockets) (is_pair : IsPair s) (who : Who) (h p : Host) (origin : �
   off true false k = refl
   off false b k = refl
 
-  swap_off : (a b : Bool) → ((a ≡ false) ⊎ (b ≡ false)) → (b && a) ≡ false
+  pub swap_off : (a b : Bool) → ((a ≡ false) ⊎ (b ≡ false)) → (b && a) ≡ false
   swap_off a b (inl e) = off b a (inr e)
   swap_off a b (inr e) = off b a (inl e)
 

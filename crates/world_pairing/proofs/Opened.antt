@@ -1,5 +1,5 @@
 -- Each moment tells of no openings at two sockets but those that the law says.
-use Rattle.std.proofs.Common.{◌≡◌, ◌⊎◌, inl, inr, ℕ, Bool, true, false, ◌&&◌, if◌then◌else◌, List, [], ◌∷◌, refl, ap, sym, subst, ◌∙◌}
+use Rattle.std.proofs.Common.{◌≡◌, ◌⊎◌, inl, inr, ℕ, Bool, true, false, if◌then◌else◌, List, [], ◌∷◌, refl, ap, sym, subst, ◌∙◌}
 use Rattle.leader1822.specs.Host.{Host, same_host}
 use Rattle.leader1822.specs.declared.address.Flow.{Flow}
 use Rattle.leader1822.specs.declared.crossing.Answer.{Answer}
@@ -22,7 +22,7 @@ use Rattle.pairing_law.specs.Places.{placed_event, with_box}
 use Rattle.pairing_law.specs.Sides.{Life, Side, hears, lives_taken, says}
 use Rattle.pairing_law.specs.Links.{Sockets, Who}
 use Rattle.reset_law.specs.Boxes.{boxes}
-use Rattle.reset_law.specs.Events.{Event, Message, Reset, Reply, Other, In, are, place}
+use Rattle.reset_law.specs.Events.{Event, place}
 use Rattle.reset_law.specs.Pairs.{pair}
 use Rattle.reset_law.specs.Stays as stay
 use Rattle.net_sim.specs.Projection.{event_of, message_on}
@@ -34,8 +34,9 @@ use Rattle.world_pairing.specs.Free.{law_events}
 use Rattle.world_pairing.specs.Lives.{with_lives}
 use Rattle.world_pairing.specs.Steps.{keeps}
 use Rattle.world_pairing.proofs.Books.{about_none, about_other, about_peer, all_of_peer, asked_none, kept_step}
+use Rattle.world_pairing.proofs.LinkRun.{heard_off_in}
 use Rattle.world_pairing.proofs.Marks.{IsPair, foreign_of, own_of}
-use Rattle.world_pairing.proofs.Moments.{Side_of, Tie, place_is, said_out}
+use Rattle.world_pairing.proofs.Moments.{Side_of, Tie, place_is, said_out, swap_off}
 use Rattle.world_pairing.proofs.Programs.{Has, goes_marks, read_marks}
 use Rattle.world_pairing.proofs.Sides.{all_hears, all_says, at_texts, before, hears_if, left_if, met_if}
 use Rattle.world_pairing.proofs.Turns.{other, said_is, when_all}
@@ -195,22 +196,11 @@ module _ (s : Sockets) (is_pair : IsPair s) (who : Who) (h p : Host) (origin : �
 
   -- ---- what comes in of others, or for others
 
-  heard_away : (x y : Host) (l : ℕ) (m : Message) → are p h x y ≡ false → stay.heard_by p h 0 (In x y l m) ≡ []
-  heard_away x y l Reset f = refl
-  heard_away x y l Reply f = refl
-  heard_away x y l (Other text) f = rw f refl
-
-  off : (a b : Bool) → ((a ≡ false) ⊎ (b ≡ false)) → (b && a) ≡ false
-  off true true (inl e) = e
-  off true true (inr e) = e
-  off false true k = refl
-  off a false k = refl
-
   pub in_away_among : (m : HostMessage) (moments : List Moment) → ((same_host h m.flow.destination ≡ false) ⊎ (same_host p m.flow.source ≡ false)) → Among moments → Among (Crossed (crossing.In m) ∷ moments)
   in_away_among m moments away k =
       quiet_among (Crossed (crossing.In m)) moments refl
-      (heard_away m.flow.source m.flow.destination m.flow.link.0 (with_box (boxes m.flow.source m.flow.destination (events_of moments) m.flow.link.0) (message_on m.flow.link.0 m.text))
-      (off (same_host h m.flow.destination) (same_host p m.flow.source) away))
+      (heard_off_in h p m.flow.source m.flow.destination m.flow.link.0 (with_box (boxes m.flow.source m.flow.destination (events_of moments) m.flow.link.0) (message_on m.flow.link.0 m.text))
+      (swap_off s is_pair who h p origin (same_host h m.flow.destination) (same_host p m.flow.source) away))
       (λ here. elim away [
         | inl not_here ↦ absurd (let both : true ≡ false = sym here ∙ not_here in cc)
         | inr not_there ↦

@@ -18,20 +18,15 @@ use Rattle.host_ranges.proofs.Orders.{text_good}
 use Rattle.host_pairing.specs.Words.{MayAllGo, mark_in, marks_in}
 use Rattle.pairing_law.specs.Ends.{nothing}
 use Rattle.pairing_law.specs.Marks.{Mark, Ask, Close}
+use Rattle.world_pairing.proofs.Marks.{and_turned}
 use Rattle.world_pairing.proofs.Programs.{read_marks}
 
 -- neither a receiving socket with a sending one, nor the other way
 abbrev pub IsUnpaired : ℕ → ℕ → Type 0
 IsUnpaired own foreign = ((is_receive_socket own && is_send_socket foreign) ≡ false) × ((is_send_socket own && is_receive_socket foreign) ≡ false)
 
-and_swap : (s t : Bool) → (s && t) ≡ (t && s)
-and_swap true true = refl
-and_swap true false = refl
-and_swap false true = refl
-and_swap false false = refl
-
 pub unpaired_turned : (own foreign : ℕ) → IsUnpaired own foreign → IsUnpaired foreign own
-unpaired_turned own foreign u = (and_swap (is_receive_socket foreign) (is_send_socket own) ∙ u.1, and_swap (is_send_socket foreign) (is_receive_socket own) ∙ u.0)
+unpaired_turned own foreign u = (and_turned (is_receive_socket foreign) (is_send_socket own) ∙ u.1, and_turned (is_send_socket foreign) (is_receive_socket own) ∙ u.0)
 
 -- ---- what orders say of them
 

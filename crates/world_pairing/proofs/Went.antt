@@ -20,7 +20,7 @@ use Rattle.net_sim.specs.Safe.{last_out}
 use Rattle.net_sim.specs.Story.{Moment, Crossed, Asked, event_in, events_of}
 use Rattle.net_sim.specs.Timeline.{crossings_of}
 use Rattle.net_sim.proofs.Bridge.{by_request, place_same}
-use Rattle.world_pairing.specs.Free.{law_events}
+use Rattle.world_pairing.specs.Free.{law_events, place_or}
 use Rattle.world_pairing.specs.Steps.{keeps}
 use Rattle.world_pairing.proofs.Marks.{AllAt, IsPair, foreign_of, own_of}
 use Rattle.world_pairing.proofs.Moments.{Side_of}
@@ -74,16 +74,11 @@ pub before_went : (a b : Host) (n stamp : ℕ) (log : List Crossing) → Went a 
 before_went a b n stamp log w = drop_went a b n (length log - stamp) log w
 
 -- the last message of a flow went out
-or_zero : Option ℕ → ℕ
-or_zero None = 0
-or_zero (Some n) = n
-
 last_by : (f : Flow) (m : HostMessage) (n : ℕ) (log : List Crossing) (b : Bool) → same_flow f m.flow ≡ b → (last_out f log ≡ Some n → Went f.source f.destination n log) → (if b then Some (length log) else last_out f log) ≡ Some n
     → Went f.source f.destination n (crossing.Out m ∷ log)
-unfolding or_zero
 last_by f m n log true e rest is =
     let same : f ≡ m.flow = same_flow-true f m.flow e in
-    inl (sym (ap or_zero is), ap (λ (g : Flow). g.source) same, ap (λ (g : Flow). g.destination) same)
+    inl (sym (ap (place_or 0) is), ap (λ (g : Flow). g.source) same, ap (λ (g : Flow). g.destination) same)
 last_by f m n log false e rest is = inr (rest is)
 
 pub last_went : (f : Flow) (n : ℕ) (log : List Crossing) → last_out f log ≡ Some n → Went f.source f.destination n log
