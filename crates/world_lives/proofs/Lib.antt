@@ -10,3 +10,4 @@ pub mod Owners
 pub mod Asks
 pub mod Moments
 pub mod Laws
+pub mod Rows

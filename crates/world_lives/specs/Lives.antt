@@ -1,5 +1,5 @@
 -- The lives of a host in the book, and the ends of its program that they are lives of (NIC 8246, connections and ALL).
-use Rattle.std.specs.Prelude.{◌≡◌, ℕ, ◌+◌, ◌==◌, ◌&&◌, Bool, true, false, List, [], ◌∷◌, ◌++◌, filter, length, Some, is_some}
+use Rattle.std.specs.Prelude.{◌≡◌, ℕ, ◌+◌, ◌==◌, ◌&&◌, Bool, true, false, List, [], ◌∷◌, ◌++◌, filter, length, Some}
 use Rattle.leader1822.specs.Host.{Host, same_host}
 use Rattle.ncp_control.specs.Allocation as counters
 use Rattle.host_pairs.specs.Entries.{has_cls, is_mine_on, is_open}
@@ -7,6 +7,7 @@ use Rattle.host_pairs.specs.Phases.{is_ready}
 use Rattle.host_pairs.specs.Desk.{listens_on}
 use Rattle.host_pairs.specs.declared.entry.Entry.{Entry}
 use Rattle.sockets.specs.Pairs.{NcpState, pair_with}
+pub use Rattle.host_streams.specs.Ends.{has_opened}
 use Rattle.net_sim.specs.Book.{Kept}
 use Rattle.net_sim.specs.declared.life.Life.{Life}
 use Rattle.net_sim.specs.Safe.{IsFront, IsGranted, receives, sends}
@@ -17,11 +18,7 @@ use Rattle.net_sim.specs.Safe.{IsFront, IsGranted, receives, sends}
 abbrev pub mine_on : ℕ → List Entry → List Entry
 mine_on socket entries = filter (is_mine_on socket) entries
 
--- its own request has gone out and the partner's was taken
-abbrev pub has_opened : Entry → Bool
-has_opened e = is_some e.asked && is_some e.partner
-
--- until then nothing was granted on it, and nothing handed over
+-- until both requests have passed nothing was granted on an end, and nothing handed over
 abbrev pub IsFresh : Entry → Type 0
 IsFresh e = has_opened e ≡ false → (e.bits ≡ []) × (e.allocation ≡ counters.nothing)
 
