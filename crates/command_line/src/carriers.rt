@@ -11,6 +11,7 @@ ghost use Rattle.command_line.specs.Steps.{IsReplayFault};
 
 use crate::fault::ScriptFault;
 use crate::input::Events;
+use headline::book_of;
 use leader1822::{Carrier, PlainBoxes};
 use net_sim::World;
 use script::Event;
@@ -18,7 +19,6 @@ use std::alloc::{AllocError, Global};
 use std::io::Write;
 use subnet::Subnet;
 use topology::{CarrierKind, Ends, Topology};
-use world_pairing::book_of;
 use world_replay::print_lives;
 use world_script::WorldEvent;
 

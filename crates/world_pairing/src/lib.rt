@@ -9,6 +9,3 @@
 #![tactic(auto)]
 
 pub mod law;
-mod promise;
-
-pub use promise::book_of;
