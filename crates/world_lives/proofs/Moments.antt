@@ -22,8 +22,10 @@ use Rattle.net_sim.specs.Story.{Asked, Crossed, Moment, places, program}
 use Rattle.net_sim.specs.Timeline.{IsTimeline, crossings_of}
 use Rattle.net_sim.specs.Told.{kept_in}
 use Rattle.net_sim.proofs.Coupled.{Coupled, coupled}
-use Rattle.world_pairing.specs.Free.{AreServed, origin_in}
+use Rattle.world_pairing.specs.Free.{origin_in}
 use Rattle.world_pairing.proofs.LinkRun.{AllTied, all_tied}
+use Rattle.world_pairing.proofs.Origins.{are_origins}
+use Rattle.world_pairing.proofs.Served.{served_in}
 use Rattle.world_pairing.proofs.Tied.{programs_ranged}
 use Rattle.world_lives.specs.Lives.{EachIn, IsLifeOf, NoneOf, at_socket}
 use Rattle.world_lives.proofs.Books.{all_away, away_at, each_apart, each_ended, each_ending, each_handed}
@@ -33,11 +35,6 @@ use Rattle.world_lives.proofs.Asks.{holds_same, request_holds}
 
 -- ---- what is known of all moments
 
-pub served_of : (hosts : List Host) (moments : List Moment) → IsTimeline hosts moments → AreServed moments
-served_of hosts [] t = tt
-served_of hosts (Crossed c ∷ moments) t = served_of hosts moments t.1
-served_of hosts (Asked h r ∷ moments) t = (t.0.2, t.0.3, served_of hosts moments t.1)
-
 has_ends : (hosts : List Host) (moments : List Moment) → HaveAddresses hosts → mail.IsRun hosts (crossings_of moments) → IsTimeline hosts moments → (a p : Host) → HasEnds (origin_in (crossings_of moments) a p) (pair_with p (program a moments).peers)
 has_ends hosts moments addresses run time a p own foreign two = elim two [
   | inl r ↦ (_, ((tied hosts moments addresses run time).tied a p).receiver (record { receive = own; send = foreign }) (r.0, r.1))
@@ -46,7 +43,7 @@ has_ends hosts moments addresses run time a p own foreign two = elim two [
   tied : (hosts : List Host) (moments : List Moment) → HaveAddresses hosts → mail.IsRun hosts (crossings_of moments) → IsTimeline hosts moments → AllTied (origin_in (crossings_of moments)) moments
   tied hosts moments addresses run time =
       let c : Coupled hosts moments = coupled hosts addresses moments run time in
-      all_tied hosts (crossings_of moments) [] moments refl c.story c.run (served_of hosts moments time)
+      all_tied hosts (origin_in (crossings_of moments)) moments (are_origins 0 (crossings_of moments) [] moments refl) c.story c.run (served_in hosts moments time)
 
 -- a host that isn't up has a program that does nothing
 idle_if : (a h : Host) (up : Bool) (s new : NcpState) → up ≡ false → (same_host a h ≡ true → up ≡ true) → s ≡ opening_state a → (if same_host a h then new else s) ≡ opening_state a
@@ -140,7 +137,7 @@ module _ (a : Host) (k : ℕ) where
       let old : Holds a k (program a moments) (kept_in moments) = held hosts addresses moments run.1 time.1 in
       acts m.flow.source (λ h. (offered (program h moments) (places moments)).1) (program a moments) (offered (program a moments) (places moments)).0 (kept_in moments) (λ h. crossed (crossing.Out m) (kept_in moments))
       (λ e. offer_holds a k (program a moments) (places moments) (crossed (crossing.Out m) (kept_in moments)) ((coupled hosts addresses moments run.1 time.1).order a)
-      (λ p. (pair_range p (program a moments).peers (programs_ranged moments (served_of hosts moments time.1) a).pairs).commands)
+      (λ p. (pair_range p (program a moments).peers (programs_ranged moments (served_in hosts moments time.1) a).pairs).commands)
       (λ p. (origin_in (crossings_of moments) a p, has_ends hosts moments addresses run.1 time.1 a p))
       (crossed_holds (program a moments) (crossing.Out m) (kept_in moments) (λ P i. i) old))
       (λ f P i. i) old
