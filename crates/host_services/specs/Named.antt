@@ -1,5 +1,5 @@
 -- What services ask for, and whom they name.
-use Rattle.std.specs.Prelude.{◌≡◌, List, [], ◌∷◌, ◌++◌, None, All}
+use Rattle.std.specs.Prelude.{◌≡◌, ◌<◌, List, [], ◌∷◌, ◌++◌, length, None, All}
 use Rattle.std.specs.List.{fold}
 use Rattle.leader1822.specs.Host.{IsAddress}
 use Rattle.ncp_control.specs.Command.{IsWord}
@@ -24,6 +24,11 @@ IsAddressed r = Unit {0}
 abbrev pub IsSilent : Request → Type 0
 IsSilent (request.Contact peer) = ⊥
 IsSilent r = Unit {0}
+
+-- a request that carries bits
+abbrev pub HasBits : Request → Type 0
+HasBits (request.Send socket bits) = 0 < length bits
+HasBits r = ⊥
 
 -- what a service may ask for: in numbers of their types, and no contact
 pub record MayAsk (r : Request) : Type 0 where

@@ -1,6 +1,7 @@
 //! A host while its services have their turns.
 
-ghost use Rattle.std.specs.Prelude.{◌≡◌, OnOk, IfOk};
+ghost use Rattle.std.specs.Prelude.{◌≡◌, OnErr, OnOk, IfOk};
+ghost use Rattle.host_services.specs.Named.{HasBits};
 ghost use Rattle.host_services.specs.Services as services;
 ghost use Rattle.host_services.specs.Turns as turns;
 ghost use Rattle.sockets.specs.Requests.{refusal};
@@ -47,8 +48,11 @@ pub struct Deeds {
 }
 
 /// A copy of a request.
+///
+/// Errors: `AllocError` where memory is wanted for its bits.
 pub fn copy_of(request: &Request) -> Result<Request, AllocError>
-    ensures { IfOk result (λ copy. copy ≡ request.now) }
+    ensures copy { IfOk result (λ copy. copy ≡ request.now) }
+    ensures memory { OnErr result (HasBits request.now) }
 {
     let copy = match request {
         Request::Contact { peer } => Request::Contact { peer: *peer },

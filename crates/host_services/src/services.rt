@@ -1,6 +1,6 @@
 //! The services of a host.
 
-ghost use Rattle.std.specs.Prelude.{◌≡◌, IfOk};
+ghost use Rattle.std.specs.Prelude.{◌≡◌, ◌<◌, IfOk, OnErr, length};
 ghost use Rattle.host_services.specs.Services.{no_services};
 ghost use Rattle.host_services.specs.Turns as turns;
 ghost use Rattle.icp.specs.declared.outcome.Failure.TheVariants as failure;
@@ -53,7 +53,8 @@ fn tell_all(
     desk: &mut Desk,
     notices: &[Notice],
 ) -> Result<(), AllocError>
-    ensures { IfOk result (λ _. turns.all_heard notices.now services.old desk.old ≡ (services.new, desk.new)) }
+    ensures heard { IfOk result (λ _. turns.all_heard notices.now services.old desk.old ≡ (services.new, desk.new)) }
+    ensures memory { OnErr result (0 < length notices.now) }
 {
     for notice in notices {
         desk.count()?;
@@ -90,10 +91,11 @@ impl Services {
 
     /// They are told of these notices of their host, one after another. What they ask for is asked at once.
     ///
-    /// Errors: `AllocError` where memory is wanted for what they do.
+    /// Errors: `AllocError` where memory is wanted for what they do, only where there is a notice.
     #[tactic(auto, unfolding(crate::specs::Turns::told))]
     pub fn tell(&mut self, desk: &mut Desk, notices: &[Notice]) -> Result<(), AllocError>
-        ensures { IfOk result (λ _. turns.told notices.now self.old desk.old ≡ (self.new, desk.new)) }
+        ensures memory { OnErr result (0 < length notices.now) }
+        ensures told { IfOk result (λ _. turns.told notices.now self.old desk.old ≡ (self.new, desk.new)) }
     {
         desk.typing = self.typing;
         tell_all(self.alloc, &mut self.running, desk, notices)?;
