@@ -14,7 +14,7 @@ use Rattle.stream_law.proofs.Keeps.{made, Account, Inv, all_over, closed_of, wai
 use Rattle.stream_law.proofs.Receives as receives
 use Rattle.stream_law.proofs.Sends as sends
 
-inv_opening : Inv opening
+pub inv_opening : Inv opening
 inv_opening = record {
   known = λ c e. absurd (cc);
   own = λ c e. absurd (cc);
@@ -55,7 +55,7 @@ heard_by_sender r s rest u b (Cls c) h = sends.kept_cls r s rest u b c h
 heard_by_sender r s rest u b (Str c z) h = absurd (h.down)
 heard_by_sender r s rest u b (Ret c m n) h = absurd (h.down)
 
-kept : (e : Event) (x : Stream) → MayHappen e x → Inv x → Inv (happens e x)
+pub kept : (e : Event) (x : Stream) → MayHappen e x → Inv x → Inv (happens e x)
 kept (Receives (receivers.Ask c)) x m h = receives.kept_ask x.receiver x.sender x.to_sender x.to_receiver x.box h c m.0.0 m.0.1
 kept (Receives (receivers.Open c)) x m h = receives.kept_open x.receiver x.sender x.to_sender x.to_receiver x.box h c m.0.0 m.0.1
 kept (Receives (receivers.Grant c n b)) x m h = receives.kept_grant x.receiver x.sender x.to_sender x.to_receiver x.box h c n b m.0.0 m.0.1 m.0.2 m.0.3
