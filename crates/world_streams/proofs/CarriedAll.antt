@@ -30,19 +30,20 @@ use Rattle.world_streams.proofs.CarriedNext.{carried_next}
 same_link : (link l : ℕ) (e : Entry) → e.link ≡ Some l → is_link link e.link ≡ true → l ≡ link
 same_link link l e is on = eqb-true l link (sym (ap (λ (o : Option ℕ). is_link link o) is) ∙ on)
 
-module _ (number : ℕ → ℕ → ℕ → ℕ) (tells : IsTelling number) (a b : Host) (gone : ℕ → ℕ → ℕ) (es : List Entry) (r : ℕ → Receiver) (s : ℕ → Sender)
+module _ (told next_told : ℕ → ℕ → ℕ → ℕ → Type 0) (grows : (own foreign g v : ℕ) → told own foreign g v → next_told own foreign g v) (number : ℕ → ℕ → ℕ → ℕ) (tells : IsTelling number) (a b : Host) (gone : ℕ → ℕ → ℕ) (es : List Entry) (r : ℕ → Receiver) (s : ℕ → Sender)
     (deed : Deed) (new : List Entry) (rr : ℕ → Receiver) (ss : ℕ → Sender) (lives : List Life) (does : Does deed es new)
     (received : (link : ℕ) → (link == 0) ≡ false → Receives (name_of number gone) link deed (r link) (rr link)) (sent : (link : ℕ) → Sends (name_of number gone) link deed (s link) (ss link))
-    (old : AreOwned a b es lives) (now : AreOwned a b new (After a b deed lives)) (c : Carry a b number gone es r s lives) where
-  next : (x : Life) → Among x lives → x.host ≡ a → x.peer ≡ b → (link g : ℕ) → CarriedOn number gone es r s link g x → CarriedOn number (gone_by es new gone) new rr ss link g (life_by a b deed x)
-  next = carried_next number tells a b gone es r s deed new rr ss lives does received sent old now c
+    (old : AreOwned a b es lives) (now : AreOwned a b new (After a b deed lives)) (c : Carry told a b number gone es r s lives)
+    (born : (e : Entry) → Among e new → (v : ℕ) → e.partner ≡ Some v → next_told e.own e.foreign (gone_by es new gone e.own e.foreign) v) where
+  next : (x : Life) → Among x lives → x.host ≡ a → x.peer ≡ b → (link g : ℕ) → CarriedOn told number gone es r s link g x → CarriedOn next_told number (gone_by es new gone) new rr ss link g (life_by a b deed x)
+  next = carried_next told next_told grows number tells a b gone es r s deed new rr ss lives does received sent old now c
 
   among_next : (x : Life) → Among x lives → Among (life_by a b deed x) (After a b deed lives)
   among_next x there = among_front (map (λ z. life_by a b deed z) lives) (new_by a b deed) (life_by a b deed x) (among_mapped (λ z. life_by a b deed z) lives x there)
 
   -- ---- a life of a connection
 
-  lives_next : (link k : ℕ) → (l : Lives a b number gone es r s lives link k) → Lives a b number (gone_by es new gone) new rr ss (After a b deed lives) link k
+  lives_next : (link k : ℕ) → (l : Lives told a b number gone es r s lives link k) → Lives next_told a b number (gone_by es new gone) new rr ss (After a b deed lives) link k
   lives_next link k l = record {
     life = life_by a b deed l.life;
     there = among_next l.life l.there;
@@ -54,10 +55,10 @@ module _ (number : ℕ → ℕ → ℕ → ℕ) (tells : IsTelling number) (a b 
   }
 
   -- that of an open end
-  at_end : (e : Entry) → IsAt e es → (link k : ℕ) → is_link link e.link ≡ true → k ≡ named (name_of number gone) e → (l : Lives a b number gone es r s lives link k) × (l.life.socket ≡ e.own)
+  at_end : (e : Entry) → IsAt e es → (link k : ℕ) → is_link link e.link ≡ true → k ≡ named (name_of number gone) e → (l : Lives told a b number gone es r s lives link k) × (l.life.socket ≡ e.own)
   at_end e i link k on q =
       let f : LifeFor a b e lives = c.opens e i.there i.mine i.opened in
-      let carried : (link : ℕ) × (g : ℕ) × CarriedOn number gone es r s link g f.life = c.all f.life f.there f.host f.peer in
+      let carried : (link : ℕ) × (g : ℕ) × CarriedOn told number gone es r s link g f.life = c.all f.life f.there f.host f.peer in
       let here : carried.0 ≡ link = same_link link carried.0 e (carried.2.linked f.goes e i.there i.mine (sym f.socket)) on in
       let same : number f.life.socket f.life.foreign carried.1 ≡ k =
       ap (λ (n : ℕ). number f.life.socket f.life.foreign n) (carried.2.goes f.goes) ∙ ap (λ (n : ℕ). number n f.life.foreign (gone n f.life.foreign)) f.socket ∙ ap (λ (n : ℕ). number e.own n (gone e.own n)) f.foreign ∙ sym q in (
@@ -67,7 +68,7 @@ module _ (number : ℕ → ℕ → ℕ → ℕ) (tells : IsTelling number) (a b 
           host = f.host;
           peer = f.peer;
           gone_before = carried.1;
-          carried = subst (λ (n : ℕ). CarriedOn number gone es r s n carried.1 f.life) here carried.2;
+          carried = subst (λ (n : ℕ). CarriedOn told number gone es r s n carried.1 f.life) here carried.2;
           is = same;
         },
         f.socket,
@@ -108,9 +109,9 @@ module _ (number : ℕ → ℕ → ℕ → ℕ) (tells : IsTelling number) (a b 
       by false t = inl (plain (q.taken k) (q.granted k) (rw t at (q.returned k)))
 
   abbrev Takes : ℕ → ℕ → Type 0
-  Takes link k = (l : Lives a b number (gone_by es new gone) new rr ss (After a b deed lives) link k) × (receives l.life ≡ true)
+  Takes link k = (l : Lives next_told a b number (gone_by es new gone) new rr ss (After a b deed lives) link k) × (receives l.life ≡ true)
 
-  takes_old : (link k : ℕ) → (l : Lives a b number gone es r s lives link k) → receives l.life ≡ true → Takes link k
+  takes_old : (link k : ℕ) → (l : Lives told a b number gone es r s lives link k) → receives l.life ≡ true → Takes link k
   unfolding lives_next
   takes_old link k l even = (lives_next link k l, ap is_receive_socket (by_same a b deed l.life).socket ∙ even)
 
@@ -118,7 +119,7 @@ module _ (number : ℕ → ℕ → ℕ → ℕ) (tells : IsTelling number) (a b 
   takes_hit link k h =
       let on : (receives_on link h.0 ≡ true) × ((k == named (name_of number gone) h.0) ≡ true) = both (receives_on link h.0) (k == named (name_of number gone) h.0) h.2 in
       let two : (is_receiving h.0 ≡ true) × (is_link link h.0.link ≡ true) = both (is_receiving h.0) (is_link link h.0.link) on.0 in
-      let l : (l : Lives a b number gone es r s lives link k) × (l.life.socket ≡ h.0.own) = at_end h.0 h.1 link k two.1 (eqb-true k (named (name_of number gone) h.0) on.1) in
+      let l : (l : Lives told a b number gone es r s lives link k) × (l.life.socket ≡ h.0.own) = at_end h.0 h.1 link k two.1 (eqb-true k (named (name_of number gone) h.0) on.1) in
       takes_old link k l.0 (ap is_receive_socket l.1 ∙ two.0)
 
   takes_next : (link : ℕ) → (link == 0) ≡ false → (k : ℕ) → IsBlank k (rr link) ⊎ Takes link k
@@ -145,9 +146,9 @@ module _ (number : ℕ → ℕ → ℕ → ℕ) (tells : IsTelling number) (a b 
     by false t = let same : (ss link).sent k ≡ (s link).sent k = rw t at (q k) in inl (same ∙ u)
 
   abbrev Sent : ℕ → ℕ → Type 0
-  Sent link k = (l : Lives a b number (gone_by es new gone) new rr ss (After a b deed lives) link k) × (sends l.life ≡ true)
+  Sent link k = (l : Lives next_told a b number (gone_by es new gone) new rr ss (After a b deed lives) link k) × (sends l.life ≡ true)
 
-  sends_old : (link k : ℕ) → (l : Lives a b number gone es r s lives link k) → sends l.life ≡ true → Sent link k
+  sends_old : (link k : ℕ) → (l : Lives told a b number gone es r s lives link k) → sends l.life ≡ true → Sent link k
   unfolding lives_next
   sends_old link k l odd = (lives_next link k l, ap is_send_socket (by_same a b deed l.life).socket ∙ odd)
 
@@ -155,7 +156,7 @@ module _ (number : ℕ → ℕ → ℕ → ℕ) (tells : IsTelling number) (a b 
   sends_hit link k h =
       let on : (sends_on link h.0 ≡ true) × ((k == named (name_of number gone) h.0) ≡ true) = both (sends_on link h.0) (k == named (name_of number gone) h.0) h.2 in
       let two : (not (is_receiving h.0) ≡ true) × (is_link link h.0.link ≡ true) = both (not (is_receiving h.0)) (is_link link h.0.link) on.0 in
-      let l : (l : Lives a b number gone es r s lives link k) × (l.life.socket ≡ h.0.own) = at_end h.0 h.1 link k two.1 (eqb-true k (named (name_of number gone) h.0) on.1) in
+      let l : (l : Lives told a b number gone es r s lives link k) × (l.life.socket ≡ h.0.own) = at_end h.0 h.1 link k two.1 (eqb-true k (named (name_of number gone) h.0) on.1) in
       sends_old link k l.0 (odd_send l.0.life.socket (ap is_receive_socket l.1 ∙ not_is (is_receiving h.0) two.0))
 
   sends_next : (link : ℕ) → (link == 0) ≡ false → (k : ℕ) → ((ss link).sent k ≡ []) ⊎ Sent link k
@@ -214,7 +215,7 @@ module _ (number : ℕ → ℕ → ℕ → ℕ) (tells : IsTelling number) (a b 
   -- ---- a new life
 
   module _ (e : Entry) (u v : ℕ) (o : Opening e u v es new) where
-    fresh : (link : ℕ) → (l : Lives a b number gone es r s lives link (named (name_of number gone) e)) → ⊥
+    fresh : (link : ℕ) → (l : Lives told a b number gone es r s lives link (named (name_of number gone) e)) → ⊥
     fresh link l = by l.life.ended refl where
       own : l.life.socket ≡ e.own
       own = tells.own l.life.socket l.life.foreign l.gone_before e.own e.foreign (gone e.own e.foreign) l.is
@@ -258,7 +259,7 @@ module _ (number : ℕ → ℕ → ℕ → ℕ) (tells : IsTelling number) (a b 
     ]
 
     new_next : EndOf new (new_life a e.own b e.foreign u v) → ((link : ℕ) → (link == 0) ≡ false → Receives (name_of number gone) link (deeds.Opens e u v) (r link) (rr link)) → ((link : ℕ) → Sends (name_of number gone) link (deeds.Opens e u v) (s link) (ss link))
-        → (link : ℕ) × (g : ℕ) × CarriedOn number (gone_by es new gone) new rr ss link g (new_life a e.own b e.foreign u v)
+        → (link : ℕ) × (g : ℕ) × CarriedOn next_told number (gone_by es new gone) new rr ss link g (new_life a e.own b e.foreign u v)
     new_next h q t =
         let l : HasLink e = o.linked (c.linked o.before o.there) in (
           l.link,
@@ -270,15 +271,16 @@ module _ (number : ℕ → ℕ → ℕ → ℕ) (tells : IsTelling number) (a b 
             goes = λ k. sym (gone_same es new gone e.own e.foreign (among_there new e e.own e.foreign o.now refl refl));
             linked = λ k f there mine own. ap (λ (z : Entry). z.link) (sym (the_end new (new_life a e.own b e.foreign u v) h f there mine own) ∙ the_end new (new_life a e.own b e.foreign u v) h e o.now o.mine refl) ∙ l.is;
             over = λ k. absurd (let z : false ≡ true = k in cc);
+            named = subst (λ (n : ℕ). next_told e.own e.foreign n v) (gone_same es new gone e.own e.foreign (among_there new e e.own e.foreign o.now refl refl)) (born e o.now v o.partner);
           },
         )
 
   -- ---- all of it
 
   new_by_deed : (d : Deed) → Acts d es new → ((link : ℕ) → (link == 0) ≡ false → Receives (name_of number gone) link d (r link) (rr link)) → ((link : ℕ) → Sends (name_of number gone) link d (s link) (ss link))
-      → (x : Life) → Among x (new_by a b d) → (x.ended ≡ false → EndOf new x) → (link : ℕ) × (g : ℕ) × CarriedOn number (gone_by es new gone) new rr ss link g x
+      → (x : Life) → Among x (new_by a b d) → (x.ended ≡ false → EndOf new x) → (link : ℕ) × (g : ℕ) × CarriedOn next_told number (gone_by es new gone) new rr ss link g x
   new_by_deed (deeds.Opens e u v) act q t x (inl is) h =
-      subst (λ (z : Life). (z.ended ≡ false → EndOf new z) → (link : ℕ) × (g : ℕ) × CarriedOn number (gone_by es new gone) new rr ss link g z) is (λ k. new_next e u v act (k refl) q t) h
+      subst (λ (z : Life). (z.ended ≡ false → EndOf new z) → (link : ℕ) × (g : ℕ) × CarriedOn next_told number (gone_by es new gone) new rr ss link g z) is (λ k. new_next e u v act (k refl) q t) h
   new_by_deed (deeds.Opens e u v) act q t x (inr is) h = absurd is
   new_by_deed deeds.Nothing act q t x is h = absurd is
   new_by_deed (deeds.Ends over) act q t x is h = absurd is
@@ -287,17 +289,17 @@ module _ (number : ℕ → ℕ → ℕ → ℕ) (tells : IsTelling number) (a b 
   new_by_deed (deeds.Grants e m n) act q t x is h = absurd is
   new_by_deed (deeds.Returns e m n) act q t x is h = absurd is
 
-  all_next : (x : Life) → Among x (After a b deed lives) → x.host ≡ a → x.peer ≡ b → (link : ℕ) × (g : ℕ) × CarriedOn number (gone_by es new gone) new rr ss link g x
+  all_next : (x : Life) → Among x (After a b deed lives) → x.host ≡ a → x.peer ≡ b → (link : ℕ) × (g : ℕ) × CarriedOn next_told number (gone_by es new gone) new rr ss link g x
   all_next x there host peer = elim (among_either (map (λ z. life_by a b deed z) lives) (new_by a b deed) x there) [
     | inl was ↦ from (among_map (λ z. life_by a b deed z) lives x was)
     | inr is ↦ new_by_deed deed does.1 received sent x is (λ t. now x there host peer t)
   ] where
-    from : (y : Life) × Among y lives × (life_by a b deed y ≡ x) → (link : ℕ) × (g : ℕ) × CarriedOn number (gone_by es new gone) new rr ss link g x
+    from : (y : Life) × Among y lives × (life_by a b deed y ≡ x) → (link : ℕ) × (g : ℕ) × CarriedOn next_told number (gone_by es new gone) new rr ss link g x
     from y =
         let was_host : y.0.host ≡ a = sym (by_same a b deed y.0).host ∙ ap (λ (z : Life). z.host) y.2 ∙ host in
         let was_peer : y.0.peer ≡ b = sym (by_same a b deed y.0).peer ∙ ap (λ (z : Life). z.peer) y.2 ∙ peer in
-        let k : (link : ℕ) × (g : ℕ) × CarriedOn number gone es r s link g y.0 = c.all y.0 y.1 was_host was_peer in
-        (k.0, k.1, subst (λ (z : Life). CarriedOn number (gone_by es new gone) new rr ss k.0 k.1 z) y.2 (next y.0 y.1 was_host was_peer k.0 k.1 k.2))
+        let k : (link : ℕ) × (g : ℕ) × CarriedOn told number gone es r s link g y.0 = c.all y.0 y.1 was_host was_peer in
+        (k.0, k.1, subst (λ (z : Life). CarriedOn next_told number (gone_by es new gone) new rr ss k.0 k.1 z) y.2 (next y.0 y.1 was_host was_peer k.0 k.1 k.2))
 
-  pub carry_next : Carry a b number (gone_by es new gone) new rr ss (After a b deed lives)
+  pub carry_next : Carry next_told a b number (gone_by es new gone) new rr ss (After a b deed lives)
   carry_next = record { all = all_next; takes = takes_next; sends = sends_next; opens = opens_next; linked = linked_next }

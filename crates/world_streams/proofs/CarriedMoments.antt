@@ -34,12 +34,12 @@ use Rattle.world_streams.proofs.CarriedHeard.{AllAllowed, call_more}
 
 -- ---- the same lives of this host with this peer, in another list
 
-module _ (a b : Host) (number : ℕ → ℕ → ℕ → ℕ) (gone : ℕ → ℕ → ℕ) (es : List Entry) (r : ℕ → Receiver) (s : ℕ → Sender) (lives others : List Life)
+module _ (told : ℕ → ℕ → ℕ → ℕ → Type 0) (a b : Host) (number : ℕ → ℕ → ℕ → ℕ) (gone : ℕ → ℕ → ℕ) (es : List Entry) (r : ℕ → Receiver) (s : ℕ → Sender) (lives others : List Life)
     (forth : (x : Life) → x.host ≡ a → x.peer ≡ b → Among x lives → Among x others) (back : (x : Life) → x.host ≡ a → x.peer ≡ b → Among x others → Among x lives) where
-  lives_moved : (link k : ℕ) → Lives a b number gone es r s lives link k → Lives a b number gone es r s others link k
+  lives_moved : (link k : ℕ) → Lives told a b number gone es r s lives link k → Lives told a b number gone es r s others link k
   lives_moved link k l = record { life = l.life; there = forth l.life l.host l.peer l.there; host = l.host; peer = l.peer; gone_before = l.gone_before; carried = l.carried; is = l.is }
 
-  pub carry_moved : Carry a b number gone es r s lives → Carry a b number gone es r s others
+  pub carry_moved : Carry told a b number gone es r s lives → Carry told a b number gone es r s others
   unfolding lives_moved
   carry_moved c = record {
     all = λ x there host peer. c.all x (back x host peer there) host peer;

@@ -23,7 +23,7 @@ use Rattle.world_streams.proofs.Deeds.{Among, Deed, From, Receives, Sends, among
 use Rattle.world_streams.proofs.DeedsEnds.{Does, IsAt}
 use Rattle.world_streams.proofs.DeedsTold.{After}
 use Rattle.world_streams.proofs.Carried.{EndOf, HasSent, HasTaken, IsSent, IsTaken, among_there, end_opened, end_own, end_there, gone_more, gone_one, gone_same, sent_step, taken_step, the_end}
-use Rattle.world_streams.proofs.CarriedStep.{AreOwned, CarriedOn, Carry, by_goes, by_over, by_same}
+use Rattle.world_streams.proofs.CarriedStep.{AreOwned, CarriedOn, Carry, by_goes, by_over, by_same, by_stamp}
 
 and_off : (b : Bool) → (b && false) ≡ false
 and_off true = refl
@@ -32,10 +32,10 @@ and_off false = refl
 open_has : (e : Entry) → is_open e ≡ true → has_opened e ≡ true
 open_has e o = (both (has_opened e) _ o).0
 
-module _ (number : ℕ → ℕ → ℕ → ℕ) (tells : IsTelling number) (a b : Host) (gone : ℕ → ℕ → ℕ) (es : List Entry) (r : ℕ → Receiver) (s : ℕ → Sender) where
+module _ (told next_told : ℕ → ℕ → ℕ → ℕ → Type 0) (grows : (own foreign g v : ℕ) → told own foreign g v → next_told own foreign g v) (number : ℕ → ℕ → ℕ → ℕ) (tells : IsTelling number) (a b : Host) (gone : ℕ → ℕ → ℕ) (es : List Entry) (r : ℕ → Receiver) (s : ℕ → Sender) where
   -- ---- where a life is hit, the law is
 
-  module _ (link g : ℕ) (x : Life) (host : x.host ≡ a) (k : CarriedOn number gone es r s link g x) (owned : x.ended ≡ false → EndOf es x) (e : Entry) (i : IsAt e es) where
+  module _ (link g : ℕ) (x : Life) (host : x.host ≡ a) (k : CarriedOn told number gone es r s link g x) (owned : x.ended ≡ false → EndOf es x) (e : Entry) (i : IsAt e es) where
     same_of : number x.socket x.foreign g ≡ named (name_of number gone) e → (x.socket ≡ e.own) × (x.foreign ≡ e.foreign) × (g ≡ gone e.own e.foreign)
     same_of q = (
       tells.own x.socket x.foreign g e.own e.foreign (gone e.own e.foreign) q,
@@ -109,7 +109,7 @@ module _ (number : ℕ → ℕ → ℕ → ℕ) (tells : IsTelling number) (a b 
 
   module _ (deed : Deed) (new : List Entry) (rr : ℕ → Receiver) (ss : ℕ → Sender) (lives : List Life) (does : Does deed es new)
       (received : (link : ℕ) → (link == 0) ≡ false → Receives (name_of number gone) link deed (r link) (rr link)) (sent : (link : ℕ) → Sends (name_of number gone) link deed (s link) (ss link))
-      (old : AreOwned a b es lives) (now : AreOwned a b new (After a b deed lives)) (c : Carry a b number gone es r s lives) where
+      (old : AreOwned a b es lives) (now : AreOwned a b new (After a b deed lives)) (c : Carry told a b number gone es r s lives) where
     abbrev Gone : ℕ → ℕ → ℕ
     Gone = gone_by es new gone
 
@@ -135,7 +135,7 @@ module _ (number : ℕ → ℕ → ℕ → ℕ) (tells : IsTelling number) (a b 
     there_after x h = among_there new h.end x.socket x.foreign (end_there new x h).0 (end_own new x h) h.foreign
 
     -- a life that was there
-    pub carried_next : (x : Life) → Among x lives → x.host ≡ a → x.peer ≡ b → (link g : ℕ) → CarriedOn number gone es r s link g x → CarriedOn number (gone_by es new gone) new rr ss link g (life_by a b deed x)
+    pub carried_next : (x : Life) → Among x lives → x.host ≡ a → x.peer ≡ b → (link g : ℕ) → CarriedOn told number gone es r s link g x → CarriedOn next_told number (gone_by es new gone) new rr ss link g (life_by a b deed x)
     carried_next x there host peer link g k = record {
       other = k.other;
       taken = λ even. takes (ap is_receive_socket (sym (by_same a b deed x).socket) ∙ even);
@@ -143,6 +143,10 @@ module _ (number : ℕ → ℕ → ℕ → ℕ) (tells : IsTelling number) (a b 
       goes = λ t. k.goes (by_goes a b deed x t) ∙ sym (still t);
       linked = λ t. link_same x link (old x there host peer (by_goes a b deed x t)) (k.linked (by_goes a b deed x t)) (life_by a b deed x) (ends t) (by_same a b deed x).socket;
       over = λ t. by x.ended refl t;
+      named =
+          subst (λ (n : ℕ). next_told n (life_by a b deed x).foreign g (life_by a b deed x).partner_stamp) (sym (by_same a b deed x).socket)
+          (subst (λ (n : ℕ). next_told x.socket n g (life_by a b deed x).partner_stamp) (sym (by_same a b deed x).foreign)
+          (subst (λ (n : ℕ). next_told x.socket x.foreign g n) (sym (by_stamp a b deed x)) (grows x.socket x.foreign g x.partner_stamp k.named)));
     } where
       y : Life
       y = life_by a b deed x

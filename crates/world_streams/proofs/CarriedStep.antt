@@ -21,13 +21,15 @@ use Rattle.world_streams.proofs.Carried.{EndOf, IsSent, IsTaken}
 -- ---- a life beside the law of its link
 
 -- where so many connections are gone, and these ends are there. `r` and `s` are the law's receiver and sender of each link
-pub record CarriedOn (number : ℕ → ℕ → ℕ → ℕ) (gone : ℕ → ℕ → ℕ) (es : List Entry) (r : ℕ → Receiver) (s : ℕ → Sender) (link g : ℕ) (x : Life) : Type 0 where
+pub record CarriedOn (told : ℕ → ℕ → ℕ → ℕ → Type 0) (number : ℕ → ℕ → ℕ → ℕ) (gone : ℕ → ℕ → ℕ) (es : List Entry) (r : ℕ → Receiver) (s : ℕ → Sender) (link g : ℕ) (x : Life) : Type 0 where
   pub other : (link == 0) ≡ false
   pub taken : receives x ≡ true → IsTaken (number x.socket x.foreign g) (r link) x
   pub sent : sends x ≡ true → IsSent (number x.socket x.foreign g) (s link) x
   pub goes : x.ended ≡ false → g ≡ gone x.socket x.foreign
   pub linked : x.ended ≡ false → (e : Entry) → Among e es → e.mine ≡ true → e.own ≡ x.socket → e.link ≡ Some link
   pub over : x.ended ≡ true → suc g ≤ gone x.socket x.foreign
+  -- what is told of the request of its partner
+  pub named : told x.socket x.foreign g x.partner_stamp
 
 -- nothing was granted, returned or taken in a connection
 pub record IsBlank (c : ℕ) (r : Receiver) : Type 0 where
@@ -38,13 +40,13 @@ pub record IsBlank (c : ℕ) (r : Receiver) : Type 0 where
   pub returned_bits : (r.returned c).bits ≡ 0
 
 -- a life of this host with its peer, on this link, in this connection
-pub record Lives (a b : Host) (number : ℕ → ℕ → ℕ → ℕ) (gone : ℕ → ℕ → ℕ) (es : List Entry) (r : ℕ → Receiver) (s : ℕ → Sender) (lives : List Life) (link c : ℕ) : Type 0 where
+pub record Lives (told : ℕ → ℕ → ℕ → ℕ → Type 0) (a b : Host) (number : ℕ → ℕ → ℕ → ℕ) (gone : ℕ → ℕ → ℕ) (es : List Entry) (r : ℕ → Receiver) (s : ℕ → Sender) (lives : List Life) (link c : ℕ) : Type 0 where
   pub life : Life
   pub there : Among life lives
   pub host : life.host ≡ a
   pub peer : life.peer ≡ b
   pub gone_before : ℕ
-  pub carried : CarriedOn number gone es r s link gone_before life
+  pub carried : CarriedOn told number gone es r s link gone_before life
   pub is : number life.socket life.foreign gone_before ≡ c
 
 -- an open end has a life
@@ -57,10 +59,10 @@ pub record LifeFor (a b : Host) (e : Entry) (lives : List Life) : Type 0 where
   pub socket : life.socket ≡ e.own
   pub foreign : life.foreign ≡ e.foreign
 
-pub record Carry (a b : Host) (number : ℕ → ℕ → ℕ → ℕ) (gone : ℕ → ℕ → ℕ) (es : List Entry) (r : ℕ → Receiver) (s : ℕ → Sender) (lives : List Life) : Type 0 where
-  pub all : (x : Life) → Among x lives → x.host ≡ a → x.peer ≡ b → (link : ℕ) × (g : ℕ) × CarriedOn number gone es r s link g x
-  pub takes : (link : ℕ) → (link == 0) ≡ false → (c : ℕ) → IsBlank c (r link) ⊎ ((l : Lives a b number gone es r s lives link c) × (receives l.life ≡ true))
-  pub sends : (link : ℕ) → (link == 0) ≡ false → (c : ℕ) → ((s link).sent c ≡ []) ⊎ ((l : Lives a b number gone es r s lives link c) × (sends l.life ≡ true))
+pub record Carry (told : ℕ → ℕ → ℕ → ℕ → Type 0) (a b : Host) (number : ℕ → ℕ → ℕ → ℕ) (gone : ℕ → ℕ → ℕ) (es : List Entry) (r : ℕ → Receiver) (s : ℕ → Sender) (lives : List Life) : Type 0 where
+  pub all : (x : Life) → Among x lives → x.host ≡ a → x.peer ≡ b → (link : ℕ) × (g : ℕ) × CarriedOn told number gone es r s link g x
+  pub takes : (link : ℕ) → (link == 0) ≡ false → (c : ℕ) → IsBlank c (r link) ⊎ ((l : Lives told a b number gone es r s lives link c) × (receives l.life ≡ true))
+  pub sends : (link : ℕ) → (link == 0) ≡ false → (c : ℕ) → ((s link).sent c ≡ []) ⊎ ((l : Lives told a b number gone es r s lives link c) × (sends l.life ≡ true))
   pub opens : (e : Entry) → Among e es → e.mine ≡ true → is_open e ≡ true → LifeFor a b e lives
   pub linked : (e : Entry) → Among e es → IsLinked e
 
@@ -168,3 +170,25 @@ by_over a p d x es new act goes t = of d act t where
   of (deeds.Leaves e bits) act h = kept (lives_at a e.own x) (book.carried bits) (λ y. refl) h
   of (deeds.Grants e m n) act h = kept (lives_at a e.own x) (book.granted m n) (λ y. refl) h
   of (deeds.Returns e m n) act h = kept (lives_at a e.own x) (book.returned m n) (λ y. refl) h
+
+-- ---- stamps
+
+stamp_when : (t : Bool) (f : Life → Life) (x : Life) → ((y : Life) → (f y).partner_stamp ≡ y.partner_stamp) → (changed_when t f x).partner_stamp ≡ x.partner_stamp
+stamp_when true f x k = k x
+stamp_when false f x k = refl
+
+stamp_ends : (a p : Host) (es : List Entry) (x : Life) → (life_ends a p es x).partner_stamp ≡ x.partner_stamp
+stamp_ends a p [] x = refl
+stamp_ends a p (e ∷ es) x = stamp_ends a p es (if e.mine then changed_when (lives_between a e.own p e.foreign x) ended x else x) ∙ by e.mine where
+  by : (v : Bool) → (if v then changed_when (lives_between a e.own p e.foreign x) ended x else x).partner_stamp ≡ x.partner_stamp
+  by true = stamp_when (lives_between a e.own p e.foreign x) ended x (λ y. refl)
+  by false = refl
+
+pub by_stamp : (a p : Host) (d : Deed) (x : Life) → (life_by a p d x).partner_stamp ≡ x.partner_stamp
+by_stamp a p deeds.Nothing x = refl
+by_stamp a p (deeds.Opens e u v) x = refl
+by_stamp a p (deeds.Ends es) x = stamp_ends a p es x
+by_stamp a p (deeds.Arrives e bits) x = stamp_when (lives_at a e.own x) (book.carried bits) x (λ y. refl)
+by_stamp a p (deeds.Leaves e bits) x = stamp_when (lives_at a e.own x) (book.carried bits) x (λ y. refl)
+by_stamp a p (deeds.Grants e m n) x = stamp_when (lives_at a e.own x) (book.granted m n) x (λ y. refl)
+by_stamp a p (deeds.Returns e m n) x = stamp_when (lives_at a e.own x) (book.returned m n) x (λ y. refl)

@@ -64,8 +64,15 @@ pub mod HeardAlike
 pub mod FinalAway
 pub mod HeardMarks
 pub mod HeardRun
+pub mod HeardPartners
+pub mod HeardEnds
 pub mod FinalNow
 pub mod CarriedMoments
 pub mod CarriedSaid
 pub mod CarriedOlder
 pub mod Streams
+pub mod FinalGiven
+pub mod FinalSince
+pub mod FinalOwn
+pub mod CarriedEvery
+pub mod CarriedStill
