@@ -188,7 +188,7 @@ module _ (a : Host) (k : ℕ) where
 
 -- ---- what goes out
 
-gone_listening : (p : Host) (stamp : ℕ) (c : Command) (d : DeskState) → (command_gone p stamp c d).listening ≡ d.listening
+pub gone_listening : (p : Host) (stamp : ℕ) (c : Command) (d : DeskState) → (command_gone p stamp c d).listening ≡ d.listening
 gone_listening p stamp command.Nop d = refl
 gone_listening p stamp (command.Rts receive send link) d = refl
 gone_listening p stamp (command.Str send receive size) d = refl
@@ -204,11 +204,11 @@ gone_listening p stamp (command.Err code detail) d = refl
 gone_listening p stamp command.Rst d = refl
 gone_listening p stamp command.Rrp d = refl
 
-all_listening : (p : Host) (stamp : ℕ) (cs : List Command) (d : DeskState) → (commands_gone p stamp cs d).listening ≡ d.listening
+pub all_listening : (p : Host) (stamp : ℕ) (cs : List Command) (d : DeskState) → (commands_gone p stamp cs d).listening ≡ d.listening
 all_listening p stamp [] d = refl
 all_listening p stamp (c ∷ cs) d = all_listening p stamp cs (command_gone p stamp c d) ∙ gone_listening p stamp c d
 
-commands_take : (n : ℕ) (cs : List Command) → AreCommands cs → AreCommands (take n cs)
+pub commands_take : (n : ℕ) (cs : List Command) → AreCommands cs → AreCommands (take n cs)
 commands_take zero cs h = tt
 commands_take (suc n) [] h = tt
 commands_take (suc n) (c ∷ cs) h = (h.0, commands_take n cs h.1)
@@ -217,7 +217,7 @@ commands_take (suc n) (c ∷ cs) h = (h.0, commands_take n cs h.1)
 abbrev pub HasEnds : (ℕ → ℕ) → PairState → Type 0
 HasEnds origin q = (own foreign : ℕ) → IsOfTwo own foreign → (x : End) × HasEnd origin own foreign q x
 
-waits : (origin : ℕ → ℕ) (q : PairState) (n : ℕ) → HasEnds origin q → Waits origin q.entries (take n q.queue) (drop n q.queue)
+pub waits : (origin : ℕ → ℕ) (q : PairState) (n : ℕ) → HasEnds origin q → Waits origin q.entries (take n q.queue) (drop n q.queue)
 waits origin q n has own foreign two =
     let h : (x : End) × HasEnd origin own foreign q x = has own foreign two in (
       h.0,

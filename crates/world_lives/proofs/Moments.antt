@@ -35,7 +35,7 @@ use Rattle.world_lives.proofs.Asks.{holds_same, request_holds}
 
 -- ---- what is known of all moments
 
-has_ends : (hosts : List Host) (moments : List Moment) → HaveAddresses hosts → mail.IsRun hosts (crossings_of moments) → IsTimeline hosts moments → (a p : Host) → HasEnds (origin_in (crossings_of moments) a p) (pair_with p (program a moments).peers)
+pub has_ends : (hosts : List Host) (moments : List Moment) → HaveAddresses hosts → mail.IsRun hosts (crossings_of moments) → IsTimeline hosts moments → (a p : Host) → HasEnds (origin_in (crossings_of moments) a p) (pair_with p (program a moments).peers)
 has_ends hosts moments addresses run time a p own foreign two = elim two [
   | inl r ↦ (_, ((tied hosts moments addresses run time).tied a p).receiver (record { receive = own; send = foreign }) (r.0, r.1))
   | inr s ↦ (_, ((tied hosts moments addresses run time).tied p a).sender (record { receive = foreign; send = own }) (s.1, s.0))
