@@ -76,3 +76,10 @@ pub mod FinalSince
 pub mod FinalOwn
 pub mod CarriedEvery
 pub mod CarriedStill
+pub mod OtherLives
+pub mod KeepsIn
+pub mod KeepsOut
+pub mod KeepsAnswer
+pub mod KeepsAsked
+pub mod FinalLives
+pub mod FinalLeaves

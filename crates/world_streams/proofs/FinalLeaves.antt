@@ -1,0 +1,1 @@
+-- The lives of a host that leaves its peer, or has left, end and do nothing else.

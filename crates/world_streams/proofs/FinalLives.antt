@@ -1,0 +1,1 @@
+-- The lives of two hosts that stay, as a safe book asks for them.

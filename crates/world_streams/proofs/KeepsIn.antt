@@ -1,0 +1,1 @@
+-- The lives of a host with one peer are carried by its calls at a moment at which a message of the peer comes in.

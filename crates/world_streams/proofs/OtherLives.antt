@@ -1,0 +1,1 @@
+-- A moment at which a host does nothing with a peer leaves its lives with that peer as they were.
