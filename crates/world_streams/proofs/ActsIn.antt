@@ -49,7 +49,7 @@ use Rattle.world_streams.proofs.MayCalls.{MayCalls}
 use Rattle.pair_streams.proofs.AllSteps.{Steps}
 use Rattle.world_streams.proofs.Resets.{stays_ready}
 
-taken_there : (s : NcpState) (m : HostMessage) (stamp : ℕ) → same_host s.own m.flow.destination ≡ true
+pub taken_there : (s : NcpState) (m : HostMessage) (stamp : ℕ) → same_host s.own m.flow.destination ≡ true
     → pair_with m.flow.source (accepted s (inbound.Message m) stamp).0.peers ≡ (message_taken m.flow.source stamp m.flow.link.0 m.text (turn_of s m.flow.source)).pair
 unfolding accepted
 taken_there s m stamp own = rw own (put m.flow.source (message_taken m.flow.source stamp m.flow.link.0 m.text (turn_of s m.flow.source)).pair s.peers)
