@@ -30,12 +30,12 @@ kept_contact true true q k e = absurd (let no : false ≡ true = k in cc)
 kept_contact true false q k e = refl
 kept_contact false u q k e = absurd (let no : false ≡ true = e in cc)
 
-no_contact : (h p g : Host) (r : Request) (events : List Event) → keeps h p (event_by g r) events ≡ true → same_host h g ≡ true → (peer : Host) → r ≡ request.Contact peer → same_host p peer ≡ false
+pub no_contact : (h p g : Host) (r : Request) (events : List Event) → keeps h p (event_by g r) events ≡ true → same_host h g ≡ true → (peer : Host) → r ≡ request.Contact peer → same_host p peer ≡ false
 no_contact h p g r events k e peer is =
     let kept : keeps h p (Contact g peer) events ≡ true = subst (λ (y : Request). keeps h p (event_by g y) events ≡ true) is k in
     kept_contact (same_host h g) (same_host p peer) (pair h p events) kept e
 
-kept_stop : (t : Bool) (q : Pair) → (stay.is_ready (moved (when t Begin) q).phase && not false) ≡ true → t ≡ false
+pub kept_stop : (t : Bool) (q : Pair) → (stay.is_ready (moved (when t Begin) q).phase && not false) ≡ true → t ≡ false
 kept_stop true q k = absurd (let no : false ≡ true = k in cc)
 kept_stop false q k = refl
 

@@ -80,6 +80,8 @@ pub mod OtherLives
 pub mod KeepsIn
 pub mod KeepsOut
 pub mod KeepsAnswer
+pub mod KeepsAskedNext
 pub mod KeepsAsked
+pub mod KeepsAskedDown
 pub mod FinalLives
 pub mod FinalLeaves
