@@ -1,5 +1,5 @@
 -- The lives of a host with one peer are carried by its calls at a moment at which its user asks for something.
-use Rattle.std.proofs.Common.{◌≡◌, ℕ, ◌==◌, ◌&&◌, not, Bool, true, false, if◌then◌else◌, List, [], ◌∷◌, ◌++◌, map, filter, find, Option, Some, None, refl, ap, sym, subst, ◌∙◌, append-nil}
+use Rattle.std.proofs.Common.{◌≡◌, ℕ, ◌==◌, ◌&&◌, not, Bool, true, false, if◌then◌else◌, List, [], ◌∷◌, map, filter, find, Option, Some, None, refl, ap, sym, subst, ◌∙◌, append-nil}
 use Rattle.std.proofs.lemmas.Bool.{eqb-true}
 use Rattle.leader1822.specs.Host.{Host, same_host}
 use Rattle.leader1822.specs.Mailboxes as mail
@@ -31,7 +31,6 @@ use Rattle.net_sim.specs.Told.{kept_in}
 use Rattle.net_sim.proofs.Coupled.{coupled}
 use Rattle.net_sim.proofs.Seats.{same_host-sym}
 use Rattle.world_lives.specs.Lives.{HasOpenEnd, mine_on}
-use Rattle.world_lives.proofs.Desks.{clash}
 use Rattle.world_lives.proofs.Laws.{live}
 use Rattle.world_lives.proofs.Owners.{owner_found}
 use Rattle.world_pairing.specs.Steps.{keeps}

@@ -24,7 +24,7 @@ use Rattle.world_streams.proofs.CarriedCalls.{Carries, recent, since}
 use Rattle.world_streams.proofs.CarriedHeard.{AllAllowed}
 use Rattle.world_streams.proofs.CarriedMoments.{single_next}
 use Rattle.world_streams.proofs.CarriedStill.{AreIn, still_next}
-use Rattle.world_streams.proofs.Chain.{Chained, chain, mail_below}
+use Rattle.world_streams.proofs.Chain.{chain, mail_below}
 
 -- ---- a change of lives that are of others
 
