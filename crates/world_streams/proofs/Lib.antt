@@ -84,4 +84,6 @@ pub mod KeepsAskedNext
 pub mod KeepsAsked
 pub mod KeepsAskedDown
 pub mod FinalLives
+pub mod FinalLeavesLists
+pub mod FinalLeavesTold
 pub mod FinalLeaves

@@ -1,0 +1,1 @@
+-- What a host tells of a peer with which it doesn't stay, or leaves off to: no end opens.
