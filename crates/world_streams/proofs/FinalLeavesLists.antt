@@ -15,6 +15,41 @@ use Rattle.net_sim.specs.Told.{host_in, kept_by, kept_in, notices_by}
 use Rattle.world_lives.proofs.Desks.{clash}
 use Rattle.world_streams.proofs.FinalLists.{Grown, IsOf, grown, of_either, of_mapped}
 
+-- ---- notices
+
+module _ (calm : Bool) (p : Host) where
+  -- it opens no end with the peer; and where this is asked for, it doesn't tell of messages or parts of a grant
+  abbrev pub Fine : Notice → Type 0
+  Fine (notice.Opened socket peer foreign own partner) = peer ≡ p → ⊥
+  Fine (notice.Sent socket bits) = calm ≡ false
+  Fine (notice.Arrived socket bits) = calm ≡ false
+  Fine (notice.Returned socket messages bits) = calm ≡ false
+  Fine (notice.Ended socket peer foreign) = Unit {0}
+  Fine (notice.PairReset peer) = Unit {0}
+  Fine (notice.Ready peer) = Unit {0}
+  Fine (notice.ContactFailed peer) = Unit {0}
+  Fine (notice.Interrupt socket) = Unit {0}
+  Fine (notice.Echoed peer octet) = Unit {0}
+  Fine (notice.RemoteError peer code detail) = Unit {0}
+
+  abbrev pub AllFine : List Notice → Type 0
+  AllFine [] = Unit {0}
+  AllFine (n ∷ ns) = Fine n × AllFine ns
+
+  pub fine_both : (ms ns : List Notice) → AllFine ms → AllFine ns → AllFine (ms ++ ns)
+  fine_both [] ns a b = b
+  fine_both (m ∷ ms) ns a b = (a.0, fine_both ms ns a.1 b)
+
+module _ (calm : Bool) where
+  -- a request that grants nothing
+  abbrev pub IsFineAsked : Request → Type 0
+  IsFineAsked (request.Grant socket messages bits) = calm ≡ false
+  IsFineAsked r = Unit {0}
+
+  abbrev pub IsFineBy : Moment → Type 0
+  IsFineBy (Crossed c) = Unit {0}
+  IsFineBy (Asked g r) = IsFineAsked r
+
 -- ---- lists that grow so
 
 -- no life of the host with the peer is among the new ones; and where this is asked for, the old ones are as they were, or have ended
@@ -161,41 +196,10 @@ module _ (calm : Bool) (h p : Host) where
 
   -- ---- a notice of the host
 
-  -- it opens no end with the peer; and where this is asked for, it doesn't tell of messages or parts of a grant
-  abbrev pub Fine : Notice → Type 0
-  Fine (notice.Opened socket peer foreign own partner) = peer ≡ p → ⊥
-  Fine (notice.Sent socket bits) = calm ≡ false
-  Fine (notice.Arrived socket bits) = calm ≡ false
-  Fine (notice.Returned socket messages bits) = calm ≡ false
-  Fine (notice.Ended socket peer foreign) = Unit {0}
-  Fine (notice.PairReset peer) = Unit {0}
-  Fine (notice.Ready peer) = Unit {0}
-  Fine (notice.ContactFailed peer) = Unit {0}
-  Fine (notice.Interrupt socket) = Unit {0}
-  Fine (notice.Echoed peer octet) = Unit {0}
-  Fine (notice.RemoteError peer code detail) = Unit {0}
-
-  abbrev pub AllFine : List Notice → Type 0
-  AllFine [] = Unit {0}
-  AllFine (n ∷ ns) = Fine n × AllFine ns
-
-  pub fine_both : (ms ns : List Notice) → AllFine ms → AllFine ns → AllFine (ms ++ ns)
-  fine_both [] ns a b = b
-  fine_both (m ∷ ms) ns a b = (a.0, fine_both ms ns a.1 b)
-
-  -- a request that grants nothing
-  abbrev pub IsFineAsked : Request → Type 0
-  IsFineAsked (request.Grant socket messages bits) = calm ≡ false
-  IsFineAsked r = Unit {0}
-
-  abbrev pub IsFineBy : Moment → Type 0
-  IsFineBy (Crossed c) = Unit {0}
-  IsFineBy (Asked g r) = IsFineAsked r
-
   loud : (f : Life → Life) (test : Life → Bool) → calm ≡ false → calm ≡ true → (x : Life) → x.host ≡ h → x.peer ≡ p → (test x ≡ false) ⊎ (f x ≡ ended x)
   loud f test l c x e g = clash ((test x ≡ false) ⊎ (f x ≡ ended x)) calm c l
 
-  fine_told : (g : Host) (n : Notice) (xs : List Life) → Fine n → Bare calm h p xs (lives_told g n xs)
+  fine_told : (g : Host) (n : Notice) (xs : List Life) → Fine calm p n → Bare calm h p xs (lives_told g n xs)
   fine_told g (notice.Opened socket peer foreign own partner) xs t = bare_more xs (new_life g socket peer foreign own partner) (λ e f. t f)
   fine_told g (notice.Ended socket peer foreign) xs t = bare_where (lives_between g socket peer foreign) ended xs (λ x. (refl, refl)) (λ c x e f. inr refl)
   fine_told g (notice.PairReset peer) xs t = bare_where (lives_with g peer) ended xs (λ x. (refl, refl)) (λ c x e f. inr refl)
@@ -208,11 +212,11 @@ module _ (calm : Bool) (h p : Host) where
   fine_told g (notice.Echoed peer octet) xs t = bare_none xs
   fine_told g (notice.RemoteError peer code detail) xs t = bare_none xs
 
-  fine_all : (g : Host) (ns : List Notice) (k : Kept) → AllFine ns → Bare calm h p k.book.lives (all_told g ns k).book.lives
+  fine_all : (g : Host) (ns : List Notice) (k : Kept) → AllFine calm p ns → Bare calm h p k.book.lives (all_told g ns k).book.lives
   fine_all g [] k t = bare_none k.book.lives
   fine_all g (n ∷ ns) k t = bare_on k.book.lives (lives_told g n k.book.lives) (all_told g ns (told g n k)).book.lives (fine_told g n k.book.lives t.0) (fine_all g ns (told g n k) t.1)
 
-  fine_asked : (g : Host) (r : Request) (xs : List Life) → IsFineAsked r → Bare calm h p xs (lives_asked g r xs)
+  fine_asked : (g : Host) (r : Request) (xs : List Life) → IsFineAsked calm r → Bare calm h p xs (lives_asked g r xs)
   fine_asked g (request.Grant socket messages bits) xs t = bare_where (lives_at g socket) (granted messages bits) xs (λ x. (refl, refl)) (loud (granted messages bits) (lives_at g socket) t)
   fine_asked g (request.Contact peer) xs t = bare_none xs
   fine_asked g (request.Listen socket size) xs t = bare_none xs
@@ -234,7 +238,7 @@ module _ (calm : Bool) (h p : Host) where
   by_elsewhere (Crossed (crossing.Answer kind f)) k away = bare_none k.book.lives
   by_elsewhere (Asked g r) k away = elsewhere_asked g away r k.book.lives
 
-  by_fine : (y : Moment) (k : Kept) → IsFineBy y → Bare calm h p k.book.lives (kept_by y k).book.lives
+  by_fine : (y : Moment) (k : Kept) → IsFineBy calm y → Bare calm h p k.book.lives (kept_by y k).book.lives
   by_fine (Crossed (crossing.Down g)) k fine = bare_where (lives_on g) ended k.book.lives (λ x. (refl, refl)) (λ c x e f. inr refl)
   by_fine (Crossed (crossing.Up g)) k fine = bare_none k.book.lives
   by_fine (Crossed (crossing.Out m)) k fine = bare_none k.book.lives
@@ -246,7 +250,7 @@ module _ (calm : Bool) (h p : Host) where
   bare_elsewhere y ms away =
       bare_on (kept_in ms).book.lives (kept_by y (kept_in ms)).book.lives (kept_in (y ∷ ms)).book.lives (by_elsewhere y (kept_in ms) away) (elsewhere_all (host_in y) away (notices_by y ms) (kept_by y (kept_in ms)))
 
-  pub bare_fine : (y : Moment) (ms : List Moment) → IsFineBy y → AllFine (notices_by y ms) → Bare calm h p (kept_in ms).book.lives (kept_in (y ∷ ms)).book.lives
+  pub bare_fine : (y : Moment) (ms : List Moment) → IsFineBy calm y → AllFine calm p (notices_by y ms) → Bare calm h p (kept_in ms).book.lives (kept_in (y ∷ ms)).book.lives
   bare_fine y ms fine all =
       bare_on (kept_in ms).book.lives (kept_by y (kept_in ms)).book.lives (kept_in (y ∷ ms)).book.lives (by_fine y (kept_in ms) fine) (fine_all (host_in y) (notices_by y ms) (kept_by y (kept_in ms)) all)
 

@@ -36,7 +36,7 @@ use Rattle.world_streams.proofs.FinalSides.{Lawful, coupled_in, lives_in}
 
 -- ---- an end of a program is that of the law
 
-stands_as : (origin : ℕ → ℕ) (place : ℕ) (ss : List Standing) (words : List Mark) (x : End) (s : Standing) → Stand true origin place ss words x → Among s ss → (x ≡ end_of origin s) × (is_past s ≡ false)
+pub stands_as : (origin : ℕ → ℕ) (place : ℕ) (ss : List Standing) (words : List Mark) (x : End) (s : Standing) → Stand true origin place ss words x → Among s ss → (x ≡ end_of origin s) × (is_past s ≡ false)
 stands_as origin place [] words x s h i = absurd i
 stands_as origin place (t ∷ []) words x s h (inl e) = (h.2 ∙ ap (end_of origin) e, subst (λ (v : Standing). is_past v ≡ false) e (h.0.live refl))
 stands_as origin place (t ∷ []) words x s h (inr i) = absurd i
@@ -55,7 +55,7 @@ entry_end s q who h p origin ms tie e there own foreign =
 
 -- ---- a host that doesn't stay
 
-partner_none : (origin : ℕ → ℕ) (s : Standing) (t : ℕ) → s.partner ≡ Some t → is_past s ≡ false → (end_of origin s).partner ≡ None → ⊥
+pub partner_none : (origin : ℕ → ℕ) (s : Standing) (t : ℕ) → s.partner ≡ Some t → is_past s ≡ false → (end_of origin s).partner ≡ None → ⊥
 partner_none origin s t partner live none =
     let e : (end_of origin s).partner ≡ Some (origin t) = (rw (live, partner) refl) in
     let two : None ≡ Some (origin t) = sym none ∙ e in
