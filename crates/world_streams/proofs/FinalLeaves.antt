@@ -128,9 +128,6 @@ module _ (hosts : List Host) (p : Host) where
       (keeps_text m.flow.destination p (events_of ms) (stays_ready (events_of ms) m.flow.destination p before) m.flow.source m.flow.destination m.flow.link.0 m.text)
       (subst (λ (n : Message). keeps m.flow.destination p (In m.flow.source m.flow.destination m.flow.link.0 n) (events_of ms) ≡ false) is (leaves_by m.flow.destination p (event_in (Crossed (crossing.In m))) (events_of ms) before left))
   text_here false m ms l left before is = (tt, by (same_host m.flow.source p) refl (is_ready (pair_with m.flow.source (program m.flow.destination ms).peers).phase) refl) where
-    told : Type 0
-    told = AllFine false p (notices_by (Crossed (crossing.In m)) ms)
-
     in_stay : same_host m.flow.source p ≡ true → is_ready (pair_with m.flow.source (program m.flow.destination ms).peers).phase ≡ true → ⊥
     in_stay e r =
         let c : Coupled hosts (Crossed (crossing.In m) ∷ ms) = coupled_in hosts (Crossed (crossing.In m) ∷ ms) l in

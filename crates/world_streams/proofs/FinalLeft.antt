@@ -70,7 +70,7 @@ module _ (hosts : List Host) (ms : List Moment) (l : Lawful hosts ms) (h p : Hos
       let none : Unheard (Side_of s q who h p (origin_in (crossings_of ms) h p) ms).end = unheard h p (at_texts s who) (at_texts s (other who)) refl (law_events ms) (stays_same h p (events_of ms) ∙ left) in
       partner_none (origin_in (crossings_of ms) h p) (standing e) t partner is.1 (ap (λ (x : End). x.partner) (sym is.0) ∙ none.0)
 
-  no_partner : (own foreign : ℕ) → ((is_receive_socket own ≡ true) × (is_send_socket foreign ≡ true)) ⊎ ((is_send_socket own ≡ true) × (is_receive_socket foreign ≡ true)) → (e : Entry) (t : ℕ)
+  pub no_partner : (own foreign : ℕ) → ((is_receive_socket own ≡ true) × (is_send_socket foreign ≡ true)) ⊎ ((is_send_socket own ≡ true) × (is_receive_socket foreign ≡ true)) → (e : Entry) (t : ℕ)
       → Among e (pair_with p (program h ms).peers).entries → e.own ≡ own → e.foreign ≡ foreign → e.partner ≡ Some t → ⊥
   no_partner own foreign (inl q) e t there f g partner =
       let c : Coupled hosts ms = coupled_in hosts ms l in
