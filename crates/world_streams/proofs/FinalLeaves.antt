@@ -1,16 +1,15 @@
 -- The lives of a host that leaves its peer, or has left, end and do nothing else.
-use Rattle.std.proofs.Common.{◌≡◌, ◌⊎◌, inl, inr, ℕ, ◌==◌, ◌&&◌, not, Bool, true, false, List, [], ◌∷◌, filter, Option, Some, None, refl, ap, sym, subst, ◌∙◌, eq-eqb}
+use Rattle.std.proofs.Common.{◌≡◌, ◌⊎◌, inl, inr, ℕ, ◌==◌, ◌&&◌, Bool, true, false, List, [], ◌∷◌, filter, Option, Some, None, refl, ap, sym, subst, ◌∙◌, eq-eqb}
 use Rattle.leader1822.specs.Host.{Host, same_host}
 use Rattle.leader1822.specs.declared.crossing.Crossing.TheVariants as crossing
 use Rattle.leader1822.specs.declared.message.HostMessage.{HostMessage}
 use Rattle.leader1822.proofs.Lists.{same_host-true}
 use Rattle.ncp_control.specs.Numbers.{is_receive_socket, is_send_socket}
-use Rattle.host_pairs.specs.Control.{orders_of}
 use Rattle.host_pairs.specs.Entries.{is_at}
 use Rattle.host_pairs.specs.Phases.{is_ready}
 use Rattle.host_pairs.specs.declared.entry.Entry.{Entry}
 use Rattle.host_pairs.proofs.OpeningLemmas.{both}
-use Rattle.host_pairing.specs.Ends.{HasEnd, Standing, at, end_of, is_past, standing}
+use Rattle.host_pairing.specs.Ends.{HasEnd, at, end_of, is_past, standing}
 use Rattle.host_pairing.specs.Words.{marks}
 use Rattle.pairing_law.specs.Ends.{End, nothing}
 use Rattle.pairing_law.proofs.Resets.{takes_in_stay}
@@ -24,7 +23,7 @@ use Rattle.sockets.specs.Pairs.{pair_with}
 use Rattle.sockets.specs.declared.request.Request.{Request}
 use Rattle.sockets.specs.declared.request.Request.TheVariants as request
 use Rattle.net_sim.specs.Book.{ended}
-use Rattle.net_sim.specs.Projection.{AllPlain, IsApart, message_on}
+use Rattle.net_sim.specs.Projection.{IsApart, message_on}
 use Rattle.net_sim.specs.Story.{Moment, Crossed, Asked, event_in, events_of, places, program}
 use Rattle.net_sim.specs.Timeline.{crossings_of}
 use Rattle.net_sim.specs.Told.{host_in, notices_by}

@@ -1,5 +1,5 @@
 -- Lives of one host with one peer, where a moment lets them be or ends them, and begins none.
-use Rattle.std.proofs.Common.{◌≡◌, ◌⊎◌, inl, inr, ℕ, ◌==◌, ◌&&◌, Bool, true, false, not, List, [], ◌∷◌, ◌++◌, map, refl, ap, sym, subst, ◌∙◌}
+use Rattle.std.proofs.Common.{◌≡◌, ◌⊎◌, inl, inr, ℕ, Bool, true, false, List, [], ◌∷◌, ◌++◌, map, refl, ap, sym, subst, ◌∙◌}
 use Rattle.std.proofs.lemmas.List.{append_assoc, map-append}
 use Rattle.leader1822.specs.Host.{Host, same_host}
 use Rattle.leader1822.specs.declared.crossing.Crossing.TheVariants as crossing
@@ -13,7 +13,7 @@ use Rattle.net_sim.specs.Book.{Kept, all_told, carried, changed_when, ended, gra
 use Rattle.net_sim.specs.Story.{Moment, Crossed, Asked}
 use Rattle.net_sim.specs.Told.{host_in, kept_by, kept_in, notices_by}
 use Rattle.world_lives.proofs.Desks.{clash}
-use Rattle.world_streams.proofs.FinalLists.{Grown, IsOf, grown, of_either, of_mapped}
+use Rattle.world_streams.proofs.FinalLists.{IsOf, grown, of_either, of_mapped}
 
 -- ---- notices
 

@@ -1,5 +1,5 @@
 -- What a program tells of a peer with which its host does not stay, or which it leaves: none of it opens an end with that peer.
-use Rattle.std.proofs.Common.{◌≡◌, ◌⊎◌, inl, inr, ℕ, ◌*◌, ◌==◌, ◌&&◌, ◌||◌, not, Bool, true, false, if◌then◌else◌, cond, List, [], ◌∷◌, ◌++◌, filter, take, Option, Some, None, refl, ap, sym, subst, ◌∙◌}
+use Rattle.std.proofs.Common.{◌≡◌, ◌⊎◌, inl, inr, ℕ, ◌*◌, ◌==◌, ◌||◌, not, Bool, true, false, if◌then◌else◌, List, [], ◌∷◌, ◌++◌, filter, take, Option, Some, None, refl, ap, sym, subst, ◌∙◌}
 use Rattle.std.specs.List.{flat_map}
 use Rattle.leader1822.specs.Host.{Host, same_host}
 use Rattle.leader1822.specs.declared.address.Flow.{Flow}
@@ -11,14 +11,13 @@ use Rattle.leader1822.proofs.Lists.{same_host-refl, same_host-true}
 use Rattle.ncp_control.specs.declared.command.Command.{Command}
 use Rattle.ncp_control.specs.declared.command.Command.TheVariants as command
 use Rattle.host_pairs.specs.About.{AreAbout, IsAbout}
-use Rattle.host_pairs.specs.Asked.{contact_notices}
 use Rattle.host_pairs.specs.Commands.{changed}
 use Rattle.host_pairs.specs.Control.{Order, Legal, Wrong, orders_of}
 use Rattle.host_pairs.specs.Desk.{DeskState, desk_of, swept}
 use Rattle.host_pairs.specs.Entries.{changed_at, changed_first, ending, entry_at, is_at, is_busy, is_over, opening, opening_by}
 use Rattle.host_pairs.specs.Parcels as parcel
 use Rattle.host_pairs.specs.Parcels.{Parcel, asked_at, cls_sent, command_gone, commands_gone, parcel_gone}
-use Rattle.host_pairs.specs.Phases.{is_ready, rfnm_phase}
+use Rattle.host_pairs.specs.Phases.{is_ready}
 use Rattle.host_pairs.specs.Turn.{TurnState, answered_turn, failed_by, freed, is_gone, message_taken, order_taken, orders_taken, reply_notices, reset_notices, settled_turn}
 use Rattle.host_pairs.specs.declared.entry.Entry.{Entry}
 use Rattle.host_pairs.specs.declared.notice.Notice.{Notice}
@@ -80,8 +79,8 @@ module _ (calm : Bool) (p : Host) where
       let none : AllUnasked (changed_at own foreign (asked_at stamp) d.entries) = unasked_changed (is_at own foreign) (asked_at stamp) d.entries (λ e. refl) h.0 in (
         none,
         fine_both calm p d.notices (opening peer (entry_at own foreign (changed_at own foreign (asked_at stamp) d.entries))) h.1
-        (subst (λ (ns : List Notice). AllFine calm p ns) (sym (opening_none peer (entry_at own foreign (changed_at own foreign (asked_at stamp) d.entries))
-        (λ e is. unasked_changed (is_at own foreign) (asked_at stamp) d.entries (λ x. refl) h.0 e (found_among (is_at own foreign) (changed_at own foreign (asked_at stamp) d.entries) e is).0))) tt),
+            (subst (λ (ns : List Notice). AllFine calm p ns) (sym (opening_none peer (entry_at own foreign (changed_at own foreign (asked_at stamp) d.entries))
+            (λ e is. unasked_changed (is_at own foreign) (asked_at stamp) d.entries (λ x. refl) h.0 e (found_among (is_at own foreign) (changed_at own foreign (asked_at stamp) d.entries) e is).0))) tt),
       )
 
   desk_closed : (peer : Host) (own foreign : ℕ) (d : DeskState) → Desk d → Desk (swept peer (changed (is_at own foreign) cls_sent d))
