@@ -38,7 +38,7 @@ stood_own a b x g j i heard =
           subst (λ (k : ℕ). Asks k x.own a.said)
           (asks_once new.0 g x.partner b.said j.there.grows (asks_said new.0 x.partner a.heard b.said j.here.older new.2) said) new.1
 
-foreign_sends : (x : Life) → receives x ≡ true → ArePaired x → is_send_socket x.foreign ≡ true
+pub foreign_sends : (x : Life) → receives x ≡ true → ArePaired x → is_send_socket x.foreign ≡ true
 foreign_sends x r (inl p) = p.1
 foreign_sends x r (inr p) = absurd (even_odd x.socket r p.0)
 

@@ -83,6 +83,7 @@ pub mod KeepsAnswer
 pub mod KeepsAskedNext
 pub mod KeepsAsked
 pub mod KeepsAskedDown
+pub mod FinalLivesPresent
 pub mod FinalLives
 pub mod FinalLeavesLists
 pub mod FinalLeavesTold
