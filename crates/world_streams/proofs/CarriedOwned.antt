@@ -38,7 +38,7 @@ owned_now hosts ms addresses run time a b x there host peer goes =
     subst (λ (g : Host). mine_on x.socket (pair_with b (program g ms).peers).entries ≡ h.end ∷ []) host (subst (λ (g : Host). mine_on x.socket (pair_with g (program x.host ms).peers).entries ≡ h.end ∷ []) peer h.one) in
     record { end = h.end; one = one; foreign = h.foreign; asked = h.own; partner = h.partner }
 
-among_each : (a : Host) (k : ℕ) (P : Life → List Bool → Type 0) (lives : List Life) (handed : List (List Bool)) (x : Life) → Among x lives → at_socket a k x ≡ true → x.ended ≡ false → EachOn a k P lives handed → (t : List Bool) × P x t
+pub among_each : (a : Host) (k : ℕ) (P : Life → List Bool → Type 0) (lives : List Life) (handed : List (List Bool)) (x : Life) → Among x lives → at_socket a k x ≡ true → x.ended ≡ false → EachOn a k P lives handed → (t : List Bool) × P x t
 among_each a k P [] handed x there at goes e = absurd there
 among_each a k P (y ∷ ys) [] x there at goes e = absurd e
 among_each a k P (y ∷ ys) (t ∷ ts) x (inl is) at goes e =

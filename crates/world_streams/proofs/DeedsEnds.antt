@@ -104,7 +104,7 @@ does_if : (v : Bool) (d e : Deed) (es : List Entry) (x y : DeskState) → Does d
 does_if true d e es x y p q = p
 does_if false d e es x y p q = q
 
-found_cases : (o : Option Entry) (P : Found → Type 0) → P Unconnected → P Ending → ((e : Entry) → o ≡ Some e → is_open e ≡ true → P (Open e)) → P (found_in o)
+pub found_cases : (o : Option Entry) (P : Found → Type 0) → P Unconnected → P Ending → ((e : Entry) → o ≡ Some e → is_open e ≡ true → P (Open e)) → P (found_in o)
 found_cases None P u v w = u
 found_cases (Some e) P u v w = by (is_open e) (is_ending e) refl where
   by : (x y : Bool) → is_open e ≡ x → P (if x then Open e else (if y then Ending else Unconnected))

@@ -76,6 +76,8 @@ pub mod FinalSince
 pub mod FinalOwn
 pub mod CarriedEvery
 pub mod CarriedStill
+pub mod OtherAlike
+pub mod OtherTurns
 pub mod OtherLives
 pub mod KeepsIn
 pub mod KeepsOut
