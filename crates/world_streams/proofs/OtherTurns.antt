@@ -1,6 +1,6 @@
 -- What a host does with one peer leaves its lives with another as they were.
-use Rattle.std.proofs.Common.{◌≡◌, inl, inr, ℕ, ◌==◌, ◌&&◌, ◌||◌, Bool, true, false, not, nat_le, if◌then◌else◌, List, [], ◌∷◌, ◌++◌, find, Option, Some, None, is_some, refl, ap, sym, subst, ◌∙◌, append-nil, eq-eqb}
-use Rattle.std.specs.List.{flat_map, list_any}
+use Rattle.std.proofs.Common.{◌≡◌, ℕ, ◌==◌, ◌&&◌, ◌||◌, Bool, true, false, not, nat_le, if◌then◌else◌, List, [], ◌∷◌, ◌++◌, find, Option, Some, None, is_some, refl, ap, sym, subst, ◌∙◌, eq-eqb}
+use Rattle.std.specs.List.{list_any}
 use Rattle.leader1822.specs.Host.{Host, same_host}
 use Rattle.leader1822.specs.declared.crossing.Answer.{Answer}
 use Rattle.leader1822.specs.declared.crossing.Answer.TheVariants as answer
@@ -24,7 +24,7 @@ use Rattle.host_pairs.specs.declared.phase.Phase.{Phase}
 use Rattle.host_pairs.specs.declared.phase.Phase.TheVariants as phase
 use Rattle.host_streams.specs.Histories.{Call, Hears, Takes}
 use Rattle.net_sim.specs.declared.life.Life.{Life}
-use Rattle.net_sim.specs.Book.{Kept, all_told, lives_at}
+use Rattle.net_sim.specs.Book.{Kept, all_told}
 use Rattle.host_pairs.proofs.OpeningLemmas.{both}
 use Rattle.world_lives.specs.Lives.{AreRefusing, IsLifeOf, at_socket, mine_on}
 use Rattle.world_lives.proofs.Ends.{refusing_found}
@@ -36,7 +36,7 @@ use Rattle.world_lives.proofs.Turns.{GoodTurn, good_ready, good_reset}
 use Rattle.world_streams.proofs.Deeds as deeds
 use Rattle.world_streams.proofs.Deeds.{Among, Deed, all_lives, among_kept, found_among}
 use Rattle.world_streams.proofs.DeedsOf.{arrives, arrives_if, closings, deed_of, hears, matches, opens, opens_by, returns}
-use Rattle.world_streams.proofs.DeedsTold.{After, IsTold, call_told, notices_of}
+use Rattle.world_streams.proofs.DeedsTold.{IsTold, call_told, notices_of}
 use Rattle.world_streams.proofs.DeedsEnds.{IsAt, found_cases}
 use Rattle.world_streams.proofs.CarriedOwned.{IsAway, among_each, told_lives}
 use Rattle.world_streams.proofs.OtherAlike.{AreAlike, AreNamed, IsClear, IsClearOf, alike_same, alike_then, deed_alike, named_alike}
