@@ -1,7 +1,8 @@
-//! The book of a world, with all that is proved of it so far of what a safe book promises.
+//! The promise of the book of a world: the headline.
 //!
-//! Each part is proved in a crate of its own: the messages in `net_sim`, the partners in `world_pairing`, and what is about one host
-//! alone in `world_lives`. Here they stand together, on the call by which a program gets the book.
+//! Each part is proved in a crate of its own: the messages in `net_sim`, the partners in `world_pairing`, what is about one host alone
+//! in `world_lives`, and what is about two programs together in `world_streams`. Here they stand as one statement, on the call by which
+//! a program gets the book. It asks for nothing: a carrier's law and the programs of all hosts are part of what a `World` is.
 #![tactic(auto)]
 
 mod book;

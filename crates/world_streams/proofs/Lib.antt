@@ -90,3 +90,5 @@ pub mod FinalLives
 pub mod FinalLeavesLists
 pub mod FinalLeavesTold
 pub mod FinalLeaves
+pub mod CarriedWorld
+pub mod FinalAll

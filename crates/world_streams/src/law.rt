@@ -1,6 +1,7 @@
 //! What two programs of a world do on each link. The functions here do nothing: each clause is a law.
 
 ghost use Rattle.std.specs.Prelude.{◌≡◌, ℕ, ◌==◌, true, false, List, [], ◌∷◌, None, Some, length};
+ghost use Rattle.std.specs.List.{Contains};
 ghost use Rattle.leader1822.specs.Host.{Host};
 ghost use Rattle.leader1822.specs.Mailboxes as mail;
 ghost use Rattle.host_streams.specs.Ends.{HasReceiver};
@@ -11,11 +12,17 @@ ghost use Rattle.reset_law.specs.Stays as stay;
 ghost use Rattle.sockets.specs.Pairs.{pair_with};
 ghost use Rattle.sockets.specs.Worked as dialogue;
 ghost use Rattle.sockets.specs.declared.request.Request.TheVariants as request;
-ghost use Rattle.net_sim.specs.Clean.{HaveAddresses};
+ghost use Rattle.net_sim.specs.declared.life.Life.{Life};
+ghost use Rattle.net_sim.specs.Clean.{HaveAddresses, IsLawful};
+ghost use Rattle.net_sim.specs.Safe.{IsGranted, Match, Source, receives};
 ghost use Rattle.net_sim.specs.Story.{Asked, Moment, events_of, program};
 ghost use Rattle.net_sim.specs.Timeline.{IsTimeline, crossings_of};
+ghost use Rattle.net_sim.specs.Told.{kept_in};
+ghost use Rattle.net_sim.specs.World.{WorldState};
 ghost use Rattle.net_sim.specs.WorkedMoments.{connected};
 ghost use Rattle.world_streams.specs.Calls.{own_calls, turned};
+
+use leader1822::Carrier;
 
 /// What each host's program does with a peer, over every list of moments in which what crosses is a run of the mailboxes.
 pub fn programs()
@@ -39,6 +46,21 @@ pub fn streams()
     // with what was returned, what was taken is within what was granted, and so is what was sent
     ensures taken { (hosts : List Host) (moments : List Moment) → HaveAddresses hosts → mail.IsRun hosts (crossings_of moments) → IsTimeline hosts moments → (a b : Host) (link : ℕ) → (link == 0) ≡ false → stay.stays a b (events_of moments) ≡ true → stay.stays b a (events_of moments) ≡ true → (c : ℕ) → AreGranted ((receiver_now numbered b link (own_calls a b moments)).taken c) ((receiver_now numbered b link (own_calls a b moments)).returned c) ((receiver_now numbered b link (own_calls a b moments)).granted c) }
     ensures sent { (hosts : List Host) (moments : List Moment) → HaveAddresses hosts → mail.IsRun hosts (crossings_of moments) → IsTimeline hosts moments → (a b : Host) (link : ℕ) → (link == 0) ≡ false → stay.stays a b (events_of moments) ≡ true → stay.stays b a (events_of moments) ≡ true → (c : ℕ) → AreGranted ((sender_now turned a link (own_calls b a moments)).sent c) ((receiver_now numbered b link (own_calls a b moments)).returned c) ((receiver_now numbered b link (own_calls a b moments)).granted c) }
+{}
+
+/// The lives of a book, over every list of moments in which what crosses is a run of the mailboxes.
+pub fn lives()
+    // what a receiving life took is a front of what its one partner sent: where it took anything there is one
+    ensures source { (hosts : List Host) (moments : List Moment) → HaveAddresses hosts → mail.IsRun hosts (crossings_of moments) → IsTimeline hosts moments → (receiver : Life) → Contains (kept_in moments).book.lives receiver → receives receiver ≡ true → (receiver.bits ≡ [] → ⊥) → Source (crossings_of moments) (kept_in moments).book.lives receiver }
+
+    // what a sending life sent that it matches, with what was returned, is within what it granted
+    ensures sent { (hosts : List Host) (moments : List Moment) → HaveAddresses hosts → mail.IsRun hosts (crossings_of moments) → IsTimeline hosts moments → (receiver sender : Life) → Contains (kept_in moments).book.lives receiver → Contains (kept_in moments).book.lives sender → Match (crossings_of moments) receiver sender → IsGranted receiver sender.messages (length sender.bits) }
+{}
+
+/// The same of the book of every world, whatever its carrier is made of.
+pub fn worlds<C: Carrier>()
+    ensures source { (hosts : List Host) (w : WorldState C) → IsLawful C.seen hosts w → (receiver : Life) → Contains w.kept.book.lives receiver → receives receiver ≡ true → (receiver.bits ≡ [] → ⊥) → Source w.kept.book.crossings w.kept.book.lives receiver }
+    ensures sent { (hosts : List Host) (w : WorldState C) → IsLawful C.seen hosts w → (receiver sender : Life) → Contains w.kept.book.lives receiver → Contains w.kept.book.lives sender → Match w.kept.book.crossings receiver sender → IsGranted receiver sender.messages (length sender.bits) }
 {}
 
 /// The calls of two programs: the first asks for a connection, and the second's socket listens. Here a connection is told by its receiving socket.
