@@ -60,10 +60,15 @@ def is_well_formed(log, lives):
 
 
 def partners_are_kept(log, lives):
-    """No request opens two lives of one kind, and the partner of a life's partner is that life."""
+    """No request is two lives' own, or two lives' partner's; each life has one of its partner's, and the partner of a life's partner is that life."""
     own = [own_request(life) for life in lives]
     partner = [partner_request(log, life) for life in lives]
     if len({*own}) < len(own) or len({*partner}) < len(partner):
+        return False
+    if any(place is None for place, *_ in partner):
+        return False
+    ends = {mine: (life.host, life.peer) for mine, life in zip(own, lives)}
+    if any(ends[asked] != (life.peer, life.host) for asked, life in zip(partner, lives) if asked in ends):
         return False
     return all(partner[own.index(asked)] == mine for mine, asked in zip(own, partner) if asked in own)
 

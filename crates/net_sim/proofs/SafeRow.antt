@@ -1,5 +1,5 @@
 -- The book of a connection on which a message was taken is safe.
-use Rattle.std.proofs.Common.{◌≡◌, ℕ, true, false, [], ◌∷◌, ◌++◌, length, length-append, Option, Some, None, inl, inr, refl, ap, sym, subst, ◌∙◌, arith}
+use Rattle.std.proofs.Common.{◌≡◌, ℕ, true, false, [], ◌∷◌, ◌++◌, length, length-append, Option, Some, None, IsSome, inl, inr, refl, ap, sym, subst, ◌∙◌, arith}
 use Rattle.leader1822.specs.Mailboxes.{IsRun}
 use Rattle.leader1822.proofs.MessageLaw.{safe_messages}
 use Rattle.sockets.specs.Worked.{first, second}
@@ -36,6 +36,22 @@ partners = record {
       (let s : (giver ≡ x) × (taker ≡ y) = only_two giver taker x y two in
       let w : partner_request crossings giver ≡ partner_request crossings taker = ap (partner_request crossings) s.0 ∙ e ∙ sym f ∙ sym (ap (partner_request crossings) s.1) in
       some_apart (sym w));
+  named = λ x inx.
+      elim (two_there giver taker x inx) [
+        | inl a ↦ subst (λ (z : Life). IsSome (partner_request crossings z)) a refl
+        | inr a ↦ subst (λ (z : Life). IsSome (partner_request crossings z)) a refl
+      ];
+  peers = λ x y inx iny e.
+      elim (two_there giver taker x inx) [
+        | inl a ↦ elim (two_there giver taker y iny) [
+          | inl b ↦ absurd (let w : Some (own_request taker) ≡ Some (own_request giver) = ap (partner_request crossings) a ∙ e ∙ ap (λ (z : Life). Some (own_request z)) (sym b) in some_apart (sym w))
+          | inr b ↦ (ap (λ (z : Life). z.peer) (sym a) ∙ ap (λ (z : Life). z.host) b, ap (λ (z : Life). z.peer) (sym b) ∙ ap (λ (z : Life). z.host) a)
+        ]
+        | inr a ↦ elim (two_there giver taker y iny) [
+          | inl b ↦ (ap (λ (z : Life). z.peer) (sym a) ∙ ap (λ (z : Life). z.host) b, ap (λ (z : Life). z.peer) (sym b) ∙ ap (λ (z : Life). z.host) a)
+          | inr b ↦ absurd (let w : Some (own_request giver) ≡ Some (own_request taker) = ap (partner_request crossings) a ∙ e ∙ ap (λ (z : Life). Some (own_request z)) (sym b) in some_apart w)
+        ]
+      ];
   both_ways = λ x y inx iny e.
       elim (two_there giver taker x inx) [
         | inl a ↦ elim (two_there giver taker y iny) [

@@ -1,13 +1,14 @@
 -- Books that aren't safe.
-use Rattle.std.proofs.Common.{◌≡◌, ◌⊎◌, ◌≤◌, true, false, List, [], ◌∷◌, ◌++◌, Some, zero, suc, inl, inr, refl, ap, sym, subst, ◌∙◌, arith}
+use Rattle.std.proofs.Common.{◌≡◌, ◌⊎◌, ◌≤◌, true, false, List, [], ◌∷◌, ◌++◌, Some, IsSome, zero, suc, inl, inr, refl, ap, sym, subst, ◌∙◌, arith}
 use Rattle.std.specs.List.{Contains}
+use Rattle.leader1822.specs.Host.{Host}
 use Rattle.leader1822.specs.declared.crossing.Answer.TheVariants as answer
 use Rattle.leader1822.specs.declared.crossing.Crossing.{Crossing}
 use Rattle.leader1822.specs.declared.crossing.Crossing.TheVariants as crossing
-use Rattle.sockets.specs.Worked.{first, second, on_link}
+use Rattle.sockets.specs.Worked.{first, second, third, on_link}
 use Rattle.net_sim.specs.Book.{Life}
 use Rattle.net_sim.specs.Safe.{SafeBook, IsGranted, Source, Match, IsFront, sends, own_request, partner_request}
-use Rattle.net_sim.specs.Worked.{eight, four, crossings, message, receiver, taker, giver}
+use Rattle.net_sim.specs.Worked.{eight, four, crossings, message, receiver, taker, giver, elsewhere, asker, stranger}
 
 -- ---- where a life stands
 
@@ -45,6 +46,11 @@ granted_bits b =
     let g : IsGranted (record taker { granted = record { messages = 2; bits = 11 } }) 1 8 = b.grants.taken (record taker { granted = record { messages = 2; bits = 11 } }) (1, omega arith, refl) refl in
     let le : 12 ≤ 11 = g.bits in omega (arith, le)
 
+pub taken_messages : SafeBook crossings (giver ∷ record taker { messages = 3 } ∷ []) (eight ∷ [] ∷ []) → ⊥
+taken_messages b =
+    let g : IsGranted (record taker { messages = 3 }) 3 8 = b.grants.taken (record taker { messages = 3 }) (1, omega arith, refl) refl in
+    let le : 4 ≤ 2 = g.messages in omega (arith, le)
+
 pub granted_messages : SafeBook crossings (giver ∷ record taker { granted = record { messages = 1; bits = 100 } } ∷ []) (eight ∷ [] ∷ []) → ⊥
 granted_messages b =
     let g : IsGranted (record taker { granted = record { messages = 1; bits = 100 } }) 1 8 = b.grants.taken (record taker { granted = record { messages = 1; bits = 100 } }) (1, omega arith, refl) refl in
@@ -72,6 +78,14 @@ one_way b =
     let back : partner_request crossings x ≡ Some (own_request taker) = b.partners.both_ways taker x (1, omega arith, refl) (0, omega arith, refl) refl in absurd (cc)
 
 -- ---- streams
+
+pub unanswered : SafeBook crossings (record giver { partner_stamp = 0 } ∷ []) (eight ∷ []) → ⊥
+unanswered b = let some : IsSome (partner_request crossings (record giver { partner_stamp = 0 })) = b.partners.named (record giver { partner_stamp = 0 }) (0, omega arith, refl) in absurd (cc)
+
+pub another_host : SafeBook elsewhere (asker ∷ stranger ∷ []) ([] ∷ [] ∷ []) → ⊥
+another_host b =
+    let apart : (second ≡ third) × (first ≡ first) = b.partners.peers asker stranger (0, omega arith, refl) (1, omega arith, refl) refl in
+    let octets : 2 ≡ 3 = ap (λ (h : Host). h.imp) apart.0 in absurd (omega (arith, octets))
 
 pub from_nobody : SafeBook crossings (taker ∷ []) ([] ∷ []) → ⊥
 from_nobody b =

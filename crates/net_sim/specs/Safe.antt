@@ -1,5 +1,5 @@
 -- What a book promises of all connections, and what it is about: messages, partners, streams and allocation.
-use Rattle.std.specs.Prelude.{◌≡◌, ℕ, ◌+◌, ◌-◌, ◌≤◌, Bool, true, if◌then◌else◌, List, [], ◌∷◌, ◌++◌, length, drop, Option, Some, None}
+use Rattle.std.specs.Prelude.{◌≡◌, ℕ, ◌+◌, ◌-◌, ◌≤◌, Bool, true, if◌then◌else◌, List, [], ◌∷◌, ◌++◌, length, drop, Option, Some, None, IsSome}
 use Rattle.std.specs.List.{Contains}
 use Rattle.leader1822.specs.Host.{Host}
 use Rattle.leader1822.specs.Mailboxes.{same_flow}
@@ -49,10 +49,13 @@ partner_request log x = named x (last_out (control_flow x.peer x.host) (before x
 abbrev pub AreTwo : List Life → Life → Life → Type 0
 AreTwo lives x y = (front : List Life) × (between : List Life) × (rest : List Life) × (lives ≡ front ++ x ∷ between ++ y ∷ rest)
 
--- no request opens two ends of one sort, and what one life has for its partner's request is never another's own without the reverse
+-- no request is the own request of two lives, or the partner's request of two. Each life has a partner's request, which its peer said
+-- to it; and where that is another life's own, the two are each other's hosts, and the reverse holds too
 pub record SafePartners (log : List Crossing) (lives : List Life) : Type 0 where
   pub own_once : (x y : Life) → AreTwo lives x y → own_request x ≡ own_request y → ⊥
   pub partner_once : (x y : Life) (name : Name) → AreTwo lives x y → partner_request log x ≡ Some name → partner_request log y ≡ Some name → ⊥
+  pub named : (x : Life) → Contains lives x → IsSome (partner_request log x)
+  pub peers : (x y : Life) → Contains lives x → Contains lives y → partner_request log x ≡ Some (own_request y) → (x.peer ≡ y.host) × (y.peer ≡ x.host)
   pub both_ways : (x y : Life) → Contains lives x → Contains lives y → partner_request log x ≡ Some (own_request y) → partner_request log y ≡ Some (own_request x)
 
 -- ---- a receiving life and a sending one
@@ -111,7 +114,7 @@ pub record SafeGrants (log : List Crossing) (lives : List Life) : Type 0 where
 -- ---- the safe book
 
 -- a message answered by RFNM was taken exactly once and none is taken twice; no two ends hold one opening with different partners;
--- what was taken is a front of what its one partner sent; and all of it is granted
+-- what was taken is a front of what its one partner sent; and what was taken, and what was sent, is granted
 pub record SafeBook (log : List Crossing) (lives : List Life) (handed : List (List Bool)) : Type 0 where
   pub messages : SafeMessages log
   pub partners : SafePartners log lives

@@ -9,7 +9,7 @@ use Rattle.leader1822.specs.declared.message.HostMessage.{HostMessage}
 use Rattle.sockets.specs.Pairs.{opening_state}
 use Rattle.host_pairs.specs.declared.notice.Notice.TheVariants as notice
 use Rattle.sockets.specs.declared.request.Request.TheVariants as request
-use Rattle.sockets.specs.Worked.{first, second, on_link}
+use Rattle.sockets.specs.Worked.{first, second, third, on_link}
 use Rattle.net_sim.specs.Book.{Life, Kept, Told, opening_kept, all_crossed, told, asked}
 use Rattle.net_sim.specs.World.{Calls, WorldState, opening_world, changed, served_at}
 
@@ -79,6 +79,17 @@ taker = record receiver { bits = eight; messages = 1; granted = record { message
 
 abbrev pub giver : Life
 giver = record sender { bits = eight; messages = 1 }
+
+-- newest first: a control message to the first host, and one of the first to the third, which takes it
+abbrev pub elsewhere : List Crossing
+elsewhere = crossing.In (message first third 0) ∷ crossing.Out (message first third 0) ∷ crossing.Out (message second first 0) ∷ []
+
+-- two lives whose requests answer one another, though the first is with the second host, and the other is the third host's
+abbrev pub asker : Life
+asker = record receiver { own_stamp = 1; partner_stamp = 1 }
+
+abbrev pub stranger : Life
+stranger = record sender { host = third; own_stamp = 0; partner_stamp = 2 }
 
 abbrev pub over : Life → Life
 over x = record x { ended = true }

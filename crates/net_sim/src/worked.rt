@@ -9,7 +9,7 @@ ghost use Rattle.leader1822.specs.declared.crossing.Crossing.TheVariants as cros
 ghost use Rattle.leader1822.specs.declared.event.NetEvent.TheVariants as event;
 ghost use Rattle.net_sim.specs.Book.{opening_kept, told, asked, crossed, all_crossed};
 ghost use Rattle.net_sim.specs.Safe.{SafeBook, SafePartners, SafeStreams, SafeGrants, Match, own_request, partner_request, last_out, before, control_flow};
-ghost use Rattle.net_sim.specs.Worked.{eight, four, crossings, message, opened, used, receiver, sender, taker, giver, over, any_carrier, fresh, down, busy, halted, stamp_of};
+ghost use Rattle.net_sim.specs.Worked.{eight, four, crossings, message, opened, used, receiver, sender, taker, giver, elsewhere, asker, stranger, over, any_carrier, fresh, down, busy, halted, stamp_of};
 ghost use Rattle.net_sim.specs.World.{WorldState, WorldFault, Carrier, Program, Net, Quiet, Offer, Take, Ask, StepGives, RunGives, all_turned, seat_of, up_in, served_at, changed};
 ghost use Rattle.sockets.specs.Pairs.{opening_state};
 ghost use Rattle.sockets.specs.Requests.{served};
@@ -104,12 +104,17 @@ pub fn unsafe_books()
 
     // more is taken, or sent, than was granted less what was returned
     ensures granted_bits { SafeBook crossings (giver ∷ record taker { granted = record { messages = 2; bits = 11 } } ∷ []) (eight ∷ [] ∷ []) → ⊥ }
+    ensures taken_messages { SafeBook crossings (giver ∷ record taker { messages = 3 } ∷ []) (eight ∷ [] ∷ []) → ⊥ }
     ensures granted_messages { SafeBook crossings (giver ∷ record taker { granted = record { messages = 1; bits = 100 } } ∷ []) (eight ∷ [] ∷ []) → ⊥ }
     ensures sent_bits { SafeBook crossings (record giver { bits = eight ++ eight } ∷ record taker { granted = record { messages = 2; bits = 19 } } ∷ []) ((eight ++ eight) ∷ [] ∷ []) → ⊥ }
 
     // one request opens two ends
     ensures own_twice { SafeBook crossings (giver ∷ taker ∷ taker ∷ []) (eight ∷ [] ∷ [] ∷ []) → ⊥ }
     ensures partner_twice { SafeBook crossings (giver ∷ taker ∷ record receiver { own_stamp = 7 } ∷ []) (eight ∷ [] ∷ [] ∷ []) → ⊥ }
+
+    // a life took a request that nobody said to it, or one of another host's end
+    ensures unanswered { SafeBook crossings (record giver { partner_stamp = 0 } ∷ []) (eight ∷ []) → ⊥ }
+    ensures another_host { SafeBook elsewhere (asker ∷ stranger ∷ []) ([] ∷ [] ∷ []) → ⊥ }
 
     // a receiver has a partner that has another
     ensures one_way { SafeBook crossings (record giver { partner_stamp = 0 } ∷ taker ∷ []) (eight ∷ [] ∷ []) → ⊥ }

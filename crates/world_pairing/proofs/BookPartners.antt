@@ -210,8 +210,15 @@ module _ (hosts : List Host) (moments : List Moment) (story : IsStory moments) (
   pub partner_named : (x : book.Life) → Contains (kept_in moments).book.lives x → IsSome (partner_request (crossings_of moments) x)
   partner_named x c = some_name x (last_out (control_flow x.peer x.host) (before x.partner_stamp (crossings_of moments))) (partner_out x c)
 
+  -- and it went out of the host of the life whose own it is
+  peers_there : (x y : book.Life) → Contains (kept_in moments).book.lives x → Contains (kept_in moments).book.lives y → partner_request (crossings_of moments) x ≡ Some (own_request y) → (x.peer ≡ y.host) × (y.peer ≡ x.host)
+  peers_there x y cx cy e =
+      let nx : NamedBy x (last_out (control_flow x.peer x.host) (before x.partner_stamp (crossings_of moments))) (own_request y) = named_by x _ (own_request y) e in
+      let ends : (x.peer ≡ y.host) × (x.host ≡ y.peer) = went_once x.peer x.host y.host y.peer y.own_stamp (crossings_of moments) (partner_went x y.own_stamp nx.place) (own_went y cy) in
+      (ends.0, sym ends.1)
+
   pub safe_partners : SafePartners (crossings_of moments) (kept_in moments).book.lives
-  safe_partners = record { own_once = owned_once; partner_once = taken_once; both_ways = both_there }
+  safe_partners = record { own_once = owned_once; partner_once = taken_once; named = partner_named; peers = peers_there; both_ways = both_there }
 
   -- ---- what matches
 
@@ -225,11 +232,10 @@ module _ (hosts : List Host) (moments : List Moment) (story : IsStory moments) (
   pub life_matches : (x y : book.Life) → Contains (kept_in moments).book.lives x → Contains (kept_in moments).book.lives y → receives x ≡ true → partner_request (crossings_of moments) x ≡ Some (own_request y) → Match (crossings_of moments) x y
   life_matches x y cx cy here e =
       let nx : NamedBy x (last_out (control_flow x.peer x.host) (before x.partner_stamp (crossings_of moments))) (own_request y) = named_by x _ (own_request y) e in
-      let ends : (x.peer ≡ y.host) × (x.host ≡ y.peer) = went_once x.peer x.host y.host y.peer y.own_stamp (crossings_of moments) (partner_went x y.own_stamp nx.place) (own_went y cy) in
       record {
         receiving = here;
         sending = subst (λ (n : ℕ). is_send_socket n ≡ true) nx.own (other_sends x here (life_paired x cx));
-        peers = (ends.0, sym ends.1);
+        peers = peers_there x y cx cy e;
         sockets = (nx.own, sym nx.foreign);
         asked = e;
         answered = both_there x y cx cy e;

@@ -10,9 +10,10 @@ use Rattle.net_sim.specs.Safe.{receives, sends}
 use Rattle.net_sim.specs.Story.{Moment, event_in, events_of}
 use Rattle.net_sim.specs.declared.life.Life.{Life}
 use Rattle.world_streams.proofs.Joined.{Joined, Keeps}
+use Rattle.world_streams.proofs.Carried.{all_bits}
 use Rattle.world_streams.proofs.FinalLists.{IsOf, Grown, grown, of_drop}
 use Rattle.world_streams.proofs.FinalSides.{lives_in}
-use Rattle.world_streams.proofs.FinalStreams.{all_bits, front_bits, front_on}
+use Rattle.world_streams.proofs.FinalStreams.{front_bits, front_on}
 use Rattle.world_streams.proofs.FinalWhole.{since, present_in, Away, Was, PresentR, PresentS, HasR, HasS, was_there, still_there}
 
 map_length : (f : Life → Life) (xs : List Life) → length (map f xs) ≡ length xs

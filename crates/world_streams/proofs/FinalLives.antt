@@ -1,5 +1,5 @@
 -- The lives of two hosts that stay, as a safe book asks for them.
-use Rattle.std.proofs.Common.{◌≡◌, inl, inr, ℕ, zero, suc, ◌≤◌, ◌==◌, Bool, true, false, List, [], ◌∷◌, ◌++◌, drop, ap, refl, sym, subst, ◌∙◌, arith}
+use Rattle.std.proofs.Common.{◌≡◌, inl, inr, ℕ, zero, suc, ◌≤◌, ◌==◌, true, false, List, [], ◌∷◌, drop, refl, sym, subst, arith}
 use Rattle.std.proofs.lemmas.Bool.{ne_eqb}
 use Rattle.leader1822.specs.Host.{Host}
 use Rattle.ncp_control.specs.Numbers.{is_receive_socket}
@@ -23,7 +23,6 @@ use Rattle.world_pairing.proofs.Served.{served_in}
 use Rattle.world_pairing.proofs.Sides.{at_texts, half, receiver_half, sender_half}
 use Rattle.world_pairing.proofs.Turns.{other}
 use Rattle.world_streams.specs.Calls.{own_calls, turned}
-use Rattle.world_streams.proofs.Carried as taken
 use Rattle.world_streams.proofs.Carried.{IsSent, IsTaken}
 use Rattle.world_streams.proofs.CarriedCalls as carried
 use Rattle.world_streams.proofs.CarriedCalls.{Carries, Named}
@@ -35,7 +34,6 @@ use Rattle.world_streams.proofs.FinalLists.{IsOf, contains, of_drop}
 use Rattle.world_streams.proofs.FinalLivesPresent.{NoneBegin, drop_more, dropped_first, recent_present, since_either}
 use Rattle.world_streams.proofs.FinalOwn.{foreign_sends, own_is_of}
 use Rattle.world_streams.proofs.FinalSides.{Heard, Lawful, Own, coupled_in, lives_in}
-use Rattle.world_streams.proofs.FinalStreams.{all_bits}
 use Rattle.world_streams.proofs.FinalWhole.{Away, HasReceives, HasSends, Receives, Sends, present_in, since}
 use Rattle.world_streams.proofs.HeardAlike.{heard_marks}
 use Rattle.world_streams.proofs.HeardCalls.{own_may}
@@ -52,10 +50,6 @@ from_among : (x : Life) (xs : List Life) → Among x xs → IsOf x xs
 from_among x [] i = absurd i
 from_among x (y ∷ ys) (inl e) = inl (sym e)
 from_among x (y ∷ ys) (inr i) = inr (from_among x ys i)
-
-bits_same : (ts : List (List Bool)) → taken.all_bits ts ≡ all_bits ts
-bits_same [] = refl
-bits_same (t ∷ ts) = ap (λ (l : List Bool). t ++ l) (bits_same ts)
 
 off : (n : ℕ) → (suc n == 0) ≡ false
 off n = ne_eqb (suc n) 0 (λ e. absurd (cc))
@@ -114,7 +108,7 @@ module _ (hosts : List Host) (a b : Host) (mine : (ms : List Moment) → Lawful 
           link = n;
           g = g;
           took = record {
-            bits = t.bits ∙ bits_same ((receiver_now numbered b (suc n) (own_calls a b ms)).taken (numbered x.socket x.foreign g));
+            bits = t.bits;
             granted_messages = t.granted_messages;
             granted_bits = t.granted_bits;
             returned_messages = t.returned_messages;
@@ -130,7 +124,7 @@ module _ (hosts : List Host) (a b : Host) (mine : (ms : List Moment) → Lawful 
           link = n;
           g = g;
           gave = record {
-            bits = t.bits ∙ bits_same ((sender_now turned a (suc n) (own_calls b a ms)).sent (turned x.socket x.foreign g));
+            bits = t.bits;
             messages = t.messages;
           };
           heard = heard_request stays (suc n) g x i r c;

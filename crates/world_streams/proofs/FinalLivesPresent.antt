@@ -17,7 +17,7 @@ use Rattle.world_streams.proofs.FinalGoes.{since_bound, since_on}
 use Rattle.world_streams.proofs.FinalLists.{IsOf, drop_grown, grown, of_drop, of_either, of_left, of_map, of_mapped, of_right}
 use Rattle.world_streams.proofs.FinalRun.{below}
 use Rattle.world_streams.proofs.FinalSides.{Lawful, coupled_in, lives_in}
-use Rattle.world_streams.proofs.FinalSince.{dropped_bound}
+use Rattle.world_streams.proofs.CarriedOwned.{since_within}
 use Rattle.world_streams.proofs.FinalWhole.{present_in, since}
 use Rattle.world_streams.proofs.Resets.{goes_on}
 
@@ -48,7 +48,7 @@ begins_keeps hosts e events r a b begun = by (stay.takes_reset a b e) refl where
 pub dropped_first : (hosts : List Host) (a b : Host) (ms : List Moment) → Lawful hosts ms → stay.stays a b (events_of ms) ≡ true → carried.since a b ms ≤ since a b ms
 dropped_first hosts a b [] l stays = absurd (cc)
 dropped_first hosts a b (y ∷ ms) l stays =
-    by (stay.begins a b (event_in y) (events_of ms)) (keeps a b (event_in y) (events_of ms)) (stay.stays a b (events_of ms)) (begins_keeps hosts (event_in y) (events_of ms) (coupled_in hosts (y ∷ ms) l).run a b) stays (dropped_bound a b ms)
+    by (stay.begins a b (event_in y) (events_of ms)) (keeps a b (event_in y) (events_of ms)) (stay.stays a b (events_of ms)) (begins_keeps hosts (event_in y) (events_of ms) (coupled_in hosts (y ∷ ms) l).run a b) stays (since_within a b ms)
     (dropped_first hosts a b ms (below hosts y ms l)) where
       by : (t k s : Bool) → (t ≡ true → k ≡ true) → (t || (k && s)) ≡ true → carried.since a b ms ≤ length (lives_in ms) → (s ≡ true → carried.since a b ms ≤ since a b ms)
           → (if k then carried.since a b ms else length (lives_in (y ∷ ms))) ≤ (if t then length (lives_in ms) else since a b ms)
@@ -118,7 +118,7 @@ module _ (hosts : List Host) (h p : Host) (none : NoneBegin hosts h p) where
         → (stay.stays h p (events_of (y ∷ ms)) ≡ true) × IsOf x (present_in h p (y ∷ ms))
     by old false e j = absurd (drop_none x (lives_in (y ∷ ms)) j)
     by old true e j =
-        elim (of_either x (map (grown y ms).change (drop (carried.since h p ms) (lives_in ms))) (grown y ms).more (subst (λ (ys : List Life). IsOf x ys) (parts (carried.since h p ms) (dropped_bound h p ms)) j)) [
+        elim (of_either x (map (grown y ms).change (drop (carried.since h p ms) (lives_in ms))) (grown y ms).more (subst (λ (ys : List Life). IsOf x ys) (parts (carried.since h p ms) (since_within h p ms)) j)) [
           | inl here ↦
               (let m : (v : Life) × IsOf v (drop (carried.since h p ms) (lives_in ms)) × (x ≡ (grown y ms).change v) = of_mapped (grown y ms).change x (drop (carried.since h p ms) (lives_in ms)) here in
               older e m.0 m.2 (old m.0 m.1 (sym ((grown y ms).names m.0).host ∙ ap (λ (v : Life). v.host) (sym m.2) ∙ f) (sym ((grown y ms).names m.0).peer ∙ ap (λ (v : Life). v.peer) (sym m.2) ∙ g)))

@@ -11,9 +11,10 @@ use Rattle.net_sim.specs.Story.{Moment}
 use Rattle.net_sim.specs.Timeline.{crossings_of}
 use Rattle.net_sim.specs.declared.life.Life.{Life}
 use Rattle.world_streams.proofs.Joined.{Joined}
+use Rattle.world_streams.proofs.Carried.{all_bits}
 use Rattle.world_streams.proofs.FinalLists.{IsOf, of_drop}
 use Rattle.world_streams.proofs.FinalSides.{lives_in}
-use Rattle.world_streams.proofs.FinalStreams.{safe_inv, all_bits, all_bits_length, front_bits, front_on, front_none, fronts_none}
+use Rattle.world_streams.proofs.FinalStreams.{safe_inv, all_bits_length, front_bits, front_on, front_none, fronts_none}
 use Rattle.world_streams.proofs.FinalWhole.{since, present_in, PresentR, PresentS, HasR, HasS, Whole}
 
 module _ (a b : Host) (Own Heard : List Moment → ℕ → ℕ → ℕ → ℕ → Type 0) (ms : List Moment) where

@@ -6,6 +6,7 @@ use Rattle.stream_law.specs.Streams.{Stream}
 use Rattle.stream_law.specs.Within.{bits_in, AreGranted, IsFront, IsSafe}
 use Rattle.stream_law.proofs.Amounts.{Counter, Messages, Bits, total, total_front, total_messages, total_bits}
 use Rattle.stream_law.proofs.Keeps.{Account, Inv}
+use Rattle.world_streams.proofs.Carried.{all_bits}
 
 granted_as : (x : Stream) → Inv x → (c : ℕ) (ms : List (List Bool)) → ((u : Counter) → total u ms ≤ total u (x.sender.sent c)) → AreGranted ms (x.receiver.returned c) (x.receiver.granted c)
 granted_as x h c ms less =
@@ -25,10 +26,6 @@ safe_inv x h c = record {
 }
 
 -- ---- bits
-
-abbrev pub all_bits : List (List Bool) → List Bool
-all_bits [] = []
-all_bits (m ∷ messages) = m ++ all_bits messages
 
 pub all_bits_append : (xs ys : List (List Bool)) → all_bits (xs ++ ys) ≡ all_bits xs ++ all_bits ys
 all_bits_append [] ys = refl

@@ -12,9 +12,9 @@ use Rattle.net_sim.specs.Story.{Moment, event_in, events_of}
 use Rattle.net_sim.specs.declared.life.Life.{Life}
 use Rattle.world_streams.specs.Calls.{own_calls}
 use Rattle.world_streams.proofs.Joined.{Joined, turned}
+use Rattle.world_streams.proofs.Carried.{all_bits}
 use Rattle.world_streams.proofs.FinalLists.{IsOf, of_drop, of_either, of_left, of_map, of_mapped, drop_grown}
 use Rattle.world_streams.proofs.FinalSides.{lives_in}
-use Rattle.world_streams.proofs.FinalStreams.{all_bits}
 
 -- how many lives there were when both met last
 abbrev pub since : Host → Host → List Moment → ℕ

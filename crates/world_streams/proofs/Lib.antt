@@ -72,7 +72,6 @@ pub mod CarriedSaid
 pub mod CarriedOlder
 pub mod Streams
 pub mod FinalGiven
-pub mod FinalSince
 pub mod FinalOwn
 pub mod CarriedEvery
 pub mod CarriedStill

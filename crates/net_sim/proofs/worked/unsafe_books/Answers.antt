@@ -27,3 +27,12 @@ returns-clause-from_nobody c = unsafe.from_nobody
 
 pub returns-clause-other_bits : goal.returns-clause-other_bits
 returns-clause-other_bits c = unsafe.other_bits
+
+pub returns-clause-unanswered : goal.returns-clause-unanswered
+returns-clause-unanswered c = unsafe.unanswered
+
+pub returns-clause-another_host : goal.returns-clause-another_host
+returns-clause-another_host c = unsafe.another_host
+
+pub returns-clause-taken_messages : goal.returns-clause-taken_messages
+returns-clause-taken_messages c = unsafe.taken_messages
