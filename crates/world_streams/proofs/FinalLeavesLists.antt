@@ -13,7 +13,7 @@ use Rattle.net_sim.specs.Book.{Kept, all_told, carried, changed_when, ended, gra
 use Rattle.net_sim.specs.Story.{Moment, Crossed, Asked}
 use Rattle.net_sim.specs.Told.{host_in, kept_by, kept_in, notices_by}
 use Rattle.world_lives.proofs.Desks.{clash}
-use Rattle.world_streams.proofs.FinalLists.{IsOf, grown, of_either, of_mapped}
+use Rattle.world_streams.proofs.FinalLists.{IsOf, grown, of_either, of_mapped, map_itself, nil_right, map_both}
 
 -- ---- notices
 
@@ -61,18 +61,6 @@ pub record Bare (calm : Bool) (h p : Host) (old new : List Life) : Type 0 where
   pub peer : (x : Life) → (change x).peer ≡ x.peer
   pub quiet : calm ≡ true → (x : Life) → x.host ≡ h → x.peer ≡ p → (change x ≡ x) ⊎ (change x ≡ ended x)
   pub none : (x : Life) → IsOf x more → x.host ≡ h → x.peer ≡ p → ⊥
-
-map_itself : (xs : List Life) → map (λ (x : Life). x) xs ≡ xs
-map_itself [] = refl
-map_itself (x ∷ xs) = ap (λ (ys : List Life). x ∷ ys) (map_itself xs)
-
-nil_right : (xs : List Life) → xs ++ [] ≡ xs
-nil_right [] = refl
-nil_right (x ∷ xs) = ap (λ (ys : List Life). x ∷ ys) (nil_right xs)
-
-map_both : (f g : Life → Life) (xs : List Life) → map g (map f xs) ≡ map (λ (x : Life). g (f x)) xs
-map_both f g [] = refl
-map_both f g (x ∷ xs) = ap (λ (ys : List Life). g (f x) ∷ ys) (map_both f g xs)
 
 -- ended twice is ended
 twice : (x y z : Life) → (y ≡ x) ⊎ (y ≡ ended x) → (z ≡ y) ⊎ (z ≡ ended y) → (z ≡ x) ⊎ (z ≡ ended x)

@@ -139,15 +139,15 @@ pub record Grown (old new : List Life) : Type 0 where
   pub names : (x : Life) → Named x (change x)
   pub still : (x : Life) → x.ended ≡ true → change x ≡ x
 
-map_itself : (xs : List Life) → map (λ (x : Life). x) xs ≡ xs
+pub map_itself : (xs : List Life) → map (λ (x : Life). x) xs ≡ xs
 map_itself [] = refl
 map_itself (x ∷ xs) = ap (λ (ys : List Life). x ∷ ys) (map_itself xs)
 
-nil_right : (xs : List Life) → xs ++ [] ≡ xs
+pub nil_right : (xs : List Life) → xs ++ [] ≡ xs
 nil_right [] = refl
 nil_right (x ∷ xs) = ap (λ (ys : List Life). x ∷ ys) (nil_right xs)
 
-map_both : (f g : Life → Life) (xs : List Life) → map g (map f xs) ≡ map (λ (x : Life). g (f x)) xs
+pub map_both : (f g : Life → Life) (xs : List Life) → map g (map f xs) ≡ map (λ (x : Life). g (f x)) xs
 map_both f g [] = refl
 map_both f g (x ∷ xs) = ap (λ (ys : List Life). g (f x) ∷ ys) (map_both f g xs)
 
