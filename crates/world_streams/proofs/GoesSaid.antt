@@ -30,28 +30,13 @@ use Rattle.host_pairing.proofs.Lists.{eqb-sym}
 use Rattle.world_streams.specs.Calls.{called, commands_said, parcel_calls}
 use Rattle.world_streams.proofs.Going.{Goes, Here, bytes_here, no_bytes_here, renamed, says_here, stays_as, then_goes}
 use Rattle.world_streams.proofs.Joined.{commands_in, commands_of_message, legal_in, post_in, post_of_message}
+use Rattle.world_streams.proofs.Leads.{gone_same}
 use Rattle.world_streams.proofs.MayCalls.{MayCalls}
 use Rattle.pair_streams.proofs.AllSteps.{Steps}
 
 -- ---- commands one after another
 
 module _ (peer : Host) (stamp : ℕ) where
-  gone_same : (c : Command) (d e : DeskState) → d.entries ≡ e.entries → (command_gone peer stamp c d).entries ≡ (command_gone peer stamp c e).entries
-  gone_same command.Nop d e is = is
-  gone_same (command.Rts receive send link) d e is = rw is refl
-  gone_same (command.Str send receive size) d e is = rw is refl
-  gone_same (command.Cls own foreign) d e is = rw is refl
-  gone_same (command.All link messages bits) d e is = is
-  gone_same (command.Gvb link messages bits) d e is = is
-  gone_same (command.Ret link messages bits) d e is = is
-  gone_same (command.Inr link) d e is = is
-  gone_same (command.Ins link) d e is = is
-  gone_same (command.Eco octet) d e is = is
-  gone_same (command.Erp octet) d e is = is
-  gone_same (command.Err code detail) d e is = is
-  gone_same command.Rst d e is = is
-  gone_same command.Rrp d e is = is
-
   gone_queue : (c : Command) (d : DeskState) → (command_gone peer stamp c d).queue ≡ d.queue
   gone_queue command.Nop d = refl
   gone_queue (command.Rts receive send link) d = refl
@@ -84,7 +69,7 @@ module _ (peer : Host) (stamp : ℕ) where
   said_ends : (cs : List Command) (q : PairState) (listening : List Listener) (d : DeskState) → d.entries ≡ q.entries → (said_pair cs q listening).entries ≡ (commands_gone peer stamp cs d).entries
   said_ends [] q listening d is = sym is
   said_ends (c ∷ cs) q listening d is =
-      said_ends cs (with_connections q (command_gone peer stamp c (desk_of q listening))) listening (command_gone peer stamp c d) (gone_same c d (desk_of q listening) is)
+      said_ends cs (with_connections q (command_gone peer stamp c (desk_of q listening))) listening (command_gone peer stamp c d) (gone_same peer stamp c d (desk_of q listening) is)
 
   said_under : (cs : List Command) (q : PairState) (listening : List Listener) (older : List calls.Moment) → MayCalls (commands_said peer stamp cs q listening older) → MayCalls older
   said_under [] q listening older m = m

@@ -30,19 +30,20 @@ use Rattle.pair_streams.proofs.Parting.{IsWordless}
 use Rattle.pair_streams.proofs.StepAsks.{IsAsking}
 use Rattle.pair_streams.proofs.StepHears.{IsHeard}
 
-receives_receiver : (ms : List receivers.Move) (x : Stream) → (receives ms x).receiver ≡ all_received ms x.receiver
+-- moves upon a stream
+pub receives_receiver : (ms : List receivers.Move) (x : Stream) → (receives ms x).receiver ≡ all_received ms x.receiver
 receives_receiver [] x = refl
 receives_receiver (m ∷ ms) x = receives_receiver ms (happens (Receives m) x)
 
-receives_sender : (ms : List receivers.Move) (x : Stream) → (receives ms x).sender ≡ x.sender
+pub receives_sender : (ms : List receivers.Move) (x : Stream) → (receives ms x).sender ≡ x.sender
 receives_sender [] x = refl
 receives_sender (m ∷ ms) x = receives_sender ms (happens (Receives m) x)
 
-sends_sender : (ms : List senders.Move) (y : Stream) → (sends ms y).sender ≡ all_sent ms y.sender
+pub sends_sender : (ms : List senders.Move) (y : Stream) → (sends ms y).sender ≡ all_sent ms y.sender
 sends_sender [] y = refl
 sends_sender (m ∷ ms) y = sends_sender ms (happens (Sends m) y)
 
-sends_receiver : (ms : List senders.Move) (y : Stream) → (sends ms y).receiver ≡ y.receiver
+pub sends_receiver : (ms : List senders.Move) (y : Stream) → (sends ms y).receiver ≡ y.receiver
 sends_receiver [] y = refl
 sends_receiver (m ∷ ms) y = sends_receiver ms (happens (Sends m) y)
 

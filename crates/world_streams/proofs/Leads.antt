@@ -180,7 +180,7 @@ module _ (peer : Host) (link : ℕ) (t : TurnState) where
 -- ---- what goes out
 
 module _ (peer : Host) (stamp : ℕ) where
-  gone_same : (c : Command) (d e : DeskState) → d.entries ≡ e.entries → (command_gone peer stamp c d).entries ≡ (command_gone peer stamp c e).entries
+  pub gone_same : (c : Command) (d e : DeskState) → d.entries ≡ e.entries → (command_gone peer stamp c d).entries ≡ (command_gone peer stamp c e).entries
   gone_same command.Nop d e is = is
   gone_same (command.Rts receive send link) d e is = rw is refl
   gone_same (command.Str send receive size) d e is = rw is refl

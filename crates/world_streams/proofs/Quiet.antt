@@ -8,7 +8,7 @@ use Rattle.stream_law.specs.Receivers as receivers
 use Rattle.stream_law.specs.Receivers.{Receiver}
 use Rattle.stream_law.specs.Senders as senders
 use Rattle.stream_law.specs.Senders.{Sender}
-use Rattle.stream_law.specs.Streams.{Stream, Box, Empty, Waiting, Taken, Receives, Sends, happens}
+use Rattle.stream_law.specs.Streams.{Stream, Box, Empty, Waiting, Taken}
 use Rattle.stream_law.proofs.Keeps.{Inv}
 use Rattle.host_pairs.specs.Pair.{PairState}
 use Rattle.host_pairs.specs.Turn.{freed}
@@ -19,11 +19,12 @@ use Rattle.host_streams.specs.Histories as calls
 use Rattle.host_streams.specs.Histories.{Call, Hears, Says, Answered, AreAllowed, IsAllowed, IsTelling, ends_by, ends_now, gone_by, gone_now, name_now, receiver_now, sender_now, received_at, sent_at, is_out}
 use Rattle.host_streams.specs.Moves.{closes}
 use Rattle.host_streams.proofs.Chain.{name_of}
-use Rattle.pair_streams.proofs.Joint.{Joint, Party, Post, Free, Fetched, IsPosted, IsPairedCall, queue_by, receives, sends}
+use Rattle.pair_streams.proofs.Joint.{Joint, Party, Post, Free, Fetched, IsPosted, IsPairedCall, queue_by, sends}
 use Rattle.pair_streams.proofs.AllSteps.{Steps}
 use Rattle.pair_streams.proofs.After.{Stepped, after, x_after, y_after}
 use Rattle.pair_streams.proofs.Parting.{IsWordless}
 use Rattle.pair_streams.proofs.StepAsks.{IsAsking}
+use Rattle.world_streams.proofs.Going.{receives_receiver, receives_sender, sends_receiver, sends_sender}
 
 -- ---- such calls
 
@@ -78,24 +79,6 @@ quiet_allowed link k q s (Replied stamp is) = subst (λ (c : Call). IsAllowed li
 pub solo_allowed : (number : ℕ → ℕ → ℕ → ℕ) (peer : Host) (link : ℕ) (ms : List calls.Moment) (queue : List Command) → IsSolo peer ms queue → AreAllowed number peer link ms
 solo_allowed number peer link [] queue h = tt
 solo_allowed number peer link (m ∷ ms) queue h = (quiet_allowed link m.call m.pair (sender_now number peer link ms) h.0, solo_allowed number peer link ms m.pair.queue h.2)
-
--- ---- moves upon a stream
-
-receives_receiver : (ms : List receivers.Move) (x : Stream) → (receives ms x).receiver ≡ all_received ms x.receiver
-receives_receiver [] x = refl
-receives_receiver (m ∷ ms) x = receives_receiver ms (happens (Receives m) x)
-
-receives_sender : (ms : List receivers.Move) (x : Stream) → (receives ms x).sender ≡ x.sender
-receives_sender [] x = refl
-receives_sender (m ∷ ms) x = receives_sender ms (happens (Receives m) x)
-
-sends_sender : (ms : List senders.Move) (y : Stream) → (sends ms y).sender ≡ all_sent ms y.sender
-sends_sender [] y = refl
-sends_sender (m ∷ ms) y = sends_sender ms (happens (Sends m) y)
-
-sends_receiver : (ms : List senders.Move) (y : Stream) → (sends ms y).receiver ≡ y.receiver
-sends_receiver [] y = refl
-sends_receiver (m ∷ ms) y = sends_receiver ms (happens (Sends m) y)
 
 -- ---- an answer about a message of before: the law's box is free, and is so afterwards
 
