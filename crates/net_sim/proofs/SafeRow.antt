@@ -1,12 +1,12 @@
 -- The book of a connection on which a message was taken is safe.
-use Rattle.std.proofs.Common.{◌≡◌, ℕ, true, false, [], ◌∷◌, ◌++◌, length, length-append, Option, Some, None, IsSome, inl, inr, refl, ap, sym, subst, ◌∙◌, arith}
+use Rattle.std.proofs.Common.{◌≡◌, true, false, [], ◌∷◌, ◌++◌, length, length-append, Some, IsSome, inl, inr, refl, ap, sym, subst, ◌∙◌, arith}
 use Rattle.leader1822.specs.Mailboxes.{IsRun}
 use Rattle.leader1822.proofs.MessageLaw.{safe_messages}
 use Rattle.sockets.specs.Worked.{first, second}
 use Rattle.net_sim.specs.Book.{Life}
 use Rattle.net_sim.specs.Safe.{Name, SafeBook, SafePartners, SafeStreams, SafeGrants, IsGranted, Source, AreTwo, receives, sends, own_request, partner_request}
 use Rattle.net_sim.specs.Worked.{eight, crossings, taker, giver}
-use Rattle.net_sim.proofs.Unsafe.{two_there, not_sending}
+use Rattle.net_sim.proofs.Unsafe.{two_there, not_sending, place_of}
 
 -- the two lives, and no others, are two
 only_two : (x y a b : Life) → AreTwo (x ∷ y ∷ []) a b → (x ≡ a) × (y ≡ b)
@@ -16,17 +16,11 @@ only_two x y a b ([], c ∷ between, rest, e) = absurd (let l : 2 ≡ length (a 
 only_two x y a b (c ∷ front, between, rest, e) =
     absurd (let l : 2 ≡ length (c ∷ front ++ a ∷ between ++ b ∷ rest) = ap length e in omega (arith, l, length-append (front ++ a ∷ between) (b ∷ rest), length-append front (a ∷ between)))
 
-place_of : Option Name → ℕ
-place_of None = 9
-place_of (Some n) = n.place
-
 -- the two have no request in common
 apart : own_request giver ≡ own_request taker → ⊥
-unfolding place_of
 apart e = let z : 2 ≡ 0 = ap (λ (n : Name). n.place) e in omega (arith, z)
 
 some_apart : Some (own_request giver) ≡ Some (own_request taker) → ⊥
-unfolding place_of
 some_apart e = let z : 2 ≡ 0 = ap place_of e in omega (arith, z)
 
 pub partners : SafePartners crossings (giver ∷ taker ∷ [])

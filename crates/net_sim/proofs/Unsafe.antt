@@ -1,5 +1,5 @@
 -- Books that aren't safe.
-use Rattle.std.proofs.Common.{◌≡◌, ◌⊎◌, ◌≤◌, true, false, List, [], ◌∷◌, ◌++◌, Some, IsSome, zero, suc, inl, inr, refl, ap, sym, subst, ◌∙◌, arith}
+use Rattle.std.proofs.Common.{◌≡◌, ◌⊎◌, ◌≤◌, true, false, List, [], ◌∷◌, ◌++◌, ℕ, Option, Some, None, IsSome, zero, suc, inl, inr, refl, ap, sym, subst, ◌∙◌, arith}
 use Rattle.std.specs.List.{Contains}
 use Rattle.leader1822.specs.Host.{Host}
 use Rattle.leader1822.specs.declared.crossing.Answer.TheVariants as answer
@@ -7,8 +7,8 @@ use Rattle.leader1822.specs.declared.crossing.Crossing.{Crossing}
 use Rattle.leader1822.specs.declared.crossing.Crossing.TheVariants as crossing
 use Rattle.sockets.specs.Worked.{first, second, third, on_link}
 use Rattle.net_sim.specs.Book.{Life}
-use Rattle.net_sim.specs.Safe.{SafeBook, IsGranted, Source, Match, IsFront, sends, own_request, partner_request}
-use Rattle.net_sim.specs.Worked.{eight, four, crossings, message, receiver, taker, giver, elsewhere, asker, stranger}
+use Rattle.net_sim.specs.Safe.{Name, SafeBook, IsGranted, Source, Match, IsFront, sends, own_request, partner_request}
+use Rattle.net_sim.specs.Worked.{eight, four, crossings, message, receiver, sender, taker, giver, elsewhere, asker, stranger}
 
 -- ---- where a life stands
 
@@ -66,16 +66,21 @@ sent_bits b =
 
 -- ---- partners
 
-pub own_twice : SafeBook crossings (giver ∷ taker ∷ taker ∷ []) (eight ∷ [] ∷ [] ∷ []) → ⊥
-own_twice b = b.partners.own_once taker taker (giver ∷ [], [], [], refl) refl
+abbrev pub place_of : Option Name → ℕ
+place_of None = 9
+place_of (Some n) = n.place
 
-pub partner_twice : SafeBook crossings (giver ∷ taker ∷ record receiver { own_stamp = 7 } ∷ []) (eight ∷ [] ∷ [] ∷ []) → ⊥
-partner_twice b = b.partners.partner_once taker (record receiver { own_stamp = 7 }) (own_request giver) (giver ∷ [], [], [], refl) refl refl
+pub own_twice : SafeBook (crossing.Out (message second first 0) ∷ crossings) (receiver ∷ record receiver { partner_stamp = 7 } ∷ []) ([] ∷ [] ∷ []) → ⊥
+own_twice b = b.partners.own_once receiver (record receiver { partner_stamp = 7 }) ([], [], [], refl) refl
 
-pub one_way : SafeBook crossings (record giver { partner_stamp = 0 } ∷ taker ∷ []) (eight ∷ [] ∷ []) → ⊥
+pub partner_twice : SafeBook crossings (receiver ∷ record receiver { own_stamp = 7 } ∷ []) ([] ∷ [] ∷ []) → ⊥
+partner_twice b = b.partners.partner_once receiver (record receiver { own_stamp = 7 }) (own_request sender) ([], [], [], refl) refl refl
+
+pub one_way : SafeBook (crossing.Out (message first second 0) ∷ crossings) (record sender { partner_stamp = 7 } ∷ receiver ∷ []) ([] ∷ [] ∷ []) → ⊥
 one_way b =
-    let x : Life = record giver { partner_stamp = 0 } in
-    let back : partner_request crossings x ≡ Some (own_request taker) = b.partners.both_ways taker x (1, omega arith, refl) (0, omega arith, refl) refl in absurd (cc)
+    let x : Life = record sender { partner_stamp = 7 } in
+    let back : partner_request (crossing.Out (message first second 0) ∷ crossings) (record sender { partner_stamp = 7 }) ≡ Some (own_request receiver) = b.partners.both_ways receiver (record sender { partner_stamp = 7 }) (1, omega arith, refl) (0, omega arith, refl) refl in
+    let places : 6 ≡ 0 = ap place_of back in absurd (omega (arith, places))
 
 -- ---- streams
 

@@ -49,8 +49,8 @@ partner_request log x = named x (last_out (control_flow x.peer x.host) (before x
 abbrev pub AreTwo : List Life → Life → Life → Type 0
 AreTwo lives x y = (front : List Life) × (between : List Life) × (rest : List Life) × (lives ≡ front ++ x ∷ between ++ y ∷ rest)
 
--- no request is the own request of two lives, or the partner's request of two. Each life has a partner's request, which its peer said
--- to it; and where that is another life's own, the two are each other's hosts, and the reverse holds too
+-- no two lives have the same own request, and no two the same partner's request. Each life has a partner's request, in a message of its
+-- peer to its host; and where that is another life's own, each has the other's host for its peer, and the other's partner's request is its own
 pub record SafePartners (log : List Crossing) (lives : List Life) : Type 0 where
   pub own_once : (x y : Life) → AreTwo lives x y → own_request x ≡ own_request y → ⊥
   pub partner_once : (x y : Life) (name : Name) → AreTwo lives x y → partner_request log x ≡ Some name → partner_request log y ≡ Some name → ⊥
@@ -92,8 +92,8 @@ AreHanded [] handed = handed ≡ []
 AreHanded (x ∷ lives) [] = ⊥
 AreHanded (x ∷ lives) (h ∷ handed) = (sends x ≡ true → IsFront x.bits h) × AreHanded lives handed
 
--- a receiving life matches at most one sending one; where it took anything there is one, and what it took is a front of what
--- that one sent; and that is a front of what was handed over
+-- a receiving life matches at most one sending one; where it took any bit there is one, and what it took is a front of what
+-- that one sent. What each sending life sent is a front of what was handed over in it
 pub record SafeStreams (log : List Crossing) (lives : List Life) (handed : List (List Bool)) : Type 0 where
   pub one : (receiver x y : Life) → Contains lives receiver → AreTwo lives x y → Match log receiver x → Match log receiver y → ⊥
   pub source : (receiver : Life) → Contains lives receiver → receives receiver ≡ true → (receiver.bits ≡ [] → ⊥) → Source log lives receiver

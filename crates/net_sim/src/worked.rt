@@ -109,15 +109,15 @@ pub fn unsafe_books()
     ensures sent_bits { SafeBook crossings (record giver { bits = eight ++ eight } ∷ record taker { granted = record { messages = 2; bits = 19 } } ∷ []) ((eight ++ eight) ∷ [] ∷ []) → ⊥ }
 
     // one request opens two ends
-    ensures own_twice { SafeBook crossings (giver ∷ taker ∷ taker ∷ []) (eight ∷ [] ∷ [] ∷ []) → ⊥ }
-    ensures partner_twice { SafeBook crossings (giver ∷ taker ∷ record receiver { own_stamp = 7 } ∷ []) (eight ∷ [] ∷ [] ∷ []) → ⊥ }
+    ensures own_twice { SafeBook (crossing.Out (message second first 0) ∷ crossings) (receiver ∷ record receiver { partner_stamp = 7 } ∷ []) ([] ∷ [] ∷ []) → ⊥ }
+    ensures partner_twice { SafeBook crossings (receiver ∷ record receiver { own_stamp = 7 } ∷ []) ([] ∷ [] ∷ []) → ⊥ }
 
     // a life took a request that nobody said to it, or one of another host's end
     ensures unanswered { SafeBook crossings (record giver { partner_stamp = 0 } ∷ []) (eight ∷ []) → ⊥ }
     ensures another_host { SafeBook elsewhere (asker ∷ stranger ∷ []) ([] ∷ [] ∷ []) → ⊥ }
 
     // a receiver has a partner that has another
-    ensures one_way { SafeBook crossings (record giver { partner_stamp = 0 } ∷ taker ∷ []) (eight ∷ [] ∷ []) → ⊥ }
+    ensures one_way { SafeBook (crossing.Out (message first second 0) ∷ crossings) (record sender { partner_stamp = 7 } ∷ receiver ∷ []) ([] ∷ [] ∷ []) → ⊥ }
 
     // something is sent that wasn't handed over, or not in that order
     ensures unhanded { SafeBook crossings (giver ∷ taker ∷ []) (four ∷ [] ∷ []) → ⊥ }

@@ -50,7 +50,7 @@ pub fn streams()
 
 /// The lives of a book, over every list of moments in which what crosses is a run of the mailboxes.
 pub fn lives()
-    // what a receiving life took is a front of what its one partner sent: where it took anything there is one
+    // what a receiving life took is a front of what its one partner sent: where it took any bit there is one
     ensures source { (hosts : List Host) (moments : List Moment) → HaveAddresses hosts → mail.IsRun hosts (crossings_of moments) → IsTimeline hosts moments → (receiver : Life) → Contains (kept_in moments).book.lives receiver → receives receiver ≡ true → (receiver.bits ≡ [] → ⊥) → Source (crossings_of moments) (kept_in moments).book.lives receiver }
 
     // what a sending life sent that it matches, with what was returned, is within what it granted
