@@ -136,6 +136,8 @@ def dead():
         if "/proofs/" not in path or os.path.basename(path) in ASKED_FOR:
             continue
         for name in re.findall(r"(?m)^ *(?:(?:pattern|unfoldable|abbrev) )*pub (?:(?:pattern|unfoldable|abbrev) )*([^\s(){}\[\],.;:@`\"◌]+) : ", it):
+            if total[name] > counts[path][name]:
+                continue
             # what it is: its type, and the clauses below, which begin with its name
             itself = len(re.findall(rf"(?m)^ *(?:\w+ )*{re.escape(name)}(?=\s|$)", it))
             if total[name] <= itself:

@@ -11,7 +11,7 @@ Checks what ./explain tells.
 - Without a kept program it tells the same.
 - README's table and chart of the first message are what it tells, and README's changes to the examples do what it says.
 
-It wants the program that ./build or .ci/run keeps.
+It takes the proved program, or where ./build has not made that the one that was built without proofs.
 """
 
 import random
