@@ -11,8 +11,8 @@ use Rattle.topology.specs.Topology.{TopologyFields}
 use Rattle.topology.specs.declared.network.CarrierKind.{CarrierKind}
 use Rattle.topology.specs.declared.network.CarrierKind.TheVariants as kind
 use Rattle.world_replay.specs.Output as lines
-use Rattle.world_replay.proofs.News as lines_of
-use Rattle.world_replay.proofs.Replays as worlds
+use Rattle.world_replay.proofs.lemmas.News as lines_of
+use Rattle.world_replay.proofs.lemmas.Replays as worlds
 use Rattle.world_script.specs.declared.event.WorldEvent.{WorldEvent}
 use Rattle.command_line.specs.Carriers.{hosting, plain_calls, plain_of, subnet_calls, subnet_of}
 use Rattle.command_line.specs.Events.{Asked, Raw, World}
@@ -20,9 +20,8 @@ use Rattle.command_line.specs.Replayed.{EndsFrom, EndsOn, EndsOver, ReplaysFrom,
 use Rattle.script.specs.declared.event.Event.{Event}
 use Rattle.command_line.proofs.OneInput.{OneInput, input_once}
 use Rattle.command_line.proofs.Settled.{plain_settled, subnet_settled}
-use Rattle.replay.proofs.Settled.{OneReplay, StartsWith, replays_once}
-use Rattle.replay.proofs.Settled as replay
-use Rattle.replay.proofs.Shown.{output-append}
+use Rattle.replay.proofs.lemmas.{OneReplay, StartsWith, output-append, replays_once}
+use Rattle.replay.proofs.lemmas.Settled as replay
 
 -- ---- a whole replay
 

@@ -15,7 +15,7 @@ use Rattle.subnet.specs.Calls.{Decided, Fails, Kept, refusal_of, running}
 use Rattle.subnet.specs.Calls as subnet
 use Rattle.subnet.specs.Events as events
 use Rattle.subnet.specs.Working.{SubnetRound, SubnetTake}
-use Rattle.subnet.proofs.Showing.{round_log, take_log}
+use Rattle.subnet.proofs.lemmas.{round_log, take_log}
 use Rattle.command_line.specs.Carriers.{plain_calls, subnet_calls}
 
 -- ---- one call

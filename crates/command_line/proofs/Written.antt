@@ -3,15 +3,14 @@ use Rattle.std.proofs.Common.{◌≡◌, ◌⊎◌, inl, inr, ℕ, Bool, true, f
 use Rattle.std.proofs.lemmas.List.{append-nil}
 use Rattle.std.specs.Io.KnownBytes.{Appends, Keeps}
 use Rattle.leader1822.specs.Messages.{SafeMessages}
-use Rattle.leader1822.proofs.MessageLaw.{safe_messages}
+use Rattle.leader1822.proofs.lemmas.{safe_messages}
 use Rattle.net_sim.specs.Carriers.{shown}
 use Rattle.net_sim.specs.World.{WorldState, opening_world}
 use Rattle.net_sim.specs.declared.event.WorldFault.TheVariants.{Carrier}
 use Rattle.replay.specs.Output.{Shown, Writes, crossings_of, output}
 use Rattle.replay.specs.Output as raw
 use Rattle.replay.specs.Replay.{Calls, EndsIn, Replays, StopsIn}
-use Rattle.replay.proofs.Replays.{replays_show, stops_show}
-use Rattle.replay.proofs.Shown.{appends_more, appends_none, on_ok}
+use Rattle.replay.proofs.lemmas.{appends_more, appends_none, on_ok, replays_show, stops_show}
 use Rattle.script.specs.Input.{ended}
 use Rattle.script.specs.declared.event.Event.{Event}
 use Rattle.topology.specs.Topology.{TopologyFields}
@@ -19,7 +18,7 @@ use Rattle.topology.specs.declared.network.CarrierKind.{CarrierKind}
 use Rattle.topology.specs.declared.network.CarrierKind.TheVariants as kind
 use Rattle.world_replay.specs.Output as lines
 use Rattle.world_replay.specs.Replay as worlds
-use Rattle.world_replay.proofs.Replays as world
+use Rattle.world_replay.proofs.lemmas.Replays as world
 use Rattle.world_script.specs.declared.event.WorldEvent.{WorldEvent}
 use Rattle.command_line.specs.Carriers.{hosting, plain_calls, plain_of, subnet_calls, subnet_of}
 use Rattle.command_line.specs.Events.{Asked, Raw, World}

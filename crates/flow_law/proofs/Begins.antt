@@ -2,7 +2,7 @@
 use Rattle.std.proofs.Common.{◌≡◌, ℕ, ◌<◌, Bool, true, List, [], ◌∷◌, ◌++◌, Some, None, inl, inr, refl, ap, sym, subst}
 use Rattle.leader1822.specs.declared.crossing.Answer.TheVariants as answer
 use Rattle.link_table.specs.Numbers.{modulus, Near}
-use Rattle.link_table.proofs.NumberLemmas.{near_same}
+use Rattle.link_table.proofs.lemmas.{near_same}
 use Rattle.flow_law.specs.View.{View, Packet, Queued, Kind}
 use Rattle.flow_law.specs.Moves.{Move, New, CanOffer, CanBegin, IsPieceOf, Either, queued, next_number, after}
 use Rattle.flow_law.specs.Invariant.{Invariant}

@@ -6,7 +6,7 @@ use Rattle.std.proofs.lemmas.List.Elements.{Contains-push_cases}
 use Rattle.leader1822.specs.declared.crossing.Answer.TheVariants as answer
 use Rattle.leader1822.specs.Mailboxes.{Box, Fits}
 use Rattle.link_table.specs.Numbers.{modulus, next, is_new, Near}
-use Rattle.link_table.proofs.NumberLemmas.{next_in, near_same, near_old, near_next, not_next, two}
+use Rattle.link_table.proofs.lemmas.{near_next, near_old, near_same, next_in, not_next, two}
 use Rattle.flow_law.specs.View.{View, Packet, Queued, Kind}
 use Rattle.flow_law.specs.Moves.{New, CanBegin, queued, next_number}
 use Rattle.flow_law.specs.Invariant.{Invariant, Begun, Carried, Gone}

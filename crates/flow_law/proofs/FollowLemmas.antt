@@ -5,7 +5,7 @@ use Rattle.leader1822.specs.declared.crossing.Crossing.{Crossing}
 use Rattle.leader1822.specs.declared.crossing.Crossing.TheVariants as crossing
 use Rattle.leader1822.specs.Host.{Host}
 use Rattle.leader1822.specs.Mailboxes.{Mail, Passing, passings, passed, opening_mail, UpsAreHosts, IsRun, EachIsRun}
-use Rattle.leader1822.proofs.FlowByFlow.{each_is_run}
+use Rattle.leader1822.proofs.lemmas.{each_is_run}
 use Rattle.flow_law.specs.View.{View, Packet}
 use Rattle.flow_law.specs.Moves.{Move, Needs, Makes, Either, Grown, after, after_all, shown_by}
 use Rattle.flow_law.specs.Follows.{Follows, Sound, AllSound, AllFollow, AllOpen, passed_over}

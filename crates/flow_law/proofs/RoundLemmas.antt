@@ -4,7 +4,7 @@ use Rattle.std.proofs.Common.{◌≡◌, ℕ, zero, suc, ◌-◌, ◌<◌, true,
 use Rattle.std.specs.List.{Contains}
 use Rattle.leader1822.specs.declared.crossing.Answer.TheVariants as answer
 use Rattle.link_table.specs.Numbers.{modulus, window, next, is_new}
-use Rattle.link_table.proofs.NumberLemmas.{wide, some_ahead, next_below, next_new, new_again}
+use Rattle.link_table.proofs.lemmas.{new_again, next_below, next_new, some_ahead, wide}
 use Rattle.flow_law.specs.View.{View, Packet, Kind}
 use Rattle.flow_law.specs.Moves.{Move, Either, IsTold, queued, after}
 use Rattle.flow_law.specs.Runs.{IsTurn, IsHistoryBy, view_after, left_by}

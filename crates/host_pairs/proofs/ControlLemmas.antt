@@ -7,7 +7,7 @@ use Rattle.bit_messages.specs.Octets.{octet, octets_of}
 use Rattle.leader1822.specs.Host.{Host}
 use Rattle.ncp_control.specs.DataHeader.{data_bits, fields_of, header_of}
 use Rattle.ncp_control.specs.declared.data_header.DataHeader.{DataHeader}
-use Rattle.ncp_control.proofs.Headers.{octets_enough}
+use Rattle.ncp_control.proofs.lemmas.{octets_enough}
 use Rattle.host_pairs.specs.Turn.{TurnState, orders_taken}
 use Rattle.host_pairs.specs.Said.{said_by}
 use Rattle.host_pairs.specs.Control.{is_control, orders_by, orders_in, orders_of, orders_within}

@@ -4,9 +4,9 @@ use Rattle.ncp_control.specs.Command.{is_alone, spelling}
 use Rattle.ncp_control.specs.Packing.{packed_count, spellings}
 use Rattle.ncp_control.specs.declared.command.Command.{Command}
 use Rattle.ncp_control.specs.declared.command.Command.TheVariants as command
-use Rattle.ncp_control.proofs.Fronts.{longest_front}
+use Rattle.ncp_control.proofs.lemmas.{longest_front}
 use Rattle.bit_messages.specs.Octets.{bits_of, octet_bits}
-use Rattle.bit_messages.proofs.OctetLemmas.{length-bits_of}
+use Rattle.bit_messages.proofs.lemmas.{length-bits_of}
 use Rattle.std.proofs.lemmas.List.{length-take}
 use Rattle.host_pairs.specs.Control.{control_text}
 use Rattle.host_pairs.specs.Data.{data_text}

@@ -23,7 +23,7 @@ use Rattle.icp.specs.declared.outcome.Outcome.{Outcome}
 use Rattle.icp.specs.declared.outcome.Outcome.TheVariants as outcome
 use Rattle.icp.specs.declared.fault.StartFault.TheVariants as fault
 use Rattle.bit_messages.specs.Octets.{octets_of}
-use Rattle.bit_messages.proofs.OctetLemmas.{octets_below}
+use Rattle.bit_messages.proofs.lemmas.{octets_below}
 use Rattle.ncp_control.specs.Command.{IsDouble, IsOctet, IsWord}
 use Rattle.ncp_control.specs.Numbers.{is_receive_socket, is_send_socket}
 use Rattle.sockets.specs.Pairs.{NcpState}

@@ -8,7 +8,7 @@ use Rattle.sockets.specs.Requests.{refusal, served}
 use Rattle.sockets.specs.declared.request.Request.{Request}
 use Rattle.sockets.specs.declared.request.Request.TheVariants as request
 use Rattle.icp.specs.User.{UserState}
-pub use Rattle.host_ranges.specs.Ranges.{IsAsked}
+pub use Rattle.host_keeps_ranges.specs.Ranges.{IsAsked}
 use Rattle.host_services.specs.Services.{Service, ServicesState, DeskState}
 use Rattle.host_services.specs.declared.service.Service.TheVariants as service
 

@@ -3,7 +3,7 @@ use Rattle.std.proofs.Common.{◌≡◌, ℕ, ◌+◌, ◌≤◌, ◌==◌, ◌&
 use Rattle.std.proofs.lemmas.Bool.Decides.{nat_tests}
 use Rattle.std.specs.Option.{option_or}
 use Rattle.leader1822.specs.Host.{Host, same_host}
-use Rattle.leader1822.proofs.Lists.{same_host-true}
+use Rattle.leader1822.proofs.lemmas.{same_host-true}
 use Rattle.icp.specs.Notices.{is_partner, opened_on}
 use Rattle.icp.specs.Outcomes.{Turn, passed}
 use Rattle.icp.specs.Played.{IsServed, above, before, opened_in, outcomes_of, server_played}

@@ -9,13 +9,13 @@ use Rattle.link_table.specs.declared.source.Release.TheVariants as release
 use Rattle.packetiser.specs.PacketFields.{PacketFields}
 use Rattle.packetiser.specs.Slots as slots
 use Rattle.packetiser.specs.Rejoining.{AreAmong}
-use Rattle.packetiser.proofs.Holding.{added_only, discarded_only}
+use Rattle.packetiser.proofs.lemmas.{added_only, discarded_only}
 use Rattle.imp_channel.specs.Holding as channels
 use Rattle.imp_channel.specs.Line.{End, submitted}
 use Rattle.imp_channel.specs.declared.frame.Content.{Content}
 use Rattle.imp_channel.specs.declared.frame.Content.TheVariants as content
 use Rattle.imp_channel.specs.declared.frame.Frame.{Frame}
-use Rattle.imp_channel.proofs.Holding.{LineHas, ContentHas, PutHas, opening_has, submitted_has, packets_have, have_packets}
+use Rattle.imp_channel.proofs.lemmas.{ContentHas, LineHas, PutHas, have_packets, opening_has, packets_have, submitted_has}
 use Rattle.routing.specs.RouteTable.{Table, next_of}
 use Rattle.imp_node.specs.declared.outgoing.Outgoing.{Outgoing}
 use Rattle.imp_node.specs.declared.port.Port.{Port}

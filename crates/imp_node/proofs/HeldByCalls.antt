@@ -21,7 +21,7 @@ use Rattle.imp_channel.specs.declared.fault.ChannelFault.{ChannelFault}
 use Rattle.imp_channel.specs.declared.frame.Frame.{Frame}
 use Rattle.imp_channel.specs.declared.line.Received.{Received}
 use Rattle.imp_channel.specs.declared.line.Received.TheVariants as received
-use Rattle.imp_channel.proofs.Holding.{ContentHas, opening_has, received_has, fresh_carried, opening_packets, resent_has, packets_have}
+use Rattle.imp_channel.proofs.lemmas.{ContentHas, fresh_carried, opening_has, opening_packets, packets_have, received_has, resent_has}
 use Rattle.routing.specs.RouteTable.{vector_of}
 use Rattle.imp_node.specs.declared.port.Port.{Port}
 use Rattle.imp_node.specs.declared.waiting.Message.{Message}

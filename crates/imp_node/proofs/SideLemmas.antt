@@ -5,14 +5,13 @@ use Rattle.std.specs.FinMap as finite
 use Rattle.leader1822.specs.Flow.{same_flow}
 use Rattle.leader1822.specs.declared.address.Flow.{Flow}
 use Rattle.leader1822.specs.declared.crossing.Answer.{Answer}
-use Rattle.leader1822.proofs.Lists.{same_flow-refl}
+use Rattle.leader1822.proofs.lemmas.{same_flow-refl}
 use Rattle.link_table.specs.Flows.{Sources, last_in, outstanding_in, release_in, begun, answered, given_up, handed}
 use Rattle.link_table.specs.declared.source.Release.{Release}
 use Rattle.link_table.specs.declared.source.Release.TheVariants as release
 use Rattle.link_table.specs.declared.source.Standing.TheVariants as standing
 use Rattle.link_table.specs.declared.source.Standing.{Standing}
-use Rattle.link_table.proofs.FlowLemmas.{get_put, get_begun, get_answered, get_given_up}
-use Rattle.link_table.proofs.AnswerLemmas.{answered_last, answered_frees, given_up_last, given_up_frees, handed_last, handed_outstanding}
+use Rattle.link_table.proofs.lemmas.{answered_frees, answered_last, get_answered, get_begun, get_given_up, get_put, given_up_frees, given_up_last, handed_last, handed_outstanding}
 use Rattle.imp_node.specs.declared.waiting.Message.{Message}
 use Rattle.imp_node.specs.declared.waiting.Told.{Told}
 use Rattle.imp_node.specs.State.{State, HostState, no_host, host_at, is_up, with_host}

@@ -13,8 +13,7 @@ use Rattle.link_table.specs.Keys.{is_from, drop_from}
 use Rattle.link_table.specs.Numbers.{is_new}
 use Rattle.link_table.specs.declared.source.Release.{Release}
 use Rattle.link_table.specs.declared.source.Release.TheVariants as release
-use Rattle.link_table.proofs.AnswerLemmas.{handed_last, handed_outstanding}
-use Rattle.link_table.proofs.FlowLemmas.{get_dropped}
+use Rattle.link_table.proofs.lemmas.{get_dropped, handed_last, handed_outstanding}
 use Rattle.packetiser.specs.PacketFields.{PacketFields, flow_of}
 use Rattle.packetiser.specs.Slots.{answer_of}
 use Rattle.packetiser.specs.declared.packet.PacketKind.{PacketKind}
@@ -27,7 +26,7 @@ use Rattle.imp_channel.specs.declared.fault.ChannelFault.{ChannelFault}
 use Rattle.imp_channel.specs.declared.frame.Frame.{Frame}
 use Rattle.imp_channel.specs.declared.line.Received.{Received}
 use Rattle.imp_channel.specs.declared.line.Received.TheVariants as received
-use Rattle.imp_channel.proofs.Holding.{fresh_carried}
+use Rattle.imp_channel.proofs.lemmas.{fresh_carried}
 use Rattle.imp_node.specs.declared.waiting.Message.{Message}
 use Rattle.imp_node.specs.declared.waiting.Told.{Told}
 use Rattle.imp_node.specs.State.{State, HostState, no_host, host_at, port_at, with_host, number, is_up}

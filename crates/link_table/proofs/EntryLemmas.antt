@@ -14,7 +14,7 @@ use Rattle.leader1822.specs.declared.address.Flow.{Flow}
 use Rattle.link_table.specs.Keys.{flow_cmp}
 use Rattle.link_table.specs.Flows.{Sources, outstanding_in, is_outstanding_from, has_outstanding}
 use Rattle.link_table.specs.declared.source.Standing.{Standing}
-use Rattle.leader1822.proofs.Order.{flows_total, exact_flows}
+use Rattle.leader1822.proofs.lemmas.{exact_flows, flows_total}
 
 both : (a b : Bool) → a ≡ true → b ≡ true → (a && b) ≡ true
 both true b e f = f

@@ -14,7 +14,7 @@ use Rattle.link_table.specs.Flows.{Sources, changed, changed_from, begun, answer
 use Rattle.link_table.specs.Keys.{flow_cmp, is_from, drop_from, has_from}
 use Rattle.link_table.specs.declared.source.Standing.{Standing}
 use Rattle.link_table.specs.declared.source.Standing.TheVariants as standing
-use Rattle.leader1822.proofs.Order.{flows_total, exact_flows}
+use Rattle.leader1822.proofs.lemmas.{exact_flows, flows_total}
 use Rattle.link_table.specs.Flows.{last_of}
 use Rattle.link_table.specs.Numbers.{modulus}
 use Rattle.link_table.proofs.NumberLemmas.{next_in, some_number}

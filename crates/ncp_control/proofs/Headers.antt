@@ -8,7 +8,7 @@ use Rattle.std.proofs.lemmas.List.{get_or-append-add}
 use Rattle.std.proofs.lemmas.Bool.{or_parts}
 use Rattle.bit_messages.specs.Octets.{octet, octet_bits, octets_of, spare_bits}
 use Rattle.std.specs.Int.{w16, from_be_bytes}
-use Rattle.bit_messages.proofs.OctetLemmas.{octet_again, octet_bits_again, octet_below, length-bits_of, bits_again}
+use Rattle.bit_messages.proofs.lemmas.{bits_again, length-bits_of, octet_again, octet_below, octet_bits_again}
 use Rattle.ncp_control.specs.declared.data_header.DataHeader.{DataHeader}
 use Rattle.ncp_control.specs.DataHeader.{octet_at, fields_of, data_bits, header_of, header_bits, IsHeader}
 

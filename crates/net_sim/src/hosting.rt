@@ -87,7 +87,7 @@ pub(crate) fn tend(
 }
 
 /// Writes down what crossed at a host, what its user was told of it, and what its services did then.
-#[tactic(auto, using(crate::proofs::InOrder::written_both))]
+#[tactic(auto, using(crate::proofs::Books::InOrder::written_both))]
 pub(crate) fn write_crossing(
     alloc: Global,
     book: &mut Book,
@@ -116,7 +116,7 @@ pub(crate) fn write_crossing(
 }
 
 /// Writes down what crossed, of which no user was told.
-#[tactic(auto, using(crate::proofs::InOrder::written_alone))]
+#[tactic(auto, using(crate::proofs::Books::InOrder::written_alone))]
 pub(crate) fn write_changes(
     alloc: Global,
     book: &mut Book,

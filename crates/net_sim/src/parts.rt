@@ -113,7 +113,7 @@ pub(crate) fn go_out(
 }
 
 /// Hosts stop and start. The last of the log, from a place on, has just crossed.
-#[tactic(auto, using(crate::proofs::InOrder::turned_reversed, crate::proofs::InOrder::emptied_reversed, crate::proofs::InOrder::written_alone))]
+#[tactic(auto, using(crate::proofs::Books::InOrder::turned_reversed, crate::proofs::Books::InOrder::emptied_reversed, crate::proofs::Books::InOrder::written_alone))]
 pub(crate) fn change(
     alloc: Global,
     seats: &mut [Seat],

@@ -9,7 +9,7 @@ use Rattle.std.proofs.lemmas.List.Elements.{All-cons, All-nil, All-head, All-tai
 use Rattle.std.proofs.lemmas.List.Sorted.{IsPermutation-refl}
 use Rattle.bit_messages.specs.Body.{is_one, has_mark, text_of, strip_fault}
 use Rattle.bit_messages.specs.declared.fault.BitFault.TheVariants as bit_fault
-use Rattle.bit_messages.proofs.BodyLemmas.{IsSplit, split_text}
+use Rattle.bit_messages.proofs.lemmas.{IsSplit, split_text}
 use Rattle.leader1822.specs.Flow.{same_flow, flow_before}
 use Rattle.leader1822.specs.declared.address.Flow.{Flow}
 use Rattle.packetiser.specs.PacketFields.{PacketFields, IsPacket, IsPiece, Carries, flow_of}

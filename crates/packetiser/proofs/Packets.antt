@@ -7,7 +7,7 @@ use Rattle.std.proofs.lemmas.Bool.Decides.{nat_tests}
 use Rattle.std.proofs.lemmas.List.{length-take-le, take_all, get_or_past}
 use Rattle.std.proofs.Common.{length-drop}
 use Rattle.bit_messages.specs.Octets.{octets_of, bits_of, spare_bits}
-use Rattle.bit_messages.proofs.OctetLemmas.{length-bits_of, octets_again, bits_again}
+use Rattle.bit_messages.proofs.lemmas.{bits_again, length-bits_of, octets_again}
 use Rattle.leader1822.specs.Host.{Host, address_octet}
 use Rattle.packetiser.specs.PacketFields.{PacketFields, IsPacket, IsPacketHost, IsPiece, IsAnswer, Carries}
 use Rattle.packetiser.specs.Format.{spelling, read_of, kind_octet, kind_of, host_of, is_address, is_short, is_not_canonical, is_bad_length, bit_count, octet_count, is_data, is_last, place_of, place_octet, fields_of}

@@ -12,11 +12,7 @@ use Rattle.reset_law.specs.Monitor.{monitor}
 use Rattle.reset_law.specs.Invariant.{kind_in, is_signal, InGone, InHeard, Shape, Sound}
 use Rattle.reset_law.specs.Runs.{IsRun}
 use Rattle.reset_law.specs.Stays.{is_ready, ready, joint, begins, takes_reset, stays}
-use Rattle.reset_law.proofs.Links.{at}
-use Rattle.reset_law.proofs.Runs.{carry, sound_run, down_pair, ready_up}
-use Rattle.reset_law.proofs.Fresh.{turned_about, still_ready, ready_taken}
-use Rattle.reset_law.proofs.Joint.{ready_phase, phase_ready, contradicts, reset_unready}
-use Rattle.reset_law.proofs.Stays.{stays_ready}
+use Rattle.reset_law.proofs.lemmas.{at, carry, contradicts, down_pair, phase_ready, ready_phase, ready_taken, ready_up, reset_unready, sound_run, stays_ready, still_ready, turned_about}
 
 -- ---- an RST that was taken
 

@@ -8,7 +8,7 @@ use Rattle.reset_law.specs.Boxes.{Box, Empty, Waiting, Taken, WaitsWith, Fits, P
 use Rattle.reset_law.specs.Pairs.{Pair, MaySend, moved, pair}
 use Rattle.reset_law.specs.Runs.{IsRun}
 use Rattle.reset_law.specs.Stays.{is_ready, ready, takes_reset, stays, heard, said, IsFront}
-use Rattle.reset_law.proofs.Stays.{heard_front}
+use Rattle.reset_law.proofs.lemmas.{heard_front}
 use Rattle.pairing_law.specs.Places.{tagged, with_place, with_box, placed_event, placed}
 
 -- ---- tags

@@ -9,11 +9,7 @@ use Rattle.reset_law.specs.Monitor.{monitor}
 use Rattle.reset_law.specs.Invariant.{kind_in, is_signal}
 use Rattle.reset_law.specs.Runs.{IsRun}
 use Rattle.reset_law.specs.Stays.{ready, joint, begins, takes_reset, stays}
-use Rattle.reset_law.proofs.Links.{at}
-use Rattle.reset_law.proofs.Runs.{carry, alone_run}
-use Rattle.reset_law.proofs.Fresh.{turned_about, still_ready, ready_taken}
-use Rattle.reset_law.proofs.Joint.{phase_ready, contradicts, NoPlain, plain_fetched, plain_if, plain_alone}
-use Rattle.reset_law.proofs.Stays.{joint_stays}
+use Rattle.reset_law.proofs.lemmas.{NoPlain, alone_run, at, carry, contradicts, joint_stays, phase_ready, plain_alone, plain_fetched, plain_if, ready_taken, still_ready, turned_about}
 
 goes_on : (t r k s : Bool) → r ≡ true → k ≡ false → s ≡ true → (t || (r && not k && s)) ≡ true
 goes_on true r k s e f g = refl

@@ -8,9 +8,8 @@ use Rattle.std.specs.List.{All}
 use Rattle.hex.specs.Hex.{encode_upper, upper_digits, decode_of, is_hex_digit, IsBytes}
 use Rattle.hex.proofs.HexLemmas.{decode_of-digits, decode_of-encode_upper, length-encode_with}
 use Rattle.bit_messages.specs.Octets.{octets_of, bits_of, spare_bits}
-use Rattle.bit_messages.proofs.OctetLemmas.{bits_again, octets_below, length-bits_of}
+use Rattle.bit_messages.proofs.lemmas.{bits_again, length-bits_of, octets_below, packs_octets}
 use Rattle.bit_messages.specs.Packed.{Packs}
-use Rattle.bit_messages.proofs.PackedLemmas.{packs_octets}
 use Rattle.script.specs.Spelling.{octets_text, IsHex, ReadsAs, is_upper_digit, IsTextWord, IsWordOfText}
 use Rattle.script.proofs.Digits.{IsSpelled, spelled_octets, spelled_digits, spelled_even, upper_are_digits, digits_small}
 use Rattle.std.specs.List.{list_all}

@@ -19,7 +19,7 @@ use Rattle.host_pairs.specs.declared.notice.Notice.{Notice}
 use Rattle.host_pairs.specs.declared.notice.Notice.TheVariants as notice
 use Rattle.sockets.specs.declared.peer.Peer.{Peer}
 use Rattle.sockets.specs.declared.request.Request.TheVariants as request
-use Rattle.host_pairs.proofs.NoticeLemmas.{about_if, text_told, answer_told, parcel_kept}
+use Rattle.host_pairs.proofs.lemmas.{about_if, answer_told, parcel_kept, text_told}
 
 -- ---- a host
 

@@ -4,7 +4,7 @@ use Rattle.std.proofs.lemmas.Bool.{eqb-true, leb-true, ltb-true}
 use Rattle.std.proofs.Math.Nat.{min-le_left, min-eq_left}
 use Rattle.ncp_control.specs.Allocation as counters
 use Rattle.ncp_control.specs.declared.allocation.Allocation.{Allocation}
-use Rattle.ncp_control.proofs.Counters.{share-le}
+use Rattle.ncp_control.proofs.lemmas.{share-le}
 use Rattle.stream_law.specs.Words.{Word, Rts, Str, All, Gvb, Ret, Cls, for, covers, holds}
 use Rattle.stream_law.specs.Within.{bits_in, IsFront}
 

@@ -61,7 +61,7 @@ impl ImpCall {
     }
 
     /// Makes the call of the IMP at a place, if one is up there.
-    #[tactic(auto, using(crate::proofs::Ending::ends_of_turned))]
+    #[tactic(auto, using(crate::proofs::Calls::Ending::ends_of_turned))]
     fn make_at(self, imp: &mut Option<Imp>) -> Result<Vec<Outgoing>, CarrierFault>
         requires { IfSome imp.old (λ s. s.spent ≡ false) }
         ensures call { Ends (at_up imp.old (call_refusal self)) (grows_at imp.old (call_grows self)) (λ frames. (imp.new ≡ imp_by imp.old (call_turn self)) × (frames.items ≡ frames_by imp.old (call_turn self))) imp.old imp.new result }

@@ -17,7 +17,7 @@ impl Parts {
     /// ends of its lines. All IMPs, ends of lines and hosts are up.
     ///
     /// Errors: want of memory alone.
-    #[tactic(auto, using(crate::proofs::Opens::places_opened, crate::proofs::Opens::opened_live, crate::proofs::Opens::lines_opened))]
+    #[tactic(auto, using(crate::proofs::Calls::Opens::places_opened, crate::proofs::Calls::Opens::opened_live, crate::proofs::Calls::Opens::lines_opened))]
     pub(crate) fn open(
         alloc: Global,
         hosts: Vec<HostAddr>,
@@ -57,7 +57,7 @@ fn empty_lines(alloc: Global, ends: &[Ends]) -> Result<Vec<Wire>, AllocError>
 }
 
 /// The IMPs of these sites, with the ports that the lines give them.
-#[tactic(auto, using(crate::proofs::Opens::site_fits, crate::proofs::Opens::all_ports))]
+#[tactic(auto, using(crate::proofs::Calls::Opens::site_fits, crate::proofs::Calls::Opens::all_ports))]
 fn opened_imps(
     alloc: Global,
     sites: &[Option<u8>],

@@ -165,7 +165,7 @@ impl Parts {
     /// Makes a call of the IMP of this number, if it is up and doesn't refuse it.
     ///
     /// Errors: want of memory alone.
-    #[tactic(auto, using(crate::proofs::Attempting::attempted, crate::proofs::Attempting::attempt_lives, crate::proofs::Attempting::attempt_grows))]
+    #[tactic(auto, using(crate::proofs::Calls::Attempting::attempted, crate::proofs::Calls::Attempting::attempt_lives, crate::proofs::Calls::Attempting::attempt_grows))]
     pub(crate) fn attempt(&mut self, imp: u8, call: ImpCall) -> Result<(), AllocError>
         requires live { AreLive self.old.imps }
         requires ignores { Ignores call }

@@ -123,7 +123,7 @@ impl Subnet {
     }
 
     /// A round in which what is on its way moves on.
-    #[tactic(auto, using(crate::proofs::Working::round_done))]
+    #[tactic(auto, using(crate::proofs::Calls::Working::round_done))]
     fn round(&mut self) -> Result<(), CarrierFault>
         ensures { SubnetRound self.old result self.new }
     {
@@ -157,7 +157,7 @@ impl Carrier for Subnet {
     /// Errors: `NoSuch` where the source isn't a host of the network, `StillAlive` while the number 127 before
     /// the flow's last one is alive, `IsDown` where the source or its IMP is down, `Blocked` while a message of
     /// the flow is outstanding or an answer about it waits, `NoRoom` where its IMP has no place for it.
-    #[tactic(auto, using(crate::proofs::Working::offer_shown))]
+    #[tactic(auto, using(crate::proofs::Calls::Working::offer_shown))]
     fn offer_out(&mut self, message: HostMessage) -> Result<(), CarrierFault> {
         self.offer(message)
     }
@@ -167,7 +167,7 @@ impl Carrier for Subnet {
     ///
     /// Errors: `NoSuch` where it isn't a host of the network, `IsDown` where it or its IMP is down, `NoRoom`
     /// where the RFNM has no place.
-    #[tactic(auto, using(crate::proofs::Working::take_shown))]
+    #[tactic(auto, using(crate::proofs::Calls::Working::take_shown))]
     fn take_in(&mut self, host: HostAddr) -> Result<Option<Inbound>, CarrierFault> {
         let _ = self.has_stopped();
         self.take(host)
@@ -175,14 +175,14 @@ impl Carrier for Subnet {
 
     /// Each event is a step of one IMP, of one line or of one host, as the definitions of `specs/Events` say,
     /// with its refusals in their order.
-    #[tactic(auto, using(crate::proofs::Working::step_shown))]
+    #[tactic(auto, using(crate::proofs::Calls::Working::step_shown))]
     fn step(&mut self, event: NetEvent) -> Result<(), CarrierFault> {
         let _ = self.has_stopped();
         self.happen(event)
     }
 
     /// Each IMP that is up tells its distances and sends again; then each live frame is delivered and dropped.
-    #[tactic(auto, using(crate::proofs::Working::round_shown))]
+    #[tactic(auto, using(crate::proofs::Calls::Working::round_shown))]
     fn quiet_round(&mut self) -> Result<(), CarrierFault> {
         self.round()
     }

@@ -74,7 +74,7 @@ fn crossing_of(inbound: &Inbound) -> Result<Crossing, AllocError>
 }
 
 /// A host takes what waits for it at the IMP of a place, if one is up there.
-#[tactic(auto, using(crate::proofs::Ending::ends_of_turned))]
+#[tactic(auto, using(crate::proofs::Calls::Ending::ends_of_turned))]
 fn take_at(
     place: &mut Option<Imp>,
     host: u8,

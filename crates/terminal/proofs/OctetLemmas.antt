@@ -3,7 +3,7 @@ use Rattle.std.proofs.lemmas.Bool.Decides.{nat_tests}
 use Rattle.std.proofs.Common.{◌≡◌, ◌==◌, ℕ, ◌<◌, Bool, true, false, List, [], ◌∷◌, ◌++◌, length, take, drop, refl, ap, ◌∙◌, arith, replicate}
 use Rattle.std.proofs.lemmas.List.{take-append-drop, length-drop, length-take-le, append-nil}
 use Rattle.bit_messages.specs.Octets.{octets_of, bits_of, spare_bits}
-use Rattle.bit_messages.proofs.OctetLemmas.{bits_again}
+use Rattle.bit_messages.proofs.lemmas.{bits_again}
 use Rattle.terminal.specs.Machines.{TerminalState, terminal_heard}
 use Rattle.terminal.specs.Octets.{in_octets, whole, part}
 

@@ -4,7 +4,7 @@ use Rattle.std.proofs.lemmas.List.{append_assoc, append-nil}
 use Rattle.std.proofs.lemmas.Grind.{flat_map-append}
 use Rattle.std.specs.List.{flat_map}
 use Rattle.bit_messages.specs.Octets.{bits_of, octets_of}
-use Rattle.bit_messages.proofs.PackedLemmas.{bits_of-append}
+use Rattle.bit_messages.proofs.lemmas.{bits_of-append}
 use Rattle.host_pairs.specs.declared.notice.Notice.{Notice}
 use Rattle.host_pairs.specs.declared.notice.Notice.TheVariants as notice
 use Rattle.sockets.specs.declared.request.Request.{Request}

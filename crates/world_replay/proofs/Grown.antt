@@ -31,7 +31,7 @@ use Rattle.net_sim.specs.declared.seat.Seat.{Seat}
 use Rattle.net_sim.specs.World.{Calls, WorldState, seat_of, services_of, noticed, turn_of, done_by, with_carrier, moved, changed, served_at, with_server, with_user, TypeGives, DoesOrHalts, Refuses, Does, Halts, Passes, OfferEnds, OfferGives, TakeEnds, TakeGives, NetEnds, QuietEnds, AskGives, AtProgram, AtSeat, EventGives, StepGives, stops}
 use Rattle.sockets.specs.declared.request.Request.TheVariants as request
 use Rattle.host_services.specs.TypedLines.{line_bits}
-use Rattle.net_sim.proofs.Refusals.{step_stands}
+use Rattle.net_sim.proofs.lemmas.{step_stands}
 use Rattle.world_replay.specs.Gains.{Gains}
 use Rattle.world_replay.proofs.News.{AreAbout, AreBetween, between_append, between_wider}
 use Rattle.world_replay.proofs.Reports.{about_append, about_wider, told_about}

@@ -7,8 +7,7 @@ use Rattle.host_services.specs.declared.report.Reported.{Reported}
 use Rattle.leader1822.specs.Printed.{crossing_text}
 use Rattle.leader1822.specs.declared.crossing.Crossing.{Crossing}
 use Rattle.net_sim.specs.declared.book.Told.{Told}
-use Rattle.replay.proofs.InTurn.{text_of-append}
-use Rattle.replay.proofs.Shown.{appends_more, appends_none}
+use Rattle.replay.proofs.lemmas.{appends_more, appends_none, text_of-append}
 use Rattle.replay.specs.InTurn.{text_of}
 use Rattle.script.specs.Input.{ended}
 use Rattle.world_replay.specs.Output.{Shown, Crossed, Noticed, Said, Refused, crossings_of, shown_text, output, place_of, shown_crossings, shown_in_turn, shown_notices, told_in_turn}

@@ -9,7 +9,7 @@ use Rattle.net_sim.specs.World as world
 use Rattle.net_sim.specs.World.{Calls, WorldState, stops}
 use Rattle.net_sim.specs.declared.event.WorldFault.{WorldFault}
 use Rattle.replay.specs.InTurn.{HappensOnce, ShowsFront}
-use Rattle.replay.proofs.InTurn.{ends_front, in_turn_once}
+use Rattle.replay.proofs.lemmas.{appends_more, ends_front, in_turn_once}
 use Rattle.replay.specs.Settled.{AreSettled, Grows}
 use Rattle.world_script.specs.declared.event.WorldEvent.{WorldEvent}
 use Rattle.world_script.specs.declared.event.WorldEvent.TheVariants as event
@@ -17,8 +17,7 @@ use Rattle.world_replay.specs.Gains.{Gains, news}
 use Rattle.world_replay.specs.Output.{Shown, crossings_of, output, shown_in_turn, shown_refusal, told_in_turn}
 use Rattle.world_replay.specs.Replay.{EndsIn, EventGives, Happens, Replays, StopsIn}
 use Rattle.world_replay.specs.Settled.{carried}
-use Rattle.net_sim.proofs.Always.{calm_keeps}
-use Rattle.replay.proofs.Shown.{appends_more}
+use Rattle.net_sim.proofs.lemmas.{calm_keeps}
 use Rattle.replay.specs.declared.events.ReplayFault.{ReplayFault}
 use Rattle.replay.specs.declared.events.ReplayFault.TheVariants as fault
 use Rattle.world_replay.specs.Steps.{EventEnds}

@@ -7,10 +7,7 @@ use Rattle.leader1822.specs.Host.{Host}
 use Rattle.leader1822.specs.Printed.{host_text}
 use Rattle.script.specs.Spelling.{IsHost, ReadsAs, octets_text}
 use Rattle.script.specs.Steps.{Lacks}
-use Rattle.script.proofs.Hosts.{host_unmarked}
-use Rattle.script.proofs.Keywords.{unmarked_where}
-use Rattle.script.proofs.Numbers.{All-unmarked_decimal}
-use Rattle.script.proofs.Words.{SameCut, not_back, not_cut, not_front, same_cut}
+use Rattle.script.proofs.lemmas.{All-unmarked_decimal, SameCut, host_unmarked, not_back, not_cut, not_front, same_cut, unmarked_where}
 use Rattle.sockets.specs.declared.request.Request.{Request}
 use Rattle.sockets.specs.declared.request.Request.TheVariants as request
 use Rattle.world_script.specs.Steps.{AreThree, AreTwo, arguments, three_text, two_text, verb_of, verb_text}

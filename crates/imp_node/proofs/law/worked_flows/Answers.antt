@@ -6,7 +6,7 @@ use Rattle.imp_channel.specs.Line.{submitted}
 use Rattle.link_table.specs.Flows.{number_in, begun, answered, handed, given_up, answered_in, given_up_in, handed_in}
 use Rattle.link_table.specs.declared.source.Standing.{Standing}
 use Rattle.link_table.specs.declared.source.Standing.TheVariants as standing
-use Rattle.link_table.proofs.FlowLemmas.{get_begun, get_answered, get_given_up, get_handed}
+use Rattle.link_table.proofs.lemmas.{get_answered, get_begun, get_given_up, get_handed}
 use Rattle.routing.specs.RouteTable.{next_of, distance_to}
 use Rattle.imp_node.specs.Examples.{host, flow}
 use Rattle.imp_node.proofs.law.worked_flows.Goals as goal

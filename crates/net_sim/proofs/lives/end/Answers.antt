@@ -2,7 +2,7 @@ use Rattle.std.proofs.Common.{rules, ◌<◌, length, slice_index_or, sym, subst
 use Rattle.std.proofs.lemmas.List.{length-set}
 use Rattle.net_sim.specs.Book.{ended}
 use Rattle.net_sim.specs.Inside.Endings.{ends}
-use Rattle.net_sim.proofs.Places.{where_here, next_changed, all_changed, at_within, end_spares}
+use Rattle.net_sim.proofs.Books.Places.{where_here, next_changed, all_changed, at_within, end_spares}
 use Rattle.net_sim.proofs.lives.end.Goals as goal
 
 pub bounds-lives-at : goal.bounds-lives-at

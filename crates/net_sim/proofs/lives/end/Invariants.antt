@@ -1,7 +1,7 @@
 use Rattle.std.proofs.Common.{◌≡◌, drop, length}
 use Rattle.net_sim.specs.Book.{ended}
 use Rattle.net_sim.specs.Inside.Endings.{ends}
-use Rattle.net_sim.proofs.Places.{changed_at, where_here}
+use Rattle.net_sim.proofs.Books.Places.{changed_at, where_here}
 use Rattle.net_sim.proofs.lives.end.Given as goal
 
 -- what is left makes of the lives what the whole does

@@ -1,8 +1,8 @@
 use Rattle.std.proofs.Common.{rules, ◌≡◌, ℕ, Some, slice_index_or, ap, sym, subst, ◌∙◌}
 use Rattle.host_services.specs.TypedLines.{line_bits}
 use Rattle.net_sim.specs.World.{HostServices}
-use Rattle.net_sim.proofs.Doing.{same_number}
-use Rattle.net_sim.proofs.Ends.{IsAnswered}
+use Rattle.net_sim.proofs.Hosts.Doing.{same_number}
+use Rattle.net_sim.proofs.Hosts.Ends.{IsAnswered}
 use Rattle.sockets.specs.Requests.{refusal}
 use Rattle.sockets.specs.declared.request.Request.{Request}
 use Rattle.sockets.specs.declared.request.Request.TheVariants as requests

@@ -2,7 +2,7 @@ use Rattle.std.proofs.Common.{rules}
 use Rattle.leader1822.specs.Host.{same_host}
 use Rattle.host_services.specs.Services.{no_services}
 use Rattle.net_sim.specs.World.{HostServices, with_services}
-use Rattle.net_sim.proofs.LifeLoops.{one_changed}
+use Rattle.net_sim.proofs.Books.LifeLoops.{one_changed}
 use Rattle.net_sim.proofs.seat.empty.Goals as goal
 
 pub loop-services-preserved : goal.loop-services-preserved

@@ -5,7 +5,7 @@ use Rattle.subnet.specs.Events.{at_up}
 use Rattle.subnet.specs.Calls.{grows_at}
 use Rattle.subnet.specs.Net.{imp_at}
 use Rattle.subnet.specs.Inside.Calling.{call_refusal, call_turn, call_grows, Ends, imp_by, frames_by}
-use Rattle.subnet.proofs.Living.{live_call, read_alike}
+use Rattle.subnet.proofs.Calls.Living.{live_call, read_alike}
 use Rattle.subnet.proofs.imp_call.call_imp.Goals as goal
 
 pub returns-clause-live : goal.returns-clause-live

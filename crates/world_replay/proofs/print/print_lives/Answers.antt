@@ -1,8 +1,7 @@
 use Rattle.std.proofs.Common.{refl, subst}
 use Rattle.std.specs.Io.KnownBytes.{Appends}
 use Rattle.net_sim.specs.declared.life.Life.{Life}
-use Rattle.replay.proofs.InTurn.{text_more}
-use Rattle.replay.proofs.Shown.{was_ok}
+use Rattle.replay.proofs.lemmas.{text_more, was_ok}
 use Rattle.script.specs.Input.{ended}
 use Rattle.world_replay.specs.Printed.{life_text}
 use Rattle.world_replay.proofs.print.print_lives.Goals as goal

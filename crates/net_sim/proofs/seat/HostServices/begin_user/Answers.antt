@@ -1,7 +1,7 @@
 use Rattle.std.proofs.Common.{rules, length}
 use Rattle.host_services.specs.Services.{opening_desk}
 use Rattle.host_services.specs.Turns.{user_begun}
-use Rattle.net_sim.proofs.Doing.{done_of}
+use Rattle.net_sim.proofs.Hosts.Doing.{done_of}
 use Rattle.net_sim.proofs.seat.HostServices.begin_user.Goals as goal
 
 pub returns-clause-done : goal.returns-clause-done

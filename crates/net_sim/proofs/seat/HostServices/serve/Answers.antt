@@ -2,7 +2,7 @@ use Rattle.std.proofs.Common.{rules, length}
 use Rattle.net_sim.specs.Book.{all_told, asked}
 use Rattle.net_sim.specs.World.{turn_of}
 use Rattle.sockets.specs.Requests.{served, served_notices}
-use Rattle.net_sim.proofs.Doing.{done_of}
+use Rattle.net_sim.proofs.Hosts.Doing.{done_of}
 use Rattle.net_sim.proofs.seat.HostServices.serve.Goals as goal
 
 pub returns-clause-done : goal.returns-clause-done

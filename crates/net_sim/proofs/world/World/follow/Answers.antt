@@ -4,7 +4,7 @@ use Rattle.net_sim.specs.Carriers.{shown}
 use Rattle.net_sim.specs.Inside.Held.{IsHeld}
 use Rattle.net_sim.specs.Inside.Parts.{AreLive, IsOnce, ended, hosts_of, hosts_served, running, runs_out}
 use Rattle.net_sim.specs.World.{Calls, EventGives, HostServices, Seat}
-use Rattle.net_sim.proofs.Held.{followed_held, held_live, held_once, held_order}
+use Rattle.net_sim.proofs.Books.Held.{followed_held, held_live, held_once, held_order}
 use Rattle.net_sim.proofs.world.World.follow.Goals as goal
 
 pub follow-done-requires-clause-once : goal.follow-done-requires-clause-once

@@ -1,0 +1,12 @@
+pub mod Always
+pub mod BookEvents
+pub mod Booked
+pub mod Held
+pub mod InOrder
+pub mod LifeLoops
+pub mod Places
+pub mod Refusals
+pub mod RunLoop
+pub mod SafeRow
+pub mod Unsafe
+pub mod Whole

@@ -1,0 +1,11 @@
+pub mod Bridge
+pub mod Calls
+pub mod Clean
+pub mod Coupled
+pub mod Kept
+pub mod Offers
+pub mod Ordered
+pub mod Spelled
+pub mod StoryLemmas
+pub mod Turns
+pub mod Unheard

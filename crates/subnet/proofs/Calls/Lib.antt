@@ -1,0 +1,17 @@
+pub mod Attempting
+pub mod Carries
+pub mod Carrying
+pub mod Delivering
+pub mod Ending
+pub mod Living
+pub mod Opens
+pub mod Owning
+pub mod Putting
+pub mod RoundMemory
+pub mod Rounds
+pub mod Showing
+pub mod Silence
+pub mod SiteHosts
+pub mod Starts
+pub mod Stopping
+pub mod Working

@@ -1,0 +1,17 @@
+pub mod Deliveries
+pub mod EventSteps
+pub mod Forgetting
+pub mod GivingUp
+pub mod HostsDown
+pub mod HostsUp
+pub mod ImpsDown
+pub mod ImpsUp
+pub mod ManyFlows
+pub mod Offers
+pub mod Openings
+pub mod QuietCalls
+pub mod Stepping
+pub mod Takes
+pub mod Turns
+pub mod Views
+pub mod WholeRuns

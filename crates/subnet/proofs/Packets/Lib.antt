@@ -1,0 +1,3 @@
+pub mod Having
+pub mod HavingByEvents
+pub mod Routed

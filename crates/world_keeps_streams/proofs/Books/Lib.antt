@@ -1,0 +1,10 @@
+pub mod All
+pub mod Books
+pub mod Clauses
+pub mod Given
+pub mod Goes
+pub mod Run
+pub mod Source
+pub mod Starts
+pub mod Streams
+pub mod Whole

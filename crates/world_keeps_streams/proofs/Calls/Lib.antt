@@ -1,0 +1,13 @@
+pub mod Allowed
+pub mod CallSizes
+pub mod Chain
+pub mod Leads
+pub mod May
+pub mod MayAll
+pub mod MayAsk
+pub mod MayCalls
+pub mod MayHear
+pub mod MayLaw
+pub mod MayTurns
+pub mod Moved
+pub mod Sizes

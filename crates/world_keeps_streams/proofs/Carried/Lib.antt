@@ -1,0 +1,13 @@
+pub mod All
+pub mod Calls
+pub mod Every
+pub mod Heard
+pub mod Moments
+pub mod Next
+pub mod Older
+pub mod Owned
+pub mod Said
+pub mod Step
+pub mod Still
+pub mod Streams
+pub mod World

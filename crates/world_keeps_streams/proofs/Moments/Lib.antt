@@ -1,0 +1,9 @@
+pub mod Answer
+pub mod Asked
+pub mod AskedDown
+pub mod AskedNext
+pub mod In
+pub mod OtherAlike
+pub mod OtherLives
+pub mod OtherTurns
+pub mod Out

@@ -1,0 +1,15 @@
+pub mod ActsAnswer
+pub mod ActsAsked
+pub mod ActsIn
+pub mod ActsOut
+pub mod Goes
+pub mod GoesAsked
+pub mod GoesHeard
+pub mod GoesOut
+pub mod GoesSaid
+pub mod Going
+pub mod Held
+pub mod Joined
+pub mod JoinedAll
+pub mod Joining
+pub mod Streams
