@@ -21,7 +21,7 @@ network_fault octets document script fault.BadOptions parted known refused = abs
 network_fault octets document script (fault.BadLine number) parted known refused = absurd known
 
 -- once octets are an input, nothing but memory and a write can fail
-pub after_reading : (octets : List ℕ) (r : Result (Unit {0}) ScriptFault) → IsSomeInput octets → IfErr r IsReplayFault → MatchResult r (λ done. IsSomeInput octets) (IsInputFault octets)
+after_reading : (octets : List ℕ) (r : Result (Unit {0}) ScriptFault) → IsSomeInput octets → IfErr r IsReplayFault → MatchResult r (λ done. IsSomeInput octets) (IsInputFault octets)
 after_reading octets (Ok done) read known = read
 after_reading octets (Err fault.OutOfMemory) read known = tt
 after_reading octets (Err fault.CannotWrite) read known = read

@@ -1,5 +1,5 @@
 -- A replay over the carrier of a topology goes on, and ends.
-use Rattle.std.proofs.Common.{◌≡◌, ◌⊎◌, inl, inr, ℕ, Bool, true, false, List, [], ◌∷◌, ◌++◌, Option, Some, None, Result, IfSome, OnOk, reverse, codes, refl, ap, sym, subst, ◌∙◌}
+use Rattle.std.proofs.Common.{◌≡◌, ◌⊎◌, inl, inr, ℕ, Bool, true, false, List, ◌∷◌, ◌++◌, Option, Some, None, Result, IfSome, OnOk, reverse, codes, refl, ap, sym, subst, ◌∙◌}
 use Rattle.std.proofs.lemmas.List.{append-nil}
 use Rattle.std.specs.Io.KnownBytes.{Appends, Keeps}
 use Rattle.leader1822.specs.Messages.{SafeMessages}
@@ -95,9 +95,6 @@ world_writes_part {C} calls carrier opening last events a b is h safe =
     }
 
 -- ---- over the carrier that a topology names
-
-pub over_all : (carrier : CarrierKind) (network : TopologyFields) (book : Bool) (events : Asked) (a b : Option (List ℕ)) → network.carrier ≡ carrier → ReplaysOver carrier network book events a b → ReplaysOn network book events a b
-over_all carrier network book events a b is h = subst (λ (k : CarrierKind). ReplaysOver k network book events a b) (sym is) h
 
 pub over_part : (carrier : CarrierKind) (network : TopologyFields) (events : Asked) (a b : Option (List ℕ)) → network.carrier ≡ carrier → (Keeps a b ⊎ EndsOver carrier network events a b) → Keeps a b ⊎ EndsOn network events a b
 over_part carrier network events a b is (inl kept) = inl kept

@@ -70,7 +70,7 @@ taken_holds v t oldest others can h =
     subst (λ (b : Box). WaitsWith b oldest.text) (sym held.waits) (ap (λ (q : Queued). q.text) same)
 
 -- what a move shows is what the mailbox allows
-pub shows_run : {Piece : List Bool → Packet → Type 0} (m : Move) (v : View) (t : Packet → Type 0) → Needs Piece m v t → Invariant Piece v t → (start : Mail) (seen : List Passing)
+shows_run : {Piece : List Bool → Packet → Type 0} (m : Move) (v : View) (t : Packet → Type 0) → Needs Piece m v t → Invariant Piece v t → (start : Mail) (seen : List Passing)
     → mail_of start seen ≡ mail_now v → IsFlowRun start seen → IsFlowRun start (shows m v ++ seen)
 shows_run Move.Quiet v t needs h start seen at run = run
 shows_run (Move.DeadNow place text) v t needs h start seen at run = one_seen (Passing.Put place text) start (mail_now v) seen at (needs.source, offered_empty v t needs h) run
@@ -98,7 +98,7 @@ stop_mail : (p : Passing) (up : Bool) (start now later : Mail) (seen : List Pass
 stop_mail p true start now later seen at goes stays = ap (mail_after p) at ∙ goes refl
 stop_mail p false start now later seen at goes stays = at ∙ stays refl
 
-pub shows_mail : (m : Move) (v : View) (start : Mail) (seen : List Passing) → mail_of start seen ≡ mail_now v → mail_of start (shows m v ++ seen) ≡ mail_now (after m v)
+shows_mail : (m : Move) (v : View) (start : Mail) (seen : List Passing) → mail_of start seen ≡ mail_now v → mail_of start (shows m v ++ seen) ≡ mail_now (after m v)
 shows_mail Move.Quiet v start seen at = at
 shows_mail (Move.DeadNow place text) v start seen at = ap (mail_after (Passing.Put place text)) at
 shows_mail (Move.Begin place text) v start seen at = ap (mail_after (Passing.Put place text)) at

@@ -49,7 +49,7 @@ idle_queue v t h up idle = elim h.waiting [
 
 -- ---- the box
 
-pub taken_not_waiting : (box : Box) (place : ℕ) (text : List Bool) → Fits answer.Rfnm box → box ≡ Box.Waiting place text → ⊥
+taken_not_waiting : (box : Box) (place : ℕ) (text : List Bool) → Fits answer.Rfnm box → box ≡ Box.Waiting place text → ⊥
 taken_not_waiting Box.Empty place text fits is = absurd fits
 taken_not_waiting (Box.Waiting p t) place text fits is = absurd fits
 taken_not_waiting (Box.Taken p t) place text fits is = absurd (cc)

@@ -35,7 +35,7 @@ spoken_above own foreign (text ∷ texts) word =
     above_above (spoken_upon own foreign (text ∷ texts) word) (upon (marks_of_text own foreign (untagged text)) word) word
     (spoken_above own foreign texts (upon (marks_of_text own foreign (untagged text)) word)) (upon_above (marks_of_text own foreign (untagged text)) word)
 
-pub spoken_append : (own foreign : ℕ) (xs ys : List (List Bool)) (word : List Mark) → spoken_upon own foreign (xs ++ ys) word ≡ spoken_upon own foreign ys (spoken_upon own foreign xs word)
+spoken_append : (own foreign : ℕ) (xs ys : List (List Bool)) (word : List Mark) → spoken_upon own foreign (xs ++ ys) word ≡ spoken_upon own foreign ys (spoken_upon own foreign xs word)
 spoken_append own foreign [] ys word = refl
 spoken_append own foreign (x ∷ xs) ys word = spoken_append own foreign xs ys (upon (marks_of_text own foreign (untagged x)) word)
 

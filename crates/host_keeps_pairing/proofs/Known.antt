@@ -45,7 +45,7 @@ unpartnered [] x h e = refl
 unpartnered (l ∷ k) x h e = absurd (let r : true ≡ false = sym (ap is_some h.0.1) ∙ e in cc)
 
 -- where nothing is known it stays so
-pub known_none : (k : List Life) (x : End) → k ≡ [] → Knows k x
+known_none : (k : List Life) (x : End) → k ≡ [] → Knows k x
 known_none k x e = subst (λ (j : List Life). Knows j x) (sym e) tt
 
 no_partner : (origin : ℕ → ℕ) (stamp : ℕ) (x : End) → fits (Ask (origin stamp)) x ≡ true → is_some x.partner ≡ false
@@ -76,14 +76,14 @@ module _ (origin : ℕ → ℕ) (peer : Host) (own foreign : ℕ) where
   learns_on old ns x y work k h = subst (λ (j : List Life). Knows j y) (sym (known_append old ns k)) (work (tells old k) h)
 
   -- notices that change nothing
-  pub learns_more : (old ns : List Notice) (x : End) → ((k : List Life) → tells ns k ≡ k) → Learns old (old ++ ns) x x
+  learns_more : (old ns : List Notice) (x : End) → ((k : List Life) → tells ns k ≡ k) → Learns old (old ++ ns) x x
   learns_more old ns x none = learns_on old ns x x (λ k h. subst (λ (j : List Life). Knows j x) (sym (none k)) h)
 
   learns_if : (b : Bool) (old : List Notice) (d e : DeskState) (x y : End) → Learns old d.notices x y → Learns old e.notices x y → Learns old (if b then d else e).notices x y
   learns_if true old d e x y h k = h
   learns_if false old d e x y h k = k
 
-  pub learns_none : (old : List Notice) (x : End) → Learns old old x x
+  learns_none : (old : List Notice) (x : End) → Learns old old x x
   learns_none old x k h = h
 
   itself : same_host peer peer ≡ true

@@ -74,7 +74,7 @@ abbrev pub Is : (Standing → Standing) → (Entry → Entry) → Type 0
 Is to change = (e : Entry) → ((change e).own ≡ e.own) × ((change e).foreign ≡ e.foreign) × (standing (change e) ≡ to (standing e))
 
 -- the two sockets of an end
-pub sockets_of : (own foreign : ℕ) (x : Entry) → is_at own foreign x ≡ true → (x.own ≡ own) × (x.foreign ≡ foreign)
+sockets_of : (own foreign : ℕ) (x : Entry) → is_at own foreign x ≡ true → (x.own ≡ own) × (x.foreign ≡ foreign)
 sockets_of own foreign x e = let h : ((x.own == own) ≡ true) × ((x.foreign == foreign) ≡ true) = both (x.own == own) (x.foreign == foreign) e in (eqb-true x.own own h.0, eqb-true x.foreign foreign h.1)
 
 turned : (a b : ℕ) (s t : Bool) → (a == b) ≡ s → (b == a) ≡ t → s ≡ t

@@ -32,16 +32,16 @@ use Rattle.host_keeps_pairing.proofs.Passes.{one_gone, request_by}
 
 -- ---- some of others
 
-pub among_more : (xs ys : List Life) (y : Life) → AreAmong xs ys → AreAmong xs (y ∷ ys)
+among_more : (xs ys : List Life) (y : Life) → AreAmong xs ys → AreAmong xs (y ∷ ys)
 among_more [] ys y h = tt
 among_more (x ∷ xs) ys y h = inr h
 
-pub among_opened : (a p : Option ℕ) (xs ys : List Life) → AreAmong xs ys → AreAmong xs (opened a p ys)
+among_opened : (a p : Option ℕ) (xs ys : List Life) → AreAmong xs ys → AreAmong xs (opened a p ys)
 among_opened None p xs ys h = h
 among_opened (Some a) None xs ys h = h
 among_opened (Some a) (Some p) xs ys h = among_more xs ys (record { own = a; partner = p }) h
 
-pub among_taken : (m : Mark) (x : End) (xs ys : List Life) → AreAmong xs ys → AreAmong xs (lives_taken m x ys)
+among_taken : (m : Mark) (x : End) (xs ys : List Life) → AreAmong xs ys → AreAmong xs (lives_taken m x ys)
 among_taken (Ask p) x xs ys h = among_opened x.asked (Some p) xs ys h
 among_taken Close x xs ys h = h
 
@@ -70,15 +70,15 @@ module _ (origin : ℕ → ℕ) (own foreign : ℕ) where
   abbrev pub AreOther : List Notice → Type 0
   AreOther ns = (told : List Life) → with_openings origin own foreign ns told ≡ told
 
-  pub tells_more : (old ns : List Notice) (lives : List Life) → AreOther ns → Tells old (old ++ ns) lives lives
+  tells_more : (old ns : List Notice) (lives : List Life) → AreOther ns → Tells old (old ++ ns) lives lives
   tells_more old ns lives none told h =
       subst (λ (ts : List Life). AreAmong ts lives) (sym (openings_append old ns told ∙ none (with_openings origin own foreign old told))) h
 
   -- one notice or more that tell of this
-  pub tells_on : (old ns : List Notice) (lives more : List Life) → ((told : List Life) → AreAmong told lives → AreAmong (with_openings origin own foreign ns told) more) → Tells old (old ++ ns) lives more
+  tells_on : (old ns : List Notice) (lives more : List Life) → ((told : List Life) → AreAmong told lives → AreAmong (with_openings origin own foreign ns told) more) → Tells old (old ++ ns) lives more
   tells_on old ns lives more work told h = subst (λ (ts : List Life). AreAmong ts more) (sym (openings_append old ns told)) (work (with_openings origin own foreign old told) h)
 
-  pub tells_if : (b : Bool) (old : List Notice) (d e : DeskState) (lives more : List Life) → Tells old d.notices lives more → Tells old e.notices lives more → Tells old (if b then d else e).notices lives more
+  tells_if : (b : Bool) (old : List Notice) (d e : DeskState) (lives more : List Life) → Tells old d.notices lives more → Tells old e.notices lives more → Tells old (if b then d else e).notices lives more
   tells_if true old d e lives more h k = h
   tells_if false old d e lives more h k = k
 

@@ -6,7 +6,7 @@ use Rattle.pairing_law.specs.Sides.{Event, IsRun, Life, both}
 use Rattle.pairing_law.proofs.lemmas.{joined_run, open_match}
 use Rattle.host_keeps_pairing.specs.Known.{ArePartners, Knows}
 
-pub known_open : (x : Life) (known : List Life) (e : End) → IsIn x known → Knows known e → IsOpen x.own x.partner e
+known_open : (x : Life) (known : List Life) (e : End) → IsIn x known → Knows known e → IsOpen x.own x.partner e
 known_open x [] e i h = absurd i
 known_open x (l ∷ known) e (inl same) h = subst (λ (y : Life). IsOpen y.own y.partner e) (sym same) h.0
 known_open x (l ∷ known) e (inr i) h = known_open x known e i h.1

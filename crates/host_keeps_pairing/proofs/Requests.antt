@@ -128,22 +128,22 @@ module _ (origin : ℕ → ℕ) (own foreign place : ℕ) where
       on_settled origin own foreign place true q.busy (desk_of (with_end socket called_off q) []) x
       (stand_touched (at own foreign q.entries) (at own foreign (with_end socket called_off q).entries) (marks place own foreign q.queue) x (touched (is_mine_on socket) q.entries) h)
 
-  pub commanded_quiet : (c : Command) (q : PairState) (x : End) → mark_of place own foreign c ≡ [] → Stand true origin place (at own foreign q.entries) (marks place own foreign q.queue) x
+  commanded_quiet : (c : Command) (q : PairState) (x : End) → mark_of place own foreign c ≡ [] → Stand true origin place (at own foreign q.entries) (marks place own foreign q.queue) x
       → Stand true origin place (at own foreign (commanded c q).entries) (marks place own foreign (commanded c q).queue) x
   commanded_quiet c q x none h = on_queued origin own foreign place true c (desk_of q []) x none h
 
-  pub sender_new : (a b size : ℕ) (q : PairState) (x : End) → entry_at a b q.entries ≡ None → Stand true origin place (at own foreign q.entries) (marks place own foreign q.queue) x
+  sender_new : (a b size : ℕ) (q : PairState) (x : End) → entry_at a b q.entries ≡ None → Stand true origin place (at own foreign q.entries) (marks place own foreign q.queue) x
       → Stand true origin place (at own foreign (requested (sending_end a b size) (command.Str a b size) q).entries) (marks place own foreign (requested (sending_end a b size) (command.Str a b size) q).queue) x
   sender_new a b size q x none h =
       on_joined origin own foreign place a b (sending_end a b size) (command.Str a b size) (desk_of q []) x x refl refl (record { live = λ e. refl; refused = λ m. absurd (cc); asked = λ e. absurd (cc); own = λ e. absurd (cc) }) none (λ t is. is) (λ t. refl) h
 
-  pub receiver_new : (a b : ℕ) (link : Option ℕ) (q : PairState) (x : End) → entry_at a b q.entries ≡ None → Stand true origin place (at own foreign q.entries) (marks place own foreign q.queue) x
+  receiver_new : (a b : ℕ) (link : Option ℕ) (q : PairState) (x : End) → entry_at a b q.entries ≡ None → Stand true origin place (at own foreign q.entries) (marks place own foreign q.queue) x
       → Stand true origin place (at own foreign (receiver_requested a b link q).entries) (marks place own foreign (receiver_requested a b link q).queue) x
   receiver_new a b None q x none h = h
   receiver_new a b (Some link) q x none h =
       on_joined origin own foreign place a b (receiving_end a b link) (command.Rts a b link) (desk_of q []) x x refl refl (record { live = λ e. refl; refused = λ m. absurd (cc); asked = λ e. absurd (cc); own = λ e. absurd (cc) }) none (λ t is. is) (λ t. refl) h
 
-  pub interrupt_quiet : (b : Bool) (link : ℕ) → mark_of place own foreign (if b then command.Inr link else command.Ins link) ≡ []
+  interrupt_quiet : (b : Bool) (link : ℕ) → mark_of place own foreign (if b then command.Inr link else command.Ins link) ≡ []
   interrupt_quiet true link = refl
   interrupt_quiet false link = refl
 

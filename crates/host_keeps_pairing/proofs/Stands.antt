@@ -1,5 +1,5 @@
 -- What a mark that goes out, or is heard, does to the one end of two sockets.
-use Rattle.std.proofs.Common.{◌≡◌, ℕ, ◌≤◌, Bool, true, false, not, ◌||◌, if◌then◌else◌, List, [], ◌∷◌, ◌++◌, Option, Some, None, is_some, refl, ap, sym, subst, ◌∙◌, ◌⊎◌, inl, inr}
+use Rattle.std.proofs.Common.{◌≡◌, ℕ, ◌≤◌, Bool, true, false, not, ◌||◌, if◌then◌else◌, List, ◌∷◌, ◌++◌, Option, Some, None, is_some, refl, ap, sym, subst, ◌∙◌, ◌⊎◌, inl, inr}
 use Rattle.std.proofs.lemmas.List.{append-nil}
 use Rattle.pairing_law.specs.Ends.{End, nothing, is_begun, MayGo, gone, fits, taken}
 use Rattle.pairing_law.specs.Marks.{Mark, Ask, Close}
@@ -235,11 +235,6 @@ may_close origin place s words x h = elim (heads place s.mine s.asked s.closing 
       (let is : x ≡ plain origin s = h.2 ∙ live_end origin s (h.0.live refl) in
       subst (λ (y : End). MayGo Close y) (sym is) (begun_by s.mine s.asked s.partner origin r.own (λ m. (h.0.refused m).0), ap is_sent r.queued))
 ]
-
--- an end whose request is still to go out, and there is one at most
-abbrev pub IsBelow : List Standing → ℕ → ℕ → Type 0
-IsBelow [] next place = Unit {0}
-IsBelow (s ∷ ss) next place = s.asked ≡ None → s.mine ≡ true → next ≤ place
 
 none_left : (swept : Bool) (origin : ℕ → ℕ) (place : ℕ) (s : Standing) (words rest : List Mark) (x : End) (next : ℕ) → is_sent s.closing ≡ true → Stand swept origin place (s ∷ []) (words ++ rest) x → MayAllGo words x next
 none_left swept origin place s [] rest x next sent h = tt

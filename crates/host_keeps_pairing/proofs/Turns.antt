@@ -24,7 +24,7 @@ use Rattle.host_keeps_pairing.proofs.Desks.{on_queued, on_settled}
 use Rattle.host_keeps_pairing.proofs.Takes.{on_data, on_taken}
 
 -- no RST and no RRP is taken as one
-pub taken_when : (peer : Host) (stamp : ℕ) (c : Command) (t : TurnState) → is_alone c ≡ false → command_taken peer stamp c t ≡ if_ready (commands.taken peer t.pair.busy stamp c) t
+taken_when : (peer : Host) (stamp : ℕ) (c : Command) (t : TurnState) → is_alone c ≡ false → command_taken peer stamp c t ≡ if_ready (commands.taken peer t.pair.busy stamp c) t
 taken_when peer stamp command.Nop t e = refl
 taken_when peer stamp (command.Rts receive send link) t e = refl
 taken_when peer stamp (command.Str send receive size) t e = refl
@@ -45,7 +45,7 @@ abbrev pub work_of : Host → List ℕ → ℕ → Order → DeskState → DeskS
 work_of peer busy stamp (Legal c) d = commands.taken peer busy stamp c d
 work_of peer busy stamp (Wrong code octets) d = queued (error code octets) d
 
-pub order_when : (peer : Host) (stamp : ℕ) (o : Order) (t : TurnState) → IsJoint o → order_taken peer stamp o t ≡ if_ready (work_of peer t.pair.busy stamp o) t
+order_when : (peer : Host) (stamp : ℕ) (o : Order) (t : TurnState) → IsJoint o → order_taken peer stamp o t ≡ if_ready (work_of peer t.pair.busy stamp o) t
 order_when peer stamp (Legal c) t e = taken_when peer stamp c t e
 order_when peer stamp (Wrong code octets) t e = refl
 

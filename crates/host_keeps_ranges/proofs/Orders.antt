@@ -22,7 +22,7 @@ use Rattle.host_keeps_ranges.specs.Ranges.{AreOrders}
 
 -- ---- an ERR
 
-pub detail_octets : (octets : List ℕ) → All IsOctet octets → All IsOctet (detail_of octets)
+detail_octets : (octets : List ℕ) → All IsOctet octets → All IsOctet (detail_of octets)
 detail_octets octets small = All-take IsOctet 10 (octets ++ replicate 10 0) (All-append IsOctet octets (replicate 10 0) small (All-replicate IsOctet 10 0 (omega arith)))
 
 ten : (octets : List ℕ) → length (detail_of octets) ≡ 10

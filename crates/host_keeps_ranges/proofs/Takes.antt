@@ -34,7 +34,7 @@ ranged_if : (b : Bool) (d e : DeskState) → Ranged d → Ranged e → Ranged (i
 ranged_if true d e h k = h
 ranged_if false d e h k = k
 
-pub ranged_queued : (c : Command) (d : DeskState) → IsCommand c → Ranged d → Ranged (queued c d)
+ranged_queued : (c : Command) (d : DeskState) → IsCommand c → Ranged d → Ranged (queued c d)
 ranged_queued c d is h = record { ends = h.ends; commands = commands_more d.queue c h.commands is; sizes = h.sizes }
 
 pub ranged_error : (code : ℕ) (octets : List ℕ) (d : DeskState) → IsOctet code → All IsOctet octets → Ranged d → Ranged (queued (error code octets) d)

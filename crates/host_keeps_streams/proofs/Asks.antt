@@ -147,7 +147,7 @@ module _ (name : ℕ → ℕ → ℕ) (link : ℕ) (peer : Host) (stamp : ℕ) (
 -- ---- answers: whatever has to close does so
 
 module _ (name : ℕ → ℕ → ℕ) (link : ℕ) (busy : List ℕ) (d : DeskState) where
-  pub settled_sent : (s : Sender) → HasSender name link d.entries s → AreKnown name d.entries s → AreSound name d.entries → Sent name link (closes name busy d.entries) (settled busy d).entries s
+  settled_sent : (s : Sender) → HasSender name link d.entries s → AreKnown name d.entries s → AreSound name d.entries → Sent name link (closes name busy d.entries) (settled busy d).entries s
   settled_sent s h k sound = settle_all name link busy d.entries s h k sound.apart
 
   pub settled_received : (r : Receiver) → HasReceiver name link d.entries r → HasReceiver name link (settled busy d).entries r

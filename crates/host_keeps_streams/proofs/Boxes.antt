@@ -36,7 +36,7 @@ module _ (name : ℕ → ℕ → ℕ) (busy : List ℕ) where
   keep_step out y ys t a rest true m = rw m ((λ e o. a.0 m e o), rest (senders.moved (senders.Close (named name y)) t) (safe_closed out (named name y) ys t a.1))
   keep_step out y ys t a rest false m = rw m (rest t a.1)
 
-  pub keep_closes : (out : Bool) (ys : List Entry) (t : Sender) → AllSafe out ys t → KeepBox out (closes name busy ys) t
+  keep_closes : (out : Bool) (ys : List Entry) (t : Sender) → AllSafe out ys t → KeepBox out (closes name busy ys) t
   keep_closes out [] t a = tt
   keep_closes out (y ∷ ys) t a = keep_step out y ys t a (keep_closes out ys) (must_close busy y && not (is_receiving y)) refl
 

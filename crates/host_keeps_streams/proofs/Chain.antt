@@ -239,7 +239,7 @@ pair_zero a b d e = absurd (omega (arith, odd b (paired a d) e)) where
   odd : (b x : ℕ) → 2 * b + 1 ≡ 2 * x → 1 ≤ 0
   odd b x e = omega (arith, e)
 
-pub paired_parts : (a b c d : ℕ) → paired a b ≡ paired c d → (a ≡ c) × (b ≡ d)
+paired_parts : (a b c d : ℕ) → paired a b ≡ paired c d → (a ≡ c) × (b ≡ d)
 paired_parts zero b zero d e = (refl, omega (arith, e))
 paired_parts zero b (suc c) d e = absurd (pair_zero c b d e)
 paired_parts (suc a) b zero d e = absurd (pair_zero a d b (sym e))

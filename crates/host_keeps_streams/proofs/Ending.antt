@@ -29,7 +29,7 @@ stays e = not (is_over e)
 pub close_now : (busy : List ℕ) (e : Entry) → is_due e.closing ≡ true → is_drained busy e ≡ true → shut_one busy e ≡ record e { closing = closing.Queued }
 close_now busy e due drained = rw (due, drained) refl
 
-pub stay_now : (busy : List ℕ) (e : Entry) → is_due e.closing ≡ false → shut_one busy e ≡ e
+stay_now : (busy : List ℕ) (e : Entry) → is_due e.closing ≡ false → shut_one busy e ≡ e
 stay_now busy e due = rw due refl
 
 pub not_called : (v : Closing) → is_called_off v ≡ false → v ≡ closing.No
@@ -42,7 +42,7 @@ pub or_parts : (a b : Bool) → (a || b) ≡ false → (a ≡ false) × (b ≡ f
 or_parts true b e = absurd (cc)
 or_parts false b e = (refl, e)
 
-pub received_drained : (busy : List ℕ) (e : Entry) → is_receiving e ≡ true → is_drained busy e ≡ true
+received_drained : (busy : List ℕ) (e : Entry) → is_receiving e ≡ true → is_drained busy e ≡ true
 received_drained busy e there = rw there refl
 
 -- ---- ends that aren't the one that closes

@@ -182,7 +182,7 @@ closed_without busy e sends none closing.Due same = rw (same, sends, none) refl
 closed_without busy e sends none closing.Queued same = rw same refl
 closed_without busy e sends none closing.Sent same = rw same refl
 
-pub formed_closed : (busy : List ℕ) (e : Entry) → IsFormed e → stays (shut_one busy (closed_by_partner e)) ≡ true → IsFormed (shut_one busy (closed_by_partner e))
+formed_closed : (busy : List ℕ) (e : Entry) → IsFormed e → stays (shut_one busy (closed_by_partner e)) ≡ true → IsFormed (shut_one busy (closed_by_partner e))
 formed_closed busy e f live = shut_formed busy (closed_by_partner e) (record { told = f.told; linked = f.linked; unlinked = f.unlinked; sized = f.sized; ungranted = f.ungranted }) (λ i n p. closed_without busy e i n e.closing refl) live
 
 settled_step : (busy : List ℕ) (x : Entry) (zs : List Entry) → (stays (shut_one busy x) ≡ true → IsFormed (shut_one busy x)) → AreFormed (filter stays zs) → (b : Bool) → stays (shut_one busy x) ≡ b → AreFormed (filter stays (shut_one busy x ∷ zs))

@@ -126,7 +126,7 @@ module _ (name : ℕ → ℕ → ℕ) (link stamp : ℕ) (e : Entry) (s : Sender
     by true false t = rw t (tt, leaves n s n.none)
     by false w t = rw t (tt, leaves n s n.none)
 
-  pub open_end : AreSender name (e ∷ []) s → IsKnown (named name e) e s → Opens (of_end (named name e) s.end (sent_open (is_some e.partner) (named name e)))
+  open_end : AreSender name (e ∷ []) s → IsKnown (named name e) e s → Opens (of_end (named name e) s.end (sent_open (is_some e.partner) (named name e)))
   open_end (inl i) k = open_is i
   open_end (inr n) k = leaving_by n k (is_some e.partner) s.end refl
 

@@ -94,7 +94,7 @@ goes_some c v (Some own) k e = by (own == c && v) refl where
   by true t = let r : None ≡ Some k = rw t at e in absurd (cc)
   by false t = rw t at e
 
-pub none_closed : (c : ℕ) (s : Sender) → NoneOpen s → NoneOpen (senders.moved (senders.Close c) s)
+none_closed : (c : ℕ) (s : Sender) → NoneOpen s → NoneOpen (senders.moved (senders.Close c) s)
 none_closed c s none k f o = elim (at c true s.closed k) [
   | inl t ↦ t.1
   | inr t ↦ t.1 ∙ none k (goes_some c s.shut s.end k f) o

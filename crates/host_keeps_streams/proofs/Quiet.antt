@@ -14,7 +14,7 @@ use Rattle.host_keeps_streams.specs.Said.{LeavesReceiver, LeavesSender}
 use Rattle.host_keeps_streams.proofs.Lists.{apart, not_received, not_sent, other_receives, other_sends, received_is, sent_is}
 
 -- whatever has the end that is looked for isn't on the link, and stays off it
-abbrev pub Off : (Entry → Bool) → (Entry → Bool) → (Entry → Entry) → Type 0
+abbrev Off : (Entry → Bool) → (Entry → Bool) → (Entry → Entry) → Type 0
 Off test on change = (e : Entry) → test e ≡ true → (on e ≡ false) × (on (change e) ≡ false)
 
 abbrev pub Same : (Entry → Bool) → DeskState → DeskState → Type 0

@@ -41,14 +41,14 @@ odd_is n e = ne_eqb (n % 2) 0 (λ same. (let one : n % 2 ≡ 1 = eqb-true (n % 2
 
 module _ (name : ℕ → ℕ → ℕ) where
   -- what is heard of a connection that isn't on the link is no matter of its end
-  pub told_apart : (c z : ℕ) (xs : List Entry) (r : Receiver) → is_among c (numbers name xs) ≡ false → AreReceiver name xs r → AreReceiver name xs (receivers.hears (words.Str c z) r)
+  told_apart : (c z : ℕ) (xs : List Entry) (r : Receiver) → is_among c (numbers name xs) ≡ false → AreReceiver name xs r → AreReceiver name xs (receivers.hears (words.Str c z) r)
   told_apart c z [] r n h = h
   told_apart c z (x ∷ []) r n h =
       let other : (named name x == c) ≡ false = (or_parts (named name x == c) false n).0 in
       record { end = h.end; opened = h.opened; closed = h.closed; over = h.over; size = (rw other h.size); allocation = h.allocation; due = h.due; live = h.live }
   told_apart c z (x ∷ y ∷ ys) r n h = h
 
-  pub over_apart : (c : ℕ) (xs : List Entry) (r : Receiver) → is_among c (numbers name xs) ≡ false → AreReceiver name xs r → AreReceiver name xs (receivers.hears (words.Cls c) r)
+  over_apart : (c : ℕ) (xs : List Entry) (r : Receiver) → is_among c (numbers name xs) ≡ false → AreReceiver name xs r → AreReceiver name xs (receivers.hears (words.Cls c) r)
   over_apart c [] r n h = h
   over_apart c (x ∷ []) r n h =
       let other : (named name x == c) ≡ false = (or_parts (named name x == c) false n).0 in
@@ -145,7 +145,7 @@ module _ (name : ℕ → ℕ → ℕ) (link : ℕ) where
     str_by None found new = listened_by (new refl) (listener_on own d.listening)
     str_by (Some e) found new = told_by e found (is_some e.partner) (receives_on link e) refl refl
 
-    pub str_receives : (entry_at own foreign d.entries ≡ None → IsNewReceived (name own foreign) (numbers name d.entries) r)
+    str_receives : (entry_at own foreign d.entries ≡ None → IsNewReceived (name own foreign) (numbers name d.entries) r)
         → Received name link (str_received link (name own foreign) z (listener_on own d.listening) (free_link d.entries) (entry_at own foreign d.entries)) (str_taken peer own foreign z stamp d).entries r
     str_receives new = str_by (entry_at own foreign d.entries) refl new
 
@@ -222,7 +222,7 @@ module _ (name : ℕ → ℕ → ℕ) (link : ℕ) where
     rts_linked true used = rw used h
     rts_linked false used = rw used (rts_by (entry_at own foreign d.entries) refl)
 
-    pub rts_leaves : HasReceiver name link (rts_taken peer own foreign l stamp d).entries r
+    rts_leaves : HasReceiver name link (rts_taken peer own foreign l stamp d).entries r
     rts_leaves = rts_linked (list_any (sends_on l) d.entries) refl
 
   -- ---- all commands

@@ -29,15 +29,15 @@ use Rattle.host_keeps_streams.proofs.ReceiverHears.{own_name, own_parity}
 
 -- ---- an RTS begins an end, where the law has none
 
-pub begun_none : (c : ℕ) (o : Option ℕ) (s : Sender) → NoneOpen s → NoneOpen (senders.begins c o s)
+begun_none : (c : ℕ) (o : Option ℕ) (s : Sender) → NoneOpen s → NoneOpen (senders.begins c o s)
 begun_none c None s n = λ k f o. absurd (cc)
 begun_none c (Some other) s n = n
 
-pub begun_size : (c : ℕ) (o : Option ℕ) (s : Sender) → (senders.begins c o s).size ≡ s.size
+begun_size : (c : ℕ) (o : Option ℕ) (s : Sender) → (senders.begins c o s).size ≡ s.size
 begun_size c None s = refl
 begun_size c (Some other) s = refl
 
-pub begun_closed : (c : ℕ) (o : Option ℕ) (s : Sender) → (senders.begins c o s).closed ≡ s.closed
+begun_closed : (c : ℕ) (o : Option ℕ) (s : Sender) → (senders.begins c o s).closed ≡ s.closed
 begun_closed c None s = refl
 begun_closed c (Some other) s = refl
 

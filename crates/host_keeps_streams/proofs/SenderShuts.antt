@@ -165,7 +165,7 @@ module _ (name : ℕ → ℕ → ℕ) (link : ℕ) where
         (subst (λ (ms : List senders.Move). Sent name link ms (map (shut_one busy) (filter stays (changed_first (is_at own foreign) closed_by_partner d.entries))) t) (sym (closes_swept name busy (changed_first (is_at own foreign) closed_by_partner d.entries)))
         (settle_all name link busy (filter stays (changed_first (is_at own foreign) closed_by_partner d.entries)) t g j shut_apart))
 
-    pub cls_first : Sent name link ((if is_receiving e then [] else heard (named name e) s.end) ++ closes name busy (changed_at own foreign closed_by_partner d.entries)) (filter stays (map (shut_one busy) (changed_first (is_at own foreign) closed_by_partner d.entries))) s
+    cls_first : Sent name link ((if is_receiving e then [] else heard (named name e) s.end) ++ closes name busy (changed_at own foreign closed_by_partner d.entries)) (filter stays (map (shut_one busy) (changed_first (is_at own foreign) closed_by_partner d.entries))) s
     cls_first = by (is_receiving e) refl where
       by : (v : Bool) → is_receiving e ≡ v
           → Sent name link ((if v then [] else heard (named name e) s.end) ++ closes name busy (changed_at own foreign closed_by_partner d.entries)) (filter stays (map (shut_one busy) (changed_first (is_at own foreign) closed_by_partner d.entries))) s
@@ -189,7 +189,7 @@ module _ (name : ℕ → ℕ → ℕ) (link : ℕ) where
         (settled_box name busy link (filter stays (changed_first (is_at own foreign) closed_by_partner d.entries)) t g j shut_apart)
 
     -- none is outstanding where it closes
-    pub first_box : KeepBox (is_busy busy link) ((if is_receiving e then [] else heard (named name e) s.end) ++ closes name busy (changed_at own foreign closed_by_partner d.entries)) s
+    first_box : KeepBox (is_busy busy link) ((if is_receiving e then [] else heard (named name e) s.end) ++ closes name busy (changed_at own foreign closed_by_partner d.entries)) s
     first_box = by (is_receiving e) refl where
       by : (v : Bool) → is_receiving e ≡ v → KeepBox (is_busy busy link) ((if v then [] else heard (named name e) s.end) ++ closes name busy (changed_at own foreign closed_by_partner d.entries)) s
       by true i = then_box s (shut_off s (not_sent link e i) h) (shut_known s refl refl)

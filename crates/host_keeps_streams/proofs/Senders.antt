@@ -45,7 +45,7 @@ and_no true = refl
 and_no false = refl
 
 -- an end whose CLS waits to go out, or has gone out, isn't open, nor is one that leaves
-pub closed_shut : (e : Entry) → has_cls e.closing ≡ true → is_open e ≡ false
+closed_shut : (e : Entry) → has_cls e.closing ≡ true → is_open e ≡ false
 closed_shut e closed = ap (λ (v : Bool). is_some e.asked && is_some e.partner && not (v || e.partner_closed)) closed ∙ and_no (is_some e.asked && is_some e.partner)
 
 pub leaving_shut : (e : Entry) (s : Sender) → IsLeaving e s → is_open e ≡ false

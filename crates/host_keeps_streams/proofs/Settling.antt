@@ -19,7 +19,7 @@ use Rattle.host_keeps_streams.proofs.Ending.{shut_one}
 use Rattle.host_keeps_streams.proofs.Leaving.{closes_one, cls_not_due, due_open}
 
 -- none of these has one of those numbers
-abbrev pub AreClear : (ℕ → ℕ → ℕ) → List Entry → List ℕ → Type 0
+abbrev AreClear : (ℕ → ℕ → ℕ) → List Entry → List ℕ → Type 0
 AreClear name [] numbers = Unit {0}
 AreClear name (x ∷ xs) numbers = (is_among (named name x) numbers ≡ false) × AreClear name xs numbers
 

@@ -1,5 +1,5 @@
 -- The octets of control messages, and the orders that are read from them.
-use Rattle.std.proofs.Common.{◌≡◌, ℕ, ◌+◌, ◌*◌, ◌<◌, ◌≤◌, Bool, true, false, ◌||◌, nat_lt, if◌then◌else◌, Some, None, List, [], ◌∷◌, length, take, drop, refl, ap, sym, ◌∙◌, arith, zero, suc, subst, length-drop}
+use Rattle.std.proofs.Common.{◌≡◌, ℕ, ◌+◌, ◌*◌, ◌<◌, ◌≤◌, Bool, true, false, ◌||◌, nat_lt, if◌then◌else◌, Some, None, List, ◌∷◌, length, take, drop, refl, ap, sym, ◌∙◌, arith, zero, suc, subst, length-drop}
 use Rattle.std.proofs.lemmas.Bool.{or_parts}
 use Rattle.std.proofs.lemmas.Bool.Decides.{nat_tests}
 use Rattle.std.proofs.lemmas.List.{drop-drop}
@@ -26,7 +26,7 @@ drop_octet (a ∷ b ∷ c ∷ d ∷ e ∷ f ∷ []) = refl
 drop_octet (a ∷ b ∷ c ∷ d ∷ e ∷ f ∷ g ∷ []) = refl
 drop_octet (a ∷ b ∷ c ∷ d ∷ e ∷ f ∷ g ∷ h ∷ rest) = refl
 
-pub octets_of-drop : (n : ℕ) (bits : List Bool) → octets_of (drop (8 * n) bits) ≡ drop n (octets_of bits)
+octets_of-drop : (n : ℕ) (bits : List Bool) → octets_of (drop (8 * n) bits) ≡ drop n (octets_of bits)
 octets_of-drop zero bits = refl
 octets_of-drop (suc n) bits =
     let count : 8 * suc n ≡ 8 + 8 * n = omega arith in
@@ -55,7 +55,7 @@ take_octet n (a ∷ b ∷ c ∷ d ∷ e ∷ f ∷ []) more = last (octet a b c d
 take_octet n (a ∷ b ∷ c ∷ d ∷ e ∷ f ∷ g ∷ []) more = last (octet a b c d e f g false) n
 take_octet n (a ∷ b ∷ c ∷ d ∷ e ∷ f ∷ g ∷ h ∷ rest) more = ap (λ (octets : List ℕ). octet a b c d e f g h ∷ octets) (more rest)
 
-pub octets_of-take : (n : ℕ) (bits : List Bool) → octets_of (take (8 * n) bits) ≡ take n (octets_of bits)
+octets_of-take : (n : ℕ) (bits : List Bool) → octets_of (take (8 * n) bits) ≡ take n (octets_of bits)
 unfolding octets_of
 octets_of-take zero bits = refl
 octets_of-take (suc n) bits =
@@ -63,7 +63,7 @@ octets_of-take (suc n) bits =
     ap (λ (k : ℕ). octets_of (take k bits)) count ∙ take_octet n bits (octets_of-take n)
 
 -- the octets of a part of a text
-pub octets_within : (from count : ℕ) (bits : List Bool) → octets_of (take (8 * count) (drop (8 * from) bits)) ≡ take count (drop from (octets_of bits))
+octets_within : (from count : ℕ) (bits : List Bool) → octets_of (take (8 * count) (drop (8 * from) bits)) ≡ take count (drop from (octets_of bits))
 octets_within from count bits =
     octets_of-take count (drop (8 * from) bits) ∙ ap (λ (octets : List ℕ). take count octets) (octets_of-drop from bits)
 
@@ -120,10 +120,6 @@ pub record IsLeft (peer : Host) (stamp : ℕ) (octets : List ℕ) (now end : Tur
   pub enough : length octets ≤ most
   pub same : orders_taken peer stamp (orders_within most octets) now ≡ end
   pub said : said_by peer stamp (orders_within most octets) now ≤ total
-
-pub left_all : (peer : Host) (stamp : ℕ) (octets : List ℕ) (now : TurnState)
-    → IsLeft peer stamp octets now (orders_taken peer stamp (orders_in octets) now) (said_by peer stamp (orders_in octets) now)
-left_all peer stamp octets now = record { most = length octets; enough = omega arith; same = refl; said = omega arith }
 
 left_none_of : (peer : Host) (stamp most : ℕ) (now end : TurnState) → orders_taken peer stamp (orders_within most []) now ≡ end → now ≡ end
 left_none_of peer stamp zero now end same = same

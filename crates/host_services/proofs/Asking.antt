@@ -51,7 +51,7 @@ none_append : (s : NcpState) (xs ys : List Request) → NoneRefused s xs → Non
 none_append s [] ys h k = k
 none_append s (x ∷ xs) ys h k = (h.0, none_append (served s x) xs ys h.1 k)
 
-pub then_asked : (d e f : DeskState) → HasAsked d e → HasAsked e f → HasAsked d f
+then_asked : (d e f : DeskState) → HasAsked d e → HasAsked e f → HasAsked d f
 then_asked d e f x y = record {
   more = x.more ++ y.more;
   asked = y.asked ∙ ap (λ (rs : List Request). rs ++ y.more) x.asked ∙ append_assoc d.asked x.more y.more;
@@ -97,7 +97,7 @@ grants_first receive = (grants receive 4 4096 (omega arith) (omega arith), tt)
 grants_again : (receive : ℕ) (bits : List Bool) → MayAsk (ends.granted_again receive bits)
 grants_again receive bits = grants receive 1 (min (length bits) 4294967295) (omega arith) (omega (arith, min-le_right (length bits) 4294967295))
 
-pub all_tried : (d : DeskState) (rs : List Request) → Fine rs → HasAsked d (tries d rs)
+all_tried : (d : DeskState) (rs : List Request) → Fine rs → HasAsked d (tries d rs)
 all_tried d [] fine = same_asked d d refl refl
 all_tried d (r ∷ rs) fine = then_asked d (tried d r) (tries (tried d r) rs) (one_tried d r (refusal d.program r) refl fine.0) (all_tried (tried d r) rs fine.1)
 
@@ -105,12 +105,12 @@ asks_by : (d : DeskState) (r : Request) (rs : List Request) (f : Option NcpFault
 asks_by d r rs None e is h = then_asked d (serving r d) (asks (serving r d) rs).0 (one_asked d r e is) h
 asks_by d r rs (Some f) e is h = same_asked d d refl refl
 
-pub all_asks : (d : DeskState) (rs : List Request) → Fine rs → HasAsked d (asks d rs).0
+all_asks : (d : DeskState) (rs : List Request) → Fine rs → HasAsked d (asks d rs).0
 all_asks d [] fine = same_asked d d refl refl
 all_asks d (r ∷ rs) fine = asks_by d r rs (refusal d.program r) refl fine.0 (all_asks (serving r d) rs fine.1)
 
 -- after a report
-pub reported_asked : (d f : DeskState) (r : Report) → HasAsked (reporting r d) f → HasAsked d f
+reported_asked : (d f : DeskState) (r : Report) → HasAsked (reporting r d) f → HasAsked d f
 reported_asked d f r h = then_asked d (reporting r d) f (same_asked d (reporting r d) refl refl) h
 
 lines_asked : (d : DeskState) (lines : List (List ℕ)) → HasAsked d (lines_told d lines)
@@ -288,7 +288,7 @@ heard_all_fine n (s ∷ ss) d named =
     let rest : AllFine (heard_by n s d).1 (heard n ss (heard_by n s d).1) = heard_all_fine n ss (heard_by n s d).1 (All-tail NamesPeer s ss named) in
     (then_asked d (heard_by n s d).1 (heard n ss (heard_by n s d).1).1 one.0 rest.0, All-cons NamesPeer (heard_by n s d).0 (heard n ss (heard_by n s d).1).0 one.1 rest.1)
 
-pub told_fine_all : (ns : List Notice) (ss : List Service) (d : DeskState) → All NamesPeer ss → AllFine d (all_heard ns ss d)
+told_fine_all : (ns : List Notice) (ss : List Service) (d : DeskState) → All NamesPeer ss → AllFine d (all_heard ns ss d)
 told_fine_all [] ss d named = (same_asked d d refl refl, named)
 told_fine_all (n ∷ ns) ss d named =
     let here : AllFine (noticing d) (heard n ss (noticing d)) = heard_all_fine n ss (noticing d) named in

@@ -260,7 +260,7 @@ AllHave-from_AllThis b p (None ∷ way) h = AllHave-from_AllThis b p way h
 AllHave-from_AllThis b p (Some m ∷ way) h = (h.0, AllHave-from_AllThis b p way h.2)
 
 -- a busy channel and what its acknowledgement makes of it, by whether the bits differ
-abbrev pub acked_on : Bool → Bool → PacketFields → Channel
+abbrev acked_on : Bool → Bool → PacketFields → Channel
 acked_on d b p = cond d (record { bit = not b; packet = None }) (record { bit = b; packet = Some p })
 
 -- the bit that comes back is the packet's: nothing changes

@@ -1,5 +1,5 @@
 -- What an end holds and sends, and what it gives: a property of all packets that come in holds of all of them.
-use Rattle.std.proofs.Common.{◌≡◌, ℕ, zero, suc, ◌+◌, ◌<◌, Bool, true, false, not, List, [], ◌∷◌, ◌++◌, length, get_or, set, Option, Some, None, Ok, Err, refl, sym, ap, subst, cond, leb, arith, All, Contains, IfSome, IsPermutation, position, replicate}
+use Rattle.std.proofs.Common.{◌≡◌, ℕ, zero, suc, ◌+◌, ◌<◌, Bool, true, false, not, List, ◌∷◌, ◌++◌, length, get_or, set, Option, Some, None, Ok, Err, refl, sym, ap, subst, cond, leb, arith, All, Contains, IfSome, IsPermutation, position, replicate}
 use Rattle.std.proofs.lemmas.List.Elements.{All-nil, All-cons, All-head, All-tail, All-append, All-set, All-replicate, All-weaker, All-contains_itself, Contains-append_left, Contains-push}
 use Rattle.std.proofs.lemmas.List.Quantifiers.{position-Some}
 use Rattle.std.proofs.lemmas.List.Sorted.{IsPermutation-refl, IsPermutation-trans, IsPermutation-append_right, IsPermutation-middle}
@@ -85,14 +85,6 @@ fresh_carried e f p is = at f.content is
         ap (λ (q : PacketFields). q ∷ []) (carried_fresh (leb CHANNELS carried.channel) (has_expected_bit e.expected carried) carried.packet p is)
     at content.Nothing is = cc
     at (content.Routes distances) is = cc
-
-pub fresh_has : (P : PacketFields → Type 0) (e : End) (f : Frame) (p : PacketFields) → answer_to e f ≡ Ok (received.Fresh p) → ContentHas P f.content → P p
-fresh_has P e f p is has = at f.content (fresh_carried e f p is) has
-  where
-    at : (brings : Content) → carried_by brings ≡ p ∷ [] → ContentHas P brings → P p
-    at (content.Packet carried) same has = let equal : carried.packet ≡ p = cc in subst P equal has
-    at content.Nothing same has = cc
-    at (content.Routes distances) same has = cc
 
 frames_has : (P : PacketFields → Type 0) (e : End) (n : ℕ) (chs : List Channel) → All (ChannelHas P) chs → All (λ f. ContentHas P f.content) (frames_from e n chs)
 frames_has P e n [] has = All-nil (λ f. ContentHas P f.content)

@@ -154,7 +154,7 @@ drop_at (g ∷ fs) zero f at = (fs, (let same : g ≡ f = cc in ap (λ (h : Fram
 drop_at (g ∷ fs) (suc place) f at = drop_at fs place f at
 
 -- a frame that is refused, or isn't
-abbrev pub takes_when : Bool → Frame → Side → Side
+abbrev takes_when : Bool → Frame → Side → Side
 takes_when refused f s =
     let state : End = cond refused s.state (record { sending = all_acknowledged f.acks s.state.sending; expected = expected_after s.state.expected f.content }) in
     record s {

@@ -1,6 +1,6 @@
 -- A property of every packet: what holds of all packets in an IMP before a call, of what comes in and of what is made, holds of
 -- all packets in it and in its frames after the call. Here: the pump, and what calls are made of.
-use Rattle.std.proofs.Common.{ℕ, zero, suc, Bool, true, false, List, [], ◌∷◌, ◌++◌, Option, Some, None, cond, All, Contains}
+use Rattle.std.proofs.Common.{ℕ, zero, suc, Bool, true, false, List, ◌∷◌, ◌++◌, Option, Some, None, cond, All, Contains}
 use Rattle.std.proofs.lemmas.List.Elements.{All-nil, All-cons, All-head, All-tail, All-append, All-push, All-set, All-weaker, All-contains}
 use Rattle.leader1822.specs.declared.address.Flow.{Flow}
 use Rattle.leader1822.specs.declared.crossing.Answer.{Answer}
@@ -22,7 +22,7 @@ use Rattle.imp_node.specs.declared.port.Port.{Port}
 use Rattle.imp_node.specs.State.{State, Turn, port_at}
 use Rattle.imp_node.specs.Room.{has_route}
 use Rattle.imp_node.specs.Pump.{Pumped, target, stored, sent_on, sent, pumped, pump}
-use Rattle.imp_node.specs.Flows.{told, answered_by}
+use Rattle.imp_node.specs.Flows.{answered_by}
 use Rattle.imp_node.specs.Contents.{packets_in_channels, packets, packets_on, turn_packets}
 
 -- ---- the property
@@ -149,15 +149,12 @@ stored_has P p s here h = record { store = All-append P s.store _ h.store (at (h
   at true = All-cons P p [] here (All-nil P)
   at false = All-nil P
 
-pub told_has : (P : PacketFields → Type 0) (kind : Answer) (f : Flow) (s : State) → Has P s → Has P (told kind f s)
-told_has P kind f s h = record { store = h.store; lines = h.lines; slots = h.slots }
-
 pub answered_has : (P : PacketFields → Type 0) (r : Release) (kind : Answer) (f : Flow) (n : ℕ) (s : State) → Has P s → Has P (answered_by r kind f n s)
 answered_has P release.Freed kind f n s h = record { store = h.store; lines = h.lines; slots = h.slots }
 answered_has P release.Stale kind f n s h = h
 
 -- of packets that are among others
-pub among_have : (P : PacketFields → Type 0) (ps qs : List PacketFields) → AreAmong ps qs → All P qs → All P ps
+among_have : (P : PacketFields → Type 0) (ps qs : List PacketFields) → AreAmong ps qs → All P qs → All P ps
 among_have P ps qs among all = All-weaker (Contains qs) P (λ p there. All-contains P qs p all there) ps among
 
 pub added_has : (P : PacketFields → Type 0) (p : PacketFields) (held : List slots.SlotState) → P p → All P (slots.packets_in held) → All P (slots.packets_in (slots.added held p))

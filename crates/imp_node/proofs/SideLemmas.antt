@@ -1,5 +1,5 @@
 -- What the steps of calls do to the two sides of each flow.
-use Rattle.std.proofs.Common.{◌≡◌, ℕ, zero, suc, Bool, true, false, List, [], ◌∷◌, ◌++◌, get_or, set, Option, Some, None, refl, ap, sym, ◌∙◌, subst, cond, ◌==◌, ◌⊎◌, inl, inr, eqb-true}
+use Rattle.std.proofs.Common.{◌≡◌, ℕ, zero, suc, Bool, true, false, List, ◌∷◌, ◌++◌, get_or, set, Option, Some, None, refl, ap, sym, ◌∙◌, subst, cond, ◌==◌, ◌⊎◌, inl, inr, eqb-true}
 use Rattle.std.proofs.lemmas.Bool.{cases_Bool}
 use Rattle.std.specs.FinMap as finite
 use Rattle.leader1822.specs.Flow.{same_flow}
@@ -17,7 +17,7 @@ use Rattle.imp_node.specs.declared.waiting.Told.{Told}
 use Rattle.imp_node.specs.State.{State, HostState, no_host, host_at, is_up, with_host}
 use Rattle.imp_node.specs.Queries.{last, outstanding}
 use Rattle.imp_node.specs.Flows.{given, told, answered_by, freed, noted, queued, next_number, with_begun}
-use Rattle.imp_node.specs.Sides.{answers_of, messages_of, Sender, Receiver, sender, receiver, begun_with, told_with, ended_with, noted_with, queued_with, Unmoved, AllUnmoved, Moved}
+use Rattle.imp_node.specs.Sides.{answers_of, messages_of, Sender, Receiver, sender, receiver, begun_with, told_with, ended_with, noted_with, queued_with, AllUnmoved, Moved}
 
 -- ---- lists
 
@@ -36,7 +36,7 @@ set_there (y ∷ ys) zero x up = refl
 set_there (y ∷ ys) (suc h) x up = set_there ys h x up
 
 -- an answer of the flow comes behind the others
-pub answers_push : (f : Flow) (xs : List Told) (t : Told) → same_flow f t.flow ≡ true → answers_of f (xs ++ t ∷ []) ≡ answers_of f xs ++ t.kind ∷ []
+answers_push : (f : Flow) (xs : List Told) (t : Told) → same_flow f t.flow ≡ true → answers_of f (xs ++ t ∷ []) ≡ answers_of f xs ++ t.kind ∷ []
 answers_push f [] t same = rw same refl
 answers_push f (x ∷ xs) t same = at (same_flow f x.flow) (answers_push f xs t same) where
   at : (b : Bool) → answers_of f (xs ++ t ∷ []) ≡ answers_of f xs ++ t.kind ∷ [] → cond b (x.kind ∷ answers_of f (xs ++ t ∷ [])) (answers_of f (xs ++ t ∷ [])) ≡ cond b (x.kind ∷ answers_of f xs) (answers_of f xs) ++ t.kind ∷ []
@@ -44,21 +44,21 @@ answers_push f (x ∷ xs) t same = at (same_flow f x.flow) (answers_push f xs t 
   at false rest = rest
 
 -- an answer of another flow doesn't count
-pub answers_beside : (f : Flow) (xs : List Told) (t : Told) → same_flow f t.flow ≡ false → answers_of f (xs ++ t ∷ []) ≡ answers_of f xs
+answers_beside : (f : Flow) (xs : List Told) (t : Told) → same_flow f t.flow ≡ false → answers_of f (xs ++ t ∷ []) ≡ answers_of f xs
 answers_beside f [] t other = rw other refl
 answers_beside f (x ∷ xs) t other = at (same_flow f x.flow) (answers_beside f xs t other) where
   at : (b : Bool) → answers_of f (xs ++ t ∷ []) ≡ answers_of f xs → cond b (x.kind ∷ answers_of f (xs ++ t ∷ [])) (answers_of f (xs ++ t ∷ [])) ≡ cond b (x.kind ∷ answers_of f xs) (answers_of f xs)
   at true rest = ap (λ (ys : List Answer). x.kind ∷ ys) rest
   at false rest = rest
 
-pub messages_push : (f : Flow) (xs : List Message) (m : Message) → same_flow f m.flow ≡ true → messages_of f (xs ++ m ∷ []) ≡ messages_of f xs ++ m ∷ []
+messages_push : (f : Flow) (xs : List Message) (m : Message) → same_flow f m.flow ≡ true → messages_of f (xs ++ m ∷ []) ≡ messages_of f xs ++ m ∷ []
 messages_push f [] m same = rw same refl
 messages_push f (x ∷ xs) m same = at (same_flow f x.flow) (messages_push f xs m same) where
   at : (b : Bool) → messages_of f (xs ++ m ∷ []) ≡ messages_of f xs ++ m ∷ [] → cond b (x ∷ messages_of f (xs ++ m ∷ [])) (messages_of f (xs ++ m ∷ [])) ≡ cond b (x ∷ messages_of f xs) (messages_of f xs) ++ m ∷ []
   at true rest = ap (λ (ys : List Message). x ∷ ys) rest
   at false rest = rest
 
-pub messages_beside : (f : Flow) (xs : List Message) (m : Message) → same_flow f m.flow ≡ false → messages_of f (xs ++ m ∷ []) ≡ messages_of f xs
+messages_beside : (f : Flow) (xs : List Message) (m : Message) → same_flow f m.flow ≡ false → messages_of f (xs ++ m ∷ []) ≡ messages_of f xs
 messages_beside f [] m other = rw other refl
 messages_beside f (x ∷ xs) m other = at (same_flow f x.flow) (messages_beside f xs m other) where
   at : (b : Bool) → messages_of f (xs ++ m ∷ []) ≡ messages_of f xs → cond b (x ∷ messages_of f (xs ++ m ∷ [])) (messages_of f (xs ++ m ∷ [])) ≡ cond b (x ∷ messages_of f xs) (messages_of f xs)
@@ -76,13 +76,6 @@ pub same_receiver : (a b : Bool) (k l : Option ℕ) (ms ns : List Message) → a
 same_receiver a b k l ms ns e f g = rw (e, f, g) refl
 
 -- ---- one step after another
-
-pub unmoved_then : (s t u : State) (f : Flow) → Unmoved s t f → Unmoved t u f → Unmoved s u f
-unmoved_then s t u f first second = record { sender = second.sender ∙ first.sender; receiver = second.receiver ∙ first.receiver }
-
-pub moved_then : (s t u : State) (g : Flow) (from a : Sender) (to b : Receiver) → Moved s t g from to → Moved t u g a b → Moved s u g a b
-moved_then s t u g from a to b first second =
-    record { sender = second.sender; receiver = second.receiver; others = λ f other. unmoved_then s t u f (first.others f other) (second.others f other) }
 
 -- ---- an answer waits, or its host is down
 
@@ -120,7 +113,7 @@ told_here kind f s =
     (told_outstanding (is_up s f.source.host) s.sources f f)
     (told_answers kind f s)
 
-pub told_elsewhere : (kind : Answer) (f g : Flow) (s : State) → same_flow g f ≡ false → sender (told kind f s) g ≡ sender s g
+told_elsewhere : (kind : Answer) (f g : Flow) (s : State) → same_flow g f ≡ false → sender (told kind f s) g ≡ sender s g
 told_elsewhere kind f g s other =
     same_sender (is_up (told kind f s) g.source.host) (is_up s g.source.host) (last (told kind f s) g) (last s g) (outstanding (told kind f s) g) (outstanding s g)
     (answers_of g (host_at (told kind f s) g.source.host).answers) (answers_of g (host_at s g.source.host).answers)
@@ -130,7 +123,7 @@ told_elsewhere kind f g s other =
     (same_at (λ (h : HostState). answers_of g h.answers) s.hosts f.source.host g.source.host (given (host_at s f.source.host) (record { kind = kind; flow = f })) no_host
     (given_answers g (host_at s f.source.host) (record { kind = kind; flow = f }) other))
 
-pub told_receiver : (kind : Answer) (f g : Flow) (s : State) → receiver (told kind f s) g ≡ receiver s g
+told_receiver : (kind : Answer) (f g : Flow) (s : State) → receiver (told kind f s) g ≡ receiver s g
 told_receiver kind f g s =
     same_receiver (is_up (told kind f s) g.destination.host) (is_up s g.destination.host) (finite.get s.kept g) (finite.get s.kept g)
     (messages_of g (host_at (told kind f s) g.destination.host).queue) (messages_of g (host_at s g.destination.host).queue)
@@ -203,7 +196,7 @@ freed_moved kind f n s is =
     subst (λ (r : Release). Moved s (answered_by r kind f n s) f (ended_with kind (sender s f)) (receiver s f)) (sym is)
     (ended_moved kind f s (record s { sources = answered s.sources f n }) (answered_moved f n s (released n (finite.get s.sources f) is)))
 
-pub unmoved_itself : (s : State) → AllUnmoved s s
+unmoved_itself : (s : State) → AllUnmoved s s
 unmoved_itself s f = record { sender = refl; receiver = refl }
 
 pub stale_unmoved : (kind : Answer) (f : Flow) (n : ℕ) (s : State) → release_in n (finite.get s.sources f) ≡ release.Stale → AllUnmoved s (freed kind f n s)

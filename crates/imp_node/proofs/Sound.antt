@@ -50,10 +50,10 @@ at_set P (y ∷ ys) zero (suc h) x d old new = old
 at_set P (y ∷ ys) (suc k) zero x d old new = old
 at_set P (y ∷ ys) (suc k) (suc h) x d old new = at_set (λ (n : ℕ). P (suc n)) ys k h x d old new
 
-abbrev pub AnswersAt : ℕ → ℕ → HostState → Type 0
+abbrev AnswersAt : ℕ → ℕ → HostState → Type 0
 AnswersAt imp h host = All (λ told. told.flow.source ≡ record { imp = imp; host = h }) host.answers
 
-abbrev pub QueueAt : ℕ → ℕ → HostState → Type 0
+abbrev QueueAt : ℕ → ℕ → HostState → Type 0
 QueueAt imp h host = All (λ m. m.flow.destination ≡ record { imp = imp; host = h }) host.queue
 
 -- an IMP that has another host in one's place

@@ -222,7 +222,7 @@ taken_by c h i k r None (Some m) e f =
     (λ g o. fetched_there b h m left whole g o)
 taken_by c h i k r None None e f = i
 
-pub taken_indexed : (c : Held) (h : Host) → IsIndexed c → IsSound c.boxes → host_refusal c.boxes h ≡ None → IsIndexed (held_taken c h (next_for c.boxes h))
+taken_indexed : (c : Held) (h : Host) → IsIndexed c → IsSound c.boxes → host_refusal c.boxes h ≡ None → IsIndexed (held_taken c h (next_for c.boxes h))
 taken_indexed c h i s none =
     let r : Runs c.boxes h = runs_here c.boxes h none in
     taken_by c h i (s.matches r.running) r (first (for_host c.boxes.answers h)) (first (for_host c.boxes.messages h)) refl refl

@@ -34,7 +34,7 @@ rises : {V : Type 0} (f : Flow) (es : List (Flow × V)) → AllByRecursion (λ g
 rises f [] h = refl
 rises f (e ∷ es) h = both (is_lt (flow_cmp f e.0)) (below_all flow_cmp f es) (ap is_lt h.0) (rises f es h.1)
 
-pub sorted_from : {V : Type 0} (es : List (Flow × V)) → IsStrictlySortedBy flow_cmp (keys_of es) → is_sorted flow_cmp es ≡ true
+sorted_from : {V : Type 0} (es : List (Flow × V)) → IsStrictlySortedBy flow_cmp (keys_of es) → is_sorted flow_cmp es ≡ true
 unfolding IsStrictlySortedBy
 sorted_from [] h = refl
 sorted_from (e ∷ es) h = both (below_all flow_cmp e.0 es) (is_sorted flow_cmp es) (rises e.0 es h.0) (sorted_from es h.1)

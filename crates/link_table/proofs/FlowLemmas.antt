@@ -47,7 +47,7 @@ tied_hosts g h =
     ∙ both_same (is_eq (nat_cmp g.imp h.imp)) (g.imp == h.imp) (is_eq (nat_cmp g.host h.host)) (g.host == h.host) (tied_numbers g.imp h.imp) (tied_numbers g.host h.host)
 
 -- flows that compare alike are the same flow
-pub tied_flows : (f g : Flow) → eq_by_cmp flow_cmp f g ≡ same_flow f g
+tied_flows : (f g : Flow) → eq_by_cmp flow_cmp f g ≡ same_flow f g
 tied_flows f g =
     let source : Bool = is_eq (host_cmp f.source g.source) in
     let destination : Bool = is_eq (host_cmp f.destination g.destination) in

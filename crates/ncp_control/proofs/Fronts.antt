@@ -41,13 +41,13 @@ longest_none room c cs over = record {
   longest = above_none room c cs over;
 }
 
-pub count_within-cons : (room : ℕ) (c : Command) (cs : List Command) → length (spelling c) ≤ room → count_within room (c ∷ cs) ≡ count_within (room - length (spelling c)) cs + 1
+count_within-cons : (room : ℕ) (c : Command) (cs : List Command) → length (spelling c) ≤ room → count_within room (c ∷ cs) ≡ count_within (room - length (spelling c)) cs + 1
 count_within-cons room c cs fits = (let yes : nat_le (length (spelling c)) room ≡ true = grind (arith, nat_tests, fits) in rw yes refl)
 
-pub count_within-none : (room : ℕ) (c : Command) (cs : List Command) → room < length (spelling c) → count_within room (c ∷ cs) ≡ 0
+count_within-none : (room : ℕ) (c : Command) (cs : List Command) → room < length (spelling c) → count_within room (c ∷ cs) ≡ 0
 count_within-none room c cs over = (let no : nat_le (length (spelling c)) room ≡ false = grind (arith, nat_tests, over) in rw no refl)
 
-pub longest_in : (room : ℕ) (commands : List Command) → IsLongestIn room commands (count_within room commands)
+longest_in : (room : ℕ) (commands : List Command) → IsLongestIn room commands (count_within room commands)
 longest_in room [] = record { there = omega arith; fits = omega arith; longest = λ more above there. absurd (omega (arith, above, there)) }
 longest_in room (c ∷ cs) = elim (cases_lt room (length (spelling c))) [
   | inl over ↦ subst (λ (n : ℕ). IsLongestIn room (c ∷ cs) n) (sym (count_within-none room c cs over)) (longest_none room c cs over)

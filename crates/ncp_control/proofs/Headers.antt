@@ -127,7 +127,7 @@ octet_behind front rest k eight =
     (bit_behind front rest (8 * k + 6) (8 * suc k + 6) (omega (arith, eight))) (bit_behind front rest (8 * k + 7) (8 * suc k + 7) (omega (arith, eight)))
 
 -- each octet of a text has its eight bits
-pub octet_of_text : (text : List Bool) (k : ℕ) → 8 * k + 8 ≤ length text → get_or (octets_of text) k 0 ≡ octet_at text (8 * k)
+octet_of_text : (text : List Bool) (k : ℕ) → 8 * k + 8 ≤ length text → get_or (octets_of text) k 0 ≡ octet_at text (8 * k)
 unfolding octets_of
 octet_of_text [] k there = absurd (omega arith)
 octet_of_text (a ∷ []) k there = absurd (omega arith)

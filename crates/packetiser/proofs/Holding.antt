@@ -257,7 +257,7 @@ or_swap true false c = refl
 or_swap false b c = refl
 
 -- the pieces hold a mark where one of them does
-pub mark_joined : (p : PacketFields) (qs : List PacketFields) → has_mark (joined (with_piece p qs)) ≡ (has_mark p.bits || list_any (λ q. has_mark q.bits) qs)
+mark_joined : (p : PacketFields) (qs : List PacketFields) → has_mark (joined (with_piece p qs)) ≡ (has_mark p.bits || list_any (λ q. has_mark q.bits) qs)
 mark_joined p [] = any_append is_one p.bits []
 mark_joined p (q ∷ qs) = elim (cases_Bool (nat_lt q.place p.place)) [
   | inl e ↦ rw e (any_append is_one q.bits (joined (with_piece p qs)) ∙ ap (λ (b : Bool). has_mark q.bits || b) (mark_joined p qs) ∙ or_swap (has_mark q.bits) (has_mark p.bits) (list_any (λ (r : PacketFields). has_mark r.bits) qs))

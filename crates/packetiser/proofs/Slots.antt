@@ -114,7 +114,7 @@ or_rest true b e = absurd (cc)
 or_rest false b e = e
 
 -- a piece that isn't old stands at a place of its own
-pub rise_with_piece : (p : PacketFields) (ps : List PacketFields) → is_old ps p ≡ false → PlacesRise ps → PlacesRise (with_piece p ps)
+rise_with_piece : (p : PacketFields) (ps : List PacketFields) → is_old ps p ≡ false → PlacesRise ps → PlacesRise (with_piece p ps)
 rise_with_piece p [] new rise = (All-nil (λ r. p.place < r.place), tt)
 rise_with_piece p (q ∷ qs) new rise =
     let apart : (q.place == p.place) ≡ false = or_first (q.place == p.place) (q.last && nat_lt q.place p.place)
@@ -129,7 +129,7 @@ rise_with_piece p (q ∷ qs) new rise =
           rw e (All-cons (λ r. p.place < r.place) q qs above behind, rise))
     ]
 
-pub length-with_piece : (p : PacketFields) (ps : List PacketFields) → length (with_piece p ps) ≡ length ps + 1
+length-with_piece : (p : PacketFields) (ps : List PacketFields) → length (with_piece p ps) ≡ length ps + 1
 length-with_piece p [] = refl
 length-with_piece p (q ∷ qs) = elim (cases_Bool (nat_lt q.place p.place)) [
   | inl e ↦ rw e (omega (arith, length-with_piece p qs))
@@ -156,7 +156,7 @@ All_put P s (t ∷ ts) here all = elim (cases_Bool (same_flow s.flow t.flow)) [
   ]
 ]
 
-pub put_new : (s : SlotState) (slots : List SlotState) → list_any (λ t. same_flow s.flow t.flow) slots ≡ false
+put_new : (s : SlotState) (slots : List SlotState) → list_any (λ t. same_flow s.flow t.flow) slots ≡ false
     → put s slots ≡ insert slots (position_or_len (λ t. not (flow_before t.flow s.flow)) slots) s
 put_new s [] none = refl
 put_new s (t ∷ ts) none = elim (cases_Bool (same_flow s.flow t.flow)) [
@@ -167,7 +167,7 @@ put_new s (t ∷ ts) none = elim (cases_Bool (same_flow s.flow t.flow)) [
   ]
 ]
 
-pub put_held : (s : SlotState) (slots : List SlotState) → IsInOrder slots → list_any (λ t. same_flow s.flow t.flow) slots ≡ true
+put_held : (s : SlotState) (slots : List SlotState) → IsInOrder slots → list_any (λ t. same_flow s.flow t.flow) slots ≡ true
     → put s slots ≡ set slots (position_or_len (λ t. same_flow s.flow t.flow) slots) s
 put_held s [] order any = absurd (cc)
 put_held s (t ∷ ts) order any = elim (cases_Bool (same_flow s.flow t.flow)) [
@@ -180,7 +180,7 @@ put_held s (t ∷ ts) order any = elim (cases_Bool (same_flow s.flow t.flow)) [
       rw (e, before) (ap (λ (us : List SlotState). t ∷ us) (put_held s ts order.1 later) ∙ sym (set_later t ts (position_or_len (λ (u : SlotState). same_flow s.flow u.flow) ts) s)))
 ]
 
-pub order_put : (s : SlotState) (slots : List SlotState) → IsInOrder slots → IsInOrder (put s slots)
+order_put : (s : SlotState) (slots : List SlotState) → IsInOrder slots → IsInOrder (put s slots)
 order_put s [] order = (All-nil (λ t. flow_before s.flow t.flow ≡ true), tt)
 order_put s (t ∷ ts) order = elim (cases_Bool (same_flow s.flow t.flow)) [
   | inl e ↦ (let P : Flow → Type 0 = λ f. All (λ u. flow_before f u.flow ≡ true) ts in rw e (subst P (sym (same_flow-true s.flow t.flow e)) order.0, order.1))
@@ -196,7 +196,7 @@ order_put s (t ∷ ts) order = elim (cases_Bool (same_flow s.flow t.flow)) [
   ]
 ]
 
-pub order_filter : (p : SlotState → Bool) (slots : List SlotState) → IsInOrder slots → IsInOrder (filter p slots)
+order_filter : (p : SlotState → Bool) (slots : List SlotState) → IsInOrder slots → IsInOrder (filter p slots)
 order_filter p [] order = tt
 order_filter p (t ∷ ts) order = elim (cases_Bool (p t)) [
   | inl e ↦ rw e (All-filter p (λ u. flow_before t.flow u.flow ≡ true) ts order.0, order_filter p ts order.1)
@@ -228,7 +228,7 @@ kept_sound (s ∷ slots) f number all = elim (cases_Bool (same_flow f s.flow)) [
 ]
 
 -- what is held of a message has what each slot's pieces have
-pub held_of : (P : List PacketFields → Type 0) (slots : List SlotState) (f : Flow) (number : ℕ) → P [] → All (λ s. P s.pieces) slots → P (pieces_at (slot_of slots f) number)
+held_of : (P : List PacketFields → Type 0) (slots : List SlotState) (f : Flow) (number : ℕ) → P [] → All (λ s. P s.pieces) slots → P (pieces_at (slot_of slots f) number)
 held_of P [] f number none all = none
 held_of P (s ∷ slots) f number none all = elim (cases_Bool (same_flow f s.flow)) [
   | inl e ↦ elim (cases_Bool (s.number == number)) [
@@ -250,7 +250,7 @@ new_from true whole room h = absurd (cc)
 new_from false whole room h = refl
 
 -- there is room where a packet is kept
-pub room_from : (old whole room : Bool) → (if old then outcome.Old else (if whole then outcome.Whole else (if room then outcome.Kept else outcome.Full))) ≡ outcome.Kept → room ≡ true
+room_from : (old whole room : Bool) → (if old then outcome.Old else (if whole then outcome.Whole else (if room then outcome.Kept else outcome.Full))) ≡ outcome.Kept → room ≡ true
 room_from true whole room h = absurd (cc)
 room_from false true room h = absurd (cc)
 room_from false false true h = refl

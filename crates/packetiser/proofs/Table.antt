@@ -132,7 +132,7 @@ slot_at_place slots f at place =
 pub no_slot : (slots : List SlotState) (f : Flow) → position (λ s. same_flow f s.flow) slots ≡ None → slot_of slots f ≡ None
 no_slot slots f none = find_none (λ (s : SlotState). same_flow f s.flow) slots (position_none (λ (s : SlotState). same_flow f s.flow) slots none)
 
-pub any_is_placed : (test : SlotState → Bool) (slots : List SlotState) → is_some (position test slots) ≡ list_any test slots
+any_is_placed : (test : SlotState → Bool) (slots : List SlotState) → is_some (position test slots) ≡ list_any test slots
 any_is_placed test slots = elim (cases_Bool (nat_lt (position_or_len test slots) (length slots))) [
   | inl e ↦ rw e (sym e ∙ sym (any_within test slots))
   | inr e ↦ rw e (sym e ∙ sym (any_within test slots))

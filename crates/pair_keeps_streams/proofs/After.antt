@@ -52,7 +52,7 @@ staying_is a q stays here =
 module _ (number other : ℕ → ℕ → ℕ → ℕ) (tells : IsTelling number) (others : IsTelling other) (link : ℕ) (x y : Stream) (gone : ℕ → ℕ → ℕ) (pending : List Command) (post : Post) (b : Party) (q : PairState)
     (j : Joint number other tells others link x y (staying gone q.entries pending post) b) (peer : Host) (listening : List Listener) (k : Call) where
   -- what the host knew, and what it does
-  pub holds_here : Holds number tells link gone q.entries x.receiver y.sender
+  holds_here : Holds number tells link gone q.entries x.receiver y.sender
   holds_here = (j.mine refl).holds
 
   abbrev pub rm : List receivers.Move

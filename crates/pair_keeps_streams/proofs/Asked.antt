@@ -1,7 +1,7 @@
 -- What a host has asked for on a link, by each call.
-use Rattle.std.proofs.Common.{◌≡◌, ◌⊎◌, ℕ, Bool, true, false, not, arith, ◌&&◌, ◌==◌, if◌then◌else◌, List, [], ◌∷◌, length, Option, Some, None, is_some, refl, ap, sym, ◌∙◌, inl, inr}
+use Rattle.std.proofs.Common.{◌≡◌, ◌⊎◌, ℕ, Bool, true, false, not, ◌&&◌, ◌==◌, if◌then◌else◌, List, ◌∷◌, length, Option, Some, None, is_some, refl, ◌∙◌, inl, inr}
 use Rattle.std.proofs.lemmas.Bool.{eqb-true}
-use Rattle.ncp_control.specs.DataHeader.{header_of, data_bits}
+use Rattle.ncp_control.specs.DataHeader.{data_bits}
 use Rattle.ncp_control.specs.declared.command.Command.{Command}
 use Rattle.ncp_control.specs.declared.command.Command.TheVariants as command
 use Rattle.ncp_control.specs.declared.data_header.DataHeader.{DataHeader}
@@ -9,23 +9,18 @@ use Rattle.stream_law.specs.Words as words
 use Rattle.stream_law.specs.Words.{covers, for, holds, is_size}
 use Rattle.stream_law.specs.Receivers as receivers
 use Rattle.stream_law.specs.Receivers.{Receiver}
-use Rattle.stream_law.proofs.lemmas.{for_more}
 use Rattle.host_pairs.specs.Data.{data_of}
-use Rattle.host_pairs.specs.Desk.{desk_of, listener_on}
-use Rattle.host_pairs.specs.Entries.{entry_at, free_link, is_receiving, receives_on}
+use Rattle.host_pairs.specs.Entries.{entry_at, is_receiving, receives_on}
 use Rattle.host_pairs.specs.Pair.{PairState}
 use Rattle.host_pairs.specs.declared.entry.Closing.{Closing}
 use Rattle.host_pairs.specs.declared.entry.Closing.TheVariants as closing
 use Rattle.host_pairs.specs.declared.entry.Entry.{Entry}
 use Rattle.host_pairs.specs.declared.listener.Listener.{Listener}
 use Rattle.host_keeps_streams.specs.Closings.{all_received, received_close, received_gone, received_open}
-use Rattle.host_keeps_streams.specs.Histories.{Call, Hears, Takes, Says, Sends, Answered, OpensReceiver, OpensSender, Grants, AsksBack, Gives, Closes, IsAllowed, IsTelling, received_at}
-use Rattle.host_keeps_streams.specs.Moves.{answers_str, asked_received, asks_for, closed_received, closes_on, cls_received, data_received, received_by, received_out, str_received}
+use Rattle.host_keeps_streams.specs.Histories.{Call, IsAllowed, IsTelling}
+use Rattle.host_keeps_streams.specs.Moves.{answers_str, asked_received, asks_for, closed_received, closes_on, cls_received, data_received, received_out, str_received}
 use Rattle.host_keeps_streams.specs.Names.{named}
-use Rattle.host_keeps_streams.proofs.lemmas.{name_of}
 use Rattle.stream_law.specs.Senders.{Sender}
-use Rattle.pair_keeps_streams.specs.Words.{closings_in, counted, has_said, receiver_words, said_of}
-use Rattle.pair_keeps_streams.proofs.Counts.{IsBeyond, receiver_words_more}
 
 -- ---- moves that ask for nothing
 
@@ -72,21 +67,6 @@ moved_asked (receivers.Take z bits) r a k = taken_asked z bits r.end r k
 pub same_asked : (ms : List receivers.Move) (r : Receiver) → AllAskNone ms → (k : ℕ) → (all_received ms r).asked k ≡ r.asked k
 same_asked [] r a k = refl
 same_asked (m ∷ ms) r a k = same_asked ms (receivers.moved m r) a.1 k ∙ moved_asked m r a.0 k
-
--- what was asked for stays so
-moved_more : (m : receivers.Move) (r : Receiver) (k : ℕ) → r.asked k ≡ true → (receivers.moved m r).asked k ≡ true
-moved_more (receivers.Ask c) r k e = for_more c r.asked k e
-moved_more (receivers.Open c) r k e = e
-moved_more (receivers.Grant c m n) r k e = e
-moved_more (receivers.AskBack c m n) r k e = e
-moved_more (receivers.Close c) r k e = e
-moved_more (receivers.Free c) r k e = e
-moved_more (receivers.Hear w) r k e = word_asked w r k ∙ e
-moved_more (receivers.Take z bits) r k e = taken_asked z bits r.end r k ∙ e
-
-pub asked_grows : (ms : List receivers.Move) (r : Receiver) (k : ℕ) → r.asked k ≡ true → (all_received ms r).asked k ≡ true
-asked_grows [] r k e = e
-asked_grows (m ∷ ms) r k e = asked_grows ms (receivers.moved m r) k (moved_more m r k e)
 
 -- ---- calls that ask for nothing
 
@@ -197,49 +177,6 @@ module _ (name : ℕ → ℕ → ℕ) (link : ℕ) (q : PairState) (listening : 
   opens_new own foreign none None k = inl refl
   opens_new own foreign none (Some other) k = if_new own foreign none (other == link) r (λ j. refl) k
 
-  hears_new : (said : ℕ) (c : Command) → AsksNew (received_by name link said c (desk_of q listening))
-  hears_new said (command.Str send receive size) = str_new receive send size (listener_on receive listening) (free_link q.entries) (entry_at receive send q.entries) refl
-  hears_new said (command.Cls foreign own) = none_new (cls_received link (name own foreign) (entry_at own foreign q.entries)) (cls_none name link (name own foreign) (entry_at own foreign q.entries))
-  hears_new said (command.Ret l m n) = none_new (if l == link then receivers.Hear (words.Ret said m n) ∷ [] else []) (if_none (l == link) (receivers.Hear (words.Ret said m n) ∷ []) (tt, tt))
-  hears_new said (command.Rts receive send l) = none_new [] tt
-  hears_new said command.Nop = none_new [] tt
-  hears_new said (command.All l m n) = none_new [] tt
-  hears_new said (command.Gvb l m n) = none_new [] tt
-  hears_new said (command.Inr l) = none_new [] tt
-  hears_new said (command.Ins l) = none_new [] tt
-  hears_new said (command.Eco octet) = none_new [] tt
-  hears_new said (command.Erp octet) = none_new [] tt
-  hears_new said (command.Err code detail) = none_new [] tt
-  hears_new said command.Rst = none_new [] tt
-  hears_new said command.Rrp = none_new [] tt
-
-  -- what is asked for newly by a call
-  pub asked_new : (s : Sender) (k : Call) → IsAllowed link k q s → (c : ℕ) → ((all_received (received_at name link k q listening) r).asked c ≡ r.asked c) ⊎ IsNewlyAsked name q.entries c
-  asked_new s (Hears stamp said c) a = hears_new said c
-  asked_new s (Takes l text) a = none_new (data_received link l text (header_of text)) (data_none name link l text (header_of text))
-  asked_new s (Says stamp c) a = none_new (received_out name link c q.entries) (out_none name link c q.entries)
-  asked_new s (Sends stamp e size count) a = none_new [] tt
-  asked_new s (Answered l) a = none_new [] tt
-  asked_new s (OpensReceiver own foreign) a = opens_new own foreign a.1 (free_link q.entries)
-  asked_new s (OpensSender own foreign size) a = none_new [] tt
-  asked_new s (Grants socket m n e) a = none_new (if receives_on link e then receivers.Grant (named name e) m n ∷ [] else []) (if_none (receives_on link e) (receivers.Grant (named name e) m n ∷ []) (tt, tt))
-  asked_new s (AsksBack socket m n e) a = none_new (if receives_on link e then receivers.AskBack (named name e) m n ∷ [] else []) (if_none (receives_on link e) (receivers.AskBack (named name e) m n ∷ []) (tt, tt))
-  asked_new s (Gives socket bits e) a = none_new [] tt
-  asked_new s (Closes socket e) a = none_new (if receives_on link e then receivers.Close (named name e) ∷ [] else []) (if_none (receives_on link e) (receivers.Close (named name e) ∷ []) (tt, tt))
-
 -- ---- words that were said before the call mean the same after it
 
 module _ (number : ℕ → ℕ → ℕ → ℕ) (tells : IsTelling number) (link : ℕ) (gone : ℕ → ℕ → ℕ) (q : PairState) (listening : List Listener) (r : Receiver) (s : Sender) (k : Call) (allowed : IsAllowed link k q s) where
-  pub pending_words : (cs : List Command) (n : ℕ → ℕ → ℕ) → ((x y : ℕ) → said_of gone q.entries x y ≡ closings_in cs n x y)
-      → receiver_words number link (all_received (received_at (name_of number gone) link k q listening) r).asked n cs ≡ receiver_words number link r.asked n cs
-  pending_words cs n told = receiver_words_more number link (all_received (received_at (name_of number gone) link k q listening) r).asked r.asked tells cs n (λ c. of c (asked_new (name_of number gone) link q listening r s k allowed c)) where
-    beyond : (c : ℕ) → IsNewlyAsked (name_of number gone) q.entries c → IsBeyond number (closings_in cs n) c
-    beyond c a =
-        let unsaid : has_said (entry_at a.own a.foreign q.entries) ≡ false = ap has_said a.none in
-        let same : closings_in cs n a.own a.foreign ≡ gone a.own a.foreign = sym (told a.own a.foreign) ∙ ap (λ (v : Bool). counted v (gone a.own a.foreign)) unsaid in
-        record { own = a.own; foreign = a.foreign; count = gone a.own a.foreign; is = a.is; beyond = (omega (arith, same)) }
-
-    of : (c : ℕ) → ((all_received (received_at (name_of number gone) link k q listening) r).asked c ≡ r.asked c) ⊎ IsNewlyAsked (name_of number gone) q.entries c
-        → ((all_received (received_at (name_of number gone) link k q listening) r).asked c ≡ r.asked c) ⊎ IsBeyond number (closings_in cs n) c
-    of c (inl e) = inl e
-    of c (inr a) = inr (beyond c a)

@@ -1,32 +1,15 @@
 -- What commands say as words, where they are said one after another, and where so many CLS were said before.
-use Rattle.std.proofs.Common.{◌≡◌, ◌⊎◌, ◌≤◌, ℕ, suc, ◌==◌, ◌&&◌, Bool, true, false, if◌then◌else◌, List, [], ◌∷◌, ◌++◌, refl, ap, sym, subst, ◌∙◌, inl, inr, arith, eq-eqb}
-use Rattle.std.proofs.lemmas.List.{append_assoc}
+use Rattle.std.proofs.Common.{◌≡◌, ◌⊎◌, ◌≤◌, ℕ, suc, ◌==◌, ◌&&◌, Bool, true, false, if◌then◌else◌, List, ◌∷◌, ◌++◌, refl, ap, sym, subst, ◌∙◌, inl, inr, arith, eq-eqb}
 use Rattle.ncp_control.specs.Numbers.{is_receive_socket}
 use Rattle.ncp_control.specs.declared.command.Command.{Command}
 use Rattle.ncp_control.specs.declared.command.Command.TheVariants as command
 use Rattle.stream_law.specs.Words.{Word, Rts, Str, Cls}
 use Rattle.host_keeps_streams.specs.Histories.{IsTelling}
-use Rattle.pair_keeps_streams.specs.Words.{closings_in, with_closing, receiver_word, receiver_words, sender_word, sender_words}
+use Rattle.pair_keeps_streams.specs.Words.{closings_in, with_closing, receiver_word, receiver_words, sender_word}
 
 -- ---- one after another
 
-pub closings_append : (xs ys : List Command) (n : ℕ → ℕ → ℕ) → closings_in (xs ++ ys) n ≡ closings_in ys (closings_in xs n)
-closings_append [] ys n = refl
-closings_append (c ∷ cs) ys n = closings_append cs ys (with_closing c n)
-
 module _ (number : ℕ → ℕ → ℕ → ℕ) (link : ℕ) where
-  pub receiver_words_append : (asked : ℕ → Bool) (xs ys : List Command) (n : ℕ → ℕ → ℕ)
-      → receiver_words number link asked n (xs ++ ys) ≡ receiver_words number link asked n xs ++ receiver_words number link asked (closings_in xs n) ys
-  receiver_words_append asked [] ys n = refl
-  receiver_words_append asked (c ∷ cs) ys n =
-      ap (λ (ws : List Word). receiver_word number link asked n c ++ ws) (receiver_words_append asked cs ys (with_closing c n))
-      ∙ sym (append_assoc (receiver_word number link asked n c) (receiver_words number link asked (with_closing c n) cs) (receiver_words number link asked (closings_in cs (with_closing c n)) ys))
-
-  pub sender_words_append : (xs ys : List Command) (n : ℕ → ℕ → ℕ) → sender_words number link n (xs ++ ys) ≡ sender_words number link n xs ++ sender_words number link (closings_in xs n) ys
-  sender_words_append [] ys n = refl
-  sender_words_append (c ∷ cs) ys n =
-      ap (λ (ws : List Word). sender_word number link n c ++ ws) (sender_words_append cs ys (with_closing c n))
-      ∙ sym (append_assoc (sender_word number link n c) (sender_words number link (with_closing c n) cs) (sender_words number link (closings_in cs (with_closing c n)) ys))
 
 -- ---- the same counts
 
@@ -46,10 +29,6 @@ closing_same command.Nop m n same x y = same x y
 closing_same command.Rst m n same x y = same x y
 closing_same command.Rrp m n same x y = same x y
 
-pub closings_same : (cs : List Command) (m n : ℕ → ℕ → ℕ) → ((x y : ℕ) → m x y ≡ n x y) → (x y : ℕ) → closings_in cs m x y ≡ closings_in cs n x y
-closings_same [] m n same x y = same x y
-closings_same (c ∷ cs) m n same x y = closings_same cs (with_closing c m) (with_closing c n) (closing_same c m n same) x y
-
 module _ (number : ℕ → ℕ → ℕ → ℕ) (link : ℕ) where
   receiver_same : (asked : ℕ → Bool) (c : Command) (m n : ℕ → ℕ → ℕ) → ((x y : ℕ) → m x y ≡ n x y) → receiver_word number link asked m c ≡ receiver_word number link asked n c
   receiver_same asked (command.Cls own foreign) m n same =
@@ -68,12 +47,6 @@ module _ (number : ℕ → ℕ → ℕ → ℕ) (link : ℕ) where
   receiver_same asked command.Rst m n same = refl
   receiver_same asked command.Rrp m n same = refl
 
-  pub receiver_words_same : (asked : ℕ → Bool) (cs : List Command) (m n : ℕ → ℕ → ℕ) → ((x y : ℕ) → m x y ≡ n x y) → receiver_words number link asked m cs ≡ receiver_words number link asked n cs
-  receiver_words_same asked [] m n same = refl
-  receiver_words_same asked (c ∷ cs) m n same =
-      ap (λ (ws : List Word). ws ++ receiver_words number link asked (with_closing c m) cs) (receiver_same asked c m n same)
-      ∙ ap (λ (ws : List Word). receiver_word number link asked n c ++ ws) (receiver_words_same asked cs (with_closing c m) (with_closing c n) (closing_same c m n same))
-
   sender_same : (c : Command) (m n : ℕ → ℕ → ℕ) → ((x y : ℕ) → m x y ≡ n x y) → sender_word number link m c ≡ sender_word number link n c
   sender_same (command.Cls own foreign) m n same = ap (λ (k : ℕ). if is_receive_socket own then [] else Cls (number own foreign k) ∷ []) (same own foreign)
   sender_same (command.Str send receive size) m n same = ap (λ (k : ℕ). Str (number send receive k) size ∷ []) (same send receive)
@@ -90,15 +63,9 @@ module _ (number : ℕ → ℕ → ℕ → ℕ) (link : ℕ) where
   sender_same command.Rst m n same = refl
   sender_same command.Rrp m n same = refl
 
-  pub sender_words_same : (cs : List Command) (m n : ℕ → ℕ → ℕ) → ((x y : ℕ) → m x y ≡ n x y) → sender_words number link m cs ≡ sender_words number link n cs
-  sender_words_same [] m n same = refl
-  sender_words_same (c ∷ cs) m n same =
-      ap (λ (ws : List Word). ws ++ sender_words number link (with_closing c m) cs) (sender_same c m n same)
-      ∙ ap (λ (ws : List Word). sender_word number link n c ++ ws) (sender_words_same cs (with_closing c m) (with_closing c n) (closing_same c m n same))
-
 -- ---- CLS are counted up
 
-pub closing_more : (c : Command) (n : ℕ → ℕ → ℕ) (x y : ℕ) → n x y ≤ with_closing c n x y
+closing_more : (c : Command) (n : ℕ → ℕ → ℕ) (x y : ℕ) → n x y ≤ with_closing c n x y
 closing_more (command.Cls own foreign) n x y = by (x == own && y == foreign) refl where
   by : (v : Bool) → (x == own && y == foreign) ≡ v → n x y ≤ with_closing (command.Cls own foreign) n x y
   by true e = rw e (omega arith)
@@ -117,7 +84,7 @@ closing_more command.Nop n x y = omega arith
 closing_more command.Rst n x y = omega arith
 closing_more command.Rrp n x y = omega arith
 
-pub closings_more : (cs : List Command) (n : ℕ → ℕ → ℕ) (x y : ℕ) → n x y ≤ closings_in cs n x y
+closings_more : (cs : List Command) (n : ℕ → ℕ → ℕ) (x y : ℕ) → n x y ≤ closings_in cs n x y
 closings_more [] n x y = omega arith
 closings_more (c ∷ cs) n x y =
     let one : n x y ≤ with_closing c n x y = closing_more c n x y in
@@ -165,7 +132,7 @@ module _ (number : ℕ → ℕ → ℕ → ℕ) (link : ℕ) (asked other : ℕ 
   receiver_asked command.Rst n same = refl
   receiver_asked command.Rrp n same = refl
 
-  pub receiver_words_asked : (cs : List Command) (n : ℕ → ℕ → ℕ) → AreAskedSame number asked other n cs → receiver_words number link asked n cs ≡ receiver_words number link other n cs
+  receiver_words_asked : (cs : List Command) (n : ℕ → ℕ → ℕ) → AreAskedSame number asked other n cs → receiver_words number link asked n cs ≡ receiver_words number link other n cs
   receiver_words_asked [] n same = refl
   receiver_words_asked (c ∷ cs) n same =
       ap (λ (ws : List Word). ws ++ receiver_words number link asked (with_closing c n) cs) (receiver_asked c n same.0)

@@ -1,5 +1,5 @@
 -- The first of the words that are under way, and what a host makes of the command that says it.
-use Rattle.std.proofs.Common.{◌≡◌, ℕ, ◌==◌, ◌&&◌, not, Bool, true, false, if◌then◌else◌, List, [], ◌∷◌, ◌++◌, map, Option, Some, None, is_some, refl, ap, sym, subst, ◌∙◌, eq-eqb}
+use Rattle.std.proofs.Common.{◌≡◌, ℕ, ◌==◌, ◌&&◌, not, Bool, true, false, if◌then◌else◌, List, ◌∷◌, ◌++◌, map, Option, Some, None, is_some, refl, ap, sym, subst, ◌∙◌, eq-eqb}
 use Rattle.std.proofs.lemmas.Bool.{ne_eqb}
 use Rattle.stream_law.specs.Words.{Word, Rts, Str, All, Gvb, Ret, Cls}
 use Rattle.stream_law.specs.Receivers as receivers
@@ -135,7 +135,7 @@ close_quiet closing.Due c = (tt, tt)
 close_quiet closing.Queued c = tt
 close_quiet closing.Sent c = (tt, tt)
 
-pub closes_on_quiet : (link c : ℕ) (e : Entry) → AreQuiet (closes_on link c e)
+closes_on_quiet : (link c : ℕ) (e : Entry) → AreQuiet (closes_on link c e)
 closes_on_quiet link c e = if_quiet (receives_on link e) (received_close e.closing c) (close_quiet e.closing c)
 
 -- ---- a CLS
@@ -150,9 +150,6 @@ module _ (link c : ℕ) (e : Entry) (unheard : e.partner_closed ≡ false) where
   cls_deaf r = rw r refl
 
 module _ (name : ℕ → ℕ → ℕ) (busy : List ℕ) (own foreign : ℕ) (es : List Entry) (s : Sender) (e : Entry) (unheard : e.partner_closed ≡ false) where
-  abbrev closing_moves : List senders.Move
-  closing_moves = closes name busy (changed_at own foreign closed_by_partner es)
-
   pub sent_own : is_receiving e ≡ true → cls_sent name busy own foreign es s (Some e) ≡ closes name busy (changed_at own foreign closed_by_partner es)
   sent_own r = rw (unheard, r) refl
 

@@ -117,7 +117,7 @@ module _ (peer : Host) (busy : List ℕ) (stamp : ℕ) (d : DeskState) where
         subst (λ (o : Option Entry). heard_from (gone_by d.entries (cls_taken_by peer busy own foreign o d).entries gone) (cls_taken_by peer busy own foreign o d).entries x y ≡ with_closing (command.Cls foreign own) (heard_from gone d.entries) x y)
         (sym found) (cls_heard peer busy own foreign name gone d apart e found first y x)
 
-    pub taken_heard : (c : Command) → IsFirst c d.entries → IsCounted c
+    taken_heard : (c : Command) → IsFirst c d.entries → IsCounted c
     taken_heard (command.Rts receive send l) f = plainly (rts_taken peer send receive l stamp d).entries (rts_all send receive l (list_any (sends_on l) d.entries) refl)
     taken_heard (command.Str send receive size) f = plainly (str_taken_by peer receive send size stamp (entry_at receive send d.entries) d).entries (str_by receive send size (entry_at receive send d.entries))
     taken_heard (command.Cls foreign own) f = cls_counted own foreign f.0 f.1 f.2

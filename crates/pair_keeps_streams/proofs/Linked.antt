@@ -133,7 +133,7 @@ module _ (name : ℕ → ℕ → ℕ) (link : ℕ) (peer : Host) (busy : List �
     by true t = rw t (kept (receives_on other) (spent (data_bits h)) (record { own = λ x. refl; foreign = λ x. refl }) (λ x t i. refl))
     by false t = rw t l
 
-  pub data_linked : (other : ℕ) (text : List Bool) (w : Found) → Linked (data_found other text w d).entries
+  data_linked : (other : ℕ) (text : List Bool) (w : Found) → Linked (data_found other text w d).entries
   data_linked other text Unconnected = l
   data_linked other text Ending = l
   data_linked other text (Open x) = data_by other text x (header_of text)
@@ -185,7 +185,7 @@ module _ (name : ℕ → ℕ → ℕ) (link : ℕ) (peer : Host) (busy : List �
         idle (str_received link (name own foreign) z (listener_on own d.listening) (free_link d.entries) (Some e)) (str_taken_by peer own foreign z stamp (Some e) d).entries
         (str_none name link (name own foreign) z (listener_on own d.listening) (free_link d.entries) e) (str_found own foreign z e)
 
-  pub taken_linked : (said : ℕ) (c : Command) → IsCommand c → ((own foreign : ℕ) → entry_at own foreign d.entries ≡ None → IsNew own foreign) → AreLinked name link (taken peer busy stamp c d).entries (all_received (received_by name link said c d) r)
+  taken_linked : (said : ℕ) (c : Command) → IsCommand c → ((own foreign : ℕ) → entry_at own foreign d.entries ≡ None → IsNew own foreign) → AreLinked name link (taken peer busy stamp c d).entries (all_received (received_by name link said c d) r)
   taken_linked said command.Nop i new = l
   taken_linked said (command.Rts receive send other) i new = rts_all send receive other (odd_is send i.3) (list_any (sends_on other) d.entries) refl
   taken_linked said (command.Str send receive size) i new = str_by receive send size (new receive send) (entry_at receive send d.entries) refl

@@ -31,7 +31,7 @@ abbrev pub Asks : (ℕ → Type 0) → receivers.Move → Type 0
 Asks P (receivers.Ask c) = P c
 Asks P m = Unit {0}
 
-abbrev pub AllAsk : (ℕ → Type 0) → List receivers.Move → Type 0
+abbrev AllAsk : (ℕ → Type 0) → List receivers.Move → Type 0
 AllAsk P [] = Unit {0}
 AllAsk P (m ∷ ms) = Asks P m × AllAsk P ms
 

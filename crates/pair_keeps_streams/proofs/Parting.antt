@@ -221,7 +221,7 @@ fresh_box a b f = record {
   lies : (text : List Bool) → Free ≡ Lies text → IsPosted (Lies text) Empty
   lies text e = absurd (cc)
 
-pub opened_fresh : (number other : ℕ → ℕ → ℕ → ℕ) (tells : IsTelling number) (others : IsTelling other) (link : ℕ) (a b : Party) → IsFresh a → IsFresh b → Joint number other tells others link opening opening a b
+opened_fresh : (number other : ℕ → ℕ → ℕ → ℕ) (tells : IsTelling number) (others : IsTelling other) (link : ℕ) (a b : Party) → IsFresh a → IsFresh b → Joint number other tells others link opening opening a b
 opened_fresh number other tells others link a b f g = record {
   inv_x = inv_opening;
   inv_y = inv_opening;

@@ -34,7 +34,7 @@ said_after gone es after x y = value (entry_at x y es) (entry_at x y after) (gon
 abbrev pub IsKept : List Entry → List Entry → Type 0
 IsKept es after = (x y : ℕ) → is_said (entry_at x y es) (entry_at x y after) ≡ has_said (entry_at x y es)
 
-pub kept_counts : (gone : ℕ → ℕ → ℕ) (es after : List Entry) → IsKept es after → (x y : ℕ) → said_of (gone_by es after gone) after x y ≡ said_of gone es x y
+kept_counts : (gone : ℕ → ℕ → ℕ) (es after : List Entry) → IsKept es after → (x y : ℕ) → said_of (gone_by es after gone) after x y ≡ said_of gone es x y
 kept_counts gone es after k x y = said_after gone es after x y ∙ ap (λ (v : Bool). counted v (gone x y)) (k x y)
 
 -- ---- what a call queues, and what its moves say
@@ -82,7 +82,7 @@ kept_same es x y = kept_option (entry_at x y es)
 abbrev pub IsAlike : Option Entry → Option Entry → Type 0
 IsAlike o p = (is_some p ≡ is_some o) × (has_said p ≡ has_said o)
 
-pub alike_kept : (o p : Option Entry) → IsAlike o p → is_said o p ≡ has_said o
+alike_kept : (o p : Option Entry) → IsAlike o p → is_said o p ≡ has_said o
 alike_kept None p a = a.1
 alike_kept (Some e) None a = absurd (let l : false ≡ true = a.0 in cc)
 alike_kept (Some e) (Some f) a = a.1
@@ -144,7 +144,7 @@ same_number m n false e = ne_eqb n m (λ same. absurd (unlike (m == n) (eq-eqb m
 pub turned_number : (m n : ℕ) → (m == n) ≡ (n == m)
 turned_number m n = sym (same_number m n (m == n) refl)
 
-pub turned_at : (x y a b : ℕ) → (x == a && y == b) ≡ (a == x && b == y)
+turned_at : (x y a b : ℕ) → (x == a && y == b) ≡ (a == x && b == y)
 turned_at x y a b = ap (λ (v : Bool). v && y == b) (turned_number x a) ∙ ap (λ (v : Bool). a == x && v) (turned_number y b)
 
 -- no two have the same sockets

@@ -54,7 +54,7 @@ gone_received : (v : Bool) (c : ℕ) → received_words (received_gone v c) ≡ 
 gone_received true c = refl
 gone_received false c = refl
 
-pub of_end_sent : (c : ℕ) (o : Option ℕ) (ms : List senders.Move) (s : Sender) → sent_words ms s ≡ [] → sent_words (of_end c o ms) s ≡ []
+of_end_sent : (c : ℕ) (o : Option ℕ) (ms : List senders.Move) (s : Sender) → sent_words ms s ≡ [] → sent_words (of_end c o ms) s ≡ []
 of_end_sent c None ms s e = refl
 of_end_sent c (Some own) ms s e = if_sent (own == c) ms s e
 

@@ -111,7 +111,7 @@ module _ (name : ℕ → ℕ → ℕ) (link m n : ℕ) (es : List Entry) (s : Se
       (subst (λ (w : Option Word). P (found_in (Some x)) w) (sym (none_returns l.none s.end refl)) (closed_found (λ w. P w None) unconnected ending x (leaving_shut x s l)))
   returns_by (x ∷ y ∷ ys) f h = absurd h
 
-  pub returns_at : HasSender name link es s → P (found_in (find (sends_on link) es)) (senders.returns m n s.end s)
+  returns_at : HasSender name link es s → P (found_in (find (sends_on link) es)) (senders.returns m n s.end s)
   returns_at h = returns_by (filter (sends_on link) es) refl h
 
 -- ---- commands

@@ -45,7 +45,7 @@ counts_first gone n z zs k unsaid =
     k z.own z.foreign z found ∙ ap (λ (v : Bool). counted v (gone z.own z.foreign)) unsaid
 
 -- an end that has to close hasn't said its CLS
-pub must_unsaid : (busy : List ℕ) (e : Entry) → must_close busy e ≡ true → has_cls e.closing ≡ false
+must_unsaid : (busy : List ℕ) (e : Entry) → must_close busy e ≡ true → has_cls e.closing ≡ false
 must_unsaid busy e m = due_open e.closing (both (is_due e.closing) (is_drained busy e) m).0
 
 and_same : (a b c : Bool) → (a ≡ true → b ≡ c) → (a && b) ≡ (a && c)
@@ -81,7 +81,7 @@ module _ (number : ℕ → ℕ → ℕ → ℕ) (link : ℕ) (gone : ℕ → ℕ
     received_step z zs n word closed left false true m o = rw (m, o, m) left
     received_step z zs n word closed left false false m o = rw (m, o) left
 
-    pub received_closings : (es : List Entry) → AreSeparate es → AreLinked (name_of number gone) link es r → (n : ℕ → ℕ → ℕ) → Counts gone n es
+    received_closings : (es : List Entry) → AreSeparate es → AreLinked (name_of number gone) link es r → (n : ℕ → ℕ → ℕ) → Counts gone n es
         → receiver_words number link r.asked n (map cls_of (filter (must_close busy) es)) ≡ closed_words (filter (must_close busy) (filter (receives_on link) es))
     received_closings [] a l n k = refl
     received_closings (z ∷ zs) a l n k =
@@ -101,7 +101,7 @@ module _ (number : ℕ → ℕ → ℕ → ℕ) (link : ℕ) (gone : ℕ → ℕ
       ∙ ap (λ (k : ℕ). Cls (number z.own z.foreign k) ∷ sender_words number link (with_closing (cls_of z) n) (map cls_of (filter (must_close busy) zs))) (sym one))
   sent_step z zs n s same closed left false c m i = rw m (left s)
 
-  pub sent_closings : (es : List Entry) → AreSeparate es → (n : ℕ → ℕ → ℕ) → Counts gone n es → (s : Sender)
+  sent_closings : (es : List Entry) → AreSeparate es → (n : ℕ → ℕ → ℕ) → Counts gone n es → (s : Sender)
       → map plain (sent_words (closes (name_of number gone) busy es) s) ≡ sender_words number link n (map cls_of (filter (must_close busy) es))
   sent_closings [] a n k s = refl
   sent_closings (z ∷ zs) a n k s =

@@ -13,7 +13,7 @@ pub closings_append : (xs ys : List Command) (n : ℕ → ℕ → ℕ) → closi
 closings_append [] ys n = refl
 closings_append (c ∷ xs) ys n = closings_append xs ys (with_closing c n)
 
-pub with_same : (c : Command) (n m : ℕ → ℕ → ℕ) → ((own foreign : ℕ) → n own foreign ≡ m own foreign) → (own foreign : ℕ) → with_closing c n own foreign ≡ with_closing c m own foreign
+with_same : (c : Command) (n m : ℕ → ℕ → ℕ) → ((own foreign : ℕ) → n own foreign ≡ m own foreign) → (own foreign : ℕ) → with_closing c n own foreign ≡ with_closing c m own foreign
 with_same (command.Cls a b) n m e own foreign = by (own == a && foreign == b) where
   by : (v : Bool) → (if v then suc (n own foreign) else n own foreign) ≡ (if v then suc (m own foreign) else m own foreign)
   by true = ap suc (e own foreign)

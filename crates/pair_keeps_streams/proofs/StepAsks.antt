@@ -43,7 +43,7 @@ pub if_quiet : (v : Bool) (ms : List receivers.Move) → AreQuiet ms → AreQuie
 if_quiet true ms a = a
 if_quiet false ms a = tt
 
-pub if_quiet_sent : (v : Bool) (ms : List senders.Move) → AreQuietSent ms → AreQuietSent (if v then ms else [])
+if_quiet_sent : (v : Bool) (ms : List senders.Move) → AreQuietSent ms → AreQuietSent (if v then ms else [])
 if_quiet_sent true ms a = a
 if_quiet_sent false ms a = tt
 
@@ -51,7 +51,7 @@ pub open_quiet : (v : Bool) (c : ℕ) → AreQuiet (received_open v c)
 open_quiet true c = (tt, tt)
 open_quiet false c = tt
 
-pub gone_quiet : (v : Bool) (c : ℕ) → AreQuiet (received_gone v c)
+gone_quiet : (v : Bool) (c : ℕ) → AreQuiet (received_gone v c)
 gone_quiet true c = (tt, tt)
 gone_quiet false c = tt
 
@@ -99,7 +99,7 @@ out_quiet name link command.Rst es = tt
 out_quiet name link command.Rrp es = tt
 
 -- an end that opens leaves the box
-pub opens_keep : (out v : Bool) (c : ℕ) (s : Sender) → KeepBox out (sent_open v c) s
+opens_keep : (out v : Bool) (c : ℕ) (s : Sender) → KeepBox out (sent_open v c) s
 opens_keep out true c s = (tt, tt)
 opens_keep out false c s = tt
 
@@ -147,10 +147,10 @@ no_more (x ∷ xs) ys e = no_more xs ys (ap rest e)
 module _ (number other : ℕ → ℕ → ℕ → ℕ) (tells : IsTelling number) (others : IsTelling other) (facts : Facts number tells) (link : ℕ) (off : (link == 0) ≡ false) (x y : Stream) (gone : ℕ → ℕ → ℕ) (pending : List Command) (post : Post) (b : Party)
     (q : PairState) (j : Joint number other tells others link x y (staying gone q.entries pending post) b) (peer : Host) (listening : List Listener) where
   -- what is in the box of the other stream stays there
-  pub same_box : (mine : Post) (here : Party) → here.stays ≡ true → IsBox b here x.box
+  same_box : (mine : Post) (here : Party) → here.stays ≡ true → IsBox b here x.box
   same_box mine here stays = record { whole = j.box_x.whole; left = λ e f. j.box_x.left e refl }
 
-  pub own_box : (k : Call) (mine : Post) (es : List Entry) (g : ℕ → ℕ → ℕ) (cs : List Command) (box : Box) → IsPosted mine box → IsBox (staying g es cs mine) b box
+  own_box : (k : Call) (mine : Post) (es : List Entry) (g : ℕ → ℕ → ℕ) (cs : List Command) (box : Box) → IsPosted mine box → IsBox (staying g es cs mine) b box
   own_box k mine es g cs box p = record { whole = λ e. p; left = λ e f text l. absurd (cc) }
 
   pub room_here : (k : Call) → (is_out link k q ≡ false → post ≡ Free) → is_out link k q ≡ false → y.box ≡ Empty

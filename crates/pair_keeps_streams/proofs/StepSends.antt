@@ -38,7 +38,7 @@ text_read h bits r e =
     let all : take (40 + data_bits h) (header_bits h ++ bits) ≡ header_bits h ++ bits = ap (λ (n : ℕ). take n (header_bits h ++ bits)) (sym long) ∙ take-length (header_bits h ++ bits) in
     ap (λ (t : List Bool). drop 40 t) all ∙ ap (λ (n : ℕ). drop n (header_bits h ++ bits)) (sym four) ∙ drop-append_seam (header_bits h) bits
 
-pub text_posted : (c size count : ℕ) (bits : List Bool) → IsHeader (record { size = size; count = count }) → length bits ≡ size * count → IsPosted (Lies (data_text size count bits)) (Waiting c size bits)
+text_posted : (c size count : ℕ) (bits : List Bool) → IsHeader (record { size = size; count = count }) → length bits ≡ size * count → IsPosted (Lies (data_text size count bits)) (Waiting c size bits)
 text_posted c size count bits r e =
     (record { size = size; count = count }, header_again (record { size = size; count = count }) bits r (omega (arith, e)), refl, text_read (record { size = size; count = count }) bits r e)
 
@@ -54,7 +54,7 @@ taken_here link l text e (Waiting c z bits) i =
 module _ (number other : ℕ → ℕ → ℕ → ℕ) (tells : IsTelling number) (others : IsTelling other) (facts : Facts number tells) (link : ℕ) (off : (link == 0) ≡ false) (x y : Stream) (gone : ℕ → ℕ → ℕ) (pending : List Command) (post : Post) (b : Party)
     (q : PairState) (j : Joint number other tells others link x y (staying gone q.entries pending post) b) (peer : Host) (listening : List Listener) where
   -- what the other sent lies there, also where it left since
-  pub lies_there : (text : List Bool) → b.post ≡ Lies text → IsPosted (Lies text) x.box
+  lies_there : (text : List Bool) → b.post ≡ Lies text → IsPosted (Lies text) x.box
   lies_there text e = by b.stays refl where
     by : (v : Bool) → b.stays ≡ v → IsPosted (Lies text) x.box
     by true s = subst (λ (p : Post). IsPosted p x.box) e (j.box_x.whole s)

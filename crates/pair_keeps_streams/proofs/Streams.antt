@@ -1,5 +1,5 @@
 -- Moves upon a stream, one after another: what they change, and what they leave.
-use Rattle.std.proofs.Common.{◌≡◌, ℕ, Bool, false, List, [], ◌∷◌, ◌++◌, Option, Some, None, refl, ap, sym, ◌∙◌, append-nil}
+use Rattle.std.proofs.Common.{◌≡◌, ℕ, Bool, false, List, ◌∷◌, ◌++◌, Option, Some, None, refl, ap, sym, ◌∙◌, append-nil}
 use Rattle.std.proofs.lemmas.List.{append_assoc}
 use Rattle.stream_law.specs.Words.{Word}
 use Rattle.stream_law.specs.Receivers as receivers
@@ -107,14 +107,6 @@ abbrev pub HearOneSent : Word → List senders.Move → Type 0
 HearOneSent w [] = ⊥
 HearOneSent w (senders.Hear v ∷ ms) = (v ≡ w) × AreQuietSent ms
 HearOneSent w (m ∷ ms) = IsQuietSent m × HearOneSent w ms
-
-pub quiet_both : (ms ns : List receivers.Move) → AreQuiet ms → AreQuiet ns → AreQuiet (ms ++ ns)
-quiet_both [] ns a b = b
-quiet_both (m ∷ ms) ns a b = (a.0, quiet_both ms ns a.1 b)
-
-pub quiet_both_sent : (ms ns : List senders.Move) → AreQuietSent ms → AreQuietSent ns → AreQuietSent (ms ++ ns)
-quiet_both_sent [] ns a b = b
-quiet_both_sent (m ∷ ms) ns a b = (a.0, quiet_both_sent ms ns a.1 b)
 
 -- one more before
 more : (m : receivers.Move) (ms : List receivers.Move) (x : Stream) (rest : List Word) (box : Box) → MayReceive m x → Receiving ms (happens (Receives m) x) rest box → Receiving (m ∷ ms) x rest box

@@ -190,7 +190,7 @@ takes_it hosts events x y l m r v w same zero gone =
     subst (λ (n : Message). takes_reset w v (In x y l n) ≡ true) (sym rst) (turned_about w v y x same)
 
 -- a host whose RST was taken has a peer that left
-pub has_left : (hosts : List Host) (events : List Event) → IsRun hosts events → (v w : Host) → HasGone (pair v w events).phase (boxes v w events 0) → stays w v events ≡ false
+has_left : (hosts : List Host) (events : List Event) → IsRun hosts events → (v w : Host) → HasGone (pair v w events).phase (boxes v w events 0) → stays w v events ≡ false
 has_left hosts [] r v w h = refl
 has_left hosts (Contact x y ∷ events) r v w h = stays_left (Contact x y) events v w h (inr (has_left hosts events r.2 v w (call_gone (are v w x y) (pair v w events) (boxes v w events 0) h)))
 has_left hosts (Out x y l m ∷ events) r v w h =

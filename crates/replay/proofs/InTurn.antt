@@ -20,7 +20,7 @@ text_more text xs i d a b c lt before now =
 
 -- ---- one event more
 
-pub in_turn_more : {S E L : Type 0} (Happens : Happening S E L) (old mid new : S) (events : List E) (e : E) (shown own : List L) → InTurn Happens old events mid shown → Happens mid e new own
+in_turn_more : {S E L : Type 0} (Happens : Happening S E L) (old mid new : S) (events : List E) (e : E) (shown own : List L) → InTurn Happens old events mid shown → Happens mid e new own
     → InTurn Happens old (events ++ e ∷ []) new (shown ++ own)
 in_turn_more {S} Happens old mid new [] e shown own h k =
     (new, own, [], subst (λ (s : S). Happens s e new own) h.0 k, (refl, refl), ap (λ xs. xs ++ own) h.1 ∙ sym (append-nil own))

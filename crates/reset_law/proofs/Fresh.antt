@@ -183,7 +183,7 @@ point_before hosts events r a b ready =
     let i : InReady (monitor a b events) (pair a b events).out = subst S ready s.shape in
     subst (λ (o : Option ℕ). IsAfter (place events) o) (sym i.clean) (subst (λ (o : Option ℕ). IsPast (place events) o) i.clean (past_run events a b))
 
-pub fresh_run : (hosts : List Host) (events : List Event) → IsRun hosts events → (a b : Host) → (pair b a events).phase ≡ Ready → IsFresh (boxes a b events) (monitor b a events).clean
+fresh_run : (hosts : List Host) (events : List Event) → IsRun hosts events → (a b : Host) → (pair b a events).phase ≡ Ready → IsFresh (boxes a b events) (monitor b a events).clean
 fresh_run hosts [] r a b ready = absurd (cc)
 fresh_run hosts (Contact x y ∷ events) r a b ready =
     let t : ((pair b a events).phase ≡ Ready) × ((monitor b a (Contact x y ∷ events)).clean ≡ (monitor b a events).clean) = still_ready (are b a x y) Call (place events) (pair b a events) (monitor b a events) tt ready in

@@ -1,5 +1,5 @@
 -- The invariant over whole lists of events.
-use Rattle.std.proofs.Common.{◌≡◌, ◌≢◌, ℕ, Bool, true, false, List, [], ◌∷◌, Some, None, refl, ap, sym, subst, ◌∙◌, inl, inr, if◌then◌else◌}
+use Rattle.std.proofs.Common.{◌≡◌, ◌≢◌, ℕ, Bool, true, false, List, ◌∷◌, Some, None, refl, ap, sym, subst, ◌∙◌, inl, inr, if◌then◌else◌}
 use Rattle.leader1822.specs.Host.{Host, same_host}
 use Rattle.leader1822.proofs.lemmas.{and_true, same_host-true}
 use Rattle.reset_law.specs.Phases.{Closed, Ready}
@@ -21,10 +21,6 @@ carry P a b x y same h =
     let t : (same_host a x ≡ true) × (same_host b y ≡ true) = and_true (same_host a x) (same_host b y) same in
     let first : P a y = subst (λ (v : Host). P v y) (sym (same_host-true a x t.0)) h in
     subst (λ (w : Host). P a w) (sym (same_host-true b y t.1)) first
-
--- the same, for one host
-pub carry_one : (P : Host → Type 0) (a x : Host) → same_host a x ≡ true → P x → P a
-carry_one P a x same h = subst P (sym (same_host-true a x same)) h
 
 -- ---- one event more
 

@@ -31,7 +31,7 @@ at_next {X} n xs ys y h = same_first (sym (drop_more xs n y (length_next n xs ys
 pub take_next : {X : Type 0} (n : ℕ) (xs ys : List X) (y : X) → drop n xs ≡ y ∷ ys → take (n + 1) xs ≡ take n xs ++ y ∷ []
 take_next {X} n xs ys y h = take_more xs n y (length_next n xs ys y h) ∙ ap (λ x. take n xs ++ x ∷ []) (at_next n xs ys y h)
 
-pub get_next : {X : Type 0} (n : ℕ) (xs ys : List X) (y : X) → drop n xs ≡ y ∷ ys → slice_get xs n ≡ Some y
+get_next : {X : Type 0} (n : ℕ) (xs ys : List X) (y : X) → drop n xs ≡ y ∷ ys → slice_get xs n ≡ Some y
 get_next {X} n [] ys y h = absurd (let short : n < 0 = length_next n [] ys y h in omega arith)
 get_next {X} zero (x ∷ xs) ys y h = ap Some (same_first h)
 get_next {X} (suc n) (x ∷ xs) ys y h = get_next n xs ys y h

@@ -1,5 +1,5 @@
 -- Going through the lines of an input up to its mark.
-use Rattle.std.proofs.Common.{◌≡◌, ◌≢◌, ℕ, ◌≤◌, ◌+◌, List, [], ◌∷◌, ◌++◌, length, take, codes, Option, Some, None, Bor, refl, sym, ap, ◌∙◌, subst, arith, inl, inr, MatchOption, ◌⊎◌, suc}
+use Rattle.std.proofs.Common.{◌≡◌, ◌≢◌, ℕ, ◌+◌, List, ◌∷◌, ◌++◌, length, take, codes, Option, Some, None, Bor, refl, sym, ap, ◌∙◌, inl, inr, MatchOption, ◌⊎◌}
 use Rattle.std.proofs.lemmas.List.{append_assoc, append-nil, take_at, length-append}
 use Rattle.std.proofs.lemmas.List.Elements.{All-append, All-cons, All-nil}
 use Rattle.std.proofs.lemmas.Grind.{flat_map-append}
@@ -37,18 +37,6 @@ pass_line input passed left line more p differs lines whole = record {
   whole = still_whole input passed p.before left.now line more p.whole.0 p.whole.1 whole;
 }
 
-line_fits : (left line : List ℕ) (more : Option (Bor (List ℕ))) → MatchOption more (left ≡ line) (λ m. left ≡ line ++ 10 ∷ m.now) → length line ≤ length left
-line_fits left line None whole = let same : length left ≡ length line = ap length whole in omega arith
-line_fits left line (Some m) whole = let same : length left ≡ length line + length (10 ∷ m.now) = ap length whole ∙ length-append line (10 ∷ m.now) in omega arith
-
--- room for the line that was passed
-pub passed_fits : (input : List ℕ) (passed : ℕ) (left : Bor (List ℕ)) (line : List ℕ) (more : Option (Bor (List ℕ))) → Passed input passed (Some left) → MatchOption more (left.now ≡ line) (λ m. left.now ≡ line ++ 10 ∷ m.now) → passed + length line ≤ length input
-passed_fits input passed left line more p whole =
-    let all : length input ≡ length (flat_map ended p.before) + length left.now = ap length p.whole.0 ∙ length-append (flat_map ended p.before) left.now in
-    let count : passed ≡ length (flat_map ended p.before) = p.whole.1 in
-    let few : length line ≤ length left.now = line_fits left.now line more whole in
-    omega arith
-
 script_lines : (input : List ℕ) (before : List (List ℕ)) (line script : List ℕ) (more : Option (Bor (List ℕ))) → lines_of input ≡ before ++ line ∷ lines_after more → line ≡ codes "%" → MatchOption more (script ≡ []) (λ m. script ≡ m.now) → (lines_of input ≡ before ++ codes "%" ∷ lines_of script) ⊎ ((lines_of input ≡ before ++ codes "%" ∷ []) × (script ≡ []))
 script_lines input before line script None all is behind = inr (all ∙ ap (λ l. before ++ l ∷ []) is, behind)
 script_lines input before line script (Some m) all is behind = inl (all ∙ ap (λ l. before ++ l ∷ lines_of m.now) is ∙ ap (λ text. before ++ codes "%" ∷ lines_of text) (sym behind))
@@ -61,22 +49,3 @@ parted input passed left line script more p is lines behind = record {
   unmarked = p.unmarked;
   lines = script_lines input p.before line script more (p.lines ∙ ap (λ ls. p.before ++ ls) lines) is behind;
 }
-
--- no line was the mark
-pub unparted : (input : List ℕ) (passed : ℕ) → Passed input passed None → All (λ line. line ≢ codes "%") (lines_of input)
-unparted input passed p = subst (All (λ line. line ≢ codes "%")) (sym (p.lines ∙ append-nil p.before)) p.unmarked
-
-script_fits : (left line script : List ℕ) (more : Option (Bor (List ℕ))) → MatchOption more (left ≡ line) (λ m. left ≡ line ++ 10 ∷ m.now) → MatchOption more (script ≡ []) (λ m. script ≡ m.now) → length script ≤ length left
-script_fits left line script None whole behind = let none : length script ≡ 0 = ap length behind in omega arith
-script_fits left line script (Some m) whole behind =
-    let same : length left ≡ length line + length (10 ∷ m.now) = ap length whole ∙ length-append line (10 ∷ m.now) in
-    let rest : length script ≡ length m.now = ap length behind in
-    let one : length (10 ∷ m.now) ≡ suc (length m.now) = refl in
-    omega arith
-
--- a script is no longer than the input
-pub short_script : (input : List ℕ) (passed : ℕ) (left : Bor (List ℕ)) (line script : List ℕ) (more : Option (Bor (List ℕ))) → Passed input passed (Some left) → MatchOption more (left.now ≡ line) (λ m. left.now ≡ line ++ 10 ∷ m.now) → MatchOption more (script ≡ []) (λ m. script ≡ m.now) → length script ≤ length input
-short_script input passed left line script more p whole behind =
-    let all : length input ≡ length (flat_map ended p.before) + length left.now = ap length p.whole.0 ∙ length-append (flat_map ended p.before) left.now in
-    let few : length script ≤ length left.now = script_fits left.now line script more whole behind in
-    omega arith

@@ -54,7 +54,7 @@ echo_keeps_by s None closes none = record {
   receive = refl;
 }
 
-pub echo_keeps : (s : EchoState) (n : Notice) → EchoKeeps s (bits_in (arrived_on s.receive n)) (echo_turn s n)
+echo_keeps : (s : EchoState) (n : Notice) → EchoKeeps s (bits_in (arrived_on s.receive n)) (echo_turn s n)
 unfolding echo_turn
 echo_keeps s n = echo_keeps_by s (arrived_on s.receive n) (closed_by s.receive s.send n) (closed_sends s.receive s.send n)
 
@@ -74,7 +74,7 @@ echoes s (n ∷ ns) =
 
 -- ---- the line terminal
 
-pub terminal_keeps : (s : TerminalState) (bits : List Bool) → kept s ++ bits ≡ line_bits (terminal_heard s bits).1 ++ kept (terminal_heard s bits).0
+terminal_keeps : (s : TerminalState) (bits : List Bool) → kept s ++ bits ≡ line_bits (terminal_heard s bits).1 ++ kept (terminal_heard s bits).0
 unfolding terminal_heard
 terminal_keeps s bits =
     let all : List Bool = s.part ++ bits in
@@ -95,7 +95,7 @@ unfolding terminal_heard
 terminal_keeps_by s (Some bits) closes = record { bits = terminal_keeps s bits; receive = refl }
 terminal_keeps_by s None closes = record { bits = append-nil (kept s); receive = refl }
 
-pub terminal_turn_keeps : (s : TerminalState) (n : Notice) → TerminalKeeps s (bits_in (arrived_on s.receive n)) (terminal_turn s n)
+terminal_turn_keeps : (s : TerminalState) (n : Notice) → TerminalKeeps s (bits_in (arrived_on s.receive n)) (terminal_turn s n)
 unfolding terminal_turn
 terminal_turn_keeps s n = terminal_keeps_by s (arrived_on s.receive n) (closed_by s.receive s.send n)
 

@@ -94,7 +94,7 @@ module _ (s : Sockets) (is_pair : IsPair s) (who : Who) (h p : Host) (origin : �
             (message_carries origin (own_of who s) (foreign_of who s) (program h moments) m (places moments) mine story.0 p (end_of moments) (end_of (Crossed (crossing.In m) ∷ moments)) (known moments) (fits e) t has knows)
 
   -- each moment
-  pub known_turn : (hosts : List Host) (x : Moment) (moments : List Moment) → IsStory (x ∷ moments) → IsRun hosts (events_of (x ∷ moments)) → AreServed (x ∷ moments)
+  known_turn : (hosts : List Host) (x : Moment) (moments : List Moment) → IsStory (x ∷ moments) → IsRun hosts (events_of (x ∷ moments)) → AreServed (x ∷ moments)
       → ((m : HostMessage) (story : IsStory (Crossed (crossing.In m) ∷ moments)) (run : IsRun hosts (events_of (Crossed (crossing.In m) ∷ moments))) → x ≡ Crossed (crossing.In m) → same_host h m.flow.destination ≡ true → same_host p m.flow.source ≡ true
       → Hears s is_pair who origin hosts m moments story run × IsFrom s is_pair who origin hosts m moments story run)
       → Tie s is_pair who h p origin moments → Tie s is_pair who h p origin (x ∷ moments) → IsKnown moments → IsKnown (x ∷ moments)

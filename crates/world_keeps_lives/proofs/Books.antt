@@ -31,7 +31,7 @@ module _ (a : Host) (k : ℕ) where
 
   -- ---- lists
 
-  pub each_where : (test : Life → Bool) (f : Life → Life) (P Q : Life → List Bool → Type 0) (lives : List Life) (handed : List (List Bool))
+  each_where : (test : Life → Bool) (f : Life → Life) (P Q : Life → List Bool → Type 0) (lives : List Life) (handed : List (List Bool))
       → ((x : Life) → at_socket a k (f x) ≡ at_socket a k x)
       → ((x : Life) (t : List Bool) → at_socket a k x ≡ true → test x ≡ true → One P x t → One Q (f x) t)
       → ((x : Life) (t : List Bool) → at_socket a k x ≡ true → test x ≡ false → One P x t → One Q x t)
@@ -152,7 +152,7 @@ module _ (a : Host) (k : ℕ) where
   pub away_at : (h : Host) (socket : ℕ) (x : Life) → same_host h a ≡ false → at_socket a k x ≡ true → lives_at h socket x ≡ true → ⊥
   away_at h socket x off there is = other_host h (lives_at h socket) x off (named_at h socket x) there is
 
-  pub each_away : (P : Life → List Bool → Type 0) (h : Host) (n : Notice) (lives : List Life) (handed : List (List Bool)) → same_host h a ≡ false → EachOn a k P lives handed → EachOn a k P (lives_told h n lives) (handed_told n handed)
+  each_away : (P : Life → List Bool → Type 0) (h : Host) (n : Notice) (lives : List Life) (handed : List (List Bool)) → same_host h a ≡ false → EachOn a k P lives handed → EachOn a k P (lives_told h n lives) (handed_told n handed)
   each_away P h (notice.Opened socket peer foreign own partner) lives handed off e =
       each_more P lives handed (new_life h socket peer foreign own partner)
       (λ there. let s : a ≡ h = same_host-true a h (both (same_host a h) (socket == k) there).0 in

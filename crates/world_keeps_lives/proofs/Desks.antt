@@ -74,7 +74,7 @@ pub record IsLess (e new : Entry) : Type 0 where
   pub waits : is_open new ≡ true → (is_open e ≡ true) × (new.bits ≡ e.bits)
   pub fresh : IsFresh e → IsFresh new
 
-pub less_life : (p : Host) (e new : Entry) (x : Life) (t : List Bool) → IsLess e new → IsLifeOf p e x t → IsLifeOf p new x t
+less_life : (p : Host) (e new : Entry) (x : Life) (t : List Bool) → IsLess e new → IsLifeOf p e x t → IsLifeOf p new x t
 less_life p e new x t less h = record {
   peers = h.peers;
   foreign = less.foreign ∙ h.foreign;
@@ -195,7 +195,7 @@ module _ (a : Host) (k : ℕ) where
         subst (λ (ys : List Entry). At a k m p ys l new) (sym same) (away f (mine_on k xs) h)
 
   -- ends that only close
-  pub at_less : (m : Place) (p : Host) (e new : Entry) (l : Bool) (κ : Kept) → IsLess e new → At a k m p (e ∷ []) l κ → At a k m p (new ∷ []) l κ
+  at_less : (m : Place) (p : Host) (e new : Entry) (l : Bool) (κ : Kept) → IsLess e new → At a k m p (e ∷ []) l κ → At a k m p (new ∷ []) l κ
   at_less Near p e new false κ less h = (less.fresh h.0, each_weaker a k (IsLifeOf p e) (IsLifeOf p new) κ.book.lives κ.handed (λ x t there i. less_life p e new x t less i) h.1)
   at_less Near p e new true κ less h = h
   at_less (Elsewhere g y) p e new l κ less h = h

@@ -48,7 +48,7 @@ pub record IsPut (s new : NcpState) (p : Host) (q : PairState) : Type 0 where
 pub put_here : (s new : NcpState) (p : Host) (q : PairState) → IsPut s new p q → (h : Host) → same_host h p ≡ true → pair_with h new.peers ≡ q
 put_here s new p q put h e = let r : pair_with h new.peers ≡ cond (same_host h p) q (pair_with h s.peers) = put.pairs h in rw e at r
 
-pub put_away : (s new : NcpState) (p : Host) (q : PairState) → IsPut s new p q → (h : Host) → same_host h p ≡ false → pair_with h new.peers ≡ pair_with h s.peers
+put_away : (s new : NcpState) (p : Host) (q : PairState) → IsPut s new p q → (h : Host) → same_host h p ≡ false → pair_with h new.peers ≡ pair_with h s.peers
 put_away s new p q put h e = let r : pair_with h new.peers ≡ cond (same_host h p) q (pair_with h s.peers) = put.pairs h in rw e at r
 
 pub same_turned : (g h : Host) → same_host g h ≡ false → same_host h g ≡ false
@@ -186,7 +186,7 @@ module _ (a : Host) (k : ℕ) where
 
 -- ---- what goes out
 
-pub gone_listening : (p : Host) (stamp : ℕ) (c : Command) (d : DeskState) → (command_gone p stamp c d).listening ≡ d.listening
+gone_listening : (p : Host) (stamp : ℕ) (c : Command) (d : DeskState) → (command_gone p stamp c d).listening ≡ d.listening
 gone_listening p stamp command.Nop d = refl
 gone_listening p stamp (command.Rts receive send link) d = refl
 gone_listening p stamp (command.Str send receive size) d = refl
@@ -202,7 +202,7 @@ gone_listening p stamp (command.Err code detail) d = refl
 gone_listening p stamp command.Rst d = refl
 gone_listening p stamp command.Rrp d = refl
 
-pub all_listening : (p : Host) (stamp : ℕ) (cs : List Command) (d : DeskState) → (commands_gone p stamp cs d).listening ≡ d.listening
+all_listening : (p : Host) (stamp : ℕ) (cs : List Command) (d : DeskState) → (commands_gone p stamp cs d).listening ≡ d.listening
 all_listening p stamp [] d = refl
 all_listening p stamp (c ∷ cs) d = all_listening p stamp cs (command_gone p stamp c d) ∙ gone_listening p stamp c d
 

@@ -1,5 +1,5 @@
 -- One socket of a host, over all moments of a world.
-use Rattle.std.proofs.Common.{◌≡◌, inl, inr, ℕ, ◌==◌, Bool, true, false, if◌then◌else◌, List, [], ◌∷◌, None, refl, sym, subst}
+use Rattle.std.proofs.Common.{◌≡◌, inl, inr, ℕ, ◌==◌, Bool, true, false, if◌then◌else◌, List, ◌∷◌, None, refl, sym, subst}
 use Rattle.leader1822.specs.Host.{Host, same_host}
 use Rattle.leader1822.specs.Mailboxes as mail
 use Rattle.leader1822.specs.declared.crossing.Crossing.{Crossing}
@@ -52,7 +52,7 @@ idle_if a h up s new down needs is = by (same_host a h) refl where
 up_at : (hosts : List Host) (a h : Host) (log : List Crossing) → mail.is_up hosts h log ≡ true → same_host a h ≡ true → mail.is_up hosts a log ≡ true
 up_at hosts a h log up e = subst (λ (g : Host). mail.is_up hosts g log ≡ true) (sym (same_host-true a h e)) up
 
-pub idle_program : (hosts : List Host) (a : Host) (moments : List Moment) → mail.IsRun hosts (crossings_of moments) → IsTimeline hosts moments → mail.is_up hosts a (crossings_of moments) ≡ false → program a moments ≡ opening_state a
+idle_program : (hosts : List Host) (a : Host) (moments : List Moment) → mail.IsRun hosts (crossings_of moments) → IsTimeline hosts moments → mail.is_up hosts a (crossings_of moments) ≡ false → program a moments ≡ opening_state a
 idle_program hosts a [] run time down = refl
 idle_program hosts a (Crossed (crossing.Out m) ∷ moments) run time down =
     idle_if a m.flow.source (mail.is_up hosts a (crossings_of moments)) (program a moments) _ down (up_at hosts a m.flow.source (crossings_of moments) run.0.0) (idle_program hosts a moments run.1 time.1 down)
@@ -73,15 +73,8 @@ idle_program hosts a (Asked h r ∷ moments) run time down =
 
 module _ (a : Host) (k : ℕ) where
   -- a program that starts
-  pub opening_holds : (κ : Kept) → EachIn a k NoneOf κ → Holds a k (opening_state a) κ
+  opening_holds : (κ : Kept) → EachIn a k NoneOf κ → Holds a k (opening_state a) κ
   opening_holds κ e = record { steady = record { refusing = λ p. tt; idle = λ p i. refl }; socket = inl (record { none = λ p. refl; lives = e }) }
-
-  -- what a program that does nothing holds
-  free_opening : (κ : Kept) → Holds a k (opening_state a) κ → EachIn a k NoneOf κ
-  free_opening κ h = elim h.socket [
-    | inl f ↦ f.lives
-    | inr o ↦ absurd (let r : [] ≡ o.end ∷ [] = o.one in cc)
-  ]
 
   -- all lives of a host end with it
   down_lives : (P : Life → List Bool → Type 0) (κ : Kept) → EachIn a k P κ → EachIn a k NoneOf (crossed (crossing.Down a) κ)
@@ -125,7 +118,7 @@ module _ (a : Host) (k : ℕ) where
     by false f = away h (ns h) s κ (next h) f (there f) e
 
   -- what crosses is added
-  pub crossed_holds : (s : NcpState) (c : Crossing) (κ : Kept) → ((P : Life → List Bool → Type 0) → EachIn a k P κ → EachIn a k P (crossed c κ)) → Holds a k s κ → Holds a k s (crossed c κ)
+  crossed_holds : (s : NcpState) (c : Crossing) (κ : Kept) → ((P : Life → List Bool → Type 0) → EachIn a k P κ → EachIn a k P (crossed c κ)) → Holds a k s κ → Holds a k s (crossed c κ)
   crossed_holds s c κ w h = holds_same a k s κ (crossed c κ) w h
 
   pub held : (hosts : List Host) → HaveAddresses hosts → (moments : List Moment) → mail.IsRun hosts (crossings_of moments) → IsTimeline hosts moments → Holds a k (program a moments) (kept_in moments)

@@ -59,7 +59,7 @@ none_mine k (x ∷ xs) f = by (none_mine k xs) (is_mine_on k x) refl f where
   by rest true t f = absurd (let r : Some x ≡ None = rw t at f in cc)
   by rest false t f = mine_one k x xs false t ∙ rest (rw t at f)
 
-pub unowned : (k : ℕ) (ps : List Peer) (h : Host) → is_some (owner_of k ps) ≡ false → mine_on k (pair_with h ps).entries ≡ []
+unowned : (k : ℕ) (ps : List Peer) (h : Host) → is_some (owner_of k ps) ≡ false → mine_on k (pair_with h ps).entries ≡ []
 unowned k [] h f = refl
 unowned k (p ∷ ps) h f = by (unowned k ps h) (find (is_mine_on k) p.pair.entries) refl f where
   by : (is_some (owner_of k ps) ≡ false → mine_on k (pair_with h ps).entries ≡ []) → (o : Option Entry) → find (is_mine_on k) p.pair.entries ≡ o → is_some (owner_of k (p ∷ ps)) ≡ false → mine_on k (pair_with h (p ∷ ps)).entries ≡ []

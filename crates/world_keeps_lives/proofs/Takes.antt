@@ -49,7 +49,7 @@ module _ (a : Host) (k : ℕ) where
   pub life_receives : (e : Entry) (x : Life) → is_mine_on k e ≡ true → at_socket a k x ≡ true → receives x ≡ is_receiving e
   life_receives e x is there = ap is_receive_socket (socket_of x there ∙ sym (own_is k e is))
 
-  pub life_sends : (P : Type 0) (e : Entry) (x : Life) → is_mine_on k e ≡ true → at_socket a k x ≡ true → is_receiving e ≡ true → sends x ≡ true → P
+  life_sends : (P : Type 0) (e : Entry) (x : Life) → is_mine_on k e ≡ true → at_socket a k x ≡ true → is_receiving e ≡ true → sends x ≡ true → P
   life_sends P e x is there r s = apart P x.socket (life_receives e x is there ∙ r) s
 
   -- an open end is changed, and the lives of its socket with it
@@ -67,7 +67,7 @@ module _ (a : Host) (k : ℕ) where
   at_here (Elsewhere g y) p f e new l κ next is opened keeps work lives handed h = absurd h
 
   -- an open end is changed, and no life
-  pub at_still : (m : Place) (p : Host) (e new : Entry) (l : Bool) (κ : Kept) → has_opened new ≡ true
+  at_still : (m : Place) (p : Host) (e new : Entry) (l : Bool) (κ : Kept) → has_opened new ≡ true
       → ((x : Life) (t : List Bool) → at_socket a k x ≡ true → IsLifeOf p e x t → IsLifeOf p new x t) → At a k m p (e ∷ []) l κ → At a k m p (new ∷ []) l κ
   at_still Near p e new false κ opened work h = ((λ unopen. clash _ (has_opened new) opened unopen), each_weaker a k (IsLifeOf p e) (IsLifeOf p new) κ.book.lives κ.handed work h.1)
   at_still Near p e new true κ opened work h = absurd h
@@ -76,7 +76,7 @@ module _ (a : Host) (k : ℕ) where
 -- ---- the accounts of a life
 
 -- more is granted to a sending end, or taken back from it
-pub sender_still : (p : Host) (e : Entry) (c : Allocation) (x : Life) (t : List Bool) → receives x ≡ false → IsLifeOf p e x t → IsLifeOf p (record e { allocation = c }) x t
+sender_still : (p : Host) (e : Entry) (c : Allocation) (x : Life) (t : List Bool) → receives x ≡ false → IsLifeOf p e x t → IsLifeOf p (record e { allocation = c }) x t
 sender_still p e c x t off i = record { peers = i.peers; foreign = i.foreign; own = i.own; partner = i.partner; waits = i.waits; left = λ r. clash _ (receives x) r off }
 
 covered : (bits : ℕ) (c : Allocation) → is_covered bits c ≡ true → (0 < c.messages) × (bits ≤ c.bits)

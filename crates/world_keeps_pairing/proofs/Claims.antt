@@ -49,7 +49,7 @@ same_true s t e =
 pub same_self : (s : Sockets) → same s s ≡ true
 same_self s = rw (eq-eqb s.receive s.receive refl, eq-eqb s.send s.send refl) refl
 
-abbrev pub word_of : Sockets → ℕ → ℕ → Word
+abbrev word_of : Sockets → ℕ → ℕ → Word
 word_of t link p = record { sockets = t; link = link; mark = Ask p }
 
 some_same : (p q : ℕ) → Some p ≡ Some q → p ≡ q

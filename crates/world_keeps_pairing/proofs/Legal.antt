@@ -16,7 +16,7 @@ use Rattle.world_keeps_pairing.proofs.Sides.{at_texts, before, receiver_before, 
 
 -- ---- fronts
 
-pub onto_above : (ws base : List Word) → AreOlder base (onto ws base)
+onto_above : (ws base : List Word) → AreOlder base (onto ws base)
 onto_above [] base = ([], refl)
 onto_above (w ∷ ws) base =
     let h : AreOlder (w ∷ base) (onto ws (w ∷ base)) = onto_above ws (w ∷ base) in
@@ -34,13 +34,13 @@ front_words who xs ys f =
 
 -- ---- hearing
 
-pub receiver_may : (ws : List Word) (xs : List Step) → AreSteps xs → stays Receiver xs ≡ true → AreOlder (onto ws (heard Receiver xs)) (said Sender xs) → AreSteps (all_heard Receiver ws xs)
+receiver_may : (ws : List Word) (xs : List Step) → AreSteps xs → stays Receiver xs ≡ true → AreOlder (onto ws (heard Receiver xs)) (said Sender xs) → AreSteps (all_heard Receiver ws xs)
 receiver_may [] xs h stay older = h
 receiver_may (w ∷ ws) xs h stay older =
     receiver_may ws (Hears Receiver w ∷ xs)
     ((stay, older_older (w ∷ heard Receiver xs) (onto ws (w ∷ heard Receiver xs)) (said Sender xs) (onto_above ws (w ∷ heard Receiver xs)) older), h) stay older
 
-pub sender_may : (ws : List Word) (xs : List Step) → AreSteps xs → stays Sender xs ≡ true → AreOlder (onto ws (heard Sender xs)) (said Receiver xs) → AreSteps (all_heard Sender ws xs)
+sender_may : (ws : List Word) (xs : List Step) → AreSteps xs → stays Sender xs ≡ true → AreOlder (onto ws (heard Sender xs)) (said Receiver xs) → AreSteps (all_heard Sender ws xs)
 sender_may [] xs h stay older = h
 sender_may (w ∷ ws) xs h stay older =
     sender_may ws (Hears Sender w ∷ xs)

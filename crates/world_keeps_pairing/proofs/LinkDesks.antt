@@ -60,7 +60,7 @@ module _ (said taken_claims : List Claim) where
   L : DeskState → Type 0
   L d = Linked said taken_claims d
 
-  pub linked_queued : (c : Command) (d : DeskState) → ((claims : List Claim) → claim_of c claims ≡ claims) → Linked said taken_claims d → Linked said taken_claims (queued c d)
+  linked_queued : (c : Command) (d : DeskState) → ((claims : List Claim) → claim_of c claims ≡ claims) → Linked said taken_claims d → Linked said taken_claims (queued c d)
   linked_queued c d mute h = subst (λ (claims : List Claim). Links claims taken_claims d.entries) (sym (claims_join d.queue (c ∷ []) said ∙ mute (all_claims d.queue said))) h
 
   linked_error : (code : ℕ) (octets : List ℕ) (d : DeskState) → Linked said taken_claims d → Linked said taken_claims (queued (error code octets) d)
@@ -77,7 +77,7 @@ module _ (said taken_claims : List Claim) where
       (links_map (all_claims d.queue said) taken_claims (λ e. closed_when (must_close busy e) e) d.entries
       (λ e. record { own = refl; foreign = refl; link = refl; mine = refl; partner = λ k. k; asked = λ k. k }) h)
 
-  pub linked_swept : (peer : Host) (d : DeskState) → Linked said taken_claims d → Linked said taken_claims (swept peer d)
+  linked_swept : (peer : Host) (d : DeskState) → Linked said taken_claims d → Linked said taken_claims (swept peer d)
   linked_swept peer d h = links_filter (all_claims d.queue said) taken_claims (λ e. not (is_over e)) d.entries h
 
   -- an end that is refused has no link

@@ -1,5 +1,5 @@
 -- What goes out of a pair, and links.
-use Rattle.std.proofs.Common.{◌≡◌, ℕ, ◌*◌, ◌==◌, zero, suc, Bool, true, false, ◌&&◌, if◌then◌else◌, List, [], ◌∷◌, ◌++◌, map, take, drop, Some, refl, ap, sym, subst, ◌∙◌}
+use Rattle.std.proofs.Common.{◌≡◌, ℕ, ◌*◌, ◌==◌, zero, suc, Bool, true, false, ◌&&◌, if◌then◌else◌, List, ◌∷◌, ◌++◌, map, take, drop, Some, refl, ap, sym, subst, ◌∙◌}
 use Rattle.std.proofs.lemmas.List.{append-nil, take-append-drop}
 use Rattle.leader1822.specs.Host.{Host}
 use Rattle.ncp_control.specs.declared.command.Command.{Command}
@@ -76,9 +76,6 @@ read_words who place link text = if link == 0 then words_by who place (orders_of
 signal_words : (who : Who) (place link : ℕ) (text : List Bool) (orders : List Order) → orders_of text ≡ orders → words_by who place orders ≡ [] → (z : Bool) → [] ≡ (if z then words_by who place (orders_of text) else [])
 signal_words who place link text orders e f true = sym (ap (words_by who place) e ∙ f)
 signal_words who place link text orders e f false = refl
-
-receiver_signal : (place : ℕ) → words_by Receiver place (Legal command.Rst ∷ []) ≡ []
-receiver_signal place = refl
 
 pub words_said : (a b : Host) (place link : ℕ) (text : List Bool) → words_of Receiver (stay.said_by a b 0 (Out a b link (with_place place (message_on link text)))) ≡ read_words Receiver place link text
 words_said a b place link text = by (sort_of link text) where

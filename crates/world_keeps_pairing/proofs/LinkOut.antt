@@ -57,7 +57,7 @@ pairs_if : (b : Bool) (w : Word) (ws : List Word) → IsPair w.sockets → AllPa
 pairs_if true w ws p h = (p, h)
 pairs_if false w ws p h = h
 
-pub said_pairs : (ws : List Word) (xs : List Step) → AllPairs ws → AllPairs (said Receiver xs) → AllPairs (said Receiver (all_said Receiver ws xs))
+said_pairs : (ws : List Word) (xs : List Step) → AllPairs ws → AllPairs (said Receiver xs) → AllPairs (said Receiver (all_said Receiver ws xs))
 said_pairs [] xs p h = h
 said_pairs (w ∷ ws) xs p h = said_pairs ws (Says Receiver w ∷ xs) p.1 (pairs_if (stays Receiver xs) w (said Receiver xs) p.0 h)
 
@@ -73,7 +73,7 @@ close_if : (b : Bool) (r n : ℕ) (xs : List Step) → said_claims (all_said Rec
 close_if true r n xs = refl
 close_if false r n xs = refl
 
-pub claims_next : (stamp : ℕ) (c : Command) (xs : List Step) → said_claims (all_said Receiver (word_by Receiver stamp (Legal c)) xs) ≡ claim_of c (said_claims xs)
+claims_next : (stamp : ℕ) (c : Command) (xs : List Step) → said_claims (all_said Receiver (word_by Receiver stamp (Legal c)) xs) ≡ claim_of c (said_claims xs)
 claims_next stamp command.Nop xs = refl
 claims_next stamp (command.Rts r n l) xs = claim_if (is_receive_socket r && is_send_socket n) r n l stamp xs
 claims_next stamp (command.Str n r size) xs = refl

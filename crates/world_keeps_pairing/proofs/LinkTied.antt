@@ -180,7 +180,7 @@ module _ (origin : Host → Host → ℕ → ℕ) (hosts : List Host) (m : HostM
   abbrev turn : TurnState
   turn = turn_of (program m.flow.destination moments) m.flow.source
 
-  pub peer_steps : AreSteps (steps m.flow.source m.flow.destination (law_events (Crossed (crossing.In m) ∷ moments)))
+  peer_steps : AreSteps (steps m.flow.source m.flow.destination (law_events (Crossed (crossing.In m) ∷ moments)))
   peer_steps = steps_turn hosts origin m.flow.source m.flow.destination (Crossed (crossing.In m)) moments story run ranged tt u
 
   -- a text on link 0, where the host is through a reset

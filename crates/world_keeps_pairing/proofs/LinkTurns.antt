@@ -132,7 +132,7 @@ module _ (origin : ℕ → ℕ) where
   abbrev pub Ends : List Entry → List Command → List Step → Type 0
   Ends es queue xs = (s : Sockets) → IsPair s → (place : ℕ) → Stand true origin place (at s.send s.receive es) (marks place s.send s.receive queue) (sender s xs).end
 
-  pub free_now : (xs : List Step) (w : Word) (p : ℕ) (es : List Entry) (queue : List Command) → AreSteps (Hears Sender w ∷ xs) → w.mark ≡ Ask p → Ends es queue xs → Each (SendsBy (heard_claims xs)) es → list_any (sends_on w.link) es ≡ false
+  free_now : (xs : List Step) (w : Word) (p : ℕ) (es : List Entry) (queue : List Command) → AreSteps (Hears Sender w ∷ xs) → w.mark ≡ Ask p → Ends es queue xs → Each (SendsBy (heard_claims xs)) es → list_any (sends_on w.link) es ≡ false
   free_now xs w p es queue steps mark ends h = by (list_any (sends_on w.link) es) refl where
     by : (b : Bool) → list_any (sends_on w.link) es ≡ b → b ≡ false
     by true e =
@@ -160,7 +160,7 @@ module _ (origin : ℕ → ℕ) (peer : Host) (stamp : ℕ) (said : List Claim) 
   abbrev pub heard_one : Order → List Step → List Step
   heard_one o xs = all_heard Sender (word_by Receiver (origin stamp) o) xs
 
-  abbrev pub after_order : Order → TurnState → TurnState
+  abbrev after_order : Order → TurnState → TurnState
   after_order o t = with_desk t (work_of peer t.pair.busy stamp o (desk_of t.pair t.listening))
 
   one_ends : (o : Order) (t : TurnState) (xs : List Step) → IsJoint o → IsOrder o → is_ready t.pair.phase ≡ true → IsFreeIn o t → AreSteps (heard_one o xs) → HasEnds t xs → HasEnds (after_order o t) (heard_one o xs)

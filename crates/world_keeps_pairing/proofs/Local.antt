@@ -1,5 +1,5 @@
 -- The links of a pair's ends, against what the receiver said and the sender heard.
-use Rattle.std.proofs.Common.{◌≡◌, ℕ, ◌==◌, Bool, true, false, not, ◌&&◌, if◌then◌else◌, List, [], ◌∷◌, ◌++◌, map, filter, Option, Some, None, is_some, refl, ap, sym, subst, ◌∙◌, eq-eqb}
+use Rattle.std.proofs.Common.{◌≡◌, ℕ, ◌==◌, Bool, true, false, not, ◌&&◌, if◌then◌else◌, List, ◌∷◌, ◌++◌, map, filter, Option, Some, None, is_some, refl, ap, sym, subst, ◌∙◌, eq-eqb}
 use Rattle.std.proofs.lemmas.Bool.{eqb-true}
 use Rattle.std.specs.List.{list_any}
 use Rattle.ncp_control.specs.Numbers.{is_receive_socket, is_send_socket}
@@ -63,18 +63,18 @@ pub record Links (said taken : List Claim) (entries : List Entry) : Type 0 where
 
 -- ---- lists
 
-pub each_changed : (Q : Entry → Type 0) (test : Entry → Bool) (change : Entry → Entry) (es : List Entry) → ((e : Entry) → test e ≡ true → Q e → Q (change e)) → Each Q es → Each Q (changed_first test change es)
+each_changed : (Q : Entry → Type 0) (test : Entry → Bool) (change : Entry → Entry) (es : List Entry) → ((e : Entry) → test e ≡ true → Q e → Q (change e)) → Each Q es → Each Q (changed_first test change es)
 each_changed Q test change [] k h = tt
 each_changed Q test change (e ∷ es) k h = by (test e) refl (each_changed Q test change es k h.1) where
   by : (b : Bool) → test e ≡ b → Each Q (changed_first test change es) → Each Q (if b then change e ∷ es else e ∷ changed_first test change es)
   by true t rest = (k e t h.0, h.1)
   by false t rest = (h.0, rest)
 
-pub each_map : (Q : Entry → Type 0) (change : Entry → Entry) (es : List Entry) → ((e : Entry) → Q e → Q (change e)) → Each Q es → Each Q (map change es)
+each_map : (Q : Entry → Type 0) (change : Entry → Entry) (es : List Entry) → ((e : Entry) → Q e → Q (change e)) → Each Q es → Each Q (map change es)
 each_map Q change [] k h = tt
 each_map Q change (e ∷ es) k h = (k e h.0, each_map Q change es k h.1)
 
-pub each_filter : (Q : Entry → Type 0) (test : Entry → Bool) (es : List Entry) → Each Q es → Each Q (filter test es)
+each_filter : (Q : Entry → Type 0) (test : Entry → Bool) (es : List Entry) → Each Q es → Each Q (filter test es)
 each_filter Q test [] h = tt
 each_filter Q test (e ∷ es) h = by (test e) refl (each_filter Q test es h.1) where
   by : (b : Bool) → test e ≡ b → Each Q (filter test es) → Each Q (filter test (e ∷ es))
@@ -85,7 +85,7 @@ pub each_more : (Q : Entry → Type 0) (e : Entry) (es : List Entry) → Q e →
 each_more Q e [] k h = (k, tt)
 each_more Q e (x ∷ es) k h = (h.0, each_more Q e es k h.1)
 
-pub each_both : (Q R S : Entry → Type 0) (es : List Entry) → ((e : Entry) → Q e → R e → S e) → Each Q es → Each R es → Each S es
+each_both : (Q R S : Entry → Type 0) (es : List Entry) → ((e : Entry) → Q e → R e → S e) → Each Q es → Each R es → Each S es
 each_both Q R S [] k h j = tt
 each_both Q R S (e ∷ es) k h j = (k e h.0 j.0, each_both Q R S es k h.1 j.1)
 
@@ -122,7 +122,7 @@ flags_join : (test : Entry → Bool) (es : List Entry) (e : Entry) → map test 
 flags_join test [] e = refl
 flags_join test (x ∷ es) e = ap (λ (bs : List Bool). test x ∷ bs) (flags_join test es e)
 
-pub one_joined : (test : Entry → Bool) (es : List Entry) (e : Entry) → (test e ≡ true → list_any test es ≡ false) → One (map test es) → One (map test (es ++ e ∷ []))
+one_joined : (test : Entry → Bool) (es : List Entry) (e : Entry) → (test e ≡ true → list_any test es ≡ false) → One (map test es) → One (map test (es ++ e ∷ []))
 one_joined test es e k h = subst One (sym (flags_join test es e)) (by (test e) refl) where
   by : (b : Bool) → test e ≡ b → One (map test es ++ b ∷ [])
   by true t = one_off (map test es) (off_any test es (k t)) true
@@ -135,7 +135,7 @@ off_filter test keep (e ∷ es) h = by (keep e) refl (off_filter test keep es h.
   by true t rest = rw t (h.0, rest)
   by false t rest = rw t rest
 
-pub one_filter : (test keep : Entry → Bool) (es : List Entry) → One (map test es) → One (map test (filter keep es))
+one_filter : (test keep : Entry → Bool) (es : List Entry) → One (map test es) → One (map test (filter keep es))
 one_filter test keep [] h = tt
 one_filter test keep (e ∷ es) h = by (test e) (keep e) refl refl (λ k. one_filter test keep es k) where
   by : (b c : Bool) → test e ≡ b → keep e ≡ c → (One (map test es) → One (map test (filter keep es))) → One (map test (filter keep (e ∷ es)))
@@ -147,14 +147,14 @@ one_filter test keep (e ∷ es) h = by (test e) (keep e) refl refl (λ k. one_fi
   by false true f g rest = let one : One (map test es) = rw f at h in rw (g, f) (rest one)
   by false false f g rest = let one : One (map test es) = rw f at h in rw g (rest one)
 
-pub flags_changed : (flag test : Entry → Bool) (change : Entry → Entry) (es : List Entry) → ((e : Entry) → test e ≡ true → flag (change e) ≡ flag e) → map flag (changed_first test change es) ≡ map flag es
+flags_changed : (flag test : Entry → Bool) (change : Entry → Entry) (es : List Entry) → ((e : Entry) → test e ≡ true → flag (change e) ≡ flag e) → map flag (changed_first test change es) ≡ map flag es
 flags_changed flag test change [] k = refl
 flags_changed flag test change (e ∷ es) k = by (test e) refl (flags_changed flag test change es k) where
   by : (b : Bool) → test e ≡ b → map flag (changed_first test change es) ≡ map flag es → map flag (if b then change e ∷ es else e ∷ changed_first test change es) ≡ flag e ∷ map flag es
   by true t rest = ap (λ (b : Bool). b ∷ map flag es) (k e t)
   by false t rest = ap (λ (bs : List Bool). flag e ∷ bs) rest
 
-pub flags_map : (flag : Entry → Bool) (change : Entry → Entry) (es : List Entry) → ((e : Entry) → flag (change e) ≡ flag e) → map flag (map change es) ≡ map flag es
+flags_map : (flag : Entry → Bool) (change : Entry → Entry) (es : List Entry) → ((e : Entry) → flag (change e) ≡ flag e) → map flag (map change es) ≡ map flag es
 flags_map flag change [] k = refl
 flags_map flag change (e ∷ es) k = ap (λ (b : Bool). b ∷ map flag (map change es)) (k e) ∙ ap (λ (bs : List Bool). flag e ∷ bs) (flags_map flag change es k)
 
@@ -174,7 +174,7 @@ sends_is l e f q = ap (λ (n : ℕ). not (is_receive_socket n) && is_link l f.li
 receives_is : (l : ℕ) (e f : Entry) → IsQuiet e f → receives_on l f ≡ receives_on l e
 receives_is l e f q = ap (λ (n : ℕ). is_receive_socket n && is_link l f.link) q.own ∙ ap (λ (o : Option ℕ). is_receive_socket e.own && is_link l o) q.link
 
-pub quiet_sends : (taken : List Claim) (e f : Entry) → IsQuiet e f → SendsBy taken e → SendsBy taken f
+quiet_sends : (taken : List Claim) (e f : Entry) → IsQuiet e f → SendsBy taken e → SendsBy taken f
 quiet_sends taken e f q h = λ l on.
     let k : (is_some e.partner ≡ true) × (last_link (record { receive = e.foreign; send = e.own }) taken ≡ Some l) × (is_receive_socket e.foreign ≡ true) = h l (sym (sends_is l e f q) ∙ on) in (
       q.partner k.0,
@@ -182,13 +182,13 @@ quiet_sends taken e f q h = λ l on.
       ap is_receive_socket q.foreign ∙ k.2,
     )
 
-pub quiet_receives : (said : List Claim) (e f : Entry) → IsQuiet e f → ReceivesBy said e → ReceivesBy said f
+quiet_receives : (said : List Claim) (e f : Entry) → IsQuiet e f → ReceivesBy said e → ReceivesBy said f
 quiet_receives said e f q h = λ even own l last.
     let before : last_link (record { receive = e.own; send = e.foreign }) said ≡ Some l =
     sym (ap (λ (n : ℕ). last_link (record { receive = n; send = f.foreign }) said) q.own ∙ ap (λ (n : ℕ). last_link (record { receive = e.own; send = n }) said) q.foreign) ∙ last in
     ap (λ (o : Option ℕ). is_link l o) q.link ∙ h (ap is_receive_socket (sym q.own) ∙ even) (sym q.mine ∙ own) l before
 
-pub quiet_own : (e f : Entry) → IsQuiet e f → AsksOwn e → AsksOwn f
+quiet_own : (e f : Entry) → IsQuiet e f → AsksOwn e → AsksOwn f
 quiet_own e f q h = λ asked. q.mine ∙ h (q.asked asked)
 
 module _ (said taken : List Claim) where
@@ -223,10 +223,6 @@ module _ (said taken : List Claim) where
     own = each_more AsksOwn e es own h.own;
     single = λ l. one_joined (receives_on l) es e (free l) (h.single l);
   }
-
-  -- nothing is there
-  pub links_none : Links said taken []
-  links_none = record { sends = tt; names = tt; own = tt; single = λ l. tt }
 
 -- ---- one claim more
 
@@ -278,7 +274,7 @@ off_each test [] h = tt
 off_each test (e ∷ es) h = (h.0, off_each test es h.1)
 
 -- the one end of two sockets is changed, and the others stay
-pub each_first : (Q R : Entry → Type 0) (test : Entry → Bool) (change : Entry → Entry) (es : List Entry) → One (map test es) → ((e : Entry) → test e ≡ true → Q e → R (change e)) → ((e : Entry) → test e ≡ false → Q e → R e) → Each Q es
+each_first : (Q R : Entry → Type 0) (test : Entry → Bool) (change : Entry → Entry) (es : List Entry) → One (map test es) → ((e : Entry) → test e ≡ true → Q e → R (change e)) → ((e : Entry) → test e ≡ false → Q e → R e) → Each Q es
     → Each R (changed_first test change es)
 each_first Q R test change [] one here there h = tt
 each_first Q R test change (e ∷ es) one here there h = by (test e) refl (λ k. each_first Q R test change es k here there h.1) where

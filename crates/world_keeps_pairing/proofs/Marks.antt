@@ -108,7 +108,7 @@ module _ (s : Sockets) (pair : IsPair s) where
   order_at Sender place (Legal command.Rst) h = refl
   order_at Sender place (Legal command.Rrp) h = refl
 
-  pub orders_at : (who : Who) (place : ℕ) (orders : List Order) → AreOrders orders → at s (words_by who place orders) ≡ marks_in place (own_of who s) (foreign_of who s) orders
+  orders_at : (who : Who) (place : ℕ) (orders : List Order) → AreOrders orders → at s (words_by who place orders) ≡ marks_in place (own_of who s) (foreign_of who s) orders
   orders_at who place [] h = refl
   orders_at who place (o ∷ orders) h =
       at_join s (word_by who place o) (words_by who place orders)

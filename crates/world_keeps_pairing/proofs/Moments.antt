@@ -1,5 +1,5 @@
 -- Each moment keeps what a host has at two sockets.
-use Rattle.std.proofs.Common.{◌≡◌, ◌⊎◌, inl, inr, ℕ, Bool, true, false, ◌&&◌, if◌then◌else◌, List, [], ◌∷◌, None, refl, ap, sym, subst, ◌∙◌}
+use Rattle.std.proofs.Common.{◌≡◌, ◌⊎◌, inl, inr, ℕ, Bool, true, false, ◌&&◌, if◌then◌else◌, List, ◌∷◌, None, refl, ap, sym, subst, ◌∙◌}
 use Rattle.leader1822.specs.Host.{Host, same_host}
 use Rattle.leader1822.specs.declared.address.Flow.{Flow}
 use Rattle.leader1822.specs.declared.crossing.Answer.{Answer}
@@ -33,7 +33,7 @@ use Rattle.net_sim.specs.Projection.{event_of, event_by, message_on}
 use Rattle.net_sim.specs.Story.{Moment, Crossed, Asked, IsNext, IsStory, event_in, events_of, places, program}
 use Rattle.net_sim.proofs.lemmas.{by_request, place_same, places_same, story_agrees}
 use Rattle.world_keeps_pairing.specs.Free.{law_events}
-use Rattle.world_keeps_pairing.proofs.Sides.{all_says, at_texts, before, half, met_if}
+use Rattle.world_keeps_pairing.proofs.Sides.{all_says, at_texts, half}
 use Rattle.world_keeps_pairing.proofs.Marks.{IsPair, foreign_of, own_of}
 use Rattle.world_keeps_pairing.proofs.Moves.{says_end}
 use Rattle.world_keeps_pairing.proofs.Programs.{Has, answer_has, in_leaves, out_has, read_marks}
@@ -75,11 +75,6 @@ module _ (s : Sockets) (is_pair : IsPair s) (who : Who) (h p : Host) (origin : �
   -- its program has the end that it has by the steps
   abbrev pub Tie : List Moment → Type 0
   Tie moments = HasEnd origin (own_of who s) (foreign_of who s) (pair_with p (program h moments).peers) (Side_of moments).end
-
-  -- after an event, where the program has this pair
-  abbrev TieBy : Event → List Moment → PairState → Type 0
-  TieBy e moments q =
-      HasEnd origin (own_of who s) (foreign_of who s) q (met_if (stay.begins h p e (law_events moments)) (before h p (at_texts s who) (at_texts s (other who)) e (law_events moments) (Side_of moments))).end
 
   -- ---- events that say nothing
 

@@ -42,7 +42,7 @@ use Rattle.world_keeps_pairing.proofs.Turns.{other, said_is, when_all}
 
 -- ---- lives of a side
 
-pub says_lives : (ms : List Mark) (x : Side) → (all_says ms x).lives ≡ all_lives_gone ms x.end x.lives
+says_lives : (ms : List Mark) (x : Side) → (all_says ms x).lives ≡ all_lives_gone ms x.end x.lives
 says_lives [] x = refl
 says_lives (m ∷ ms) x = says_lives ms (says m x)
 

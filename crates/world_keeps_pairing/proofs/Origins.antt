@@ -41,7 +41,7 @@ seen_waiting link (mail.Waiting n text) place message is = (text, ap (λ (x : Bo
   place_of (Taken n m) = n
 seen_waiting link (mail.Taken n text) place message is = absurd (let both : Taken n (message_on link text) ≡ Waiting place message = is in cc)
 
-pub origin_is : (none : ℕ) (log newer : List Crossing) (m : HostMessage) (moments : List Moment) → log ≡ newer ++ crossings_of (Crossed (crossing.In m) ∷ moments) → IsOrigin (origin_or none log) (Crossed (crossing.In m)) moments
+origin_is : (none : ℕ) (log newer : List Crossing) (m : HostMessage) (moments : List Moment) → log ≡ newer ++ crossings_of (Crossed (crossing.In m) ∷ moments) → IsOrigin (origin_or none log) (Crossed (crossing.In m)) moments
 origin_is none log newer m moments is = λ place box zero.
     let seen : seen_box m.flow.link.0 (mail.box_of m.flow (crossings_of moments)) ≡ Waiting place (message_on m.flow.link.0 m.text) = sym (box_same m.flow.source m.flow.destination moments m.flow.link.0) ∙ box in
     let waits : (text : List Bool) × (mail.box_of m.flow (crossings_of moments) ≡ mail.Waiting place text) = seen_waiting m.flow.link.0 (mail.box_of m.flow (crossings_of moments)) place (message_on m.flow.link.0 m.text) seen in

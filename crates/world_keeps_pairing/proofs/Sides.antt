@@ -85,19 +85,19 @@ module _ (s : Sockets) where
   receiver_waits [] xs = refl
   receiver_waits (w ∷ ws) xs = receiver_waits ws (Says Sender w ∷ xs) ∙ one_alone (same s w.sockets) (Say w.mark) (events_at s xs)
 
-  pub sender_waits : (ws : List Word) (xs : List Step) → sender s (all_said Receiver ws xs) ≡ sender s xs
+  sender_waits : (ws : List Word) (xs : List Step) → sender s (all_said Receiver ws xs) ≡ sender s xs
   sender_waits [] xs = refl
   sender_waits (w ∷ ws) xs = sender_waits ws (Says Receiver w ∷ xs) ∙ two_alone (same s w.sockets) (Say w.mark) (events_at s xs)
 
-  pub receiver_deaf : (ws : List Word) (xs : List Step) → receiver s (all_heard Sender ws xs) ≡ receiver s xs
+  receiver_deaf : (ws : List Word) (xs : List Step) → receiver s (all_heard Sender ws xs) ≡ receiver s xs
   receiver_deaf [] xs = refl
   receiver_deaf (w ∷ ws) xs = receiver_deaf ws (Hears Sender w ∷ xs) ∙ one_alone (same s w.sockets) (sides.Hear w.mark) (events_at s xs)
 
-  pub sender_deaf : (ws : List Word) (xs : List Step) → sender s (all_heard Receiver ws xs) ≡ sender s xs
+  sender_deaf : (ws : List Word) (xs : List Step) → sender s (all_heard Receiver ws xs) ≡ sender s xs
   sender_deaf [] xs = refl
   sender_deaf (w ∷ ws) xs = sender_deaf ws (Hears Receiver w ∷ xs) ∙ two_alone (same s w.sockets) (sides.Hear w.mark) (events_at s xs)
 
-  pub receiver_hears_if : (b : Bool) (ws : List Word) (xs : List Step) → receiver s (heard_in b Receiver ws xs) ≡ hears_if b (at s ws) (receiver s xs)
+  receiver_hears_if : (b : Bool) (ws : List Word) (xs : List Step) → receiver s (heard_in b Receiver ws xs) ≡ hears_if b (at s ws) (receiver s xs)
   receiver_hears_if true ws xs = receiver_hears ws xs
   receiver_hears_if false ws xs = refl
 
@@ -109,7 +109,7 @@ module _ (s : Sockets) where
   receiver_deaf_if true ws xs = receiver_deaf ws xs
   receiver_deaf_if false ws xs = refl
 
-  pub sender_deaf_if : (b : Bool) (ws : List Word) (xs : List Step) → sender s (heard_in b Receiver ws xs) ≡ sender s xs
+  sender_deaf_if : (b : Bool) (ws : List Word) (xs : List Step) → sender s (heard_in b Receiver ws xs) ≡ sender s xs
   sender_deaf_if true ws xs = sender_deaf ws xs
   sender_deaf_if false ws xs = refl
 
@@ -147,13 +147,13 @@ module _ (s : Sockets) where
       let ss : List Word = words_of Sender (stay.said_by b a 0 e) in
       sender_waits (words_of Receiver (stay.said_by a b 0 e)) (all_said Sender ss xs) ∙ sender_says ss xs
 
-  pub receiver_took : (a b : Host) (e : Event) (events : List Event) (xs : List Step) → receiver s (taken_by a b e events xs) ≡ hears_if (stay.stays a b events) (at s (words_of Sender (stay.heard_by b a 0 e))) (receiver s xs)
+  receiver_took : (a b : Host) (e : Event) (events : List Event) (xs : List Step) → receiver s (taken_by a b e events xs) ≡ hears_if (stay.stays a b events) (at s (words_of Sender (stay.heard_by b a 0 e))) (receiver s xs)
   receiver_took a b e events xs =
       let ss : List Word = words_of Receiver (stay.heard_by a b 0 e) in
       receiver_hears_if (stay.stays a b events) (words_of Sender (stay.heard_by b a 0 e)) (heard_in (stay.stays b a events) Sender ss xs)
       ∙ ap (hears_if (stay.stays a b events) (at s (words_of Sender (stay.heard_by b a 0 e)))) (receiver_deaf_if (stay.stays b a events) ss xs)
 
-  pub sender_took : (a b : Host) (e : Event) (events : List Event) (xs : List Step) → sender s (taken_by a b e events xs) ≡ hears_if (stay.stays b a events) (at s (words_of Receiver (stay.heard_by a b 0 e))) (sender s xs)
+  sender_took : (a b : Host) (e : Event) (events : List Event) (xs : List Step) → sender s (taken_by a b e events xs) ≡ hears_if (stay.stays b a events) (at s (words_of Receiver (stay.heard_by a b 0 e))) (sender s xs)
   sender_took a b e events xs =
       let ss : List Word = words_of Receiver (stay.heard_by a b 0 e) in
       sender_deaf_if (stay.stays a b events) (words_of Sender (stay.heard_by b a 0 e)) (heard_in (stay.stays b a events) Sender ss xs) ∙ sender_hears_if (stay.stays b a events) ss xs
@@ -271,7 +271,7 @@ module _ (h p : Host) (spoken heard : List (List Bool) → List Mark) (mute : sp
       (stays_before (stay.begins h p e events) (keeps h p e events) (stay.stays h p events) out) (unheard events))
 
   -- also where it begins to stay
-  pub unheard_there : (e : Event) (events : List Event) → stay.stays h p events ≡ false → Unheard (Half (e ∷ events)).end
+  unheard_there : (e : Event) (events : List Event) → stay.stays h p events ≡ false → Unheard (Half (e ∷ events)).end
   unheard_there e events out =
       let b : Side = before h p spoken heard e events (Half events) in
       subst (λ (x : End). Unheard x) (sym (met_end (stay.begins h p e events) b))

@@ -121,7 +121,7 @@ module _ (s : Sockets) (is_pair : IsPair s) (who : Who) (h p : Host) (origin : �
       next_is (placed_event (event_of (crossing.Out m)) (events_of moments)) moments ∙ ap (λ (ms : List Mark). (all_says ms (Side_of s is_pair who h p origin moments)).next) said in
       omega (arith, up, same, is)
 
-  pub next_turn : (x : Moment) (moments : List Moment) → Next moments ≤ places moments → Next (x ∷ moments) ≤ places (x ∷ moments)
+  next_turn : (x : Moment) (moments : List Moment) → Next moments ≤ places moments → Next (x ∷ moments) ≤ places (x ∷ moments)
   next_turn (Crossed (crossing.Out m)) moments below = out_next m moments below
   next_turn (Crossed (crossing.In m)) moments below = let same : Next (Crossed (crossing.In m) ∷ moments) ≡ Next moments = next_is (placed_event (event_of (crossing.In m)) (events_of moments)) moments in omega (arith, same, below)
   next_turn (Crossed (crossing.Answer kind f)) moments below = let same : Next (Crossed (crossing.Answer kind f) ∷ moments) ≡ Next moments = next_is (placed_event (event_of (crossing.Answer kind f)) (events_of moments)) moments in omega (arith, same, below)

@@ -75,7 +75,7 @@ module _ (origin : ℕ → ℕ) (own foreign : ℕ) where
   text_nothing place false (Other text) orders e = refl
 
   module _ (h p : Host) where
-    abbrev pub Lives_at : List Moment → List Life
+    abbrev Lives_at : List Moment → List Life
     Lives_at moments = with_lives origin h p own foreign (kept_in moments).book.lives []
 
     -- its program has no end, and it told of no opening

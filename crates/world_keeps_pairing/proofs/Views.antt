@@ -41,7 +41,7 @@ more_if : (b : Bool) (w : Word) (ws base : List Word) → onto_if b ws (if b the
 more_if true w ws base = refl
 more_if false w ws base = refl
 
-pub receiver_says : (ws : List Word) (xs : List Step) → view (all_said Receiver ws xs) ≡ record (view xs) { receiver_said = onto_if (stays Receiver xs) ws (said Receiver xs) }
+receiver_says : (ws : List Word) (xs : List Step) → view (all_said Receiver ws xs) ≡ record (view xs) { receiver_said = onto_if (stays Receiver xs) ws (said Receiver xs) }
 receiver_says [] xs = by (stays Receiver xs) where
   by : (b : Bool) → view xs ≡ record (view xs) { receiver_said = onto_if b [] (said Receiver xs) }
   by true = refl
@@ -65,7 +65,7 @@ pub sender_hears : (ws : List Word) (xs : List Step) → view (all_heard Sender 
 sender_hears [] xs = refl
 sender_hears (w ∷ ws) xs = sender_hears ws (Hears Sender w ∷ xs)
 
-pub receiver_hears_if : (b : Bool) (ws : List Word) (xs : List Step) → view (heard_in b Receiver ws xs) ≡ record (view xs) { receiver_heard = onto_if b ws (heard Receiver xs) }
+receiver_hears_if : (b : Bool) (ws : List Word) (xs : List Step) → view (heard_in b Receiver ws xs) ≡ record (view xs) { receiver_heard = onto_if b ws (heard Receiver xs) }
 receiver_hears_if true ws xs = receiver_hears ws xs
 receiver_hears_if false ws xs = refl
 

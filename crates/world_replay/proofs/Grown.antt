@@ -62,7 +62,7 @@ more_reports old new g =
 abbrev pub gains_none : (k : Kept) → Gains k k
 gains_none k = record { crossings = []; notices = []; reports = []; crossed = refl; told = sym (append-nil k.book.notices); said = sym (append-nil k.book.reports) }
 
-pub gains_same : (old new : Kept) → new ≡ old → Gains old new
+gains_same : (old new : Kept) → new ≡ old → Gains old new
 gains_same old new is = subst (Gains old) (sym is) (gains_none old)
 
 pub grew_none : (k : Kept) → Grew k k

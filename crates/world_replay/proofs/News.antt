@@ -36,7 +36,7 @@ pub fronts_none : (before : ℕ) (crossings : List Crossing) (a : Option (List �
 fronts_none before crossings a = record { shown = []; whole = λ more. refl; written = appends_none a }
 
 -- some news, and then others
-pub fronts_more : (first mid last : ℕ) (crossings left rest : List Crossing) (xs ys : List Shown) (a b c : Option (List ℕ)) → Fronts first crossings xs mid left a b → Fronts mid left ys last rest b c → Fronts first crossings (xs ++ ys) last rest a c
+fronts_more : (first mid last : ℕ) (crossings left rest : List Crossing) (xs ys : List Shown) (a b c : Option (List ℕ)) → Fronts first crossings xs mid left a b → Fronts mid left ys last rest b c → Fronts first crossings (xs ++ ys) last rest a c
 fronts_more first mid last crossings left rest xs ys a b c h k = record {
   shown = h.shown ++ k.shown;
   whole = λ more. ap (shown_in_turn first crossings) (append_assoc xs ys more) ∙ h.whole (ys ++ more) ∙ ap (λ zs. h.shown ++ zs) (k.whole more) ∙ sym (append_assoc h.shown k.shown (shown_in_turn last rest more));
@@ -62,7 +62,7 @@ minus_zero : (n : ℕ) → 0 - n ≡ 0
 minus_zero n = omega arith
 
 -- a report wants no crossings before it
-pub report_front : (before : ℕ) (crossings : List Crossing) (r : Reported) (a b : Option (List ℕ)) → Appends a b (ended (reported_text r)) → Fronts before crossings (Said r ∷ []) before crossings a b
+report_front : (before : ℕ) (crossings : List Crossing) (r : Reported) (a b : Option (List ℕ)) → Appends a b (ended (reported_text r)) → Fronts before crossings (Said r ∷ []) before crossings a b
 report_front before crossings r a b told =
     let none : shown_crossings (take (0 - before) crossings) ≡ [] = ap (λ n. shown_crossings (take n crossings)) (minus_zero before) in
     let here : Fronts before crossings (Said r ∷ []) (max before 0) (drop (0 - before) crossings) a b =
@@ -140,7 +140,7 @@ crossings_again [] = refl
 crossings_again (c ∷ cs) = ap (λ xs. c ∷ xs) (crossings_again cs)
 
 -- news are no crossings
-abbrev pub AreNews : List Shown → Type 0
+abbrev AreNews : List Shown → Type 0
 AreNews [] = Unit {0}
 AreNews (Crossed c ∷ xs) = ⊥
 AreNews (Noticed t ∷ xs) = AreNews xs

@@ -1,5 +1,5 @@
 -- A settled carrier leaves a world no choice.
-use Rattle.std.proofs.Common.{◌≡◌, ◌||◌, inl, inr, ℕ, zero, suc, Bool, true, false, List, [], ◌∷◌, length, nat_lt, Option, Some, None, Result, Ok, Err, refl, sym, ap, subst, ◌∙◌}
+use Rattle.std.proofs.Common.{◌≡◌, ◌||◌, inl, inr, ℕ, zero, suc, Bool, true, false, List, ◌∷◌, length, nat_lt, Option, Some, None, Result, Ok, Err, refl, sym, ap, subst, ◌∙◌}
 use Rattle.std.proofs.lemmas.Bool.{false≢true}
 use Rattle.std.specs.Bool.{MatchBool}
 use Rattle.leader1822.specs.Calls.{crossing_of, step_crossings, is_memory, is_halt}
@@ -87,7 +87,7 @@ module _ {C : Type 0} (k : Kept) (P : Result (Unit {0}) WorldFault → WorldStat
       let same : (a ≡ b) × (mid ≡ mid') = sp.once a b mid mid' p s p' on'.0 in
       (sn mid).first r q new other n halts (subst (λ (m : WorldState C). Next m q other) (sym same.1) on'.1) goes) h
 
-  pub steady_then : Steady k (Then P Next)
+  steady_then : Steady k (Then P Next)
   steady_then = record {
     once = λ r q new other h hg l lg. then_once r q new other h hg l lg;
     grows = λ r new h. then_grows r new h;
@@ -153,9 +153,6 @@ halts_stop c old r new h goes = no_stop r (ap stops h.answer ∙ memory_stops h.
 -- ---- one event
 
 module _ {C : Type 0} (calls : Calls C) (settled : AreSettled (carried calls)) where
-  does_kept : (done : WorldState C) (r : Result (Unit {0}) WorldFault) (new : WorldState C) → Does done r new → stops r ≡ true → ⊥
-  does_kept done r new h halts = no_stop r halts (ap stops h.0)
-
   -- an offer
   abbrev offered_to : Host → NcpState → HostMessage → WorldState C → Unit {0} → C → WorldState C
   offered_to h s m old done c = moved c h (crossing.Out m) (offered s (length old.kept.book.crossings)) old

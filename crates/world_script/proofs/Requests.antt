@@ -20,7 +20,7 @@ use Rattle.world_script.specs.declared.verb.Verb.TheVariants as verb
 number_unmarked : (n limit : ℕ) → limit < 2 ^ 32 → n ≤ limit → Lacks 32 (decimal n)
 number_unmarked n limit few small = All-unmarked_decimal 32 n (lit< tt) (omega arith)
 
-pub wide_unmarked : (n : ℕ) → n < 2 ^ 32 → Lacks 32 (decimal n)
+wide_unmarked : (n : ℕ) → n < 2 ^ 32 → Lacks 32 (decimal n)
 wide_unmarked n small = All-unmarked_decimal 32 n (lit< tt) (omega arith)
 
 -- words without a space don't begin with a host and a space
@@ -119,7 +119,7 @@ verb_again verb.Interrupt z = refl
 verb_again verb.Close z = refl
 
 -- words that are the arguments of no operand of a verb are those of no request of that verb
-pub no_request : (v : Verb) (words : List ℕ) → ((z : OperandOf v) → IsRequest (request_of v z) → words ≢ arguments (request_of v z)) → (r : Request) → IsRequest r → verb_of r ≡ v → words ≢ arguments r
+no_request : (v : Verb) (words : List ℕ) → ((z : OperandOf v) → IsRequest (request_of v z) → words ≢ arguments (request_of v z)) → (r : Request) → IsRequest r → verb_of r ≡ v → words ≢ arguments r
 no_request v words none r meant same e =
     let F : Verb → Type 0 = λ w. (z : OperandOf w) → IsRequest (request_of w z) → words ≢ arguments (request_of w z) in
     let there : F (verb_of r) = subst F (sym same) none in

@@ -181,7 +181,7 @@ run_under : (hosts : List Host) (xs ys : List Event) → IsRun hosts (xs ++ ys) 
 run_under hosts [] ys r = r
 run_under hosts (x ∷ xs) ys r = run_under hosts xs ys r.2
 
-pub run_before : (hosts : List Host) (contacts : List Called) (newer older : List Crossing) → IsRun hosts (events_in contacts (newer ++ older)) → IsRun hosts (events_in contacts older)
+run_before : (hosts : List Host) (contacts : List Called) (newer older : List Crossing) → IsRun hosts (events_in contacts (newer ++ older)) → IsRun hosts (events_in contacts older)
 run_before hosts contacts [] older r = r
 run_before hosts contacts (c ∷ newer) older r = run_before hosts contacts newer older (run_under hosts (called_at (length (c ∷ newer ++ older)) contacts) (event_of c ∷ events_in contacts (newer ++ older)) r).2
 

@@ -177,7 +177,7 @@ have_addresses (g ∷ hosts) all h is =
 pub opening_held : {C : Type 0} (own : Calls C) (c : C) → (own.seen c).log ≡ [] → InOrder (own.seen c).hosts → All (λ (h : Host). IsAddress h) (own.seen c).hosts → IsHeld own.seen (opening_world (shown own) c)
 opening_held own c none order addresses = record { ordered = order; lawful = opening_lawful own c none (have_addresses (own.seen c).hosts addresses) }
 
-pub step_held : {C : Type 0} (own : Calls C) (e : Event) (old : WorldState C) (r : Result (Unit {0}) WorldFault) (new : WorldState C) → IsHeld own.seen old → IsNamed e → StepGives (shown own) old e r new
+step_held : {C : Type 0} (own : Calls C) (e : Event) (old : WorldState C) (r : Result (Unit {0}) WorldFault) (new : WorldState C) → IsHeld own.seen old → IsNamed e → StepGives (shown own) old e r new
     → IsRun (own.seen new.carrier).hosts (own.seen new.carrier).log → IsHeld own.seen new
 step_held own e old r new held named gives run =
     let hosts : List Host = (own.seen old.carrier).hosts in
@@ -192,7 +192,7 @@ step_held own e old r new held named gives run =
 still_running : {C : Type 0} (w : WorldState C) → w.stopped ≡ false → running w.carrier w.seats w.services w.kept ≡ w
 still_running {C} w e = let with : Bool → WorldState C = λ b. record { carrier = w.carrier; seats = w.seats; services = w.services; kept = w.kept; stopped = b } in ap with (sym e)
 
-pub event_steps : {C : Type 0} (calls : Calls C) (e : Event) (old : WorldState C) (r : Result (Unit {0}) WorldFault) (new : WorldState C) → old.stopped ≡ false
+event_steps : {C : Type 0} (calls : Calls C) (e : Event) (old : WorldState C) (r : Result (Unit {0}) WorldFault) (new : WorldState C) → old.stopped ≡ false
     → EventGives calls (running old.carrier old.seats old.services old.kept) e r new → StepGives calls old e r new
 event_steps {C} calls e old r new run gives =
     let mine : EventGives calls old e r new = subst (λ (w : WorldState C). EventGives calls w e r new) (still_running old run) gives in

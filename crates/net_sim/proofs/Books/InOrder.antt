@@ -38,7 +38,7 @@ crossed_behind : (cs : List Crossing) (c : Crossing) (k : Kept) → all_crossed 
 crossed_behind [] c k = refl
 crossed_behind (d ∷ cs) c k = ap (λ (x : Kept). crossed d x) (crossed_behind cs c k)
 
-pub crossed_reversed : (c : Crossing) (cs : List Crossing) (k : Kept) → all_crossed (reverse cs) (crossed c k) ≡ all_crossed (reverse (c ∷ cs)) k
+crossed_reversed : (c : Crossing) (cs : List Crossing) (k : Kept) → all_crossed (reverse cs) (crossed c k) ≡ all_crossed (reverse (c ∷ cs)) k
 crossed_reversed c cs k = sym (crossed_behind (reverse cs) c k) ∙ ap (λ (ds : List Crossing). all_crossed ds k) (sym (reverse-append (c ∷ []) cs))
 
 same_kept : (xs ys : List Crossing) (ns ms : List Told) (us vs : List Called) (ps qs : List Reported) (l : LivesState) → xs ≡ ys → ns ≡ ms → us ≡ vs → ps ≡ qs
@@ -51,7 +51,7 @@ abbrev pub plain : List Crossing → List Told → Kept → Kept
 plain cs ts k = written cs None [] ts None [] [] k
 
 -- what users were told, one after another
-pub written_told : (h : Host) (ns : List Notice) (k : Kept) → plain [] (map (told_at h (length k.book.crossings)) ns) k ≡ all_told h ns k
+written_told : (h : Host) (ns : List Notice) (k : Kept) → plain [] (map (told_at h (length k.book.crossings)) ns) k ≡ all_told h ns k
 written_told h [] k =
     same_kept k.book.crossings k.book.crossings (k.book.notices ++ []) k.book.notices (k.book.contacts ++ []) k.book.contacts (k.book.reports ++ []) k.book.reports (of_kept k) refl (append-nil k.book.notices)
     (append-nil k.book.contacts) (append-nil k.book.reports)
@@ -63,7 +63,7 @@ written_told h (n ∷ ns) k =
     ∙ written_told h ns (told h n k)
 
 -- after what crossed
-pub written_crossed : (cs : List Crossing) (ts : List Told) (k : Kept) → plain cs ts k ≡ plain [] ts (all_crossed (reverse cs) k)
+written_crossed : (cs : List Crossing) (ts : List Told) (k : Kept) → plain cs ts k ≡ plain [] ts (all_crossed (reverse cs) k)
 written_crossed [] ts k = refl
 written_crossed (c ∷ cs) ts k =
     same_kept (reverse (c ∷ cs) ++ k.book.crossings) (reverse cs ++ c ∷ k.book.crossings) (k.book.notices ++ ts) (k.book.notices ++ ts) (k.book.contacts ++ []) (k.book.contacts ++ []) (k.book.reports ++ []) (k.book.reports ++ [])
@@ -76,7 +76,7 @@ crossings_after [] k = refl
 crossings_after (c ∷ cs) k = ap (λ (xs : List Crossing). c ∷ xs) (crossings_after cs k)
 
 -- the places are the number of crossings after these
-pub written_before : (h : Host) (place : ℕ) (cs : List Crossing) (ns : List Notice) (k : Kept) → place ≡ length k.book.crossings + length cs
+written_before : (h : Host) (place : ℕ) (cs : List Crossing) (ns : List Notice) (k : Kept) → place ≡ length k.book.crossings + length cs
     → plain cs (map (told_at h place) ns) k ≡ all_told h ns (all_crossed (reverse cs) k)
 written_before h place cs ns k is =
     let after : Kept = all_crossed (reverse cs) k in
@@ -86,7 +86,7 @@ written_before h place cs ns k is =
 -- ---- what services asked for, and reported
 
 -- their contacts stand at one place
-pub written_ran : (h : Host) (rs : List Request) (reports : List Reported) (k : Kept)
+written_ran : (h : Host) (rs : List Request) (reports : List Reported) (k : Kept)
     → ◌≡◌ {A = Kept} (record {
       book = record {
         crossings = k.book.crossings;

@@ -67,7 +67,7 @@ whole test change spares (x ∷ xs) = at_first (whole test change spares xs) x.e
 
 -- ---- where the open lives are
 
-abbrev pub AreBelow : ℕ → List ℕ → Type 0
+abbrev AreBelow : ℕ → List ℕ → Type 0
 AreBelow n [] = Unit {0}
 AreBelow n (at ∷ ats) = (at < n) × AreBelow n ats
 

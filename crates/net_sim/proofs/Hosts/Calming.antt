@@ -30,13 +30,13 @@ pub record Standing : Type 0 where
 abbrev pub standing : Seat → Standing
 standing s = record { host = s.host; up = is_some s.program }
 
-abbrev pub one_standing : Host → Bool → Standing
+abbrev one_standing : Host → Bool → Standing
 one_standing h b = record { host = h; up = b }
 
 abbrev pub standings : List Seat → List Standing
 standings seats = map standing seats
 
-abbrev pub names_of : List Standing → List Host
+abbrev names_of : List Standing → List Host
 names_of xs = map (λ x. x.host) xs
 
 abbrev pub ups_of : List Standing → List Host
@@ -50,11 +50,11 @@ up_by : (s : Seat) (seats : List Seat) (b : Bool) → is_some s.program ≡ b �
 up_by s seats true e rest = rw e (ap (λ (hs : List Host). s.host ∷ hs) rest)
 up_by s seats false e rest = rw e rest
 
-pub ups_same : (seats : List Seat) → up_in seats ≡ ups_of (standings seats)
+ups_same : (seats : List Seat) → up_in seats ≡ ups_of (standings seats)
 ups_same [] = refl
 ups_same (s ∷ seats) = up_by s seats (is_some s.program) refl (ups_same seats)
 
-pub once_still : (old new : List Seat) → standings new ≡ standings old → IsOnce (hosts_of old) → IsOnce (hosts_of new)
+once_still : (old new : List Seat) → standings new ≡ standings old → IsOnce (hosts_of old) → IsOnce (hosts_of new)
 once_still old new same once = subst IsOnce (names_same old ∙ ap names_of (sym same) ∙ sym (names_same new)) once
 
 -- a host that is up gets another program
@@ -69,7 +69,7 @@ same_by h s p x seat seats once is true e found rest =
     rw (e, others) (ap (λ (b : Bool). one_standing x.host b ∷ standings seats) (sym up))
 same_by h s p x seat seats once is false e found rest = rw e (ap (λ (xs : List Standing). standing x ∷ xs) (rest found))
 
-pub seated_same : (h : Host) (s p : NcpState) (seat : Seat) (seats : List Seat) → IsOnce (hosts_of seats) → seat_of h seats ≡ Some seat → seat.program ≡ Some s
+seated_same : (h : Host) (s p : NcpState) (seat : Seat) (seats : List Seat) → IsOnce (hosts_of seats) → seat_of h seats ≡ Some seat → seat.program ≡ Some s
     → standings (seated h (Some p) seats) ≡ standings seats
 seated_same h s p seat [] once found is = refl
 seated_same h s p seat (x ∷ seats) once found is =
@@ -232,7 +232,7 @@ module _ {C : Type 0} (calls : Calls C) where
 
   -- ---- a host's turn
 
-  pub turn_same : (h : Host) (old : WorldState C) (r : Answer) (new : WorldState C) → stops r ≡ false → IsOnce (hosts_of old.seats) → Turn calls h old r new → standings new.seats ≡ standings old.seats
+  turn_same : (h : Host) (old : WorldState C) (r : Answer) (new : WorldState C) → stops r ≡ false → IsOnce (hosts_of old.seats) → Turn calls h old r new → standings new.seats ≡ standings old.seats
   turn_same h old r new on once t =
       again_by (Repeats calls (Offer h) 32 t.1 r new) (standings new.seats ≡ standings old.seats) t.0 t.1 r new on
       (λ is g. (let first : standings t.1.seats ≡ standings old.seats = repeats_same (Take h) 16 old t.0 t.1 (Takes h) is once t.2 in

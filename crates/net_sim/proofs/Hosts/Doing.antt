@@ -19,7 +19,7 @@ done_of h t s d before k1 p asked reports e program a r kept = record {
 }
 
 -- the same at the places of a host's seat and its services
-pub all_done : (h : Host) (place : ℕ) (s : NcpState) (x after : ServicesState) (t : ServicesState × DeskState) (seats seats1 : List Seat) (all all1 : List HostServices) (before k1 : Kept) (p : NcpState)
+all_done : (h : Host) (place : ℕ) (s : NcpState) (x after : ServicesState) (t : ServicesState × DeskState) (seats seats1 : List Seat) (all all1 : List HostServices) (before k1 : Kept) (p : NcpState)
     → Sits h place s seats → Serves h place x all → IsDone h t before p after k1 → seats1 ≡ slice_set seats place (record { host = h; program = Some p }) → all1 ≡ slice_set all place (record { host = h; services = after })
     → AreDone h t seats all before seats1 all1 k1
 all_done h place s x after t seats seats1 all all1 before k1 p sits serves d e f = record {

@@ -1,5 +1,5 @@
 -- Where a host sits.
-use Rattle.std.proofs.Common.{◌≡◌, ℕ, ◌<◌, Bool, true, false, ◌||◌, not, is_some, cond, List, [], ◌∷◌, length, Option, Some, None, Result, Err, find, slice_index_or, refl, ap, sym, subst, ◌∙◌}
+use Rattle.std.proofs.Common.{◌≡◌, ℕ, ◌<◌, Bool, true, false, ◌||◌, not, is_some, cond, List, ◌∷◌, length, Option, Some, None, Result, find, slice_index_or, refl, ap, sym, subst, ◌∙◌}
 use Rattle.std.specs.List.{position}
 use Rattle.std.proofs.lemmas.List.{get_or_default}
 use Rattle.leader1822.specs.Host.{Host, same_host, is_host}
@@ -7,9 +7,8 @@ use Rattle.host_pairs.proofs.lemmas.{one_changed, one_found}
 use Rattle.sockets.proofs.lemmas.{same_host-true}
 use Rattle.host_pairs.specs.Entries.{changed_first}
 use Rattle.sockets.specs.Pairs.{NcpState}
-use Rattle.net_sim.specs.Inside.Parts.{IsOnce, Sits, IsAway, NoSeat, NoProgram, hosts_of}
-use Rattle.sockets.specs.declared.fault.NcpFault.{NcpFault}
-use Rattle.net_sim.specs.World.{WorldState, WorldFault, Program, Seat, seat_of, seated, AtSeat, AtProgram}
+use Rattle.net_sim.specs.Inside.Parts.{IsOnce, Sits, hosts_of}
+use Rattle.net_sim.specs.World.{WorldState, WorldFault, Seat, seat_of, seated, AtSeat}
 
 -- what is found passes
 found_by : (test : Seat → Bool) (x y : Seat) (rest : Option Seat) (b : Bool) → test x ≡ b → (rest ≡ Some y → test y ≡ true) → cond b (Some x) rest ≡ Some y → test y ≡ true
@@ -66,18 +65,7 @@ pub no_program : (o : Option NcpState) → not (is_some o) ≡ true → o ≡ No
 no_program None h = refl
 no_program (Some s) h = absurd (cc)
 
-pub same_fault : (f g : NcpFault) → ◌≡◌ {A = Result (Unit {0}) NcpFault} (Err f) (Err g) → ◌≡◌ {A = Result (Unit {0}) WorldFault} (Err (Program f)) (Err (Program g))
-same_fault f g e = let same : f ≡ g = cc in ap (λ (x : NcpFault). Err (Program x)) same
-
 -- ---- an event at a host
-
-pub away_gives : {C : Type 0} (Gives : NcpState → Type 0) (h : Host) (f : WorldFault) (old : WorldState C) (r : Result (Unit {0}) WorldFault) (new : WorldState C) → IsAway h f old.seats → r ≡ Err f → new ≡ old
-    → AtSeat Gives (seat_of h old.seats) old r new
-away_gives {C} Gives h f old r new (NoSeat is none) e same =
-    subst (λ (o : Option Seat). AtSeat Gives o old r new) (sym none) (e ∙ ap (λ (x : WorldFault). Err x) is, same)
-away_gives {C} Gives h f old r new (NoProgram seat is found none) e same =
-    let down : AtProgram Gives seat.program old r new = subst (λ (o : Option NcpState). AtProgram Gives o old r new) (sym none) (e ∙ ap (λ (x : WorldFault). Err x) is, same) in
-    subst (λ (o : Option Seat). AtSeat Gives o old r new) (sym found) down
 
 pub sits_gives : {C : Type 0} (Gives : NcpState → Type 0) (h : Host) (place : ℕ) (s : NcpState) (old : WorldState C) (r : Result (Unit {0}) WorldFault) (new : WorldState C) → Sits h place s old.seats → Gives s
     → AtSeat Gives (seat_of h old.seats) old r new

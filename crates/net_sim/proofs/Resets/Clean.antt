@@ -97,7 +97,7 @@ module _ {C : Type 0} (seen : C → Seen) (hosts : List Host) (w : WorldState C)
   book_run = subst (λ (es : List reset.Event). IsRun hosts es) (sym book_events) (run_told hosts lawful.whole.moments book_coupled.run)
 
   -- each host's program is where the book has it
-  pub book_agrees : (a b : Host) → Agrees (pair_with b (program a lawful.whole.moments).peers) (pair a b (events_in contacts log))
+  book_agrees : (a b : Host) → Agrees (pair_with b (program a lawful.whole.moments).peers) (pair a b (events_in contacts log))
   book_agrees a b =
       let same : pair a b (events_in contacts log) ≡ pair a b (events_of lawful.whole.moments) = ap (λ (es : List reset.Event). pair a b es) book_events ∙ pair_told a b lawful.whole.moments in
       subst (λ (p : Pair). Agrees (pair_with b (program a lawful.whole.moments).peers) p) (sym same) (story_agrees lawful.whole.moments a b book_coupled.story)

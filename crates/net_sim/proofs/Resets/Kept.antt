@@ -24,7 +24,7 @@ use Rattle.net_sim.specs.Projection.{has_asked, has_control, misquotes, names_co
 
 -- ---- commands that wait
 
-pub plain_append : (xs ys : List Command) → ArePlain xs → ArePlain ys → ArePlain (xs ++ ys)
+plain_append : (xs ys : List Command) → ArePlain xs → ArePlain ys → ArePlain (xs ++ ys)
 plain_append [] ys h k = k
 plain_append (x ∷ xs) ys h k = (h.0, plain_append xs ys h.1 k)
 
@@ -46,7 +46,7 @@ ten octets =
     let zeros : List ℕ = replicate 10 0 in
     length-take-le 10 (octets ++ zeros) (omega (arith, length-append octets zeros))
 
-pub plain_error : (code : ℕ) (octets : List ℕ) → IsQueued (error code octets)
+plain_error : (code : ℕ) (octets : List ℕ) → IsQueued (error code octets)
 plain_error code octets = let quoted : misquotes (error code octets) ≡ false = ap not (eq-eqb (length (detail_of octets)) 10 (ten octets)) in (refl, refl, refl, quoted)
 
 -- ---- ends with some property
@@ -150,7 +150,7 @@ kept_if : (b : Bool) (d e f : DeskState) → Kept d e → Kept d f → Kept d (i
 kept_if true d e f j k = j
 kept_if false d e f j k = k
 
-pub kept_queued : (c : Command) (d : DeskState) → IsQueued c → Kept d (queued c d)
+kept_queued : (c : Command) (d : DeskState) → IsQueued c → Kept d (queued c d)
 kept_queued c d q = record { asked = λ h. h; plain = plain_one c d.queue q; linked = λ h. h }
 
 pub kept_error : (code : ℕ) (octets : List ℕ) (d : DeskState) → Kept d (queued (error code octets) d)

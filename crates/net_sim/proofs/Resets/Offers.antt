@@ -45,7 +45,7 @@ none_is : {A : Type 0} (o : Option A) → is_some o ≡ false → o ≡ None
 none_is None e = refl
 none_is (Some x) e = absurd (cc)
 
-pub free_of : (q : PairState) (p : Pair) → Agrees q p → (k : ℕ) → is_busy q.busy k ≡ false → p.out k ≡ None
+free_of : (q : PairState) (p : Pair) → Agrees q p → (k : ℕ) → is_busy q.busy k ≡ false → p.out k ≡ None
 free_of q p a k idle = none_is (p.out k) (a.busy k ∙ idle)
 
 all_free : (q : PairState) (p : Pair) → Agrees q p → q.busy ≡ [] → IsFree p.out
@@ -68,7 +68,7 @@ busier q p a l x k = busy_by (k == l) (l == k) x (p.out k) (same_number k l (k =
 
 -- ---- what it says
 
-pub says_reset : (q : PairState) → message_on 0 (text_for q parcel.Reset) ≡ Reset
+says_reset : (q : PairState) → message_on 0 (text_for q parcel.Reset) ≡ Reset
 unfolding orders_of octets_of read_of command_of
 says_reset q = refl
 

@@ -32,7 +32,7 @@ order_by : (h : Host) (q : PairState) (ps : List Peer) → IsAddress h → AreIn
 order_by h q ps a s true e = rw e (order_removed h ps (without_peer h ps) s refl)
 order_by h q ps a s false e = rw e (order_placed (record { host = h; pair = q }) ps (placed (record { host = h; pair = q }) ps) a s refl)
 
-pub order_with : (h : Host) (q : PairState) (ps : List Peer) → IsAddress h → AreInOrder ps → AreInOrder (with_pair h q ps)
+order_with : (h : Host) (q : PairState) (ps : List Peer) → IsAddress h → AreInOrder ps → AreInOrder (with_pair h q ps)
 order_with h q ps a s = order_by h q ps a s (is_opening q) refl
 
 -- the pair of a host that isn't among the peers has nothing outstanding

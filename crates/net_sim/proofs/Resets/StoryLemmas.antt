@@ -1,5 +1,5 @@
 -- After every story each program is, for each peer, where the law of resets has it.
-use Rattle.std.proofs.Common.{◌≡◌, ℕ, Bool, true, false, if◌then◌else◌, List, [], ◌∷◌, Option, Some, None, is_some, refl, sym, subst, ◌∙◌}
+use Rattle.std.proofs.Common.{◌≡◌, ℕ, Bool, true, false, if◌then◌else◌, List, ◌∷◌, Option, Some, None, is_some, refl, sym, subst, ◌∙◌}
 use Rattle.leader1822.specs.Host.{Host, same_host}
 use Rattle.leader1822.specs.declared.address.Flow.{Flow}
 use Rattle.leader1822.specs.declared.crossing.Answer.{Answer}
@@ -128,9 +128,6 @@ in_stands a b m moments apart k true e =
     let now : Agrees (pair_with b (if true then (accepted (program a moments) (inbound.Message m) (places moments)).0 else program a moments).peers) (moved (part_of a b (event_of (crossing.In m))) (pair a b (events_of moments))) = step in
     subst (λ (x : Bool). Agrees (pair_with b (if x then (accepted (program a moments) (inbound.Message m) (places moments)).0 else program a moments).peers) (moved (part_of a b (event_of (crossing.In m))) (pair a b (events_of moments)))) (sym e) now
 in_stands a b m moments apart k false e = rw e k
-
-pub opening_stands : (a b : Host) → Before a b []
-opening_stands a b = opening_agrees a b
 
 out_of : (a b : Host) (m : HostMessage) (moments : List Moment) → IsNext (program a moments) m → Before a b moments
     → Agrees (pair_with b (offered (program a moments) (places moments)).0.peers) (moved (part_of a b (event_of (crossing.Out m))) (pair a b (events_of moments)))

@@ -80,7 +80,7 @@ pub linked_by : (b c : Bool) → (b ≡ true → c ≡ true) → c ≡ false →
 linked_by true c k none = absurd (let both : true ≡ false = sym (k refl) ∙ none in cc)
 linked_by false c k none = refl
 
-pub agrees_desk : (t : TurnState) (p : Pair) (d : DeskState) → Agrees t.pair p → Kept (desk_of t.pair t.listening) d → Agrees (with_desk t d).pair p
+agrees_desk : (t : TurnState) (p : Pair) (d : DeskState) → Agrees t.pair p → Kept (desk_of t.pair t.listening) d → Agrees (with_desk t d).pair p
 agrees_desk t p d a k = record { phase = a.phase; owed = a.owed; busy = a.busy; ready = λ h. a.ready (k.asked h); begun = λ h. a.begun (k.asked h); plain = k.plain a.plain; linked = linked_by (has_control d.entries) (has_control t.pair.entries) k.linked a.linked }
 
 ready_by : (work : DeskState → DeskState) (t : TurnState) (p : Pair) → ((d : DeskState) → Kept d (work d)) → Agrees t.pair p → (b : Bool) → program.is_ready t.pair.phase ≡ b → Agrees (if_ready work t).pair p

@@ -1,14 +1,12 @@
 -- A call that is refused changes nothing, where the IMP's turn would change nothing.
 use Rattle.std.specs.Prelude.{if◌then◌else◌}
 use Rattle.std.proofs.Common.{◌≡◌, ℕ, ◌≤◌, Bool, true, false, List, set, length, nat_lt, Option, Some, None, Result, Ok, Err, OnOk, refl, ap, sym, subst, ◌∙◌, arith}
-use Rattle.std.proofs.lemmas.List.{set-get_or, get_or_past}
+use Rattle.std.proofs.lemmas.List.{set-get_or}
 use Rattle.std.proofs.lemmas.Bool.Decides.{nat_tests}
 use Rattle.leader1822.specs.Calls.{is_memory}
 use Rattle.leader1822.specs.declared.carrier.CarrierFault.{CarrierFault}
 use Rattle.leader1822.specs.declared.carrier.CarrierFault.TheVariants as fault
-use Rattle.imp_channel.specs.declared.frame.Frame.{Frame}
-use Rattle.imp_node.specs.State.{State, Turn, port_at, down_port}
-use Rattle.imp_node.specs.Arrival.{from_line, ignored}
+use Rattle.imp_node.specs.State.{State, Turn}
 use Rattle.subnet.specs.Net.{Net, imp_at, with_turn}
 use Rattle.subnet.specs.Events.{at_up, at_imp}
 use Rattle.subnet.specs.Calls.{grows_at}
@@ -57,9 +55,3 @@ route_ignores s e refused = cc
 past_end : (b : Bool) (s : State) (k : ℕ) (e : CarrierFault) → nat_lt k (length s.ports) ≡ b → (if b then None else Some fault.NoSuch) ≡ Some e → length s.ports ≤ k
 past_end true s k e test refused = cc
 past_end false s k e test refused = grind (arith, nat_tests)
-
-turned_off : (s : State) (k : ℕ) (f : Frame) → port_at s.ports k ≡ down_port → from_line s k f ≡ ignored s
-turned_off s k f down = rw down refl
-
-pub arrive_ignores : (k : ℕ) (f : Frame) → Ignores (call.Arrive k f)
-arrive_ignores k f s e refused = turned_off s k f (get_or_past s.ports k down_port (past_end (nat_lt k (length s.ports)) s k e refl refused))

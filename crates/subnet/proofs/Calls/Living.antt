@@ -34,7 +34,7 @@ live_new : (i : ℕ) (o x : Option State) (call : State → Turn) → ((s : Stat
 live_new i o x call own live is unspent =
     subst (λ (y : Option State). IsLive i y) (sym is) (live_by i o call own live (subst (λ (y : Option State). IfSome y (λ s. s.spent ≡ false)) is unspent))
 
-pub live_set : (imps : List (Option State)) (i : ℕ) (x : Option State) (call : State → Turn) → ((s : State) → number (call s).state ≡ number s) → AreLive imps → x ≡ imp_by (imp_at imps i) call → IfSome x (λ s. s.spent ≡ false) → AreLive (set imps i x)
+live_set : (imps : List (Option State)) (i : ℕ) (x : Option State) (call : State → Turn) → ((s : State) → number (call s).state ≡ number s) → AreLive imps → x ≡ imp_by (imp_at imps i) call → IfSome x (λ s. s.spent ≡ false) → AreLive (set imps i x)
 live_set imps i x call own live is unspent = λ h. all_set IsLive imps i h x None (live h) (live_new i (imp_at imps i) x call own (live i) is unspent)
 
 pub live_call : {T : Type 0} (r : Result T CarrierFault) (imps : List (Option State)) (i : ℕ) (x : Option State) (c : ImpCall) (refusal : Option CarrierFault) (grows : Bool) (Q : T → Type 0) → AreLive imps → Ends refusal grows (λ (y : T). (x ≡ imp_by (imp_at imps i) (call_turn c)) × Q y) (imp_at imps i) x r → OnOk r (IfSome x (λ s. s.spent ≡ false)) → OnOk r (AreLive (set imps i x))
@@ -42,7 +42,7 @@ live_call (Ok y) imps i x c refusal grows Q live is unspent = live_set imps i x 
 live_call (Err e) imps i x c refusal grows Q live is unspent = tt
 
 -- a taking
-pub live_taking : {T : Type 0} (r : Result T CarrierFault) (imps : List (Option State)) (i h : ℕ) (x : Option State) (refusal : Option CarrierFault) (grows : Bool) (P Q : T → Type 0) → AreLive imps → Ends refusal grows (λ (y : T). P y × (x ≡ imp_by (imp_at imps i) (λ s. to_host s h)) × Q y) (imp_at imps i) x r → OnOk r (IfSome x (λ s. s.spent ≡ false)) → OnOk r (AreLive (set imps i x))
+live_taking : {T : Type 0} (r : Result T CarrierFault) (imps : List (Option State)) (i h : ℕ) (x : Option State) (refusal : Option CarrierFault) (grows : Bool) (P Q : T → Type 0) → AreLive imps → Ends refusal grows (λ (y : T). P y × (x ≡ imp_by (imp_at imps i) (λ s. to_host s h)) × Q y) (imp_at imps i) x r → OnOk r (IfSome x (λ s. s.spent ≡ false)) → OnOk r (AreLive (set imps i x))
 live_taking (Ok y) imps i h x refusal grows P Q live is unspent = live_set imps i x (λ s. to_host s h) (λ s. to_host_own s h) live is.1.1 unspent
 live_taking (Err e) imps i h x refusal grows P Q live is unspent = tt
 

@@ -1,6 +1,6 @@
 -- When a quiet round may want memory.
 use Rattle.std.specs.Prelude.{if◌then◌else◌}
-use Rattle.std.proofs.Common.{◌≡◌, ℕ, zero, suc, ◌+◌, Bool, false, true, List, [], ◌∷◌, ◌++◌, length, nat_lt, take, drop, get_or, set, slice_get, Option, Some, None, ◌||◌, ◌&&◌, refl, ap, sym, subst, ◌∙◌, arith}
+use Rattle.std.proofs.Common.{◌≡◌, ℕ, zero, suc, ◌+◌, Bool, false, true, List, ◌∷◌, ◌++◌, length, nat_lt, take, drop, get_or, set, slice_get, Option, Some, None, ◌||◌, ◌&&◌, refl, ap, sym, subst, ◌∙◌, arith}
 use Rattle.std.specs.List.{list_any}
 use Rattle.std.proofs.lemmas.Bool.Decides.{nat_tests}
 use Rattle.std.proofs.lemmas.Bool.{or_from}
@@ -316,10 +316,6 @@ none_brought imps (w ∷ lines) down =
 
 pub round_wants_none : (n : Net) → ((i : ℕ) → imp_at n.imps i ≡ None) → round_grows n ≡ false
 round_wants_none n down = or_from _ _ (none_up n.imps (λ (imp : Option State). grows_at imp route_grows) refl down) (none_brought n.imps n.lines down)
-
--- an end that is up
-some_told : (distances : List ℕ) (k at : ℕ) (ports : List Port) → (port_at ports k).up ≡ true → told_from distances at ports ≡ [] → false ≡ true
-some_told distances k at ports up none = sym (none_at (λ (port : Port). port.up) ports k down_port refl (ends_down distances at ports none)) ∙ up
 
 told_wants : (o : Option State) (s : State) (k : ℕ) → o ≡ Some s → (port_at s.ports k).up ≡ true → grows_at o route_grows ≡ false → false ≡ true
 told_wants None s k there up none = cc

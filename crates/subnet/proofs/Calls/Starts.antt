@@ -1,5 +1,5 @@
 -- An IMP starts.
-use Rattle.std.proofs.Common.{◌≡◌, ℕ, ◌+◌, ◌-◌, ◌<◌, ◌≤◌, zero, suc, ◌==◌, ◌&&◌, not, Bool, true, false, List, [], ◌∷◌, ◌++◌, length, replicate, get_or, set, count_by, Option, Some, None, is_some, refl, ap, sym, subst, ◌∙◌, arith, All, append-nil, eqb-true, eq-eqb, inl, inr}
+use Rattle.std.proofs.Common.{◌≡◌, ℕ, ◌+◌, ◌-◌, ◌<◌, ◌≤◌, zero, suc, ◌==◌, ◌&&◌, not, Bool, true, false, List, ◌∷◌, ◌++◌, length, replicate, get_or, set, count_by, Option, Some, None, is_some, refl, ap, sym, subst, ◌∙◌, arith, All, eqb-true, eq-eqb, inl, inr}
 use Rattle.std.proofs.lemmas.Bool.{cases_Bool}
 use Rattle.std.specs.Prelude.{IfSome}
 use Rattle.std.proofs.lemmas.List.Elements.{All-head, All-tail}
@@ -44,11 +44,6 @@ pub opened : (own ports hosts : ℕ) → opening own hosts ports ≡ down_to own
 opened own ports hosts =
     let all : hosts - 0 ≡ hosts = omega arith in
     ap (λ (n : ℕ). record (opening own 0 ports) { hosts = replicate n up_host }) (sym all)
-
-pub all_down : (own ports hosts : ℕ) → down_to own ports hosts (hosts - hosts) ≡ started_imp own hosts ports
-all_down own ports hosts =
-    let none : hosts - hosts ≡ 0 = omega arith in
-    ap (λ (n : ℕ). down_to own ports hosts n) none ∙ ap (λ (states : List HostState). record (opening own 0 ports) { hosts = states }) (append-nil (replicate hosts no_host))
 
 -- ---- sites
 

@@ -353,17 +353,17 @@ went_on refusal old goes none = ap (λ (s : Bool). first_of s fault.Stopped (ref
 abbrev pub kept_by : {T : Type 0} → Net → Result T CarrierFault → Kept
 kept_by n r = record { net = n; stopped = runs_out r }
 
-pub offer_done : (old : Kept) (m : HostMessage) (n : Net) (r : Result (Unit {0}) CarrierFault) → old.stopped ≡ false → ends.Ends (offer_refusal old.net m) true (λ done. n ≡ offer_out old.net m) old.net n r → OnErr r (SameLog old.net n)
+offer_done : (old : Kept) (m : HostMessage) (n : Net) (r : Result (Unit {0}) CarrierFault) → old.stopped ≡ false → ends.Ends (offer_refusal old.net m) true (λ done. n ≡ offer_out old.net m) old.net n r → OnErr r (SameLog old.net n)
     → SubnetOffer old m r (kept_by n r)
 offer_done old m n (Ok done) goes ends same = (went_on (λ k. offer_refusal k m) old goes ends.0, ap running ends.1)
 offer_done old m n (Err e) goes ends same = failed (λ k. offer_refusal k m) true e old n (is_memory e) refl goes ends same
 
-pub take_done : (old : Kept) (h : Host) (n : Net) (r : Result (Option Inbound) CarrierFault) → old.stopped ≡ false
+take_done : (old : Kept) (h : Host) (n : Net) (r : Result (Option Inbound) CarrierFault) → old.stopped ≡ false
     → ends.Ends (take_refusal old.net h) (take_grows old.net h) (λ given. (given ≡ taken old.net h) × (n ≡ take_in old.net h)) old.net n r → OnErr r (SameLog old.net n) → SubnetTake old h r (kept_by n r)
 take_done old h n (Ok given) goes ends same = (went_on (λ k. take_refusal k h) old goes ends.0, (ends.1.0, ap running ends.1.1))
 take_done old h n (Err e) goes ends same = failed (λ k. take_refusal k h) (take_grows old.net h) e old n (is_memory e) refl goes ends same
 
-pub step_done : (old : Kept) (e : NetEvent) (n : Net) (r : Result (Unit {0}) CarrierFault) → old.stopped ≡ false → ends.Steps e old.net n r → OnErr r (SameLog old.net n) → SubnetStep old e r (kept_by n r)
+step_done : (old : Kept) (e : NetEvent) (n : Net) (r : Result (Unit {0}) CarrierFault) → old.stopped ≡ false → ends.Steps e old.net n r → OnErr r (SameLog old.net n) → SubnetStep old e r (kept_by n r)
 step_done old e n (Ok done) goes ends same = (went_on (λ k. step_refusal k e) old goes ends.0, ap running ends.1)
 step_done old e n (Err f) goes ends same = failed (λ k. step_refusal k e) (step_grows old.net e) f old n (is_memory f) refl goes ends same
 

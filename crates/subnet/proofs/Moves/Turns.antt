@@ -63,7 +63,7 @@ alive_or_made n m made Made f x only all a =
     ]
 
 -- where what was made is of one flow, what is alive of another was alive before
-pub alive_beside : (n m : Net) (made : List PacketFields) (f g : Flow) (x : Packet) → OnlyNew n made m → All (λ p. flow_of p ≡ g) made → same_flow f g ≡ false → Alive m f x → Alive n f x
+alive_beside : (n m : Net) (made : List PacketFields) (f g : Flow) (x : Packet) → OnlyNew n made m → All (λ p. flow_of p ≡ g) made → same_flow f g ≡ false → Alive m f x → Alive n f x
 alive_beside n m made f g x only all other a =
     elim (Contains-append_cases (packets n) made a.fields (All-contains (Contains (packets n ++ made)) (packets m) a.fields only a.there)) [
       | inl there ↦ record { fields = a.fields; there = there; flow = a.flow; packet = a.packet }

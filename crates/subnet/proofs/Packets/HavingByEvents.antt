@@ -46,23 +46,23 @@ call_has : (P : PacketFields → Type 0) (o : Option State) (i : ℕ) (call : St
 call_has P None i call n h has each = h
 call_has P (Some s) i call n h has each = with_turn_has P i (call s) n h (each s has)
 
-pub quiet_call_has : (P : PacketFields → Type 0) (n : Net) (i : ℕ) (call : State → Turn) → NetHas P n → ((s : State) → Has P s → TurnHas P (call s)) → NetHas P (at_imp (imp_at n.imps i) i call n)
+quiet_call_has : (P : PacketFields → Type 0) (n : Net) (i : ℕ) (call : State → Turn) → NetHas P n → ((s : State) → Has P s → TurnHas P (call s)) → NetHas P (at_imp (imp_at n.imps i) i call n)
 quiet_call_has P n i call h each = call_has P (imp_at n.imps i) i call n h (imp_has P n.imps i h.imps) each
 
 -- ---- the events that make packets
 
-pub offer_has : (P : PacketFields → Type 0) (n : Net) (m : HostMessage) → NetHas P n → All P (offer_makes n m) → NetHas P (offer_out n m)
+offer_has : (P : PacketFields → Type 0) (n : Net) (m : HostMessage) → NetHas P n → All P (offer_makes n m) → NetHas P (offer_out n m)
 offer_has P n m h made =
     let i : ℕ = m.flow.source.imp in
     logged_has P (crossing.Out m ∷ []) (at_imp (imp_at n.imps i) i (λ s. from_host s m) n)
     (making_has P (imp_at n.imps i) i (λ s. from_host s m) (λ s. from_host_makes s m) n h (imp_has P n.imps i h.imps) made (λ s has cut. from_host_has P s m has cut))
 
-pub take_has : (P : PacketFields → Type 0) (n : Net) (h : Host) → NetHas P n → All P (take_makes n h) → NetHas P (take_in n h)
+take_has : (P : PacketFields → Type 0) (n : Net) (h : Host) → NetHas P n → All P (take_makes n h) → NetHas P (take_in n h)
 take_has P n h has made =
     logged_has P (crossings_of (taken n h)) (at_imp (imp_at n.imps h.imp) h.imp (λ s. to_host s h.host) n)
     (making_has P (imp_at n.imps h.imp) h.imp (λ s. to_host s h.host) (λ s. to_host_makes s h.host) n has (imp_has P n.imps h.imp has.imps) made (λ s here rfnm. to_host_has P s h.host here rfnm))
 
-pub stop_has : (P : PacketFields → Type 0) (n : Net) (h : Host) → NetHas P n → All P (stop_makes n h) → NetHas P (host_stopped n h)
+stop_has : (P : PacketFields → Type 0) (n : Net) (h : Host) → NetHas P n → All P (stop_makes n h) → NetHas P (host_stopped n h)
 stop_has P n h has made =
     logged_has P (crossing.Down h ∷ []) (at_imp (imp_at n.imps h.imp) h.imp (λ s. host_down s h.host) n)
     (making_has P (imp_at n.imps h.imp) h.imp (λ s. host_down s h.host) (λ s. host_down_makes s h.host) n has (imp_has P n.imps h.imp has.imps) made (λ s here dead. host_down_has P s h.host here dead))
@@ -83,14 +83,14 @@ delivered_has P n l d (Some f) h got made =
     making_has P (imp_at n.imps i) i (λ s. from_line s (port_of n.lines i l) f) (dead_made f) n h (imp_has P n.imps i h.imps) made
     (λ s has dead. from_line_has P s (port_of n.lines i l) f has (brings P s f got dead))
 
-pub deliver_has : (P : PacketFields → Type 0) (n : Net) (l : ℕ) (d : Direction) (k : ℕ) → NetHas P n → All P (deliver_makes n l d k) → NetHas P (deliver n l d k)
+deliver_has : (P : PacketFields → Type 0) (n : Net) (l : ℕ) (d : Direction) (k : ℕ) → NetHas P n → All P (deliver_makes n l d k) → NetHas P (deliver n l d k)
 deliver_has P n l d k h made =
     delivered_has P n l d (slice_get (frames_on d (wire_at n.lines l)) k) h
     (got_has P (frames_on d (wire_at n.lines l)) k (way_has P d (wire_at n.lines l) (wire_has P n.lines l h.lines))) made
 
 -- ---- hosts and IMPs that start, and IMPs that stop
 
-pub start_host_has : (P : PacketFields → Type 0) (n : Net) (h : Host) → NetHas P n → NetHas P (host_started n h)
+start_host_has : (P : PacketFields → Type 0) (n : Net) (h : Host) → NetHas P n → NetHas P (host_started n h)
 start_host_has P n h has =
     logged_has P (crossing.Up h ∷ []) (at_imp (imp_at n.imps h.imp) h.imp (λ s. host_up s h.host) n)
     (quiet_call_has P n h.imp (λ s. host_up s h.host) has (λ s here. host_up_has P s h.host here))
@@ -98,12 +98,12 @@ start_host_has P n h has =
 started_has : (P : PacketFields → Type 0) (i hosts ports : ℕ) → Has P (started_imp i hosts ports)
 started_has P i hosts ports = let h : Has P (imp.opening i hosts ports) = start_has P i hosts ports in record { store = h.store; lines = h.lines; slots = h.slots }
 
-pub start_imp_has : (P : PacketFields → Type 0) (n : Net) (i : ℕ) → NetHas P n → NetHas P (imp_started n i)
+start_imp_has : (P : PacketFields → Type 0) (n : Net) (i : ℕ) → NetHas P n → NetHas P (imp_started n i)
 start_imp_has P n i h =
     let s : State = started_imp i (hosts_at (site_at n i)) (count_by (ends_at i) n.lines) in
     record { imps = All-set (ImpHas P) n.imps i (Some s) (started_has P i (hosts_at (site_at n i)) (count_by (ends_at i) n.lines)) h.imps; lines = h.lines }
 
-pub stop_imp_has : (P : PacketFields → Type 0) (n : Net) (i : ℕ) → NetHas P n → NetHas P (imp_stopped n i)
+stop_imp_has : (P : PacketFields → Type 0) (n : Net) (i : ℕ) → NetHas P n → NetHas P (imp_stopped n i)
 stop_imp_has P n i h = record { imps = All-set (ImpHas P) n.imps i None tt h.imps; lines = h.lines }
 
 -- ---- the packets as lists

@@ -1,21 +1,16 @@
 -- What a safe book asks of two hosts, but for their lives: requests and streams.
-use Rattle.std.proofs.Common.{◌≡◌, ℕ, suc, ◌==◌, ◌≤◌, true, false, List, [], ◌∷◌, Some, refl}
+use Rattle.std.proofs.Common.{◌≡◌, ℕ, suc, ◌==◌, ◌≤◌, true, false, List, ◌∷◌, refl}
 use Rattle.std.proofs.lemmas.Bool.{ne_eqb}
 use Rattle.leader1822.specs.Host.{Host}
-use Rattle.host_pairs.specs.Entries.{entry_at}
-use Rattle.host_pairs.specs.declared.entry.Entry.{Entry}
-use Rattle.host_keeps_streams.specs.Histories.{gone_now, numbered, receiver_now, sender_now}
+use Rattle.host_keeps_streams.specs.Histories.{numbered, receiver_now, sender_now}
 use Rattle.host_keeps_streams.proofs.lemmas.{numbered_tells}
-use Rattle.pairing_law.specs.Links.{Sockets}
 use Rattle.reset_law.specs.Stays as stay
-use Rattle.sockets.specs.Pairs.{pair_with}
 use Rattle.net_sim.specs.Safe.{receives, sends}
-use Rattle.net_sim.specs.Story.{Moment, event_in, events_of, program}
+use Rattle.net_sim.specs.Story.{Moment, event_in, events_of}
 use Rattle.net_sim.specs.declared.life.Life.{Life}
-use Rattle.world_keeps_pairing.proofs.lemmas.{IsPair}
 use Rattle.world_keeps_streams.specs.Calls.{own_calls, turned}
 use Rattle.world_keeps_streams.proofs.Lives.Lists.{IsOf}
-use Rattle.world_keeps_streams.proofs.Requests.Now.{Counts, heard_now, own_now}
+use Rattle.world_keeps_streams.proofs.Requests.Now.{Counts}
 use Rattle.world_keeps_streams.proofs.Requests.Placed.{heard_law_on, matched_law, own_law_on}
 use Rattle.world_keeps_streams.proofs.Books.Run.{Given}
 use Rattle.world_keeps_streams.proofs.Requests.Sides.{Heard, Lawful, Own, lives_in}
@@ -34,18 +29,6 @@ use Rattle.world_keeps_streams.proofs.Steps.Streams.{all_allowed}
 pub counts : (hosts : List Host) (ms : List Moment) → Lawful hosts ms → (a b : Host) → Counts a b ms
 counts hosts ms l a b = heard_calls numbered numbered_tells 1 hosts l.0 ms l.1 l.2 a b (all_allowed hosts l.0 1 refl a b ms l.1 l.2)
 
--- an end that receives stands on its own request of the connection which the gone ones of its sockets count
-pub own_there : (hosts : List Host) (ms : List Moment) → Lawful hosts ms → (a b : Host) (s : Sockets) → IsPair s → stay.stays a b (events_of ms) ≡ true
-    → (e : Entry) → entry_at s.receive s.send (pair_with b (program a ms).peers).entries ≡ Some e → (n : ℕ) → e.asked ≡ Some n
-    → Own a b ms s.receive s.send n (gone_now b (own_calls a b ms) s.receive s.send)
-own_there hosts ms l a b s q stays e found n asked = own_now hosts ms l a b s q (counts hosts ms l a b) stays e found n asked
-
--- and an end that sends on its partner's
-pub heard_there : (hosts : List Host) (ms : List Moment) → Lawful hosts ms → (a b : Host) (s : Sockets) → IsPair s → stay.stays b a (events_of ms) ≡ true
-    → (e : Entry) → entry_at s.send s.receive (pair_with a (program b ms).peers).entries ≡ Some e → (t : ℕ) → e.partner ≡ Some t
-    → Heard a b ms s.receive s.send t (gone_now a (own_calls b a ms) s.send s.receive)
-heard_there hosts ms l a b s q stays e found t partner = heard_now hosts ms l a b s q (counts hosts ms l b a) stays e found t partner
-
 -- ---- the streams
 
 off : (n : ℕ) → (suc n == 0) ≡ false
@@ -55,7 +38,7 @@ pub goes_on : (hosts : List Host) (a b : Host) (y : Moment) (ms : List Moment) �
     → (k : Joined a b (suc n) (y ∷ ms)) × Keeps (stay.stays a b (events_of (y ∷ ms))) (stay.stays b a (events_of (y ∷ ms))) j.x k.x
 goes_on hosts a b y ms l none n j = let g : Goes a b (suc n) y ms j = joint.goes (suc n) (off n) hosts l.0 a b y ms l.1 l.2 j none in (g.joined, g.keeps_x)
 
-pub meets_at : (hosts : List Host) (a b : Host) (y : Moment) (ms : List Moment) → Lawful hosts (y ∷ ms) → stay.begins a b (event_in y) (events_of ms) ≡ true → (n : ℕ) → Joined a b (suc n) (y ∷ ms)
+meets_at : (hosts : List Host) (a b : Host) (y : Moment) (ms : List Moment) → Lawful hosts (y ∷ ms) → stay.begins a b (event_in y) (events_of ms) ≡ true → (n : ℕ) → Joined a b (suc n) (y ∷ ms)
 meets_at hosts a b y ms l new n = meets (suc n) (off n) hosts l.0 a b y ms l.1 l.2 new
 
 -- ---- so what is left is asked of lives

@@ -20,7 +20,7 @@ map_length : (f : Life → Life) (xs : List Life) → length (map f xs) ≡ leng
 map_length f [] = refl
 map_length f (x ∷ xs) = ap suc (map_length f xs)
 
-pub grown_length : (old new : List Life) → Grown old new → length old ≤ length new
+grown_length : (old new : List Life) → Grown old new → length old ≤ length new
 grown_length old new g =
     let e : length new ≡ length (map g.change old) + length g.more = ap (λ (l : List Life). length l) g.is ∙ length-append (map g.change old) g.more in
     let f : length (map g.change old) ≡ length old = map_length g.change old in

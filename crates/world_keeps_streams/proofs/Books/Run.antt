@@ -46,7 +46,7 @@ pub record Given (hosts : List Host) (a b : Host) (Own Heard : List Moment → �
 pub below : (hosts : List Host) (y : Moment) (ms : List Moment) → Lawful hosts (y ∷ ms) → Lawful hosts ms
 below hosts y ms l = let time : IsTimeline hosts (y ∷ ms) = l.2 in (l.0, mail_below hosts y ms l.1, time.1)
 
-pub begins_stays : (a b : Host) (y : Moment) (ms : List Moment) → stay.begins a b (event_in y) (events_of ms) ≡ true → (stay.stays a b (events_of (y ∷ ms)) ≡ true) × (stay.stays b a (events_of (y ∷ ms)) ≡ true)
+begins_stays : (a b : Host) (y : Moment) (ms : List Moment) → stay.begins a b (event_in y) (events_of ms) ≡ true → (stay.stays a b (events_of (y ∷ ms)) ≡ true) × (stay.stays b a (events_of (y ∷ ms)) ≡ true)
 begins_stays a b y ms new = (first a b new, first b a (sym (begins_either a b (event_in y) (events_of ms)) ∙ new)) where
   first : (v w : Host) → stay.begins v w (event_in y) (events_of ms) ≡ true → stay.stays v w (events_of (y ∷ ms)) ≡ true
   first v w e = ap (λ (t : Bool). t || (stay.ready v w (event_in y ∷ events_of ms) && not (stay.takes_reset v w (event_in y)) && stay.stays v w (events_of ms))) e

@@ -26,7 +26,7 @@ safe_inv x h c = record {
 
 -- ---- bits
 
-pub all_bits_append : (xs ys : List (List Bool)) → all_bits (xs ++ ys) ≡ all_bits xs ++ all_bits ys
+all_bits_append : (xs ys : List (List Bool)) → all_bits (xs ++ ys) ≡ all_bits xs ++ all_bits ys
 all_bits_append [] ys = refl
 all_bits_append (x ∷ xs) ys = ap (λ (bs : List Bool). x ++ bs) (all_bits_append xs ys) ∙ sym (append_assoc x (all_bits xs) (all_bits ys))
 

@@ -104,7 +104,7 @@ module _ (hosts : List Host) (addresses : HaveAddresses hosts) (moments : List M
     by false e = tt
 
   -- where byte sizes are known
-  pub sized_calls : (x : Moment) → mail.IsRun hosts (crossings_of (x ∷ moments)) → IsTimeline hosts (x ∷ moments) → AreSized (pair_with b (program a moments).peers).entries → AllMay (calls_by a b x moments)
+  sized_calls : (x : Moment) → mail.IsRun hosts (crossings_of (x ∷ moments)) → IsTimeline hosts (x ∷ moments) → AreSized (pair_with b (program a moments).peers).entries → AllMay (calls_by a b x moments)
   sized_calls (Crossed (crossing.Out m)) run time sized =
       by (same_host a m.flow.source) where
         below : Coupled hosts moments

@@ -44,7 +44,7 @@ pub record Turned (peer : Host) (resets : Bool) (q next : PairState) (cs : List 
   pub drops : resets ≡ true → next.entries ≡ []
   pub idle : IsIdle q → IsIdle next
 
-pub no_lead : (peer : Host) (es fs : List Entry) → es ≡ fs → Leads peer es fs []
+no_lead : (peer : Host) (es fs : List Entry) → es ≡ fs → Leads peer es fs []
 no_lead peer es fs is = λ older h e. (h, e ∙ is)
 
 pub one_lead : (peer : Host) (k : Call) (q : PairState) (listening : List Listener) (fs : List Entry) → ends_by peer k q listening ≡ fs → Leads peer q.entries fs (called k q listening ∷ [])

@@ -54,7 +54,7 @@ abbrev pub HearsNoRts : Call → Type 0
 HearsNoRts (Hears stamp said c) = NoRts c
 HearsNoRts k = Unit {0}
 
-abbrev pub HearNoRts : List calls.Moment → Type 0
+abbrev HearNoRts : List calls.Moment → Type 0
 HearNoRts [] = Unit {0}
 HearNoRts (m ∷ ms) = HearsNoRts m.call × HearNoRts ms
 

@@ -55,7 +55,7 @@ same_entry : (x e : Entry) → Some x ≡ Some e → x ≡ e
 unfolding entry_or
 same_entry x e is = ap (entry_or x) is
 
-pub sized_found : (test : Entry → Bool) (es : List Entry) (e : Entry) → AreSized es → find test es ≡ Some e → IsSize e.size
+sized_found : (test : Entry → Bool) (es : List Entry) (e : Entry) → AreSized es → find test es ≡ Some e → IsSize e.size
 sized_found test [] e h f = absurd (cc)
 sized_found test (x ∷ es) e h f = by (test x) refl (sized_found test es e h.1) where
   by : (b : Bool) → test x ≡ b → (find test es ≡ Some e → IsSize e.size) → IsSize e.size

@@ -31,7 +31,7 @@ use Rattle.world_keeps_pairing.proofs.lemmas.{IsUnpaired, send_odd}
 use Rattle.world_keeps_streams.specs.Calls.{called, commands_said, orders_heard}
 use Rattle.world_keeps_streams.proofs.Calls.May.{AllMay, MayCall}
 
-pub same_two : (a b : ℕ) → (a == a && b == b) ≡ true
+same_two : (a b : ℕ) → (a == a && b == b) ≡ true
 same_two a b = rw (eq-eqb a a refl, eq-eqb b b refl) refl
 
 -- ---- what goes out

@@ -1,9 +1,9 @@
 -- The lives of a host with one peer beside the calls of its program, and what comes of it for the host's book.
-use Rattle.std.proofs.Common.{◌≡◌, inl, inr, ℕ, zero, suc, ◌<◌, ◌==◌, ◌||◌, Bool, true, false, if◌then◌else◌, List, [], ◌∷◌, ◌++◌, drop, length, slice_index_or, Some, refl, ap, sym, ◌∙◌, subst, eq-eqb, arith}
+use Rattle.std.proofs.Common.{◌≡◌, inl, inr, ℕ, zero, suc, ◌<◌, ◌==◌, ◌||◌, Bool, true, false, if◌then◌else◌, List, ◌∷◌, ◌++◌, drop, length, slice_index_or, Some, refl, ap, sym, ◌∙◌, subst, eq-eqb, arith}
 use Rattle.std.proofs.lemmas.Bool.{eqb-true}
 use Rattle.std.specs.List.{Contains}
 use Rattle.leader1822.specs.Host.{Host}
-use Rattle.host_pairs.specs.Entries.{entry_at, is_mine_on}
+use Rattle.host_pairs.specs.Entries.{entry_at}
 use Rattle.host_pairs.specs.declared.entry.Entry.{Entry}
 use Rattle.host_pairs.proofs.lemmas.{both}
 use Rattle.host_keeps_streams.specs.Histories as calls
@@ -16,10 +16,9 @@ use Rattle.net_sim.specs.declared.life.Life.{Life}
 use Rattle.net_sim.specs.Safe.{receives, sends}
 use Rattle.net_sim.specs.Story.{Moment, event_in, events_of, program}
 use Rattle.net_sim.specs.Told.{kept_in}
-use Rattle.world_keeps_lives.specs.Lives.{AreRefusing, HasOpenEnd, mine_on}
+use Rattle.world_keeps_lives.specs.Lives.{AreRefusing}
 use Rattle.world_keeps_pairing.specs.Steps.{keeps}
 use Rattle.world_keeps_streams.specs.Calls.{own_calls}
-use Rattle.world_keeps_streams.proofs.Deeds.Effects as deeds
 use Rattle.world_keeps_streams.proofs.Deeds.Effects.{Among}
 use Rattle.world_keeps_streams.proofs.Deeds.Kinds.{deed_of}
 use Rattle.world_keeps_streams.proofs.Deeds.Law.{receiver_by}
@@ -92,7 +91,7 @@ call_next number tells a b cs m lives holds refusing fits old now c =
 
 -- ---- elements of a list
 
-pub contains_among : {A : Type 0} (xs : List A) (x : A) → Contains xs x → Among x xs
+contains_among : {A : Type 0} (xs : List A) (x : A) → Contains xs x → Among x xs
 contains_among {A} xs x h = from xs h.0 h.1 h.2 where
   from : (xs : List A) (i : ℕ) → i < length xs → slice_index_or xs i x ≡ x → Among x xs
   from [] i less is = absurd (omega (arith, less))
@@ -164,12 +163,3 @@ module _ (number : ℕ → ℕ → ℕ → ℕ) (a b : Host) (ms : List Moment) 
     | inl u ↦ absurd (some u)
     | inr l ↦ (l.0.life, as_carried link c l.0, l.1)
   ]
-
-  -- the end of a life that goes on has its link
-  pub end_link : (x : Life) → x.host ≡ a → x.peer ≡ b → x.ended ≡ false → (k : Carried number a b ms x) → (h : HasOpenEnd (program x.host ms) x) → h.end.link ≡ Some k.link
-  end_link x host peer goes k h =
-      let one : mine_on x.socket (pair_with b (program a ms).peers).entries ≡ h.end ∷ [] =
-      subst (λ (g : Host). mine_on x.socket (pair_with b (program g ms).peers).entries ≡ h.end ∷ []) host (subst (λ (g : Host). mine_on x.socket (pair_with g (program x.host ms).peers).entries ≡ h.end ∷ []) peer h.one) in
-      let r : Among h.end (pair_with b (program a ms).peers).entries × (is_mine_on x.socket h.end ≡ true) =
-      deeds.among_filter (is_mine_on x.socket) (pair_with b (program a ms).peers).entries h.end (subst (λ (es : List Entry). Among h.end es) (sym one) (inl refl)) in
-      k.on.linked goes h.end r.0 (both h.end.mine (h.end.own == x.socket) r.1).0 (eqb-true h.end.own x.socket (both h.end.mine (h.end.own == x.socket) r.1).1)

@@ -1,5 +1,5 @@
 -- The lives of a host with one peer, over all that it hears in one message of its peer.
-use Rattle.std.proofs.Common.{◌≡◌, ℕ, ◌≤◌, ◌==◌, true, false, List, [], ◌∷◌, ◌++◌, drop, length, refl, ap, sym, subst, ◌∙◌, append-nil, arith}
+use Rattle.std.proofs.Common.{◌≡◌, ℕ, ◌≤◌, ◌==◌, true, false, List, ◌∷◌, ◌++◌, drop, length, refl, ap, sym, subst, ◌∙◌, append-nil, arith}
 use Rattle.leader1822.specs.Host.{Host}
 use Rattle.ncp_control.specs.declared.command.Command.{Command}
 use Rattle.ncp_control.specs.declared.command.Command.TheVariants as command
@@ -11,7 +11,7 @@ use Rattle.host_pairs.specs.Turn.{TurnState, command_taken, if_ready, order_take
 use Rattle.host_pairs.specs.declared.entry.Entry.{Entry}
 use Rattle.host_pairs.specs.declared.notice.Notice.{Notice}
 use Rattle.host_keeps_streams.specs.Histories as calls
-use Rattle.host_keeps_streams.specs.Histories.{AreAllowed, Hears, IsHistory, IsTelling, ends_after, ends_now, gone_now, receiver_now, sender_now}
+use Rattle.host_keeps_streams.specs.Histories.{AreAllowed, Hears, IsHistory, IsTelling, ends_after, gone_now, receiver_now, sender_now}
 use Rattle.host_keeps_streams.proofs.lemmas.{Holds, holds_now}
 use Rattle.net_sim.specs.declared.life.Life.{Life}
 use Rattle.net_sim.specs.Book.{Kept, all_told}
@@ -70,10 +70,6 @@ module _ (number : ℕ → ℕ → ℕ → ℕ) (tells : IsTelling number) (a b 
     -- at each socket of the host
     abbrev pub Placed : TurnState → Type 0
     Placed t = (k : ℕ) → (m : Place) × IsAway b m × GoodTurn a k m b κ t
-
-    -- the lives since a place in the book
-    abbrev pub Later : TurnState → List Life
-    Later t = drop n (all_told a t.notices κ).book.lives
 
     placed_owned : (t : TurnState) → Placed t → AreOwned a b t.pair.entries (drop n (all_told a t.notices κ).book.lives)
     placed_owned t p =

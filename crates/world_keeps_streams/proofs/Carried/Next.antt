@@ -7,9 +7,8 @@ use Rattle.ncp_control.specs.Numbers.{is_receive_socket, is_send_socket}
 use Rattle.ncp_control.specs.declared.allocation.Allocation.{Allocation}
 use Rattle.stream_law.specs.Receivers.{Receiver}
 use Rattle.stream_law.specs.Senders.{Sender}
-use Rattle.host_pairs.specs.Entries.{is_link, is_open, is_receiving, receives_on, sends_on}
+use Rattle.host_pairs.specs.Entries.{is_link, is_receiving, receives_on, sends_on}
 use Rattle.host_pairs.specs.declared.entry.Entry.{Entry}
-use Rattle.host_pairs.proofs.lemmas.{both}
 use Rattle.host_keeps_streams.specs.Ends.{has_opened}
 use Rattle.host_keeps_streams.specs.Histories.{IsTelling, gone_by}
 use Rattle.host_keeps_streams.specs.Names.{named}
@@ -27,9 +26,6 @@ use Rattle.world_keeps_streams.proofs.Carried.Step.{AreOwned, CarriedOn, Carry, 
 and_off : (b : Bool) → (b && false) ≡ false
 and_off true = refl
 and_off false = refl
-
-open_has : (e : Entry) → is_open e ≡ true → has_opened e ≡ true
-open_has e o = (both (has_opened e) _ o).0
 
 module _ (told next_told : ℕ → ℕ → ℕ → ℕ → Type 0) (grows : (own foreign g v : ℕ) → told own foreign g v → next_told own foreign g v) (number : ℕ → ℕ → ℕ → ℕ) (tells : IsTelling number) (a b : Host) (gone : ℕ → ℕ → ℕ) (es : List Entry) (r : ℕ → Receiver) (s : ℕ → Sender) where
   -- ---- where a life is hit, the law is
@@ -84,7 +80,7 @@ module _ (told next_told : ℕ → ℕ → ℕ → ℕ → Type 0) (grows : (own
     link_is : e.link ≡ Some link → is_link link e.link ≡ true
     link_is l = ap (λ (o : Option ℕ). is_link link o) l ∙ eq-eqb link link refl
 
-    pub hits_receiver : receives x ≡ true → lives_at a e.own x ≡ at_receiver (name_of number gone) link (number x.socket x.foreign g) e
+    hits_receiver : receives x ≡ true → lives_at a e.own x ≡ at_receiver (name_of number gone) link (number x.socket x.foreign g) e
     hits_receiver even = hit ∙ by (number x.socket x.foreign g == named (name_of number gone) e) refl where
       by : (v : Bool) → (number x.socket x.foreign g == named (name_of number gone) e) ≡ v → v ≡ (receives_on link e && v)
       by true t =
@@ -94,7 +90,7 @@ module _ (told next_told : ℕ → ℕ → ℕ → ℕ → Type 0) (grows : (own
           rw (even_end, on) refl
       by false t = sym (and_off (receives_on link e))
 
-    pub hits_sender : sends x ≡ true → lives_at a e.own x ≡ at_sender (name_of number gone) link (number x.socket x.foreign g) e
+    hits_sender : sends x ≡ true → lives_at a e.own x ≡ at_sender (name_of number gone) link (number x.socket x.foreign g) e
     hits_sender odd = hit ∙ by (number x.socket x.foreign g == named (name_of number gone) e) refl where
       by : (v : Bool) → (number x.socket x.foreign g == named (name_of number gone) e) ≡ v → v ≡ (sends_on link e && v)
       by true t =

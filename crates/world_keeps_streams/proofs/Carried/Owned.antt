@@ -71,7 +71,7 @@ owned_of a p es κ listens places x there host peer goes = by (places x.socket).
   by (Elsewhere g e) [] true is away h = absurd h
   by (Elsewhere g e) (f ∷ more) l is away h = absurd h
 
-pub among_dropped : {A : Type 0} (n : ℕ) (xs : List A) (x : A) → Among x (drop n xs) → Among x xs
+among_dropped : {A : Type 0} (n : ℕ) (xs : List A) (x : A) → Among x (drop n xs) → Among x xs
 among_dropped zero xs x h = h
 among_dropped (suc n) [] x h = h
 among_dropped (suc n) (y ∷ ys) x h = inr (among_dropped n ys x h)

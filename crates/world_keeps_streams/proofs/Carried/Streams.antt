@@ -1,5 +1,5 @@
 -- The lives of a host with one peer beside what the laws of their links have, as one call changes them.
-use Rattle.std.proofs.Common.{◌≡◌, inl, inr, ℕ, suc, ◌+◌, ◌≤◌, ◌==◌, ◌&&◌, not, Bool, true, false, if◌then◌else◌, List, [], ◌∷◌, ◌++◌, length, Option, Some, is_some, refl, ap, sym, subst, ◌∙◌, append-nil, eq-eqb, arith}
+use Rattle.std.proofs.Common.{◌≡◌, inl, inr, ℕ, suc, ◌+◌, ◌≤◌, ◌==◌, ◌&&◌, not, Bool, true, false, if◌then◌else◌, List, ◌∷◌, ◌++◌, length, Option, Some, is_some, refl, ap, sym, subst, ◌∙◌, append-nil, eq-eqb, arith}
 use Rattle.std.proofs.lemmas.Bool.{eqb-true}
 use Rattle.std.proofs.lemmas.List.{append_assoc, length-append}
 use Rattle.leader1822.specs.Host.{Host}
@@ -15,11 +15,11 @@ use Rattle.host_keeps_streams.specs.Histories.{gone_by}
 use Rattle.host_keeps_streams.proofs.lemmas.{is_there}
 use Rattle.net_sim.specs.declared.life.Life.{Life}
 use Rattle.net_sim.specs.Book as book
-use Rattle.net_sim.specs.Book.{changed_when, ended, lives_at, lives_between, new_life}
+use Rattle.net_sim.specs.Book.{changed_when, ended, lives_at, lives_between}
 use Rattle.world_keeps_lives.specs.Lives.{mine_on}
 use Rattle.world_keeps_lives.proofs.lemmas.{clash}
 use Rattle.world_keeps_streams.proofs.Deeds.Effects as deeds
-use Rattle.world_keeps_streams.proofs.Deeds.Effects.{Among, Deed, From, HasLink, IsLinked, IsNew, among_kept, at_receiver, at_sender, granted_by, life_by, life_ends, returned_by, sent_by, taken_by}
+use Rattle.world_keeps_streams.proofs.Deeds.Effects.{Among, Deed, among_kept, at_receiver, at_sender, granted_by, life_by, life_ends, returned_by, sent_by, taken_by}
 use Rattle.world_keeps_streams.proofs.Deeds.Ends.{Acts, IsAt}
 
 -- ---- what a life and the law have in common
@@ -78,9 +78,6 @@ module _ (es : List Entry) (x : Life) (h : EndOf es x) where
   pub end_own : h.end.own ≡ x.socket
   end_own = eqb-true h.end.own x.socket (both h.end.mine (h.end.own == x.socket) end_there.1).1
 
-  pub end_mine : h.end.mine ≡ true
-  end_mine = (both h.end.mine (h.end.own == x.socket) end_there.1).0
-
   pub end_opened : has_opened h.end ≡ true
   end_opened = ap (λ (o : Option ℕ). is_some o && is_some h.end.partner) h.asked ∙ ap is_some h.partner
 
@@ -113,10 +110,6 @@ pub gone_one : (es after : List Entry) (gone : ℕ → ℕ → ℕ) (own foreign
 gone_one es after gone own foreign e t = rw (e, t) refl
 
 -- ---- what a life has by a deed
-
--- at an end whose life it is, where its connection is that of the end
-abbrev pub Hits : (ℕ → ℕ → ℕ) → Host → (Entry → Bool) → Entry → Life → Type 0
-Hits name a test e x = lives_at a e.own x ≡ test e
 
 ends_keep : (a p : Host) (es : List Entry) (x : Life) (P : Life → Type 0) → ((y : Life) → P y → P (ended y)) → P x → P (life_ends a p es x)
 ends_keep a p [] x P keeps h = h

@@ -131,7 +131,7 @@ Comes deed es new = (e : Entry) → Among e new → From deed es e ⊎ IsNew e
 abbrev pub Stays : List Entry → List Entry → Type 0
 Stays es new = (e : Entry) → Among e new → From Nothing es e
 
-pub become_same : (d : Deed) (e : Entry) → Becomes d e e
+become_same : (d : Deed) (e : Entry) → Becomes d e e
 become_same d e = record { own = refl; foreign = refl; mine = refl; opened = λ o. o; link = λ o. refl; linked = λ l. l; opens = λ o. inl o }
 
 pub stays_same : (es : List Entry) → Stays es es
@@ -144,7 +144,7 @@ stays_comes d es new s e there =
       weak : (x : Entry) → Becomes Nothing x e → Becomes d x e
       weak x b = record { own = b.own; foreign = b.foreign; mine = b.mine; opened = b.opened; link = b.link; linked = b.linked; opens = λ o. elim (b.opens o) [ inl p ↦ inl p | inr q ↦ absurd q ] }
 
-pub become_then : (e f g : Entry) → Becomes Nothing e f → Becomes Nothing f g → Becomes Nothing e g
+become_then : (e f g : Entry) → Becomes Nothing e f → Becomes Nothing f g → Becomes Nothing e g
 become_then e f g b c = record {
   own = c.own ∙ b.own;
   foreign = c.foreign ∙ b.foreign;

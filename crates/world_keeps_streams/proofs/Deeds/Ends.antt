@@ -166,7 +166,7 @@ module _ (x y : ℕ) (change : Entry → Entry) (es : List Entry) (e : Entry) (f
       },
     )
 
-  pub does_opens : Does (opens (entry_at x y (changed_at x y change es))) es (changed_first (is_at x y) change es)
+  does_opens : Does (opens (entry_at x y (changed_at x y change es))) es (changed_first (is_at x y) change es)
   does_opens = subst (λ (o : Option Entry). Does (opens o) es (changed_first (is_at x y) change es)) (sym there) (opened_by (change e).asked (change e).partner refl refl)
 
 -- ---- ends that go

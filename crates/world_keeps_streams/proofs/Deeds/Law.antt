@@ -1,5 +1,5 @@
 -- What the laws of a link have of each call of a host's program.
-use Rattle.std.proofs.Common.{◌≡◌, ℕ, ◌*◌, ◌==◌, ◌&&◌, not, Bool, true, false, nat_le, if◌then◌else◌, List, [], ◌∷◌, ◌++◌, take, map, find, length, Option, Some, None, is_some, refl, ap, sym, subst, ◌∙◌}
+use Rattle.std.proofs.Common.{◌≡◌, ℕ, ◌*◌, ◌==◌, ◌&&◌, not, Bool, true, false, nat_le, if◌then◌else◌, List, ◌∷◌, ◌++◌, take, map, find, length, Option, Some, None, is_some, refl, ap, sym, subst, ◌∙◌}
 use Rattle.std.proofs.lemmas.Bool.{eqb-true}
 use Rattle.std.specs.List.{list_any}
 use Rattle.ncp_control.specs.Allocation as counters
@@ -29,7 +29,7 @@ use Rattle.host_keeps_streams.specs.Moves.{answers_str, asks_for, cls_received, 
 use Rattle.host_keeps_streams.specs.Names.{named}
 use Rattle.host_keeps_streams.proofs.lemmas.{at_link, bits_there, find_passes, open_same, other_receives}
 use Rattle.world_keeps_streams.proofs.Deeds.Effects as deeds
-use Rattle.world_keeps_streams.proofs.Deeds.Effects.{Deed, Receives, at_receiver, at_sender}
+use Rattle.world_keeps_streams.proofs.Deeds.Effects.{Deed, Receives, at_receiver}
 use Rattle.world_keeps_streams.proofs.Deeds.Kinds.{arrives, arrives_if, closings, deed_of, hears, matches, opens, opens_by, returns, says, sweeps}
 
 -- ---- moves that count nothing
@@ -40,7 +40,7 @@ IsStill (receivers.Take z bits) = ⊥
 IsStill (receivers.Hear (words.Ret c m n)) = ⊥
 IsStill m = Unit {0}
 
-abbrev pub AreStill : List receivers.Move → Type 0
+abbrev AreStill : List receivers.Move → Type 0
 AreStill [] = Unit {0}
 AreStill (m ∷ ms) = IsStill m × AreStill ms
 
@@ -112,10 +112,6 @@ plain_closings busy own foreign es None = tt
 plain_closings busy own foreign es (Some e) = plain_if e.partner_closed deeds.Nothing (sweeps (map (λ x. closed_when (must_close busy x) x) (changed_at own foreign closed_by_partner es))) tt tt
 
 -- ---- a receiver
-
-append_still : (xs ys : List receivers.Move) → AreStill xs → AreStill ys → AreStill (xs ++ ys)
-append_still [] ys p q = q
-append_still (x ∷ xs) ys p q = (p.0, append_still xs ys p.1 q)
 
 still_if : (v : Bool) (xs ys : List receivers.Move) → AreStill xs → AreStill ys → AreStill (if v then xs else ys)
 still_if true xs ys p q = p

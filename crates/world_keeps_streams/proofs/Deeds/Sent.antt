@@ -36,7 +36,7 @@ abbrev pub IsMute : senders.Move → Type 0
 IsMute (senders.Send c z bits) = ⊥
 IsMute m = Unit {0}
 
-abbrev pub AreMute : List senders.Move → Type 0
+abbrev AreMute : List senders.Move → Type 0
 AreMute [] = Unit {0}
 AreMute (m ∷ ms) = IsMute m × AreMute ms
 

@@ -40,7 +40,7 @@ pub map_same : {A : Type 0} (xs : List A) → map (λ x. x) xs ≡ xs
 map_same [] = refl
 map_same (x ∷ xs) = ap (λ ys. x ∷ ys) (map_same xs)
 
-pub map_twice : {A : Type 0} (f g : A → A) (xs : List A) → map g (map f xs) ≡ map (λ x. g (f x)) xs
+map_twice : {A : Type 0} (f g : A → A) (xs : List A) → map g (map f xs) ≡ map (λ x. g (f x)) xs
 map_twice f g [] = refl
 map_twice f g (x ∷ xs) = ap (λ ys. g (f x) ∷ ys) (map_twice f g xs)
 
@@ -54,7 +54,7 @@ module _ (a p : Host) where
   none_told : Tells [] deeds.Nothing
   none_told ls = sym (append-nil (map (λ x. x) ls) ∙ map_same ls)
 
-  pub told_append : (ns ms : List Notice) (ls : List Life) → all_lives a (ns ++ ms) ls ≡ all_lives a ms (all_lives a ns ls)
+  told_append : (ns ms : List Notice) (ls : List Life) → all_lives a (ns ++ ms) ls ≡ all_lives a ms (all_lives a ns ls)
   told_append [] ms ls = refl
   told_append (n ∷ ns) ms ls = told_append ns ms (lives_told a n ls)
 

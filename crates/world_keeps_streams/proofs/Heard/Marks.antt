@@ -1,5 +1,5 @@
 -- The CLS that a host has heard of its peer since both met: as many by the law of pairing as by its calls.
-use Rattle.std.proofs.Common.{◌≡◌, ℕ, suc, ◌+◌, ◌==◌, ◌&&◌, Bool, true, false, if◌then◌else◌, List, [], ◌∷◌, ◌++◌, take, Option, Some, None, refl, ap, sym, ◌∙◌, arith}
+use Rattle.std.proofs.Common.{◌≡◌, ℕ, suc, ◌+◌, ◌==◌, ◌&&◌, Bool, true, false, if◌then◌else◌, List, ◌∷◌, ◌++◌, take, Option, Some, None, refl, ap, sym, ◌∙◌, arith}
 use Rattle.leader1822.specs.Host.{Host, same_host}
 use Rattle.ncp_control.specs.declared.command.Command.{Command}
 use Rattle.ncp_control.specs.declared.command.Command.TheVariants as command
@@ -34,7 +34,7 @@ adds [] n = n
 adds (Ask p ∷ ms) n = adds ms n
 adds (Close ∷ ms) n = adds ms (suc n)
 
-pub adds_join : (xs ys : List Mark) (n : ℕ) → adds (xs ++ ys) n ≡ adds ys (adds xs n)
+adds_join : (xs ys : List Mark) (n : ℕ) → adds (xs ++ ys) n ≡ adds ys (adds xs n)
 adds_join [] ys n = refl
 adds_join (Ask p ∷ xs) ys n = adds_join xs ys n
 adds_join (Close ∷ xs) ys n = adds_join xs ys (suc n)
@@ -107,10 +107,6 @@ NoneHeard (m ∷ ms) = ((foreign own n : ℕ) → closes_by m.call foreign own n
 pub none_on : (foreign own : ℕ) (ms : List calls.Moment) → NoneHeard ms → (n : ℕ) → closes_on foreign own ms n ≡ n
 none_on foreign own [] h n = refl
 none_on foreign own (m ∷ ms) h n = ap (closes_by m.call foreign own) (none_on foreign own ms h.1 n) ∙ h.0 foreign own n
-
-none_join : (xs ys : List calls.Moment) → NoneHeard xs → NoneHeard ys → NoneHeard (xs ++ ys)
-none_join [] ys h k = k
-none_join (m ∷ xs) ys h k = (h.0, none_join xs ys h.1 k)
 
 none_said : (peer : Host) (stamp : ℕ) (cs : List Command) (q : PairState) (listening : List Listener) (older : List calls.Moment) → NoneHeard older → NoneHeard (commands_said peer stamp cs q listening older)
 none_said peer stamp [] q listening older h = h

@@ -1,5 +1,5 @@
 -- Which request of the peer an end has, where ends change, come and go.
-use Rattle.std.proofs.Common.{◌≡◌, ℕ, ◌*◌, ◌==◌, ◌&&◌, nat_le, Bool, true, false, List, [], ◌∷◌, ◌++◌, map, filter, Option, Some, None, is_some, refl, ap, sym, subst, ◌∙◌, ◌⊎◌, inl, inr}
+use Rattle.std.proofs.Common.{◌≡◌, ℕ, ◌*◌, ◌==◌, ◌&&◌, nat_le, Bool, true, false, List, ◌∷◌, ◌++◌, map, filter, Option, Some, None, is_some, refl, ap, sym, subst, ◌∙◌, ◌⊎◌, inl, inr}
 use Rattle.std.proofs.lemmas.Bool.{eqb-true}
 use Rattle.std.specs.List.{list_any}
 use Rattle.leader1822.specs.Host.{Host}
@@ -30,24 +30,21 @@ partner_at None = None
 partner_at (Some e) = e.partner
 
 -- each end has the request it had, or may have lost it by going
-abbrev pub AreSame : List Entry → List Entry → Type 0
+abbrev AreSame : List Entry → List Entry → Type 0
 AreSame es after = (x y : ℕ) → partner_at (entry_at x y after) ≡ partner_at (entry_at x y es)
 
-abbrev pub AreOld : List Entry → List Entry → Type 0
+abbrev AreOld : List Entry → List Entry → Type 0
 AreOld es after = (x y v : ℕ) → partner_at (entry_at x y after) ≡ Some v → partner_at (entry_at x y es) ≡ Some v
 
 -- or it has a new one
 abbrev pub IsNew : ℕ → ℕ → ℕ → ℕ → ℕ → ℕ → Type 0
 IsNew own foreign stamp x y v = (x ≡ own) × (y ≡ foreign) × (v ≡ stamp)
 
-abbrev pub AreTold : ℕ → ℕ → ℕ → List Entry → List Entry → Type 0
+abbrev AreTold : ℕ → ℕ → ℕ → List Entry → List Entry → Type 0
 AreTold own foreign stamp es after = (x y v : ℕ) → partner_at (entry_at x y after) ≡ Some v → (partner_at (entry_at x y es) ≡ Some v) ⊎ IsNew own foreign stamp x y v
 
 same_old : (es after : List Entry) → AreSame es after → AreOld es after
 same_old es after s x y v t = sym (s x y) ∙ t
-
-old_told : (own foreign stamp : ℕ) (es after : List Entry) → AreOld es after → AreTold own foreign stamp es after
-old_told own foreign stamp es after o x y v t = inl (o x y v t)
 
 changed_step : (test : Entry → Bool) (change : Entry → Entry) → Stays change → ((e : Entry) → (change e).partner ≡ e.partner) → (x y : ℕ) (z : Entry) (zs : List Entry)
     → partner_at (entry_at x y (changed_first test change zs)) ≡ partner_at (entry_at x y zs) → (b c : Bool) → test z ≡ b → is_at x y z ≡ c → partner_at (entry_at x y (changed_first test change (z ∷ zs))) ≡ partner_at (entry_at x y (z ∷ zs))

@@ -1,5 +1,5 @@
 -- The CLS that a host has heard of its peer since both met, over all moments: as many by the law of pairing as by its calls.
-use Rattle.std.proofs.Common.{◌≡◌, ℕ, ◌==◌, ◌&&◌, ◌||◌, not, Bool, true, false, if◌then◌else◌, List, [], ◌∷◌, ◌++◌, refl, ap, sym, subst, ◌∙◌}
+use Rattle.std.proofs.Common.{◌≡◌, ℕ, ◌==◌, ◌&&◌, ◌||◌, not, Bool, true, false, if◌then◌else◌, List, ◌∷◌, ◌++◌, refl, ap, sym, subst, ◌∙◌}
 use Rattle.leader1822.specs.Host.{Host, same_host}
 use Rattle.leader1822.specs.declared.crossing.Crossing.TheVariants as crossing
 use Rattle.leader1822.specs.declared.message.HostMessage.{HostMessage}
@@ -184,9 +184,6 @@ module _ (s : Sockets) (q : IsPair s) (who : Who) (hosts : List Host) where
       (none_if (same_host h g) (request_calls p (program h ms) r) (none_asked p (program h ms) r))
 
   -- ---- all moments
-
-  abbrev Sided : Host → Host → List Moment → Side
-  Sided h p ms = half h p (at_texts s who) (at_texts s (other who)) (law_events ms)
 
   side_on : (h p : Host) (y : Moment) (ms : List Moment) → stay.begins h p (event_in y) (events_of ms) ≡ false → stay.stays h p (events_of ms) ≡ true
       → closes (half h p (at_texts s who) (at_texts s (other who)) (law_events (y ∷ ms))).heard

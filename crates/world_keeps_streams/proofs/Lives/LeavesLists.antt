@@ -70,7 +70,7 @@ twice x y z (inr e) (inl f) = inr (f ∙ e)
 twice x y z (inr e) (inr f) = inr (f ∙ ap ended e)
 
 module _ (calm : Bool) (h p : Host) where
-  pub bare_none : (xs : List Life) → Bare calm h p xs xs
+  bare_none : (xs : List Life) → Bare calm h p xs xs
   bare_none xs = record {
     change = λ x. x;
     more = [];
@@ -95,7 +95,7 @@ module _ (calm : Bool) (h p : Host) where
     by x (inl e) f g = off (ap (λ (v : Life). v.host) (sym e) ∙ f) (ap (λ (v : Life). v.peer) (sym e) ∙ g)
     by x (inr i) f g = i
 
-  pub bare_on : (xs ys zs : List Life) → Bare calm h p xs ys → Bare calm h p ys zs → Bare calm h p xs zs
+  bare_on : (xs ys zs : List Life) → Bare calm h p xs ys → Bare calm h p ys zs → Bare calm h p xs zs
   bare_on xs ys zs g k = record {
     change = λ x. k.change (g.change x);
     more = map k.change g.more ++ k.more;

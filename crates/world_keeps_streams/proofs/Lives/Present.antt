@@ -76,10 +76,10 @@ module _ (hosts : List Host) (a b : Host) (mine : (ms : List Moment) → Lawful 
     (none_mine : NoneBegin hosts a b) (none_theirs : NoneBegin hosts b a) where
   -- ---- one life
 
-  abbrev pub Mine : List Moment → ℕ → ℕ → Life → Type 0
+  abbrev Mine : List Moment → ℕ → ℕ → Life → Type 0
   Mine ms link g x = CarriedOn (Named numbered b (own_calls a b ms)) numbered (gone_now b (own_calls a b ms)) (pair_with b (program a ms).peers).entries (λ n. receiver_now numbered b n (own_calls a b ms)) (λ n. sender_now numbered b n (own_calls a b ms)) link g x
 
-  abbrev pub Theirs : List Moment → ℕ → ℕ → Life → Type 0
+  abbrev Theirs : List Moment → ℕ → ℕ → Life → Type 0
   Theirs ms link g x = CarriedOn (Named turned a (own_calls b a ms)) turned (gone_now a (own_calls b a ms)) (pair_with a (program b ms).peers).entries (λ n. receiver_now turned a n (own_calls b a ms)) (λ n. sender_now turned a n (own_calls b a ms)) link g x
 
   module _ (ms : List Moment) (l : Lawful hosts ms) where
@@ -127,7 +127,7 @@ module _ (hosts : List Host) (a b : Host) (mine : (ms : List Moment) → Lawful 
 
   -- ---- lives that are there
 
-  pub carried_r : (ms : List Moment) → Lawful hosts ms → stay.stays a b (events_of ms) ≡ true → (x : Life) → IsOf x (present_in a b ms) → x.host ≡ a → x.peer ≡ b → receives x ≡ true → Receives a b (Own a b) (Heard a b) ms x
+  carried_r : (ms : List Moment) → Lawful hosts ms → stay.stays a b (events_of ms) ≡ true → (x : Life) → IsOf x (present_in a b ms) → x.host ≡ a → x.peer ≡ b → receives x ≡ true → Receives a b (Own a b) (Heard a b) ms x
   carried_r ms l stays x i f k r =
       let there : IsOf x (drop (carried.since a b ms) (lives_in ms)) = drop_more (carried.since a b ms) (since a b ms) x (lives_in ms) (dropped_first hosts a b ms l stays) i in
       let c : (link : ℕ) × (g : ℕ) × Mine ms link g x = (mine ms l).all x (to_among x (drop (carried.since a b ms) (lives_in ms)) there) f k in
@@ -136,7 +136,7 @@ module _ (hosts : List Host) (a b : Host) (mine : (ms : List Moment) → Lawful 
         by zero g c = absurd (let no : (0 == 0) ≡ false = c.other in cc)
         by (suc n) g c = receives_on ms l stays n g x (of_drop (since a b ms) x (lives_in ms) i) f k r c
 
-  pub carried_s : (ms : List Moment) → Lawful hosts ms → stay.stays b a (events_of ms) ≡ true → (s : Life) → IsOf s (present_in a b ms) → s.host ≡ b → s.peer ≡ a → sends s ≡ true → Sends a b (Own a b) (Heard a b) ms s
+  carried_s : (ms : List Moment) → Lawful hosts ms → stay.stays b a (events_of ms) ≡ true → (s : Life) → IsOf s (present_in a b ms) → s.host ≡ b → s.peer ≡ a → sends s ≡ true → Sends a b (Own a b) (Heard a b) ms s
   carried_s ms l stays s i f k r =
       let less : carried.since b a ms ≤ since a b ms = subst (λ (n : ℕ). carried.since b a ms ≤ n) (since_either a b ms) (dropped_first hosts b a ms l stays) in
       let there : IsOf s (drop (carried.since b a ms) (lives_in ms)) = drop_more (carried.since b a ms) (since a b ms) s (lives_in ms) less i in

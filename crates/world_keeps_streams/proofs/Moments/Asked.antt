@@ -188,7 +188,7 @@ module _ (number : ℕ → ℕ → ℕ → ℕ) (tells : IsTelling number) (host
   grants_kept ms socket messages bits run time on c same (Some (g, e)) f =
       grant_kept (request.Grant socket messages bits) ms run time on c socket messages bits same g e f (same_host b g) refl (rw f refl)
 
-  pub keeps_asked : (r : Request) (ms : List Moment) → mail.IsRun hosts (crossings_of (Asked a r ∷ ms)) → IsTimeline hosts (Asked a r ∷ ms) → keeps a b (event_in (Asked a r)) (events_of ms) ≡ true → Carries number a b ms → Carries number a b (Asked a r ∷ ms)
+  keeps_asked : (r : Request) (ms : List Moment) → mail.IsRun hosts (crossings_of (Asked a r ∷ ms)) → IsTimeline hosts (Asked a r ∷ ms) → keeps a b (event_in (Asked a r)) (events_of ms) ≡ true → Carries number a b ms → Carries number a b (Asked a r ∷ ms)
   unfolding served_notices
   keeps_asked (request.Contact g) ms run time on c =
       contact_kept (request.Contact g) ms run time on c g (no_contact a b a (request.Contact g) (events_of ms) on (same_host-refl a) g refl) (is_ready (pair_with g (program a ms).peers).phase) refl

@@ -33,7 +33,7 @@ module _ (a b : Host) (test : Life → Bool) (change : Life → Life) where
   abbrev pub IsOff : List Life → Type 0
   IsOff ls = (x : Life) → Among x ls → x.host ≡ a → x.peer ≡ b → test x ≡ false
 
-  pub where_forth : (n : ℕ) (ls : List Life) → IsOff ls → AreIn a b (drop n ls) (drop n (where_it test change ls))
+  where_forth : (n : ℕ) (ls : List Life) → IsOff ls → AreIn a b (drop n ls) (drop n (where_it test change ls))
   where_forth zero [] off x host peer there = absurd there
   where_forth zero (y ∷ ys) off x host peer (inl is) =
       let same : changed_when (test y) change y ≡ y = ap (λ (v : Bool). changed_when v change y) (off y (inl refl) (ap (λ (z : Life). z.host) is ∙ host) (ap (λ (z : Life). z.peer) is ∙ peer)) in
@@ -47,7 +47,7 @@ module _ (a b : Host) (test : Life → Bool) (change : Life → Life) where
     kept_when true x = kept x
     kept_when false x = (refl, refl)
 
-    pub where_back : (n : ℕ) (ls : List Life) → IsOff ls → AreIn a b (drop n (where_it test change ls)) (drop n ls)
+    where_back : (n : ℕ) (ls : List Life) → IsOff ls → AreIn a b (drop n (where_it test change ls)) (drop n ls)
     where_back zero [] off x host peer there = absurd there
     where_back zero (y ∷ ys) off x host peer (inl is) =
         let its_host : y.host ≡ a = sym (kept_when (test y) y).0 ∙ ap (λ (z : Life). z.host) is ∙ host in

@@ -22,13 +22,13 @@ module _ (a b : Host) where
     pub peer : y.peer ≡ x.peer
     pub same : x.host ≡ a → x.peer ≡ b → y ≡ x
 
-  pub like_same : (x : Life) → IsLike x x
+  like_same : (x : Life) → IsLike x x
   like_same x = record { host = refl; peer = refl; same = λ h p. refl }
 
-  pub like_then : (x y z : Life) → IsLike x y → IsLike y z → IsLike x z
+  like_then : (x y z : Life) → IsLike x y → IsLike y z → IsLike x z
   like_then x y z l k = record { host = k.host ∙ l.host; peer = k.peer ∙ l.peer; same = λ h p. k.same (l.host ∙ h) (l.peer ∙ p) ∙ l.same h p }
 
-  pub like_when : (v : Bool) (f : Life → Life) (x : Life) → ((x : Life) → (f x).host ≡ x.host) → ((x : Life) → (f x).peer ≡ x.peer) → (x.host ≡ a → x.peer ≡ b → v ≡ true → ⊥) → IsLike x (changed_when v f x)
+  like_when : (v : Bool) (f : Life → Life) (x : Life) → ((x : Life) → (f x).host ≡ x.host) → ((x : Life) → (f x).peer ≡ x.peer) → (x.host ≡ a → x.peer ≡ b → v ≡ true → ⊥) → IsLike x (changed_when v f x)
   like_when true f x host peer none = record { host = host x; peer = peer x; same = λ h p. absurd (none h p refl) }
   like_when false f x host peer none = like_same x
 
@@ -89,11 +89,11 @@ module _ (a b : Host) where
 
   -- ---- changes of lists
 
-  pub alike_mapped : (f : Life → Life) (xs new : List Life) → ((x : Life) → Among x xs → IsLike x (f x)) → AreOthers new → AreAlike xs (map f xs ++ new)
+  alike_mapped : (f : Life → Life) (xs new : List Life) → ((x : Life) → Among x xs → IsLike x (f x)) → AreOthers new → AreAlike xs (map f xs ++ new)
   alike_mapped f [] new like o = o
   alike_mapped f (x ∷ xs) new like o = (like x (inl refl), alike_mapped f xs new (λ y there. like y (inr there)) o)
 
-  pub alike_more : (xs new : List Life) → AreOthers new → AreAlike xs (xs ++ new)
+  alike_more : (xs new : List Life) → AreOthers new → AreAlike xs (xs ++ new)
   alike_more [] new o = o
   alike_more (x ∷ xs) new o = (like_same x, alike_more xs new o)
 

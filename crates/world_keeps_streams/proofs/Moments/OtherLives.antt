@@ -278,7 +278,7 @@ module _ (a b : Host) where
       (λ f. asked_away h f r (kept_in ms).book.lives)
 
 module _ (hosts : List Host) (addresses : HaveAddresses hosts) (a b : Host) (x : Moment) (ms : List Moment) (run : mail.IsRun hosts (crossings_of (x ∷ ms))) (time : IsTimeline hosts (x ∷ ms)) where
-  pub other_alike : IsElsewhere a b x ms → AreAlike a b (kept_in ms).book.lives (kept_in (x ∷ ms)).book.lives
+  other_alike : IsElsewhere a b x ms → AreAlike a b (kept_in ms).book.lives (kept_in (x ∷ ms)).book.lives
   other_alike off =
       subst (λ (ls : List Life). AreAlike a b (kept_in ms).book.lives ls) (sym (told_lives (host_in x) (notices_by x ms) (kept_by x (kept_in ms)))) (moment_alike a b hosts addresses x ms run time off)
 

@@ -65,7 +65,7 @@ module _ (q : PairState) (refusing : AreRefusing q.entries) where
   pub at_found : (test : Entry → Bool) (e : Entry) → find test q.entries ≡ Some e → is_open e ≡ true → IsAt e q.entries
   at_found test e f o = record { there = (found_among test q.entries e f).0; mine = open_mine e (refusing_found test q.entries e refusing f) o; opened = o }
 
-  pub hits_hears : (stamp : ℕ) (c : Command) → Hits (hears stamp c q) q.entries
+  hits_hears : (stamp : ℕ) (c : Command) → Hits (hears stamp c q) q.entries
   hits_hears stamp command.Nop = tt
   hits_hears stamp (command.Rts receive send link) =
       hits_if (list_any (sends_on link) q.entries) deeds.Nothing (matches send receive (asked_on_link stamp link) q.entries (entry_at send receive q.entries)) q.entries tt
@@ -92,14 +92,14 @@ module _ (q : PairState) (refusing : AreRefusing q.entries) where
   hits_arrives text e at None = tt
   hits_arrives text e at (Some h) = hits_if (is_acceptable e h) (deeds.Arrives e (data_of (data_bits h) text)) deeds.Nothing q.entries at tt
 
-  pub hits_takes : (link : ℕ) (text : List Bool) → Hits (arrives text (found_in (find (receives_on link) q.entries))) q.entries
+  hits_takes : (link : ℕ) (text : List Bool) → Hits (arrives text (found_in (find (receives_on link) q.entries))) q.entries
   hits_takes link text =
       found_cases (find (receives_on link) q.entries) (λ w. Hits (arrives text w) q.entries) tt tt (λ e f o. hits_arrives text e (at_found (receives_on link) e f o) (header_of text))
 
 -- ---- where a peer has an own end, no life with another peer goes on
 
 module _ (a b p : Host) (off : same_host p b ≡ false) where
-  pub clear_at : (k : ℕ) (m : Place) (es : List Entry) (l : Bool) (κ : Kept) → IsAway p m → At a k m p (mine_on k es) l κ → (e : Entry) → Among e es → is_mine_on k e ≡ true → IsClear a b k κ.book.lives
+  clear_at : (k : ℕ) (m : Place) (es : List Entry) (l : Bool) (κ : Kept) → IsAway p m → At a k m p (mine_on k es) l κ → (e : Entry) → Among e es → is_mine_on k e ≡ true → IsClear a b k κ.book.lives
   clear_at k m es l κ away on e there mine = by m (mine_on k es) l (among_kept (is_mine_on k) es e there mine) on where
     by : (m : Place) (ys : List Entry) (l : Bool) → Among e ys → At a k m p ys l κ → IsClear a b k κ.book.lives
     by m [] l is h = absurd is
@@ -136,7 +136,7 @@ module _ (a b p : Host) (off : same_host p b ≡ false) where
     clear_deed t placed (deeds.Returns e m n) h = clear_end t placed e h.there h.mine
 
     -- a call
-    pub call_alike : (t : TurnState) → Placed t → (c : Call) → IsTold c → Hits (deed_of c t.pair) t.pair.entries → AreAlike a b (Lives t.notices) (all_lives a (notices_of p c t.pair t.listening) (Lives t.notices))
+    call_alike : (t : TurnState) → Placed t → (c : Call) → IsTold c → Hits (deed_of c t.pair) t.pair.entries → AreAlike a b (Lives t.notices) (all_lives a (notices_of p c t.pair t.listening) (Lives t.notices))
     call_alike t placed c is h =
         subst (λ (ls : List Life). AreAlike a b (Lives t.notices) ls) (sym (call_told a p t.pair t.listening c is (Lives t.notices)))
         (deed_alike a b p off (deed_of c t.pair) (Lives t.notices) (clear_deed t placed (deed_of c t.pair) h))

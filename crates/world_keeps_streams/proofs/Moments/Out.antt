@@ -50,7 +50,7 @@ both_same true false e = absurd (let no : false ≡ true = e in cc)
 both_same false u e = absurd (let no : false ≡ true = e in cc)
 
 -- what is said comes upon what was before
-pub said_onto : (b : Host) (stamp : ℕ) (cs : List Command) (q : PairState) (listening : List Listener) (older base : List calls.Moment) → commands_said b stamp cs q listening older ++ base ≡ commands_said b stamp cs q listening (older ++ base)
+said_onto : (b : Host) (stamp : ℕ) (cs : List Command) (q : PairState) (listening : List Listener) (older base : List calls.Moment) → commands_said b stamp cs q listening older ++ base ≡ commands_said b stamp cs q listening (older ++ base)
 said_onto b stamp [] q listening older base = refl
 said_onto b stamp (c ∷ cs) q listening older base =
     said_onto b stamp cs (with_connections q (parcel.command_gone b stamp c (desk_of q listening))) listening (called (Says stamp c) q listening ∷ older) base

@@ -1,5 +1,5 @@
 -- The requests of an end that is there, in a host that stays: those of the connection that its sockets' gone ones count.
-use Rattle.std.proofs.Common.{◌≡◌, ℕ, ◌+◌, ◌==◌, ◌&&◌, ◌||◌, Bool, true, false, List, [], ◌∷◌, Option, Some, refl, ap, sym, subst, ◌∙◌, arith}
+use Rattle.std.proofs.Common.{◌≡◌, ℕ, ◌+◌, ◌==◌, ◌&&◌, ◌||◌, Bool, true, false, List, ◌∷◌, Option, Some, refl, ap, sym, subst, ◌∙◌, arith}
 use Rattle.std.proofs.lemmas.Bool.{eqb-true}
 use Rattle.leader1822.specs.Host.{Host}
 use Rattle.host_pairs.specs.Entries.{entry_at, is_at}
@@ -90,9 +90,6 @@ Counts h p ms = (foreign own : ℕ) → closes_in foreign own (own_calls h p ms)
 module _ (hosts : List Host) (ms : List Moment) (l : Lawful hosts ms) (s : Sockets) (q : IsPair s) (who : Who) (h p : Host) (counts : Counts h p ms) (stays : stay.stays h p (events_of ms) ≡ true)
     (tie : Tie s q who h p (origin_in (crossings_of ms) h p) ms) (other_side : Side) (floor above : ℕ) (law : Half floor above (half h p (at_texts s who) (at_texts s (other who)) (law_events ms)) other_side)
     (e : Entry) (found : entry_at (own_of who s) (foreign_of who s) (pair_with p (program h ms).peers).entries ≡ Some e) where
-  abbrev the_side : Side
-  the_side = half h p (at_texts s who) (at_texts s (other who)) (law_events ms)
-
   place : Among e (pair_with p (program h ms).peers).entries × (is_at (own_of who s) (foreign_of who s) e ≡ true)
   place = found_among (is_at (own_of who s) (foreign_of who s)) (pair_with p (program h ms).peers).entries e found
 
@@ -117,10 +114,10 @@ module _ (hosts : List Host) (ms : List Moment) (l : Lawful hosts ms) (s : Socke
       (law.same (side_stays h p (at_texts s who) (at_texts s (other who)) (law_events ms) ∙ stays_same h p (events_of ms) ∙ stays))
       (ap (λ (x : End). x.taken) end_is.0 ∙ (let live : is_past (standing e) ≡ false = end_is.1 in rw live refl)) counted_here
 
-  pub asked_here : (n : ℕ) → e.asked ≡ Some n → Asks (gone_now p (own_calls h p ms) (own_of who s) (foreign_of who s)) n (half h p (at_texts s who) (at_texts s (other who)) (law_events ms)).said
+  asked_here : (n : ℕ) → e.asked ≡ Some n → Asks (gone_now p (own_calls h p ms) (own_of who s) (foreign_of who s)) n (half h p (at_texts s who) (at_texts s (other who)) (law_events ms)).said
   asked_here n asked = now.asked n (ap (λ (x : End). x.asked) end_is.0 ∙ (let live : is_past (standing e) ≡ false = end_is.1 in rw live asked))
 
-  pub partner_here : (t : ℕ) → e.partner ≡ Some t → Asks (gone_now p (own_calls h p ms) (own_of who s) (foreign_of who s)) (origin_in (crossings_of ms) h p t) (half h p (at_texts s who) (at_texts s (other who)) (law_events ms)).heard
+  partner_here : (t : ℕ) → e.partner ≡ Some t → Asks (gone_now p (own_calls h p ms) (own_of who s) (foreign_of who s)) (origin_in (crossings_of ms) h p t) (half h p (at_texts s who) (at_texts s (other who)) (law_events ms)).heard
   partner_here t partner =
       now.partner (origin_in (crossings_of ms) h p t) (ap (λ (x : End). x.partner) end_is.0 ∙ (let live : is_past (standing e) ≡ false = end_is.1 in rw (live, partner) refl))
 

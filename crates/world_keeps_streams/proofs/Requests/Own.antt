@@ -22,7 +22,7 @@ use Rattle.world_keeps_streams.proofs.Lives.Lists.{IsOf, contains}
 use Rattle.world_keeps_streams.proofs.Requests.Sides.{Lawful, Own, coupled_in, law_joined, lives_in}
 
 -- an opened end whose partner's request of connection `g` was heard in this stay asked for `g` itself
-pub stood_own : (a b : Side) (x : law.Life) (g : ℕ) → Joined a b → IsIn x a.lives → Asks g x.partner a.heard → Asks g x.own a.said
+stood_own : (a b : Side) (x : law.Life) (g : ℕ) → Joined a b → IsIn x a.lives → Asks g x.partner a.heard → Asks g x.own a.said
 stood_own a b x g j i heard =
     by (every_in (Stands j.floor j.other a.said a.heard a.end) x a.lives j.here.lived.stands i).stood where
       said : Asks g x.partner b.said

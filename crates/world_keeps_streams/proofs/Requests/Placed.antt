@@ -1,7 +1,6 @@
 -- Requests by the places where they went out, connection by connection: what the clauses of a safe book ask of them.
-use Rattle.std.proofs.Common.{◌≡◌, ℕ, true, false, List, [], ◌∷◌, Option, Some, None, refl, ap, sym, subst, ◌∙◌}
+use Rattle.std.proofs.Common.{◌≡◌, ℕ, true, false, List, ◌∷◌, Option, Some, None, refl, ap, subst}
 use Rattle.leader1822.specs.Host.{Host}
-use Rattle.host_keeps_streams.specs.Histories.{numbered}
 use Rattle.reset_law.specs.Stays as stay
 use Rattle.net_sim.specs.Safe.{Match, receives}
 use Rattle.net_sim.specs.Story.{Moment, Crossed, Asked, event_in, events_of}
@@ -9,7 +8,7 @@ use Rattle.net_sim.specs.Timeline.{crossings_of}
 use Rattle.net_sim.specs.declared.life.Life.{Life}
 use Rattle.world_keeps_pairing.specs.Free.{origin_in}
 use Rattle.world_keeps_streams.proofs.Lives.Lists.{IsOf, contains}
-use Rattle.world_keeps_streams.proofs.Requests.Names.{matched, matched_by, origin_grows}
+use Rattle.world_keeps_streams.proofs.Requests.Names.{matched, origin_grows}
 use Rattle.world_keeps_streams.proofs.Requests.Sides as sides
 use Rattle.world_keeps_streams.proofs.Requests.Sides.{Lawful, heard_on, lives_in, own_on}
 use Rattle.world_keeps_streams.proofs.Books.Run.{below}
@@ -23,7 +22,7 @@ unfolding value
 same_some m n e = ap value e
 
 -- the origin of a life's partner's request stays the same by a moment
-pub origin_on : (hosts : List Host) (y : Moment) (ms : List Moment) → Lawful hosts ms → (b a : Host) (s : Life) → IsOf s (lives_in ms) → s.host ≡ b → s.peer ≡ a
+origin_on : (hosts : List Host) (y : Moment) (ms : List Moment) → Lawful hosts ms → (b a : Host) (s : Life) → IsOf s (lives_in ms) → s.host ≡ b → s.peer ≡ a
     → origin_in (crossings_of (y ∷ ms)) b a s.partner_stamp ≡ origin_in (crossings_of ms) b a s.partner_stamp
 origin_on hosts (Asked h r) ms l b a s i f g = refl
 origin_on hosts (Crossed c) ms l b a s i f g =
@@ -35,27 +34,6 @@ origin_on hosts (Crossed c) ms l b a s i f g =
 
 module _ (hosts : List Host) (a b : Host) (at : (ms : List Moment) → Lawful hosts ms → ℕ → Option ℕ)
     (grows : (y : Moment) (ms : List Moment) (l : Lawful hosts (y ∷ ms)) → stay.begins a b (event_in y) (events_of ms) ≡ false → (c p : ℕ) → at ms (below hosts y ms l) c ≡ Some p → at (y ∷ ms) l c ≡ Some p) where
-  abbrev pub OwnAt : List Moment → ℕ → ℕ → ℕ → ℕ → Type 0
-  OwnAt ms receive send stamp g = (l : Lawful hosts ms) → at ms l (numbered receive send g) ≡ Some stamp
-
-  abbrev pub HeardAt : List Moment → ℕ → ℕ → ℕ → ℕ → Type 0
-  HeardAt ms receive send stamp g = (l : Lawful hosts ms) → at ms l (numbered receive send g) ≡ Some (origin_in (crossings_of ms) b a stamp)
-
-  pub own_at_on : (y : Moment) (ms : List Moment) → Lawful hosts (y ∷ ms) → stay.begins a b (event_in y) (events_of ms) ≡ false → (receive send stamp g : ℕ) → OwnAt ms receive send stamp g → OwnAt (y ∷ ms) receive send stamp g
-  own_at_on y ms l none receive send stamp g o = λ k. grows y ms k none (numbered receive send g) stamp (o (below hosts y ms k))
-
-  pub heard_at_on : (y : Moment) (ms : List Moment) → Lawful hosts (y ∷ ms) → stay.begins a b (event_in y) (events_of ms) ≡ false → (s : Life) → IsOf s (lives_in ms) → s.host ≡ b → s.peer ≡ a → (g : ℕ)
-      → HeardAt ms s.foreign s.socket s.partner_stamp g → HeardAt (y ∷ ms) s.foreign s.socket s.partner_stamp g
-  heard_at_on y ms l none s i f h g o = λ k.
-      grows y ms k none (numbered s.foreign s.socket g) (origin_in (crossings_of (y ∷ ms)) b a s.partner_stamp)
-      (o (below hosts y ms k) ∙ ap (λ (n : ℕ). Some n) (sym (origin_on hosts y ms (below hosts y ms k) b a s i f h)))
-
-  pub matched_at : (ms : List Moment) → Lawful hosts ms → (x s : Life) (g : ℕ) → IsOf x (lives_in ms) → IsOf s (lives_in ms) → (x.host ≡ a) × (x.peer ≡ b) → (s.host ≡ b) × (s.peer ≡ a) → (x.socket ≡ s.foreign) × (x.foreign ≡ s.socket)
-      → receives x ≡ true → OwnAt ms x.socket x.foreign x.own_stamp g → HeardAt ms s.foreign s.socket s.partner_stamp g → Match (crossings_of ms) x s
-  matched_at ms l x s g i j of_a of_b ends receiving own heard =
-      let name : numbered x.socket x.foreign g ≡ numbered s.foreign s.socket g = ap (λ (n : ℕ). numbered n x.foreign g) ends.0 ∙ ap (λ (n : ℕ). numbered s.foreign n g) ends.1 in
-      matched_by hosts ms l a b x s (contains x (lives_in ms) i) (contains s (lives_in ms) j) of_b ends receiving
-      (same_some (origin_in (crossings_of ms) b a s.partner_stamp) x.own_stamp (sym (heard l) ∙ ap (at ms l) (sym name) ∙ own l))
 
 -- ---- by the law of pairing
 

@@ -66,7 +66,7 @@ module _ (hosts : List Host) (addresses : HaveAddresses hosts) (a b : Host) wher
   abbrev Solo : List Moment → Type 0
   Solo moments = IsSolo b (own_calls a b moments) (pair_with b (program a moments).peers).queue
 
-  pub leaves_empty : (x : Moment) (moments : List Moment) → mail.IsRun hosts (crossings_of (x ∷ moments)) → IsTimeline hosts (x ∷ moments) → keeps a b (event_in x) (events_of moments) ≡ false
+  leaves_empty : (x : Moment) (moments : List Moment) → mail.IsRun hosts (crossings_of (x ∷ moments)) → IsTimeline hosts (x ∷ moments) → keeps a b (event_in x) (events_of moments) ≡ false
       → (pair_with b (program a (x ∷ moments)).peers).queue ≡ []
   leaves_empty x moments run time left = by (ready a b (events_of (x ∷ moments))) (takes_reset a b (event_in x)) refl refl left where
     by : (r t : Bool) → ready a b (events_of (x ∷ moments)) ≡ r → takes_reset a b (event_in x) ≡ t → (r && not t) ≡ false → (pair_with b (program a (x ∷ moments)).peers).queue ≡ []
@@ -127,7 +127,7 @@ module _ (hosts : List Host) (addresses : HaveAddresses hosts) (a b : Host) wher
       → (pair a b (events_of (x ∷ moments))).begun ≡ false → Solo (x ∷ moments)
   solo_there x moments run time left silent = solo_next x moments run time (solo moments (mail_below hosts x moments run) time.1) left silent
 
-  pub alone_there : (x : Moment) (moments : List Moment) (link : ℕ) → (link == 0) ≡ false → mail.IsRun hosts (crossings_of (x ∷ moments)) → IsTimeline hosts (x ∷ moments) → begins a b (event_in x) (events_of moments) ≡ true
+  alone_there : (x : Moment) (moments : List Moment) (link : ℕ) → (link == 0) ≡ false → mail.IsRun hosts (crossings_of (x ∷ moments)) → IsTimeline hosts (x ∷ moments) → begins a b (event_in x) (events_of moments) ≡ true
       → Alone a b link (x ∷ moments)
   alone_there x moments link off run time begun =
       let law : IsRun hosts (events_of (x ∷ moments)) = (coupled hosts addresses (x ∷ moments) run time).run in

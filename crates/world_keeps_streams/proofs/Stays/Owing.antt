@@ -92,7 +92,7 @@ owes_step hosts (Up x) events r a b none h owed =
     plain_if (same_host a x) ClearAll (place events) (boxes a b events) (λ e k plain. absurd (cc)) (h (owed_begin (same_host a x) (pair a b events) owed))
 owes_step hosts Idle events r a b none h owed = h owed
 
-pub owes_silent : (hosts : List Host) (events : List Event) → IsRun hosts events → (a b : Host) → stays a b events ≡ true → (pair a b events).owed ≡ true → NoPlain (boxes a b events)
+owes_silent : (hosts : List Host) (events : List Event) → IsRun hosts events → (a b : Host) → stays a b events ≡ true → (pair a b events).owed ≡ true → NoPlain (boxes a b events)
 owes_silent hosts [] r a b s owed = absurd (cc)
 owes_silent hosts (e ∷ events) r a b s owed = by (begins a b e events) refl (owes_silent hosts events r.2 a b) where
   by : (t : Bool) → begins a b e events ≡ t → (stays a b events ≡ true → OwesSilent a b events) → NoPlain (boxes a b (e ∷ events))

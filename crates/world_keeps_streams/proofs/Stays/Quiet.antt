@@ -55,7 +55,7 @@ no_more cs = record { more = []; wordless = tt; is = sym (append-nil cs) }
 pub one_more : (cs : List Command) (c : Command) → IsWordless c → IsMore cs (cs ++ c ∷ [])
 one_more cs c h = record { more = c ∷ []; wordless = (h, tt); is = refl }
 
-pub more_more : (xs ys zs : List Command) → IsMore xs ys → IsMore ys zs → IsMore xs zs
+more_more : (xs ys zs : List Command) → IsMore xs ys → IsMore ys zs → IsMore xs zs
 more_more xs ys zs h k = record {
   more = h.more ++ k.more;
   wordless = all_wordless h.more k.more h.wordless k.wordless;
@@ -129,7 +129,7 @@ module _ (number other : ℕ → ℕ → ℕ → ℕ) (tells : IsTelling number)
   }
 
   module _ (steps : Steps number other tells others link) where
-    pub answers_free : (x y : Stream) (a b : Party) → J x y a b → a.stays ≡ true → a.post ≡ Free → (peer : Host) (q : PairState) → q.entries ≡ a.entries → (listening : List Listener) → (l : ℕ) → (l == link) ≡ true
+    answers_free : (x y : Stream) (a b : Party) → J x y a b → a.stays ≡ true → a.post ≡ Free → (peer : Host) (q : PairState) → q.entries ≡ a.entries → (listening : List Listener) → (l : ℕ) → (l == link) ≡ true
         → Stepped number other tells others link x y a peer (Answered l) q listening Free b
     answers_free x y a b j stays free peer q here listening l is =
         let box : y.box ≡ Empty = free_box y.box (subst (λ (p : Post). IsPosted p y.box) free (j.box_y.whole stays)) in

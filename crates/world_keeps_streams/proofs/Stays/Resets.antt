@@ -1,15 +1,15 @@
 -- What the law of resets says of a stay: how it begins, who says what in it, and what is outstanding.
-use Rattle.std.proofs.Common.{◌≡◌, ◌≢◌, ℕ, Bool, true, false, not, ◌&&◌, ◌||◌, ◌==◌, List, [], ◌∷◌, Option, Some, None, is_some, refl, ap, sym, ◌∙◌, eq-eqb}
+use Rattle.std.proofs.Common.{◌≡◌, ◌≢◌, ℕ, Bool, true, false, not, ◌&&◌, ◌||◌, ◌==◌, List, ◌∷◌, Option, Some, None, is_some, refl, ap, sym, ◌∙◌, eq-eqb}
 use Rattle.leader1822.specs.Host.{Host}
 use Rattle.host_pairs.specs.Entries.{is_busy}
 use Rattle.host_pairs.specs.Pair.{PairState}
 use Rattle.reset_law.specs.Events.{Reset, Reply, Other, Event, Out, is_up}
 use Rattle.reset_law.specs.Boxes.{Box, Empty, Waiting, Taken, boxes}
-use Rattle.reset_law.specs.Pairs.{Kind, Rst, Rrp, Plain, MaySend, pair}
+use Rattle.reset_law.specs.Pairs.{Kind, Rst, Rrp, Plain, pair}
 use Rattle.reset_law.specs.Invariant.{kind_in, is_signal}
 use Rattle.reset_law.specs.Runs.{IsRun}
 use Rattle.reset_law.specs.Stays.{ready, joint, begins, takes_reset, stays}
-use Rattle.reset_law.proofs.lemmas.{NoPlain, alone_run, begin_quiet, contradicts, joint_either, joint_stays, phase_ready, ready_phase, ready_up, sound_run}
+use Rattle.reset_law.proofs.lemmas.{NoPlain, alone_run, begin_quiet, contradicts, joint_stays, phase_ready, ready_phase, ready_up, sound_run}
 use Rattle.reset_law.proofs.lemmas.Stays as stays_proofs
 use Rattle.net_sim.specs.Projection.{Agrees}
 use Rattle.world_keeps_pairing.specs.Steps.{keeps}
@@ -19,20 +19,6 @@ use Rattle.world_keeps_streams.proofs.Steps.Joined.{commands_in}
 
 pub stays_ready : (events : List Event) (a b : Host) → stays a b events ≡ true → ready a b events ≡ true
 stays_ready events a b s = stays_proofs.stays_ready events a b s
-
--- its peer is ready only where it stays too
-pub left_unready : (hosts : List Host) (events : List Event) → IsRun hosts events → (a b : Host) → stays a b events ≡ true → stays b a events ≡ false → ready b a events ≡ false
-left_unready hosts events r a b s left = by (ready b a events) refl where
-  by : (v : Bool) → ready b a events ≡ v → ready b a events ≡ false
-  by false e = e
-  by true e =
-      let both : joint b a events ≡ true = rw (e, stays_ready events a b s) refl in
-      absurd (contradicts (stays b a events) (joint_stays hosts events r b a both) left)
-
--- so it says nothing
-pub left_silent : (hosts : List Host) (events : List Event) → IsRun hosts events → (a b : Host) → stays a b events ≡ true → stays b a events ≡ false → (l : ℕ) (text : List Bool) → MaySend (pair b a events) l (Other text) → ⊥
-left_silent hosts events r a b s left l text may =
-    contradicts (ready b a events) (phase_ready (pair b a events).phase may.0) (left_unready hosts events r a b s left)
 
 -- who says something outside of a stay has a peer that isn't in one
 pub out_alone : (hosts : List Host) (a b : Host) (l : ℕ) (text : List Bool) (events : List Event) → IsRun hosts (Out a b l (Other text) ∷ events) → stays a b events ≡ false → stays b a events ≡ false
@@ -91,7 +77,7 @@ empty_kind Empty e = refl
 empty_kind (Waiting p m) e = absurd (cc)
 empty_kind (Taken p m) e = absurd (cc)
 
-pub no_commands : (x : Box) → kind_in x ≢ Some Plain → commands_in x ≡ []
+no_commands : (x : Box) → kind_in x ≢ Some Plain → commands_in x ≡ []
 no_commands Empty none = refl
 no_commands (Waiting p Reset) none = refl
 no_commands (Waiting p Reply) none = refl
@@ -124,7 +110,7 @@ free_control hosts e events r a b begun =
 
 -- ---- what a host that is up knows of its boxes
 
-pub box_free : (hosts : List Host) (events : List Event) → IsRun hosts events → (a b : Host) → is_up hosts a events ≡ true → (l : ℕ) → (pair a b events).out l ≡ None → boxes a b events l ≡ Empty
+box_free : (hosts : List Host) (events : List Event) → IsRun hosts events → (a b : Host) → is_up hosts a events ≡ true → (l : ℕ) → (pair a b events).out l ≡ None → boxes a b events l ≡ Empty
 box_free hosts events r a b up l none = empty_kind (boxes a b events l) (sym ((sound_run hosts events r a b up).outstanding.boxed l) ∙ none)
 
 -- the same, by its program

@@ -41,7 +41,7 @@ kept_stop false q k = refl
 module _ (number other : ℕ → ℕ → ℕ → ℕ) (tells : IsTelling number) (others : IsTelling other) (link : ℕ) (steps : Steps number other tells others link) (h p : Host) (moments : List Moment) (front rest : List Command) (post : Post) (b : Party) (x y : Stream)
     (held : Held number other tells others link h p moments front rest post b x y) where
   -- a host of whose program a moment changes nothing with this peer
-  pub act_none : (m : Moment) → stay.begins h p (event_in m) (events_of moments) ≡ false → (keeps h p (event_in m) (events_of moments) ≡ true → (calls_by h p m moments ≡ []) × (pair_with p (program h (m ∷ moments)).peers ≡ pair_with p (program h moments).peers))
+  act_none : (m : Moment) → stay.begins h p (event_in m) (events_of moments) ≡ false → (keeps h p (event_in m) (events_of moments) ≡ true → (calls_by h p m moments ≡ []) × (pair_with p (program h (m ∷ moments)).peers ≡ pair_with p (program h moments).peers))
       → Acted number other tells others link h p (m ∷ moments) front post b x y
   act_none m old none =
       act number other tells others link steps h p m moments front rest post b x y old held

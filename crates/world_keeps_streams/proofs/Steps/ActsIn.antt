@@ -1,5 +1,5 @@
 -- A host takes a message of its peer.
-use Rattle.std.proofs.Common.{◌≡◌, ℕ, ◌==◌, Bool, true, false, not, ◌&&◌, if◌then◌else◌, List, [], ◌∷◌, ◌++◌, length, Option, Some, None, refl, ap, sym, subst, ◌∙◌, append-nil}
+use Rattle.std.proofs.Common.{◌≡◌, ℕ, ◌==◌, Bool, true, false, not, ◌&&◌, if◌then◌else◌, List, ◌∷◌, ◌++◌, length, Option, Some, None, refl, ap, sym, subst, ◌∙◌, append-nil}
 use Rattle.std.proofs.lemmas.Bool.{eqb-true}
 use Rattle.leader1822.specs.Host.{Host, same_host}
 use Rattle.leader1822.specs.declared.crossing.Crossing.TheVariants as crossing
@@ -73,9 +73,6 @@ took size bits r None = same_took r
 took size bits r (Some c) = took_by (receivers.is_open c r && is_size size (r.size c) && covers r.allocation (length bits)) c bits r
 
 -- ---- what a message is
-
-read_signal : (place : ℕ) (m : Message) → commands_of_message m ≡ [] → commands_in (fetched (Waiting place m)) ≡ commands_in (Waiting place m)
-read_signal place m e = sym e
 
 module _ (number other : ℕ → ℕ → ℕ → ℕ) (tells : IsTelling number) (others : IsTelling other) (link : ℕ) (off : (link == 0) ≡ false) (steps : Steps number other tells others link) (hosts : List Host) (h p : Host) (moments : List Moment) (front rest : List Command) (post : Post)
     (b : Party) (more : List Command) (x y : Stream) where

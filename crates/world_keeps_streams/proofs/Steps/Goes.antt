@@ -54,7 +54,7 @@ NotIn (Crossed (crossing.In m)) = ⊥
 NotIn x = Unit {0}
 
 -- who says something outside of a stay does it with a peer that isn't in one
-abbrev pub AloneFor : Host → Host → Bool → Moment → List Moment → Type 0
+abbrev AloneFor : Host → Host → Bool → Moment → List Moment → Type 0
 AloneFor h p stays (Crossed (crossing.Out m)) moments =
     are h p m.flow.source m.flow.destination ≡ true → (text : List Bool) → message_on m.flow.link.0 m.text ≡ Other text → stay.stays h p (events_of moments) ≡ false → stays ≡ false
 AloneFor h p stays x moments = Unit {0}

@@ -1,12 +1,9 @@
 -- What a host that stays takes of its peer; and what one takes that has left.
-use Rattle.std.proofs.Common.{◌≡◌, ℕ, Bool, true, false, if◌then◌else◌, List, [], ◌∷◌, ◌++◌, Option, refl, ap, sym, ◌∙◌, append-nil}
+use Rattle.std.proofs.Common.{◌≡◌, ℕ, Bool, true, false, List, ◌∷◌, ◌++◌, refl, ap, sym, ◌∙◌}
 use Rattle.leader1822.specs.Host.{Host}
 use Rattle.ncp_control.specs.declared.command.Command.{Command}
 use Rattle.ncp_control.specs.declared.command.Command.TheVariants as command
-use Rattle.stream_law.specs.Receivers as receivers
-use Rattle.stream_law.specs.Receivers.{Receiver}
 use Rattle.stream_law.specs.Streams.{Stream}
-use Rattle.stream_law.specs.Within.{IsFront}
 use Rattle.host_pairs.specs.Commands.{taken}
 use Rattle.host_pairs.specs.Control.{Order, Legal, Wrong, error}
 use Rattle.host_pairs.specs.Desk.{desk_of, queued}
@@ -29,14 +26,6 @@ clash P true e f = absurd (let no : true ≡ false = f in cc)
 clash P false e f = absurd (let no : false ≡ true = e in cc)
 
 -- ---- a receiver that takes
-
-abbrev Granted : ℕ → List Bool → Option ℕ → Receiver → Type 0
-Granted size bits o r = ((c : ℕ) → (receivers.takes size bits o r).granted c ≡ r.granted c) × ((c : ℕ) → (receivers.takes size bits o r).returned c ≡ r.returned c)
-    × ((c : ℕ) → IsFront (r.taken c) ((receivers.takes size bits o r).taken c))
-
-more_taken : (v : Bool) (xs : List (List Bool)) (ys : List (List Bool)) (bits : List Bool) → (v ≡ true → ys ≡ xs) → IsFront xs (if v then ys ++ bits ∷ [] else xs)
-more_taken true xs ys bits e = (bits ∷ [], ap (λ (l : List (List Bool)). l ++ bits ∷ []) (sym (e refl)))
-more_taken false xs ys bits e = ([], append-nil xs)
 
 module _ (number other : ℕ → ℕ → ℕ → ℕ) (tells : IsTelling number) (others : IsTelling other) (link : ℕ) where
   -- what waits of the peer, for a host that has left

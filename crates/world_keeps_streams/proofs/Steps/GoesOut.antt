@@ -63,7 +63,7 @@ module _ (number other : ℕ → ℕ → ℕ → ℕ) (tells : IsTelling number)
   abbrev OutJoint : List Command → Post → Type 0
   OutJoint pending post = Joint number other tells others link x y (side h p moments pending post) b
 
-  pub posted_out : (pending : List Command) (post post' : Post) → OutJoint pending post → (post' ≡ post) ⊎ ((text : List Bool) → post' ≡ Lies text → ⊥) → OutJoint pending post'
+  posted_out : (pending : List Command) (post post' : Post) → OutJoint pending post → (post' ≡ post) ⊎ ((text : List Bool) → post' ≡ Lies text → ⊥) → OutJoint pending post'
   posted_out pending post post' j (inl is) = subst (λ (o : Post). OutJoint pending o) (sym is) j
   posted_out pending post post' j (inr none) = steps.gone_post x y (side h p moments pending post) b j left post' none
 

@@ -59,7 +59,7 @@ module _ (number other : ℕ → ℕ → ℕ → ℕ) (tells : IsTelling number)
   GoesBy h p m moments front post b x y =
       Goes number other tells others link p (calls_by h p m moments ++ own_calls h p moments) (pair_with p (program h (m ∷ moments)).peers) front post b x y
 
-  pub held_here : (h p : Host) (moments : List Moment) (front rest : List Command) (post : Post) (b : Party) (x y : Stream) → Held h p moments front rest post b x y → stay.stays h p (events_of moments) ≡ true → HereIn h p moments front post b x y
+  held_here : (h p : Host) (moments : List Moment) (front rest : List Command) (post : Post) (b : Party) (x y : Stream) → Held h p moments front rest post b x y → stay.stays h p (events_of moments) ≡ true → HereIn h p moments front post b x y
   held_here h p moments front rest post b x y held s = record {
     joint = subst (λ (cs : List Command). Joint number other tells others link x y (standing_with cs) b) (held.queue s)
         (subst (λ (t : Bool). Joint number other tells others link x y (record (side h p moments (front ++ rest) post) { stays = t }) b) s held.joint);
@@ -127,7 +127,7 @@ module _ (number other : ℕ → ℕ → ℕ → ℕ) (tells : IsTelling number)
 
   module _ (steps : Steps number other tells others link) where
     -- a host that doesn't stay after a moment
-    pub left_joint : (h p : Host) (m : Moment) (moments : List Moment) (pending : List Command) (post : Post) (b : Party) (x y : Stream) → stay.stays h p (events_of (m ∷ moments)) ≡ false
+    left_joint : (h p : Host) (m : Moment) (moments : List Moment) (pending : List Command) (post : Post) (b : Party) (x y : Stream) → stay.stays h p (events_of (m ∷ moments)) ≡ false
         → Joint number other tells others link x y (side h p moments pending post) b → Joint number other tells others link x y (side h p (m ∷ moments) pending post) b
     left_joint h p m moments pending post b x y left j = steps.leaves x y (side h p moments pending post) b j (side h p (m ∷ moments) pending post) left refl refl
 
