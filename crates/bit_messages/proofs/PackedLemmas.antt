@@ -1,5 +1,5 @@
 -- Lists of bits that are kept in octets.
-use Rattle.std.proofs.Common.{◌≡◌, ℕ, ◌+◌, ◌-◌, ◌*◌, ◌/◌, ◌%◌, ◌<◌, ◌≤◌, Bool, true, false, List, ◌∷◌, ◌++◌, length, get_or, set, take, drop, replicate, refl, ap, sym, subst, ◌∙◌, arith, suc, zero, All, inl, inr}
+use Rattle.std.proofs.Common.{◌≡◌, ℕ, ◌+◌, ◌-◌, ◌*◌, ◌/◌, ◌%◌, ◌<◌, ◌≤◌, Bool, true, false, List, [], ◌∷◌, ◌++◌, length, get_or, set, take, drop, replicate, refl, ap, sym, subst, ◌∙◌, arith, suc, zero, All, inl, inr}
 use Rattle.std.proofs.Common.{drop-cons, take-add, Result, Ok, Err, IfOk, OnErr, IsErr, MatchResult, Fits, w8, nat_eq, ◌^◌, ◌==◌, Option, Some, None, IfSome, eq-eqb}
 use Rattle.std.specs.Int.{trailing_zeros}
 use Rattle.std.proofs.lemmas.Nat.Bits.{bit_at-trailing_zeros}

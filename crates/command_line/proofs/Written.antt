@@ -1,5 +1,5 @@
 -- A replay over the carrier of a topology goes on, and ends.
-use Rattle.std.proofs.Common.{◌≡◌, ◌⊎◌, inl, inr, ℕ, Bool, true, false, List, ◌∷◌, ◌++◌, Option, Some, None, Result, IfSome, OnOk, reverse, codes, refl, ap, sym, subst, ◌∙◌}
+use Rattle.std.proofs.Common.{◌≡◌, ◌⊎◌, inl, inr, ℕ, Bool, true, false, List, [], ◌∷◌, ◌++◌, Option, Some, None, Result, IfSome, OnOk, reverse, codes, refl, ap, sym, subst, ◌∙◌}
 use Rattle.std.proofs.lemmas.List.{append-nil}
 use Rattle.std.specs.Io.KnownBytes.{Appends, Keeps}
 use Rattle.leader1822.specs.Messages.{SafeMessages}
@@ -11,8 +11,8 @@ use Rattle.replay.specs.Output.{Shown, Writes, crossings_of, output}
 use Rattle.replay.specs.Output as raw
 use Rattle.replay.specs.Replay.{Calls, EndsIn, Replays, StopsIn}
 use Rattle.replay.proofs.lemmas.{appends_more, appends_none, on_ok, replays_show, stops_show}
-use Rattle.script.specs.Input.{ended}
-use Rattle.script.specs.declared.event.Event.{Event}
+use Rattle.script.specs.Input.{ended_line}
+use Rattle.script.specs.declared.event.RawEvent.{RawEvent}
 use Rattle.topology.specs.Topology.{TopologyFields}
 use Rattle.topology.specs.declared.network.CarrierKind.{CarrierKind}
 use Rattle.topology.specs.declared.network.CarrierKind.TheVariants as kind
@@ -29,7 +29,7 @@ use Rattle.command_line.specs.declared.fault.ScriptFault.{ScriptFault}
 -- ---- without host programs
 
 -- from an opening, at which nothing has crossed: a whole replay, and the last line
-pub writes_all : {C : Type 0} (calls : Calls C) (opening last : C) (events : List Event) (a b c : Option (List ℕ)) → (calls.seen opening).log ≡ [] → Writes (Replays calls opening events last) a b
+pub writes_all : {C : Type 0} (calls : Calls C) (opening last : C) (events : List RawEvent) (a b c : Option (List ℕ)) → (calls.seen opening).log ≡ [] → Writes (Replays calls opening events last) a b
     → SafeMessages (calls.seen last).log → Appends b c (codes "end\n") → WritesAll (ShowsFrom calls opening events) a c
 writes_all calls opening last events a b c empty h safe end = record {
   shown = h.shown;
@@ -43,7 +43,7 @@ writes_all calls opening last events a b c empty h safe end = record {
 }
 
 -- a replay that ends for want of memory
-pub writes_part : {C : Type 0} (calls : Calls C) (opening last : C) (events : List Event) (a b : Option (List ℕ)) → (calls.seen opening).log ≡ [] → Writes (EndsIn calls StopsIn opening events last) a b
+pub writes_part : {C : Type 0} (calls : Calls C) (opening last : C) (events : List RawEvent) (a b : Option (List ℕ)) → (calls.seen opening).log ≡ [] → Writes (EndsIn calls StopsIn opening events last) a b
     → SafeMessages (calls.seen last).log → Writes (StopsFrom calls opening events) a b
 writes_part calls opening last events a b empty h safe = record {
   shown = h.shown;
@@ -128,8 +128,8 @@ as_world (raw.Refused f ∷ shown) = lines.Refused (Carrier f) ∷ as_world show
 same_output : (shown : List Shown) → output shown ≡ lines.output (as_world shown)
 unfolding as_world
 same_output [] = refl
-same_output (raw.Crossed c ∷ shown) = ap (λ xs. ended (raw.shown_text (raw.Crossed c)) ++ xs) (same_output shown)
-same_output (raw.Refused f ∷ shown) = ap (λ xs. ended (raw.shown_text (raw.Refused f)) ++ xs) (same_output shown)
+same_output (raw.Crossed c ∷ shown) = ap (λ xs. ended_line (raw.shown_text (raw.Crossed c)) ++ xs) (same_output shown)
+same_output (raw.Refused f ∷ shown) = ap (λ xs. ended_line (raw.shown_text (raw.Refused f)) ++ xs) (same_output shown)
 
 same_crossings : (shown : List Shown) → crossings_of shown ≡ lines.crossings_of (as_world shown)
 unfolding as_world

@@ -6,9 +6,9 @@ use Rattle.std.proofs.lemmas.List.{append-nil}
 use Rattle.ncp_control.specs.declared.command.Command.{Command}
 use Rattle.pairing_law.specs.Ends.{End, nothing}
 use Rattle.pairing_law.specs.Marks.{Mark, Close}
-use Rattle.host_pairs.specs.Commands.{changed, joined}
+use Rattle.host_pairs.specs.Commands.{changed, entry_joined}
 use Rattle.host_pairs.specs.Entries.{changed_first, changed_at, cls_of, closed_when, entry_at, is_at, is_due, is_drained, is_over, must_close}
-use Rattle.host_pairs.specs.Desk.{DeskState, queued, settled, swept}
+use Rattle.host_pairs.specs.Desk.{DeskState, command_queued, settled, swept}
 use Rattle.host_pairs.specs.declared.entry.Entry.{Entry}
 use Rattle.host_pairs.proofs.lemmas.{both}
 use Rattle.host_keeps_pairing.specs.Words.{mark_of, marks}
@@ -46,7 +46,7 @@ module _ (origin : ℕ → ℕ) (own foreign place : ℕ) where
   on_if done false d e x h k = k
 
   -- a command that says nothing of these sockets
-  pub on_queued : (done : Bool) (c : Command) (d : DeskState) (x : End) → mark_of place own foreign c ≡ [] → On done d x → On done (queued c d) x
+  pub on_queued : (done : Bool) (c : Command) (d : DeskState) (x : End) → mark_of place own foreign c ≡ [] → On done d x → On done (command_queued c d) x
   on_queued done c d x none h = stand_same done (at own foreign d.entries) (at own foreign d.entries) (marks place own foreign d.queue) (marks place own foreign (d.queue ++ c ∷ [])) x refl (marks_quiet place own foreign d.queue c none) h
 
   -- a change of what doesn't matter
@@ -78,12 +78,12 @@ module _ (origin : ℕ → ℕ) (own foreign place : ℕ) where
 
   pub on_joined : (a b : ℕ) (e : Entry) (c : Command) (d : DeskState) (x y : End) → is_at own foreign e ≡ are a b own foreign → mark_of place own foreign c ≡ (if are a b own foreign then due place (standing e) else [])
       → IsSound true (standing e) → entry_at a b d.entries ≡ None → (are a b own foreign ≡ true → x ≡ nothing → y ≡ end_of origin (standing e)) → (are a b own foreign ≡ false → y ≡ x)
-      → On true d x → On true (queued c (joined e d)) y
+      → On true d x → On true (command_queued c (entry_joined e d)) y
   on_joined a b e c d x y there mark sound none here away h = by (are a b own foreign) refl where
     words : marks place own foreign (d.queue ++ c ∷ []) ≡ marks place own foreign d.queue ++ (if are a b own foreign then due place (standing e) else [])
     words = marks_more place own foreign d.queue c ∙ ap (λ (l : List Mark). marks place own foreign d.queue ++ l) mark
 
-    by : (t : Bool) → are a b own foreign ≡ t → On true (queued c (joined e d)) y
+    by : (t : Bool) → are a b own foreign ≡ t → On true (command_queued c (entry_joined e d)) y
     by true t =
         let empty : at own foreign d.entries ≡ [] = none_here a b own foreign d.entries t none in
         let was : (marks place own foreign d.queue ≡ []) × (x ≡ nothing) = subst (λ (ss : List Standing). Stand true origin place ss (marks place own foreign d.queue) x) empty h in

@@ -46,4 +46,4 @@ front_spoken own foreign xs ys front =
     (above.new, ap (λ (texts : List (List Bool)). spoken_upon own foreign texts []) (sym front.1) ∙ spoken_append own foreign xs front.0 [] ∙ above.is)
 
 pub heard_older : (hosts : List Host) (events : List Event) → IsRun hosts events → (a b : Host) (own foreign : ℕ) → IsOlder (listened a b own foreign events) (spoken a b own foreign events)
-heard_older hosts events run a b own foreign = front_spoken own foreign (stays.heard a b 0 (placed events)) (stays.said a b 0 (placed events)) (placed_front hosts events run a b 0)
+heard_older hosts events run a b own foreign = front_spoken own foreign (stays.heard_in_stay a b 0 (placed events)) (stays.said_in_stay a b 0 (placed events)) (placed_front hosts events run a b 0)

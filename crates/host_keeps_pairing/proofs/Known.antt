@@ -8,14 +8,14 @@ use Rattle.ncp_control.specs.DataHeader.{data_bits, header_of}
 use Rattle.ncp_control.specs.declared.command.Command.{Command}
 use Rattle.ncp_control.specs.declared.command.Command.TheVariants as command
 use Rattle.ncp_control.specs.declared.data_header.DataHeader.{DataHeader}
-use Rattle.pairing_law.specs.Ends.{End, nothing, gone, taken, fits}
+use Rattle.pairing_law.specs.Ends.{End, nothing, gone, mark_taken, fits}
 use Rattle.pairing_law.specs.Marks.{Mark, Ask, Close}
 use Rattle.pairing_law.specs.Sides.{Life}
 use Rattle.host_pairs.specs.Commands as commands
 use Rattle.host_pairs.specs.Commands.{all_taken, at_end, closed_once, cls_taken_by, Unconnected, Ending, Open, gvb_taken, interrupted, matched_once, ret_taken, rts_heard, rts_taken, rts_taken_by, sender_on, receiver_on, str_heard, str_linked, str_taken_by, asked_on_link, asked_with_size}
 use Rattle.host_pairs.specs.Control.{ERRONEOUS}
 use Rattle.host_pairs.specs.Data.{arrived, arrived_if, data_found, data_of, data_taken, is_acceptable, text_faulted}
-use Rattle.host_pairs.specs.Entries.{changed_at, closed_by_partner, closed_when, ending, entry_at, free_link, is_at, is_ending, is_over, must_close, opening, opening_by, sends_on}
+use Rattle.host_pairs.specs.Entries.{changed_at, closed_by_partner, closed_when, ending, entry_at, free_link, is_at, is_ending, is_over, must_close, opening_notices, opening_by, sends_on}
 use Rattle.host_pairs.specs.Desk.{DeskState, listener_on, settled, swept}
 use Rattle.host_pairs.specs.Parcels.{cls_sent, command_gone, commands_gone, request_gone}
 use Rattle.host_pairs.specs.declared.entry.Entry.{Entry}
@@ -108,14 +108,14 @@ module _ (origin : ℕ → ℕ) (peer : Host) (own foreign : ℕ) where
     by false = rw (itself, t) refl
 
   opens_here : (place a b : ℕ) (es : List Entry) (ws : List Mark) (x : End) → are a b own foreign ≡ true → Stand true origin place (at own foreign es) ws x → (o : Option Entry) → entry_at a b es ≡ o
-      → (k : List Life) → Knows k x → Knows (tells (opening peer o) k) x
+      → (k : List Life) → Knows k x → Knows (tells (opening_notices peer o) k) x
   opens_here place a b es ws x t h None f k knows = knows
   opens_here place a b es ws x t h (Some e) f k knows =
       let g : Found own foreign es e = found_here a b own foreign es e t f in
       let is : x ≡ plain origin (standing e) = one_end origin own foreign place e g.rest ws x (subst (λ (ss : List Standing). Stand true origin place ss ws x) g.first h) in
       here e e.asked e.partner k x (sockets_are origin own foreign a b e (found_is a b es e f) ∙ t) (ap (λ (y : End). y.asked) is) (ap (λ (y : End). y.partner) is) knows
 
-  opens_away : (a b : ℕ) (es : List Entry) → are a b own foreign ≡ false → (o : Option Entry) → entry_at a b es ≡ o → (k : List Life) → tells (opening peer o) k ≡ k
+  opens_away : (a b : ℕ) (es : List Entry) → are a b own foreign ≡ false → (o : Option Entry) → entry_at a b es ≡ o → (k : List Life) → tells (opening_notices peer o) k ≡ k
   opens_away a b es t None f k = refl
   opens_away a b es t (Some e) f k = away e e.asked e.partner k (sockets_are origin own foreign a b e (found_is a b es e f) ∙ t)
 
@@ -190,8 +190,8 @@ module _ (origin : ℕ → ℕ) (peer : Host) (own foreign : ℕ) where
   -- a request in order comes where nothing is known
   learns_ask : (place : ℕ) (old : List Notice) (a b stamp : ℕ) (x : End) → Fits origin own foreign place a b (Ask (origin stamp)) x → Learns old old x (after origin own foreign place a b (Ask (origin stamp)) x)
   learns_ask place old a b stamp x fit k h = by (are a b own foreign) refl where
-    by : (t : Bool) → are a b own foreign ≡ t → Knows (tells old k) (if t then taken (Ask (origin stamp)) x else x)
-    by true t = known_none (tells old k) (taken (Ask (origin stamp)) x) (unpartnered (tells old k) x h (no_partner origin stamp x (fit t)))
+    by : (t : Bool) → are a b own foreign ≡ t → Knows (tells old k) (if t then mark_taken (Ask (origin stamp)) x else x)
+    by true t = known_none (tells old k) (mark_taken (Ask (origin stamp)) x) (unpartnered (tells old k) x h (no_partner origin stamp x (fit t)))
     by false t = h
 
   matched_learns : (place a b stamp : ℕ) (c : Command) (e : Entry) (change : Entry → Entry) (d : DeskState) (x : End)
@@ -201,11 +201,11 @@ module _ (origin : ℕ → ℕ) (peer : Host) (own foreign : ℕ) where
     new : DeskState
     new = commands.matched peer a b change d
 
-    told : (t : Bool) → are a b own foreign ≡ t → On origin own foreign place true new (if t then taken (Ask (origin stamp)) x else x) → (k : List Life) → Knows k x
-        → Knows (tells (opening peer (entry_at a b new.entries)) k) (if t then taken (Ask (origin stamp)) x else x)
+    told : (t : Bool) → are a b own foreign ≡ t → On origin own foreign place true new (if t then mark_taken (Ask (origin stamp)) x else x) → (k : List Life) → Knows k x
+        → Knows (tells (opening_notices peer (entry_at a b new.entries)) k) (if t then mark_taken (Ask (origin stamp)) x else x)
     told true t there k knows =
-        opens_here place a b new.entries (marks place own foreign new.queue) (taken (Ask (origin stamp)) x) t there (entry_at a b new.entries) refl k
-        (known_none k (taken (Ask (origin stamp)) x) (unpartnered k x knows (no_partner origin stamp x (fit t))))
+        opens_here place a b new.entries (marks place own foreign new.queue) (mark_taken (Ask (origin stamp)) x) t there (entry_at a b new.entries) refl k
+        (known_none k (mark_taken (Ask (origin stamp)) x) (unpartnered k x knows (no_partner origin stamp x (fit t))))
     told false t there k knows = subst (λ (j : List Life). Knows j x) (sym (opens_away a b new.entries t (entry_at a b new.entries) refl k)) knows
 
     by : (v : Bool) → is_some e.partner ≡ v → Learns d.notices (if v then commands.faulted ERRONEOUS c d else new).notices x (after origin own foreign place a b (Ask (origin stamp)) x)
@@ -213,7 +213,7 @@ module _ (origin : ℕ → ℕ) (peer : Host) (own foreign : ℕ) where
     by false g =
         let there : On origin own foreign place true new (after origin own foreign place a b (Ask (origin stamp)) x) =
         subst (λ (v : Bool). On origin own foreign place true (if v then commands.faulted ERRONEOUS c d else new) (after origin own foreign place a b (Ask (origin stamp)) x)) g (on_matched origin own foreign place peer a b stamp c e change d x is f fit h) in
-        learns_on d.notices (opening peer (entry_at a b new.entries)) x (after origin own foreign place a b (Ask (origin stamp)) x) (told (are a b own foreign) refl there)
+        learns_on d.notices (opening_notices peer (entry_at a b new.entries)) x (after origin own foreign place a b (Ask (origin stamp)) x) (told (are a b own foreign) refl there)
 
   rts_heard_learns : (place a b link stamp : ℕ) (l : Option Listener) (d : DeskState) (x : End) → Fits origin own foreign place a b (Ask (origin stamp)) x
       → Learns d.notices (rts_heard a b link stamp l d).notices x (after origin own foreign place a b (Ask (origin stamp)) x)
@@ -259,13 +259,13 @@ module _ (origin : ℕ → ℕ) (peer : Host) (own foreign : ℕ) where
   cls_learns : (place : ℕ) (busy : List ℕ) (a b : ℕ) (o : Option Entry) (d : DeskState) (x : End) → entry_at a b d.entries ≡ o → Fits origin own foreign place a b Close x → On origin own foreign place true d x
       → Learns d.notices (cls_taken_by peer busy a b o d).notices x (after origin own foreign place a b Close x)
   cls_learns place busy a b None d x f fit h = by (are a b own foreign) refl where
-    by : (t : Bool) → are a b own foreign ≡ t → Learns d.notices d.notices x (if t then taken Close x else x)
+    by : (t : Bool) → are a b own foreign ≡ t → Learns d.notices d.notices x (if t then mark_taken Close x else x)
     by true t =
         let was : (marks place own foreign d.queue ≡ []) × (x ≡ nothing) = subst (λ (ss : List Standing). Stand true origin place ss (marks place own foreign d.queue) x) (none_here a b own foreign d.entries t f) h in
         absurd (let r : fits Close nothing ≡ true = subst (λ (y : End). fits Close y ≡ true) was.1 (fit t) in cc)
     by false t = learns_none d.notices x
   cls_learns place busy a b (Some e) d x f fit h = by e.partner_closed refl where
-    same : (t : Bool) → are a b own foreign ≡ t → e.partner_closed ≡ true → (t ≡ true → e.partner_closed ≡ false) → Learns d.notices d.notices x (if t then taken Close x else x)
+    same : (t : Bool) → are a b own foreign ≡ t → e.partner_closed ≡ true → (t ≡ true → e.partner_closed ≡ false) → Learns d.notices d.notices x (if t then mark_taken Close x else x)
     same true t g none = absurd (let r : true ≡ false = sym g ∙ none refl in cc)
     same false t g none = learns_none d.notices x
 
@@ -307,19 +307,19 @@ module _ (origin : ℕ → ℕ) (peer : Host) (own foreign : ℕ) where
   to_all s place a b m x old new e h = subst (λ (y : End). Learns old new x y) (one_mark origin own foreign place s (are a b own foreign) m x e) h
 
   pub taken_learns : (place : ℕ) (busy : List ℕ) (stamp : ℕ) (c : Command) (d : DeskState) (x : End) → AllFit (mark_of (origin stamp) foreign own c) x → On origin own foreign place true d x
-      → Learns d.notices (commands.taken peer busy stamp c d).notices x (words.all_taken (mark_of (origin stamp) foreign own c) x)
+      → Learns d.notices (commands.desk_taken peer busy stamp c d).notices x (words.all_taken (mark_of (origin stamp) foreign own c) x)
   taken_learns place busy stamp command.Nop d x fit h = learns_none d.notices x
   taken_learns place busy stamp (command.Rts receive send link) d x fit h =
       let e : (receive == foreign && send == own) ≡ are send receive own foreign = and_turned (receive == foreign) (send == own) in
-      to_all (receive == foreign && send == own) place send receive (Ask (origin stamp)) x d.notices (commands.taken peer busy stamp (command.Rts receive send link) d).notices e
+      to_all (receive == foreign && send == own) place send receive (Ask (origin stamp)) x d.notices (commands.desk_taken peer busy stamp (command.Rts receive send link) d).notices e
       (rts_learns place send receive link stamp d x (one_fits origin own foreign place (receive == foreign && send == own) (are send receive own foreign) (Ask (origin stamp)) x e fit) h)
   taken_learns place busy stamp (command.Str send receive size) d x fit h =
       let e : (send == foreign && receive == own) ≡ are receive send own foreign = and_turned (send == foreign) (receive == own) in
-      to_all (send == foreign && receive == own) place receive send (Ask (origin stamp)) x d.notices (commands.taken peer busy stamp (command.Str send receive size) d).notices e
+      to_all (send == foreign && receive == own) place receive send (Ask (origin stamp)) x d.notices (commands.desk_taken peer busy stamp (command.Str send receive size) d).notices e
       (str_learns place receive send size stamp (entry_at receive send d.entries) d x refl (one_fits origin own foreign place (send == foreign && receive == own) (are receive send own foreign) (Ask (origin stamp)) x e fit) h)
   taken_learns place busy stamp (command.Cls mine yours) d x fit h =
       let e : (mine == foreign && yours == own) ≡ are yours mine own foreign = and_turned (mine == foreign) (yours == own) in
-      to_all (mine == foreign && yours == own) place yours mine Close x d.notices (commands.taken peer busy stamp (command.Cls mine yours) d).notices e
+      to_all (mine == foreign && yours == own) place yours mine Close x d.notices (commands.desk_taken peer busy stamp (command.Cls mine yours) d).notices e
       (cls_learns place busy yours mine (entry_at yours mine d.entries) d x refl (one_fits origin own foreign place (mine == foreign && yours == own) (are yours mine own foreign) Close x e fit) h)
   taken_learns place busy stamp (command.All link messages bits) d x fit h = found_learns (command.All link messages bits) (all_taken link messages bits) (sender_on link d) d x (λ e. learns_none d.notices x)
   taken_learns place busy stamp (command.Gvb link messages bits) d x fit h = found_learns (command.Gvb link messages bits) (gvb_taken link messages bits) (sender_on link d) d x (λ e. learns_none d.notices x)
@@ -344,11 +344,11 @@ module _ (origin : ℕ → ℕ) (peer : Host) (own foreign : ℕ) where
       → Learns d.notices (request_gone peer stamp a b d).notices x (all_gone (if t then Ask stamp ∷ [] else []) x)
   request_learns place stamp a b d ws x true t h =
       let there : Stand true origin place (at own foreign (request_gone peer stamp a b d).entries) ws (gone (Ask stamp) x) = request_by origin own foreign place peer stamp a b d ws x true t h in
-      learns_on d.notices (opening peer (entry_at a b (request_gone peer stamp a b d).entries)) x (gone (Ask stamp) x)
+      learns_on d.notices (opening_notices peer (entry_at a b (request_gone peer stamp a b d).entries)) x (gone (Ask stamp) x)
       (λ k knows. opens_here place a b (request_gone peer stamp a b d).entries ws (gone (Ask stamp) x) t there (entry_at a b (request_gone peer stamp a b d).entries) refl k
       (known_none k (gone (Ask stamp) x) (unasked k x knows (not_asked place (at own foreign d.entries) ws x h))))
   request_learns place stamp a b d ws x false t h =
-      learns_more d.notices (opening peer (entry_at a b (request_gone peer stamp a b d).entries)) x (opens_away a b (request_gone peer stamp a b d).entries t (entry_at a b (request_gone peer stamp a b d).entries) refl)
+      learns_more d.notices (opening_notices peer (entry_at a b (request_gone peer stamp a b d).entries)) x (opens_away a b (request_gone peer stamp a b d).entries t (entry_at a b (request_gone peer stamp a b d).entries) refl)
 
   closes_learns : (place stamp a b : ℕ) (d : DeskState) (ws : List Mark) (x : End) (t : Bool) → are a b own foreign ≡ t → Stand true origin place (at own foreign d.entries) ((if t then Close ∷ [] else []) ++ ws) x
       → Learns d.notices (command_gone peer stamp (command.Cls a b) d).notices x (all_gone (if t then Close ∷ [] else []) x)

@@ -7,14 +7,14 @@ use Rattle.ncp_control.specs.DataHeader.{header_of}
 use Rattle.ncp_control.specs.declared.command.Command.{Command}
 use Rattle.ncp_control.specs.declared.command.Command.TheVariants as command
 use Rattle.ncp_control.specs.declared.data_header.DataHeader.{DataHeader}
-use Rattle.pairing_law.specs.Ends.{End, gone, taken}
+use Rattle.pairing_law.specs.Ends.{End, gone, mark_taken}
 use Rattle.pairing_law.specs.Marks.{Mark, Ask, Close}
-use Rattle.pairing_law.specs.Sides.{Life, lives_gone, lives_taken, opened}
+use Rattle.pairing_law.specs.Sides.{Life, lives_gone, lives_taken, lives_opened}
 use Rattle.host_pairs.specs.Commands as commands
 use Rattle.host_pairs.specs.Commands.{all_taken, at_end, closed_once, cls_taken_by, Unconnected, Ending, Open, gvb_taken, interrupted, matched_once, ret_taken, rts_heard, rts_taken, rts_taken_by, sender_on, receiver_on, str_heard, str_linked, str_taken_by, asked_on_link, asked_with_size}
 use Rattle.host_pairs.specs.Control.{ERRONEOUS}
 use Rattle.host_pairs.specs.Data.{arrived_if, data_found, data_taken, is_acceptable}
-use Rattle.host_pairs.specs.Entries.{closed_by_partner, ending, entry_at, free_link, is_at, is_ending, is_over, opening, opening_by, sends_on}
+use Rattle.host_pairs.specs.Entries.{closed_by_partner, ending, entry_at, free_link, is_at, is_ending, is_over, opening_notices, opening_by, sends_on}
 use Rattle.host_pairs.specs.Desk.{DeskState, listener_on, settled, swept}
 use Rattle.host_pairs.specs.Parcels.{cls_sent, command_gone, commands_gone, request_gone}
 use Rattle.host_pairs.specs.declared.entry.Entry.{Entry}
@@ -36,7 +36,7 @@ among_more : (xs ys : List Life) (y : Life) → AreAmong xs ys → AreAmong xs (
 among_more [] ys y h = tt
 among_more (x ∷ xs) ys y h = inr h
 
-among_opened : (a p : Option ℕ) (xs ys : List Life) → AreAmong xs ys → AreAmong xs (opened a p ys)
+among_opened : (a p : Option ℕ) (xs ys : List Life) → AreAmong xs ys → AreAmong xs (lives_opened a p ys)
 among_opened None p xs ys h = h
 among_opened (Some a) None xs ys h = h
 among_opened (Some a) (Some p) xs ys h = among_more xs ys (record { own = a; partner = p }) h
@@ -85,7 +85,7 @@ module _ (origin : ℕ → ℕ) (own foreign : ℕ) where
   -- ---- an opening
 
   here : (peer : Host) (e : Entry) (a p : Option ℕ) (told lives : List Life) → (e.own == own && e.foreign == foreign) ≡ true → AreAmong told lives
-      → AreAmong (with_openings origin own foreign (opening_by peer e a p) told) (opened a (came_from origin p) lives)
+      → AreAmong (with_openings origin own foreign (opening_by peer e a p) told) (lives_opened a (came_from origin p) lives)
   here peer e None p told lives t h = h
   here peer e (Some a) None told lives t h = h
   here peer e (Some a) (Some p) told lives t h = by (is_ending e) where
@@ -112,15 +112,15 @@ module _ (origin : ℕ → ℕ) (own foreign : ℕ) where
   one_end place e (s ∷ rest) words x h = absurd h
 
   opens_here : (place : ℕ) (peer : Host) (a b : ℕ) (es : List Entry) (words : List Mark) (x : End) → are a b own foreign ≡ true → Stand true origin place (at own foreign es) words x → (o : Option Entry) → entry_at a b es ≡ o
-      → (told lives : List Life) → AreAmong told lives → AreAmong (with_openings origin own foreign (opening peer o) told) (opened x.asked x.partner lives)
+      → (told lives : List Life) → AreAmong told lives → AreAmong (with_openings origin own foreign (opening_notices peer o) told) (lives_opened x.asked x.partner lives)
   opens_here place peer a b es words x t h None f told lives k = among_opened x.asked x.partner told lives k
   opens_here place peer a b es words x t h (Some e) f told lives k =
       let g : Found own foreign es e = found_here a b own foreign es e t f in
       let is : x ≡ plain origin (standing e) = one_end place e g.rest words x (subst (λ (ss : List Standing). Stand true origin place ss words x) g.first h) in
-      subst (λ (y : End). AreAmong (with_openings origin own foreign (opening_by peer e e.asked e.partner) told) (opened y.asked y.partner lives)) (sym is)
+      subst (λ (y : End). AreAmong (with_openings origin own foreign (opening_by peer e e.asked e.partner) told) (lives_opened y.asked y.partner lives)) (sym is)
       (here peer e e.asked e.partner told lives (sockets_are a b e (found_is a b es e f) ∙ t) k)
 
-  opens_away : (peer : Host) (a b : ℕ) (es : List Entry) → are a b own foreign ≡ false → (o : Option Entry) → entry_at a b es ≡ o → AreOther (opening peer o)
+  opens_away : (peer : Host) (a b : ℕ) (es : List Entry) → are a b own foreign ≡ false → (o : Option Entry) → entry_at a b es ≡ o → AreOther (opening_notices peer o)
   opens_away peer a b es t None f told = refl
   opens_away peer a b es t (Some e) f told = away peer e e.asked e.partner told (sockets_are a b e (found_is a b es e f) ∙ t)
 
@@ -149,14 +149,14 @@ module _ (origin : ℕ → ℕ) (own foreign : ℕ) where
         → Tells d.notices (if v then commands.faulted ERRONEOUS c d else new).notices lives (if t then lives_taken (Ask (origin stamp)) x lives else lives)
     by true g t u = λ told k. among_by t (Ask (origin stamp)) x (with_openings origin own foreign d.notices told) lives k
     by false g true u =
-        let after : On origin own foreign place true (if is_some e.partner then commands.faulted ERRONEOUS c d else new) (if are a b own foreign then taken (Ask (origin stamp)) x else x) = on_matched origin own foreign place peer a b stamp c e change d x is f fit h in
-        let there : On origin own foreign place true new (taken (Ask (origin stamp)) x) = rw (g, u) at after in
-        tells_on d.notices (opening peer (entry_at a b new.entries)) lives (opened x.asked (Some (origin stamp)) lives)
+        let after : On origin own foreign place true (if is_some e.partner then commands.faulted ERRONEOUS c d else new) (if are a b own foreign then mark_taken (Ask (origin stamp)) x else x) = on_matched origin own foreign place peer a b stamp c e change d x is f fit h in
+        let there : On origin own foreign place true new (mark_taken (Ask (origin stamp)) x) = rw (g, u) at after in
+        tells_on d.notices (opening_notices peer (entry_at a b new.entries)) lives (lives_opened x.asked (Some (origin stamp)) lives)
         (opens_here_any new there) where
-          opens_here_any : (n : DeskState) → On origin own foreign place true n (taken (Ask (origin stamp)) x) → (told : List Life) → AreAmong told lives
-              → AreAmong (with_openings origin own foreign (opening peer (entry_at a b n.entries)) told) (opened x.asked (Some (origin stamp)) lives)
-          opens_here_any n k told among = opens_here place peer a b n.entries (marks place own foreign n.queue) (taken (Ask (origin stamp)) x) u k (entry_at a b n.entries) refl told lives among
-    by false g false u = tells_more d.notices (opening peer (entry_at a b new.entries)) lives (opens_away peer a b new.entries u (entry_at a b new.entries) refl)
+          opens_here_any : (n : DeskState) → On origin own foreign place true n (mark_taken (Ask (origin stamp)) x) → (told : List Life) → AreAmong told lives
+              → AreAmong (with_openings origin own foreign (opening_notices peer (entry_at a b n.entries)) told) (lives_opened x.asked (Some (origin stamp)) lives)
+          opens_here_any n k told among = opens_here place peer a b n.entries (marks place own foreign n.queue) (mark_taken (Ask (origin stamp)) x) u k (entry_at a b n.entries) refl told lives among
+    by false g false u = tells_more d.notices (opening_notices peer (entry_at a b new.entries)) lives (opens_away peer a b new.entries u (entry_at a b new.entries) refl)
 
   ended_other : (peer : Host) (es : List Entry) → AreOther (flat_map (ending peer) es)
   ended_other peer [] told = refl
@@ -238,18 +238,18 @@ module _ (origin : ℕ → ℕ) (own foreign : ℕ) where
   to_all s a b m x old new lives e h = subst (λ (ls : List Life). Tells old new lives ls) (one_life s (are a b own foreign) m x lives e) h
 
   pub taken_tells : (place : ℕ) (peer : Host) (busy : List ℕ) (stamp : ℕ) (c : Command) (d : DeskState) (x : End) (lives : List Life) → AllFit (mark_of (origin stamp) foreign own c) x → On origin own foreign place true d x
-      → Tells d.notices (commands.taken peer busy stamp c d).notices lives (all_lives_taken (mark_of (origin stamp) foreign own c) x lives)
+      → Tells d.notices (commands.desk_taken peer busy stamp c d).notices lives (all_lives_taken (mark_of (origin stamp) foreign own c) x lives)
   taken_tells place peer busy stamp command.Nop d x lives fit h = none_tells d.notices lives
   taken_tells place peer busy stamp (command.Rts receive send link) d x lives fit h =
       let e : (receive == foreign && send == own) ≡ are send receive own foreign = and_turned (receive == foreign) (send == own) in
-      to_all (receive == foreign && send == own) send receive (Ask (origin stamp)) x d.notices (commands.taken peer busy stamp (command.Rts receive send link) d).notices lives e
+      to_all (receive == foreign && send == own) send receive (Ask (origin stamp)) x d.notices (commands.desk_taken peer busy stamp (command.Rts receive send link) d).notices lives e
       (rts_tells place peer send receive link stamp d x lives (one_fits origin own foreign place (receive == foreign && send == own) (are send receive own foreign) (Ask (origin stamp)) x e fit) h)
   taken_tells place peer busy stamp (command.Str send receive size) d x lives fit h =
       let e : (send == foreign && receive == own) ≡ are receive send own foreign = and_turned (send == foreign) (receive == own) in
-      to_all (send == foreign && receive == own) receive send (Ask (origin stamp)) x d.notices (commands.taken peer busy stamp (command.Str send receive size) d).notices lives e
+      to_all (send == foreign && receive == own) receive send (Ask (origin stamp)) x d.notices (commands.desk_taken peer busy stamp (command.Str send receive size) d).notices lives e
       (str_tells place peer receive send size stamp (entry_at receive send d.entries) d x lives refl (one_fits origin own foreign place (send == foreign && receive == own) (are receive send own foreign) (Ask (origin stamp)) x e fit) h)
   taken_tells place peer busy stamp (command.Cls mine yours) d x lives fit h =
-      to_all (mine == foreign && yours == own) yours mine Close x d.notices (commands.taken peer busy stamp (command.Cls mine yours) d).notices lives (and_turned (mine == foreign) (yours == own)) (cls_tells peer busy yours mine (entry_at yours mine d.entries) d x lives)
+      to_all (mine == foreign && yours == own) yours mine Close x d.notices (commands.desk_taken peer busy stamp (command.Cls mine yours) d).notices lives (and_turned (mine == foreign) (yours == own)) (cls_tells peer busy yours mine (entry_at yours mine d.entries) d x lives)
   taken_tells place peer busy stamp (command.All link messages bits) d x lives fit h = found_tells (command.All link messages bits) (all_taken link messages bits) (sender_on link d) d lives (λ e. none_tells d.notices lives)
   taken_tells place peer busy stamp (command.Gvb link messages bits) d x lives fit h = found_tells (command.Gvb link messages bits) (gvb_taken link messages bits) (sender_on link d) d lives (λ e. none_tells d.notices lives)
   taken_tells place peer busy stamp (command.Ret link messages bits) d x lives fit h = found_tells (command.Ret link messages bits) (ret_taken link messages bits) (receiver_on link d) d lives (λ e. ret_tells link messages bits e d lives)
@@ -268,10 +268,10 @@ module _ (origin : ℕ → ℕ) (own foreign : ℕ) where
       → Tells d.notices (request_gone peer stamp a b d).notices lives (all_lives_gone (if t then Ask stamp ∷ [] else []) x lives)
   request_tells place peer stamp a b d words x lives true t h =
       let after : Stand true origin place (at own foreign (request_gone peer stamp a b d).entries) words (gone (Ask stamp) x) = request_by origin own foreign place peer stamp a b d words x true t h in
-      tells_on d.notices (opening peer (entry_at a b (request_gone peer stamp a b d).entries)) lives (opened (Some stamp) x.partner lives)
+      tells_on d.notices (opening_notices peer (entry_at a b (request_gone peer stamp a b d).entries)) lives (lives_opened (Some stamp) x.partner lives)
       (λ told k. opens_here place peer a b (request_gone peer stamp a b d).entries words (gone (Ask stamp) x) t after (entry_at a b (request_gone peer stamp a b d).entries) refl told lives k)
   request_tells place peer stamp a b d words x lives false t h =
-      tells_more d.notices (opening peer (entry_at a b (request_gone peer stamp a b d).entries)) lives (opens_away peer a b (request_gone peer stamp a b d).entries t (entry_at a b (request_gone peer stamp a b d).entries) refl)
+      tells_more d.notices (opening_notices peer (entry_at a b (request_gone peer stamp a b d).entries)) lives (opens_away peer a b (request_gone peer stamp a b d).entries t (entry_at a b (request_gone peer stamp a b d).entries) refl)
 
   closes_tells : (peer : Host) (stamp a b : ℕ) (d : DeskState) (x : End) (lives : List Life) (t : Bool) → Tells d.notices (command_gone peer stamp (command.Cls a b) d).notices lives (all_lives_gone (if t then Close ∷ [] else []) x lives)
   closes_tells peer stamp a b d x lives true = tells_more d.notices _ lives (ended_other peer (filter is_over (commands.changed (is_at a b) cls_sent d).entries))

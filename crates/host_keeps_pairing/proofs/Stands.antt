@@ -1,7 +1,7 @@
 -- What a mark that goes out, or is heard, does to the one end of two sockets.
-use Rattle.std.proofs.Common.{◌≡◌, ℕ, ◌≤◌, Bool, true, false, not, ◌||◌, if◌then◌else◌, List, ◌∷◌, ◌++◌, Option, Some, None, is_some, refl, ap, sym, subst, ◌∙◌, ◌⊎◌, inl, inr}
+use Rattle.std.proofs.Common.{◌≡◌, ℕ, ◌≤◌, Bool, true, false, not, ◌||◌, if◌then◌else◌, List, [], ◌∷◌, ◌++◌, Option, Some, None, is_some, refl, ap, sym, subst, ◌∙◌, ◌⊎◌, inl, inr}
 use Rattle.std.proofs.lemmas.List.{append-nil}
-use Rattle.pairing_law.specs.Ends.{End, nothing, is_begun, MayGo, gone, fits, taken}
+use Rattle.pairing_law.specs.Ends.{End, nothing, is_begun, MayGo, gone, fits, mark_taken}
 use Rattle.pairing_law.specs.Marks.{Mark, Ask, Close}
 use Rattle.pairing_law.specs.Sides.{above}
 use Rattle.host_pairs.specs.Entries.{close_due, has_cls, is_due, is_sent}
@@ -29,7 +29,7 @@ none_came origin None e = refl
 none_came origin (Some p) e = absurd (cc)
 
 pub stand_asked : (origin : ℕ → ℕ) (place stamp : ℕ) (s : Standing) (words : List Mark) (x : End) → Stand true origin place (s ∷ []) words x → fits (Ask (origin stamp)) x ≡ true
-    → (is_some s.partner ≡ false) × Stand true origin place (asked_by stamp s ∷ []) words (taken (Ask (origin stamp)) x)
+    → (is_some s.partner ≡ false) × Stand true origin place (asked_by stamp s ∷ []) words (mark_taken (Ask (origin stamp)) x)
 stand_asked origin place stamp s words x h fit =
     let live : is_past s ≡ false = h.0.live refl in
     let is : x ≡ plain origin s = h.2 ∙ live_end origin s live in
@@ -39,7 +39,7 @@ stand_asked origin place stamp s words x h fit =
       (
         record { live = h.0.live; refused = λ m. (refl, (h.0.refused m).1); asked = h.0.asked; own = h.0.own },
         h.1,
-        ap (taken (Ask (origin stamp))) is ∙ sym (live_end origin (asked_by stamp s) live),
+        ap (mark_taken (Ask (origin stamp))) is ∙ sym (live_end origin (asked_by stamp s) live),
       ),
     )
 
@@ -66,7 +66,7 @@ due_waits closing.Due = refl
 due_waits closing.Queued = refl
 due_waits closing.Sent = refl
 
-closed_end : (origin : ℕ → ℕ) (s : Standing) → (b : Bool) → is_sent s.closing ≡ b → is_sent (close_due s.closing) ≡ b → taken Close (plain origin s) ≡ end_of origin (closed_by s)
+closed_end : (origin : ℕ → ℕ) (s : Standing) → (b : Bool) → is_sent s.closing ≡ b → is_sent (close_due s.closing) ≡ b → mark_taken Close (plain origin s) ≡ end_of origin (closed_by s)
 closed_end origin s true e f = rw (e, f) refl
 closed_end origin s false e f = rw (e, f) refl
 
@@ -75,7 +75,7 @@ not_true true e = absurd (cc)
 not_true false e = refl
 
 pub stand_closed : (origin : ℕ → ℕ) (place : ℕ) (s : Standing) (words : List Mark) (x : End) → Stand true origin place (s ∷ []) words x → fits Close x ≡ true
-    → (s.partner_closed ≡ false) × Stand false origin place (closed_by s ∷ []) words (taken Close x)
+    → (s.partner_closed ≡ false) × Stand false origin place (closed_by s ∷ []) words (mark_taken Close x)
 stand_closed origin place s words x h fit =
     let is : x ≡ plain origin s = h.2 ∙ live_end origin s (h.0.live refl) in
     let fit_plain : fits Close (plain origin s) ≡ true = subst (λ (y : End). fits Close y ≡ true) is fit in
@@ -84,7 +84,7 @@ stand_closed origin place s words x h fit =
       (
         record { live = λ e. absurd (cc); refused = λ m. ((h.0.refused m).0, due_cls s.closing (h.0.refused m).1); asked = λ e m. h.0.asked (sym (due_sent s.closing) ∙ e) m; own = h.0.own },
         h.1 ∙ ap (λ (l : List Mark). request_due place s.mine s.asked ++ l) (sym (due_waits s.closing)),
-        ap (taken Close) is ∙ closed_end origin s (is_sent s.closing) refl (due_sent s.closing),
+        ap (mark_taken Close) is ∙ closed_end origin s (is_sent s.closing) refl (due_sent s.closing),
       ),
     )
 

@@ -58,7 +58,7 @@ module _ (origin : ℕ → ℕ) (own foreign : ℕ) where
 
   lives_append : (ms ns : List Mark) (x : End) (lives : List Life) → all_lives_taken (ms ++ ns) x lives ≡ all_lives_taken ns (all_taken ms x) (all_lives_taken ms x lives)
   lives_append [] ns x lives = refl
-  lives_append (m ∷ ms) ns x lives = lives_append ms ns (law.taken m x) (lives_taken m x lives)
+  lives_append (m ∷ ms) ns x lives = lives_append ms ns (law.mark_taken m x) (lives_taken m x lives)
 
   orders_tell : (peer : Host) (stamp : ℕ) (os : List Order) (t : TurnState) (x : End) (lives : List Life) → AreJoint os → AreFree peer stamp os t → AllFit (marks_in (origin stamp) foreign own os) x → is_ready t.pair.phase ≡ true
       → HasEnd origin own foreign t.pair x → Tells origin own foreign t.notices (orders_taken peer stamp os t).notices lives (all_lives_taken (marks_in (origin stamp) foreign own os) x lives)

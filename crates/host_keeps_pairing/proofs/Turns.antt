@@ -6,14 +6,14 @@ use Rattle.leader1822.specs.declared.crossing.Answer.TheVariants as answer
 use Rattle.ncp_control.specs.Command.{is_alone}
 use Rattle.ncp_control.specs.declared.command.Command.{Command}
 use Rattle.ncp_control.specs.declared.command.Command.TheVariants as command
-use Rattle.pairing_law.specs.Ends.{End, nothing, taken}
+use Rattle.pairing_law.specs.Ends.{End, nothing, mark_taken}
 use Rattle.pairing_law.specs.Marks.{Mark}
 use Rattle.host_pairs.specs.Turn.{TurnState, if_ready, with_desk, reset_taken, reply_taken, command_taken, order_taken, orders_taken, freed, settled_turn, failed_by, failed, is_gone, answered_turn}
 use Rattle.host_pairs.specs.Commands as commands
 use Rattle.host_pairs.specs.Control.{Order, Legal, Wrong, error}
 use Rattle.host_pairs.specs.Data.{data_taken}
 use Rattle.host_pairs.specs.Pair.{PairState}
-use Rattle.host_pairs.specs.Desk.{DeskState, desk_of, queued}
+use Rattle.host_pairs.specs.Desk.{DeskState, desk_of, command_queued}
 use Rattle.host_pairs.specs.Phases.{is_ready, reply_phase, taken_phase}
 use Rattle.host_pairs.specs.declared.phase.Phase.{Phase}
 use Rattle.host_pairs.specs.declared.phase.Phase.TheVariants as phase
@@ -24,7 +24,7 @@ use Rattle.host_keeps_pairing.proofs.Desks.{on_queued, on_settled}
 use Rattle.host_keeps_pairing.proofs.Takes.{on_data, on_taken}
 
 -- no RST and no RRP is taken as one
-taken_when : (peer : Host) (stamp : ℕ) (c : Command) (t : TurnState) → is_alone c ≡ false → command_taken peer stamp c t ≡ if_ready (commands.taken peer t.pair.busy stamp c) t
+taken_when : (peer : Host) (stamp : ℕ) (c : Command) (t : TurnState) → is_alone c ≡ false → command_taken peer stamp c t ≡ if_ready (commands.desk_taken peer t.pair.busy stamp c) t
 taken_when peer stamp command.Nop t e = refl
 taken_when peer stamp (command.Rts receive send link) t e = refl
 taken_when peer stamp (command.Str send receive size) t e = refl
@@ -42,8 +42,8 @@ taken_when peer stamp command.Rrp t e = absurd (cc)
 
 -- an order does its work on the connections, where the pair is ready
 abbrev pub work_of : Host → List ℕ → ℕ → Order → DeskState → DeskState
-work_of peer busy stamp (Legal c) d = commands.taken peer busy stamp c d
-work_of peer busy stamp (Wrong code octets) d = queued (error code octets) d
+work_of peer busy stamp (Legal c) d = commands.desk_taken peer busy stamp c d
+work_of peer busy stamp (Wrong code octets) d = command_queued (error code octets) d
 
 order_when : (peer : Host) (stamp : ℕ) (o : Order) (t : TurnState) → IsJoint o → order_taken peer stamp o t ≡ if_ready (work_of peer t.pair.busy stamp o) t
 order_when peer stamp (Legal c) t e = taken_when peer stamp c t e
@@ -70,18 +70,18 @@ module _ (origin : ℕ → ℕ) (own foreign : ℕ) where
   pub one_order : (peer : Host) (stamp : ℕ) (o : Order) (t : TurnState) (x : End) → IsJoint o → IsFreeIn o t → AllFit (mark_in (origin stamp) foreign own o) x → is_ready t.pair.phase ≡ true → HasEnd origin own foreign t.pair x
       → HasEnd origin own foreign (with_desk t (work_of peer t.pair.busy stamp o (desk_of t.pair t.listening))).pair (all_taken (mark_in (origin stamp) foreign own o) x)
   one_order peer stamp (Legal c) t x joint free fit ready h =
-      done t (commands.taken peer t.pair.busy stamp c (desk_of t.pair t.listening)) (all_taken (mark_of (origin stamp) foreign own c) x) ready
+      done t (commands.desk_taken peer t.pair.busy stamp c (desk_of t.pair t.listening)) (all_taken (mark_of (origin stamp) foreign own c) x) ready
       (λ place. on_taken origin own foreign place peer t.pair.busy stamp c (desk_of t.pair t.listening) x free fit (h.ends place))
   one_order peer stamp (Wrong code octets) t x joint free fit ready h =
-      done t (queued (error code octets) (desk_of t.pair t.listening)) x ready (λ place. on_queued origin own foreign place true (error code octets) (desk_of t.pair t.listening) x refl (h.ends place))
+      done t (command_queued (error code octets) (desk_of t.pair t.listening)) x ready (λ place. on_queued origin own foreign place true (error code octets) (desk_of t.pair t.listening) x refl (h.ends place))
 
   pub all_taken_append : (ms ns : List Mark) (x : End) → all_taken (ms ++ ns) x ≡ all_taken ns (all_taken ms x)
   all_taken_append [] ns x = refl
-  all_taken_append (m ∷ ms) ns x = all_taken_append ms ns (taken m x)
+  all_taken_append (m ∷ ms) ns x = all_taken_append ms ns (mark_taken m x)
 
   pub fit_first : (ms ns : List Mark) (x : End) → AllFit (ms ++ ns) x → AllFit ms x × AllFit ns (all_taken ms x)
   fit_first [] ns x h = (tt, h)
-  fit_first (m ∷ ms) ns x h = let r : AllFit ms (taken m x) × AllFit ns (all_taken ms (taken m x)) = fit_first ms ns (taken m x) h.1 in ((h.0, r.0), r.1)
+  fit_first (m ∷ ms) ns x h = let r : AllFit ms (mark_taken m x) × AllFit ns (all_taken ms (mark_taken m x)) = fit_first ms ns (mark_taken m x) h.1 in ((h.0, r.0), r.1)
 
   pub orders_ready : (peer : Host) (stamp : ℕ) (os : List Order) (t : TurnState) (x : End) → AreJoint os → AreFree peer stamp os t → AllFit (marks_in (origin stamp) foreign own os) x → is_ready t.pair.phase ≡ true
       → HasEnd origin own foreign t.pair x → HasEnd origin own foreign (orders_taken peer stamp os t).pair (all_taken (marks_in (origin stamp) foreign own os) x)

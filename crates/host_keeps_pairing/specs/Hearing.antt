@@ -19,9 +19,9 @@ after_request h (request.Contact peer) x = if same_host h peer then nothing else
 after_request h r x = x
 
 -- an RTS names a link that no sending end has
-abbrev pub IsFree : Command → List Entry → Type 0
-IsFree (command.Rts receive send link) entries = list_any (sends_on link) entries ≡ false
-IsFree c entries = Unit {0}
+abbrev pub NamesFreeLink : Command → List Entry → Type 0
+NamesFreeLink (command.Rts receive send link) entries = list_any (sends_on link) entries ≡ false
+NamesFreeLink c entries = Unit {0}
 
 -- neither an RST nor an RRP
 abbrev pub IsJoint : Order → Type 0
@@ -34,7 +34,7 @@ AreJoint (o ∷ orders) = IsJoint o × AreJoint orders
 
 -- each RTS does, where its turn comes
 abbrev pub IsFreeIn : Order → TurnState → Type 0
-IsFreeIn (Legal c) t = IsFree c t.pair.entries
+IsFreeIn (Legal c) t = NamesFreeLink c t.pair.entries
 IsFreeIn (Wrong code octets) t = Unit {0}
 
 abbrev pub AreFree : Host → ℕ → List Order → TurnState → Type 0

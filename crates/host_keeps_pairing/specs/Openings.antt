@@ -1,6 +1,6 @@
 -- The openings of which a host's program tells its user, as lives of the law of pairing (NIC 8246, RTS and STR).
 use Rattle.std.specs.Prelude.{◌≡◌, ◌⊎◌, ℕ, ◌==◌, ◌&&◌, if◌then◌else◌, List, [], ◌∷◌}
-use Rattle.pairing_law.specs.Ends.{End, gone, taken}
+use Rattle.pairing_law.specs.Ends.{End, gone, mark_taken}
 use Rattle.pairing_law.specs.Marks.{Mark}
 use Rattle.pairing_law.specs.Sides.{Life, lives_gone, lives_taken}
 use Rattle.host_pairs.specs.declared.notice.Notice.{Notice}
@@ -24,7 +24,7 @@ all_lives_gone (m ∷ marks) x lives = all_lives_gone marks (gone m x) (lives_go
 
 abbrev pub all_lives_taken : List Mark → End → List Life → List Life
 all_lives_taken [] x lives = lives
-all_lives_taken (m ∷ marks) x lives = all_lives_taken marks (taken m x) (lives_taken m x lives)
+all_lives_taken (m ∷ marks) x lives = all_lives_taken marks (mark_taken m x) (lives_taken m x lives)
 
 -- these are some of those, in the same order
 abbrev pub AreAmong : List Life → List Life → Type 0

@@ -36,11 +36,11 @@ spoken_upon own foreign (text ∷ texts) word = spoken_upon own foreign texts (u
 
 -- what host `a` said to `b` of two sockets, which are `a`'s own and the foreign one, in its last stay
 abbrev pub spoken : Host → Host → ℕ → ℕ → List Event → List Mark
-spoken a b own foreign events = spoken_upon own foreign (stays.said a b 0 (placed events)) []
+spoken a b own foreign events = spoken_upon own foreign (stays.said_in_stay a b 0 (placed events)) []
 
 -- what `b` heard of it
 abbrev pub listened : Host → Host → ℕ → ℕ → List Event → List Mark
-listened a b own foreign events = spoken_upon own foreign (stays.heard a b 0 (placed events)) []
+listened a b own foreign events = spoken_upon own foreign (stays.heard_in_stay a b 0 (placed events)) []
 
 -- ---- words for a worked example
 

@@ -4,7 +4,7 @@ use Rattle.ncp_control.specs.declared.command.Command.{Command}
 use Rattle.ncp_control.specs.declared.command.Command.TheVariants as command
 use Rattle.host_pairs.specs.Control.{Order, Legal, Wrong}
 use Rattle.pairing_law.specs.Marks.{Mark, Ask, Close}
-use Rattle.pairing_law.specs.Ends.{End, MayGo, gone, fits, taken}
+use Rattle.pairing_law.specs.Ends.{End, MayGo, gone, fits, mark_taken}
 use Rattle.pairing_law.specs.Sides.{above, IsLater}
 
 -- ---- in commands
@@ -41,7 +41,7 @@ all_gone (m ∷ marks) x = all_gone marks (gone m x)
 -- and after all that it heard
 abbrev pub all_taken : List Mark → End → End
 all_taken [] x = x
-all_taken (m ∷ marks) x = all_taken marks (taken m x)
+all_taken (m ∷ marks) x = all_taken marks (mark_taken m x)
 
 -- each of them may be said, by the law of pairing, where all requests before went out below a number
 abbrev pub MayAllGo : List Mark → End → ℕ → Type 0
@@ -51,4 +51,4 @@ MayAllGo (m ∷ marks) x next = MayGo m x × IsLater m next × MayAllGo marks (g
 -- each of them is in order
 abbrev pub AllFit : List Mark → End → Type 0
 AllFit [] x = Unit {0}
-AllFit (m ∷ marks) x = (fits m x ≡ true) × AllFit marks (taken m x)
+AllFit (m ∷ marks) x = (fits m x ≡ true) × AllFit marks (mark_taken m x)

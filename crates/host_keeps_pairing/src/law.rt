@@ -31,7 +31,7 @@ ghost use Rattle.host_pairs.specs.Phases.{is_ready};
 ghost use Rattle.sockets.specs.Requests.{refusal, served, served_notices};
 ghost use Rattle.host_pairs.specs.Parcels.{Parcel};
 ghost use Rattle.sockets.specs.Sending.{next_in, offered};
-ghost use Rattle.sockets.specs.Worked.{first, second, third, talk, reset, opening, closing};
+ghost use Rattle.sockets.specs.Worked.{first, second, third, talk, reset, opening_connection, closing};
 ghost use Rattle.host_pairs.specs.declared.phase.Phase.TheVariants as phase;
 ghost use Rattle.host_pairs.specs.declared.entry.Closing.TheVariants as closing;
 ghost use Rattle.host_pairs.specs.declared.notice.Notice.{Notice};
@@ -41,7 +41,7 @@ ghost use Rattle.sockets.specs.declared.request.Request.{Request};
 ghost use Rattle.sockets.specs.declared.request.Request.TheVariants as request;
 ghost use Rattle.host_keeps_pairing.specs.Words.{AllFit, MayAllGo, all_gone, all_taken, marks, marks_in};
 ghost use Rattle.host_keeps_pairing.specs.Ends.{HasEnd, IsSound, Stand, Standing, due, end_of, kept_in, standing};
-ghost use Rattle.host_keeps_pairing.specs.Hearing.{AreFree, AreJoint, IsFree, after_request};
+ghost use Rattle.host_keeps_pairing.specs.Hearing.{AreFree, AreJoint, NamesFreeLink, after_request};
 ghost use Rattle.host_keeps_pairing.specs.Spoken.{asking, listened, reset_of_two, spoken, untagged};
 ghost use Rattle.host_keeps_pairing.specs.Openings.{AreAmong, all_lives_gone, all_lives_taken, with_openings};
 ghost use Rattle.host_keeps_pairing.specs.Known.{ArePartners, Knows, all_known};
@@ -146,7 +146,7 @@ pub fn worked_openings()
     ensures twice { AreAmong (record { own = 1; partner = 2 } ∷ record { own = 1; partner = 2 } ∷ []) (record { own = 1; partner = 2 } ∷ []) → ⊥ }
 
     // both programs of a dialogue tell of the life that the other's has, turned about
-    ensures dialogue { with_openings (λ p. if p == 10 then 8 else 0) 16 33 (map (λ n. n.1) (filter (λ n. same_host first n.0) (talk (reset ++ opening ++ closing)).notices)) [] ≡ record { own = 6; partner = 8 } ∷ [] }
+    ensures dialogue { with_openings (λ p. if p == 10 then 8 else 0) 16 33 (map (λ n. n.1) (filter (λ n. same_host first n.0) (talk (reset ++ opening_connection ++ closing)).notices)) [] ≡ record { own = 6; partner = 8 } ∷ [] }
 {}
 
 /// What a host's user knows of its end on socket 16, with socket 33 of host `second`.
@@ -181,11 +181,11 @@ pub fn worked_endings()
     ensures nobody { Knows [] (record { asked = Some 6; partner = Some 8; gone = false; taken = false }) }
 
     // in a dialogue host `first` knows of its end while it is open
-    ensures dialogue { all_known (λ p. if p == 10 then 8 else 0) second 16 33 (map (λ n. n.1) (filter (λ n. same_host first n.0) (talk (reset ++ opening)).notices)) [] ≡ record { own = 6; partner = 8 } ∷ [] }
-    ensures closed { all_known (λ p. if p == 10 then 8 else 0) second 16 33 (map (λ n. n.1) (filter (λ n. same_host first n.0) (talk (reset ++ opening ++ closing)).notices)) [] ≡ [] }
+    ensures dialogue { all_known (λ p. if p == 10 then 8 else 0) second 16 33 (map (λ n. n.1) (filter (λ n. same_host first n.0) (talk (reset ++ opening_connection)).notices)) [] ≡ record { own = 6; partner = 8 } ∷ [] }
+    ensures closed { all_known (λ p. if p == 10 then 8 else 0) second 16 33 (map (λ n. n.1) (filter (λ n. same_host first n.0) (talk (reset ++ opening_connection ++ closing)).notices)) [] ≡ [] }
 
     // and `second` of its own, the other way about: each is the other's partner, and with another place neither is
-    ensures peer { all_known (λ p. if p == 7 then 6 else 0) first 33 16 (map (λ n. n.1) (filter (λ n. same_host second n.0) (talk (reset ++ opening)).notices)) [] ≡ record { own = 8; partner = 6 } ∷ [] }
+    ensures peer { all_known (λ p. if p == 7 then 6 else 0) first 33 16 (map (λ n. n.1) (filter (λ n. same_host second n.0) (talk (reset ++ opening_connection)).notices)) [] ≡ record { own = 8; partner = 6 } ∷ [] }
     ensures partners { ArePartners (record { own = 6; partner = 8 }) (record { own = 8; partner = 6 }) }
     ensures apart { ArePartners (record { own = 6; partner = 8 }) (record { own = 8; partner = 4 }) → ⊥ }
     ensures older_partner { ArePartners (record { own = 6; partner = 4 }) (record { own = 8; partner = 6 }) → ⊥ }
@@ -289,8 +289,8 @@ pub fn worked_ends()
 /// What a host finds.
 pub fn worked_finding()
     // a link that a sending end has isn't free, another is
-    ensures used { IsFree (command.Rts 18 35 2) (asked_on_link 7 2 (sending_end 33 16 8) ∷ []) → ⊥ }
-    ensures free { IsFree (command.Rts 18 35 3) (asked_on_link 7 2 (sending_end 33 16 8) ∷ []) }
+    ensures used { NamesFreeLink (command.Rts 18 35 2) (asked_on_link 7 2 (sending_end 33 16 8) ∷ []) → ⊥ }
+    ensures free { NamesFreeLink (command.Rts 18 35 3) (asked_on_link 7 2 (sending_end 33 16 8) ∷ []) }
 
     // a link that an RTS took in the same message isn't free for the next
     ensures taken_up { AreFree second 7 (Legal (command.Rts 16 33 2) ∷ Legal (command.Rts 18 35 2) ∷ []) (record { pair = record opening_pair { phase = phase.Ready }; listening = record { socket = 33; size = 8 } ∷ []; notices = [] }) → ⊥ }
@@ -312,12 +312,12 @@ pub fn worked_finding()
 /// Programs in a dialogue: host `first` receives on socket 16 what `second` sends from 33.
 pub fn worked_programs()
     // its RTS goes out at place 6, and the STR that went out at place 8 is taken at place 10
-    ensures receiver { HasEnd (λ p. if p == 10 then 8 else 0) 16 33 (pair_with second (state_of (talk (reset ++ opening)) first).peers) (record { asked = Some 6; partner = Some 8; gone = false; taken = false }) }
+    ensures receiver { HasEnd (λ p. if p == 10 then 8 else 0) 16 33 (pair_with second (state_of (talk (reset ++ opening_connection)) first).peers) (record { asked = Some 6; partner = Some 8; gone = false; taken = false }) }
 
     // the sender took the RTS at place 7
-    ensures sender { HasEnd (λ p. if p == 7 then 6 else 0) 33 16 (pair_with first (state_of (talk (reset ++ opening)) second).peers) (record { asked = Some 8; partner = Some 6; gone = false; taken = false }) }
+    ensures sender { HasEnd (λ p. if p == 7 then 6 else 0) 33 16 (pair_with first (state_of (talk (reset ++ opening_connection)) second).peers) (record { asked = Some 8; partner = Some 6; gone = false; taken = false }) }
 
     // after a CLS each way neither has an end
-    ensures closed { HasEnd (λ p. p) 16 33 (pair_with second (state_of (talk (reset ++ opening ++ closing)) first).peers) nothing }
-    ensures over { HasEnd (λ p. p) 33 16 (pair_with first (state_of (talk (reset ++ opening ++ closing)) second).peers) nothing }
+    ensures closed { HasEnd (λ p. p) 16 33 (pair_with second (state_of (talk (reset ++ opening_connection ++ closing)) first).peers) nothing }
+    ensures over { HasEnd (λ p. p) 33 16 (pair_with first (state_of (talk (reset ++ opening_connection ++ closing)) second).peers) nothing }
 {}

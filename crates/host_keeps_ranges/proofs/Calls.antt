@@ -17,7 +17,7 @@ use Rattle.host_pairs.specs.Commands as commands
 use Rattle.host_pairs.specs.Commands.{changed, granted}
 use Rattle.host_pairs.specs.Control.{Legal, Order, Wrong, error, orders_of}
 use Rattle.host_pairs.specs.Data.{data_taken}
-use Rattle.host_pairs.specs.Desk.{DeskState, desk_of, queued, settled}
+use Rattle.host_pairs.specs.Desk.{DeskState, desk_of, command_queued, settled}
 use Rattle.host_pairs.specs.Entries.{changed_first, is_at, is_busy}
 use Rattle.host_pairs.specs.Pair.{PairState, is_opening}
 use Rattle.host_pairs.specs.Parcels as parcel
@@ -29,7 +29,7 @@ use Rattle.host_pairs.specs.declared.listener.Listener.{Listener}
 use Rattle.host_pairs.specs.declared.phase.Phase.{Phase}
 use Rattle.host_pairs.specs.declared.phase.Phase.TheVariants as phase
 use Rattle.host_pairs.proofs.lemmas.{control_again, signal_again, what_goes}
-use Rattle.sockets.specs.Accepting.{accepted, turn_of, turned}
+use Rattle.sockets.specs.Accepting.{accepted, turn_of, after_turn}
 use Rattle.sockets.specs.Pairs.{NcpState, pair_with, placed, with_pair, without_peer}
 use Rattle.sockets.specs.Sending.{next_in, offered, offered_by, parcel_for}
 use Rattle.sockets.specs.declared.peer.Peer.{Peer}
@@ -63,11 +63,11 @@ none_left t h = (tt, tt)
 command_range : (peer : Host) (stamp : ℕ) (c : Command) (t : TurnState) → IsCommand c → RangedTurn t → RangedTurn (command_taken peer stamp c t)
 command_range peer stamp command.Rst t ok h = record { pair = record { ends = tt; commands = tt }; sizes = h.sizes }
 command_range peer stamp command.Rrp t ok h = record { pair = record { ends = h.pair.ends; commands = h.pair.commands }; sizes = h.sizes }
-command_range peer stamp c t ok h = ready_range (commands.taken peer t.pair.busy stamp c) t (λ d. ranged_taken peer t.pair.busy stamp c d ok) h
+command_range peer stamp c t ok h = ready_range (commands.desk_taken peer t.pair.busy stamp c) t (λ d. ranged_taken peer t.pair.busy stamp c d ok) h
 
 order_range : (peer : Host) (stamp : ℕ) (o : Order) (t : TurnState) → IsOrder o → RangedTurn t → RangedTurn (order_taken peer stamp o t)
 order_range peer stamp (Legal c) t ok h = command_range peer stamp c t ok h
-order_range peer stamp (Wrong code octets) t ok h = ready_range (queued (error code octets)) t (λ d. ranged_error code octets d ok.0 ok.1) h
+order_range peer stamp (Wrong code octets) t ok h = ready_range (command_queued (error code octets)) t (λ d. ranged_error code octets d ok.0 ok.1) h
 
 orders_range : (peer : Host) (stamp : ℕ) (os : List Order) (t : TurnState) → AreOrders os → RangedTurn t → RangedTurn (orders_taken peer stamp os t)
 orders_range peer stamp [] t ok h = h
@@ -137,7 +137,7 @@ pub pair_range : (g : Host) (ps : List Peer) → ArePairs ps → IsPair (pair_wi
 pair_range g [] h = record { ends = tt; commands = tt }
 pair_range g (p ∷ ps) h = found_step g p ps h.0 (pair_range g ps h.1) (same_host g p.host) refl
 
-turned_range : (s : NcpState) (peer : Host) (t : TurnState) → IsRanged s → RangedTurn t → IsRanged (turned s peer t).0
+turned_range : (s : NcpState) (peer : Host) (t : TurnState) → IsRanged s → RangedTurn t → IsRanged (after_turn s peer t).0
 turned_range s peer t h k = record { pairs = with_range peer t.pair s.peers k.pair h.pairs; sizes = k.sizes }
 
 own_turn : (s : NcpState) (peer : Host) → IsRanged s → RangedTurn (turn_of s peer)
@@ -149,7 +149,7 @@ message_ranged s m stamp h = by (same_host s.own m.flow.destination) where
   t : TurnState
   t = message_taken m.flow.source stamp m.flow.link.0 m.text (turn_of s m.flow.source)
 
-  by : (b : Bool) → IsRanged (if b then turned s m.flow.source t else (s, [])).0
+  by : (b : Bool) → IsRanged (if b then after_turn s m.flow.source t else (s, [])).0
   by true = turned_range s m.flow.source t h (message_range m.flow.source stamp m.flow.link.0 m.text (turn_of s m.flow.source) (own_turn s m.flow.source h))
   by false = h
 
@@ -159,7 +159,7 @@ answer_ranged s kind f stamp h = by (same_host s.own f.source) (is_busy (pair_wi
   t : TurnState
   t = answered_turn f.destination kind f.link.0 (turn_of s f.destination)
 
-  by : (b c : Bool) → IsRanged (if b then (if c then turned s f.destination t else (s, [])) else (s, [])).0
+  by : (b c : Bool) → IsRanged (if b then (if c then after_turn s f.destination t else (s, [])) else (s, [])).0
   by true true = turned_range s f.destination t h (answer_range f.destination kind f.link.0 (turn_of s f.destination) (own_turn s f.destination h))
   by true false = h
   by false c = h

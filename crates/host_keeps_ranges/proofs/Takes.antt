@@ -13,10 +13,10 @@ use Rattle.ncp_control.specs.declared.command.Command.{Command}
 use Rattle.ncp_control.specs.declared.command.Command.TheVariants as command
 use Rattle.ncp_control.specs.declared.data_header.DataHeader.{DataHeader}
 use Rattle.host_pairs.specs.Commands as commands
-use Rattle.host_pairs.specs.Commands.{all_taken, answered_on, asked_on_link, asked_with_size, at_end, changed, closed_once, cls_taken_by, Unconnected, Ending, Open, gvb_taken, interrupted, joined, matched_once, ret_taken, rts_heard, rts_taken, rts_taken_by, sender_on, receiver_on, str_heard, str_linked, str_taken_by}
+use Rattle.host_pairs.specs.Commands.{all_taken, answered_on, asked_on_link, asked_with_size, at_end, changed, closed_once, cls_taken_by, Unconnected, Ending, Open, gvb_taken, interrupted, entry_joined, matched_once, ret_taken, rts_heard, rts_taken, rts_taken_by, sender_on, receiver_on, str_heard, str_linked, str_taken_by}
 use Rattle.host_pairs.specs.Control.{ERRONEOUS, NO_SOCKET, NOT_CONNECTED, error}
 use Rattle.host_pairs.specs.Data.{arrived_if, data_found, data_taken, is_acceptable, spent}
-use Rattle.host_pairs.specs.Desk.{DeskState, listener_on, queued, settled, swept, told}
+use Rattle.host_pairs.specs.Desk.{DeskState, listener_on, command_queued, settled, swept, desk_told}
 use Rattle.host_pairs.specs.declared.notice.Notice.{Notice}
 use Rattle.host_pairs.specs.Entries.{is_ending, is_open, closed_by_partner, cls_of, entry_at, free_link, is_at, must_close, receiving_end, receives_on, refused_end, sending_end, sends_on}
 use Rattle.host_pairs.specs.declared.entry.Entry.{Entry}
@@ -34,10 +34,10 @@ ranged_if : (b : Bool) (d e : DeskState) → Ranged d → Ranged e → Ranged (i
 ranged_if true d e h k = h
 ranged_if false d e h k = k
 
-ranged_queued : (c : Command) (d : DeskState) → IsCommand c → Ranged d → Ranged (queued c d)
+ranged_queued : (c : Command) (d : DeskState) → IsCommand c → Ranged d → Ranged (command_queued c d)
 ranged_queued c d is h = record { ends = h.ends; commands = commands_more d.queue c h.commands is; sizes = h.sizes }
 
-pub ranged_error : (code : ℕ) (octets : List ℕ) (d : DeskState) → IsOctet code → All IsOctet octets → Ranged d → Ranged (queued (error code octets) d)
+pub ranged_error : (code : ℕ) (octets : List ℕ) (d : DeskState) → IsOctet code → All IsOctet octets → Ranged d → Ranged (command_queued (error code octets) d)
 ranged_error code octets d is small h = ranged_queued (error code octets) d (error_command code octets is small) h
 
 ranged_fault : (code : ℕ) (c : Command) (d : DeskState) → IsOctet code → IsCommand c → Ranged d → Ranged (commands.faulted code c d)
@@ -46,7 +46,7 @@ ranged_fault code c d is ok h = ranged_error code (spelling c) d is (spelled_oct
 pub ranged_changed : (test : Entry → Bool) (change : Entry → Entry) (d : DeskState) → Keeps change → Ranged d → Ranged (changed test change d)
 ranged_changed test change d k h = record { ends = ends_changed test change d.entries k h.ends; commands = h.commands; sizes = h.sizes }
 
-ranged_joined : (e : Entry) (d : DeskState) → IsInRange e → Ranged d → Ranged (joined e d)
+ranged_joined : (e : Entry) (d : DeskState) → IsInRange e → Ranged d → Ranged (entry_joined e d)
 ranged_joined e d is h = record { ends = ends_more d.entries e h.ends is; commands = h.commands; sizes = h.sizes }
 
 ranged_answered : (socket : ℕ) (d : DeskState) → Ranged d → Ranged (answered_on socket d)
@@ -80,7 +80,7 @@ with_size stamp size e i = record { own = i.own; foreign = i.foreign; link = i.l
 
 ranged_refused : (own foreign stamp : ℕ) (d : DeskState) → IsWord own → IsWord foreign → Ranged d → Ranged (commands.refused own foreign stamp d)
 ranged_refused own foreign stamp d a b h =
-    ranged_queued (cls_of (refused_end own foreign stamp)) (joined (refused_end own foreign stamp) d) (a, b)
+    ranged_queued (cls_of (refused_end own foreign stamp)) (entry_joined (refused_end own foreign stamp) d) (a, b)
     (ranged_joined (refused_end own foreign stamp) d (record { own = a; foreign = b; link = tt; messages = omega arith; bits = omega arith }) h)
 
 ranged_matched : (peer : Host) (own foreign : ℕ) (c : Command) (e : Entry) (change : Entry → Entry) (d : DeskState) → IsCommand c → Keeps change → Ranged d → Ranged (matched_once peer own foreign c e change d)
@@ -92,7 +92,7 @@ ranged_rts_heard : (own foreign link stamp : ℕ) (l : Option Listener) (d : Des
 ranged_rts_heard own foreign link stamp None d is ok h = ranged_refused own foreign stamp d ok.2 ok.0 h
 ranged_rts_heard own foreign link stamp (Some l) d is ok h =
     let size : IsOctet l.size × IsTrue (is_byte_size l.size) = size_found _ d.listening l h.sizes is in
-    ranged_queued (command.Str own foreign l.size) (joined (asked_on_link stamp link (sending_end own foreign l.size)) (answered_on own d)) (ok.2, ok.3, ok.0, ok.1, size.0, size.1)
+    ranged_queued (command.Str own foreign l.size) (entry_joined (asked_on_link stamp link (sending_end own foreign l.size)) (answered_on own d)) (ok.2, ok.3, ok.0, ok.1, size.0, size.1)
     (ranged_joined (asked_on_link stamp link (sending_end own foreign l.size)) (answered_on own d) (on_link stamp link (link_octet link ok.4) (sending_end own foreign l.size) (sending_range own foreign l.size ok.2 ok.0)) (ranged_answered own d h))
 
 ranged_rts_by : (peer : Host) (own foreign link stamp : ℕ) (o : Option Entry) (d : DeskState) → IsCommand (command.Rts foreign own link) → Ranged d → Ranged (rts_taken_by peer own foreign link stamp o d)
@@ -108,7 +108,7 @@ ranged_str_linked : (own foreign size stamp : ℕ) (l : Option ℕ) (d : DeskSta
 ranged_str_linked own foreign size stamp None d is ok h = ranged_refused own foreign stamp d ok.2 ok.0 h
 ranged_str_linked own foreign size stamp (Some link) d is ok h =
     let free : IsTrue (is_connection_link link) = free_is_link d.entries link is in
-    ranged_queued (command.Rts own foreign link) (joined (asked_with_size stamp size (receiving_end own foreign link)) (answered_on own d)) (ok.2, ok.3, ok.0, ok.1, free)
+    ranged_queued (command.Rts own foreign link) (entry_joined (asked_with_size stamp size (receiving_end own foreign link)) (answered_on own d)) (ok.2, ok.3, ok.0, ok.1, free)
     (ranged_joined (asked_with_size stamp size (receiving_end own foreign link)) (answered_on own d) (with_size stamp size (receiving_end own foreign link) (receiving_range own foreign link ok.2 ok.0 (link_octet link free))) (ranged_answered own d h))
 
 ranged_str_heard : (own foreign size stamp : ℕ) (l : Option Listener) (d : DeskState) → IsCommand (command.Str foreign own size) → Ranged d → Ranged (str_heard own foreign size stamp l d)
@@ -198,16 +198,16 @@ ranged_gvb link messages bits e d l is h =
 
 ranged_ret : (link messages bits : ℕ) (e : Entry) (d : DeskState) → IsCommand (command.Ret link messages bits) → Ranged d → Ranged (ret_taken link messages bits e d)
 ranged_ret link messages bits e d ok h =
-    ranged_if (nat_le messages e.allocation.messages && nat_le bits e.allocation.bits) (told _ (changed (receives_on link) (commands.returned messages bits) d)) (commands.faulted ERRONEOUS (command.Ret link messages bits) d)
+    ranged_if (nat_le messages e.allocation.messages && nat_le bits e.allocation.bits) (desk_told _ (changed (receives_on link) (commands.returned messages bits) d)) (commands.faulted ERRONEOUS (command.Ret link messages bits) d)
     (record { ends = ends_changed (receives_on link) (commands.returned messages bits) d.entries (less_returned messages bits) h.ends; commands = h.commands; sizes = h.sizes })
     (ranged_fault ERRONEOUS (command.Ret link messages bits) d (omega arith) ok h)
 
-ranged_told : (ns : List Notice) (d : DeskState) → Ranged d → Ranged (told ns d)
+ranged_told : (ns : List Notice) (d : DeskState) → Ranged d → Ranged (desk_told ns d)
 ranged_told ns d h = record { ends = h.ends; commands = h.commands; sizes = h.sizes }
 
 -- ---- all commands, and data
 
-pub ranged_taken : (peer : Host) (busy : List ℕ) (stamp : ℕ) (c : Command) (d : DeskState) → IsCommand c → Ranged d → Ranged (commands.taken peer busy stamp c d)
+pub ranged_taken : (peer : Host) (busy : List ℕ) (stamp : ℕ) (c : Command) (d : DeskState) → IsCommand c → Ranged d → Ranged (commands.desk_taken peer busy stamp c d)
 ranged_taken peer busy stamp command.Nop d ok h = h
 ranged_taken peer busy stamp (command.Rts receive send link) d ok h = ranged_rts peer send receive link stamp d ok h
 ranged_taken peer busy stamp (command.Str send receive size) d ok h = ranged_str_by peer receive send size stamp (entry_at receive send d.entries) d ok h

@@ -167,7 +167,7 @@ module _ (number : ℕ → ℕ → ℕ → ℕ) (tells : IsTelling number) where
     pub unknown : UnknownAhead gone es r
     pub unsaid : UnsaidAhead gone es s
 
-  begins : (link : ℕ) → Holds link (λ own foreign. 0) [] receivers.opening senders.opening
+  begins : (link : ℕ) → Holds link (λ own foreign. 0) [] receivers.opening_receiver senders.opening_sender
   begins link = record {
     sound = record { formed = tt; apart = tt };
     received = refl;

@@ -7,7 +7,7 @@ use Rattle.stream_law.specs.Receivers as receivers
 use Rattle.stream_law.specs.Receivers.{Receiver}
 use Rattle.stream_law.proofs.lemmas.{for_here}
 use Rattle.host_pairs.specs.Asked.{closed_end}
-use Rattle.host_pairs.specs.Commands.{cls_taken_by, taken}
+use Rattle.host_pairs.specs.Commands.{cls_taken_by, desk_taken}
 use Rattle.host_pairs.specs.Desk.{DeskState}
 use Rattle.host_pairs.specs.Entries.{called_off, changed_first, closed_by_partner, closed_when, entry_at, has_cls, is_at, is_called_off, is_drained, is_due, is_mine_on, is_over, is_receiving, must_close, receives_on, was_closed}
 use Rattle.host_pairs.specs.Pair.{PairState}
@@ -126,7 +126,7 @@ module _ (name : ℕ → ℕ → ℕ) (link : ℕ) where
 
   pub cls_receives : (peer : Host) (busy : List ℕ) (stamp own foreign : ℕ) (d : DeskState) (e : Entry) (r : Receiver) → entry_at own foreign d.entries ≡ Some e → receives_on link e ≡ true → e.partner_closed ≡ false → HasReceiver name link d.entries r
       → MayAllReceive (receivers.Hear (words.Cls (name e.own e.foreign)) ∷ received_close e.closing (name e.own e.foreign)) r
-      × HasReceiver name link (taken peer busy stamp (command.Cls foreign own) d).entries (all_received (receivers.Hear (words.Cls (name e.own e.foreign)) ∷ received_close e.closing (name e.own e.foreign)) r)
+      × HasReceiver name link (desk_taken peer busy stamp (command.Cls foreign own) d).entries (all_received (receivers.Hear (words.Cls (name e.own e.foreign)) ∷ received_close e.closing (name e.own e.foreign)) r)
   cls_receives peer busy stamp own foreign d e r found on first h =
       let k : IsReceiver (name e.own e.foreign) e r × (filter (receives_on link) (changed_first (is_at own foreign) closed_by_partner d.entries) ≡ closed_by_partner e ∷ [])
       = own_receiver name link (is_at own foreign) closed_by_partner e d.entries r found on on h in
@@ -154,7 +154,7 @@ module _ (name : ℕ → ℕ → ℕ) (link : ℕ) where
         (settled_keeps busy (changed_first (is_at own foreign) closed_by_partner d.entries) r (away_keeps (is_at own foreign) closed_by_partner e d.entries r found (off e refl) (off e refl) h)))
 
   pub cls_elsewhere : (peer : Host) (busy : List ℕ) (stamp own foreign : ℕ) (d : DeskState) (r : Receiver) → ((e : Entry) → entry_at own foreign d.entries ≡ Some e → receives_on link e ≡ false) → HasReceiver name link d.entries r
-      → HasReceiver name link (taken peer busy stamp (command.Cls foreign own) d).entries r
+      → HasReceiver name link (desk_taken peer busy stamp (command.Cls foreign own) d).entries r
   cls_elsewhere peer busy stamp own foreign d r off h = cls_off peer busy own foreign d r h (entry_at own foreign d.entries) refl off
 
   -- ---- the own CLS goes out

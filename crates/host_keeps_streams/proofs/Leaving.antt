@@ -8,7 +8,7 @@ use Rattle.stream_law.specs.Senders as senders
 use Rattle.stream_law.specs.Senders.{Sender}
 use Rattle.stream_law.proofs.lemmas.{for_here, some_is}
 use Rattle.host_pairs.specs.Asked.{closed_end}
-use Rattle.host_pairs.specs.Commands.{cls_taken_by, taken}
+use Rattle.host_pairs.specs.Commands.{cls_taken_by, desk_taken}
 use Rattle.host_pairs.specs.Desk.{DeskState}
 use Rattle.host_pairs.specs.Entries.{called_off, changed_first, closed_by_partner, closed_when, entry_at, has_cls, is_answered, is_at, is_called_off, is_drained, is_due, is_mine_on, is_over, is_receiving, must_close, sends_on, was_closed}
 use Rattle.host_pairs.specs.Pair.{PairState}
@@ -173,7 +173,7 @@ module _ (name : ℕ → ℕ → ℕ) (link : ℕ) where
 
   pub cls_sends : (peer : Host) (busy : List ℕ) (stamp own foreign : ℕ) (d : DeskState) (e : Entry) (s : Sender) → entry_at own foreign d.entries ≡ Some e → sends_on link e ≡ true → e.partner_closed ≡ false → HasSender name link d.entries s
       → MayAllSend (senders.Hear (words.Cls (name e.own e.foreign)) ∷ sent_heard e.closing (is_answered busy e.link) (name e.own e.foreign)) s
-      × HasSender name link (taken peer busy stamp (command.Cls foreign own) d).entries (all_sent (senders.Hear (words.Cls (name e.own e.foreign)) ∷ sent_heard e.closing (is_answered busy e.link) (name e.own e.foreign)) s)
+      × HasSender name link (desk_taken peer busy stamp (command.Cls foreign own) d).entries (all_sent (senders.Hear (words.Cls (name e.own e.foreign)) ∷ sent_heard e.closing (is_answered busy e.link) (name e.own e.foreign)) s)
   cls_sends peer busy stamp own foreign d e s found on first h =
       let k : AreSender name (e ∷ []) s × (filter (sends_on link) (changed_first (is_at own foreign) closed_by_partner d.entries) ≡ closed_by_partner e ∷ [])
       = own_sender name link (is_at own foreign) closed_by_partner e d.entries s found on on h in

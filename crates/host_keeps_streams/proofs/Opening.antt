@@ -15,7 +15,7 @@ use Rattle.stream_law.specs.Receivers.{Receiver}
 use Rattle.stream_law.specs.Senders as senders
 use Rattle.stream_law.specs.Senders.{Sender}
 use Rattle.stream_law.proofs.lemmas.{at, for_here, some_is}
-use Rattle.host_pairs.specs.Commands.{asked_on_link, asked_with_size, rts_taken_by, str_taken_by, taken}
+use Rattle.host_pairs.specs.Commands.{asked_on_link, asked_with_size, rts_taken_by, str_taken_by, desk_taken}
 use Rattle.host_pairs.specs.Desk.{DeskState}
 use Rattle.host_pairs.specs.Entries.{sending_end, connection_links, free_link, receiving_end, changed_first, entry_at, has_cls, is_at, is_over, is_receiving, receives_on, sends_on}
 use Rattle.host_pairs.specs.Parcels.{asked_at, command_gone}
@@ -81,7 +81,7 @@ module _ (name : ℕ → ℕ → ℕ) (link : ℕ) where
   pub str_heard : (peer : Host) (busy : List ℕ) (stamp own foreign z : ℕ) (d : DeskState) (e : Entry) (r : Receiver) → entry_at own foreign d.entries ≡ Some e → receives_on link e ≡ true → is_some e.partner ≡ false
       → HasReceiver name link d.entries r
       → MayAllReceive (receivers.Hear (words.Str (name e.own e.foreign) z) ∷ received_open (is_some e.asked) (name e.own e.foreign)) r
-      × HasReceiver name link (taken peer busy stamp (command.Str foreign own z) d).entries (all_received (receivers.Hear (words.Str (name e.own e.foreign) z) ∷ received_open (is_some e.asked) (name e.own e.foreign)) r)
+      × HasReceiver name link (desk_taken peer busy stamp (command.Str foreign own z) d).entries (all_received (receivers.Hear (words.Str (name e.own e.foreign) z) ∷ received_open (is_some e.asked) (name e.own e.foreign)) r)
   str_heard peer busy stamp own foreign z d e r found on first h =
       let k : IsReceiver (name e.own e.foreign) e r × (filter (receives_on link) (changed_first (is_at own foreign) (asked_with_size stamp z) d.entries) ≡ asked_with_size stamp z e ∷ [])
       = own_receiver name link (is_at own foreign) (asked_with_size stamp z) e d.entries r found on on h in
@@ -115,7 +115,7 @@ module _ (name : ℕ → ℕ → ℕ) (link : ℕ) where
   pub rts_heard : (peer : Host) (busy : List ℕ) (stamp own foreign : ℕ) (d : DeskState) (e : Entry) (s : Sender) → entry_at own foreign d.entries ≡ Some e → is_receiving e ≡ false → list_any (sends_on link) d.entries ≡ false → s.end ≡ None
       → s.size (name e.own e.foreign) ≡ e.size → s.closed (name e.own e.foreign) ≡ has_cls e.closing → is_some e.size ≡ true → e.allocation ≡ counters.nothing → e.partner_closed ≡ false → is_some e.partner ≡ false
       → MayAllSend (senders.Hear (words.Rts (name e.own e.foreign)) ∷ sent_open (is_some e.asked) (name e.own e.foreign)) s
-      × HasSender name link (taken peer busy stamp (command.Rts foreign own link) d).entries (all_sent (senders.Hear (words.Rts (name e.own e.foreign)) ∷ sent_open (is_some e.asked) (name e.own e.foreign)) s)
+      × HasSender name link (desk_taken peer busy stamp (command.Rts foreign own link) d).entries (all_sent (senders.Hear (words.Rts (name e.own e.foreign)) ∷ sent_open (is_some e.asked) (name e.own e.foreign)) s)
   rts_heard peer busy stamp own foreign d e s found sends free none size closed told fresh open_end first =
       let on : sends_on link (asked_on_link stamp link e) ≡ true = (let there : (link == link) ≡ true = eq-eqb link link refl in rw (sends, there) refl) in
       let one : filter (sends_on link) (changed_first (is_at own foreign) (asked_on_link stamp link) d.entries) ≡ asked_on_link stamp link e ∷ []
@@ -124,9 +124,9 @@ module _ (name : ℕ → ℕ → ℕ) (link : ℕ) where
       × IsSender (name e.own e.foreign) (asked_on_link stamp link e) (all_sent (sent_open (is_some e.asked) (name e.own e.foreign)) (senders.begins (name e.own e.foreign) None s))
       = linked_by stamp e s none size closed told fresh open_end first (is_some e.asked) refl in
       subst (λ (o : Option ℕ). MayAllSend (senders.Hear (words.Rts (name e.own e.foreign)) ∷ sent_open (is_some e.asked) (name e.own e.foreign)) s
-      × HasSender name link (taken peer busy stamp (command.Rts foreign own link) d).entries (all_sent (sent_open (is_some e.asked) (name e.own e.foreign)) (senders.begins (name e.own e.foreign) o s))
+      × HasSender name link (desk_taken peer busy stamp (command.Rts foreign own link) d).entries (all_sent (sent_open (is_some e.asked) (name e.own e.foreign)) (senders.begins (name e.own e.foreign) o s))
       → MayAllSend (senders.Hear (words.Rts (name e.own e.foreign)) ∷ sent_open (is_some e.asked) (name e.own e.foreign)) s
-      × HasSender name link (taken peer busy stamp (command.Rts foreign own link) d).entries (all_sent (senders.Hear (words.Rts (name e.own e.foreign)) ∷ sent_open (is_some e.asked) (name e.own e.foreign)) s))
+      × HasSender name link (desk_taken peer busy stamp (command.Rts foreign own link) d).entries (all_sent (senders.Hear (words.Rts (name e.own e.foreign)) ∷ sent_open (is_some e.asked) (name e.own e.foreign)) s))
       none (λ h. h) (
         (tt, subst (λ (o : Option ℕ). MayAllSend (sent_open (is_some e.asked) (name e.own e.foreign)) (senders.begins (name e.own e.foreign) o s)) (sym none) done.0),
         rw free (subst (λ (o : Option Entry). HasSender name link (rts_taken_by peer own foreign link stamp o d).entries (all_sent (sent_open (is_some e.asked) (name e.own e.foreign)) (senders.begins (name e.own e.foreign) None s))) (sym found)

@@ -5,7 +5,7 @@ use Rattle.ncp_control.specs.DataHeader.{header_of, data_bits}
 use Rattle.ncp_control.specs.declared.command.Command.{Command}
 use Rattle.ncp_control.specs.declared.command.Command.TheVariants as command
 use Rattle.ncp_control.specs.declared.data_header.DataHeader.{DataHeader}
-use Rattle.host_pairs.specs.Commands.{Found, Unconnected, Ending, Open, at_end, all_taken, granted, gvb_taken, given_back, interrupted, ret_taken, returned, receiver_on, sender_on, taken}
+use Rattle.host_pairs.specs.Commands.{Found, Unconnected, Ending, Open, at_end, all_taken, granted, gvb_taken, given_back, interrupted, ret_taken, returned, receiver_on, sender_on, desk_taken}
 use Rattle.host_pairs.specs.Data.{arrived_if, data_found, data_taken, is_acceptable, spent}
 use Rattle.host_pairs.specs.Desk.{DeskState}
 use Rattle.host_pairs.specs.Entries.{receives_on, sends_on}
@@ -45,7 +45,7 @@ data_same on l text d (Open e) off = data_if on l text e d (header_of text) off
 
 -- ---- receivers
 
-pub receiver_leaves : (link : ℕ) (peer : Host) (busy : List ℕ) (stamp : ℕ) (c : Command) (d : DeskState) → LeavesReceiver link c → Same (receives_on link) d (taken peer busy stamp c d)
+pub receiver_leaves : (link : ℕ) (peer : Host) (busy : List ℕ) (stamp : ℕ) (c : Command) (d : DeskState) → LeavesReceiver link c → Same (receives_on link) d (desk_taken peer busy stamp c d)
 receiver_leaves link peer busy stamp command.Nop d a = refl
 receiver_leaves link peer busy stamp (command.Rts receive send l) d a = absurd a
 receiver_leaves link peer busy stamp (command.Str send receive size) d a = absurd a
@@ -69,7 +69,7 @@ receiver_elsewhere link l text d away = data_same (receives_on link) l text d (r
 
 -- ---- senders
 
-pub sender_leaves : (link : ℕ) (peer : Host) (busy : List ℕ) (stamp : ℕ) (c : Command) (d : DeskState) → LeavesSender link c → Same (sends_on link) d (taken peer busy stamp c d)
+pub sender_leaves : (link : ℕ) (peer : Host) (busy : List ℕ) (stamp : ℕ) (c : Command) (d : DeskState) → LeavesSender link c → Same (sends_on link) d (desk_taken peer busy stamp c d)
 sender_leaves link peer busy stamp command.Nop d a = refl
 sender_leaves link peer busy stamp (command.Rts receive send l) d a = absurd a
 sender_leaves link peer busy stamp (command.Str send receive size) d a = absurd a

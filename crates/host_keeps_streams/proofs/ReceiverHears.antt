@@ -12,7 +12,7 @@ use Rattle.stream_law.specs.Words.{for}
 use Rattle.stream_law.specs.Receivers as receivers
 use Rattle.stream_law.specs.Receivers.{Receiver}
 use Rattle.stream_law.proofs.lemmas.{for_here}
-use Rattle.host_pairs.specs.Commands.{asked_with_size, asked_on_link, cls_taken_by, rts_taken_by, rts_taken, str_heard, str_linked, str_taken, str_taken_by, rts_heard, taken}
+use Rattle.host_pairs.specs.Commands.{asked_with_size, asked_on_link, cls_taken_by, rts_taken_by, rts_taken, str_heard, str_linked, str_taken, str_taken_by, rts_heard, desk_taken}
 use Rattle.host_pairs.specs.Desk.{DeskState, listener_on}
 use Rattle.host_pairs.specs.Entries.{changed_first, connection_links, entry_at, free_link, is_at, is_link, is_receiving, receiving_end, receives_on, refused_end, sending_end, sends_on}
 use Rattle.host_pairs.specs.declared.entry.Entry.{Entry}
@@ -228,16 +228,16 @@ module _ (name : ℕ → ℕ → ℕ) (link : ℕ) where
   -- ---- all commands
 
   ret_by : (peer : Host) (busy : List ℕ) (stamp k l m n : ℕ) (d : DeskState) (r : Receiver) → HasReceiver name link d.entries r → (v : Bool) → (l == link) ≡ v
-      → Received name link (if v then receivers.Hear (words.Ret k m n) ∷ [] else []) (taken peer busy stamp (command.Ret l m n) d).entries r
+      → Received name link (if v then receivers.Hear (words.Ret k m n) ∷ [] else []) (desk_taken peer busy stamp (command.Ret l m n) d).entries r
   ret_by peer busy stamp k l m n d r h true e =
-      ((tt, tt), subst (λ (x : ℕ). HasReceiver name link (taken peer busy stamp (command.Ret x m n) d).entries (receivers.takes_back m n r.end r)) (sym (eqb-true l link e)) (ret_receives name link peer busy stamp m n d r h))
+      ((tt, tt), subst (λ (x : ℕ). HasReceiver name link (desk_taken peer busy stamp (command.Ret x m n) d).entries (receivers.takes_back m n r.end r)) (sym (eqb-true l link e)) (ret_receives name link peer busy stamp m n d r h))
   ret_by peer busy stamp k l m n d r h false e = (tt, subst (λ (xs : List Entry). AreReceiver name xs r) (sym (receiver_leaves link peer busy stamp (command.Ret l m n) d e)) h)
 
   module _ (peer : Host) (busy : List ℕ) (stamp k : ℕ) (d : DeskState) (r : Receiver) (h : HasReceiver name link d.entries r) where
-    left : (c : Command) → LeavesReceiver link c → Received name link [] (taken peer busy stamp c d).entries r
+    left : (c : Command) → LeavesReceiver link c → Received name link [] (desk_taken peer busy stamp c d).entries r
     left c l = (tt, subst (λ (xs : List Entry). AreReceiver name xs r) (sym (receiver_leaves link peer busy stamp c d l)) h)
 
-    pub hears_all : (c : Command) → IsCommand c → AreApart (numbers name d.entries) → NewReceived name c d.entries r → Received name link (received_by name link k c d) (taken peer busy stamp c d).entries r
+    pub hears_all : (c : Command) → IsCommand c → AreApart (numbers name d.entries) → NewReceived name c d.entries r → Received name link (received_by name link k c d) (desk_taken peer busy stamp c d).entries r
     hears_all command.Nop i a new = left command.Nop tt
     hears_all (command.Rts receive send l) i a new = (tt, rts_leaves peer stamp send receive l d r (odd_is send i.3) h)
     hears_all (command.Str send receive size) i a new = str_receives peer stamp receive send size d r i.3 h a new

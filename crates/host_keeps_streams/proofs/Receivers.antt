@@ -11,7 +11,7 @@ use Rattle.stream_law.specs.Words as words
 use Rattle.stream_law.specs.Words.{for, covers, holds}
 use Rattle.stream_law.specs.Receivers as receivers
 use Rattle.stream_law.specs.Receivers.{Receiver}
-use Rattle.host_pairs.specs.Commands.{Found, Unconnected, Ending, Open, found_in, at_end, ret_taken, returned, taken}
+use Rattle.host_pairs.specs.Commands.{Found, Unconnected, Ending, Open, found_in, at_end, ret_taken, returned, desk_taken}
 use Rattle.host_pairs.specs.Control.{ERRONEOUS}
 use Rattle.host_pairs.specs.Data.{data_of, data_found, data_taken, arrived_if, arrived, is_acceptable, is_covered, spent, text_faulted}
 use Rattle.host_pairs.specs.Desk.{DeskState}
@@ -184,7 +184,7 @@ module _ (name : ℕ → ℕ → ℕ) (link : ℕ) where
   back_by m n d r x f one i false e g = rw (e, g) (subst (λ (es : List Entry). AreReceiver name es r) (sym one) i)
 
   pub ret_receives : (peer : Host) (busy : List ℕ) (stamp m n : ℕ) (d : DeskState) (r : Receiver) → HasReceiver name link d.entries r
-      → HasReceiver name link (taken peer busy stamp (command.Ret link m n) d).entries (receivers.takes_back m n r.end r)
+      → HasReceiver name link (desk_taken peer busy stamp (command.Ret link m n) d).entries (receivers.takes_back m n r.end r)
   ret_receives peer busy stamp m n d r k =
       at_link name link d.entries r (λ w q. HasReceiver name link (at_end (command.Ret link m n) (ret_taken link m n) w d).entries q) (λ o. receivers.takes_back m n o r) k k refl
       (shut_back m n r)

@@ -12,7 +12,7 @@ use Rattle.ncp_control.specs.declared.command.Command.TheVariants as command
 use Rattle.stream_law.specs.Words as words
 use Rattle.stream_law.specs.Senders as senders
 use Rattle.stream_law.specs.Senders.{Sender}
-use Rattle.host_pairs.specs.Commands.{Found, Unconnected, Ending, Open, all_taken, asked_with_size, at_end, given_back, granted, gvb_taken, interrupted, ret_taken, returned, receiver_on, rts_taken, sender_on, str_heard, str_linked, str_taken, str_taken_by, taken}
+use Rattle.host_pairs.specs.Commands.{Found, Unconnected, Ending, Open, all_taken, asked_with_size, at_end, given_back, granted, gvb_taken, interrupted, ret_taken, returned, receiver_on, rts_taken, sender_on, str_heard, str_linked, str_taken, str_taken_by, desk_taken}
 use Rattle.host_pairs.specs.Desk.{DeskState, listener_on}
 use Rattle.host_pairs.specs.Entries.{entry_at, free_link, is_at, is_receiving, receiving_end, receives_on, refused_end, sends_on}
 use Rattle.host_pairs.specs.declared.entry.Entry.{Entry}
@@ -58,32 +58,32 @@ module _ (name : ℕ → ℕ → ℕ) (s : Sender) where
     by true t = rw t (known_idle name (receives_on l) (returned m n) s d.entries (record { own = λ x. refl; foreign = λ x. refl; size = λ x. refl; closing = λ x. refl }) k)
     by false t = rw t k
 
-  all_known : (peer : Host) (busy : List ℕ) (stamp l m n : ℕ) (d : DeskState) → AreKnown name d.entries s → AreKnown name (taken peer busy stamp (command.All l m n) d).entries s
+  all_known : (peer : Host) (busy : List ℕ) (stamp l m n : ℕ) (d : DeskState) → AreKnown name d.entries s → AreKnown name (desk_taken peer busy stamp (command.All l m n) d).entries s
   all_known peer busy stamp l m n d k =
       at_end_known (command.All l m n) (all_taken l m n) (sender_on l d) d k (λ e. known_idle name (sends_on l) (granted m n) s d.entries (record { own = λ x. refl; foreign = λ x. refl; size = λ x. refl; closing = λ x. refl }) k)
 
-  gvb_known : (peer : Host) (busy : List ℕ) (stamp l m n : ℕ) (d : DeskState) → AreKnown name d.entries s → AreKnown name (taken peer busy stamp (command.Gvb l m n) d).entries s
+  gvb_known : (peer : Host) (busy : List ℕ) (stamp l m n : ℕ) (d : DeskState) → AreKnown name d.entries s → AreKnown name (desk_taken peer busy stamp (command.Gvb l m n) d).entries s
   gvb_known peer busy stamp l m n d k =
       at_end_known (command.Gvb l m n) (gvb_taken l m n) (sender_on l d) d k (λ e. known_idle name (sends_on l) (given_back m n) s d.entries (record { own = λ x. refl; foreign = λ x. refl; size = λ x. refl; closing = λ x. refl }) k)
 
 module _ (name : ℕ → ℕ → ℕ) (link : ℕ) (peer : Host) (busy : List ℕ) (stamp k : ℕ) (d : DeskState) (s : Sender) (h : HasSender name link d.entries s) (known : AreKnown name d.entries s) where
-  left : (c : Command) → LeavesSender link c → AreKnown name (taken peer busy stamp c d).entries s → Sent name link [] (taken peer busy stamp c d).entries s
+  left : (c : Command) → LeavesSender link c → AreKnown name (desk_taken peer busy stamp c d).entries s → Sent name link [] (desk_taken peer busy stamp c d).entries s
   left c l j = record { may = tt; has = subst (λ (xs : List Entry). AreSender name xs s) (sym (sender_leaves link peer busy stamp c d l)) h; known = j }
 
-  all_by : (l m n : ℕ) (v : Bool) → (l == link) ≡ v → Sent name link (if v then senders.Hear (words.All k m n) ∷ [] else []) (taken peer busy stamp (command.All l m n) d).entries s
+  all_by : (l m n : ℕ) (v : Bool) → (l == link) ≡ v → Sent name link (if v then senders.Hear (words.All k m n) ∷ [] else []) (desk_taken peer busy stamp (command.All l m n) d).entries s
   all_by l m n true e = record {
     may = (tt, tt);
-    has = subst (λ (x : ℕ). HasSender name link (taken peer busy stamp (command.All x m n) d).entries (senders.with_allocation s.end (λ a. counters.granted a m n) s)) (sym (eqb-true l link e)) (all_sends name link peer busy stamp m n d s h);
-    known = known_same name (taken peer busy stamp (command.All l m n) d).entries s (senders.with_allocation s.end (λ a. counters.granted a m n) s)
+    has = subst (λ (x : ℕ). HasSender name link (desk_taken peer busy stamp (command.All x m n) d).entries (senders.with_allocation s.end (λ a. counters.granted a m n) s)) (sym (eqb-true l link e)) (all_sends name link peer busy stamp m n d s h);
+    known = known_same name (desk_taken peer busy stamp (command.All l m n) d).entries s (senders.with_allocation s.end (λ a. counters.granted a m n) s)
         (counted_size (λ a. counters.granted a m n) s.end s) (counted_closed (λ a. counters.granted a m n) s.end s) (all_known name s peer busy stamp l m n d known);
   }
   all_by l m n false e = left (command.All l m n) e (all_known name s peer busy stamp l m n d known)
 
-  gvb_by : (l m n : ℕ) (v : Bool) → (l == link) ≡ v → Sent name link (if v then senders.Hear (words.Gvb k m n) ∷ [] else []) (taken peer busy stamp (command.Gvb l m n) d).entries s
+  gvb_by : (l m n : ℕ) (v : Bool) → (l == link) ≡ v → Sent name link (if v then senders.Hear (words.Gvb k m n) ∷ [] else []) (desk_taken peer busy stamp (command.Gvb l m n) d).entries s
   gvb_by l m n true e = record {
     may = (tt, tt);
-    has = subst (λ (x : ℕ). HasSender name link (taken peer busy stamp (command.Gvb x m n) d).entries (senders.with_allocation s.end (λ a. counters.given_back a m n) s)) (sym (eqb-true l link e)) (gvb_sends name link peer busy stamp m n d s h);
-    known = known_same name (taken peer busy stamp (command.Gvb l m n) d).entries s (senders.with_allocation s.end (λ a. counters.given_back a m n) s)
+    has = subst (λ (x : ℕ). HasSender name link (desk_taken peer busy stamp (command.Gvb x m n) d).entries (senders.with_allocation s.end (λ a. counters.given_back a m n) s)) (sym (eqb-true l link e)) (gvb_sends name link peer busy stamp m n d s h);
+    known = known_same name (desk_taken peer busy stamp (command.Gvb l m n) d).entries s (senders.with_allocation s.end (λ a. counters.given_back a m n) s)
         (counted_size (λ a. counters.given_back a m n) s.end s) (counted_closed (λ a. counters.given_back a m n) s.end s) (gvb_known name s peer busy stamp l m n d known);
   }
   gvb_by l m n false e = left (command.Gvb l m n) e (gvb_known name s peer busy stamp l m n d known)
@@ -137,7 +137,7 @@ module _ (name : ℕ → ℕ → ℕ) (link : ℕ) (peer : Host) (busy : List �
   -- ---- all commands
 
   module _ (a : AreApart (numbers name d.entries)) (formed : AreFormed d.entries) where
-    pub takes_all : (c : Command) → IsCommand c → NewSent name c d.entries s → FindsFree link c d.entries s → Sent name link (sent_by name link k busy c d s) (taken peer busy stamp c d).entries s
+    pub takes_all : (c : Command) → IsCommand c → NewSent name c d.entries s → FindsFree link c d.entries s → Sent name link (sent_by name link k busy c d s) (desk_taken peer busy stamp c d).entries s
     takes_all command.Nop i new free = left command.Nop tt known
     takes_all (command.Rts receive send l) i new free = rts_by send receive l (odd_is send i.3) formed a new free (list_any (sends_on l) d.entries) refl
     takes_all (command.Str send receive size) i new free = str_leaves receive send size i.3 a

@@ -12,7 +12,7 @@ use Rattle.stream_law.specs.Words.{covers}
 use Rattle.stream_law.specs.Senders as senders
 use Rattle.stream_law.specs.Senders.{Sender}
 use Rattle.host_pairs.specs.Allowed.{MaySend}
-use Rattle.host_pairs.specs.Commands.{Found, Unconnected, Ending, Open, found_in, at_end, all_taken, granted, gvb_taken, given_back, taken}
+use Rattle.host_pairs.specs.Commands.{Found, Unconnected, Ending, Open, found_in, at_end, all_taken, granted, gvb_taken, given_back, desk_taken}
 use Rattle.host_pairs.specs.Control.{error, NOT_CONNECTED}
 use Rattle.host_pairs.specs.Desk.{DeskState, desk_of}
 use Rattle.host_pairs.specs.Entries.{changed_first, has_cls, is_busy, is_link, is_open, is_receiving, sends_on}
@@ -144,14 +144,14 @@ module _ (name : ℕ → ℕ → ℕ) (link : ℕ) where
       (rw opened (inl (record { end = i.end; opened = i.opened; shut = i.shut; closed = i.closed; size = i.size; allocation = ap f i.allocation; live = i.live })))
 
   pub all_sends : (peer : Host) (busy : List ℕ) (stamp m n : ℕ) (d : DeskState) (s : Sender) → HasSender name link d.entries s
-      → HasSender name link (taken peer busy stamp (command.All link m n) d).entries (senders.with_allocation s.end (λ a. counters.granted a m n) s)
+      → HasSender name link (desk_taken peer busy stamp (command.All link m n) d).entries (senders.with_allocation s.end (λ a. counters.granted a m n) s)
   all_sends peer busy stamp m n d s h =
       at_link name link d.entries s (λ w q. HasSender name link (at_end (command.All link m n) (all_taken link m n) w d).entries q) (λ o. senders.with_allocation o (λ a. counters.granted a m n) s) h h refl
       (shut_counts (λ a. counters.granted a m n) s)
       (λ x g one i o. counted (granted m n) (λ a. counters.granted a m n) d s x (λ e. refl) g one i o) h
 
   pub gvb_sends : (peer : Host) (busy : List ℕ) (stamp m n : ℕ) (d : DeskState) (s : Sender) → HasSender name link d.entries s
-      → HasSender name link (taken peer busy stamp (command.Gvb link m n) d).entries (senders.with_allocation s.end (λ a. counters.given_back a m n) s)
+      → HasSender name link (desk_taken peer busy stamp (command.Gvb link m n) d).entries (senders.with_allocation s.end (λ a. counters.given_back a m n) s)
   gvb_sends peer busy stamp m n d s h =
       at_link name link d.entries s (λ w q. HasSender name link (at_end (command.Gvb link m n) (gvb_taken link m n) w d).entries q) (λ o. senders.with_allocation o (λ a. counters.given_back a m n) s) h h refl
       (shut_counts (λ a. counters.given_back a m n) s)
@@ -159,7 +159,7 @@ module _ (name : ℕ → ℕ → ℕ) (link : ℕ) where
 
   -- what it returns is what the law returns
   pub gvb_answers : (peer : Host) (busy : List ℕ) (stamp m n : ℕ) (d : DeskState) (s : Sender) → HasSender name link d.entries s
-      → returned_on link (taken peer busy stamp (command.Gvb link m n) d).queue ≡ returned_on link d.queue ++ returned_in (senders.returns m n s.end s)
+      → returned_on link (desk_taken peer busy stamp (command.Gvb link m n) d).queue ≡ returned_on link d.queue ++ returned_in (senders.returns m n s.end s)
   gvb_answers peer busy stamp m n d s h = by (filter (sends_on link) d.entries) refl where
     at : Found → Type 0
     at w = returned_on link (at_end (command.Gvb link m n) (gvb_taken link m n) w d).queue ≡ returned_on link d.queue ++ returned_in (senders.returns m n s.end s)

@@ -7,7 +7,7 @@ use Rattle.ncp_control.specs.Command.{IsCommand}
 use Rattle.ncp_control.specs.Numbers.{is_receive_socket}
 use Rattle.ncp_control.specs.declared.command.Command.{Command}
 use Rattle.ncp_control.specs.declared.command.Command.TheVariants as command
-use Rattle.host_pairs.specs.Commands.{Found, Unconnected, Ending, Open, all_taken, asked_on_link, asked_with_size, at_end, cls_taken_by, given_back, granted, gvb_taken, interrupted, ret_taken, returned, receiver_on, rts_heard, rts_taken, rts_taken_by, sender_on, str_heard, str_linked, str_taken_by, taken}
+use Rattle.host_pairs.specs.Commands.{Found, Unconnected, Ending, Open, all_taken, asked_on_link, asked_with_size, at_end, cls_taken_by, given_back, granted, gvb_taken, interrupted, ret_taken, returned, receiver_on, rts_heard, rts_taken, rts_taken_by, sender_on, str_heard, str_linked, str_taken_by, desk_taken}
 use Rattle.host_pairs.specs.Desk.{DeskState, listener_on}
 use Rattle.host_pairs.specs.Entries.{changed_first, closed_by_partner, entry_at, free_link, is_at, is_link, is_receiving, receiving_end, receives_on, refused_end, sending_end, sends_on}
 use Rattle.host_pairs.specs.declared.entry.Entry.{Entry}
@@ -108,7 +108,7 @@ module _ (name : ℕ → ℕ → ℕ) where
 
     -- ---- all commands
 
-    pub sound_taken : (c : Command) → IsCommand c → NewNumber name c d.entries → AreSound name (taken peer busy stamp c d).entries
+    pub sound_taken : (c : Command) → IsCommand c → NewNumber name c d.entries → AreSound name (desk_taken peer busy stamp c d).entries
     sound_taken command.Nop i new = s
     sound_taken (command.Rts receive send l) i new = rts_sound send receive l (odd_is send i.3) new (list_any (sends_on l) d.entries) refl
     sound_taken (command.Str send receive size) i new = str_by receive send size i.3 new (entry_at receive send d.entries) refl

@@ -11,7 +11,7 @@ use Rattle.stream_law.specs.Receivers.{Receiver}
 use Rattle.stream_law.specs.Senders as senders
 use Rattle.stream_law.specs.Senders.{Sender}
 use Rattle.host_pairs.specs.Asked.{closed_end, passes, receiver_requested, requested, with_end, with_more_bits}
-use Rattle.host_pairs.specs.Commands.{asked_with_size, granted, taken}
+use Rattle.host_pairs.specs.Commands.{asked_with_size, granted, desk_taken}
 use Rattle.host_pairs.specs.Data.{data_taken}
 use Rattle.host_pairs.specs.Desk.{desk_of, settled}
 use Rattle.host_pairs.specs.Entries.{called_off, entry_at, free_link, is_busy, is_mine_on, is_open, receiving_end, sending_end, was_closed}
@@ -55,7 +55,7 @@ pub record Moment : Type 0 where
 
 -- the ends after it
 abbrev pub ends_by : Host → Call → PairState → List Listener → List Entry
-ends_by peer (Hears stamp said c) q listening = (taken peer q.busy stamp c (desk_of q listening)).entries
+ends_by peer (Hears stamp said c) q listening = (desk_taken peer q.busy stamp c (desk_of q listening)).entries
 ends_by peer (Takes l text) q listening = (data_taken l text (desk_of q listening)).entries
 ends_by peer (Says stamp c) q listening = (command_gone peer stamp c (desk_of q listening)).entries
 ends_by peer (Sends stamp e size count) q listening = (parcel_gone peer stamp q.busy (Bytes e size count) (desk_of q listening)).entries
@@ -139,11 +139,11 @@ name_now number peer moments own foreign = number own foreign (gone_now peer mom
 
 -- the law's receiver and sender of a link
 abbrev pub receiver_now : (ℕ → ℕ → ℕ → ℕ) → Host → ℕ → List Moment → Receiver
-receiver_now number peer link [] = receivers.opening
+receiver_now number peer link [] = receivers.opening_receiver
 receiver_now number peer link (m ∷ moments) = all_received (received_at (name_now number peer moments) link m.call m.pair m.listening) (receiver_now number peer link moments)
 
 abbrev pub sender_now : (ℕ → ℕ → ℕ → ℕ) → Host → ℕ → List Moment → Sender
-sender_now number peer link [] = senders.opening
+sender_now number peer link [] = senders.opening_sender
 sender_now number peer link (m ∷ moments) =
     all_sent (sent_at (name_now number peer moments) link m.call m.pair m.listening (sender_now number peer link moments)) (sender_now number peer link moments)
 
@@ -211,8 +211,8 @@ moment c entries = record { call = c; pair = record opening_pair { phase = phase
 abbrev pub waiting : Entry
 waiting = receiving_end 16 33 2
 
-abbrev pub opened : Entry
-opened = asked_with_size 7 8 (asked_at 6 waiting)
+abbrev pub opened_end : Entry
+opened_end = asked_with_size 7 8 (asked_at 6 waiting)
 
 abbrev pub opening_moments : List Moment
 opening_moments =
@@ -221,6 +221,6 @@ opening_moments =
 
 abbrev pub closing_moments : List Moment
 closing_moments =
-    moment (OpensReceiver 16 33) [] ∷ moment (Hears 9 0 (command.Cls 33 16)) (record opened { closing = closing.Sent } ∷ []) ∷ moment (Says 8 (command.Cls 16 33)) (record opened { closing = closing.Queued } ∷ [])
-    ∷ moment (Closes 16 opened) (opened ∷ [])
+    moment (OpensReceiver 16 33) [] ∷ moment (Hears 9 0 (command.Cls 33 16)) (record opened_end { closing = closing.Sent } ∷ []) ∷ moment (Says 8 (command.Cls 16 33)) (record opened_end { closing = closing.Queued } ∷ [])
+    ∷ moment (Closes 16 opened_end) (opened_end ∷ [])
     ∷ opening_moments

@@ -15,7 +15,7 @@ ghost use Rattle.stream_law.specs.Receivers.{Receiver};
 ghost use Rattle.stream_law.specs.Senders as senders;
 ghost use Rattle.stream_law.specs.Senders.{Sender};
 ghost use Rattle.host_pairs.specs.Asked.{closed_end, passes, receiver_requested, requested, with_end, with_more_bits};
-ghost use Rattle.host_pairs.specs.Commands.{asked_on_link, asked_with_size, granted, taken};
+ghost use Rattle.host_pairs.specs.Commands.{asked_on_link, asked_with_size, granted, desk_taken};
 ghost use Rattle.host_pairs.specs.Data.{data_taken};
 ghost use Rattle.host_pairs.specs.Desk.{DeskState, desk_of};
 ghost use Rattle.host_pairs.specs.Entries.{called_off, free_link, is_mine_on, is_open, new_entry, receiving_end, refused_end, sending_end, was_closed};
@@ -34,13 +34,13 @@ ghost use Rattle.host_keeps_streams.specs.Names.{AreApart, IsNewReceived, IsNewS
 /// Each command of the peer is, on each link, a list of the law's moves: `received_by` tells those of the receiver, `sent_by` those of the sender.
 pub fn commands()
     // the law lets the receiver make them, and has the end on the link after them. A request that makes a new end has a new number
-    ensures received { (name : ℕ → ℕ → ℕ) (link said : ℕ) (peer : Host) (busy : List ℕ) (stamp : ℕ) (c : Command) (d : DeskState) (r : Receiver) → IsCommand c → AreSound name d.entries → NewReceived name c d.entries r → HasReceiver name link d.entries r → MayAllReceive (received_by name link said c d) r × HasReceiver name link (taken peer busy stamp c d).entries (all_received (received_by name link said c d) r) }
+    ensures received { (name : ℕ → ℕ → ℕ) (link said : ℕ) (peer : Host) (busy : List ℕ) (stamp : ℕ) (c : Command) (d : DeskState) (r : Receiver) → IsCommand c → AreSound name d.entries → NewReceived name c d.entries r → HasReceiver name link d.entries r → MayAllReceive (received_by name link said c d) r × HasReceiver name link (desk_taken peer busy stamp c d).entries (all_received (received_by name link said c d) r) }
 
     // and the sender too, where an RTS finds the law's link free if it finds the program's free
-    ensures sent { (name : ℕ → ℕ → ℕ) (link said : ℕ) (peer : Host) (busy : List ℕ) (stamp : ℕ) (c : Command) (d : DeskState) (s : Sender) → IsCommand c → AreSound name d.entries → NewSent name c d.entries s → FindsFree link c d.entries s → IsSending name link d.entries s → MayAllSend (sent_by name link said busy c d s) s × IsSending name link (taken peer busy stamp c d).entries (all_sent (sent_by name link said busy c d s) s) }
+    ensures sent { (name : ℕ → ℕ → ℕ) (link said : ℕ) (peer : Host) (busy : List ℕ) (stamp : ℕ) (c : Command) (d : DeskState) (s : Sender) → IsCommand c → AreSound name d.entries → NewSent name c d.entries s → FindsFree link c d.entries s → IsSending name link d.entries s → MayAllSend (sent_by name link said busy c d s) s × IsSending name link (desk_taken peer busy stamp c d).entries (all_sent (sent_by name link said busy c d s) s) }
 
     // what holds of all ends stays so
-    ensures sound { (name : ℕ → ℕ → ℕ) (peer : Host) (busy : List ℕ) (stamp : ℕ) (c : Command) (d : DeskState) → IsCommand c → NewNumber name c d.entries → AreSound name d.entries → AreSound name (taken peer busy stamp c d).entries }
+    ensures sound { (name : ℕ → ℕ → ℕ) (peer : Host) (busy : List ℕ) (stamp : ℕ) (c : Command) (d : DeskState) → IsCommand c → NewNumber name c d.entries → AreSound name d.entries → AreSound name (desk_taken peer busy stamp c d).entries }
 {}
 
 /// Names of connections may change where no end has them: so sockets whose end is gone get a new number.
@@ -111,8 +111,8 @@ pub fn closing_ends()
 
 /// Where a stay begins there are no ends, and the law is at its opening.
 pub fn beginning()
-    ensures received { (name : ℕ → ℕ → ℕ) (link : ℕ) → HasReceiver name link [] receivers.opening }
-    ensures sent { (name : ℕ → ℕ → ℕ) (link : ℕ) → IsSending name link [] senders.opening }
+    ensures received { (name : ℕ → ℕ → ℕ) (link : ℕ) → HasReceiver name link [] receivers.opening_receiver }
+    ensures sent { (name : ℕ → ℕ → ℕ) (link : ℕ) → IsSending name link [] senders.opening_sender }
     ensures sound { (name : ℕ → ℕ → ℕ) → AreSound name [] }
 {}
 
@@ -124,14 +124,14 @@ pub fn worked_names()
     ensures twice { AreApart (1 ∷ 3 ∷ 1 ∷ []) → ⊥ }
 
     // what was said of a sending end is known on every link: its byte size, and its CLS once that waits to go out
-    ensures known { IsSending (λ own foreign. own) 5 (sending_end 33 16 8 ∷ []) (senders.moved (senders.Ask 33 8) senders.opening) }
-    ensures unsaid { IsSending (λ own foreign. own) 5 (sending_end 33 16 8 ∷ []) senders.opening → ⊥ }
-    ensures other_size { IsSending (λ own foreign. own) 5 (sending_end 33 16 8 ∷ []) (senders.moved (senders.Ask 33 36) senders.opening) → ⊥ }
-    ensures unclosed { IsSending (λ own foreign. own) 5 (record (sending_end 33 16 8) { closing = closing.Queued } ∷ []) (senders.moved (senders.Ask 33 8) senders.opening) → ⊥ }
-    ensures closed { IsSending (λ own foreign. own) 5 (record (sending_end 33 16 8) { closing = closing.Queued } ∷ []) (all_sent (senders.Ask 33 8 ∷ senders.Close 33 ∷ []) senders.opening) }
+    ensures known { IsSending (λ own foreign. own) 5 (sending_end 33 16 8 ∷ []) (senders.moved (senders.Ask 33 8) senders.opening_sender) }
+    ensures unsaid { IsSending (λ own foreign. own) 5 (sending_end 33 16 8 ∷ []) senders.opening_sender → ⊥ }
+    ensures other_size { IsSending (λ own foreign. own) 5 (sending_end 33 16 8 ∷ []) (senders.moved (senders.Ask 33 36) senders.opening_sender) → ⊥ }
+    ensures unclosed { IsSending (λ own foreign. own) 5 (record (sending_end 33 16 8) { closing = closing.Queued } ∷ []) (senders.moved (senders.Ask 33 8) senders.opening_sender) → ⊥ }
+    ensures closed { IsSending (λ own foreign. own) 5 (record (sending_end 33 16 8) { closing = closing.Queued } ∷ []) (all_sent (senders.Ask 33 8 ∷ senders.Close 33 ∷ []) senders.opening_sender) }
 
     // of an end that receives the law's sender knows nothing
-    ensures receives { IsSending (λ own foreign. own) 5 (record (receiving_end 16 33 5) { size = Some 8; closing = closing.Queued } ∷ []) senders.opening }
+    ensures receives { IsSending (λ own foreign. own) 5 (record (receiving_end 16 33 5) { size = Some 8; closing = closing.Queued } ∷ []) senders.opening_sender }
 {}
 
 /// How far ends have come.
@@ -173,33 +173,33 @@ pub fn worked_commands()
     ensures ret { (received_by (λ own foreign. own) 5 9 (command.Ret 5 1 2) (desk [] []) ≡ receivers.Hear (Ret 9 1 2) ∷ []) × (received_by (λ own foreign. own) 7 9 (command.Ret 5 1 2) (desk [] []) ≡ []) }
 
     // an RTS is heard on the link that it names; its end opens if its STR has gone out
-    ensures rts { sent_by (λ own foreign. own) 5 0 [] (command.Rts 16 33 5) (desk (asked_at 6 (sending_end 33 16 8) ∷ []) []) senders.opening ≡ senders.Hear (Rts 33) ∷ senders.Open 33 ∷ [] }
-    ensures rts_before { sent_by (λ own foreign. own) 5 0 [] (command.Rts 16 33 5) (desk (sending_end 33 16 8 ∷ []) []) senders.opening ≡ senders.Hear (Rts 33) ∷ [] }
-    ensures rts_elsewhere { sent_by (λ own foreign. own) 7 0 [] (command.Rts 16 33 5) (desk (asked_at 6 (sending_end 33 16 8) ∷ []) []) senders.opening ≡ [] }
-    ensures rts_used { sent_by (λ own foreign. own) 5 0 [] (command.Rts 16 33 5) (desk (sending_end 33 16 8 ∷ asked_on_link 7 5 (sending_end 35 18 8) ∷ []) []) senders.opening ≡ [] }
+    ensures rts { sent_by (λ own foreign. own) 5 0 [] (command.Rts 16 33 5) (desk (asked_at 6 (sending_end 33 16 8) ∷ []) []) senders.opening_sender ≡ senders.Hear (Rts 33) ∷ senders.Open 33 ∷ [] }
+    ensures rts_before { sent_by (λ own foreign. own) 5 0 [] (command.Rts 16 33 5) (desk (sending_end 33 16 8 ∷ []) []) senders.opening_sender ≡ senders.Hear (Rts 33) ∷ [] }
+    ensures rts_elsewhere { sent_by (λ own foreign. own) 7 0 [] (command.Rts 16 33 5) (desk (asked_at 6 (sending_end 33 16 8) ∷ []) []) senders.opening_sender ≡ [] }
+    ensures rts_used { sent_by (λ own foreign. own) 5 0 [] (command.Rts 16 33 5) (desk (sending_end 33 16 8 ∷ asked_on_link 7 5 (sending_end 35 18 8) ∷ []) []) senders.opening_sender ≡ [] }
 
     // a socket that listens tells its byte size on each link. A request that is refused is closed on each
-    ensures listens { sent_by (λ own foreign. own) 5 0 [] (command.Rts 16 33 5) (desk [] (record { socket = 33; size = 8 } ∷ [])) senders.opening ≡ senders.Ask 33 8 ∷ senders.Hear (Rts 33) ∷ [] }
-    ensures listens_elsewhere { sent_by (λ own foreign. own) 7 0 [] (command.Rts 16 33 5) (desk [] (record { socket = 33; size = 8 } ∷ [])) senders.opening ≡ senders.Ask 33 8 ∷ [] }
-    ensures rts_refused { sent_by (λ own foreign. own) 5 0 [] (command.Rts 16 33 5) (desk [] []) senders.opening ≡ senders.Hear (Rts 33) ∷ senders.Close 33 ∷ [] }
-    ensures refused_elsewhere { sent_by (λ own foreign. own) 7 0 [] (command.Rts 16 33 5) (desk [] []) senders.opening ≡ senders.Close 33 ∷ [] }
+    ensures listens { sent_by (λ own foreign. own) 5 0 [] (command.Rts 16 33 5) (desk [] (record { socket = 33; size = 8 } ∷ [])) senders.opening_sender ≡ senders.Ask 33 8 ∷ senders.Hear (Rts 33) ∷ [] }
+    ensures listens_elsewhere { sent_by (λ own foreign. own) 7 0 [] (command.Rts 16 33 5) (desk [] (record { socket = 33; size = 8 } ∷ [])) senders.opening_sender ≡ senders.Ask 33 8 ∷ [] }
+    ensures rts_refused { sent_by (λ own foreign. own) 5 0 [] (command.Rts 16 33 5) (desk [] []) senders.opening_sender ≡ senders.Hear (Rts 33) ∷ senders.Close 33 ∷ [] }
+    ensures refused_elsewhere { sent_by (λ own foreign. own) 7 0 [] (command.Rts 16 33 5) (desk [] []) senders.opening_sender ≡ senders.Close 33 ∷ [] }
 
     // a CLS is heard where the law's end is of its connection, and the end closes on each link when all that it sent is answered
-    ensures heard { sent_by (λ own foreign. own) 5 0 [] (command.Cls 16 33) (desk (asked_on_link 7 5 (sending_end 33 16 8) ∷ []) []) (record senders.opening { end = Some 33 }) ≡ senders.Hear (Cls 33) ∷ senders.Close 33 ∷ [] }
-    ensures heard_elsewhere { sent_by (λ own foreign. own) 7 0 [] (command.Cls 16 33) (desk (asked_on_link 7 5 (sending_end 33 16 8) ∷ []) []) senders.opening ≡ senders.Close 33 ∷ [] }
-    ensures heard_other { sent_by (λ own foreign. own) 7 0 [] (command.Cls 16 33) (desk (asked_on_link 7 5 (sending_end 33 16 8) ∷ []) []) (record senders.opening { end = Some 35 }) ≡ senders.Close 33 ∷ [] }
-    ensures outstanding { sent_by (λ own foreign. own) 5 0 (5 ∷ []) (command.Cls 16 33) (desk (asked_on_link 7 5 (sending_end 33 16 8) ∷ []) []) (record senders.opening { end = Some 33 }) ≡ senders.Hear (Cls 33) ∷ [] }
-    ensures heard_again { sent_by (λ own foreign. own) 5 0 [] (command.Cls 16 33) (desk (record (asked_on_link 7 5 (sending_end 33 16 8)) { partner_closed = true; closing = closing.Queued } ∷ []) []) (record senders.opening { end = Some 33 }) ≡ [] }
+    ensures heard { sent_by (λ own foreign. own) 5 0 [] (command.Cls 16 33) (desk (asked_on_link 7 5 (sending_end 33 16 8) ∷ []) []) (record senders.opening_sender { end = Some 33 }) ≡ senders.Hear (Cls 33) ∷ senders.Close 33 ∷ [] }
+    ensures heard_elsewhere { sent_by (λ own foreign. own) 7 0 [] (command.Cls 16 33) (desk (asked_on_link 7 5 (sending_end 33 16 8) ∷ []) []) senders.opening_sender ≡ senders.Close 33 ∷ [] }
+    ensures heard_other { sent_by (λ own foreign. own) 7 0 [] (command.Cls 16 33) (desk (asked_on_link 7 5 (sending_end 33 16 8) ∷ []) []) (record senders.opening_sender { end = Some 35 }) ≡ senders.Close 33 ∷ [] }
+    ensures outstanding { sent_by (λ own foreign. own) 5 0 (5 ∷ []) (command.Cls 16 33) (desk (asked_on_link 7 5 (sending_end 33 16 8) ∷ []) []) (record senders.opening_sender { end = Some 33 }) ≡ senders.Hear (Cls 33) ∷ [] }
+    ensures heard_again { sent_by (λ own foreign. own) 5 0 [] (command.Cls 16 33) (desk (record (asked_on_link 7 5 (sending_end 33 16 8)) { partner_closed = true; closing = closing.Queued } ∷ []) []) (record senders.opening_sender { end = Some 33 }) ≡ [] }
 
     // that for an end which was refused frees the law's
-    ensures freed { sent_by (λ own foreign. own) 5 0 [] (command.Cls 16 33) (desk (refused_end 33 16 9 ∷ []) []) (record senders.opening { end = Some 33 }) ≡ senders.Hear (Cls 33) ∷ [] }
+    ensures freed { sent_by (λ own foreign. own) 5 0 [] (command.Cls 16 33) (desk (refused_end 33 16 9 ∷ []) []) (record senders.opening_sender { end = Some 33 }) ≡ senders.Hear (Cls 33) ∷ [] }
 
     // a grant is heard on its link
-    ensures grant { (sent_by (λ own foreign. own) 5 9 [] (command.All 5 1 2) (desk [] []) senders.opening ≡ senders.Hear (All 9 1 2) ∷ []) × (sent_by (λ own foreign. own) 7 9 [] (command.Gvb 5 1 2) (desk [] []) senders.opening ≡ []) }
+    ensures grant { (sent_by (λ own foreign. own) 5 9 [] (command.All 5 1 2) (desk [] []) senders.opening_sender ≡ senders.Hear (All 9 1 2) ∷ []) × (sent_by (λ own foreign. own) 7 9 [] (command.Gvb 5 1 2) (desk [] []) senders.opening_sender ≡ []) }
 
     // an RTS on a link that the program has free, and the law hasn't, is what may not come
-    ensures free { FindsFree 5 (command.Rts 16 33 5) [] (record senders.opening { end = Some 35 }) → ⊥ }
-    ensures free_elsewhere { FindsFree 7 (command.Rts 16 33 5) [] (record senders.opening { end = Some 35 }) }
+    ensures free { FindsFree 5 (command.Rts 16 33 5) [] (record senders.opening_sender { end = Some 35 }) → ⊥ }
+    ensures free_elsewhere { FindsFree 7 (command.Rts 16 33 5) [] (record senders.opening_sender { end = Some 35 }) }
 {}
 
 /// What else the calls are on a link.
@@ -211,14 +211,14 @@ pub fn worked_moves()
     ensures rts { received_out (λ own foreign. own) 5 (command.Rts 16 33 5) (asked_with_size 7 8 (receiving_end 16 33 5) ∷ []) ≡ receivers.Open 16 ∷ [] }
     ensures rts_first { received_out (λ own foreign. own) 5 (command.Rts 16 33 5) (receiving_end 16 33 5 ∷ []) ≡ [] }
     ensures rts_elsewhere { received_out (λ own foreign. own) 7 (command.Rts 16 33 5) (asked_with_size 7 8 (receiving_end 16 33 5) ∷ []) ≡ [] }
-    ensures str { sent_out (λ own foreign. own) 5 (command.Str 33 16 8) (asked_on_link 7 5 (sending_end 33 16 8) ∷ []) (record senders.opening { end = Some 33 }) ≡ senders.Open 33 ∷ [] }
-    ensures str_first { sent_out (λ own foreign. own) 5 (command.Str 33 16 8) (sending_end 33 16 8 ∷ []) senders.opening ≡ [] }
-    ensures str_gone { sent_out (λ own foreign. own) 5 (command.Str 33 16 8) (asked_on_link 7 5 (sending_end 33 16 8) ∷ []) (record senders.opening { end = None }) ≡ [] }
+    ensures str { sent_out (λ own foreign. own) 5 (command.Str 33 16 8) (asked_on_link 7 5 (sending_end 33 16 8) ∷ []) (record senders.opening_sender { end = Some 33 }) ≡ senders.Open 33 ∷ [] }
+    ensures str_first { sent_out (λ own foreign. own) 5 (command.Str 33 16 8) (sending_end 33 16 8 ∷ []) senders.opening_sender ≡ [] }
+    ensures str_gone { sent_out (λ own foreign. own) 5 (command.Str 33 16 8) (asked_on_link 7 5 (sending_end 33 16 8) ∷ []) (record senders.opening_sender { end = None }) ≡ [] }
 
     // a receiving end whose CLS goes out is free if it heard one; a sender said its CLS before
     ensures cls { received_out (λ own foreign. own) 5 (command.Cls 16 33) (record (receiving_end 16 33 5) { closing = closing.Queued; partner_closed = true } ∷ []) ≡ receivers.Free 16 ∷ [] }
     ensures cls_first { received_out (λ own foreign. own) 5 (command.Cls 16 33) (record (receiving_end 16 33 5) { closing = closing.Queued } ∷ []) ≡ [] }
-    ensures cls_sender { sent_out (λ own foreign. own) 5 (command.Cls 33 16) (record (asked_on_link 7 5 (sending_end 33 16 8)) { closing = closing.Queued } ∷ []) (record senders.opening { end = Some 33 }) ≡ [] }
+    ensures cls_sender { sent_out (λ own foreign. own) 5 (command.Cls 33 16) (record (asked_on_link 7 5 (sending_end 33 16 8)) { closing = closing.Queued } ∷ []) (record senders.opening_sender { end = Some 33 }) ≡ [] }
     ensures unsaid { HasSaid (command.Cls 16 33) (receiving_end 16 33 5 ∷ []) → ⊥ }
 
     // so many bytes of an end go out on its link

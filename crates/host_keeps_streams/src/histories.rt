@@ -64,9 +64,9 @@ pub fn worked_histories()
     ensures sends { (peer : Host) → MaySendAll numbered_by_own peer 5 (moment (Closes 33 (sending_end 33 16 8)) (sending_end 33 16 8 ∷ []) ∷ moment (OpensSender 33 16 8) [] ∷ []) }
     ensures closed { (peer : Host) → (sender_now numbered_by_own peer 5 (moment (Closes 33 (sending_end 33 16 8)) (sending_end 33 16 8 ∷ []) ∷ moment (OpensSender 33 16 8) [] ∷ [])).closed 33 ≡ true }
     // a message goes out where none is outstanding, and an end that has opened closes where none is; one that hasn't opened may close at any time
-    ensures sends_free { (KeepBox false (senders.Send 33 8 [] ∷ []) senders.opening) × (KeepBox true (senders.Send 33 8 [] ∷ []) senders.opening → ⊥) }
-    ensures closes_free { KeepBox true (senders.Close 33 ∷ []) (record senders.opening { end = Some 33; opened = true }) → ⊥ }
-    ensures closes_other { KeepBox true (senders.Close 35 ∷ []) (record senders.opening { end = Some 33; opened = true }) }
-    ensures closes_unopened { KeepBox true (senders.Close 33 ∷ []) senders.opening }
+    ensures sends_free { (KeepBox false (senders.Send 33 8 [] ∷ []) senders.opening_sender) × (KeepBox true (senders.Send 33 8 [] ∷ []) senders.opening_sender → ⊥) }
+    ensures closes_free { KeepBox true (senders.Close 33 ∷ []) (record senders.opening_sender { end = Some 33; opened = true }) → ⊥ }
+    ensures closes_other { KeepBox true (senders.Close 35 ∷ []) (record senders.opening_sender { end = Some 33; opened = true }) }
+    ensures closes_unopened { KeepBox true (senders.Close 33 ∷ []) senders.opening_sender }
     ensures told { (peer : Host) → (sender_now numbered_by_own peer 5 (moment (OpensSender 33 16 8) [] ∷ [])).size 33 ≡ Some 8 }
 {}

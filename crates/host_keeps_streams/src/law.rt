@@ -16,7 +16,7 @@ ghost use Rattle.stream_law.specs.Receivers.{Receiver};
 ghost use Rattle.stream_law.specs.Senders as senders;
 ghost use Rattle.stream_law.specs.Senders.{Sender};
 ghost use Rattle.host_pairs.specs.Asked.{closed_end, passes, requested, with_end, with_more_bits};
-ghost use Rattle.host_pairs.specs.Commands.{asked_on_link, asked_with_size, granted, taken};
+ghost use Rattle.host_pairs.specs.Commands.{asked_on_link, asked_with_size, granted, desk_taken};
 ghost use Rattle.host_pairs.specs.Data.{data_of, data_taken};
 ghost use Rattle.host_pairs.specs.Desk.{DeskState, desk_of, settled};
 ghost use Rattle.host_pairs.specs.Entries.{called_off, entry_at, free_link, has_cls, is_answered, is_mine_on, is_open, is_receiving, must_close, was_closed, receives_on, sends_on, receiving_end, sending_end, refused_end};
@@ -37,26 +37,26 @@ pub fn receiving()
     ensures told { (name : ℕ → ℕ → ℕ) (link : ℕ) (text : List Bool) (h : DataHeader) (d : DeskState) (r : Receiver) (c : ℕ) → header_of text ≡ Some h → HasReceiver name link d.entries r → d.notices ≡ [] → r.end ≡ Some c → (receivers.moved (receivers.Take h.size (data_of (data_bits h) text)) r).taken c ≡ r.taken c ++ arrivals (data_taken link text d).notices }
 
     // what is returned counts as in the law, of whatever connection the law has it
-    ensures returned { (name : ℕ → ℕ → ℕ) (link : ℕ) (peer : Host) (busy : List ℕ) (stamp k messages bits : ℕ) (d : DeskState) (r : Receiver) → HasReceiver name link d.entries r → HasReceiver name link (taken peer busy stamp (command.Ret link messages bits) d).entries (receivers.moved (receivers.Hear (Ret k messages bits)) r) }
+    ensures returned { (name : ℕ → ℕ → ℕ) (link : ℕ) (peer : Host) (busy : List ℕ) (stamp k messages bits : ℕ) (d : DeskState) (r : Receiver) → HasReceiver name link d.entries r → HasReceiver name link (desk_taken peer busy stamp (command.Ret link messages bits) d).entries (receivers.moved (receivers.Hear (Ret k messages bits)) r) }
 
     // nothing else but requests and CLS changes it: no other command, and no data on another link
-    ensures others { (name : ℕ → ℕ → ℕ) (link : ℕ) (peer : Host) (busy : List ℕ) (stamp : ℕ) (c : Command) (d : DeskState) (r : Receiver) → LeavesReceiver link c → HasReceiver name link d.entries r → HasReceiver name link (taken peer busy stamp c d).entries r }
+    ensures others { (name : ℕ → ℕ → ℕ) (link : ℕ) (peer : Host) (busy : List ℕ) (stamp : ℕ) (c : Command) (d : DeskState) (r : Receiver) → LeavesReceiver link c → HasReceiver name link d.entries r → HasReceiver name link (desk_taken peer busy stamp c d).entries r }
     ensures elsewhere { (name : ℕ → ℕ → ℕ) (link other : ℕ) (text : List Bool) (d : DeskState) (r : Receiver) → (other == link) ≡ false → HasReceiver name link d.entries r → HasReceiver name link (data_taken other text d).entries r }
 {}
 
 /// What comes in for the end that sends on a link, and what goes out of it.
 pub fn sending()
     // a grant adds what the law adds, and what is asked back is taken from its counters and returned as the law has it
-    ensures granted { (name : ℕ → ℕ → ℕ) (link : ℕ) (peer : Host) (busy : List ℕ) (stamp k messages bits : ℕ) (d : DeskState) (s : Sender) → HasSender name link d.entries s → HasSender name link (taken peer busy stamp (command.All link messages bits) d).entries (senders.moved (senders.Hear (All k messages bits)) s) }
-    ensures asked_back { (name : ℕ → ℕ → ℕ) (link : ℕ) (peer : Host) (busy : List ℕ) (stamp k messages bits : ℕ) (d : DeskState) (s : Sender) → HasSender name link d.entries s → HasSender name link (taken peer busy stamp (command.Gvb link messages bits) d).entries (senders.moved (senders.Hear (Gvb k messages bits)) s) }
-    ensures returns { (name : ℕ → ℕ → ℕ) (link : ℕ) (peer : Host) (busy : List ℕ) (stamp k messages bits : ℕ) (d : DeskState) (s : Sender) → HasSender name link d.entries s → returned_on link (taken peer busy stamp (command.Gvb link messages bits) d).queue ≡ returned_on link d.queue ++ returned_in (senders.says (senders.Hear (Gvb k messages bits)) s) }
+    ensures granted { (name : ℕ → ℕ → ℕ) (link : ℕ) (peer : Host) (busy : List ℕ) (stamp k messages bits : ℕ) (d : DeskState) (s : Sender) → HasSender name link d.entries s → HasSender name link (desk_taken peer busy stamp (command.All link messages bits) d).entries (senders.moved (senders.Hear (All k messages bits)) s) }
+    ensures asked_back { (name : ℕ → ℕ → ℕ) (link : ℕ) (peer : Host) (busy : List ℕ) (stamp k messages bits : ℕ) (d : DeskState) (s : Sender) → HasSender name link d.entries s → HasSender name link (desk_taken peer busy stamp (command.Gvb link messages bits) d).entries (senders.moved (senders.Hear (Gvb k messages bits)) s) }
+    ensures returns { (name : ℕ → ℕ → ℕ) (link : ℕ) (peer : Host) (busy : List ℕ) (stamp k messages bits : ℕ) (d : DeskState) (s : Sender) → HasSender name link d.entries s → returned_on link (desk_taken peer busy stamp (command.Gvb link messages bits) d).queue ≡ returned_on link d.queue ++ returned_in (senders.says (senders.Hear (Gvb k messages bits)) s) }
 
     // bytes that go out of an end are what the law lets it send, and the law has that end afterwards
     ensures may { (name : ℕ → ℕ → ℕ) (link : ℕ) (q : PairState) (e : Entry) (size count : ℕ) (s : Sender) → next_of q ≡ Some (Bytes e size count) → e.link ≡ Some link → HasSender name link q.entries s → senders.May (senders.Send (name e.own e.foreign) size (take (size * count) e.bits)) s }
     ensures bytes { (name : ℕ → ℕ → ℕ) (link : ℕ) (peer : Host) (stamp : ℕ) (listening : List Listener) (q : PairState) (e : Entry) (size count : ℕ) (s : Sender) → next_of q ≡ Some (Bytes e size count) → e.link ≡ Some link → HasSender name link q.entries s → HasSender name link (parcel_gone peer stamp q.busy (Bytes e size count) (desk_of q listening)).entries (senders.moved (senders.Send (name e.own e.foreign) size (take (size * count) e.bits)) s) }
 
     // nothing else but requests and CLS changes it: no other command, and no data of the peer
-    ensures others { (name : ℕ → ℕ → ℕ) (link : ℕ) (peer : Host) (busy : List ℕ) (stamp : ℕ) (c : Command) (d : DeskState) (s : Sender) → LeavesSender link c → HasSender name link d.entries s → HasSender name link (taken peer busy stamp c d).entries s }
+    ensures others { (name : ℕ → ℕ → ℕ) (link : ℕ) (peer : Host) (busy : List ℕ) (stamp : ℕ) (c : Command) (d : DeskState) (s : Sender) → LeavesSender link c → HasSender name link d.entries s → HasSender name link (desk_taken peer busy stamp c d).entries s }
     ensures data { (name : ℕ → ℕ → ℕ) (link other : ℕ) (text : List Bool) (d : DeskState) (s : Sender) → HasSender name link d.entries s → HasSender name link (data_taken other text d).entries s }
 {}
 
@@ -78,15 +78,15 @@ pub fn asking()
 /// Ends as the law has them. Here the name of a connection is its own socket.
 pub fn worked_ends()
     // an end that receives on the link is the law's, and one that is asked for and doesn't exist isn't
-    ensures own { HasReceiver (λ own foreign. own) 5 (receiving_end 16 33 5 ∷ []) (receivers.asks 16 receivers.opening) }
-    ensures missing { HasReceiver (λ own foreign. own) 5 (receiving_end 16 33 5 ∷ []) receivers.opening → ⊥ }
-    ensures unknown { HasReceiver (λ own foreign. own) 5 [] (receivers.asks 16 receivers.opening) → ⊥ }
-    ensures name { HasReceiver (λ own foreign. foreign) 5 (receiving_end 16 33 5 ∷ []) (receivers.asks 16 receivers.opening) → ⊥ }
+    ensures own { HasReceiver (λ own foreign. own) 5 (receiving_end 16 33 5 ∷ []) (receivers.asks 16 receivers.opening_receiver) }
+    ensures missing { HasReceiver (λ own foreign. own) 5 (receiving_end 16 33 5 ∷ []) receivers.opening_receiver → ⊥ }
+    ensures unknown { HasReceiver (λ own foreign. own) 5 [] (receivers.asks 16 receivers.opening_receiver) → ⊥ }
+    ensures name { HasReceiver (λ own foreign. foreign) 5 (receiving_end 16 33 5 ∷ []) (receivers.asks 16 receivers.opening_receiver) → ⊥ }
 
     // one on another link isn't on this, nor is one that sends
-    ensures none { HasReceiver (λ own foreign. own) 5 [] receivers.opening }
-    ensures other { HasReceiver (λ own foreign. own) 5 (receiving_end 16 33 7 ∷ []) receivers.opening }
-    ensures sends { HasReceiver (λ own foreign. own) 5 (asked_on_link 7 5 (sending_end 33 16 8) ∷ []) receivers.opening }
+    ensures none { HasReceiver (λ own foreign. own) 5 [] receivers.opening_receiver }
+    ensures other { HasReceiver (λ own foreign. own) 5 (receiving_end 16 33 7 ∷ []) receivers.opening_receiver }
+    ensures sends { HasReceiver (λ own foreign. own) 5 (asked_on_link 7 5 (sending_end 33 16 8) ∷ []) receivers.opening_receiver }
 
     // two on one link are nobody's
     ensures twins { (r : Receiver) → HasReceiver (λ own foreign. own) 5 (receiving_end 16 33 5 ∷ receiving_end 18 35 5 ∷ []) r → ⊥ }
@@ -95,16 +95,16 @@ pub fn worked_ends()
     // it opens by both requests; a CLS that waits to go out is said, and one that is due isn't
     ensures half { has_opened (asked_at 6 (receiving_end 16 33 5)) ≡ false }
     ensures opened { has_opened (asked_with_size 9 8 (asked_at 6 (receiving_end 16 33 5))) ≡ true }
-    ensures queued { HasReceiver (λ own foreign. own) 5 (record (receiving_end 16 33 5) { closing = closing.Queued } ∷ []) (record (receivers.asks 16 receivers.opening) { closed = true }) }
-    ensures due { HasReceiver (λ own foreign. own) 5 (record (receiving_end 16 33 5) { closing = closing.Due } ∷ []) (record (receivers.asks 16 receivers.opening) { closed = true }) → ⊥ }
+    ensures queued { HasReceiver (λ own foreign. own) 5 (record (receiving_end 16 33 5) { closing = closing.Queued } ∷ []) (record (receivers.asks 16 receivers.opening_receiver) { closed = true }) }
+    ensures due { HasReceiver (λ own foreign. own) 5 (record (receiving_end 16 33 5) { closing = closing.Due } ∷ []) (record (receivers.asks 16 receivers.opening_receiver) { closed = true }) → ⊥ }
 
     // a sending end has the link when its RTS was taken
-    ensures asked { HasSender (λ own foreign. own) 5 (asked_on_link 7 5 (sending_end 33 16 8) ∷ []) (senders.begins 33 None (senders.moved (senders.Ask 33 8) senders.opening)) }
-    ensures unasked { HasSender (λ own foreign. own) 5 (sending_end 33 16 8 ∷ []) (senders.moved (senders.Ask 33 8) senders.opening) }
+    ensures asked { HasSender (λ own foreign. own) 5 (asked_on_link 7 5 (sending_end 33 16 8) ∷ []) (senders.begins 33 None (senders.moved (senders.Ask 33 8) senders.opening_sender)) }
+    ensures unasked { HasSender (λ own foreign. own) 5 (sending_end 33 16 8 ∷ []) (senders.moved (senders.Ask 33 8) senders.opening_sender) }
 
     // where there is none on the link the law's may be there and closed, but not open
-    ensures refused { HasSender (λ own foreign. own) 5 (refused_end 33 16 9 ∷ []) (record senders.opening { end = Some 33; opened = true; closed = λ c. true }) }
-    ensures stray { HasSender (λ own foreign. own) 5 [] (record senders.opening { end = Some 33; opened = true }) → ⊥ }
+    ensures refused { HasSender (λ own foreign. own) 5 (refused_end 33 16 9 ∷ []) (record senders.opening_sender { end = Some 33; opened = true; closed = λ c. true }) }
+    ensures stray { HasSender (λ own foreign. own) 5 [] (record senders.opening_sender { end = Some 33; opened = true }) → ⊥ }
 {}
 
 /// What is told and said.
@@ -131,8 +131,8 @@ pub fn receiver_closes()
     ensures close_elsewhere { (name : ℕ → ℕ → ℕ) (link socket : ℕ) (q : PairState) (e : Entry) (r : Receiver) → find (is_mine_on socket) q.entries ≡ Some e → receives_on link e ≡ false → HasReceiver name link q.entries r → HasReceiver name link (closed_end socket q).entries r }
 
     // its partner's first CLS is heard: it closes too, if it hasn't, and it goes if its own CLS has gone out
-    ensures heard { (name : ℕ → ℕ → ℕ) (link : ℕ) (peer : Host) (busy : List ℕ) (stamp own foreign : ℕ) (d : DeskState) (e : Entry) (r : Receiver) → entry_at own foreign d.entries ≡ Some e → receives_on link e ≡ true → e.partner_closed ≡ false → HasReceiver name link d.entries r → MayAllReceive (receivers.Hear (Cls (name e.own e.foreign)) ∷ received_close e.closing (name e.own e.foreign)) r × HasReceiver name link (taken peer busy stamp (command.Cls foreign own) d).entries (all_received (receivers.Hear (Cls (name e.own e.foreign)) ∷ received_close e.closing (name e.own e.foreign)) r) }
-    ensures heard_elsewhere { (name : ℕ → ℕ → ℕ) (link : ℕ) (peer : Host) (busy : List ℕ) (stamp own foreign : ℕ) (d : DeskState) (r : Receiver) → ((e : Entry) → entry_at own foreign d.entries ≡ Some e → receives_on link e ≡ false) → HasReceiver name link d.entries r → HasReceiver name link (taken peer busy stamp (command.Cls foreign own) d).entries r }
+    ensures heard { (name : ℕ → ℕ → ℕ) (link : ℕ) (peer : Host) (busy : List ℕ) (stamp own foreign : ℕ) (d : DeskState) (e : Entry) (r : Receiver) → entry_at own foreign d.entries ≡ Some e → receives_on link e ≡ true → e.partner_closed ≡ false → HasReceiver name link d.entries r → MayAllReceive (receivers.Hear (Cls (name e.own e.foreign)) ∷ received_close e.closing (name e.own e.foreign)) r × HasReceiver name link (desk_taken peer busy stamp (command.Cls foreign own) d).entries (all_received (receivers.Hear (Cls (name e.own e.foreign)) ∷ received_close e.closing (name e.own e.foreign)) r) }
+    ensures heard_elsewhere { (name : ℕ → ℕ → ℕ) (link : ℕ) (peer : Host) (busy : List ℕ) (stamp own foreign : ℕ) (d : DeskState) (r : Receiver) → ((e : Entry) → entry_at own foreign d.entries ≡ Some e → receives_on link e ≡ false) → HasReceiver name link d.entries r → HasReceiver name link (desk_taken peer busy stamp (command.Cls foreign own) d).entries r }
 
     // its own CLS goes out: it goes if it heard one
     ensures gone { (name : ℕ → ℕ → ℕ) (link : ℕ) (peer : Host) (stamp own foreign : ℕ) (d : DeskState) (e : Entry) (r : Receiver) → entry_at own foreign d.entries ≡ Some e → receives_on link e ≡ true → has_cls e.closing ≡ true → HasReceiver name link d.entries r → MayAllReceive (received_gone e.partner_closed (name e.own e.foreign)) r × HasReceiver name link (command_gone peer stamp (command.Cls own foreign) d).entries (all_received (received_gone e.partner_closed (name e.own e.foreign)) r) }
@@ -149,7 +149,7 @@ pub fn sender_closes()
     ensures close { (name : ℕ → ℕ → ℕ) (link socket : ℕ) (q : PairState) (e : Entry) (s : Sender) → find (is_mine_on socket) q.entries ≡ Some e → sends_on link e ≡ true → was_closed e ≡ false → HasSender name link q.entries s → MayAllSend (sent_close (must_close q.busy (called_off e)) (name e.own e.foreign)) s × HasSender name link (closed_end socket q).entries (all_sent (sent_close (must_close q.busy (called_off e)) (name e.own e.foreign)) s) }
 
     // its partner's first CLS is heard: nothing more is sent, and it closes too when all that it sent is answered
-    ensures heard { (name : ℕ → ℕ → ℕ) (link : ℕ) (peer : Host) (busy : List ℕ) (stamp own foreign : ℕ) (d : DeskState) (e : Entry) (s : Sender) → entry_at own foreign d.entries ≡ Some e → sends_on link e ≡ true → e.partner_closed ≡ false → HasSender name link d.entries s → MayAllSend (senders.Hear (Cls (name e.own e.foreign)) ∷ sent_heard e.closing (is_answered busy e.link) (name e.own e.foreign)) s × HasSender name link (taken peer busy stamp (command.Cls foreign own) d).entries (all_sent (senders.Hear (Cls (name e.own e.foreign)) ∷ sent_heard e.closing (is_answered busy e.link) (name e.own e.foreign)) s) }
+    ensures heard { (name : ℕ → ℕ → ℕ) (link : ℕ) (peer : Host) (busy : List ℕ) (stamp own foreign : ℕ) (d : DeskState) (e : Entry) (s : Sender) → entry_at own foreign d.entries ≡ Some e → sends_on link e ≡ true → e.partner_closed ≡ false → HasSender name link d.entries s → MayAllSend (senders.Hear (Cls (name e.own e.foreign)) ∷ sent_heard e.closing (is_answered busy e.link) (name e.own e.foreign)) s × HasSender name link (desk_taken peer busy stamp (command.Cls foreign own) d).entries (all_sent (senders.Hear (Cls (name e.own e.foreign)) ∷ sent_heard e.closing (is_answered busy e.link) (name e.own e.foreign)) s) }
 
     // its own CLS goes out: the law had said it before
     ensures gone { (name : ℕ → ℕ → ℕ) (link : ℕ) (peer : Host) (stamp own foreign : ℕ) (d : DeskState) (e : Entry) (s : Sender) → entry_at own foreign d.entries ≡ Some e → sends_on link e ≡ true → has_cls e.closing ≡ true → HasSender name link d.entries s → HasSender name link (command_gone peer stamp (command.Cls own foreign) d).entries s }
@@ -169,12 +169,12 @@ pub fn worked_closings()
     ensures once { (sent_heard closing.Queued true 3 ≡ []) × (sent_heard closing.Sent true 3 ≡ []) }
 
     // the first move comes first, and each may be made where those before have been
-    ensures order { (all_received (receivers.Ask 1 ∷ receivers.Close 1 ∷ []) receivers.opening).closed ≡ true }
-    ensures back { (all_received (receivers.Close 1 ∷ receivers.Ask 1 ∷ []) receivers.opening).closed ≡ false }
-    ensures may { MayAllReceive (receivers.Ask 1 ∷ receivers.Close 1 ∷ []) receivers.opening }
-    ensures twice { MayAllReceive (receivers.Ask 1 ∷ receivers.Close 1 ∷ receivers.Close 1 ∷ []) receivers.opening → ⊥ }
-    ensures sent { (all_sent (senders.Ask 1 8 ∷ senders.Close 1 ∷ []) senders.opening).closed 1 ≡ true }
-    ensures sent_twice { MayAllSend (senders.Close 1 ∷ senders.Close 1 ∷ []) senders.opening → ⊥ }
+    ensures order { (all_received (receivers.Ask 1 ∷ receivers.Close 1 ∷ []) receivers.opening_receiver).closed ≡ true }
+    ensures back { (all_received (receivers.Close 1 ∷ receivers.Ask 1 ∷ []) receivers.opening_receiver).closed ≡ false }
+    ensures may { MayAllReceive (receivers.Ask 1 ∷ receivers.Close 1 ∷ []) receivers.opening_receiver }
+    ensures twice { MayAllReceive (receivers.Ask 1 ∷ receivers.Close 1 ∷ receivers.Close 1 ∷ []) receivers.opening_receiver → ⊥ }
+    ensures sent { (all_sent (senders.Ask 1 8 ∷ senders.Close 1 ∷ []) senders.opening_sender).closed 1 ≡ true }
+    ensures sent_twice { MayAllSend (senders.Close 1 ∷ senders.Close 1 ∷ []) senders.opening_sender → ⊥ }
 {}
 
 /// How ends on a link open that the host itself asked for. Those with which a listening socket answers are not told of here.
@@ -190,9 +190,9 @@ pub fn opening()
     ensures rts_gone { (name : ℕ → ℕ → ℕ) (link : ℕ) (peer : Host) (stamp own foreign other : ℕ) (d : DeskState) (e : Entry) (r : Receiver) → entry_at own foreign d.entries ≡ Some e → receives_on link e ≡ true → (is_some e.partner ≡ true → is_some e.size ≡ true) → HasReceiver name link d.entries r → MayAllReceive (received_open (is_some e.partner) (name e.own e.foreign)) r × HasReceiver name link (command_gone peer stamp (command.Rts own foreign other) d).entries (all_received (received_open (is_some e.partner) (name e.own e.foreign)) r) }
 
     // its partner's STR is heard, for the first time: it is told the byte size, and opens if its own RTS has gone out
-    ensures str_heard { (name : ℕ → ℕ → ℕ) (link : ℕ) (peer : Host) (busy : List ℕ) (stamp own foreign size : ℕ) (d : DeskState) (e : Entry) (r : Receiver) → entry_at own foreign d.entries ≡ Some e → receives_on link e ≡ true → is_some e.partner ≡ false → HasReceiver name link d.entries r → MayAllReceive (receivers.Hear (Str (name e.own e.foreign) size) ∷ received_open (is_some e.asked) (name e.own e.foreign)) r × HasReceiver name link (taken peer busy stamp (command.Str foreign own size) d).entries (all_received (receivers.Hear (Str (name e.own e.foreign) size) ∷ received_open (is_some e.asked) (name e.own e.foreign)) r) }
+    ensures str_heard { (name : ℕ → ℕ → ℕ) (link : ℕ) (peer : Host) (busy : List ℕ) (stamp own foreign size : ℕ) (d : DeskState) (e : Entry) (r : Receiver) → entry_at own foreign d.entries ≡ Some e → receives_on link e ≡ true → is_some e.partner ≡ false → HasReceiver name link d.entries r → MayAllReceive (receivers.Hear (Str (name e.own e.foreign) size) ∷ received_open (is_some e.asked) (name e.own e.foreign)) r × HasReceiver name link (desk_taken peer busy stamp (command.Str foreign own size) d).entries (all_received (receivers.Hear (Str (name e.own e.foreign) size) ∷ received_open (is_some e.asked) (name e.own e.foreign)) r) }
 
     // an RTS is heard for a sending end, and names a free link: it has the link, and opens if its own STR has gone out. What the law
     // knows of its connection before has to be so
-    ensures rts_heard { (name : ℕ → ℕ → ℕ) (link : ℕ) (peer : Host) (busy : List ℕ) (stamp own foreign : ℕ) (d : DeskState) (e : Entry) (s : Sender) → entry_at own foreign d.entries ≡ Some e → is_receiving e ≡ false → list_any (sends_on link) d.entries ≡ false → s.end ≡ None → s.size (name e.own e.foreign) ≡ e.size → s.closed (name e.own e.foreign) ≡ has_cls e.closing → is_some e.size ≡ true → e.allocation ≡ counters.nothing → e.partner_closed ≡ false → is_some e.partner ≡ false → MayAllSend (senders.Hear (Rts (name e.own e.foreign)) ∷ sent_open (is_some e.asked) (name e.own e.foreign)) s × HasSender name link (taken peer busy stamp (command.Rts foreign own link) d).entries (all_sent (senders.Hear (Rts (name e.own e.foreign)) ∷ sent_open (is_some e.asked) (name e.own e.foreign)) s) }
+    ensures rts_heard { (name : ℕ → ℕ → ℕ) (link : ℕ) (peer : Host) (busy : List ℕ) (stamp own foreign : ℕ) (d : DeskState) (e : Entry) (s : Sender) → entry_at own foreign d.entries ≡ Some e → is_receiving e ≡ false → list_any (sends_on link) d.entries ≡ false → s.end ≡ None → s.size (name e.own e.foreign) ≡ e.size → s.closed (name e.own e.foreign) ≡ has_cls e.closing → is_some e.size ≡ true → e.allocation ≡ counters.nothing → e.partner_closed ≡ false → is_some e.partner ≡ false → MayAllSend (senders.Hear (Rts (name e.own e.foreign)) ∷ sent_open (is_some e.asked) (name e.own e.foreign)) s × HasSender name link (desk_taken peer busy stamp (command.Rts foreign own link) d).entries (all_sent (senders.Hear (Rts (name e.own e.foreign)) ∷ sent_open (is_some e.asked) (name e.own e.foreign)) s) }
 {}

@@ -3,7 +3,7 @@
 ghost use Rattle.host_pairs.specs.Said.{newly_said, said_by_answer};
 ghost use Rattle.std.specs.Prelude.{◌≡◌, ◌<◌, OnErr, length, ◌++◌, ◌∷◌, [], OnOk, not, ◌==◌, filter};
 ghost use Rattle.host_pairs.specs.Turn as turns;
-ghost use Rattle.host_pairs.specs.Commands.{taken};
+ghost use Rattle.host_pairs.specs.Commands.{desk_taken};
 ghost use Rattle.host_pairs.specs.Data.{data_taken};
 ghost use Rattle.host_pairs.specs.Desk.{desk_of};
 
@@ -88,8 +88,8 @@ impl Turn {
         stamp: usize,
         command: Command,
     ) -> Result<(), AllocError>
-        ensures state { OnOk result (self.new ≡ turns.if_ready (taken peer self.old.pair.busy stamp command) self.old) }
-        ensures memory { OnErr result (0 < newly_said self.old (turns.if_ready (taken peer self.old.pair.busy stamp command) self.old)) }
+        ensures state { OnOk result (self.new ≡ turns.if_ready (desk_taken peer self.old.pair.busy stamp command) self.old) }
+        ensures memory { OnErr result (0 < newly_said self.old (turns.if_ready (desk_taken peer self.old.pair.busy stamp command) self.old)) }
     {
         if !self.pair.phase.is_ready() {
             return Ok(());

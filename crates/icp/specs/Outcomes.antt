@@ -10,15 +10,15 @@ use Rattle.sockets.specs.declared.fault.NcpFault.{NcpFault}
 use Rattle.sockets.specs.declared.request.Request.{Request}
 
 -- the machine after a notice, what it asks for, in order, and its outcome, if it has ended
-abbrev pub Turn : Type 0 → Type 0
-Turn S = S × List Request × Option Outcome
+abbrev pub IcpTurn : Type 0 → Type 0
+IcpTurn S = S × List Request × Option Outcome
 
 -- it passes the notice over
-abbrev pub passed : {S : Type 0} → S → Turn S
+abbrev pub passed : {S : Type 0} → S → IcpTurn S
 passed s = (s, [], None)
 
 -- it fails, and asks for nothing
-abbrev pub failed : {S : Type 0} → S → Failure → Turn S
+abbrev pub failed : {S : Type 0} → S → Failure → IcpTurn S
 failed s f = (s, [], Some (outcome.Failed f))
 
 -- a request was refused: a machine that has no outcome yet fails, and one that has says nothing more

@@ -1,12 +1,12 @@
 -- What an end holds and sends, and what it gives: a property of all packets that come in holds of all of them.
-use Rattle.std.proofs.Common.{◌≡◌, ℕ, zero, suc, ◌+◌, ◌<◌, Bool, true, false, not, List, ◌∷◌, ◌++◌, length, get_or, set, Option, Some, None, Ok, Err, refl, sym, ap, subst, cond, leb, arith, All, Contains, IfSome, IsPermutation, position, replicate}
+use Rattle.std.proofs.Common.{◌≡◌, ℕ, zero, suc, ◌+◌, ◌<◌, Bool, true, false, not, List, [], ◌∷◌, ◌++◌, length, get_or, set, Option, Some, None, Ok, Err, refl, sym, ap, subst, cond, leb, arith, All, Contains, IfSome, IsPermutation, position, replicate}
 use Rattle.std.proofs.lemmas.List.Elements.{All-nil, All-cons, All-head, All-tail, All-append, All-set, All-replicate, All-weaker, All-contains_itself, Contains-append_left, Contains-push}
 use Rattle.std.proofs.lemmas.List.Quantifiers.{position-Some}
 use Rattle.std.proofs.lemmas.List.Sorted.{IsPermutation-refl, IsPermutation-trans, IsPermutation-append_right, IsPermutation-middle}
 use Rattle.packetiser.specs.PacketFields.{PacketFields}
 use Rattle.packetiser.specs.Rejoining.{AreAmong}
 use Rattle.imp_channel.specs.Holding.{packet_of, packets_in, carried_by, carried_by_all}
-use Rattle.imp_channel.specs.Line.{End, opening, opening_channel, is_free, submitted, submitted_on, frames_of, frames_from, resent, differs, acknowledged, all_acknowledged, is_foreign, has_expected_bit, expected_after, brought, answer_to, state_after}
+use Rattle.imp_channel.specs.Line.{End, opening_end, opening_channel, is_free, submitted, submitted_on, frames_of, frames_from, resent, differs, acknowledged, all_acknowledged, is_foreign, has_expected_bit, expected_after, brought, answer_to, state_after}
 use Rattle.imp_channel.proofs.Calls.{none_from}
 use Rattle.imp_channel.specs.declared.channel.Channel.{Channel}
 use Rattle.imp_channel.specs.declared.channel.TheConstants.{CHANNELS}
@@ -32,7 +32,7 @@ ContentHas P (content.Routes distances) = Unit {0}
 
 -- ---- the property, over each call
 
-pub opening_has : (P : PacketFields → Type 0) → LineHas P opening
+pub opening_has : (P : PacketFields → Type 0) → LineHas P opening_end
 opening_has P = All-replicate (ChannelHas P) CHANNELS opening_channel tt
 
 -- an end and its frame after a packet was put in
@@ -125,7 +125,7 @@ free_packets : (n : ℕ) → packets_in (replicate n opening_channel) ≡ []
 free_packets zero = refl
 free_packets (suc n) = free_packets n
 
-pub opening_packets : packets_in opening.sending ≡ []
+pub opening_packets : packets_in opening_end.sending ≡ []
 opening_packets = free_packets CHANNELS
 
 -- a channel that was free holds one packet more

@@ -8,7 +8,7 @@ use Rattle.imp_channel.specs.declared.frame.Frame.{Frame}
 use Rattle.imp_channel.specs.declared.line.Received.{Received}
 use Rattle.imp_channel.specs.declared.line.Received.TheVariants as received
 use Rattle.imp_node.specs.State.{State, port_at}
-use Rattle.imp_node.specs.Arrival.{arrival, arrived, arrival_has_room, acknowledged, taken, ignored, fresh, taken_frame, from_line}
+use Rattle.imp_node.specs.Arrival.{arrival, arrived, arrival_has_room, acknowledged, frame_taken, ignored, fresh, taken_frame, from_line}
 use Rattle.imp_node.specs.Pump.{pump}
 use Rattle.imp_node.specs.Inside.Arriving.{lost_by}
 
@@ -26,13 +26,13 @@ at_live_end s k f up = ap (λ (b : Bool). if b then taken_frame (answer_to (port
 
 -- a fresh packet with room
 fresh_with_room : (k : ℕ) (f : Frame) (p : PacketFields) (s : State) → arrival_has_room (arrival s p) s p ≡ true
-    → fresh k f p s ≡ pump (acknowledged k (taken k f s)) (arrived (arrival s p) p (taken k f s))
+    → fresh k f p s ≡ pump (acknowledged k (frame_taken k f s)) (arrived (arrival s p) p (frame_taken k f s))
 fresh_with_room k f p s room =
-    ap (λ (b : Bool). if b then pump (acknowledged k (taken k f s)) (arrived (arrival s p) p (taken k f s)) else ignored s) room
+    ap (λ (b : Bool). if b then pump (acknowledged k (frame_taken k f s)) (arrived (arrival s p) p (frame_taken k f s)) else ignored s) room
 
 -- a fresh packet at a live end, which isn't lost
 pub from_line_fresh : (s : State) (k : ℕ) (f : Frame) (p : PacketFields) → (port_at s.ports k).up ≡ true → answer_to (port_at s.ports k).line f ≡ Ok (received.Fresh p)
-    → lost_by (answer_to (port_at s.ports k).line f) s ≡ false → from_line s k f ≡ pump (acknowledged k (taken k f s)) (arrived (arrival s p) p (taken k f s))
+    → lost_by (answer_to (port_at s.ports k).line f) s ≡ false → from_line s k f ≡ pump (acknowledged k (frame_taken k f s)) (arrived (arrival s p) p (frame_taken k f s))
 from_line_fresh s k f p up answer kept =
     at_live_end s k f up
     ∙ (ap (λ (r : Result Received ChannelFault). taken_frame r k f s) answer

@@ -1,5 +1,5 @@
 -- The first of what waits.
-use Rattle.std.proofs.Common.{◌≡◌, List, ◌∷◌, slice_get, drop, Some, ap}
+use Rattle.std.proofs.Common.{◌≡◌, List, [], ◌∷◌, slice_get, drop, Some, ap}
 
 -- a list is its first element and what is dropped after it
 pub first_is : {X : Type 0} (xs : List X) (x : X) → slice_get xs 0 ≡ Some x → xs ≡ x ∷ drop 1 xs

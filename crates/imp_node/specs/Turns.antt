@@ -8,7 +8,7 @@ use Rattle.imp_channel.specs.declared.frame.Frame.{Frame}
 use Rattle.imp_node.specs.declared.outgoing.Outgoing.{Outgoing}
 use Rattle.imp_node.specs.declared.waiting.Message.{Message}
 use Rattle.imp_node.specs.declared.waiting.Told.{Told}
-use Rattle.imp_node.specs.State.{State, Turn, host_at, is_up, port_at}
+use Rattle.imp_node.specs.State.{State, ImpTurn, host_at, is_up, port_at}
 use Rattle.imp_node.specs.Arrival.{from_line}
 use Rattle.imp_node.specs.Taking.{to_host}
 use Rattle.imp_node.specs.Lines.{resend, route, end_down, end_up}
@@ -23,13 +23,13 @@ Turned refusal grows Gives old new (Err fault.OutOfMemory) = (refusal ≡ None) 
 Turned refusal grows Gives old new (Err e) = (refusal ≡ Some e) × (new ≡ old)
 
 -- the IMP and the frames are those of this turn
-abbrev pub Takes : Turn → State → List Outgoing → Type 0
+abbrev pub Takes : ImpTurn → State → List Outgoing → Type 0
 Takes turn new frames = (new ≡ turn.state) × (frames ≡ turn.frames)
 
 -- ---- memory
 
 -- a turn puts a frame on some line: this alone may take memory in any call
-abbrev pub sends : Turn → Bool
+abbrev pub sends : ImpTurn → Bool
 sends turn = nat_lt 0 (length turn.frames)
 
 -- a message that is taken makes an RFNM

@@ -63,7 +63,7 @@ impl Imp {
     pub fn new(alloc: Global, own: ImpNumber, hosts: u8, ports: u8) -> Result<Imp, AllocError>
         requires imp { own ≤ greatest_imp }
         requires hosts { hosts ≤ 4 }
-        ensures { IfOk result (λ imp. imp ≡ states.opening own hosts ports) }
+        ensures { IfOk result (λ imp. imp ≡ states.opening_node own hosts ports) }
     {
         Ok(Imp {
             hosts: up_hosts(alloc, hosts)?,

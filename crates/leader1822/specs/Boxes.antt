@@ -56,15 +56,15 @@ with_queue queues h [] = map.remove queues h
 with_queue queues h (x ∷ xs) = map.insert queues h (x ∷ xs)
 
 -- one more, behind what waits for the host
-abbrev pub queued : {A : Type 0} → Queues A → Host → A → Queues A
-queued queues h x = with_queue queues h (for_host queues h ++ x ∷ [])
+abbrev pub queued_for : {A : Type 0} → Queues A → Host → A → Queues A
+queued_for queues h x = with_queue queues h (for_host queues h ++ x ∷ [])
 
 abbrev pub queued_if : {A : Type 0} → Bool → Queues A → Host → A → Queues A
-queued_if test queues h x = if test then queued queues h x else queues
+queued_if test queues h x = if test then queued_for queues h x else queues
 
-abbrev pub first : {A : Type 0} → List A → Option A
-first [] = None
-first (x ∷ xs) = Some x
+abbrev pub first_of_list : {A : Type 0} → List A → Option A
+first_of_list [] = None
+first_of_list (x ∷ xs) = Some x
 
 abbrev pub rest : {A : Type 0} → List A → List A
 rest [] = []
@@ -148,16 +148,16 @@ answer_first None (Some m) = Some (inbound.Message m)
 answer_first None None = None
 
 abbrev pub next_for : Boxes → Host → Option Inbound
-next_for b h = answer_first (first (for_host b.answers h)) (first (for_host b.messages h))
+next_for b h = answer_first (first_of_list (for_host b.answers h)) (first_of_list (for_host b.messages h))
 
 -- what is left after a host took this. After a message, an RFNM waits for its source, if that is up
-abbrev pub taken : Boxes → Host → Option Inbound → Boxes
-taken b h None = b
-taken b h (Some (inbound.Answer kind f)) = record b {
+abbrev pub inbound_taken : Boxes → Host → Option Inbound → Boxes
+inbound_taken b h None = b
+inbound_taken b h (Some (inbound.Answer kind f)) = record b {
   answers = with_queue b.answers h (rest (for_host b.answers h));
   log = crossing.Answer kind f ∷ b.log;
 }
-taken b h (Some (inbound.Message m)) = record b {
+inbound_taken b h (Some (inbound.Message m)) = record b {
   messages = with_queue b.messages h (rest (for_host b.messages h));
   answers = queued_if (is_running b.hosts b.down m.flow.source) b.answers m.flow.source (answer.Rfnm, m.flow);
   log = crossing.In m ∷ b.log;
@@ -296,7 +296,7 @@ abbrev pub BoxesOffer : Boxes → HostMessage → Result (Unit {0}) CarrierFault
 BoxesOffer old m r new = BoxesDecided (offer_refusal old m.flow) true (λ done. new ≡ offered old m) old r new
 
 abbrev pub BoxesTake : Boxes → Host → Result (Option Inbound) CarrierFault → Boxes → Type 0
-BoxesTake old h r new = BoxesDecided (host_refusal old h) (take_grows old h) (λ o. (o ≡ next_for old h) × (new ≡ taken old h o)) old r new
+BoxesTake old h r new = BoxesDecided (host_refusal old h) (take_grows old h) (λ o. (o ≡ next_for old h) × (new ≡ inbound_taken old h o)) old r new
 
 abbrev pub BoxesStep : Boxes → NetEvent → Result (Unit {0}) CarrierFault → Boxes → Type 0
 BoxesStep old e r new = BoxesDecided (step_refusal old e) (step_grows old e) (λ done. new ≡ stepped old e) old r new

@@ -10,7 +10,7 @@ use Rattle.std.specs.FinMap.{FinMap, get, insert, keys, get-insert, get-retain_k
 use Rattle.leader1822.specs.Host.{Host, same_host, host_cmp}
 use Rattle.leader1822.specs.Mailboxes.{same_flow}
 use Rattle.leader1822.specs.declared.address.Flow.{Flow}
-use Rattle.link_table.specs.Flows.{Sources, changed, changed_from, begun, answered, given_up, handed, number_in, answered_in, given_up_in, handed_in}
+use Rattle.link_table.specs.Flows.{Sources, changed, changed_from, begun, flow_answered, given_up, handed, number_in, answered_in, given_up_in, handed_in}
 use Rattle.link_table.specs.Keys.{flow_cmp, is_from, drop_from, has_from}
 use Rattle.link_table.specs.declared.source.Standing.{Standing}
 use Rattle.link_table.specs.declared.source.Standing.TheVariants as standing
@@ -87,8 +87,8 @@ pub get_begun : (m : Sources) (f g : Flow) → get (begun m f) g ≡ (if same_fl
 unfolding begun
 get_begun m f g = get_put m f g (standing.Outstanding (number_in (get m f)))
 
-pub get_answered : (m : Sources) (f g : Flow) (n : ℕ) → get (answered m f n) g ≡ (if same_flow g f then option_map (answered_in n) (get m f) else get m g)
-unfolding answered
+pub get_answered : (m : Sources) (f g : Flow) (n : ℕ) → get (flow_answered m f n) g ≡ (if same_flow g f then option_map (answered_in n) (get m f) else get m g)
+unfolding flow_answered
 get_answered m f g n = get_changed (answered_in n) m f g
 
 pub get_given_up : (m : Sources) (f g : Flow) → get (given_up m f) g ≡ (if same_flow g f then option_map given_up_in (get m f) else get m g)

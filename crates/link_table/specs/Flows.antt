@@ -85,8 +85,8 @@ unfoldable pub begun : Sources → Flow → Sources
 begun m f = map.insert m f (standing.Outstanding (number_in (map.get m f)))
 
 -- an answer came for a flow, to the message of this number
-unfoldable pub answered : Sources → Flow → ℕ → Sources
-answered m f n = changed (answered_in n) m f
+unfoldable pub flow_answered : Sources → Flow → ℕ → Sources
+flow_answered m f n = changed (answered_in n) m f
 
 -- a flow's outstanding message was given up
 unfoldable pub given_up : Sources → Flow → Sources

@@ -2,7 +2,7 @@
 
 ghost use Rattle.std.specs.Prelude.{◌≡◌, OnErr, Err, None, Some, is_some};
 ghost use Rattle.std.specs.FinMap as map;
-ghost use Rattle.link_table.specs.Flows.{FlowDecided, begin_fault, begun, answered, given_up, handed, number_in, last_of, last_in, outstanding_in, is_idle_in, answered_in, given_up_in, handed_in, release_in, has_outstanding};
+ghost use Rattle.link_table.specs.Flows.{FlowDecided, begin_fault, begun, flow_answered, given_up, handed, number_in, last_of, last_in, outstanding_in, is_idle_in, answered_in, given_up_in, handed_in, release_in, has_outstanding};
 
 use crate::FlowFault;
 use crate::flow_map::FlowMap;
@@ -132,9 +132,9 @@ impl SourceFlows {
 
     /// Takes the answer to the message of this number. If that message is the outstanding one, the flow is
     /// answered; otherwise nothing changes.
-    #[tactic(auto, unfolding(crate::specs::Flows::answered))]
+    #[tactic(auto, unfolding(crate::specs::Flows::flow_answered))]
     pub fn answer(&mut self, flow: &Flow, number: Number) -> Release
-        ensures state { self.new ≡ answered self.old flow.now number }
+        ensures state { self.new ≡ flow_answered self.old flow.now number }
         ensures release { result ≡ release_in number (map.get self.old flow.now) }
     {
         let Some(standing) = self.flows.get(flow) else {

@@ -8,14 +8,14 @@ use Rattle.net_sim.specs.Story.{Moment, program}
 use Rattle.net_sim.specs.Timeline.{IsAddressed, IsAsked, IsTimeline, crossings_of, contacts_of}
 use Rattle.net_sim.specs.Told.{kept_in, without_reports}
 use Rattle.host_services.specs.Named.{NamePeers}
-use Rattle.net_sim.specs.World.{Event, Net, Quiet, Offer, Take, Ask, Server, User, Typed, Seat, HostServices, WorldState}
+use Rattle.net_sim.specs.World.{Event, Net, Quiet, Offer, Take, Ask, Server, User, Typed, Seat, ServiceSeat, WorldState}
 
 -- a host's seat after these moments
 abbrev pub seat_in : List Host → List Moment → Host → Seat
 seat_in hosts moments h = record { host = h; program = if is_up hosts h (crossings_of moments) then Some (program h moments) else None }
 
 -- until want of memory each host has its services, in the hosts' order, and they name their peers by addresses
-pub record AreServed (hosts : List Host) (all : List HostServices) : Type 0 where
+pub record AreServed (hosts : List Host) (all : List ServiceSeat) : Type 0 where
   pub order : map (λ s. s.host) all ≡ hosts
   pub named : All (λ s. NamePeers s.services) all
 

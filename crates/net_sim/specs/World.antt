@@ -15,8 +15,8 @@ pub use Rattle.net_sim.specs.declared.event.Event.TheVariants.{Net, Quiet, Offer
 pub use Rattle.net_sim.specs.declared.event.WorldFault.{WorldFault}
 pub use Rattle.net_sim.specs.declared.event.WorldFault.TheVariants.{Carrier, Program}
 pub use Rattle.net_sim.specs.declared.seat.Seat.{Seat}
-pub use Rattle.net_sim.specs.declared.seat.HostServices.{HostServices}
-use Rattle.host_services.specs.Services.{ServicesState, DeskState, no_services, opening_desk}
+pub use Rattle.net_sim.specs.declared.seat.ServiceSeat.{ServiceSeat}
+use Rattle.host_services.specs.Services.{ServicesState, ServiceDeskState, no_services, opening_desk}
 use Rattle.host_services.specs.Turns as services
 use Rattle.host_services.specs.TypedLines.{line_bits}
 use Rattle.sockets.specs.Accepting.{accepted}
@@ -54,43 +54,43 @@ abbrev pub seated : Host → Option NcpState → List Seat → List Seat
 seated h program seats = map (λ s. with_program (same_host h s.host) program s) seats
 
 -- a host that stops loses its program, and one that starts has a new one
-abbrev pub turned : Crossing → List Seat → List Seat
-turned (crossing.Down h) seats = seated h None seats
-turned (crossing.Up h) seats = seated h (Some (opening_state h)) seats
-turned c seats = seats
+abbrev pub seats_turned : Crossing → List Seat → List Seat
+seats_turned (crossing.Down h) seats = seated h None seats
+seats_turned (crossing.Up h) seats = seated h (Some (opening_state h)) seats
+seats_turned c seats = seats
 
 -- several crossings, newest first
 abbrev pub all_turned : List Crossing → List Seat → List Seat
 all_turned [] seats = seats
-all_turned (c ∷ cs) seats = turned c (all_turned cs seats)
+all_turned (c ∷ cs) seats = seats_turned c (all_turned cs seats)
 
 -- ---- what runs on the hosts
 
 -- nothing
-abbrev pub opening_services : List Host → List HostServices
+abbrev pub opening_services : List Host → List ServiceSeat
 opening_services hosts = map (λ h. record { host = h; services = no_services }) hosts
 
-abbrev pub services_in : Option HostServices → ServicesState
+abbrev pub services_in : Option ServiceSeat → ServicesState
 services_in None = no_services
 services_in (Some s) = s.services
 
-abbrev pub services_of : Host → List HostServices → ServicesState
+abbrev pub services_of : Host → List ServiceSeat → ServicesState
 services_of h all = services_in (find (λ s. same_host h s.host) all)
 
-abbrev pub with_services : Bool → ServicesState → HostServices → HostServices
+abbrev pub with_services : Bool → ServicesState → ServiceSeat → ServiceSeat
 with_services here services s = if here then record { host = s.host; services = services } else s
 
 -- a host's services are now these
-abbrev pub serviced : Host → ServicesState → List HostServices → List HostServices
+abbrev pub serviced : Host → ServicesState → List ServiceSeat → List ServiceSeat
 serviced h services all = map (λ s. with_services (same_host h s.host) services s) all
 
 -- a host that stops loses its services
-abbrev pub emptied : Crossing → List HostServices → List HostServices
+abbrev pub emptied : Crossing → List ServiceSeat → List ServiceSeat
 emptied (crossing.Down h) all = serviced h no_services all
 emptied c all = all
 
 -- several crossings, newest first
-abbrev pub all_emptied : List Crossing → List HostServices → List HostServices
+abbrev pub all_emptied : List Crossing → List ServiceSeat → List ServiceSeat
 all_emptied [] all = all
 all_emptied (c ∷ cs) all = emptied c (all_emptied cs all)
 
@@ -101,7 +101,7 @@ all_emptied (c ∷ cs) all = emptied c (all_emptied cs all)
 pub record WorldState (C : Type 0) : Type 0 where
   pub carrier : C
   pub seats : List Seat
-  pub services : List HostServices
+  pub services : List ServiceSeat
   pub kept : Kept
   pub stopped : Bool
 
@@ -135,15 +135,15 @@ abbrev pub noticed : {C : Type 0} → WorldState C → ℕ
 noticed w = length w.kept.book.notices
 
 -- what they asked for was served, and they reported this
-abbrev pub done_by : Host → DeskState → Kept → Kept
+abbrev pub done_by : Host → ServiceDeskState → Kept → Kept
 done_by h d k = all_reported d.reports (all_asked h d.asked k)
 
 -- the services of a host are told this of its program, notice by notice, where so many notices stood in the book before
-abbrev pub turn_of : Host → ℕ → ServicesState → NcpState × List Notice → ServicesState × DeskState
-turn_of h before s turn = services.told turn.1 s (opening_desk h before turn.0)
+abbrev pub turn_of : Host → ℕ → ServicesState → NcpState × List Notice → ServicesState × ServiceDeskState
+turn_of h before s turn = services.services_told turn.1 s (opening_desk h before turn.0)
 
 -- after the services of a host had their turns: they, the host's program, what they asked for, and what they reported
-abbrev pub tended : {C : Type 0} → Host → ServicesState × DeskState → WorldState C → WorldState C
+abbrev pub tended : {C : Type 0} → Host → ServicesState × ServiceDeskState → WorldState C → WorldState C
 tended h t w = record w {
   seats = seated h (Some t.1.program) w.seats;
   services = serviced h t.0 w.services;
@@ -152,16 +152,16 @@ tended h t w = record w {
 
 -- a host's program is this now, and told this: that goes into the book, and then to the host's services, notice by notice. What
 -- they ask for is asked at once
-abbrev pub heard : {C : Type 0} → Host → NcpState × List Notice → WorldState C → WorldState C
-heard h turn w = tended h (turn_of h (noticed w) (services_of h w.services) turn) (record w { kept = all_told h turn.1 w.kept })
+abbrev pub world_heard : {C : Type 0} → Host → NcpState × List Notice → WorldState C → WorldState C
+world_heard h turn w = tended h (turn_of h (noticed w) (services_of h w.services) turn) (record w { kept = all_told h turn.1 w.kept })
 
 -- this crossed, and the host's program told that of it, at a world whose carrier is now this one
-abbrev pub moved : {C : Type 0} → C → Host → Crossing → NcpState × List Notice → WorldState C → WorldState C
-moved c h x turn w = heard h turn (record w { carrier = c; kept = crossed x w.kept })
+abbrev pub world_moved : {C : Type 0} → C → Host → Crossing → NcpState × List Notice → WorldState C → WorldState C
+world_moved c h x turn w = world_heard h turn (record w { carrier = c; kept = crossed x w.kept })
 
 -- after something that a user asked for
 abbrev pub served_at : {C : Type 0} → Host → Request → NcpState → WorldState C → WorldState C
-served_at h r s w = heard h (served s r, served_notices s r) (record w { kept = asked h r w.kept })
+served_at h r s w = world_heard h (served s r, served_notices s r) (record w { kept = asked h r w.kept })
 
 -- a server and a user begin on a host
 abbrev pub with_server : {C : Type 0} → Host → ℕ → ℕ → NcpState → WorldState C → WorldState C
@@ -202,7 +202,7 @@ Passes e c old r new = (r ≡ Err (Carrier e)) × (new ≡ record old { carrier 
 
 -- the carrier took the message, or not
 abbrev pub OfferEnds : {C : Type 0} → Host → NcpState → HostMessage → Result (Unit {0}) CarrierFault → C → WorldState C → Result (Unit {0}) WorldFault → WorldState C → Type 0
-OfferEnds h s m (Ok done) c old r new = Does (moved c h (crossing.Out m) (offered s (length old.kept.book.crossings)) old) r new ⊎ Halts c old r new
+OfferEnds h s m (Ok done) c old r new = Does (world_moved c h (crossing.Out m) (offered s (length old.kept.book.crossings)) old) r new ⊎ Halts c old r new
 OfferEnds h s m (Err e) c old r new = Passes e c old r new
 
 -- a host's next message goes out, if it has one. Memory may run out before the carrier is asked
@@ -214,7 +214,7 @@ OfferGives {C} calls h s (Some m) old r new =
 -- the carrier gave something, nothing, or refused
 abbrev pub TakeEnds : {C : Type 0} → Host → NcpState → Result (Option Inbound) CarrierFault → C → WorldState C → Result (Unit {0}) WorldFault → WorldState C → Type 0
 TakeEnds h s (Ok None) c old r new = Does (with_carrier c old) r new
-TakeEnds h s (Ok (Some i)) c old r new = Does (moved c h (crossing_of i) (accepted s i (length old.kept.book.crossings)) old) r new ⊎ Halts c old r new
+TakeEnds h s (Ok (Some i)) c old r new = Does (world_moved c h (crossing_of i) (accepted s i (length old.kept.book.crossings)) old) r new ⊎ Halts c old r new
 TakeEnds h s (Err e) c old r new = Passes e c old r new
 
 abbrev pub TakeGives : {C : Type 0} → Calls C → Host → NcpState → WorldState C → Result (Unit {0}) WorldFault → WorldState C → Type 0

@@ -2,7 +2,7 @@
 
 ghost use Rattle.std.specs.Prelude.{◌≡◌, ◌<◌, length, if◌then◌else◌, is_some, slice_get, None, Some};
 ghost use Rattle.net_sim.specs.Carriers.{shown};
-ghost use Rattle.net_sim.specs.Inside.Calm.{Turn, Round};
+ghost use Rattle.net_sim.specs.Inside.Calm.{CalmTurn, Round};
 ghost use Rattle.net_sim.specs.World as world;
 ghost use Rattle.net_sim.specs.World.{CalmGives, Repeats, Offer, Take};
 
@@ -72,7 +72,7 @@ impl<C: Carrier> World<C> {
 
     /// A host takes what came for it, and then says what it has to say.
     fn take_turn(&mut self, host: HostAddr) -> Result<(), WorldFault>
-        ensures { Turn (shown (record { seen = C.seen; offers = C.offers; takes = C.takes; steps = C.steps; rounds = C.rounds })) host self.old result self.new }
+        ensures { CalmTurn (shown (record { seen = C.seen; offers = C.offers; takes = C.takes; steps = C.steps; rounds = C.rounds })) host self.old result self.new }
     {
         let answer = self.take_all(host);
         if stops(&answer) {

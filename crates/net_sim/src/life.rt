@@ -149,7 +149,7 @@ impl Life {
 
     /// It ends, where it is one of those that do.
     pub(crate) fn end(&mut self, ending: &Ending)
-        ensures { self.new ≡ changed_when (ends ending.now self.old) book.ended self.old }
+        ensures { self.new ≡ changed_when (ends ending.now self.old) book.life_ended self.old }
     {
         if self.is_of(ending) {
             self.ended = true;

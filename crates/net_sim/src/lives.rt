@@ -39,7 +39,7 @@ impl Model for Lives {
 /// Lives end. These are the places of the open ones.
 fn end(lives: &mut [Life], open_at: &[usize], ending: &Ending)
     requires { open_at.now ≡ places lives.old }
-    ensures { lives.new ≡ where_it (ends ending.now) book.ended lives.old }
+    ensures { lives.new ≡ where_it (ends ending.now) book.life_ended lives.old }
 {
     for at in open_at {
         lives[*at].end(ending);
@@ -154,7 +154,7 @@ impl Lives {
 
     /// Lives end.
     fn end(&mut self, ending: &Ending)
-        ensures { self.new ≡ all.ended ending.now self.old }
+        ensures { self.new ≡ all.lives_state_ended ending.now self.old }
     {
         end(&mut self.lives, &self.open_at, ending);
         forget_ended(&mut self.open_at, &self.lives);
@@ -185,7 +185,7 @@ impl Lives {
 
     /// The user of a host was told something.
     fn tell(&mut self, host: HostAddr, notice: &Notice) -> Result<(), AllocError>
-        ensures { OnOk result (self.new ≡ all.told host notice.now self.old) }
+        ensures { OnOk result (self.new ≡ all.lives_state_told host notice.now self.old) }
     {
         match notice {
             Notice::Opened {

@@ -13,7 +13,7 @@ ghost use Rattle.net_sim.specs.World.{opening_world, StepGives, RunGives};
 
 use crate::book::Book;
 use crate::events::{follow, is_named};
-use crate::seat::{HostServices, Seat, opening_seats, opening_services};
+use crate::seat::{Seat, ServiceSeat, opening_seats, opening_services};
 use crate::{Event, WorldFault};
 use leader1822::{Carrier, CarrierFault, HostAddr};
 use sockets::NcpFault;
@@ -29,7 +29,7 @@ use std::marker::Model;
 pub struct World<C: Carrier> {
     carrier: C,
     seats: Vec<Seat>,
-    services: Vec<HostServices>,
+    services: Vec<ServiceSeat>,
     book: Book,
     stopped: bool,
     alloc: Global,

@@ -16,7 +16,7 @@ use Rattle.leader1822.specs.Flow.{same_flow, flow_before}
 use Rattle.leader1822.proofs.lemmas.{flow_before_else, flow_before_trans, same_flow-true}
 use Rattle.leader1822.specs.declared.address.Flow.{Flow}
 use Rattle.packetiser.specs.PacketFields.{PacketFields, IsPacket, flow_of}
-use Rattle.packetiser.specs.Slots.{SlotState, IsSlot, IsInOrder, IsTable, IsPieceFor, PlacesRise, slot_of, pieces_at, kept_for, gathered, with_piece, put, without, kept, outcome_of, has_room, is_old, rules_out, is_whole_from, joined}
+use Rattle.packetiser.specs.Slots.{SlotState, IsSlot, IsInOrder, IsTable, IsPieceFor, PlacesRise, slot_of, pieces_at, kept_for, gathered, with_piece, put, without, kept, outcome_of, has_room, is_old, rules_out, is_whole_from, joined_pieces}
 use Rattle.packetiser.specs.declared.packet.PacketKind.TheVariants as kind
 use Rattle.packetiser.specs.declared.reassembly.Outcome.TheVariants as outcome
 
@@ -293,10 +293,10 @@ without_table slots f h =
 
 -- pieces and a packet, joined
 pub join_is : (p : PacketFields) (ps front back : List PacketFields) (n : ℕ) → n ≡ position_or_len (λ q. not (nat_lt q.place p.place)) ps → front ≡ take n ps → back ≡ drop n ps
-    → (joined front ++ p.bits) ++ joined back ≡ joined (with_piece p ps)
+    → (joined_pieces front ++ p.bits) ++ joined_pieces back ≡ joined_pieces (with_piece p ps)
 join_is p ps front back n at e f =
     let split : with_piece p ps ≡ front ++ p ∷ back = with_piece_is p ps ∙ ap (λ (k : ℕ). insert ps k p) (sym at) ∙ cc in
-    append_assoc (joined front) p.bits (joined back) ∙ sym (flat_map-append (λ (q : PacketFields). q.bits) front (p ∷ back)) ∙ ap joined (sym split)
+    append_assoc (joined_pieces front) p.bits (joined_pieces back) ∙ sym (flat_map-append (λ (q : PacketFields). q.bits) front (p ∷ back)) ∙ ap joined_pieces (sym split)
 
 -- ---- a packet that is kept
 

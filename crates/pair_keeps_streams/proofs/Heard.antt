@@ -9,7 +9,7 @@ use Rattle.ncp_control.specs.declared.data_header.DataHeader.{DataHeader}
 use Rattle.stream_law.specs.Receivers.{Receiver}
 use Rattle.stream_law.specs.Senders.{Sender}
 use Rattle.host_pairs.specs.Asked.{receiver_requested, with_more_bits}
-use Rattle.host_pairs.specs.Commands.{Found, Unconnected, Ending, Open, all_taken, asked_on_link, asked_with_size, at_end, cls_taken_by, given_back, granted, gvb_taken, interrupted, ret_taken, returned, receiver_on, rts_heard, rts_taken, rts_taken_by, sender_on, str_heard, str_linked, str_taken_by, taken}
+use Rattle.host_pairs.specs.Commands.{Found, Unconnected, Ending, Open, all_taken, asked_on_link, asked_with_size, at_end, cls_taken_by, given_back, granted, gvb_taken, interrupted, ret_taken, returned, receiver_on, rts_heard, rts_taken, rts_taken_by, sender_on, str_heard, str_linked, str_taken_by, desk_taken}
 use Rattle.host_pairs.specs.Data.{arrived_if, data_found, is_acceptable, spent}
 use Rattle.host_pairs.specs.Desk.{DeskState, desk_of, listener_on}
 use Rattle.host_pairs.specs.Entries.{called_off, changed_first, entry_at, free_link, is_at, is_mine_on, receiving_end, receives_on, refused_end, sending_end, sends_on}
@@ -107,7 +107,7 @@ module _ (peer : Host) (busy : List ℕ) (stamp : ℕ) (d : DeskState) where
 
   module _ (name gone : ℕ → ℕ → ℕ) (apart : AreApart (numbers name d.entries)) where
     abbrev IsCounted : Command → Type 0
-    IsCounted c = (x y : ℕ) → heard_from (gone_by d.entries (taken peer busy stamp c d).entries gone) (taken peer busy stamp c d).entries x y ≡ with_closing c (heard_from gone d.entries) x y
+    IsCounted c = (x y : ℕ) → heard_from (gone_by d.entries (desk_taken peer busy stamp c d).entries gone) (desk_taken peer busy stamp c d).entries x y ≡ with_closing c (heard_from gone d.entries) x y
 
     plainly : (after : List Entry) → IsUnheard d.entries after → (x y : ℕ) → heard_from (gone_by d.entries after gone) after x y ≡ heard_from gone d.entries x y
     plainly after k x y = unheard_counts gone d.entries after k y x

@@ -14,7 +14,7 @@ use Rattle.stream_law.specs.Senders.{Sender}
 use Rattle.stream_law.specs.Streams.{Stream, Box, Empty, Waiting, Taken, Receives, Sends, happens}
 use Rattle.stream_law.proofs.lemmas.{Inv}
 use Rattle.host_pairs.specs.Asked.{closed_end, receiver_requested, requested}
-use Rattle.host_pairs.specs.Commands.{taken}
+use Rattle.host_pairs.specs.Commands.{desk_taken}
 use Rattle.host_pairs.specs.Data.{data_of, data_taken}
 use Rattle.host_pairs.specs.Desk.{desk_of, settled}
 use Rattle.host_pairs.specs.Entries.{entry_at, free_link, is_link, is_receiving, sending_end}
@@ -32,7 +32,7 @@ use Rattle.pair_keeps_streams.specs.Words.{plain, closings_in, said_of, heard_fr
 
 -- the queue after a call. What goes out is taken off later, when its message has gone
 abbrev pub queue_by : Host → Call → PairState → List Listener → List Command
-queue_by peer (Hears stamp said c) q listening = (taken peer q.busy stamp c (desk_of q listening)).queue
+queue_by peer (Hears stamp said c) q listening = (desk_taken peer q.busy stamp c (desk_of q listening)).queue
 queue_by peer (Takes l text) q listening = (data_taken l text (desk_of q listening)).queue
 queue_by peer (Says stamp c) q listening = q.queue
 queue_by peer (SendsBytes stamp e size count) q listening = q.queue

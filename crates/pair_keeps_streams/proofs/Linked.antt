@@ -15,7 +15,7 @@ use Rattle.stream_law.specs.Receivers as receivers
 use Rattle.stream_law.specs.Receivers.{Receiver}
 use Rattle.stream_law.specs.Senders.{Sender}
 use Rattle.host_pairs.specs.Asked.{receiver_requested, with_more_bits}
-use Rattle.host_pairs.specs.Commands.{Found, Unconnected, Ending, Open, all_taken, asked_on_link, asked_with_size, at_end, cls_taken_by, given_back, granted, gvb_taken, interrupted, ret_taken, returned, receiver_on, rts_heard, rts_taken, rts_taken_by, sender_on, str_heard, str_linked, str_taken_by, taken}
+use Rattle.host_pairs.specs.Commands.{Found, Unconnected, Ending, Open, all_taken, asked_on_link, asked_with_size, at_end, cls_taken_by, given_back, granted, gvb_taken, interrupted, ret_taken, returned, receiver_on, rts_heard, rts_taken, rts_taken_by, sender_on, str_heard, str_linked, str_taken_by, desk_taken}
 use Rattle.host_pairs.specs.Data.{arrived_if, data_found, is_acceptable, spent}
 use Rattle.host_pairs.specs.Desk.{DeskState, desk_of, listener_on}
 use Rattle.host_pairs.specs.Entries.{called_off, changed_first, closed_by_partner, entry_at, free_link, is_at, is_mine_on, is_receiving, receiving_end, receives_on, refused_end, sending_end, sends_on}
@@ -185,7 +185,7 @@ module _ (name : ℕ → ℕ → ℕ) (link : ℕ) (peer : Host) (busy : List �
         idle (str_received link (name own foreign) z (listener_on own d.listening) (free_link d.entries) (Some e)) (str_taken_by peer own foreign z stamp (Some e) d).entries
         (str_none name link (name own foreign) z (listener_on own d.listening) (free_link d.entries) e) (str_found own foreign z e)
 
-  taken_linked : (said : ℕ) (c : Command) → IsCommand c → ((own foreign : ℕ) → entry_at own foreign d.entries ≡ None → IsNew own foreign) → AreLinked name link (taken peer busy stamp c d).entries (all_received (received_by name link said c d) r)
+  taken_linked : (said : ℕ) (c : Command) → IsCommand c → ((own foreign : ℕ) → entry_at own foreign d.entries ≡ None → IsNew own foreign) → AreLinked name link (desk_taken peer busy stamp c d).entries (all_received (received_by name link said c d) r)
   taken_linked said command.Nop i new = l
   taken_linked said (command.Rts receive send other) i new = rts_all send receive other (odd_is send i.3) (list_any (sends_on other) d.entries) refl
   taken_linked said (command.Str send receive size) i new = str_by receive send size (new receive send) (entry_at receive send d.entries) refl

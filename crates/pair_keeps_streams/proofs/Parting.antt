@@ -6,7 +6,7 @@ use Rattle.stream_law.specs.Words.{Word}
 use Rattle.stream_law.specs.Receivers as receivers
 use Rattle.stream_law.specs.Receivers.{Receiver}
 use Rattle.stream_law.specs.Senders as senders
-use Rattle.stream_law.specs.Streams.{Stream, Box, Empty, Waiting, Taken, opening}
+use Rattle.stream_law.specs.Streams.{Stream, Box, Empty, Waiting, Taken, opening_stream}
 use Rattle.stream_law.proofs.lemmas.{inv_opening}
 use Rattle.host_pairs.specs.declared.entry.Entry.{Entry}
 use Rattle.host_keeps_streams.specs.Histories.{IsTelling}
@@ -188,16 +188,16 @@ pub record IsFresh (a : Party) : Type 0 where
   pub pending : a.pending ≡ []
   pub post : a.post ≡ Free
 
-fresh_half : (number : ℕ → ℕ → ℕ → ℕ) (tells : IsTelling number) (link : ℕ) (a : Party) → IsFresh a → Half number tells link receivers.opening senders.opening a
+fresh_half : (number : ℕ → ℕ → ℕ → ℕ) (tells : IsTelling number) (link : ℕ) (a : Party) → IsFresh a → Half number tells link receivers.opening_receiver senders.opening_sender a
 fresh_half number tells link a f = record {
-  holds = subst (λ (es : List Entry). Holds number tells link a.gone es receivers.opening senders.opening) (sym f.entries) (record {
+  holds = subst (λ (es : List Entry). Holds number tells link a.gone es receivers.opening_receiver senders.opening_sender) (sym f.entries) (record {
     sound = record { formed = tt; apart = tt };
     received = refl;
     sent = record { here = λ k e o. absurd (cc); known = tt };
     unknown = λ own foreign g i. record { unasked = refl; untold = refl; unheard = refl };
     unsaid = λ own foreign g i. record { untold = refl; unclosed = refl; unheard = λ e. absurd (cc) };
   });
-  linked = subst (λ (es : List Entry). AreLinked (name_of number a.gone) link es receivers.opening) (sym f.entries) tt;
+  linked = subst (λ (es : List Entry). AreLinked (name_of number a.gone) link es receivers.opening_receiver) (sym f.entries) tt;
 }
 
 fresh_said : (a : Party) → IsFresh a → (own foreign : ℕ) → said_by a own foreign ≡ 0
@@ -221,14 +221,14 @@ fresh_box a b f = record {
   lies : (text : List Bool) → Free ≡ Lies text → IsPosted (Lies text) Empty
   lies text e = absurd (cc)
 
-opened_fresh : (number other : ℕ → ℕ → ℕ → ℕ) (tells : IsTelling number) (others : IsTelling other) (link : ℕ) (a b : Party) → IsFresh a → IsFresh b → Joint number other tells others link opening opening a b
+opened_fresh : (number other : ℕ → ℕ → ℕ → ℕ) (tells : IsTelling number) (others : IsTelling other) (link : ℕ) (a b : Party) → IsFresh a → IsFresh b → Joint number other tells others link opening_stream opening_stream a b
 opened_fresh number other tells others link a b f g = record {
   inv_x = inv_opening;
   inv_y = inv_opening;
   mine = λ e. fresh_half number tells link a f;
   theirs = λ e. fresh_half other others link b g;
-  to_b = λ e. fresh_line number link (heard_by b) receivers.opening.asked a.pending f.pending;
-  to_a = λ e. fresh_line other link (heard_by a) receivers.opening.asked b.pending g.pending;
+  to_b = λ e. fresh_line number link (heard_by b) receivers.opening_receiver.asked a.pending f.pending;
+  to_a = λ e. fresh_line other link (heard_by a) receivers.opening_receiver.asked b.pending g.pending;
   told_b = λ e h. fresh_told a b f g;
   told_a = λ e h. fresh_told b a g f;
   box_x = fresh_box b a g;
@@ -236,6 +236,6 @@ opened_fresh number other tells others link a b f g = record {
 }
 
 pub opened : (number other : ℕ → ℕ → ℕ → ℕ) (tells : IsTelling number) (others : IsTelling other) (link : ℕ) (a b : Party) → a.entries ≡ [] → b.entries ≡ [] → a.pending ≡ [] → b.pending ≡ []
-    → ((own foreign : ℕ) → a.gone own foreign ≡ 0) → ((own foreign : ℕ) → b.gone own foreign ≡ 0) → a.post ≡ Free → b.post ≡ Free → Joint number other tells others link opening opening a b
+    → ((own foreign : ℕ) → a.gone own foreign ≡ 0) → ((own foreign : ℕ) → b.gone own foreign ≡ 0) → a.post ≡ Free → b.post ≡ Free → Joint number other tells others link opening_stream opening_stream a b
 opened number other tells others link a b ae be ap bp ag bg ao bo =
     opened_fresh number other tells others link a b (record { gone = ag; entries = ae; pending = ap; post = ao }) (record { gone = bg; entries = be; pending = bp; post = bo })

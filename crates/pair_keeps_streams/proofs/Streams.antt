@@ -1,10 +1,10 @@
 -- Moves upon a stream, one after another: what they change, and what they leave.
-use Rattle.std.proofs.Common.{◌≡◌, ℕ, Bool, false, List, ◌∷◌, ◌++◌, Option, Some, None, refl, ap, sym, ◌∙◌, append-nil}
+use Rattle.std.proofs.Common.{◌≡◌, ℕ, Bool, false, List, [], ◌∷◌, ◌++◌, Option, Some, None, refl, ap, sym, ◌∙◌, append-nil}
 use Rattle.std.proofs.lemmas.List.{append_assoc}
 use Rattle.stream_law.specs.Words.{Word}
 use Rattle.stream_law.specs.Receivers as receivers
 use Rattle.stream_law.specs.Senders as senders
-use Rattle.stream_law.specs.Streams.{Stream, Box, Empty, Waiting, Taken, Receives, Sends, happens, queued, behind, MayReceive, MaySend}
+use Rattle.stream_law.specs.Streams.{Stream, Box, Empty, Waiting, Taken, Receives, Sends, happens, word_queued, behind, MayReceive, MaySend}
 use Rattle.stream_law.proofs.lemmas.{Inv, kept}
 use Rattle.host_keeps_streams.specs.Closings.{all_received, MayAllReceive, all_sent, MayAllSend}
 use Rattle.host_keeps_streams.specs.Histories.{KeepBox}
@@ -31,7 +31,7 @@ sends_receiver (m ∷ ms) y = sends_receiver ms (happens (Sends m) y)
 
 -- ---- what is said
 
-queued_is : (o : Option Word) (ws : List Word) → queued o ws ≡ ws ++ one o
+queued_is : (o : Option Word) (ws : List Word) → word_queued o ws ≡ ws ++ one o
 queued_is None ws = sym (append-nil ws)
 queued_is (Some w) ws = refl
 

@@ -4,7 +4,7 @@ use Rattle.leader1822.specs.Host.{Host, same_host}
 use Rattle.reset_law.specs.Phases.{Ready}
 use Rattle.reset_law.specs.Events.{Message, Reset, Reply, Other, Event, Contact, Out, In, Told, Down, Up, Idle, Call, Send, Hear, Begin, when, are, place}
 use Rattle.reset_law.specs.Boxes.{Box, Empty, Waiting, Taken, WaitsWith, Post, Put, Fetch, Clear, ClearAll, fetched, posted, at_link, boxes}
-use Rattle.reset_law.specs.Pairs.{Pair, MaySend, kind_of, moved, pair}
+use Rattle.reset_law.specs.Pairs.{Pair, MaySend, kind_of, pair_moved, pair}
 use Rattle.reset_law.specs.Monitor.{monitor}
 use Rattle.reset_law.specs.Invariant.{kind_in, is_signal}
 use Rattle.reset_law.specs.Runs.{IsRun}
@@ -60,7 +60,7 @@ none_waits : (bs : ℕ → Box) (S : Type 0) → NoPlain bs → Waits bs S
 none_waits bs S none l p text e = absurd (none l (ap kind_in e))
 
 -- who sends a text is ready, and stays so
-sends_ready : (t : Bool) (l : ℕ) (text : List Bool) (p : Pair) → (t ≡ true → MaySend p l (Other text)) → t ≡ true → (moved (when t (Send l (Other text))) p).phase ≡ Ready
+sends_ready : (t : Bool) (l : ℕ) (text : List Bool) (p : Pair) → (t ≡ true → MaySend p l (Other text)) → t ≡ true → (pair_moved (when t (Send l (Other text))) p).phase ≡ Ready
 sends_ready true l text p may e = (may refl).0
 sends_ready false l text p may e = absurd (cc)
 

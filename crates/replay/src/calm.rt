@@ -3,7 +3,7 @@
 ghost use Rattle.std.specs.Prelude.{◌≡◌, Err, IfErr};
 ghost use Rattle.replay.specs.Replay.{Halts, Round, Takings, calmly};
 ghost use Rattle.replay.specs.Steps.{EventEnds, Grew};
-ghost use Rattle.script.specs.declared.event.Event.TheVariants as script_event;
+ghost use Rattle.script.specs.declared.event.RawEvent.TheVariants as script_event;
 
 use crate::events::ReplayFault;
 use crate::print::print_outcome;

@@ -1,5 +1,5 @@
 -- Upper case hexadecimal digits.
-use Rattle.std.proofs.Common.{◌≡◌, ℕ, ◌<◌, ◌≤◌, ◌+◌, ◌-◌, ◌*◌, ◌/◌, ◌%◌, ◌&&◌, nat_le, true, List, ◌∷◌, ◌++◌, length, take, slice_index, slice_set, is_some, refl, sym, ap, ◌∙◌, arith, zero, suc, inl, inr}
+use Rattle.std.proofs.Common.{◌≡◌, ℕ, ◌<◌, ◌≤◌, ◌+◌, ◌-◌, ◌*◌, ◌/◌, ◌%◌, ◌&&◌, nat_le, true, List, [], ◌∷◌, ◌++◌, length, take, slice_index, slice_set, is_some, refl, sym, ap, ◌∙◌, arith, zero, suc, inl, inr}
 use Rattle.std.proofs.lemmas.Bool.{or_cases, and_parts, leb-true, cases_lt, false≢true}
 use Rattle.std.specs.List.{list_all}
 use Rattle.std.proofs.lemmas.List.{take_more, take_more_set, append_assoc, get_or_past}

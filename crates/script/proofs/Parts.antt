@@ -1,31 +1,31 @@
 -- Going through the lines of an input up to its mark.
-use Rattle.std.proofs.Common.{◌≡◌, ◌≢◌, ℕ, ◌+◌, List, ◌∷◌, ◌++◌, length, take, codes, Option, Some, None, Bor, refl, sym, ap, ◌∙◌, inl, inr, MatchOption, ◌⊎◌}
+use Rattle.std.proofs.Common.{◌≡◌, ◌≢◌, ℕ, ◌+◌, List, [], ◌∷◌, ◌++◌, length, take, codes, Option, Some, None, Bor, refl, sym, ap, ◌∙◌, inl, inr, MatchOption, ◌⊎◌}
 use Rattle.std.proofs.lemmas.List.{append_assoc, append-nil, take_at, length-append}
 use Rattle.std.proofs.lemmas.List.Elements.{All-append, All-cons, All-nil}
 use Rattle.std.proofs.lemmas.Grind.{flat_map-append}
 use Rattle.std.specs.List.{All, flat_map}
 use Rattle.script.specs.Script.{lines_of, lines_after}
-use Rattle.script.specs.Input.{ended, IsParted}
+use Rattle.script.specs.Input.{ended_line, IsParted}
 
 -- what was passed of an input: whole lines that aren't the mark
 pub record Passed (input : List ℕ) (passed : ℕ) (rest : Option (Bor (List ℕ))) : Type 0 where
   pub before : List (List ℕ)
   pub unmarked : All (λ line. line ≢ codes "%") before
   pub lines : lines_of input ≡ before ++ lines_after rest
-  pub whole : MatchOption rest (Unit {0}) (λ left. (input ≡ flat_map ended before ++ left.now) × (passed ≡ length (flat_map ended before)))
+  pub whole : MatchOption rest (Unit {0}) (λ left. (input ≡ flat_map ended_line before ++ left.now) × (passed ≡ length (flat_map ended_line before)))
 
 pub none_passed : (input : Bor (List ℕ)) → Passed input.now 0 (Some input)
 none_passed input = record { before = []; unmarked = All-nil (λ line. line ≢ codes "%"); lines = refl; whole = (refl, refl) }
 
 -- the front with one more line
-front_more : (before : List (List ℕ)) (line : List ℕ) → flat_map ended (before ++ line ∷ []) ≡ flat_map ended before ++ (line ++ 10 ∷ [])
-front_more before line = flat_map-append ended before (line ∷ []) ∙ ap (λ xs. flat_map ended before ++ xs) (append-nil (line ++ 10 ∷ []))
+front_more : (before : List (List ℕ)) (line : List ℕ) → flat_map ended_line (before ++ line ∷ []) ≡ flat_map ended_line before ++ (line ++ 10 ∷ [])
+front_more before line = flat_map-append ended_line before (line ∷ []) ∙ ap (λ xs. flat_map ended_line before ++ xs) (append-nil (line ++ 10 ∷ []))
 
-still_whole : (input : List ℕ) (passed : ℕ) (before : List (List ℕ)) (left line : List ℕ) (more : Option (Bor (List ℕ))) → input ≡ flat_map ended before ++ left → passed ≡ length (flat_map ended before) → MatchOption more (left ≡ line) (λ m. left ≡ line ++ 10 ∷ m.now) → MatchOption more (Unit {0}) (λ m. (input ≡ flat_map ended (before ++ line ∷ []) ++ m.now) × (passed + (length line + 1) ≡ length (flat_map ended (before ++ line ∷ []))))
+still_whole : (input : List ℕ) (passed : ℕ) (before : List (List ℕ)) (left line : List ℕ) (more : Option (Bor (List ℕ))) → input ≡ flat_map ended_line before ++ left → passed ≡ length (flat_map ended_line before) → MatchOption more (left ≡ line) (λ m. left ≡ line ++ 10 ∷ m.now) → MatchOption more (Unit {0}) (λ m. (input ≡ flat_map ended_line (before ++ line ∷ []) ++ m.now) × (passed + (length line + 1) ≡ length (flat_map ended_line (before ++ line ∷ []))))
 still_whole input passed before left line None is count whole = tt
 still_whole input passed before left line (Some m) is count whole = (
-  is ∙ ap (λ xs. flat_map ended before ++ xs) (whole ∙ sym (append_assoc line (10 ∷ []) m.now)) ∙ sym (append_assoc (flat_map ended before) (line ++ 10 ∷ []) m.now) ∙ ap (λ xs. xs ++ m.now) (sym (front_more before line)),
-  ap (λ n. n + (length line + 1)) count ∙ ap (λ n. length (flat_map ended before) + n) (sym (length-append line (10 ∷ []))) ∙ sym (length-append (flat_map ended before) (line ++ 10 ∷ [])) ∙ ap length (sym (front_more before line)),
+  is ∙ ap (λ xs. flat_map ended_line before ++ xs) (whole ∙ sym (append_assoc line (10 ∷ []) m.now)) ∙ sym (append_assoc (flat_map ended_line before) (line ++ 10 ∷ []) m.now) ∙ ap (λ xs. xs ++ m.now) (sym (front_more before line)),
+  ap (λ n. n + (length line + 1)) count ∙ ap (λ n. length (flat_map ended_line before) + n) (sym (length-append line (10 ∷ []))) ∙ sym (length-append (flat_map ended_line before) (line ++ 10 ∷ [])) ∙ ap length (sym (front_more before line)),
 )
 
 -- one more line is passed
@@ -45,7 +45,7 @@ script_lines input before line script (Some m) all is behind = inl (all ∙ ap (
 pub parted : (input : List ℕ) (passed : ℕ) (left : Bor (List ℕ)) (line script : List ℕ) (more : Option (Bor (List ℕ))) → Passed input passed (Some left) → line ≡ codes "%" → lines_of left.now ≡ line ∷ lines_after more → MatchOption more (script ≡ []) (λ m. script ≡ m.now) → IsParted input (take passed input) script
 parted input passed left line script more p is lines behind = record {
   before = p.before;
-  front = ap (take passed) p.whole.0 ∙ take_at (flat_map ended p.before) left.now passed (sym p.whole.1);
+  front = ap (take passed) p.whole.0 ∙ take_at (flat_map ended_line p.before) left.now passed (sym p.whole.1);
   unmarked = p.unmarked;
   lines = script_lines input p.before line script more (p.lines ∙ ap (λ ls. p.before ++ ls) lines) is behind;
 }

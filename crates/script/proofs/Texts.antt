@@ -1,5 +1,5 @@
 -- Texts of messages as words.
-use Rattle.std.proofs.Common.{◌≡◌, ◌≢◌, ℕ, ◌<◌, ◌≤◌, ◌+◌, ◌*◌, ◌%◌, Bool, true, false, List, ◌∷◌, ◌++◌, length, take, replicate, get_or, subst, Result, Ok, refl, sym, ap, ◌∙◌, arith, length-append, lit<, zero, suc, IfErr, Err}
+use Rattle.std.proofs.Common.{◌≡◌, ◌≢◌, ℕ, ◌<◌, ◌≤◌, ◌+◌, ◌*◌, ◌%◌, Bool, true, false, List, [], ◌∷◌, ◌++◌, length, take, replicate, get_or, subst, Result, Ok, refl, sym, ap, ◌∙◌, arith, length-append, lit<, zero, suc, IfErr, Err}
 use Rattle.std.proofs.lemmas.List.{take_at, length-take-le, length-replicate}
 use Rattle.std.proofs.lemmas.Grind.{get_or_default_zero}
 use Rattle.std.proofs.lemmas.List.Elements.{All-head, All-tail}

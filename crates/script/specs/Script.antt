@@ -3,7 +3,7 @@ use Rattle.std.specs.Prelude.{◌≡◌, ◌≢◌, ℕ, ◌≤◌, ◌-◌, ◌
 use Rattle.std.specs.Borrow.{Bor}
 use Rattle.std.specs.List.{All, slice_split}
 use Rattle.script.specs.Spelling.{spelling, IsEvent, WantsMemory}
-use Rattle.script.specs.declared.event.Event.{Event}
+use Rattle.script.specs.declared.event.RawEvent.{RawEvent}
 use Rattle.script.specs.declared.fault.LineFault.{LineFault}
 use Rattle.script.specs.declared.fault.LineFault.TheVariants as fault
 
@@ -61,7 +61,7 @@ IsLineFaultAs spelled IsMeant Wants text fault.OutOfMemory = RanOutAs spelled Is
 -- ---- the events of a network without host programs
 
 -- the lines that are not passed over spell these events, in order
-abbrev pub AskFor : List Event → List (List ℕ) → Type 0
+abbrev pub AskFor : List RawEvent → List (List ℕ) → Type 0
 AskFor events lines = AskForAs spelling IsEvent events lines
 
 -- this is the first line that spells no event

@@ -6,7 +6,7 @@ use script::LineFault;
 use std::alloc::{AllocError, Global};
 use std::fmt::Display;
 use std::io::Cursor;
-use topology::{CarrierKind, Ends, ImpHosts, TopologyFault};
+use topology::{CarrierKind, ImpHosts, LineEnds, TopologyFault};
 
 /// Words that are no options.
 const NO_OPTIONS: [&[&str]; 8] = [
@@ -164,7 +164,7 @@ fn copies_equal_and_other_values_do_not(rt: HostRuntime) {
         are_apart(&[ReplayFault::OutOfMemory, ReplayFault::CannotWrite]),
         are_apart(&[CarrierKind::Plain, CarrierKind::Subnet]),
         are_apart(&[(1, 2), (2, 1), (2, 2)].map(|(imp, hosts)| ImpHosts { imp, hosts })),
-        are_apart(&[(1, 2), (2, 1), (2, 2)].map(|(a, b)| Ends { a, b })),
+        are_apart(&[(1, 2), (2, 1), (2, 2)].map(|(a, b)| LineEnds { a, b })),
     ];
     assert_eq!(rt; found, [true; 10]);
 }

@@ -9,14 +9,14 @@ abbrev pub IsFront : List (List Bool) → List (List Bool) → Type 0
 IsFront xs ys = (rest : List (List Bool)) × (xs ++ rest ≡ ys)
 
 -- the bits of messages
-abbrev pub bits_in : List (List Bool) → ℕ
-bits_in [] = 0
-bits_in (m ∷ messages) = length m + bits_in messages
+abbrev pub message_bits : List (List Bool) → ℕ
+message_bits [] = 0
+message_bits (m ∷ messages) = length m + message_bits messages
 
 -- these messages, with what was returned, are no more than what was granted
 pub record AreGranted (messages : List (List Bool)) (returned granted : Allocation) : Type 0 where
   pub in_messages : length messages + returned.messages ≤ granted.messages
-  pub in_bits : bits_in messages + returned.bits ≤ granted.bits
+  pub in_bits : message_bits messages + returned.bits ≤ granted.bits
 
 -- of each connection: what was taken is a front of what was sent; and both are granted
 pub record IsSafe (x : Stream) (c : ℕ) : Type 0 where

@@ -14,7 +14,7 @@ use Rattle.imp_node.specs.State.{State}
 use Rattle.imp_node.specs.Turns.{resend_grows, route_grows, end_down_grows, end_up_grows, give_up_grows, forget_grows, abandon_grows, from_line_grows, to_host_grows}
 use Rattle.subnet.specs.Net.{Net, Wire, imp_at, wire_at, port_of, frames_on, far_end}
 use Rattle.subnet.specs.Flows.{imp_is_up}
-use Rattle.subnet.specs.Events.{first_of, taken}
+use Rattle.subnet.specs.Events.{first_of, taken_by_host}
 
 -- ---- a subnet that may have stopped
 
@@ -56,7 +56,7 @@ grows_at (Some s) grows = grows s
 
 -- what a host takes is put on the log
 abbrev pub take_grows : Net → Host → Bool
-take_grows n h = is_some (taken n h) || grows_at (imp_at n.imps h.imp) (λ s. to_host_grows s h.host)
+take_grows n h = is_some (taken_by_host n h) || grows_at (imp_at n.imps h.imp) (λ s. to_host_grows s h.host)
 
 -- a frame that is delivered is copied, since it stays on its line
 abbrev pub copy_grows : Frame → Bool

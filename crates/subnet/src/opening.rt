@@ -28,7 +28,7 @@ impl Parts {
         requires numbers { length sites.items ≤ 17 }
         requires hosts { All (λ site. IfSome site (λ count. count ≤ 4)) sites.items }
         requires few { length ends.now < 256 }
-        ensures opened { IfOk result (λ parts. parts ≡ start.opening hosts.items sites.items ends.now) }
+        ensures opened { IfOk result (λ parts. parts ≡ start.opening_subnet hosts.items sites.items ends.now) }
         ensures live { IfOk result (λ parts. AreLive parts.imps) }
     {
         let lines = empty_lines(alloc, ends)?;
@@ -81,7 +81,7 @@ fn opened_imps(
 /// The IMP of a site, if there is one.
 fn opened(alloc: Global, number: u8, site: Option<u8>, ports: u8) -> Result<Option<Imp>, AllocError>
     requires { IfSome site (λ count. (1 ≤ number) × (number ≤ greatest_imp) × (count ≤ 4)) }
-    ensures { IfOk result (λ imp. imp ≡ start.opened number site ports) }
+    ensures { IfOk result (λ imp. imp ≡ start.opened_imp number site ports) }
 {
     let Some(hosts) = site else {
         return Ok(None);

@@ -59,7 +59,7 @@ impl Subnet {
         requires counts { All (λ site. IfSome site (λ count. count ≤ 4)) sites.items }
         requires listed { hosts.items ≡ start.hosts_from 0 sites.items }
         requires few { length ends.now < 256 }
-        ensures { IfOk result (λ subnet. subnet ≡ running (start.opening hosts.items sites.items ends.now)) }
+        ensures { IfOk result (λ subnet. subnet ≡ running (start.opening_subnet hosts.items sites.items ends.now)) }
     {
         Ok(Subnet {
             parts: Parts::open(alloc, hosts, sites, ends)?,

@@ -6,7 +6,7 @@ use Rattle.std.proofs.Math.Seq.{take-append_seam}
 use Rattle.std.proofs.lemmas.Grind.{flat_map-append, fold-append}
 use Rattle.std.proofs.lemmas.List.Folds.{list_any-append}
 use Rattle.std.specs.List.{flat_map, fold, list_all, list_any}
-use Rattle.terminal.specs.Lines.{AreLines, Heard, ends_line, has_end, hear, heard, is_printable, spelled}
+use Rattle.terminal.specs.Lines.{AreLines, Heard, ends_line, has_end, hear, lines_heard, is_printable, spelled}
 
 -- ---- the octet before an end
 
@@ -64,7 +64,7 @@ all_of lines rest (x ∷ xs) =
     ∙ ap (λ (t : List ℕ). t ++ xs) (one_more lines rest x (ends_line rest x) refl)
     ∙ append_assoc (flat_map spelled lines ++ rest) (x ∷ []) xs
 
-pub nothing_lost : (rest octets : List ℕ) → flat_map spelled (heard rest octets).0 ++ (heard rest octets).1 ≡ rest ++ octets
+pub nothing_lost : (rest octets : List ℕ) → flat_map spelled (lines_heard rest octets).0 ++ (lines_heard rest octets).1 ≡ rest ++ octets
 nothing_lost rest octets = all_of [] rest octets
 
 -- ---- truth values
@@ -148,9 +148,9 @@ pub all_open : (h : Heard) (octets : List ℕ) → AreOpen h → AreOpen (fold h
 all_open h [] endless = endless
 all_open (lines, rest) (x ∷ xs) endless = all_open (hear (lines, rest) x) xs (one_open lines rest x (ends_line rest x) refl endless)
 
-pub are_lines : (rest octets : List ℕ) → has_end rest ≡ false → AreLines (rest ++ octets) (heard rest octets).0 (heard rest octets).1
+pub are_lines : (rest octets : List ℕ) → has_end rest ≡ false → AreLines (rest ++ octets) (lines_heard rest octets).0 (lines_heard rest octets).1
 are_lines rest octets endless =
-    let o : AreOpen (heard rest octets) = all_open ([], rest) octets (record { lines = refl; rest = endless }) in
+    let o : AreOpen (lines_heard rest octets) = all_open ([], rest) octets (record { lines = refl; rest = endless }) in
     record { all = sym (nothing_lost rest octets); lines_whole = o.lines; rest_open = o.rest }
 
 -- ---- there is one reading only
@@ -191,7 +191,7 @@ read_again before (l ∷ lines) rest endless last =
     ∙ read_again (before ++ l ∷ []) lines rest (second_false (has_end l) (list_any has_end lines) endless) last
     ∙ ap (λ (z : List (List ℕ)). the_heard z rest) (append_assoc before (l ∷ []) lines)
 
-pub only_reading : (octets : List ℕ) (lines : List (List ℕ)) (rest : List ℕ) → AreLines octets lines rest → heard [] octets ≡ (lines, rest)
+pub only_reading : (octets : List ℕ) (lines : List (List ℕ)) (rest : List ℕ) → AreLines octets lines rest → lines_heard [] octets ≡ (lines, rest)
 only_reading octets lines rest are = ap (λ (z : List ℕ). fold hear (the_heard [] []) z) are.all ∙ read_again [] lines rest are.lines_whole are.rest_open
 
 -- ---- what is typed has no end
@@ -211,5 +211,5 @@ typed_open (x ∷ y ∷ ys) all =
     let here : (x == 13) ≡ false = not_return x both.0 in
     rw here (typed_open (y ∷ ys) both.1)
 
-pub typed_read : (text : List ℕ) → list_all is_printable text ≡ true → heard [] (spelled text) ≡ (text ∷ [], [])
+pub typed_read : (text : List ℕ) → list_all is_printable text ≡ true → lines_heard [] (spelled text) ≡ (text ∷ [], [])
 typed_read text all = line_read [] text [] (typed_open text all)

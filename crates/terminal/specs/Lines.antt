@@ -40,8 +40,8 @@ hear (lines, rest) octet =
     if ends_line rest octet then (lines ++ take (length rest - 1) rest ∷ [], []) else (lines, rest ++ octet ∷ [])
 
 -- these octets come, where `rest` came since the last end
-abbrev pub heard : List ℕ → List ℕ → Heard
-heard rest octets = fold hear ([], rest) octets
+abbrev pub lines_heard : List ℕ → List ℕ → Heard
+lines_heard rest octets = fold hear ([], rest) octets
 
 -- ---- what that means
 

@@ -107,7 +107,7 @@ pub(crate) fn hear(
     rest: &mut Vec<u8>,
     octets: &[u8],
 ) -> Result<Vec<Line>, AllocError>
-    ensures { IfOk result (λ told. lines.heard rest.old.items octets.now ≡ (told.items, rest.new.items)) }
+    ensures { IfOk result (λ told. lines.lines_heard rest.old.items octets.now ≡ (told.items, rest.new.items)) }
 {
     let mut told = Vec::new(alloc);
     for octet in octets {

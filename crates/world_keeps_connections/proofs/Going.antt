@@ -15,7 +15,7 @@ use Rattle.sockets.specs.declared.request.Request.TheVariants as request
 use Rattle.pairing_law.specs.Partners.{IsIn}
 use Rattle.pairing_law.specs.Sides.{Life}
 use Rattle.host_keeps_pairing.specs.Known.{all_known, known_after}
-use Rattle.net_sim.specs.Book.{Kept, all_told, carried, changed_when, ended, granted, lives_asked, lives_at, lives_between, lives_on, lives_told, lives_with, new_life, returned, told, where_it}
+use Rattle.net_sim.specs.Book.{Kept, all_told, carried, changed_when, life_ended, granted, lives_asked, lives_at, lives_between, lives_on, lives_told, lives_with, new_life, returned, book_told, where_it}
 use Rattle.net_sim.specs.declared.life.Life as book
 use Rattle.net_sim.specs.Story.{Moment, Crossed, Asked}
 use Rattle.net_sim.specs.Timeline.{IsTimeline, crossings_of}
@@ -85,14 +85,14 @@ module _ (origin : ℕ → ℕ) (h p : Host) (own foreign : ℕ) where
     by false e = a.0 e
 
   -- lives that all end
-  where_ends : (test : book.Life → Bool) (xs : List book.Life) → ((x : book.Life) → goes x ≡ true → test x ≡ true) → AreKnown [] (where_it test ended xs)
+  where_ends : (test : book.Life → Bool) (xs : List book.Life) → ((x : book.Life) → goes x ≡ true → test x ≡ true) → AreKnown [] (where_it test life_ended xs)
   where_ends test [] all = tt
   where_ends test (x ∷ xs) all = (by (test x) refl, where_ends test xs all) where
-    by : (b : Bool) → test x ≡ b → goes (changed_when b ended x) ≡ true → IsIn (life_of origin (changed_when b ended x)) []
+    by : (b : Bool) → test x ≡ b → goes (changed_when b life_ended x) ≡ true → IsIn (life_of origin (changed_when b life_ended x)) []
     by true e g = absurd (never (is_between h p own foreign x) g)
     by false e g = absurd (clash (test x) (all x g) e)
 
-  ended_keeps : Keeps ended
+  ended_keeps : Keeps life_ended
   ended_keeps x e = absurd (never (is_between h p own foreign x) e)
 
   same_if : (b : Bool) (k : List Life) (xs : List book.Life) → AreKnown k xs → AreKnown (if b then k else k) xs
@@ -118,7 +118,7 @@ module _ (origin : ℕ → ℕ) (h p : Host) (own foreign : ℕ) where
   peer_is q x e i = subst (λ (y : Host). same_host y x.peer ≡ true) (sym i.peer ∙ same_host-true p q e) (same_host-refl x.peer)
 
   ended_by : (g q : Host) (socket other : ℕ) (k : List Life) (lives : List book.Life) → AreKnown k lives → (c d : Bool) → same_host h g ≡ c → (same_host p q && (socket == own && other == foreign)) ≡ d
-      → AreKnown (if c then (if d then [] else k) else k) (where_it (lives_between g socket q other) ended lives)
+      → AreKnown (if c then (if d then [] else k) else k) (where_it (lives_between g socket q other) life_ended lives)
   ended_by g q socket other k lives known true true e f =
       where_ends (lives_between g socket q other) lives
       (λ x i.
@@ -131,10 +131,10 @@ module _ (origin : ℕ → ℕ) (h p : Host) (own foreign : ℕ) where
       let peers : same_host q x.peer ≡ true = peer_is q x a.0 has_it in
       let on : x.ended ≡ false = has_it.on in
       rw (hosts, c, on, peers, d) refl))
-  ended_by g q socket other k lives known true false e f = where_keeps (lives_between g socket q other) ended k lives ended_keeps known
-  ended_by g q socket other k lives known false d e f = where_keeps (lives_between g socket q other) ended k lives ended_keeps known
+  ended_by g q socket other k lives known true false e f = where_keeps (lives_between g socket q other) life_ended k lives ended_keeps known
+  ended_by g q socket other k lives known false d e f = where_keeps (lives_between g socket q other) life_ended k lives ended_keeps known
 
-  reset_by : (g q : Host) (k : List Life) (lives : List book.Life) → AreKnown k lives → (c d : Bool) → same_host h g ≡ c → same_host p q ≡ d → AreKnown (if c then (if d then [] else k) else k) (where_it (lives_with g q) ended lives)
+  reset_by : (g q : Host) (k : List Life) (lives : List book.Life) → AreKnown k lives → (c d : Bool) → same_host h g ≡ c → same_host p q ≡ d → AreKnown (if c then (if d then [] else k) else k) (where_it (lives_with g q) life_ended lives)
   reset_by g q k lives known true true e f =
       where_ends (lives_with g q) lives
       (λ x i.
@@ -143,8 +143,8 @@ module _ (origin : ℕ → ℕ) (h p : Host) (own foreign : ℕ) where
       let peers : same_host q x.peer ≡ true = peer_is q x f has_it in
       let on : x.ended ≡ false = has_it.on in
       rw (hosts, peers, on) refl))
-  reset_by g q k lives known true false e f = where_keeps (lives_with g q) ended k lives ended_keeps known
-  reset_by g q k lives known false d e f = where_keeps (lives_with g q) ended k lives ended_keeps known
+  reset_by g q k lives known true false e f = where_keeps (lives_with g q) life_ended k lives ended_keeps known
+  reset_by g q k lives known false d e f = where_keeps (lives_with g q) life_ended k lives ended_keeps known
 
   told_known : (g : Host) (n : Notice) (k : List Life) (lives : List book.Life) → AreKnown k lives → AreKnown (if same_host h g then known_after origin p own foreign n k else k) (lives_told g n lives)
   told_known g (notice.Opened socket q other a b) k lives known = opened_by g q socket other a b k lives known (same_host h g) (same_host p q && (socket == own && other == foreign)) refl refl
@@ -162,10 +162,10 @@ module _ (origin : ℕ → ℕ) (h p : Host) (own foreign : ℕ) where
   all_told_by : (g : Host) (b : Bool) → same_host h g ≡ b → (ns : List Notice) (k : List Life) (kept : Kept) → AreKnown k kept.book.lives → AreKnown (if b then all_known origin p own foreign ns k else k) (all_told g ns kept).book.lives
   all_told_by g b e [] k kept known = same_if b k kept.book.lives known
   all_told_by g true e (n ∷ ns) k kept known =
-      all_told_by g true e ns (known_after origin p own foreign n k) (told g n kept)
+      all_told_by g true e ns (known_after origin p own foreign n k) (book_told g n kept)
       (subst (λ (c : Bool). AreKnown (if c then known_after origin p own foreign n k else k) (lives_told g n kept.book.lives)) e (told_known g n k kept.book.lives known))
   all_told_by g false e (n ∷ ns) k kept known =
-      all_told_by g false e ns k (told g n kept)
+      all_told_by g false e ns k (book_told g n kept)
       (subst (λ (c : Bool). AreKnown (if c then known_after origin p own foreign n k else k) (lives_told g n kept.book.lives)) e (told_known g n k kept.book.lives known))
 
   asked_known : (g : Host) (r : Request) (k : List Life) (lives : List book.Life) → AreKnown k lives → AreKnown k (lives_asked g r lives)
@@ -181,11 +181,11 @@ module _ (origin : ℕ → ℕ) (h p : Host) (own foreign : ℕ) where
   asked_known g (request.Echo q octet) k lives known = known
 
   -- a host that stops ends its lives
-  down_by : (g : Host) (k : List Life) (lives : List book.Life) → AreKnown k lives → (b : Bool) → same_host h g ≡ b → AreKnown (if b then [] else k) (where_it (lives_on g) ended lives)
+  down_by : (g : Host) (k : List Life) (lives : List book.Life) → AreKnown k lives → (b : Bool) → same_host h g ≡ b → AreKnown (if b then [] else k) (where_it (lives_on g) life_ended lives)
   down_by g k lives known true e =
       where_ends (lives_on g) lives
       (λ x i. (let has_it : Has x = has x i in let hosts : same_host g x.host ≡ true = host_is g x e has_it in let on : x.ended ≡ false = has_it.on in rw (hosts, on) refl))
-  down_by g k lives known false e = where_keeps (lives_on g) ended k lives ended_keeps known
+  down_by g k lives known false e = where_keeps (lives_on g) life_ended k lives ended_keeps known
 
   -- ---- moments
 
@@ -210,7 +210,7 @@ module _ (origin : ℕ → ℕ) (h p : Host) (own foreign : ℕ) where
 
   down_follows : (hosts : List Host) (g : Host) (moments : List Moment) → Follows hosts moments → Follows hosts (Crossed (crossing.Down g) ∷ moments)
   down_follows hosts g moments old = record { are = down_by g (known moments) (Lives_in moments) old.are (same_host h g) refl; idle = off (same_host h g) refl } where
-    off : (c : Bool) → same_host h g ≡ c → (if c then false else mail.is_up hosts h (crossings_of moments)) ≡ false → AreKnown [] (where_it (lives_on g) ended (Lives_in moments))
+    off : (c : Bool) → same_host h g ≡ c → (if c then false else mail.is_up hosts h (crossings_of moments)) ≡ false → AreKnown [] (where_it (lives_on g) life_ended (Lives_in moments))
     off true f down = down_by g (known moments) (Lives_in moments) old.are true f
     off false f down = down_by g [] (Lives_in moments) (old.idle down) false f
 

@@ -25,12 +25,12 @@ pub fn initial_connections<C: Carrier>()
 /// Ends of an initial connection.
 pub fn worked_connections()
     // a small book in which one is finished, and its ends match, crosswise and not otherwise
-    ensures joined { IsConnected worked.joined.book first second 100 16 worked.server_receives worked.server_sends worked.user_receives worked.user_sends }
-    ensures pairs { Match worked.joined.book.crossings worked.user_receives worked.server_sends × Match worked.joined.book.crossings worked.server_receives worked.user_sends }
-    ensures others { (Match worked.joined.book.crossings worked.user_receives worked.user_sends → ⊥) × (Match worked.joined.book.crossings worked.server_receives worked.server_sends → ⊥) }
+    ensures joined { IsConnected worked.joined_kept.book first second 100 16 worked.server_receives worked.server_sends worked.user_receives worked.user_sends }
+    ensures pairs { Match worked.joined_kept.book.crossings worked.user_receives worked.server_sends × Match worked.joined_kept.book.crossings worked.server_receives worked.user_sends }
+    ensures others { (Match worked.joined_kept.book.crossings worked.user_receives worked.user_sends → ⊥) × (Match worked.joined_kept.book.crossings worked.server_receives worked.server_sends → ⊥) }
 
     // a life on the same sockets that took its request before the server's went out doesn't match: sockets alone don't make partners
-    ensures older { Match worked.joined.book.crossings (record worked.user_receives { partner_stamp = 0 }) worked.server_sends → ⊥ }
+    ensures older { Match worked.joined_kept.book.crossings (record worked.user_receives { partner_stamp = 0 }) worked.server_sends → ⊥ }
 
     // a life that has ended is none, nor is one of another socket, or one that opened with another
     ensures over { (book : Book) (a b : Host) (own other : ℕ) (x : Life) → x.ended ≡ true → IsEnd book a own b other x → ⊥ }

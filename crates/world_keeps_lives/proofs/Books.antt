@@ -7,7 +7,7 @@ use Rattle.host_pairs.specs.declared.notice.Notice.{Notice}
 use Rattle.host_pairs.specs.declared.notice.Notice.TheVariants as notice
 use Rattle.host_pairs.proofs.lemmas.{both}
 use Rattle.net_sim.specs.declared.life.Life.{Life}
-use Rattle.net_sim.specs.Book.{Kept, all_told, carried, changed_when, ended, handed_to, handed_told, lives_at, lives_between, lives_told, lives_with, new_life, returned, told, where_it}
+use Rattle.net_sim.specs.Book.{Kept, all_told, carried, changed_when, life_ended, handed_to, handed_told, lives_at, lives_between, lives_told, lives_with, new_life, returned, book_told, where_it}
 use Rattle.world_keeps_lives.specs.Lives.{EachIn, EachOn, IsSafe, at_socket}
 
 not_both : (P : Type 0) (b : Bool) → b ≡ true → b ≡ false → P
@@ -23,7 +23,7 @@ One P x t = IsSafe x t × (x.ended ≡ false → P x t)
 
 pub all_told_append : (h : Host) (ns ms : List Notice) (k : Kept) → all_told h (ns ++ ms) k ≡ all_told h ms (all_told h ns k)
 all_told_append h [] ms k = refl
-all_told_append h (n ∷ ns) ms k = all_told_append h ns ms (told h n k)
+all_told_append h (n ∷ ns) ms k = all_told_append h ns ms (book_told h n k)
 
 module _ (a : Host) (k : ℕ) where
   abbrev Here : Life → Bool
@@ -56,17 +56,17 @@ module _ (a : Host) (k : ℕ) where
   each_apart test f P lives handed keeps apart e = each_where test f P P lives handed keeps (λ x t there is o. absurd (apart x there is)) (λ x t there is o. o) e
 
   -- lives that end
-  end_one : (x : Life) (t : List Bool) → IsSafe x t → IsSafe (ended x) t
+  end_one : (x : Life) (t : List Bool) → IsSafe x t → IsSafe (life_ended x) t
   end_one x t s = record { front = s.front; within = λ r. record { messages = (s.within r).messages; bits = (s.within r).bits } }
 
-  pub each_ending : (test : Life → Bool) (P : Life → List Bool → Type 0) (lives : List Life) (handed : List (List Bool)) → EachOn a k P lives handed → EachOn a k P (where_it test ended lives) handed
+  pub each_ending : (test : Life → Bool) (P : Life → List Bool → Type 0) (lives : List Life) (handed : List (List Bool)) → EachOn a k P lives handed → EachOn a k P (where_it test life_ended lives) handed
   each_ending test P lives handed e =
-      each_where test ended P P lives handed (λ x. refl) (λ x t there is o. (end_one x t o.0, λ goes. absurd (let r : true ≡ false = goes in cc))) (λ x t there is o. o) e
+      each_where test life_ended P P lives handed (λ x. refl) (λ x t there is o. (end_one x t o.0, λ goes. absurd (let r : true ≡ false = goes in cc))) (λ x t there is o. o) e
 
   pub each_ended : (test : Life → Bool) (P Q : Life → List Bool → Type 0) (lives : List Life) (handed : List (List Bool)) → ((x : Life) (t : List Bool) → at_socket a k x ≡ true → x.ended ≡ false → P x t → test x ≡ true)
-      → EachOn a k P lives handed → EachOn a k Q (where_it test ended lives) handed
+      → EachOn a k P lives handed → EachOn a k Q (where_it test life_ended lives) handed
   each_ended test P Q lives handed all e =
-      each_where test ended P Q lives handed (λ x. refl) (λ x t there is o. (end_one x t o.0, λ goes. absurd (let r : true ≡ false = goes in cc)))
+      each_where test life_ended P Q lives handed (λ x. refl) (λ x t there is o. (end_one x t o.0, λ goes. absurd (let r : true ≡ false = goes in cc)))
       (λ x t there is o. (o.0, λ goes. not_both (Q x t) (test x) (all x t there goes (o.1 goes)) is)) e
 
   -- a change of those that go on
@@ -170,4 +170,4 @@ module _ (a : Host) (k : ℕ) where
 
   pub all_away : (P : Life → List Bool → Type 0) (h : Host) (ns : List Notice) (κ : Kept) → same_host h a ≡ false → EachIn a k P κ → EachIn a k P (all_told h ns κ)
   all_away P h [] κ off e = e
-  all_away P h (n ∷ ns) κ off e = all_away P h ns (told h n κ) off (each_away P h n κ.book.lives κ.handed off e)
+  all_away P h (n ∷ ns) κ off e = all_away P h ns (book_told h n κ) off (each_away P h n κ.book.lives κ.handed off e)

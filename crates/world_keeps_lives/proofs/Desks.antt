@@ -144,7 +144,7 @@ module _ (a : Host) (k : ℕ) where
 
   pub each_all_aside : (P : Life → List Bool → Type 0) (ns : List Notice) (κ : Kept) → AreAside a k ns → EachIn a k P κ → EachIn a k P (all_told a ns κ)
   each_all_aside P [] κ off e = e
-  each_all_aside P (n ∷ ns) κ off e = each_all_aside P ns (book.told a n κ) off.1 (each_aside a k P n κ.book.lives κ.handed off.0 e)
+  each_all_aside P (n ∷ ns) κ off e = each_all_aside P ns (book.book_told a n κ) off.1 (each_aside a k P n κ.book.lives κ.handed off.0 e)
 
   pub at_aside : (m : Place) (p : Host) (ms : List Entry) (l : Bool) (ns : List Notice) (κ : Kept) → AreAside a k ns → At a k m p ms l κ → At a k m p ms l (all_told a ns κ)
   at_aside m p ms l ns κ off h = at_same m p ms l κ (all_told a ns κ) (λ P. each_all_aside P ns κ off) h

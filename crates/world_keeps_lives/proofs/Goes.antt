@@ -9,7 +9,7 @@ use Rattle.ncp_control.specs.declared.command.Command.TheVariants as command
 use Rattle.pairing_law.specs.Ends.{End}
 use Rattle.pairing_law.specs.Marks.{Mark, Ask, Close}
 use Rattle.host_pairs.specs.Commands.{changed}
-use Rattle.host_pairs.specs.Desk.{DeskState, told}
+use Rattle.host_pairs.specs.Desk.{DeskState, desk_told}
 use Rattle.host_pairs.specs.Entries.{entry_at, is_at, is_open, is_receiving}
 use Rattle.host_pairs.specs.Parcels.{asked_at, bits_gone, cls_sent, command_gone, commands_gone, may_send_on, request_gone}
 use Rattle.host_pairs.specs.declared.entry.Entry.{Entry}
@@ -115,7 +115,7 @@ module _ (a : Host) (k : ℕ) (m : Place) (p : Host) (k0 : Kept) where
 
   -- bytes
   pub good_bytes : (busy : List ℕ) (link n : ℕ) (e : Entry) (d : DeskState) → find (may_send_on busy link) d.entries ≡ Some e → is_open e ≡ true → is_receiving e ≡ false → G a k m p k0 d
-      → G a k m p k0 (told (notice.Sent e.own (take n e.bits) ∷ []) (changed (may_send_on busy link) (bits_gone n) d))
+      → G a k m p k0 (desk_told (notice.Sent e.own (take n e.bits) ∷ []) (changed (may_send_on busy link) (bits_gone n) d))
   good_bytes busy link n e d f o sends h =
       good_changed a k m p k0 (may_send_on busy link) (bits_gone n) (notice.Sent e.own (take n e.bits) ∷ []) d e f refl (λ e r. r)
       (λ is l κ i. at_here a k m p (carried (take n e.bits)) e (bits_gone n e) l κ (all_told a (notice.Sent e.own (take n e.bits) ∷ []) κ) is (open_opened e o) (λ x. refl)

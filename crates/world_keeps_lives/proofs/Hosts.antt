@@ -27,14 +27,14 @@ use Rattle.host_keeps_pairing.specs.Words.{marks}
 use Rattle.host_keeps_pairing.proofs.lemmas.{marks_append}
 use Rattle.host_keeps_ranges.specs.Ranges.{AreCommands}
 use Rattle.host_keeps_streams.proofs.lemmas.Senders as senders
-use Rattle.sockets.specs.Accepting.{accepted, turn_of, turned, with_turn}
+use Rattle.sockets.specs.Accepting.{accepted, turn_of, after_turn, with_turn}
 use Rattle.sockets.specs.Pairs.{NcpState, pair_with}
 use Rattle.sockets.specs.Peers.{AreInOrder}
 use Rattle.sockets.specs.Sending.{next_in, offered, offered_by}
 use Rattle.sockets.specs.declared.peer.Peer.{Peer}
 use Rattle.sockets.proofs.lemmas.{next_is, next_pair, pair_changed}
 use Rattle.net_sim.specs.Book.{Kept, all_told}
-use Rattle.world_keeps_lives.specs.Lives.{AreRefusing, EachIn, IsFree, IsLifeOf, IsOwned, IsSteady, mine_on}
+use Rattle.world_keeps_lives.specs.Lives.{AreRefusing, EachIn, IsFreeSocket, IsLifeOf, IsOwned, IsSteady, mine_on}
 use Rattle.world_keeps_lives.proofs.Desks.{At, Elsewhere, Near, Place, clash}
 use Rattle.world_keeps_lives.proofs.Takes.{G}
 use Rattle.world_keeps_lives.proofs.Goes.{IsOfTwo, Waits, all_go, good_bytes}
@@ -68,7 +68,7 @@ module _ (a : Host) (k : ℕ) where
   -- one socket of the host, over all its peers
   pub record Holds (s : NcpState) (κ : Kept) : Type 0 where
     pub steady : IsSteady s
-    pub socket : IsFree a k s κ ⊎ IsOwned a k s κ
+    pub socket : IsFreeSocket a k s κ ⊎ IsOwned a k s κ
 
   -- what becomes of a pair, at the socket
   pub record Done (m : Place) (p : Host) (q : PairState) (l : Bool) (κ : Kept) : Type 0 where
@@ -81,7 +81,7 @@ module _ (a : Host) (k : ℕ) where
 
   module _ (s new : NcpState) (p : Host) (q : PairState) (κ next : Kept) (put : IsPut s new p q) where
     -- the end is this pair's, or none
-    pub near : ((h : Host) → same_host h p ≡ false → mine_on k (pair_with h s.peers).entries ≡ []) → (ms : List Entry) (l : Bool) → mine_on k q.entries ≡ ms → listens_on k new.listening ≡ l → At a k Near p ms l next → IsFree a k new next ⊎ IsOwned a k new next
+    pub near : ((h : Host) → same_host h p ≡ false → mine_on k (pair_with h s.peers).entries ≡ []) → (ms : List Entry) (l : Bool) → mine_on k q.entries ≡ ms → listens_on k new.listening ≡ l → At a k Near p ms l next → IsFreeSocket a k new next ⊎ IsOwned a k new next
     near others [] l e f h = inl (record { none = put_none; lives = h }) where
       put_none : (g : Host) → mine_on k (pair_with g new.peers).entries ≡ []
       put_none g = by (same_host g p) refl where
@@ -101,7 +101,7 @@ module _ (a : Host) (k : ℕ) where
     near others (x ∷ y ∷ ms) l e f h = absurd h
 
     -- it is another pair's
-    far : (o : IsOwned a k s κ) → same_host o.peer p ≡ false → (ms : List Entry) (l : Bool) → mine_on k q.entries ≡ ms → listens_on k new.listening ≡ l → At a k (Elsewhere o.peer o.end) p ms l next → IsFree a k new next ⊎ IsOwned a k new next
+    far : (o : IsOwned a k s κ) → same_host o.peer p ≡ false → (ms : List Entry) (l : Bool) → mine_on k q.entries ≡ ms → listens_on k new.listening ≡ l → At a k (Elsewhere o.peer o.end) p ms l next → IsFreeSocket a k new next ⊎ IsOwned a k new next
     far o off [] false e f h = inr (record {
       peer = o.peer;
       end = o.end;
@@ -170,16 +170,16 @@ module _ (a : Host) (k : ℕ) where
     t : TurnState
     t = message_taken m.flow.source stamp m.flow.link.0 m.text (turn_of s m.flow.source)
 
-    by : (b : Bool) → Holds (if b then turned s m.flow.source (message_taken m.flow.source stamp m.flow.link.0 m.text (turn_of s m.flow.source)) else (s, [])).0 (all_told a (if b then turned s m.flow.source (message_taken m.flow.source stamp m.flow.link.0 m.text (turn_of s m.flow.source)) else (s, [])).1 κ)
+    by : (b : Bool) → Holds (if b then after_turn s m.flow.source (message_taken m.flow.source stamp m.flow.link.0 m.text (turn_of s m.flow.source)) else (s, [])).0 (all_told a (if b then after_turn s m.flow.source (message_taken m.flow.source stamp m.flow.link.0 m.text (turn_of s m.flow.source)) else (s, [])).1 κ)
     by true = turn_holds s m.flow.source (message_taken m.flow.source stamp m.flow.link.0 m.text (turn_of s m.flow.source)) κ (λ n g. good_message a k n m.flow.source κ stamp m.flow.link.0 m.text (turn_of s m.flow.source) g) h
     by false = h
 
   pub answer_holds : (s : NcpState) (kind : Answer) (f : Flow) (stamp : ℕ) (κ : Kept) → Holds s κ → Holds (accepted s (inbound.Answer kind f) stamp).0 (all_told a (accepted s (inbound.Answer kind f) stamp).1 κ)
   unfolding accepted
   answer_holds s kind f stamp κ h = by (same_host s.own f.source) where
-    by : (b : Bool) → Holds (if b then (if is_busy (pair_with f.destination s.peers).busy f.link.0 then turned s f.destination (answered_turn f.destination kind f.link.0 (turn_of s f.destination)) else (s, [])) else (s, [])).0 (all_told a (if b then (if is_busy (pair_with f.destination s.peers).busy f.link.0 then turned s f.destination (answered_turn f.destination kind f.link.0 (turn_of s f.destination)) else (s, [])) else (s, [])).1 κ)
+    by : (b : Bool) → Holds (if b then (if is_busy (pair_with f.destination s.peers).busy f.link.0 then after_turn s f.destination (answered_turn f.destination kind f.link.0 (turn_of s f.destination)) else (s, [])) else (s, [])).0 (all_told a (if b then (if is_busy (pair_with f.destination s.peers).busy f.link.0 then after_turn s f.destination (answered_turn f.destination kind f.link.0 (turn_of s f.destination)) else (s, [])) else (s, [])).1 κ)
     by true = busy_by (is_busy (pair_with f.destination s.peers).busy f.link.0) where
-      busy_by : (b : Bool) → Holds (if b then turned s f.destination (answered_turn f.destination kind f.link.0 (turn_of s f.destination)) else (s, [])).0 (all_told a (if b then turned s f.destination (answered_turn f.destination kind f.link.0 (turn_of s f.destination)) else (s, [])).1 κ)
+      busy_by : (b : Bool) → Holds (if b then after_turn s f.destination (answered_turn f.destination kind f.link.0 (turn_of s f.destination)) else (s, [])).0 (all_told a (if b then after_turn s f.destination (answered_turn f.destination kind f.link.0 (turn_of s f.destination)) else (s, [])).1 κ)
       busy_by true = turn_holds s f.destination (answered_turn f.destination kind f.link.0 (turn_of s f.destination)) κ (λ n g. good_answer a k n f.destination κ kind f.link.0 (turn_of s f.destination) g) h
       busy_by false = h
     by false = h

@@ -9,9 +9,9 @@ use Rattle.host_pairs.specs.declared.entry.Entry.{Entry}
 use Rattle.sockets.specs.Pairs.{opening_state}
 use Rattle.sockets.specs.Worked.{first, second}
 use Rattle.net_sim.specs.declared.life.Life.{Life}
-use Rattle.net_sim.specs.Book.{carried, ended, granted, new_life, opening_kept, returned}
-use Rattle.world_keeps_lives.specs.Worked.{opened, with_one}
-use Rattle.world_keeps_lives.specs.Lives.{EachOn, HasOpenEnd, IsFree, IsFresh, IsLifeOf, IsOwned, IsSafe, IsSteady, NoneOf}
+use Rattle.net_sim.specs.Book.{carried, life_ended, granted, new_life, opening_kept, returned}
+use Rattle.world_keeps_lives.specs.Worked.{worked_end, with_one}
+use Rattle.world_keeps_lives.specs.Lives.{EachOn, HasOpenEnd, IsFreeSocket, IsFresh, IsLifeOf, IsOwned, IsSafe, IsSteady, NoneOf}
 
 pub row_early : IsFresh (with_more_bits (true ∷ []) (sending_end 33 16 8)) → ⊥
 row_early h = absurd (let r : true ∷ [] ≡ [] = (h refl).0 in cc)
@@ -46,7 +46,7 @@ row_longer h = absurd (omega (arith, (h.within refl).bits))
 pub row_returned : IsSafe (carried (true ∷ []) (returned 1 0 (granted 1 5 (new_life first 16 second 33 6 10)))) [] → ⊥
 row_returned h = absurd (omega (arith, (h.within refl).messages))
 
-pub row_gone : EachOn first 16 NoneOf (ended (new_life first 16 second 33 6 10) ∷ []) ([] ∷ [])
+pub row_gone : EachOn first 16 NoneOf (life_ended (new_life first 16 second 33 6 10) ∷ []) ([] ∷ [])
 row_gone = (
   (λ there. (record { front = λ s. absurd (let q : false ≡ true = s in cc); within = λ r. record { messages = omega arith; bits = omega arith } }, λ goes. absurd (let q : true ≡ false = goes in cc))),
   tt,
@@ -55,7 +55,7 @@ row_gone = (
 pub row_goes : EachOn first 16 NoneOf (new_life first 16 second 33 6 10 ∷ []) ([] ∷ []) → ⊥
 row_goes h = (h.0 refl).1 refl
 
-pub row_life : IsLifeOf second opened (new_life first 16 second 33 6 10) []
+pub row_life : IsLifeOf second worked_end (new_life first 16 second 33 6 10) []
 row_life = record {
   peers = refl;
   foreign = refl;
@@ -69,14 +69,14 @@ number_of : Option ℕ → ℕ
 number_of None = 0
 number_of (Some n) = n
 
-pub row_stamp : IsLifeOf second opened (new_life first 16 second 33 7 10) [] → ⊥
+pub row_stamp : IsLifeOf second worked_end (new_life first 16 second 33 7 10) [] → ⊥
 unfolding number_of
 row_stamp h = absurd (let r : 6 ≡ 7 = ap number_of h.own in omega (arith, r))
 
 pub row_waits : IsLifeOf second (with_more_bits (true ∷ []) (asked_on_link 10 5 (asked_at 6 (sending_end 33 16 8)))) (new_life first 33 second 16 6 10) [] → ⊥
 row_waits h = absurd (let r : [] ≡ true ∷ [] = h.waits refl refl in cc)
 
-pub row_left : IsLifeOf second (commands.granted 1 5 opened) (new_life first 16 second 33 6 10) [] → ⊥
+pub row_left : IsLifeOf second (commands.granted 1 5 worked_end) (new_life first 16 second 33 6 10) [] → ⊥
 row_left h = absurd (omega (arith, (h.left refl).messages))
 
 first_or : Entry → List Entry → Entry
@@ -84,12 +84,12 @@ first_or d [] = d
 first_or d (e ∷ es) = e
 
 pub row_open : HasOpenEnd with_one (new_life first 16 second 33 6 10)
-row_open = record { end = opened; one = refl; others = λ other off. rw off refl; foreign = refl; own = refl; partner = refl }
+row_open = record { end = worked_end; one = refl; others = λ other off. rw off refl; foreign = refl; own = refl; partner = refl }
 
 pub row_other : HasOpenEnd with_one (new_life first 16 second 33 7 10) → ⊥
 unfolding first_or number_of
 row_other h = absurd (
-    let same : opened ≡ h.end = ap (first_or opened) h.one in
+    let same : worked_end ≡ h.end = ap (first_or worked_end) h.one in
     let r : 6 ≡ 7 = ap (λ (e : Entry). number_of e.asked) same ∙ ap number_of h.own in
     omega (arith, r)
     )
@@ -97,11 +97,11 @@ row_other h = absurd (
 pub row_turned : HasOpenEnd with_one (new_life first 33 second 16 6 10) → ⊥
 row_turned h = absurd (let r : [] ≡ h.end ∷ [] = h.one in cc)
 
-pub row_free : IsFree first 16 (opening_state first) opening_kept
+pub row_free : IsFreeSocket first 16 (opening_state first) opening_kept
 row_free = record { none = λ p. refl; lives = tt }
 
-pub row_taken_up : IsFree first 16 with_one opening_kept → ⊥
-row_taken_up h = absurd (let r : opened ∷ [] ≡ [] = h.none second in cc)
+pub row_taken_up : IsFreeSocket first 16 with_one opening_kept → ⊥
+row_taken_up h = absurd (let r : worked_end ∷ [] ≡ [] = h.none second in cc)
 
 pub row_unowned : IsOwned first 16 (opening_state first) opening_kept → ⊥
 row_unowned h = absurd (let r : [] ≡ h.end ∷ [] = h.one in cc)

@@ -7,10 +7,10 @@ use Rattle.leader1822.proofs.lemmas.{same_host-refl}
 use Rattle.ncp_control.specs.Allocation as counters
 use Rattle.ncp_control.specs.declared.allocation.Allocation.{Allocation}
 use Rattle.ncp_control.specs.declared.command.Command.{Command}
-use Rattle.host_pairs.specs.Entries.{called_off, changed_first, close_due, closed_by_partner, closed_when, ending, entry_at, has_cls, is_at, is_ending, is_mine_on, is_over, must_close, opening, opening_by}
-use Rattle.host_pairs.specs.Commands.{answered_on, changed, joined}
+use Rattle.host_pairs.specs.Entries.{called_off, changed_first, close_due, closed_by_partner, closed_when, ending, entry_at, has_cls, is_at, is_ending, is_mine_on, is_over, must_close, opening_notices, opening_by}
+use Rattle.host_pairs.specs.Commands.{answered_on, changed, entry_joined}
 use Rattle.host_pairs.specs.Parcels.{cls_sent}
-use Rattle.host_pairs.specs.Desk.{DeskState, listener_on, listens_on, queued, settled, swept, told}
+use Rattle.host_pairs.specs.Desk.{DeskState, listener_on, listens_on, command_queued, settled, swept, desk_told}
 use Rattle.host_pairs.specs.declared.entry.Closing.{Closing}
 use Rattle.host_pairs.specs.declared.entry.Closing.TheVariants as closing
 use Rattle.host_pairs.specs.declared.entry.Entry.{Entry}
@@ -101,14 +101,14 @@ module _ (a : Host) (k : ℕ) (m : Place) (p : Host) (k0 : Kept) where
   good_if true d e h k = h
   good_if false d e h k = k
 
-  pub good_queued : (c : Command) (d : DeskState) → Good d → Good (queued c d)
+  pub good_queued : (c : Command) (d : DeskState) → Good d → Good (command_queued c d)
   good_queued c d h = record { refusing = h.refusing; on = h.on }
 
   -- what is told of something done, where the rest is done
-  pub told_on : (ns : List Notice) (d : DeskState) → AreRefusing d.entries → At a k m p (mine_on k d.entries) (listens_on k d.listening) (all_told a ns (all_told a d.notices k0)) → Good (told ns d)
+  pub told_on : (ns : List Notice) (d : DeskState) → AreRefusing d.entries → At a k m p (mine_on k d.entries) (listens_on k d.listening) (all_told a ns (all_told a d.notices k0)) → Good (desk_told ns d)
   told_on ns d r h = record { refusing = r; on = subst (λ (κ : Kept). At a k m p (mine_on k d.entries) (listens_on k d.listening) κ) (sym (all_told_append a d.notices ns k0)) h }
 
-  pub good_aside : (ns : List Notice) (d : DeskState) → AreAside a k ns → Good d → Good (told ns d)
+  pub good_aside : (ns : List Notice) (d : DeskState) → AreAside a k ns → Good d → Good (desk_told ns d)
   good_aside ns d off h = told_on ns d h.refusing (at_aside a k m p (mine_on k d.entries) (listens_on k d.listening) ns (all_told a d.notices k0) off h.on)
 
   pub good_less : (test : Entry → Bool) (change : Entry → Entry) (d : DeskState) → ((e : Entry) → IsLess e (change e)) → ((e : Entry) → IsRefusing e → IsRefusing (change e)) → Good d → Good (changed test change d)
@@ -121,7 +121,7 @@ module _ (a : Host) (k : ℕ) (m : Place) (p : Host) (k0 : Kept) where
   pub good_changed : (test : Entry → Bool) (change : Entry → Entry) (ns : List Notice) (d : DeskState) (e : Entry) → find test d.entries ≡ Some e → is_mine_on k (change e) ≡ is_mine_on k e → ((e : Entry) → IsRefusing e → IsRefusing (change e))
       → (is_mine_on k e ≡ true → (l : Bool) (κ : Kept) → At a k m p (e ∷ []) l κ → At a k m p (change e ∷ []) l (all_told a ns κ))
       → (is_mine_on k e ≡ false → AreAside a k ns)
-      → Good d → Good (told ns (changed test change d))
+      → Good d → Good (desk_told ns (changed test change d))
   good_changed test change ns d e found keeps refuses here away h =
       told_on ns (changed test change d) (refusing_changed test change d.entries refuses h.refusing)
       (at_changed a k m p test change d.entries (listens_on k d.listening) (all_told a d.notices k0) (all_told a ns (all_told a d.notices k0)) e found keeps
@@ -140,7 +140,7 @@ module _ (a : Host) (k : ℕ) (m : Place) (p : Host) (k0 : Kept) where
   -- ---- new ends
 
   -- one that isn't this host's own
-  pub good_foreign : (e : Entry) (d : DeskState) → e.mine ≡ false → has_cls e.closing ≡ true → Good d → Good (joined e d)
+  pub good_foreign : (e : Entry) (d : DeskState) → e.mine ≡ false → has_cls e.closing ≡ true → Good d → Good (entry_joined e d)
   good_foreign e d mine cls h =
       let off : is_mine_on k e ≡ false = ap (λ (b : Bool). b && e.own == k) mine in
       let same : mine_on k (d.entries ++ e ∷ []) ≡ mine_on k d.entries = mine_append k d.entries (e ∷ []) ∙ ap (λ (ys : List Entry). mine_on k d.entries ++ ys) (mine_one k e [] false off) ∙ append-nil (mine_on k d.entries) in
@@ -159,7 +159,7 @@ module _ (a : Host) (k : ℕ) (m : Place) (p : Host) (k0 : Kept) where
     by (Elsewhere q y) (f ∷ ms) i = absurd i
 
   -- one of this host's own, on a socket that listened
-  pub good_joined : (e : Entry) (l : Listener) (d : DeskState) → e.mine ≡ true → IsFresh e → listener_on e.own d.listening ≡ Some l → Good d → Good (joined e (answered_on e.own d))
+  pub good_joined : (e : Entry) (l : Listener) (d : DeskState) → e.mine ≡ true → IsFresh e → listener_on e.own d.listening ≡ Some l → Good d → Good (entry_joined e (answered_on e.own d))
   good_joined e l d mine fresh listens h = record { refusing = refusing_append d.entries (e ∷ []) h.refusing ((λ f. clash _ e.mine mine f), tt); on = by (e.own == k) refl } where
     is : (b : Bool) → (e.own == k) ≡ b → is_mine_on k e ≡ b
     is b f = ap (λ (c : Bool). c && e.own == k) mine ∙ f
@@ -167,7 +167,7 @@ module _ (a : Host) (k : ℕ) (m : Place) (p : Host) (k0 : Kept) where
     grown : (b : Bool) → (e.own == k) ≡ b → mine_on k (d.entries ++ e ∷ []) ≡ mine_on k d.entries ++ (if b then e ∷ [] else [])
     grown b f = mine_append k d.entries (e ∷ []) ∙ ap (λ (ys : List Entry). mine_on k d.entries ++ ys) (mine_one k e [] b (is b f))
 
-    by : (b : Bool) → (e.own == k) ≡ b → On (joined e (answered_on e.own d))
+    by : (b : Bool) → (e.own == k) ≡ b → On (entry_joined e (answered_on e.own d))
     by true f =
         let own : e.own ≡ k = own_is k e (is true f) in
         let was : listens_on k d.listening ≡ true = subst (λ (n : ℕ). listens_on n d.listening ≡ true) own (listens_found e.own d.listening l listens) in
@@ -330,11 +330,11 @@ module _ (a : Host) (k : ℕ) (m : Place) (p : Host) (k0 : Kept) where
   -- an end that wasn't open has a request that it lacked
   pub good_opening : (x y : ℕ) (change : Entry → Entry) (d : DeskState) (e : Entry) → entry_at x y d.entries ≡ Some e → has_opened e ≡ false → is_mine_on k (change e) ≡ is_mine_on k e → is_at x y (change e) ≡ is_at x y e
       → (change e).bits ≡ e.bits → (change e).allocation ≡ e.allocation → ((e : Entry) → IsRefusing e → IsRefusing (change e)) → Good d
-      → Good (told (opening p (entry_at x y (changed_first (is_at x y) change d.entries))) (changed (is_at x y) change d))
+      → Good (desk_told (opening_notices p (entry_at x y (changed_first (is_at x y) change d.entries))) (changed (is_at x y) change d))
   good_opening x y change d e found lacks keeps at bits allocation refuses h =
       let passes : is_at x y (change e) ≡ true = at ∙ passed in
       let there : entry_at x y (changed_first (is_at x y) change d.entries) ≡ Some (change e) = found_changed (is_at x y) change d.entries e found passes in
-      subst (λ (o : Option Entry). Good (told (opening p o) (changed (is_at x y) change d))) (sym there)
+      subst (λ (o : Option Entry). Good (desk_told (opening_notices p o) (changed (is_at x y) change d))) (sym there)
       (good_changed (is_at x y) change (opening_by p (change e) (change e).asked (change e).partner) d e found keeps refuses
       (λ is l κ i. at_opening e (change e) l κ lacks bits allocation i)
       (λ is. opening_aside (change e) (change e).asked (change e).partner (refuses e (refusing_found (is_at x y) d.entries e h.refusing found)) (keeps ∙ is)) h) where

@@ -13,10 +13,10 @@ use Rattle.ncp_control.specs.declared.command.Command.{Command}
 use Rattle.ncp_control.specs.declared.command.Command.TheVariants as command
 use Rattle.ncp_control.specs.declared.data_header.DataHeader.{DataHeader}
 use Rattle.host_pairs.specs.Commands as commands
-use Rattle.host_pairs.specs.Commands.{answered_on, asked_on_link, asked_with_size, at_end, changed, closed_once, cls_taken_by, found_in, gvb_taken, interrupted, matched_once, receiver_on, ret_taken, returned, rts_heard, rts_taken, rts_taken_by, sender_on, str_heard, str_linked, str_taken_by, taken}
+use Rattle.host_pairs.specs.Commands.{answered_on, asked_on_link, asked_with_size, at_end, changed, closed_once, cls_taken_by, found_in, gvb_taken, interrupted, matched_once, receiver_on, ret_taken, returned, rts_heard, rts_taken, rts_taken_by, sender_on, str_heard, str_linked, str_taken_by, desk_taken}
 use Rattle.host_pairs.specs.Control.{ERRONEOUS, NOT_CONNECTED, NO_SOCKET, error}
 use Rattle.host_pairs.specs.Data.{arrived, arrived_if, data_found, data_of, data_taken, is_acceptable, is_covered, spent, text_faulted}
-use Rattle.host_pairs.specs.Desk.{DeskState, listener_on, settled, swept, told}
+use Rattle.host_pairs.specs.Desk.{DeskState, listener_on, settled, swept, desk_told}
 use Rattle.host_pairs.specs.Entries.{closed_by_partner, entry_at, free_link, is_at, is_ending, is_link, is_mine_on, is_open, is_receiving, is_size, receiving_end, receives_on, refused_end, sending_end, sends_on}
 use Rattle.host_pairs.specs.declared.entry.Entry.{Entry}
 use Rattle.host_pairs.specs.declared.listener.Listener.{Listener}
@@ -138,13 +138,13 @@ module _ (a : Host) (k : ℕ) (m : Place) (p : Host) (k0 : Kept) where
 
   good_refused : (x y stamp : ℕ) (d : DeskState) → G d → G (commands.refused x y stamp d)
   good_refused x y stamp d h =
-      let joined : G (commands.joined (refused_end x y stamp) d) = good_foreign a k m p k0 (refused_end x y stamp) d refl refl h in
+      let joined : G (commands.entry_joined (refused_end x y stamp) d) = good_foreign a k m p k0 (refused_end x y stamp) d refl refl h in
       record { refusing = joined.refusing; on = joined.on }
 
   good_rts_heard : (x y link stamp : ℕ) (l : Option Listener) (d : DeskState) → listener_on x d.listening ≡ l → G d → G (rts_heard x y link stamp l d)
   good_rts_heard x y link stamp None d is h = good_refused x y stamp d h
   good_rts_heard x y link stamp (Some l) d is h =
-      let joined : G (commands.joined (asked_on_link stamp link (sending_end x y l.size)) (answered_on x d)) =
+      let joined : G (commands.entry_joined (asked_on_link stamp link (sending_end x y l.size)) (answered_on x d)) =
       good_joined a k m p k0 (asked_on_link stamp link (sending_end x y l.size)) l d refl (λ f. (refl, refl)) is h in
       record { refusing = joined.refusing; on = joined.on }
 
@@ -160,7 +160,7 @@ module _ (a : Host) (k : ℕ) (m : Place) (p : Host) (k0 : Kept) where
   good_str_linked : (x y size stamp : ℕ) (l : Listener) (link : Option ℕ) (d : DeskState) → listener_on x d.listening ≡ Some l → G d → G (str_linked x y size stamp link d)
   good_str_linked x y size stamp l None d is h = good_refused x y stamp d h
   good_str_linked x y size stamp l (Some link) d is h =
-      let joined : G (commands.joined (asked_with_size stamp size (receiving_end x y link)) (answered_on x d)) =
+      let joined : G (commands.entry_joined (asked_with_size stamp size (receiving_end x y link)) (answered_on x d)) =
       good_joined a k m p k0 (asked_with_size stamp size (receiving_end x y link)) l d refl (λ f. (refl, refl)) is h in
       record { refusing = joined.refusing; on = joined.on }
 
@@ -216,7 +216,7 @@ module _ (a : Host) (k : ℕ) (m : Place) (p : Host) (k0 : Kept) where
     mine = open_mine e (refusing_found (receives_on link) d.entries e h.refusing f) o
 
     by : (b : Bool) → (nat_le messages e.allocation.messages && nat_le bits e.allocation.bits) ≡ b
-        → G (if b then told (notice.Returned e.own messages bits ∷ []) (changed (receives_on link) (returned messages bits) d) else commands.faulted ERRONEOUS (command.Ret link messages bits) d)
+        → G (if b then desk_told (notice.Returned e.own messages bits ∷ []) (changed (receives_on link) (returned messages bits) d) else commands.faulted ERRONEOUS (command.Ret link messages bits) d)
     by true fits =
         let ok : (nat_le messages e.allocation.messages ≡ true) × (nat_le bits e.allocation.bits ≡ true) = both (nat_le messages e.allocation.messages) (nat_le bits e.allocation.bits) fits in
         let fewer : messages ≤ e.allocation.messages = leb-true messages e.allocation.messages ok.0 in
@@ -230,7 +230,7 @@ module _ (a : Host) (k : ℕ) (m : Place) (p : Host) (k0 : Kept) where
 
   -- ---- all commands
 
-  pub good_taken : (busy : List ℕ) (stamp : ℕ) (c : Command) (d : DeskState) → G d → G (taken p busy stamp c d)
+  pub good_taken : (busy : List ℕ) (stamp : ℕ) (c : Command) (d : DeskState) → G d → G (desk_taken p busy stamp c d)
   good_taken busy stamp command.Nop d h = h
   good_taken busy stamp (command.Rts receive send link) d h = good_rts send receive link stamp d h
   good_taken busy stamp (command.Str send receive size) d h = good_str_by receive send size stamp (entry_at receive send d.entries) d refl h

@@ -6,10 +6,10 @@ use Rattle.leader1822.specs.declared.crossing.Answer.TheVariants as answer
 use Rattle.leader1822.proofs.lemmas.{same_host-refl}
 use Rattle.ncp_control.specs.declared.command.Command.{Command}
 use Rattle.ncp_control.specs.declared.command.Command.TheVariants as command
-use Rattle.host_pairs.specs.Commands.{taken}
+use Rattle.host_pairs.specs.Commands.{desk_taken}
 use Rattle.host_pairs.specs.Control.{Legal, Order, Wrong, error, orders_of}
 use Rattle.host_pairs.specs.Data.{data_taken}
-use Rattle.host_pairs.specs.Desk.{DeskState, desk_of, listens_on, queued, settled}
+use Rattle.host_pairs.specs.Desk.{DeskState, desk_of, listens_on, command_queued, settled}
 use Rattle.host_pairs.specs.Phases.{is_ready, reply_phase, taken_phase}
 use Rattle.host_pairs.specs.Turn.{TurnState, answered_turn, closed, command_taken, failed, failed_by, freed, if_ready, is_gone, message_taken, order_taken, orders_taken, reply_notices, reply_taken, reset_notices, reset_taken, settled_turn, with_desk}
 use Rattle.host_pairs.specs.Entries.{closed_when, must_close}
@@ -127,8 +127,8 @@ module _ (a : Host) (k : ℕ) (m : Place) (p : Host) (k0 : Kept) where
 
   -- ---- messages
 
-  good_command : (stamp : ℕ) (c : Command) (t : TurnState) → GoodTurn t → GoodTurn (if_ready (taken p t.pair.busy stamp c) t)
-  good_command stamp c t h = good_ready (taken p t.pair.busy stamp c) t (good_taken a k m p (all_told a t.notices k0) t.pair.busy stamp c (desk_of t.pair t.listening)) h
+  good_command : (stamp : ℕ) (c : Command) (t : TurnState) → GoodTurn t → GoodTurn (if_ready (desk_taken p t.pair.busy stamp c) t)
+  good_command stamp c t h = good_ready (desk_taken p t.pair.busy stamp c) t (good_taken a k m p (all_told a t.notices k0) t.pair.busy stamp c (desk_of t.pair t.listening)) h
 
   good_legal : (stamp : ℕ) (c : Command) (t : TurnState) → GoodTurn t → GoodTurn (command_taken p stamp c t)
   good_legal stamp command.Nop t h = good_command stamp command.Nop t h
@@ -148,7 +148,7 @@ module _ (a : Host) (k : ℕ) (m : Place) (p : Host) (k0 : Kept) where
 
   good_order : (stamp : ℕ) (o : Order) (t : TurnState) → GoodTurn t → GoodTurn (order_taken p stamp o t)
   good_order stamp (Legal c) t h = good_legal stamp c t h
-  good_order stamp (Wrong code octets) t h = good_ready (queued (error code octets)) t (good_queued a k m p (all_told a t.notices k0) (error code octets) (desk_of t.pair t.listening)) h
+  good_order stamp (Wrong code octets) t h = good_ready (command_queued (error code octets)) t (good_queued a k m p (all_told a t.notices k0) (error code octets) (desk_of t.pair t.listening)) h
 
   good_orders : (stamp : ℕ) (os : List Order) (t : TurnState) → GoodTurn t → GoodTurn (orders_taken p stamp os t)
   good_orders stamp [] t h = h

@@ -66,7 +66,7 @@ NoneOf x handed = ⊥
 -- ---- a socket
 
 -- a host has no end on a socket, and no life there goes on
-pub record IsFree (h : Host) (socket : ℕ) (s : NcpState) (k : Kept) : Type 0 where
+pub record IsFreeSocket (h : Host) (socket : ℕ) (s : NcpState) (k : Kept) : Type 0 where
   pub none : (peer : Host) → mine_on socket (pair_with peer s.peers).entries ≡ []
   pub lives : EachIn h socket NoneOf k
 

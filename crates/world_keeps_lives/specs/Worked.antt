@@ -10,8 +10,8 @@ use Rattle.sockets.specs.Pairs.{NcpState, opening_state}
 use Rattle.sockets.specs.Worked.{first, second}
 
 -- it receives on socket 16: its RTS went out at place 6, and the STR was taken at place 10
-abbrev pub opened : Entry
-opened = asked_with_size 10 8 (asked_at 6 (receiving_end 16 33 5))
+abbrev pub worked_end : Entry
+worked_end = asked_with_size 10 8 (asked_at 6 (receiving_end 16 33 5))
 
 abbrev pub with_one : NcpState
-with_one = record (opening_state first) { peers = record { host = second; pair = record opening_pair { phase = phase.Ready; entries = opened ∷ [] } } ∷ [] }
+with_one = record (opening_state first) { peers = record { host = second; pair = record opening_pair { phase = phase.Ready; entries = worked_end ∷ [] } } ∷ [] }

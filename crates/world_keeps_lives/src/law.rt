@@ -18,16 +18,16 @@ ghost use Rattle.host_pairs.specs.Parcels.{asked_at};
 ghost use Rattle.host_pairs.specs.declared.entry.Closing.TheVariants as closing;
 ghost use Rattle.sockets.specs.Pairs.{opening_state};
 ghost use Rattle.sockets.specs.Worked.{first, second};
-ghost use Rattle.net_sim.specs.Book.{carried, ended, granted, new_life, opening_kept, returned};
-ghost use Rattle.world_keeps_lives.specs.Lives.{AreRefusing, EachOn, HasOpenEnd, IsFree, IsFresh, IsLifeOf, IsOwned, IsSafe, IsSteady, NoneOf, at_socket, mine_on};
-ghost use Rattle.world_keeps_lives.specs.Worked.{opened, with_one};
+ghost use Rattle.net_sim.specs.Book.{carried, life_ended, granted, new_life, opening_kept, returned};
+ghost use Rattle.world_keeps_lives.specs.Lives.{AreRefusing, EachOn, HasOpenEnd, IsFreeSocket, IsFresh, IsLifeOf, IsOwned, IsSafe, IsSteady, NoneOf, at_socket, mine_on};
+ghost use Rattle.world_keeps_lives.specs.Worked.{worked_end, with_one};
 
 use leader1822::Carrier;
 
 /// What each host has, over every list of moments in which what crosses is a run of the mailboxes.
 pub fn programs()
     // each of its sockets is free, or has one end of the host's own, whose lives are all that go on there
-    ensures sockets { (hosts : List Host) (moments : List Moment) → HaveAddresses hosts → mail.IsRun hosts (crossings_of moments) → IsTimeline hosts moments → (h : Host) (socket : ℕ) → IsFree h socket (program h moments) (kept_in moments) ⊎ IsOwned h socket (program h moments) (kept_in moments) }
+    ensures sockets { (hosts : List Host) (moments : List Moment) → HaveAddresses hosts → mail.IsRun hosts (crossings_of moments) → IsTimeline hosts moments → (h : Host) (socket : ℕ) → IsFreeSocket h socket (program h moments) (kept_in moments) ⊎ IsOwned h socket (program h moments) (kept_in moments) }
 
     // ends that aren't its own refuse, and pairs that aren't through a reset have none
     ensures steady { (hosts : List Host) (moments : List Moment) → HaveAddresses hosts → mail.IsRun hosts (crossings_of moments) → IsTimeline hosts moments → (h : Host) → IsSteady (program h moments) }
@@ -77,21 +77,21 @@ pub fn worked_lives()
     ensures returned { IsSafe (carried (true ∷ []) (returned 1 0 (granted 1 5 (new_life first 16 second 33 6 10)))) [] → ⊥ }
 
     // one that has ended is still of its socket, and of no other socket or host
-    ensures here { at_socket first 16 (ended (new_life first 16 second 33 6 10)) ≡ true }
+    ensures here { at_socket first 16 (life_ended (new_life first 16 second 33 6 10)) ≡ true }
     ensures elsewhere { (at_socket second 16 (new_life first 16 second 33 6 10) ≡ false) × (at_socket first 18 (new_life first 16 second 33 6 10) ≡ false) }
 
     // where none goes on, those that have ended are safe; each has what was handed over in it
-    ensures gone { EachOn first 16 NoneOf (ended (new_life first 16 second 33 6 10) ∷ []) ([] ∷ []) }
+    ensures gone { EachOn first 16 NoneOf (life_ended (new_life first 16 second 33 6 10) ∷ []) ([] ∷ []) }
     ensures goes { EachOn first 16 NoneOf (new_life first 16 second 33 6 10 ∷ []) ([] ∷ []) → ⊥ }
     ensures unequal { EachOn first 16 NoneOf [] ([] ∷ []) → ⊥ }
 
     // a life is that of the end with its two stamps
-    ensures life { IsLifeOf second opened (new_life first 16 second 33 6 10) [] }
-    ensures stamp { IsLifeOf second opened (new_life first 16 second 33 7 10) [] → ⊥ }
+    ensures life { IsLifeOf second worked_end (new_life first 16 second 33 6 10) [] }
+    ensures stamp { IsLifeOf second worked_end (new_life first 16 second 33 7 10) [] → ⊥ }
 
     // what waits on it was handed over, and what is left of its grants was granted
     ensures waits { IsLifeOf second (with_more_bits (true ∷ []) (commands.asked_on_link 10 5 (asked_at 6 (sending_end 33 16 8)))) (new_life first 33 second 16 6 10) [] → ⊥ }
-    ensures left { IsLifeOf second (commands.granted 1 5 opened) (new_life first 16 second 33 6 10) [] → ⊥ }
+    ensures left { IsLifeOf second (commands.granted 1 5 worked_end) (new_life first 16 second 33 6 10) [] → ⊥ }
 {}
 
 /// A program with one open end, and one that starts.
@@ -102,8 +102,8 @@ pub fn worked_programs()
     ensures turned { HasOpenEnd with_one (new_life first 33 second 16 6 10) → ⊥ }
 
     // a program that starts has each socket free
-    ensures free { IsFree first 16 (opening_state first) opening_kept }
-    ensures taken_up { IsFree first 16 with_one opening_kept → ⊥ }
+    ensures free { IsFreeSocket first 16 (opening_state first) opening_kept }
+    ensures taken_up { IsFreeSocket first 16 with_one opening_kept → ⊥ }
     ensures unowned { IsOwned first 16 (opening_state first) opening_kept → ⊥ }
     ensures steady { IsSteady (opening_state first) }
 {}

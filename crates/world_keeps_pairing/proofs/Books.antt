@@ -14,7 +14,7 @@ use Rattle.sockets.specs.declared.request.Request.TheVariants as request
 use Rattle.host_keeps_pairing.specs.Openings.{with_opening, with_openings}
 use Rattle.pairing_law.specs.Sides.{Life}
 use Rattle.net_sim.specs.declared.life.Life as book
-use Rattle.net_sim.specs.Book.{Kept, all_told, changed_when, ended, carried, granted, returned, lives_asked, lives_at, lives_between, lives_crossed, lives_on, lives_told, lives_with, new_life, told, where_it}
+use Rattle.net_sim.specs.Book.{Kept, all_told, changed_when, life_ended, carried, granted, returned, lives_asked, lives_at, lives_between, lives_crossed, lives_on, lives_told, lives_with, new_life, book_told, where_it}
 use Rattle.net_sim.specs.Story.{Moment, Crossed, Asked}
 use Rattle.net_sim.specs.Told.{host_in, kept_by, kept_in, notices_by}
 use Rattle.world_keeps_pairing.specs.Lives.{with_life, with_lives}
@@ -67,8 +67,8 @@ module _ (origin : ℕ → ℕ) (h p : Host) (own foreign : ℕ) where
   notice_lives g (notice.Opened socket peer other asked partner) xs =
       lives_append xs (new_life g socket peer other asked partner) []
       ∙ if_both (same_host h g) (same_host p peer && (socket == own && other == foreign)) (record { own = asked; partner = origin partner }) (Here xs)
-  notice_lives g (notice.Ended socket peer other) xs = where_same (lives_between g socket peer other) ended (λ x told. refl) xs [] ∙ if_same (same_host h g) (Here xs)
-  notice_lives g (notice.PairReset peer) xs = where_same (lives_with g peer) ended (λ x told. refl) xs [] ∙ if_same (same_host h g) (Here xs)
+  notice_lives g (notice.Ended socket peer other) xs = where_same (lives_between g socket peer other) life_ended (λ x told. refl) xs [] ∙ if_same (same_host h g) (Here xs)
+  notice_lives g (notice.PairReset peer) xs = where_same (lives_with g peer) life_ended (λ x told. refl) xs [] ∙ if_same (same_host h g) (Here xs)
   notice_lives g (notice.Sent socket bits) xs = where_same (lives_at g socket) (carried bits) (λ x told. refl) xs [] ∙ if_same (same_host h g) (Here xs)
   notice_lives g (notice.Arrived socket bits) xs = where_same (lives_at g socket) (carried bits) (λ x told. refl) xs [] ∙ if_same (same_host h g) (Here xs)
   notice_lives g (notice.Returned socket messages bits) xs = where_same (lives_at g socket) (returned messages bits) (λ x told. refl) xs [] ∙ if_same (same_host h g) (Here xs)
@@ -85,12 +85,12 @@ module _ (origin : ℕ → ℕ) (h p : Host) (own foreign : ℕ) where
   told_lives : (g : Host) (ns : List Notice) (k : Kept) → Here (all_told g ns k).book.lives ≡ (if same_host h g then all_of_peer ns (Here k.book.lives) else Here k.book.lives)
   told_lives g [] k = if_same (same_host h g) (Here k.book.lives)
   told_lives g (n ∷ ns) k =
-      told_lives g ns (told g n k) ∙ told_on (same_host h g) n ns (Here (lives_told g n k.book.lives)) (Here k.book.lives) (notice_lives g n k.book.lives)
+      told_lives g ns (book_told g n k) ∙ told_on (same_host h g) n ns (Here (lives_told g n k.book.lives)) (Here k.book.lives) (notice_lives g n k.book.lives)
 
   -- ---- a moment
 
   crossed_same : (c : Crossing) (xs : List book.Life) → Here (lives_crossed c xs) ≡ Here xs
-  crossed_same (crossing.Down g) xs = where_same (lives_on g) ended (λ x told. refl) xs []
+  crossed_same (crossing.Down g) xs = where_same (lives_on g) life_ended (λ x told. refl) xs []
   crossed_same (crossing.Up g) xs = refl
   crossed_same (crossing.Out m) xs = refl
   crossed_same (crossing.In m) xs = refl

@@ -2,11 +2,11 @@
 use Rattle.std.proofs.Common.{◌≡◌, ◌⊎◌, inl, inr, ℕ, ◌<◌, ◌≤◌, ◌==◌, Bool, true, false, if◌then◌else◌, List, [], ◌∷◌, Option, Some, None, refl, ap, sym, subst, ◌∙◌, eq-eqb, arith}
 use Rattle.std.proofs.lemmas.Bool.{eqb-true}
 use Rattle.host_pairs.proofs.lemmas.{both}
-use Rattle.pairing_law.specs.Ends.{End, nothing, fits, gone, taken}
+use Rattle.pairing_law.specs.Ends.{End, nothing, fits, gone, mark_taken}
 use Rattle.pairing_law.specs.Marks.{Mark, Ask, Close, closes, Asks}
 use Rattle.pairing_law.specs.Sides as sides
 use Rattle.pairing_law.specs.Sides.{Side, One, Two, Say, says, hears}
-use Rattle.pairing_law.specs.Links.{Sockets, same, Word, Who, Receiver, Sender, Step, Says, Hears, Leaves, Meets, receiver, sender, events_at, with_event, stays, said, heard, IsAmong, AreSteps}
+use Rattle.pairing_law.specs.Links.{Sockets, same, Word, Who, Receiver, Sender, Step, Says, Hears, Leaves, Meets, receiver, sender, events_at, with_event, stays, said_words, heard_words, IsAmong, AreSteps}
 use Rattle.pairing_law.specs.Links as links
 use Rattle.pairing_law.proofs.lemmas.{BothSeen, Joined, at, below_asks, joined_at, joined_fits, joined_run, put, run_at, seen, turned}
 
@@ -69,9 +69,9 @@ among_asks t link q (w ∷ words) (inl e) =
     (closes (at t words), subst (λ (b : Bool). Asks (closes (at t words)) q (put b (Ask q) (at t words))) (sym (same_self t)) (inl (refl, refl)))
 among_asks t link q (w ∷ words) (inr i) = let a : (k : ℕ) × Asks k q (at t words) = among_asks t link q words i in (a.0, asks_put (same t w.sockets) w.mark a.0 q (at t words) a.1)
 
-among_below : (t : Sockets) (xs : List Step) → AreSteps xs → (link q : ℕ) → IsAmong (record { sockets = t; link = link; mark = Ask q }) (said Receiver xs) → q < (receiver t xs).next
+among_below : (t : Sockets) (xs : List Step) → AreSteps xs → (link q : ℕ) → IsAmong (record { sockets = t; link = link; mark = Ask q }) (said_words Receiver xs) → q < (receiver t xs).next
 among_below t xs r link q i =
-    let a : (k : ℕ) × Asks k q (at t (said Receiver xs)) = among_asks t link q (said Receiver xs) i in
+    let a : (k : ℕ) × Asks k q (at t (said_words Receiver xs)) = among_asks t link q (said_words Receiver xs) i in
     let h : BothSeen t xs = seen t xs in
     let j : Joined (receiver t xs) (sender t xs) = joined_at t xs r in
     below_asks a.0 (receiver t xs).next q (receiver t xs).said j.here.below (subst (λ (z : List Mark). Asks a.0 q z) (sym h.receiver.said) a.1)
@@ -79,7 +79,7 @@ among_below t xs r link q i =
 -- ---- what an end asked for, it claimed last
 
 abbrev Named : Sockets → ℕ → ℕ → List Step → Type 0
-Named t p link xs = ((receiver t xs).end.asked ≡ Some p) × IsAmong (record { sockets = t; link = link; mark = Ask p }) (said Receiver xs)
+Named t p link xs = ((receiver t xs).end.asked ≡ Some p) × IsAmong (record { sockets = t; link = link; mark = Ask p }) (said_words Receiver xs)
 
 abbrev IsLast : Sockets → ℕ → List Step → Type 0
 IsLast t link xs = last_link t (said_claims xs) ≡ Some link
@@ -95,7 +95,7 @@ gone_asked Close x p not_ask e = by x.taken e where
   by true f = absurd (let both : None ≡ Some p = f in cc)
   by false f = f
 
-taken_asked : (m : Mark) (x : End) (p : ℕ) → (b : Bool) → (if b then taken m x else x).asked ≡ Some p → x.asked ≡ Some p
+taken_asked : (m : Mark) (x : End) (p : ℕ) → (b : Bool) → (if b then mark_taken m x else x).asked ≡ Some p → x.asked ≡ Some p
 taken_asked (Ask q) x p true e = e
 taken_asked Close x p true e = by x.gone e where
   by : (c : Bool) → (if c then nothing else record x { taken = true }).asked ≡ Some p → x.asked ≡ Some p
@@ -105,13 +105,13 @@ taken_asked m x p false e = e
 
 -- a host says a word
 says_last : (t : Sockets) (w : Word) (xs : List Step) → AreSteps (Says Receiver w ∷ xs) → (p link : ℕ) → (Named t p link xs → IsLast t link xs) → (b : Bool) → same t w.sockets ≡ b → (m : Mark) → w.mark ≡ m
-    → ((sides.both (with_event (links.when b (One (Say m))) (events_at t xs))).one.end.asked ≡ Some p) → IsAmong (word_of t link p) (if stays Receiver xs then w ∷ said Receiver xs else said Receiver xs)
+    → ((sides.both (with_event (links.when b (One (Say m))) (events_at t xs))).one.end.asked ≡ Some p) → IsAmong (word_of t link p) (if stays Receiver xs then w ∷ said_words Receiver xs else said_words Receiver xs)
     → last_link t (claimed m w.sockets w.link (said_claims xs)) ≡ Some link
 says_last t w xs r p link k true e (Ask q) f asked among =
     let is : t ≡ w.sockets = same_true t w.sockets e in
     let same_place : q ≡ p = some_same q p asked in
     let found : last_link t (claimed (Ask q) w.sockets w.link (said_claims xs)) ≡ Some w.link = rw e refl in
-    elim (in_if (stays Receiver xs) w (record { sockets = t; link = link; mark = Ask p }) (said Receiver xs) among) [
+    elim (in_if (stays Receiver xs) w (record { sockets = t; link = link; mark = Ask p }) (said_words Receiver xs) among) [
       | inl i ↦ found ∙ ap (λ (v : Word). Some v.link) (sym i)
       | inr i ↦
           (let low : p < (receiver t xs).next = among_below t xs r.1 link p i in
@@ -119,13 +119,13 @@ says_last t w xs r p link k true e (Ask q) f asked among =
           absurd (omega (arith, low, later, same_place)))
     ]
 says_last t w xs r p link k true e Close f asked among =
-    elim (in_if (stays Receiver xs) w (record { sockets = t; link = link; mark = Ask p }) (said Receiver xs) among) [
+    elim (in_if (stays Receiver xs) w (record { sockets = t; link = link; mark = Ask p }) (said_words Receiver xs) among) [
       | inl i ↦ absurd (let both : Ask p ≡ Close = ap (λ (v : Word). v.mark) i ∙ f in cc)
       | inr i ↦ k (gone_asked Close (receiver t xs).end p (λ q is. (let both : Close ≡ Ask q = is in absurd (cc))) asked, i)
     ]
 says_last t w xs r p link k false e m f asked among =
     let skip : last_link t (claimed m w.sockets w.link (said_claims xs)) ≡ last_link t (said_claims xs) = skipped m in
-    elim (in_if (stays Receiver xs) w (record { sockets = t; link = link; mark = Ask p }) (said Receiver xs) among) [
+    elim (in_if (stays Receiver xs) w (record { sockets = t; link = link; mark = Ask p }) (said_words Receiver xs) among) [
       | inl i ↦ absurd (let both : true ≡ false = sym (same_self t) ∙ ap (λ (v : Word). same t v.sockets) i ∙ e in cc)
       | inr i ↦ skip ∙ k (asked, i)
     ] where
@@ -157,7 +157,7 @@ abbrev Heard : Sockets → ℕ → ℕ → List Step → Type 0
 Heard t p link xs = ((sender t xs).end.partner ≡ Some p) × (last_link t (heard_claims xs) ≡ Some link)
 
 abbrev Among : Sockets → ℕ → ℕ → List Step → Type 0
-Among t p link xs = IsAmong (record { sockets = t; link = link; mark = Ask p }) (heard Sender xs)
+Among t p link xs = IsAmong (record { sockets = t; link = link; mark = Ask p }) (heard_words Sender xs)
 
 gone_partner : (m : Mark) (x : End) (p : ℕ) → (gone m x).partner ≡ Some p → x.partner ≡ Some p
 gone_partner (Ask q) x p e = e
@@ -166,7 +166,7 @@ gone_partner Close x p e = by x.taken e where
   by true f = absurd (let both : None ≡ Some p = f in cc)
   by false f = f
 
-close_partner : (x : End) (p : ℕ) (b : Bool) → (if b then taken Close x else x).partner ≡ Some p → x.partner ≡ Some p
+close_partner : (x : End) (p : ℕ) (b : Bool) → (if b then mark_taken Close x else x).partner ≡ Some p → x.partner ≡ Some p
 close_partner x p true e = by x.gone e where
   by : (c : Bool) → (if c then nothing else record x { taken = true }).partner ≡ Some p → x.partner ≡ Some p
   by true f = absurd (let both : None ≡ Some p = f in cc)
@@ -175,11 +175,11 @@ close_partner x p false e = e
 
 heard_among : (t : Sockets) (w : Word) (xs : List Step) → AreSteps (Hears Sender w ∷ xs) → (p link : ℕ) → (Heard t p link xs → Among t p link xs) → (b : Bool) → same t w.sockets ≡ b → (m : Mark) → w.mark ≡ m
     → (fits m (sender t xs).end ≡ true ⊎ (b ≡ false)) → ((sides.both (with_event (links.when b (Two (sides.Hear m))) (events_at t xs))).two.end.partner ≡ Some p) → last_link t (claimed m w.sockets w.link (heard_claims xs)) ≡ Some link
-    → IsAmong (record { sockets = t; link = link; mark = Ask p }) (w ∷ heard Sender xs)
+    → IsAmong (record { sockets = t; link = link; mark = Ask p }) (w ∷ heard_words Sender xs)
 heard_among t w xs r p link k true e (Ask q) f (inl fit) partner last =
     let is : t ≡ w.sockets = same_true t w.sockets e in
-    let now : (if fits (Ask q) (sender t xs).end then taken (Ask q) (sender t xs).end else (sender t xs).end).partner ≡ Some p = partner in
-    let place : Some q ≡ Some p = ap (λ (c : Bool). (if c then taken (Ask q) (sender t xs).end else (sender t xs).end).partner) (sym fit) ∙ now in
+    let now : (if fits (Ask q) (sender t xs).end then mark_taken (Ask q) (sender t xs).end else (sender t xs).end).partner ≡ Some p = partner in
+    let place : Some q ≡ Some p = ap (λ (c : Bool). (if c then mark_taken (Ask q) (sender t xs).end else (sender t xs).end).partner) (sym fit) ∙ now in
     let found : Some w.link ≡ Some link = ap (λ (c : Bool). if c then Some w.link else last_link t (heard_claims xs)) (sym e) ∙ last in
     inl (made t w.sockets link w.link (Ask p) w.mark is (sym (some_same w.link link found)) (ap (λ (n : ℕ). Ask n) (sym (some_same q p place)) ∙ sym f)) where
       word : Sockets → ℕ → Mark → Word

@@ -8,9 +8,9 @@ use Rattle.reset_law.specs.Stays as stay
 use Rattle.reset_law.proofs.lemmas.{heard_front}
 use Rattle.pairing_law.specs.Ends.{nothing}
 use Rattle.pairing_law.specs.Sides.{Side}
-use Rattle.pairing_law.specs.Links.{Sockets, Word, Who, Receiver, Sender, Step, Hears, receiver, sender, stays, said, heard, AreOlder, AreSteps}
+use Rattle.pairing_law.specs.Links.{Sockets, Word, Who, Receiver, Sender, Step, Hears, receiver, sender, stays, said_words, heard_words, AreOlder, AreSteps}
 use Rattle.pairing_law.proofs.lemmas.{Fresh, begins_fresh}
-use Rattle.world_keeps_pairing.specs.Steps.{words_of, onto, all_heard, heard_in, keeps, left, met, spoken_by, taken_by, steps}
+use Rattle.world_keeps_pairing.specs.Steps.{words_of, onto, all_heard, heard_in, keeps, steps_left, met, spoken_by, taken_by, steps}
 use Rattle.world_keeps_pairing.proofs.Views.{View, view, lawful, same_view, after_said, sender_hears_if, words_join, onto_join, onto_if}
 use Rattle.world_keeps_pairing.proofs.Sides.{at_texts, before, receiver_before, sender_before, receiver_half, sender_half, nothing_there}
 
@@ -34,23 +34,23 @@ front_words who xs ys f =
 
 -- ---- hearing
 
-receiver_may : (ws : List Word) (xs : List Step) → AreSteps xs → stays Receiver xs ≡ true → AreOlder (onto ws (heard Receiver xs)) (said Sender xs) → AreSteps (all_heard Receiver ws xs)
+receiver_may : (ws : List Word) (xs : List Step) → AreSteps xs → stays Receiver xs ≡ true → AreOlder (onto ws (heard_words Receiver xs)) (said_words Sender xs) → AreSteps (all_heard Receiver ws xs)
 receiver_may [] xs h stay older = h
 receiver_may (w ∷ ws) xs h stay older =
     receiver_may ws (Hears Receiver w ∷ xs)
-    ((stay, older_older (w ∷ heard Receiver xs) (onto ws (w ∷ heard Receiver xs)) (said Sender xs) (onto_above ws (w ∷ heard Receiver xs)) older), h) stay older
+    ((stay, older_older (w ∷ heard_words Receiver xs) (onto ws (w ∷ heard_words Receiver xs)) (said_words Sender xs) (onto_above ws (w ∷ heard_words Receiver xs)) older), h) stay older
 
-sender_may : (ws : List Word) (xs : List Step) → AreSteps xs → stays Sender xs ≡ true → AreOlder (onto ws (heard Sender xs)) (said Receiver xs) → AreSteps (all_heard Sender ws xs)
+sender_may : (ws : List Word) (xs : List Step) → AreSteps xs → stays Sender xs ≡ true → AreOlder (onto ws (heard_words Sender xs)) (said_words Receiver xs) → AreSteps (all_heard Sender ws xs)
 sender_may [] xs h stay older = h
 sender_may (w ∷ ws) xs h stay older =
     sender_may ws (Hears Sender w ∷ xs)
-    ((stay, older_older (w ∷ heard Sender xs) (onto ws (w ∷ heard Sender xs)) (said Receiver xs) (onto_above ws (w ∷ heard Sender xs)) older), h) stay older
+    ((stay, older_older (w ∷ heard_words Sender xs) (onto ws (w ∷ heard_words Sender xs)) (said_words Receiver xs) (onto_above ws (w ∷ heard_words Sender xs)) older), h) stay older
 
-receiver_may_if : (b : Bool) (ws : List Word) (xs : List Step) → AreSteps xs → (b ≡ true → (stays Receiver xs ≡ true) × AreOlder (onto ws (heard Receiver xs)) (said Sender xs)) → AreSteps (heard_in b Receiver ws xs)
+receiver_may_if : (b : Bool) (ws : List Word) (xs : List Step) → AreSteps xs → (b ≡ true → (stays Receiver xs ≡ true) × AreOlder (onto ws (heard_words Receiver xs)) (said_words Sender xs)) → AreSteps (heard_in b Receiver ws xs)
 receiver_may_if true ws xs h k = receiver_may ws xs h (k refl).0 (k refl).1
 receiver_may_if false ws xs h k = h
 
-sender_may_if : (b : Bool) (ws : List Word) (xs : List Step) → AreSteps xs → (b ≡ true → (stays Sender xs ≡ true) × AreOlder (onto ws (heard Sender xs)) (said Receiver xs)) → AreSteps (heard_in b Sender ws xs)
+sender_may_if : (b : Bool) (ws : List Word) (xs : List Step) → AreSteps xs → (b ≡ true → (stays Sender xs ≡ true) × AreOlder (onto ws (heard_words Sender xs)) (said_words Receiver xs)) → AreSteps (heard_in b Sender ws xs)
 sender_may_if true ws xs h k = sender_may ws xs h (k refl).0 (k refl).1
 sender_may_if false ws xs h k = h
 
@@ -58,24 +58,24 @@ sender_may_if false ws xs h k = h
 
 -- all that one has heard by an event is what the other said first
 heard_now : (who : Who) (hosts : List Host) (e : Event) (events : List Event) → IsRun hosts (e ∷ events) → (a b : Host) → stay.stays b a events ≡ true → (begin : Bool) → stay.begins a b e events ≡ begin
-    → AreOlder (onto (words_of who (stay.heard_by a b 0 e)) (onto (words_of who (stay.heard a b 0 events)) []))
-    (onto_if (stay.stays a b events) (words_of who (stay.said_by a b 0 e)) (onto (words_of who (stay.said a b 0 events)) []))
+    → AreOlder (onto (words_of who (stay.heard_by a b 0 e)) (onto (words_of who (stay.heard_in_stay a b 0 events)) []))
+    (onto_if (stay.stays a b events) (words_of who (stay.said_by a b 0 e)) (onto (words_of who (stay.said_in_stay a b 0 events)) []))
 heard_now who hosts e events r a b stays true f =
     absurd (let f : Fresh a b e events = begins_fresh hosts e events r a b f in let no : true ≡ false = sym stays ∙ f.peer_left in cc)
 heard_now who hosts e events r a b stays false f =
-    let front : stay.IsFront (stay.heard a b 0 (e ∷ events)) (stay.said a b 0 (e ∷ events)) = heard_front hosts (e ∷ events) r a b 0 in
-    let here : stay.heard a b 0 (e ∷ events) ≡ stay.heard a b 0 events ++ stay.heard_by a b 0 e = rw (f, stays) refl in
-    let there : stay.said a b 0 (e ∷ events) ≡ stay.said a b 0 events ++ (if stay.stays a b events then stay.said_by a b 0 e else []) = rw f refl in
-    subst (λ (l : List Word). AreOlder l (onto_if (stay.stays a b events) (words_of who (stay.said_by a b 0 e)) (onto (words_of who (stay.said a b 0 events)) [])))
-    (ap (λ (l : List (List Bool)). onto (words_of who l) []) here ∙ ap (λ (l : List Word). onto l []) (words_join who (stay.heard a b 0 events) (stay.heard_by a b 0 e))
-    ∙ onto_join (words_of who (stay.heard a b 0 events)) (words_of who (stay.heard_by a b 0 e)) [])
-    (subst (λ (l : List Word). AreOlder (onto (words_of who (stay.heard a b 0 (e ∷ events))) []) l) (ap (λ (l : List (List Bool)). onto (words_of who l) []) there ∙ more (stay.stays a b events))
-    (front_words who (stay.heard a b 0 (e ∷ events)) (stay.said a b 0 (e ∷ events)) front)) where
-      more : (t : Bool) → onto (words_of who (stay.said a b 0 events ++ (if t then stay.said_by a b 0 e else []))) [] ≡ onto_if t (words_of who (stay.said_by a b 0 e)) (onto (words_of who (stay.said a b 0 events)) [])
-      more true = ap (λ (l : List Word). onto l []) (words_join who (stay.said a b 0 events) (stay.said_by a b 0 e)) ∙ onto_join (words_of who (stay.said a b 0 events)) (words_of who (stay.said_by a b 0 e)) []
-      more false = ap (λ (l : List Word). onto l []) (words_join who (stay.said a b 0 events) []) ∙ onto_join (words_of who (stay.said a b 0 events)) (words_of who []) []
+    let front : stay.IsFront (stay.heard_in_stay a b 0 (e ∷ events)) (stay.said_in_stay a b 0 (e ∷ events)) = heard_front hosts (e ∷ events) r a b 0 in
+    let here : stay.heard_in_stay a b 0 (e ∷ events) ≡ stay.heard_in_stay a b 0 events ++ stay.heard_by a b 0 e = rw (f, stays) refl in
+    let there : stay.said_in_stay a b 0 (e ∷ events) ≡ stay.said_in_stay a b 0 events ++ (if stay.stays a b events then stay.said_by a b 0 e else []) = rw f refl in
+    subst (λ (l : List Word). AreOlder l (onto_if (stay.stays a b events) (words_of who (stay.said_by a b 0 e)) (onto (words_of who (stay.said_in_stay a b 0 events)) [])))
+    (ap (λ (l : List (List Bool)). onto (words_of who l) []) here ∙ ap (λ (l : List Word). onto l []) (words_join who (stay.heard_in_stay a b 0 events) (stay.heard_by a b 0 e))
+    ∙ onto_join (words_of who (stay.heard_in_stay a b 0 events)) (words_of who (stay.heard_by a b 0 e)) [])
+    (subst (λ (l : List Word). AreOlder (onto (words_of who (stay.heard_in_stay a b 0 (e ∷ events))) []) l) (ap (λ (l : List (List Bool)). onto (words_of who l) []) there ∙ more (stay.stays a b events))
+    (front_words who (stay.heard_in_stay a b 0 (e ∷ events)) (stay.said_in_stay a b 0 (e ∷ events)) front)) where
+      more : (t : Bool) → onto (words_of who (stay.said_in_stay a b 0 events ++ (if t then stay.said_by a b 0 e else []))) [] ≡ onto_if t (words_of who (stay.said_by a b 0 e)) (onto (words_of who (stay.said_in_stay a b 0 events)) [])
+      more true = ap (λ (l : List Word). onto l []) (words_join who (stay.said_in_stay a b 0 events) (stay.said_by a b 0 e)) ∙ onto_join (words_of who (stay.said_in_stay a b 0 events)) (words_of who (stay.said_by a b 0 e)) []
+      more false = ap (λ (l : List Word). onto l []) (words_join who (stay.said_in_stay a b 0 events) []) ∙ onto_join (words_of who (stay.said_in_stay a b 0 events)) (words_of who []) []
 
-left_may : (keep : Bool) (who : Who) (xs : List Step) → AreSteps xs → AreSteps (left keep who xs)
+left_may : (keep : Bool) (who : Who) (xs : List Step) → AreSteps xs → AreSteps (steps_left keep who xs)
 left_may true who xs h = h
 left_may false who xs h = (tt, h)
 
@@ -104,21 +104,21 @@ legal hosts e events r a b h =
     let to_receiver : List Word = words_of Sender (stay.heard_by b a 0 e) in
     let is : view spoken ≡ spoken_view a b e (lawful a b events) = spoken_is a b e events in
     let half_heard : List Step = heard_in (stay.stays b a events) Sender to_sender spoken in
-    let next : view half_heard ≡ record (view spoken) { sender_heard = onto_if (stay.stays b a events) to_sender (heard Sender spoken) } = sender_hears_if (stay.stays b a events) to_sender spoken in
+    let next : view half_heard ≡ record (view spoken) { sender_heard = onto_if (stay.stays b a events) to_sender (heard_words Sender spoken) } = sender_hears_if (stay.stays b a events) to_sender spoken in
     let first : AreSteps half_heard = sender_may_if (stay.stays b a events) to_sender spoken h (λ t. (
       ap (λ (v : View). v.sender_stays) is ∙ t,
-      older_as to_sender (heard Sender spoken) (onto (words_of Receiver (stay.heard a b 0 events)) []) (said Receiver spoken)
-          (onto_if (stay.stays a b events) (words_of Receiver (stay.said_by a b 0 e)) (onto (words_of Receiver (stay.said a b 0 events)) []))
+      older_as to_sender (heard_words Sender spoken) (onto (words_of Receiver (stay.heard_in_stay a b 0 events)) []) (said_words Receiver spoken)
+          (onto_if (stay.stays a b events) (words_of Receiver (stay.said_by a b 0 e)) (onto (words_of Receiver (stay.said_in_stay a b 0 events)) []))
           (ap (λ (v : View). v.sender_heard) is) (ap (λ (v : View). v.receiver_said) is) (heard_now Receiver hosts e events r a b t (stay.begins a b e events) refl),
     )) in
     let second : AreSteps (taken_by a b e events spoken) = receiver_may_if (stay.stays a b events) to_receiver half_heard first (λ t. (
       ap (λ (v : View). v.receiver_stays) next ∙ ap (λ (v : View). v.receiver_stays) is ∙ t,
-      older_as to_receiver (heard Receiver half_heard) (onto (words_of Sender (stay.heard b a 0 events)) []) (said Sender half_heard)
-          (onto_if (stay.stays b a events) (words_of Sender (stay.said_by b a 0 e)) (onto (words_of Sender (stay.said b a 0 events)) []))
+      older_as to_receiver (heard_words Receiver half_heard) (onto (words_of Sender (stay.heard_in_stay b a 0 events)) []) (said_words Sender half_heard)
+          (onto_if (stay.stays b a events) (words_of Sender (stay.said_by b a 0 e)) (onto (words_of Sender (stay.said_in_stay b a 0 events)) []))
           (ap (λ (v : View). v.receiver_heard) next ∙ ap (λ (v : View). v.receiver_heard) is) (ap (λ (v : View). v.sender_said) next ∙ ap (λ (v : View). v.sender_said) is)
           (heard_now Sender hosts e events r b a t (stay.begins b a e events) refl),
     )) in
-    let under : List Step = left (keeps a b e events) Receiver (left (keeps b a e events) Sender (taken_by a b e events spoken)) in
+    let under : List Step = steps_left (keeps a b e events) Receiver (steps_left (keeps b a e events) Sender (taken_by a b e events spoken)) in
     met_may (stay.begins a b e events) under (left_may (keeps a b e events) Receiver _ (left_may (keeps b a e events) Sender _ second))
     (λ g s. (let f : Fresh a b e events = begins_fresh hosts e events r a b g in (
       ap (λ (x : Side). x.end) (receiver_before s a b e events ∙ ap (before a b (at_texts s Receiver) (at_texts s Sender) e events) (receiver_half s a b events))

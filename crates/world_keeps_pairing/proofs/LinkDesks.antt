@@ -11,10 +11,10 @@ use Rattle.ncp_control.specs.declared.command.Command.{Command}
 use Rattle.ncp_control.specs.declared.command.Command.TheVariants as command
 use Rattle.ncp_control.specs.declared.data_header.DataHeader.{DataHeader}
 use Rattle.host_pairs.specs.Commands as commands
-use Rattle.host_pairs.specs.Commands.{Ending, Found, Open, Unconnected, all_taken, answered_on, asked_on_link, asked_with_size, at_end, changed, closed_once, cls_taken_by, gvb_taken, interrupted, joined, matched_once, receiver_on, ret_taken, rts_heard, rts_taken, rts_taken_by, sender_on, str_heard, str_linked, str_taken_by, taken}
+use Rattle.host_pairs.specs.Commands.{Ending, Found, Open, Unconnected, all_taken, answered_on, asked_on_link, asked_with_size, at_end, changed, closed_once, cls_taken_by, gvb_taken, interrupted, entry_joined, matched_once, receiver_on, ret_taken, rts_heard, rts_taken, rts_taken_by, sender_on, str_heard, str_linked, str_taken_by, desk_taken}
 use Rattle.host_pairs.specs.Control.{ERRONEOUS, NOT_CONNECTED, NO_SOCKET, error}
 use Rattle.host_pairs.specs.Data.{arrived_if, data_found, data_taken, is_acceptable}
-use Rattle.host_pairs.specs.Desk.{DeskState, listener_on, queued, settled, swept}
+use Rattle.host_pairs.specs.Desk.{DeskState, listener_on, command_queued, settled, swept}
 use Rattle.host_pairs.specs.Entries.{closed_by_partner, closed_when, cls_of, connection_links, entry_at, free_link, is_at, is_link, is_over, must_close, receives_on, receiving_end, refused_end, sending_end, sends_on}
 use Rattle.host_pairs.specs.declared.entry.Entry.{Entry}
 use Rattle.host_pairs.specs.declared.listener.Listener.{Listener}
@@ -60,10 +60,10 @@ module _ (said taken_claims : List Claim) where
   L : DeskState → Type 0
   L d = Linked said taken_claims d
 
-  linked_queued : (c : Command) (d : DeskState) → ((claims : List Claim) → claim_of c claims ≡ claims) → Linked said taken_claims d → Linked said taken_claims (queued c d)
+  linked_queued : (c : Command) (d : DeskState) → ((claims : List Claim) → claim_of c claims ≡ claims) → Linked said taken_claims d → Linked said taken_claims (command_queued c d)
   linked_queued c d mute h = subst (λ (claims : List Claim). Links claims taken_claims d.entries) (sym (claims_join d.queue (c ∷ []) said ∙ mute (all_claims d.queue said))) h
 
-  linked_error : (code : ℕ) (octets : List ℕ) (d : DeskState) → Linked said taken_claims d → Linked said taken_claims (queued (error code octets) d)
+  linked_error : (code : ℕ) (octets : List ℕ) (d : DeskState) → Linked said taken_claims d → Linked said taken_claims (command_queued (error code octets) d)
   linked_error code octets d h = linked_queued (error code octets) d (λ claims. refl) h
 
   linked_if : (b : Bool) (d e : DeskState) → Linked said taken_claims d → Linked said taken_claims e → Linked said taken_claims (if b then d else e)
@@ -88,7 +88,7 @@ module _ (said taken_claims : List Claim) where
 
   linked_refused : (own foreign stamp : ℕ) (d : DeskState) → Linked said taken_claims d → Linked said taken_claims (commands.refused own foreign stamp d)
   linked_refused own foreign stamp d h =
-      linked_queued (cls_of (refused_end own foreign stamp)) (joined (refused_end own foreign stamp) d) (λ claims. refl) (refused_joined own foreign stamp (all_claims d.queue said) taken_claims d.entries h)
+      linked_queued (cls_of (refused_end own foreign stamp)) (entry_joined (refused_end own foreign stamp) d) (λ claims. refl) (refused_joined own foreign stamp (all_claims d.queue said) taken_claims d.entries h)
 
   -- a new receiving end, with its request
   pub receiver_joined : (own foreign link : ℕ) (e : Entry) (queue : List Command) (es : List Entry) → is_receive_socket own ≡ true → is_send_socket foreign ≡ true → e.own ≡ own → e.foreign ≡ foreign → e.link ≡ Some link → e.asked ≡ None
@@ -166,7 +166,7 @@ module _ (said taken_claims : List Claim) where
   IsOther (command.Str send receive size) = (is_receive_socket receive ≡ true) × (is_send_socket send ≡ true)
   IsOther c = Unit {0}
 
-  pub linked_other : (peer : Host) (busy : List ℕ) (stamp : ℕ) (c : Command) (d : DeskState) → IsOther c → Linked said taken_claims d → Linked said taken_claims (taken peer busy stamp c d)
+  pub linked_other : (peer : Host) (busy : List ℕ) (stamp : ℕ) (c : Command) (d : DeskState) → IsOther c → Linked said taken_claims d → Linked said taken_claims (desk_taken peer busy stamp c d)
   linked_other peer busy stamp command.Nop d o h = h
   linked_other peer busy stamp (command.Rts receive send link) d o h = absurd o
   linked_other peer busy stamp (command.Str send receive size) d o h = linked_str_by peer receive send size stamp (entry_at receive send d.entries) d o.0 o.1 refl h
@@ -185,7 +185,7 @@ module _ (said taken_claims : List Claim) where
   linked_other peer busy stamp command.Rst d o h = h
   linked_other peer busy stamp command.Rrp d o h = h
 
-  pub linked_wrong : (code : ℕ) (octets : List ℕ) (d : DeskState) → Linked said taken_claims d → Linked said taken_claims (queued (error code octets) d)
+  pub linked_wrong : (code : ℕ) (octets : List ℕ) (d : DeskState) → Linked said taken_claims d → Linked said taken_claims (command_queued (error code octets) d)
   linked_wrong code octets d h = linked_error code octets d h
 
   -- ---- data
@@ -227,11 +227,11 @@ module _ (said taken_claims : List Claim) (own foreign link : ℕ) (odd : is_rec
 
   rts_heard_linked : (stamp : ℕ) (l : Option Listener) (d : DeskState) → entry_at own foreign d.entries ≡ None → Linked said taken_claims d → Linked said (record { sockets = record { receive = foreign; send = own }; link = link } ∷ taken_claims) (rts_heard own foreign link stamp l d)
   rts_heard_linked stamp None d none h =
-      linked_queued said (record { sockets = record { receive = foreign; send = own }; link = link } ∷ taken_claims) (cls_of (refused_end own foreign stamp)) (joined (refused_end own foreign stamp) d) (λ claims. refl)
+      linked_queued said (record { sockets = record { receive = foreign; send = own }; link = link } ∷ taken_claims) (cls_of (refused_end own foreign stamp)) (entry_joined (refused_end own foreign stamp) d) (λ claims. refl)
       (refused_joined said taken_claims own foreign stamp (all_claims d.queue said) (record { sockets = record { receive = foreign; send = own }; link = link } ∷ taken_claims) d.entries
       (links_heard (all_claims d.queue said) taken_claims own foreign link d.entries (none_found own foreign d.entries none) h))
   rts_heard_linked stamp (Some l) d none h =
-      linked_queued said (record { sockets = record { receive = foreign; send = own }; link = link } ∷ taken_claims) (command.Str own foreign l.size) (joined (asked_on_link stamp link (sending_end own foreign l.size)) (answered_on own d)) (λ claims. refl)
+      linked_queued said (record { sockets = record { receive = foreign; send = own }; link = link } ∷ taken_claims) (command.Str own foreign l.size) (entry_joined (asked_on_link stamp link (sending_end own foreign l.size)) (answered_on own d)) (λ claims. refl)
       (rts_joined (asked_on_link stamp link (sending_end own foreign l.size)) (all_claims d.queue said) d.entries refl refl refl refl refl none h)
 
   rts_by_linked : (peer : Host) (stamp : ℕ) (o : Option Entry) (d : DeskState) → entry_at own foreign d.entries ≡ o → ((e : Entry) → o ≡ Some e → is_some e.partner ≡ false) → One (map (is_at own foreign) d.entries) → Linked said taken_claims d

@@ -16,7 +16,7 @@ use Rattle.host_keeps_pairing.specs.Ends.{Stand, Standing, at, close_waits, requ
 use Rattle.host_keeps_pairing.proofs.lemmas.{at_one, eqb-sym, live_end}
 use Rattle.pairing_law.specs.Ends.{End, nothing}
 use Rattle.pairing_law.specs.Marks.{Mark, Ask, Close}
-use Rattle.pairing_law.specs.Links.{Sockets, Word, Receiver, Step, receiver, said, IsAmong, IsFree, AreSteps}
+use Rattle.pairing_law.specs.Links.{Sockets, Word, Receiver, Step, receiver, said_words, IsAmong, IsFreeLink, AreSteps}
 use Rattle.world_keeps_pairing.proofs.Claims.{Claim, asked_last, last_link, said_claims}
 use Rattle.world_keeps_pairing.proofs.LinkTurns.{Split, any_split, each_split, stands_alone}
 use Rattle.world_keeps_pairing.proofs.Local.{AllOff, AsksOwn, claim_first, Each, Links, One, ReceivesBy, all_claims, claim_of}
@@ -178,10 +178,10 @@ module _ (origin : ℕ → ℕ) where
   abbrev pub Receives : List Entry → List Command → List Step → Type 0
   Receives es queue xs = (s : Sockets) → IsPair s → (place : ℕ) → Stand true origin place (at s.receive s.send es) (marks place s.receive s.send queue) (receiver s xs).end
 
-  pub is_free : (r n l : ℕ) (rest : List Command) (taken : List Claim) (es : List Entry) (xs : List Step) → is_receive_socket r ≡ true → is_send_socket n ≡ true → AreSteps xs → AllPairs (said Receiver xs)
-      → Receives es (command.Rts r n l ∷ rest) xs → Links (all_claims (command.Rts r n l ∷ rest) (said_claims xs)) taken es → IsFree l xs
+  pub is_free : (r n l : ℕ) (rest : List Command) (taken : List Claim) (es : List Entry) (xs : List Step) → is_receive_socket r ≡ true → is_send_socket n ≡ true → AreSteps xs → AllPairs (said_words Receiver xs)
+      → Receives es (command.Rts r n l ∷ rest) xs → Links (all_claims (command.Rts r n l ∷ rest) (said_claims xs)) taken es → IsFreeLink l xs
   is_free r n l rest taken es xs even odd steps pairs ends h = λ s named.
-      let q : IsPair s = among_pair (record { sockets = s; link = l; mark = Ask named.0 }) (said Receiver xs) pairs named.2 in
+      let q : IsPair s = among_pair (record { sockets = s; link = l; mark = Ask named.0 }) (said_words Receiver xs) pairs named.2 in
       let all : List Claim = all_claims (command.Rts r n l ∷ rest) (said_claims xs) in
       let asks : There origin s.receive s.send es (marks 0 s.receive s.send (command.Rts r n l ∷ rest)) (receiver s xs).end =
       there_by origin s.receive s.send es _ (receiver s xs).end (ends s q 0) (λ none is. absurd (let both : Some named.0 ≡ None = sym named.1 ∙ ap (λ (x : End). x.asked) is in cc)) in

@@ -1,5 +1,5 @@
 -- What goes out of a pair, and links.
-use Rattle.std.proofs.Common.{◌≡◌, ℕ, ◌*◌, ◌==◌, zero, suc, Bool, true, false, ◌&&◌, if◌then◌else◌, List, ◌∷◌, ◌++◌, map, take, drop, Some, refl, ap, sym, subst, ◌∙◌}
+use Rattle.std.proofs.Common.{◌≡◌, ℕ, ◌*◌, ◌==◌, zero, suc, Bool, true, false, ◌&&◌, if◌then◌else◌, List, [], ◌∷◌, ◌++◌, map, take, drop, Some, refl, ap, sym, subst, ◌∙◌}
 use Rattle.std.proofs.lemmas.List.{append-nil, take-append-drop}
 use Rattle.leader1822.specs.Host.{Host}
 use Rattle.ncp_control.specs.declared.command.Command.{Command}
@@ -16,7 +16,7 @@ use Rattle.host_keeps_ranges.specs.Ranges.{AreCommands, IsReadBack}
 use Rattle.host_keeps_pairing.specs.Spoken.{untagged}
 use Rattle.host_keeps_pairing.specs.Words.{MayAllGo}
 use Rattle.host_keeps_pairing.proofs.lemmas.{eqb-sym, untagged_is}
-use Rattle.pairing_law.specs.Links.{AreSteps, Receiver, Sockets, Step, Who, Word, receiver, said}
+use Rattle.pairing_law.specs.Links.{AreSteps, Receiver, Sockets, Step, Who, Word, receiver, said_words}
 use Rattle.pairing_law.specs.Places.{tagged, with_place}
 use Rattle.pairing_law.proofs.lemmas.Seen as words
 use Rattle.reset_law.specs.Events.{Message, Out}
@@ -96,7 +96,7 @@ module _ (origin : ℕ → ℕ) (peer : Host) (stamp : ℕ) (taken : List Claim)
   abbrev pub Went : List Word → List Step → PairState → Type 0
   Went ws xs q = NameFree ws xs × LinksOf (said_claims (all_said Receiver ws xs)) taken q
 
-  pub parcel_links : (listening : List Listener) (q : PairState) (x : Parcel) (p : Pair) (xs : List Step) → Agrees q p → next_of q ≡ Some x → IsReadBack q x → AreCommands q.queue → AreSteps xs → AllPairs (said Receiver xs) → Receives origin q.entries q.queue xs
+  pub parcel_links : (listening : List Listener) (q : PairState) (x : Parcel) (p : Pair) (xs : List Step) → Agrees q p → next_of q ≡ Some x → IsReadBack q x → AreCommands q.queue → AreSteps xs → AllPairs (said_words Receiver xs) → Receives origin q.entries q.queue xs
       → Sends origin origin peer stamp taken q.entries q.queue → ((s : Sockets) → IsPair s → MayAllGo (words.at s (read_words Receiver stamp (link_for x) (text_for q x))) (receiver s xs).end (receiver s xs).next) → LinksOf (said_claims xs) taken q
       → Went (read_words Receiver stamp (link_for x) (text_for q x)) xs (pair_after x q (parcel_gone peer stamp q.busy x (desk_of q listening)))
   parcel_links listening q parcel.Reset p xs a n back ok steps pairs r s may h = subst (λ (ws : List Word). NameFree ws xs × LinksOf (said_claims (all_said Receiver ws xs)) taken q) (sym (ap (words_by Receiver stamp) back)) (tt, h)

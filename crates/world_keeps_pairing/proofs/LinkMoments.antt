@@ -4,7 +4,7 @@ use Rattle.leader1822.specs.Host.{Host}
 use Rattle.reset_law.specs.Events.{Event}
 use Rattle.reset_law.specs.Stays as stay
 use Rattle.pairing_law.specs.Links.{Word, Who, Receiver, Sender, Step, Says, Hears}
-use Rattle.world_keeps_pairing.specs.Steps.{all_heard, all_said, heard_in, keeps, left, met, spoken_by, steps, taken_by, words_of}
+use Rattle.world_keeps_pairing.specs.Steps.{all_heard, all_said, heard_in, keeps, steps_left, met, spoken_by, steps, taken_by, words_of}
 use Rattle.world_keeps_pairing.proofs.Claims.{claimed, heard_claims, said_claims}
 
 -- ---- what was said and heard, after an event
@@ -29,7 +29,7 @@ heard_in_said : (b : Bool) (who : Who) (ws : List Word) (xs : List Step) → sai
 heard_in_said true who ws xs = heard_said who ws xs
 heard_in_said false who ws xs = refl
 
-left_said : (k : Bool) (who : Who) (xs : List Step) → said_claims (left k who xs) ≡ said_claims xs
+left_said : (k : Bool) (who : Who) (xs : List Step) → said_claims (steps_left k who xs) ≡ said_claims xs
 left_said true who xs = refl
 left_said false who xs = refl
 
@@ -42,8 +42,8 @@ pub said_next : (a b : Host) (e : Event) (older : List Event) → said_claims (s
 said_next a b e older =
     let spoken : List Step = spoken_by a b e (steps a b older) in
     let ws : List Word = words_of Sender (stay.said_by b a 0 e) in
-    met_said (stay.begins a b e older) (left (keeps a b e older) Receiver (left (keeps b a e older) Sender (taken_by a b e older spoken)))
-    ∙ left_said (keeps a b e older) Receiver (left (keeps b a e older) Sender (taken_by a b e older spoken))
+    met_said (stay.begins a b e older) (steps_left (keeps a b e older) Receiver (steps_left (keeps b a e older) Sender (taken_by a b e older spoken)))
+    ∙ left_said (keeps a b e older) Receiver (steps_left (keeps b a e older) Sender (taken_by a b e older spoken))
     ∙ left_said (keeps b a e older) Sender (taken_by a b e older spoken)
     ∙ heard_in_said (stay.stays a b older) Receiver (words_of Sender (stay.heard_by b a 0 e)) (heard_in (stay.stays b a older) Sender (words_of Receiver (stay.heard_by a b 0 e)) spoken)
     ∙ heard_in_said (stay.stays b a older) Sender (words_of Receiver (stay.heard_by a b 0 e)) spoken
@@ -61,7 +61,7 @@ receiver_in_heard : (b : Bool) (ws : List Word) (xs : List Step) → heard_claim
 receiver_in_heard true ws xs = receiver_heard ws xs
 receiver_in_heard false ws xs = refl
 
-left_heard : (k : Bool) (who : Who) (xs : List Step) → heard_claims (left k who xs) ≡ heard_claims xs
+left_heard : (k : Bool) (who : Who) (xs : List Step) → heard_claims (steps_left k who xs) ≡ heard_claims xs
 left_heard true who xs = refl
 left_heard false who xs = refl
 
@@ -78,8 +78,8 @@ pub heard_next : (a b : Host) (e : Event) (older : List Event) → heard_claims 
 heard_next a b e older =
     let spoken : List Step = spoken_by a b e (steps a b older) in
     let to_sender : List Step = heard_in (stay.stays b a older) Sender (words_of Receiver (stay.heard_by a b 0 e)) spoken in
-    met_heard (stay.begins a b e older) (left (keeps a b e older) Receiver (left (keeps b a e older) Sender (taken_by a b e older spoken)))
-    ∙ left_heard (keeps a b e older) Receiver (left (keeps b a e older) Sender (taken_by a b e older spoken))
+    met_heard (stay.begins a b e older) (steps_left (keeps a b e older) Receiver (steps_left (keeps b a e older) Sender (taken_by a b e older spoken)))
+    ∙ left_heard (keeps a b e older) Receiver (steps_left (keeps b a e older) Sender (taken_by a b e older spoken))
     ∙ left_heard (keeps b a e older) Sender (taken_by a b e older spoken)
     ∙ receiver_in_heard (stay.stays a b older) (words_of Sender (stay.heard_by b a 0 e)) to_sender
     ∙ heard_in_upon (stay.stays b a older) (words_of Receiver (stay.heard_by a b 0 e)) spoken (steps a b older)

@@ -17,7 +17,7 @@ use Rattle.host_keeps_pairing.proofs.lemmas.{one_gone}
 use Rattle.pairing_law.specs.Ends.{End, gone}
 use Rattle.pairing_law.specs.Marks.{Mark, Ask, Close}
 use Rattle.pairing_law.specs.Sides.{Side, above, says}
-use Rattle.pairing_law.specs.Links.{Sockets, Word, Receiver, Step, Says, receiver, said, stays, AreSteps}
+use Rattle.pairing_law.specs.Links.{Sockets, Word, Receiver, Step, Says, receiver, said_words, stays, AreSteps}
 use Rattle.pairing_law.proofs.lemmas.Seen as words
 use Rattle.world_keeps_pairing.specs.Free.{NameFree}
 use Rattle.world_keeps_pairing.specs.Steps.{all_said, word_by, words_by}
@@ -57,9 +57,9 @@ pairs_if : (b : Bool) (w : Word) (ws : List Word) → IsPair w.sockets → AllPa
 pairs_if true w ws p h = (p, h)
 pairs_if false w ws p h = h
 
-said_pairs : (ws : List Word) (xs : List Step) → AllPairs ws → AllPairs (said Receiver xs) → AllPairs (said Receiver (all_said Receiver ws xs))
+said_pairs : (ws : List Word) (xs : List Step) → AllPairs ws → AllPairs (said_words Receiver xs) → AllPairs (said_words Receiver (all_said Receiver ws xs))
 said_pairs [] xs p h = h
-said_pairs (w ∷ ws) xs p h = said_pairs ws (Says Receiver w ∷ xs) p.1 (pairs_if (stays Receiver xs) w (said Receiver xs) p.0 h)
+said_pairs (w ∷ ws) xs p h = said_pairs ws (Says Receiver w ∷ xs) p.1 (pairs_if (stays Receiver xs) w (said_words Receiver xs) p.0 h)
 
 -- ---- one command
 
@@ -98,7 +98,7 @@ module _ (origin other : ℕ → ℕ) (peer : Host) (stamp : ℕ) (taken : List 
   abbrev pub Sends : List Entry → List Command → Type 0
   Sends es queue = (s : Sockets) → IsPair s → (place : ℕ) → (x : End) × Stand true other place (at s.send s.receive es) (marks place s.send s.receive queue) x
 
-  one_free : (c : Command) (rest : List Command) (es : List Entry) (xs : List Step) → IsCommand c → AreSteps xs → AllPairs (said Receiver xs) → Receives origin es (c ∷ rest) xs → Links (all_claims (c ∷ rest) (said_claims xs)) taken es
+  one_free : (c : Command) (rest : List Command) (es : List Entry) (xs : List Step) → IsCommand c → AreSteps xs → AllPairs (said_words Receiver xs) → Receives origin es (c ∷ rest) xs → Links (all_claims (c ∷ rest) (said_claims xs)) taken es
       → NameFree (word_by Receiver stamp (Legal c)) xs
   one_free command.Nop rest es xs ok steps pairs ends h = tt
   one_free (command.Rts r n l) rest es xs ok steps pairs ends h =
@@ -159,7 +159,7 @@ module _ (origin other : ℕ → ℕ) (peer : Host) (stamp : ℕ) (taken : List 
   )
 
   -- all commands that go out
-  pub commands_links : (cs rest : List Command) (d : DeskState) (xs : List Step) → AreCommands cs → AreSteps xs → AllPairs (said Receiver xs) → Receives origin d.entries (cs ++ rest) xs → Sends d.entries (cs ++ rest)
+  pub commands_links : (cs rest : List Command) (d : DeskState) (xs : List Step) → AreCommands cs → AreSteps xs → AllPairs (said_words Receiver xs) → Receives origin d.entries (cs ++ rest) xs → Sends d.entries (cs ++ rest)
       → ((s : Sockets) → IsPair s → MayAllGo (words.at s (words_by Receiver stamp (map Legal cs))) (receiver s xs).end (receiver s xs).next) → Links (all_claims (cs ++ rest) (said_claims xs)) taken d.entries
       → NameFree (words_by Receiver stamp (map Legal cs)) xs × Links (all_claims rest (said_claims (all_said Receiver (words_by Receiver stamp (map Legal cs)) xs))) taken (commands_gone peer stamp cs d).entries
   commands_links [] rest d xs ok steps pairs r s may h = (tt, h)

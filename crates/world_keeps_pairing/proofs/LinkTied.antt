@@ -26,7 +26,7 @@ use Rattle.sockets.specs.declared.peer.Peer.{Peer}
 use Rattle.sockets.proofs.lemmas.{next_is, next_pair, pair_changed}
 use Rattle.pairing_law.specs.Ends.{End}
 use Rattle.pairing_law.specs.Sides.{Side}
-use Rattle.pairing_law.specs.Links.{AreSteps, Receiver, Sender, Sockets, Step, Word, receiver, said}
+use Rattle.pairing_law.specs.Links.{AreSteps, Receiver, Sender, Sockets, Step, Word, receiver, said_words}
 use Rattle.pairing_law.specs.Places.{placed_event, tagged, with_place}
 use Rattle.pairing_law.proofs.lemmas.Seen as words
 use Rattle.reset_law.specs.Events.{Event, Message, Other, Out, Reply, Reset, are, place}
@@ -67,9 +67,9 @@ onto_pairs : (ws base : List Word) → AllPairs ws → AllPairs base → AllPair
 onto_pairs [] base h k = k
 onto_pairs (w ∷ ws) base h k = onto_pairs ws (w ∷ base) h.1 (h.0, k)
 
-said_are : (a b : Host) (events : List Event) → AllPairs (said Receiver (steps a b events))
+said_are : (a b : Host) (events : List Event) → AllPairs (said_words Receiver (steps a b events))
 said_are a b events =
-    subst AllPairs (sym (ap (λ (v : View). v.receiver_said) (same_view a b events))) (onto_pairs (words_of Receiver (stay.said a b 0 events)) [] (texts_pairs Receiver (stay.said a b 0 events)) tt)
+    subst AllPairs (sym (ap (λ (v : View). v.receiver_said) (same_view a b events))) (onto_pairs (words_of Receiver (stay.said_in_stay a b 0 events)) [] (texts_pairs Receiver (stay.said_in_stay a b 0 events)) tt)
 
 put : (g : Host) (q : PairState) (peers : List Peer) → pair_with g (with_pair g q peers) ≡ q
 put g q peers = pair_changed g g q peers ∙ ap (λ (b : Bool). cond b q (pair_with g peers)) (same_host-refl g)
@@ -123,7 +123,7 @@ module _ (origin : Host → Host → ℕ → ℕ) (a b : Host) (m : HostMessage)
       ∙ ap (λ (k : ℕ). read_words Receiver (places moments) k m.text) link
       ∙ ap (λ (k : List Bool). read_words Receiver (places moments) (link_for n.parcel) k) text in
       let agrees : Agrees n.peer.pair (pair a b (events_of moments)) = subst (λ (p : PairState). Agrees p (pair a b (events_of moments))) q_is (story_agrees moments a b story.1) in
-      let pairs : AllPairs (said Receiver xs) = subst AllPairs (sym (ap (λ (v : View). v.receiver_said) (sender_says vs (steps a b (law_events moments))))) (said_are a b (law_events moments)) in
+      let pairs : AllPairs (said_words Receiver xs) = subst AllPairs (sym (ap (λ (v : View). v.receiver_said) (sender_says vs (steps a b (law_events moments))))) (said_are a b (law_events moments)) in
       let range : ranges.IsPair n.peer.pair = subst (λ (p : PairState). ranges.IsPair p) q_is (pair_range b (program a moments).peers (ranged a).pairs) in
       let receives : (s : Sockets) → IsPair s → (pl : ℕ) → Stand true (origin a b) pl (at s.receive s.send n.peer.pair.entries) (marks pl s.receive s.send n.peer.pair.queue) (receiver s xs).end =
       λ s k pl. subst (λ (x : Side). Stand true (origin a b) pl (at s.receive s.send n.peer.pair.entries) (marks pl s.receive s.send n.peer.pair.queue) x.end) (sym (base_receiver s ∙ receiver_half s a b (law_events moments)))

@@ -6,7 +6,7 @@ use Rattle.leader1822.specs.Host.{Host}
 use Rattle.ncp_control.specs.Numbers.{is_receive_socket, is_send_socket}
 use Rattle.ncp_control.specs.declared.command.Command.{Command}
 use Rattle.ncp_control.specs.declared.command.Command.TheVariants as command
-use Rattle.host_pairs.specs.Commands.{taken}
+use Rattle.host_pairs.specs.Commands.{desk_taken}
 use Rattle.host_pairs.specs.Control.{Legal, Order, Wrong}
 use Rattle.host_pairs.specs.Desk.{desk_of}
 use Rattle.host_pairs.specs.Entries.{entry_at, is_at, is_link, sends_on}
@@ -183,7 +183,7 @@ module _ (origin : ℕ → ℕ) (peer : Host) (stamp : ℕ) (said : List Claim) 
 
   rts_one : (r n l : ℕ) (t : TurnState) (xs : List Step) → is_receive_socket r ≡ true → is_send_socket n ≡ true → AreSteps (Hears Sender (record { sockets = record { receive = r; send = n }; link = l; mark = Ask (origin stamp) }) ∷ xs) → HasEnds t xs
       → Links (all_claims t.pair.queue said) (heard_claims xs) t.pair.entries
-      → (list_any (sends_on l) t.pair.entries ≡ false) × Linked said (record { sockets = record { receive = r; send = n }; link = l } ∷ heard_claims xs) (taken peer t.pair.busy stamp (command.Rts r n l) (desk_of t.pair t.listening))
+      → (list_any (sends_on l) t.pair.entries ≡ false) × Linked said (record { sockets = record { receive = r; send = n }; link = l } ∷ heard_claims xs) (desk_taken peer t.pair.busy stamp (command.Rts r n l) (desk_of t.pair t.listening))
   rts_one r n l t xs even odd steps ends h =
       let w : Word = record { sockets = record { receive = r; send = n }; link = l; mark = Ask (origin stamp) } in
       let s0 : Sockets = record { receive = r; send = n } in
@@ -208,15 +208,15 @@ module _ (origin : ℕ → ℕ) (peer : Host) (stamp : ℕ) (said : List Claim) 
       let good : (is_receive_socket r && is_send_socket n) ≡ true = ap (λ (b : Bool). b && is_send_socket n) legal.1 ∙ legal.3 in
       let now : AreSteps (Hears Sender (record { sockets = record { receive = r; send = n }; link = l; mark = Ask (origin stamp) }) ∷ xs) =
       subst (λ (b : Bool). AreSteps (all_heard Sender (if b then record { sockets = record { receive = r; send = n }; link = l; mark = Ask (origin stamp) } ∷ [] else []) xs)) good steps in
-      let k : (list_any (sends_on l) t.pair.entries ≡ false) × Linked said (record { sockets = record { receive = r; send = n }; link = l } ∷ heard_claims xs) (taken peer t.pair.busy stamp (command.Rts r n l) (desk_of t.pair t.listening)) =
+      let k : (list_any (sends_on l) t.pair.entries ≡ false) × Linked said (record { sockets = record { receive = r; send = n }; link = l } ∷ heard_claims xs) (desk_taken peer t.pair.busy stamp (command.Rts r n l) (desk_of t.pair t.listening)) =
       rts_one r n l t xs legal.1 legal.3 now ends h in (
         k.0,
-        subst (λ (b : Bool). Linked said (heard_claims (all_heard Sender (if b then record { sockets = record { receive = r; send = n }; link = l; mark = Ask (origin stamp) } ∷ [] else []) xs)) (taken peer t.pair.busy stamp (command.Rts r n l) (desk_of t.pair t.listening))) (sym good) k.1,
+        subst (λ (b : Bool). Linked said (heard_claims (all_heard Sender (if b then record { sockets = record { receive = r; send = n }; link = l; mark = Ask (origin stamp) } ∷ [] else []) xs)) (desk_taken peer t.pair.busy stamp (command.Rts r n l) (desk_of t.pair t.listening))) (sym good) k.1,
       )
   one_links (Legal (command.Str n r size)) t xs legal steps ends h = (tt, linked_other said (heard_claims xs) peer t.pair.busy stamp (command.Str n r size) (desk_of t.pair t.listening) (legal.3, legal.1) h)
   one_links (Legal (command.Cls own foreign)) t xs legal steps ends h = (
     tt,
-    subst (λ (claims : List Claim). Linked said claims (taken peer t.pair.busy stamp (command.Cls own foreign) (desk_of t.pair t.listening))) (sym (close_claims (is_receive_socket own && is_send_socket foreign) own foreign xs))
+    subst (λ (claims : List Claim). Linked said claims (desk_taken peer t.pair.busy stamp (command.Cls own foreign) (desk_of t.pair t.listening))) (sym (close_claims (is_receive_socket own && is_send_socket foreign) own foreign xs))
         (linked_other said (heard_claims xs) peer t.pair.busy stamp (command.Cls own foreign) (desk_of t.pair t.listening) tt h),
   )
   one_links (Legal (command.All l a b)) t xs legal steps ends h = (tt, linked_other said (heard_claims xs) peer t.pair.busy stamp (command.All l a b) (desk_of t.pair t.listening) tt h)

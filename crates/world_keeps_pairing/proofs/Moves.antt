@@ -1,7 +1,7 @@
 -- What one of two hosts may say, and that what it hears fits.
 use Rattle.std.proofs.Common.{◌≡◌, ℕ, ◌+◌, ◌≤◌, Bool, true, false, if◌then◌else◌, List, [], ◌∷◌, refl, ap, sym, subst, ◌∙◌, eq-eqb, arith}
 use Rattle.host_keeps_pairing.specs.Words.{AllFit, MayAllGo, all_gone, all_taken}
-use Rattle.pairing_law.specs.Ends.{End, fits, taken}
+use Rattle.pairing_law.specs.Ends.{End, fits, mark_taken}
 use Rattle.pairing_law.specs.Marks.{Mark, Ask, Close}
 use Rattle.pairing_law.specs.Sides as sides
 use Rattle.pairing_law.specs.Sides.{Side, both, says, hears, leaves, meets, One, Two, Say, above, IsRun}
@@ -22,7 +22,7 @@ says_end (m ∷ ms) x = says_end ms (says m x)
 pub hears_end : (ms : List Mark) (x : Side) → AllFit ms x.end → (all_hears ms x).end ≡ all_taken ms x.end
 hears_end [] x h = refl
 hears_end (m ∷ ms) x h =
-    let is : (hears m x).end ≡ taken m x.end = ap (λ (b : Bool). if b then taken m x.end else x.end) h.0 in
+    let is : (hears m x).end ≡ mark_taken m x.end = ap (λ (b : Bool). if b then mark_taken m x.end else x.end) h.0 in
     hears_end ms (hears m x) (subst (λ (e : End). AllFit ms e) (sym is) h.1) ∙ ap (all_taken ms) is
 
 pub says_next : (place : ℕ) (ms : List Mark) (x : Side) → AllAt place ms → x.next ≤ place + 1 → (all_says ms x).next ≤ place + 1
@@ -90,14 +90,14 @@ one_fits : (b : Bool) (m : Mark) (ms : List Mark) (es : List sides.Event) → Is
     → AllFit (put b m ms) (both es).one.end
 one_fits true m ms es r h =
     let fit : fits m (both es).one.end ≡ true = joined_fits m (both es).one (both es).two (joined_run es r.1) r.0 in
-    (fit, subst (λ (e : End). AllFit ms e) (ap (λ (b : Bool). if b then taken m (both es).one.end else (both es).one.end) fit) h)
+    (fit, subst (λ (e : End). AllFit ms e) (ap (λ (b : Bool). if b then mark_taken m (both es).one.end else (both es).one.end) fit) h)
 one_fits false m ms es r h = h
 
 two_fits : (b : Bool) (m : Mark) (ms : List Mark) (es : List sides.Event) → IsRun (with_event (links.when b (Two (sides.Hear m))) es) → AllFit ms (both (with_event (links.when b (Two (sides.Hear m))) es)).two.end
     → AllFit (put b m ms) (both es).two.end
 two_fits true m ms es r h =
     let fit : fits m (both es).two.end ≡ true = joined_fits m (both es).two (both es).one (turned (both es).one (both es).two (joined_run es r.1)) r.0 in
-    (fit, subst (λ (e : End). AllFit ms e) (ap (λ (b : Bool). if b then taken m (both es).two.end else (both es).two.end) fit) h)
+    (fit, subst (λ (e : End). AllFit ms e) (ap (λ (b : Bool). if b then mark_taken m (both es).two.end else (both es).two.end) fit) h)
 two_fits false m ms es r h = h
 
 pub receiver_fits : (s : Sockets) (ws : List Word) (xs : List Step) → AreSteps (all_heard Receiver ws xs) → AllFit (at s ws) (receiver s xs).end

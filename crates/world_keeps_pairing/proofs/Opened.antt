@@ -16,7 +16,7 @@ use Rattle.host_keeps_ranges.specs.Ranges.{IsRanged}
 use Rattle.host_keeps_pairing.specs.Words.{AllFit, marks}
 use Rattle.host_keeps_pairing.specs.Openings.{AreAmong, all_lives_gone, all_lives_taken, with_openings}
 use Rattle.host_keeps_pairing.proofs.lemmas.{answer_other, offer_tells}
-use Rattle.pairing_law.specs.Ends.{End, taken}
+use Rattle.pairing_law.specs.Ends.{End, mark_taken}
 use Rattle.pairing_law.specs.Marks.{Mark}
 use Rattle.pairing_law.specs.Places.{placed_event, with_box}
 use Rattle.pairing_law.specs.Sides.{Life, Side, hears, lives_taken, says}
@@ -49,10 +49,10 @@ says_lives (m ∷ ms) x = says_lives ms (says m x)
 pub hears_lives : (ms : List Mark) (x : Side) → AllFit ms x.end → (all_hears ms x).lives ≡ all_lives_taken ms x.end x.lives
 hears_lives [] x h = refl
 hears_lives (m ∷ ms) x h =
-    let end : (hears m x).end ≡ taken m x.end = ap (λ (b : Bool). if b then taken m x.end else x.end) h.0 in
+    let end : (hears m x).end ≡ mark_taken m x.end = ap (λ (b : Bool). if b then mark_taken m x.end else x.end) h.0 in
     let lives : (hears m x).lives ≡ lives_taken m x.end x.lives = ap (λ (b : Bool). if b then lives_taken m x.end x.lives else x.lives) h.0 in
     hears_lives ms (hears m x) (subst (λ (e : End). AllFit ms e) (sym end) h.1)
-    ∙ ap (λ (e : End). all_lives_taken ms e (hears m x).lives) end ∙ ap (λ (l : List Life). all_lives_taken ms (taken m x.end) l) lives
+    ∙ ap (λ (e : End). all_lives_taken ms e (hears m x).lives) end ∙ ap (λ (l : List Life). all_lives_taken ms (mark_taken m x.end) l) lives
 
 pub hears_no_lives : (b : Bool) (x : Side) → (hears_if b [] x).lives ≡ x.lives
 hears_no_lives true x = refl

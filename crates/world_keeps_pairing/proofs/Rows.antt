@@ -7,8 +7,8 @@ use Rattle.leader1822.specs.declared.crossing.Crossing.TheVariants as crossing
 use Rattle.leader1822.specs.declared.message.HostMessage.{HostMessage}
 use Rattle.ncp_control.specs.Reading.{command_of, read_of}
 use Rattle.net_sim.specs.Safe.{control_flow}
-use Rattle.pairing_law.specs.Example.{first}
-use Rattle.pairing_law.specs.Links.{Receiver, Says, Sender, heard}
+use Rattle.pairing_law.specs.Example.{first_sockets}
+use Rattle.pairing_law.specs.Links.{Receiver, Says, Sender, heard_words}
 use Rattle.pairing_law.specs.Marks.{Ask, Close}
 use Rattle.pairing_law.specs.Places.{tagged}
 use Rattle.reset_law.specs.Events.{In, Other, Out}
@@ -16,11 +16,11 @@ use Rattle.reset_law.specs.Example.{one, two}
 use Rattle.world_keeps_pairing.specs.Free.{origin_in}
 use Rattle.world_keeps_pairing.specs.Steps.{steps}
 
-pub row_said : steps one two (Out one two 0 (Other (tagged 5 asking)) ∷ reset_of_two) ≡ Says Receiver (record { sockets = first; link = 0; mark = Close }) ∷ Says Receiver (record { sockets = first; link = 2; mark = Ask 5 }) ∷ steps one two reset_of_two
+pub row_said : steps one two (Out one two 0 (Other (tagged 5 asking)) ∷ reset_of_two) ≡ Says Receiver (record { sockets = first_sockets; link = 0; mark = Close }) ∷ Says Receiver (record { sockets = first_sockets; link = 2; mark = Ask 5 }) ∷ steps one two reset_of_two
 unfolding octets_of orders_of read_of command_of
 row_said = refl
 
-pub row_heard : heard Sender (steps one two (In one two 0 (Other (tagged 5 asking)) ∷ reset_of_two)) ≡ record { sockets = first; link = 0; mark = Close } ∷ record { sockets = first; link = 2; mark = Ask 5 } ∷ []
+pub row_heard : heard_words Sender (steps one two (In one two 0 (Other (tagged 5 asking)) ∷ reset_of_two)) ≡ record { sockets = first_sockets; link = 0; mark = Close } ∷ record { sockets = first_sockets; link = 2; mark = Ask 5 } ∷ []
 unfolding octets_of orders_of read_of command_of
 row_heard = refl
 

@@ -4,19 +4,19 @@ use Rattle.leader1822.specs.Host.{Host, same_host}
 use Rattle.leader1822.specs.declared.crossing.Answer.{Answer}
 use Rattle.leader1822.specs.declared.crossing.Answer.TheVariants as answer
 use Rattle.reset_law.specs.Events.{Event, Message, Reset, Reply, Other, Contact, Out, In, Told, Down, Up, Idle, Call, Send, Take, Hear, Begin, are, when}
-use Rattle.reset_law.specs.Pairs.{Pair, moved, pair}
+use Rattle.reset_law.specs.Pairs.{Pair, pair_moved, pair}
 use Rattle.reset_law.specs.Phases.{Phase, Closed, Want, Gone, Heard, Ready, failed_phase}
 use Rattle.reset_law.specs.Stays as stay
 use Rattle.reset_law.specs.Stays.{is_ready}
 use Rattle.reset_law.proofs.lemmas.{begins_either}
-use Rattle.pairing_law.specs.Ends.{End, nothing, fits, gone, taken}
+use Rattle.pairing_law.specs.Ends.{End, nothing, fits, gone, mark_taken}
 use Rattle.pairing_law.specs.Marks.{Mark, Ask, Close}
 use Rattle.pairing_law.specs.Sides as sides
 use Rattle.pairing_law.specs.Sides.{Side, opening_side, both, says, hears, leaves, meets, One, Two, Say}
 use Rattle.pairing_law.specs.Links.{Sockets, same, Word, Who, Receiver, Sender, Step, Says, Hears, Leaves, Meets, receiver, sender, events_at, with_event}
 use Rattle.pairing_law.specs.Links as links
 use Rattle.pairing_law.proofs.lemmas.{at, put}
-use Rattle.world_keeps_pairing.specs.Steps.{words_of, all_said, all_heard, heard_in, keeps, left, met, spoken_by, taken_by, steps}
+use Rattle.world_keeps_pairing.specs.Steps.{words_of, all_said, all_heard, heard_in, keeps, steps_left, met, spoken_by, taken_by, steps}
 
 -- ---- marks one after the other
 
@@ -115,13 +115,13 @@ module _ (s : Sockets) where
 
   -- ---- leaving and meeting
 
-  receiver_leaves : (k j : Bool) (xs : List Step) → receiver s (left k Receiver (left j Sender xs)) ≡ left_if k (receiver s xs)
+  receiver_leaves : (k j : Bool) (xs : List Step) → receiver s (steps_left k Receiver (steps_left j Sender xs)) ≡ left_if k (receiver s xs)
   receiver_leaves true true xs = refl
   receiver_leaves true false xs = refl
   receiver_leaves false true xs = refl
   receiver_leaves false false xs = refl
 
-  sender_leaves : (k j : Bool) (xs : List Step) → sender s (left k Receiver (left j Sender xs)) ≡ left_if j (sender s xs)
+  sender_leaves : (k j : Bool) (xs : List Step) → sender s (steps_left k Receiver (steps_left j Sender xs)) ≡ left_if j (sender s xs)
   sender_leaves true true xs = refl
   sender_leaves true false xs = refl
   sender_leaves false true xs = refl
@@ -173,14 +173,14 @@ abbrev pub at_texts : Sockets → Who → List (List Bool) → List Mark
 at_texts s who texts = at s (words_of who texts)
 
 module _ (s : Sockets) (a b : Host) where
-  pub receiver_before : (e : Event) (events : List Event) → receiver s (left (keeps a b e events) Receiver (left (keeps b a e events) Sender (taken_by a b e events (spoken_by a b e (steps a b events)))))
+  pub receiver_before : (e : Event) (events : List Event) → receiver s (steps_left (keeps a b e events) Receiver (steps_left (keeps b a e events) Sender (taken_by a b e events (spoken_by a b e (steps a b events)))))
       ≡ before a b (at_texts s Receiver) (at_texts s Sender) e events (receiver s (steps a b events))
   receiver_before e events =
       let spoken : List Step = spoken_by a b e (steps a b events) in
       receiver_leaves s (keeps a b e events) (keeps b a e events) (taken_by a b e events spoken)
       ∙ ap (left_if (keeps a b e events)) (receiver_took s a b e events spoken ∙ ap (hears_if (stay.stays a b events) (at s (words_of Sender (stay.heard_by b a 0 e)))) (receiver_said s a b e (steps a b events)))
 
-  pub sender_before : (e : Event) (events : List Event) → sender s (left (keeps a b e events) Receiver (left (keeps b a e events) Sender (taken_by a b e events (spoken_by a b e (steps a b events)))))
+  pub sender_before : (e : Event) (events : List Event) → sender s (steps_left (keeps a b e events) Receiver (steps_left (keeps b a e events) Sender (taken_by a b e events (spoken_by a b e (steps a b events)))))
       ≡ before b a (at_texts s Sender) (at_texts s Receiver) e events (sender s (steps a b events))
   sender_before e events =
       let spoken : List Step = spoken_by a b e (steps a b events) in
@@ -190,14 +190,14 @@ module _ (s : Sockets) (a b : Host) where
   pub receiver_half : (events : List Event) → receiver s (steps a b events) ≡ half a b (at_texts s Receiver) (at_texts s Sender) events
   receiver_half [] = refl
   receiver_half (e ∷ events) =
-      let under : List Step = left (keeps a b e events) Receiver (left (keeps b a e events) Sender (taken_by a b e events (spoken_by a b e (steps a b events)))) in
+      let under : List Step = steps_left (keeps a b e events) Receiver (steps_left (keeps b a e events) Sender (taken_by a b e events (spoken_by a b e (steps a b events)))) in
       receiver_meets s (stay.begins a b e events) under
       ∙ ap (met_if (stay.begins a b e events)) (receiver_before e events ∙ ap (before a b (at_texts s Receiver) (at_texts s Sender) e events) (receiver_half events))
 
   pub sender_half : (events : List Event) → sender s (steps a b events) ≡ half b a (at_texts s Sender) (at_texts s Receiver) events
   sender_half [] = refl
   sender_half (e ∷ events) =
-      let under : List Step = left (keeps a b e events) Receiver (left (keeps b a e events) Sender (taken_by a b e events (spoken_by a b e (steps a b events)))) in
+      let under : List Step = steps_left (keeps a b e events) Receiver (steps_left (keeps b a e events) Sender (taken_by a b e events (spoken_by a b e (steps a b events)))) in
       sender_meets s (stay.begins a b e events) under
       ∙ ap (met_if (stay.begins a b e events)) (sender_before e events ∙ ap (before b a (at_texts s Sender) (at_texts s Receiver) e events) (sender_half events))
       ∙ ap (λ (g : Bool). met_if g (before b a (at_texts s Sender) (at_texts s Receiver) e events (half b a (at_texts s Sender) (at_texts s Receiver) events))) (begins_either a b e events)
@@ -218,7 +218,7 @@ all_unheard : (ms : List Mark) (x : Side) → Unheard x.end → Unheard (all_say
 all_unheard [] x h = h
 all_unheard (m ∷ ms) x h = all_unheard ms (says m x) (says_unheard m x h)
 
-takes_unsaid : (m : Mark) (x : End) (b : Bool) → Unsaid x → Unsaid (if b then taken m x else x)
+takes_unsaid : (m : Mark) (x : End) (b : Bool) → Unsaid x → Unsaid (if b then mark_taken m x else x)
 takes_unsaid (Ask p) x true h = h
 takes_unsaid Close x true h = rw h.1 (h.0, refl)
 takes_unsaid m x false h = h
@@ -290,7 +290,7 @@ module _ (h p : Host) (spoken heard : List (List Bool) → List Mark) (mute : sp
   both_true false t e = absurd (let no : false ≡ true = e in cc)
 
   -- a part that isn't a text that goes out
-  out_mute : (t : Bool) (l : ℕ) (m : Message) (q : Pair) → (moved (when t (Send l m)) q).begun ≡ false → (q.begun ≡ false) × ((text : List Bool) → m ≡ Other text → t ≡ false)
+  out_mute : (t : Bool) (l : ℕ) (m : Message) (q : Pair) → (pair_moved (when t (Send l m)) q).begun ≡ false → (q.begun ≡ false) × ((text : List Bool) → m ≡ Other text → t ≡ false)
   out_mute true l Reset q e = (e, λ text is. absurd (let no : Reset ≡ Other text = is in cc))
   out_mute true l Reply q e = (e, λ text is. absurd (let no : Reply ≡ Other text = is in cc))
   out_mute true l (Other text) q e = absurd (let no : true ≡ false = e in cc)
@@ -301,7 +301,7 @@ module _ (h p : Host) (spoken heard : List (List Bool) → List Mark) (mute : sp
   out_silent x y l Reply k = refl
   out_silent x y l (Other text) k = rw (k text refl) refl
 
-  take_mute : (t : Bool) (m : Message) (q : Pair) → (m ≡ Reset → t ≡ false) → (moved (when t (Take m)) q).begun ≡ false → q.begun ≡ false
+  take_mute : (t : Bool) (m : Message) (q : Pair) → (m ≡ Reset → t ≡ false) → (pair_moved (when t (Take m)) q).begun ≡ false → q.begun ≡ false
   take_mute true Reset q k e = absurd (let no : true ≡ false = k refl in cc)
   take_mute true Reply q k e = e
   take_mute true (Other text) q k e = e
@@ -320,17 +320,17 @@ module _ (h p : Host) (spoken heard : List (List Bool) → List Mark) (mute : sp
   failed_mute Heard false begun r e = absurd (let no : false ≡ true = r in cc)
   failed_mute Ready false begun r e = absurd (let no : false ≡ true = r in cc)
 
-  told_mute : (t : Bool) (l : ℕ) (k : Answer) (q : Pair) → is_ready (moved (when t (Hear l k)) q).phase ≡ true → (moved (when t (Hear l k)) q).begun ≡ false → q.begun ≡ false
+  told_mute : (t : Bool) (l : ℕ) (k : Answer) (q : Pair) → is_ready (pair_moved (when t (Hear l k)) q).phase ≡ true → (pair_moved (when t (Hear l k)) q).begun ≡ false → q.begun ≡ false
   told_mute true l answer.Rfnm q r e = e
   told_mute true l answer.Dead q r e = failed_mute q.phase q.owed q.begun r e
   told_mute true l answer.Incomplete q r e = failed_mute q.phase q.owed q.begun r e
   told_mute false l k q r e = e
 
-  call_mute : (t : Bool) (q : Pair) → is_ready (moved (when t Call) q).phase ≡ true → (moved (when t Call) q).begun ≡ false → q.begun ≡ false
+  call_mute : (t : Bool) (q : Pair) → is_ready (pair_moved (when t Call) q).phase ≡ true → (pair_moved (when t Call) q).begun ≡ false → q.begun ≡ false
   call_mute true q r e = absurd (let no : false ≡ true = r in cc)
   call_mute false q r e = e
 
-  begin_mute : (t : Bool) (q : Pair) → is_ready (moved (when t Begin) q).phase ≡ true → (moved (when t Begin) q).begun ≡ false → q.begun ≡ false
+  begin_mute : (t : Bool) (q : Pair) → is_ready (pair_moved (when t Begin) q).phase ≡ true → (pair_moved (when t Begin) q).begun ≡ false → q.begun ≡ false
   begin_mute true q r e = absurd (let no : false ≡ true = r in cc)
   begin_mute false q r e = e
 

@@ -27,7 +27,7 @@ use Rattle.reset_law.specs.Stays as stay
 use Rattle.net_sim.specs.Projection.{event_of, event_by, message_on}
 use Rattle.net_sim.specs.Story.{Moment, Crossed, Asked, IsNext, IsStory, event_in, events_of, places, program}
 use Rattle.net_sim.proofs.lemmas.{by_request, story_agrees}
-use Rattle.world_keeps_pairing.specs.Steps.{words_of, all_said, all_heard, heard_in, keeps, left, met, spoken_by, taken_by, steps}
+use Rattle.world_keeps_pairing.specs.Steps.{words_of, all_said, all_heard, heard_in, keeps, steps_left, met, spoken_by, taken_by, steps}
 use Rattle.world_keeps_pairing.proofs.Legal.{legal}
 use Rattle.world_keeps_pairing.specs.Free.{NamesFreeAt, TakesFreeAt, law_events}
 use Rattle.world_keeps_pairing.proofs.Served.{AreServed}
@@ -135,7 +135,7 @@ module _ (s : Sockets) (is_pair : IsPair s) (who : Who) (h p : Host) (origin : �
 
 -- ---- both hosts
 
-under_left : (keep : Bool) (who : Who) (xs : List Step) → AreSteps (left keep who xs) → AreSteps xs
+under_left : (keep : Bool) (who : Who) (xs : List Step) → AreSteps (steps_left keep who xs) → AreSteps xs
 under_left true who xs h = h
 under_left false who xs h = h.1
 

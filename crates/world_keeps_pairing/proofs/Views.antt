@@ -5,8 +5,8 @@ use Rattle.leader1822.specs.Host.{Host}
 use Rattle.reset_law.specs.Events.{Event}
 use Rattle.reset_law.specs.Stays as stay
 use Rattle.reset_law.proofs.lemmas.{begins_either}
-use Rattle.pairing_law.specs.Links.{Word, Who, Receiver, Sender, Step, Says, Hears, stays, said, heard}
-use Rattle.world_keeps_pairing.specs.Steps.{words_of, words_by, onto, all_said, all_heard, heard_in, keeps, left, met, spoken_by, taken_by, steps}
+use Rattle.pairing_law.specs.Links.{Word, Who, Receiver, Sender, Step, Says, Hears, stays, said_words, heard_words}
+use Rattle.world_keeps_pairing.specs.Steps.{words_of, words_by, onto, all_said, all_heard, heard_in, keeps, steps_left, met, spoken_by, taken_by, steps}
 use Rattle.host_keeps_pairing.specs.Spoken.{untagged}
 use Rattle.host_pairs.specs.Control.{orders_of}
 
@@ -24,10 +24,10 @@ abbrev pub view : List Step → View
 view xs = record {
   receiver_stays = stays Receiver xs;
   sender_stays = stays Sender xs;
-  receiver_said = said Receiver xs;
-  sender_said = said Sender xs;
-  receiver_heard = heard Receiver xs;
-  sender_heard = heard Sender xs;
+  receiver_said = said_words Receiver xs;
+  sender_said = said_words Sender xs;
+  receiver_heard = heard_words Receiver xs;
+  sender_heard = heard_words Sender xs;
 }
 
 -- where nobody has said anything since both met
@@ -41,43 +41,43 @@ more_if : (b : Bool) (w : Word) (ws base : List Word) → onto_if b ws (if b the
 more_if true w ws base = refl
 more_if false w ws base = refl
 
-receiver_says : (ws : List Word) (xs : List Step) → view (all_said Receiver ws xs) ≡ record (view xs) { receiver_said = onto_if (stays Receiver xs) ws (said Receiver xs) }
+receiver_says : (ws : List Word) (xs : List Step) → view (all_said Receiver ws xs) ≡ record (view xs) { receiver_said = onto_if (stays Receiver xs) ws (said_words Receiver xs) }
 receiver_says [] xs = by (stays Receiver xs) where
-  by : (b : Bool) → view xs ≡ record (view xs) { receiver_said = onto_if b [] (said Receiver xs) }
+  by : (b : Bool) → view xs ≡ record (view xs) { receiver_said = onto_if b [] (said_words Receiver xs) }
   by true = refl
   by false = refl
 receiver_says (w ∷ ws) xs =
-    receiver_says ws (Says Receiver w ∷ xs) ∙ ap (λ (l : List Word). record (view xs) { receiver_said = l }) (more_if (stays Receiver xs) w ws (said Receiver xs))
+    receiver_says ws (Says Receiver w ∷ xs) ∙ ap (λ (l : List Word). record (view xs) { receiver_said = l }) (more_if (stays Receiver xs) w ws (said_words Receiver xs))
 
-pub sender_says : (ws : List Word) (xs : List Step) → view (all_said Sender ws xs) ≡ record (view xs) { sender_said = onto_if (stays Sender xs) ws (said Sender xs) }
+pub sender_says : (ws : List Word) (xs : List Step) → view (all_said Sender ws xs) ≡ record (view xs) { sender_said = onto_if (stays Sender xs) ws (said_words Sender xs) }
 sender_says [] xs = by (stays Sender xs) where
-  by : (b : Bool) → view xs ≡ record (view xs) { sender_said = onto_if b [] (said Sender xs) }
+  by : (b : Bool) → view xs ≡ record (view xs) { sender_said = onto_if b [] (said_words Sender xs) }
   by true = refl
   by false = refl
 sender_says (w ∷ ws) xs =
-    sender_says ws (Says Sender w ∷ xs) ∙ ap (λ (l : List Word). record (view xs) { sender_said = l }) (more_if (stays Sender xs) w ws (said Sender xs))
+    sender_says ws (Says Sender w ∷ xs) ∙ ap (λ (l : List Word). record (view xs) { sender_said = l }) (more_if (stays Sender xs) w ws (said_words Sender xs))
 
-pub receiver_hears : (ws : List Word) (xs : List Step) → view (all_heard Receiver ws xs) ≡ record (view xs) { receiver_heard = onto ws (heard Receiver xs) }
+pub receiver_hears : (ws : List Word) (xs : List Step) → view (all_heard Receiver ws xs) ≡ record (view xs) { receiver_heard = onto ws (heard_words Receiver xs) }
 receiver_hears [] xs = refl
 receiver_hears (w ∷ ws) xs = receiver_hears ws (Hears Receiver w ∷ xs)
 
-pub sender_hears : (ws : List Word) (xs : List Step) → view (all_heard Sender ws xs) ≡ record (view xs) { sender_heard = onto ws (heard Sender xs) }
+pub sender_hears : (ws : List Word) (xs : List Step) → view (all_heard Sender ws xs) ≡ record (view xs) { sender_heard = onto ws (heard_words Sender xs) }
 sender_hears [] xs = refl
 sender_hears (w ∷ ws) xs = sender_hears ws (Hears Sender w ∷ xs)
 
-receiver_hears_if : (b : Bool) (ws : List Word) (xs : List Step) → view (heard_in b Receiver ws xs) ≡ record (view xs) { receiver_heard = onto_if b ws (heard Receiver xs) }
+receiver_hears_if : (b : Bool) (ws : List Word) (xs : List Step) → view (heard_in b Receiver ws xs) ≡ record (view xs) { receiver_heard = onto_if b ws (heard_words Receiver xs) }
 receiver_hears_if true ws xs = receiver_hears ws xs
 receiver_hears_if false ws xs = refl
 
-pub sender_hears_if : (b : Bool) (ws : List Word) (xs : List Step) → view (heard_in b Sender ws xs) ≡ record (view xs) { sender_heard = onto_if b ws (heard Sender xs) }
+pub sender_hears_if : (b : Bool) (ws : List Word) (xs : List Step) → view (heard_in b Sender ws xs) ≡ record (view xs) { sender_heard = onto_if b ws (heard_words Sender xs) }
 sender_hears_if true ws xs = sender_hears ws xs
 sender_hears_if false ws xs = refl
 
-receiver_leaves : (keep : Bool) (xs : List Step) → view (left keep Receiver xs) ≡ record (view xs) { receiver_stays = keep && stays Receiver xs }
+receiver_leaves : (keep : Bool) (xs : List Step) → view (steps_left keep Receiver xs) ≡ record (view xs) { receiver_stays = keep && stays Receiver xs }
 receiver_leaves true xs = refl
 receiver_leaves false xs = refl
 
-sender_leaves : (keep : Bool) (xs : List Step) → view (left keep Sender xs) ≡ record (view xs) { sender_stays = keep && stays Sender xs }
+sender_leaves : (keep : Bool) (xs : List Step) → view (steps_left keep Sender xs) ≡ record (view xs) { sender_stays = keep && stays Sender xs }
 sender_leaves true xs = refl
 sender_leaves false xs = refl
 
@@ -89,8 +89,8 @@ meets false xs = refl
 
 -- what both say, then what they hear
 pub after_said : (a b : Host) (e : Event) (xs : List Step) → view (spoken_by a b e xs) ≡ record (view xs) {
-  receiver_said = onto_if (stays Receiver xs) (words_of Receiver (stay.said_by a b 0 e)) (said Receiver xs);
-  sender_said = onto_if (stays Sender xs) (words_of Sender (stay.said_by b a 0 e)) (said Sender xs);
+  receiver_said = onto_if (stays Receiver xs) (words_of Receiver (stay.said_by a b 0 e)) (said_words Receiver xs);
+  sender_said = onto_if (stays Sender xs) (words_of Sender (stay.said_by b a 0 e)) (said_words Sender xs);
 }
 after_said a b e xs =
     let ss : List Word = words_of Sender (stay.said_by b a 0 e) in
@@ -98,8 +98,8 @@ after_said a b e xs =
     receiver_says rs (all_said Sender ss xs) ∙ ap (λ (v : View). record v { receiver_said = onto_if v.receiver_stays rs v.receiver_said }) (sender_says ss xs)
 
 pub after_taken : (a b : Host) (e : Event) (events : List Event) (xs : List Step) → view (taken_by a b e events xs) ≡ record (view xs) {
-  receiver_heard = onto_if (stay.stays a b events) (words_of Sender (stay.heard_by b a 0 e)) (heard Receiver xs);
-  sender_heard = onto_if (stay.stays b a events) (words_of Receiver (stay.heard_by a b 0 e)) (heard Sender xs);
+  receiver_heard = onto_if (stay.stays a b events) (words_of Sender (stay.heard_by b a 0 e)) (heard_words Receiver xs);
+  sender_heard = onto_if (stay.stays b a events) (words_of Receiver (stay.heard_by a b 0 e)) (heard_words Sender xs);
 }
 after_taken a b e events xs =
     let ss : List Word = words_of Receiver (stay.heard_by a b 0 e) in
@@ -125,8 +125,8 @@ step_view a b e events =
     let xs : List Step = steps a b events in
     let spoken : List Step = spoken_by a b e xs in
     let taken : List Step = taken_by a b e events spoken in
-    let away : List Step = left (keeps b a e events) Sender taken in
-    meets (stay.begins a b e events) (left (keeps a b e events) Receiver away)
+    let away : List Step = steps_left (keeps b a e events) Sender taken in
+    meets (stay.begins a b e events) (steps_left (keeps a b e events) Receiver away)
     ∙ ap (λ (v : View). if stay.begins a b e events then fresh else v)
     (receiver_leaves (keeps a b e events) away
     ∙ ap (λ (v : View). record v { receiver_stays = keeps a b e events && v.receiver_stays })
@@ -145,10 +145,10 @@ abbrev pub lawful : Host → Host → List Event → View
 lawful a b events = record {
   receiver_stays = stay.stays a b events;
   sender_stays = stay.stays b a events;
-  receiver_said = onto (words_of Receiver (stay.said a b 0 events)) [];
-  sender_said = onto (words_of Sender (stay.said b a 0 events)) [];
-  receiver_heard = onto (words_of Sender (stay.heard b a 0 events)) [];
-  sender_heard = onto (words_of Receiver (stay.heard a b 0 events)) [];
+  receiver_said = onto (words_of Receiver (stay.said_in_stay a b 0 events)) [];
+  sender_said = onto (words_of Sender (stay.said_in_stay b a 0 events)) [];
+  receiver_heard = onto (words_of Sender (stay.heard_in_stay b a 0 events)) [];
+  sender_heard = onto (words_of Receiver (stay.heard_in_stay a b 0 events)) [];
 }
 
 pub words_join : (who : Who) (xs ys : List (List Bool)) → words_of who (xs ++ ys) ≡ words_of who xs ++ words_of who ys
@@ -193,17 +193,17 @@ same_view a b (e ∷ events) =
     let turned : stay.begins b a e events ≡ stay.begins a b e events = sym (begins_either a b e events) in
     step_view a b e events ∙ ap (next a b e events) (same_view a b events)
     ∙ parts (stay.begins a b e events) (keeps a b e events && stay.stays a b events) (keeps b a e events && stay.stays b a events)
-    (onto_if (stay.stays a b events) (words_of Receiver (stay.said_by a b 0 e)) (onto (words_of Receiver (stay.said a b 0 events)) []))
-    (onto_if (stay.stays b a events) (words_of Sender (stay.said_by b a 0 e)) (onto (words_of Sender (stay.said b a 0 events)) []))
-    (onto_if (stay.stays a b events) (words_of Sender (stay.heard_by b a 0 e)) (onto (words_of Sender (stay.heard b a 0 events)) []))
-    (onto_if (stay.stays b a events) (words_of Receiver (stay.heard_by a b 0 e)) (onto (words_of Receiver (stay.heard a b 0 events)) []))
-    ∙ six _ (stay.stays a b (e ∷ events)) _ (stay.stays b a (e ∷ events)) _ (onto (words_of Receiver (stay.said a b 0 (e ∷ events))) []) _ (onto (words_of Sender (stay.said b a 0 (e ∷ events))) [])
-    _ (onto (words_of Sender (stay.heard b a 0 (e ∷ events))) []) _ (onto (words_of Receiver (stay.heard a b 0 (e ∷ events))) [])
+    (onto_if (stay.stays a b events) (words_of Receiver (stay.said_by a b 0 e)) (onto (words_of Receiver (stay.said_in_stay a b 0 events)) []))
+    (onto_if (stay.stays b a events) (words_of Sender (stay.said_by b a 0 e)) (onto (words_of Sender (stay.said_in_stay b a 0 events)) []))
+    (onto_if (stay.stays a b events) (words_of Sender (stay.heard_by b a 0 e)) (onto (words_of Sender (stay.heard_in_stay b a 0 events)) []))
+    (onto_if (stay.stays b a events) (words_of Receiver (stay.heard_by a b 0 e)) (onto (words_of Receiver (stay.heard_in_stay a b 0 events)) []))
+    ∙ six _ (stay.stays a b (e ∷ events)) _ (stay.stays b a (e ∷ events)) _ (onto (words_of Receiver (stay.said_in_stay a b 0 (e ∷ events))) []) _ (onto (words_of Sender (stay.said_in_stay b a 0 (e ∷ events))) [])
+    _ (onto (words_of Sender (stay.heard_in_stay b a 0 (e ∷ events))) []) _ (onto (words_of Receiver (stay.heard_in_stay a b 0 (e ∷ events))) [])
     refl
     (ap (λ (t : Bool). t || (keeps b a e events && stay.stays b a events)) (sym turned))
-    (sym (words_more Receiver begin (stay.stays a b events) (stay.said a b 0 events) (stay.said_by a b 0 e)))
-    (ap (λ (t : Bool). if t then [] else onto_if (stay.stays b a events) (words_of Sender (stay.said_by b a 0 e)) (onto (words_of Sender (stay.said b a 0 events)) [])) (sym turned)
-    ∙ sym (words_more Sender (stay.begins b a e events) (stay.stays b a events) (stay.said b a 0 events) (stay.said_by b a 0 e)))
-    (ap (λ (t : Bool). if t then [] else onto_if (stay.stays a b events) (words_of Sender (stay.heard_by b a 0 e)) (onto (words_of Sender (stay.heard b a 0 events)) [])) (sym turned)
-    ∙ sym (words_more Sender (stay.begins b a e events) (stay.stays a b events) (stay.heard b a 0 events) (stay.heard_by b a 0 e)))
-    (sym (words_more Receiver begin (stay.stays b a events) (stay.heard a b 0 events) (stay.heard_by a b 0 e)))
+    (sym (words_more Receiver begin (stay.stays a b events) (stay.said_in_stay a b 0 events) (stay.said_by a b 0 e)))
+    (ap (λ (t : Bool). if t then [] else onto_if (stay.stays b a events) (words_of Sender (stay.said_by b a 0 e)) (onto (words_of Sender (stay.said_in_stay b a 0 events)) [])) (sym turned)
+    ∙ sym (words_more Sender (stay.begins b a e events) (stay.stays b a events) (stay.said_in_stay b a 0 events) (stay.said_by b a 0 e)))
+    (ap (λ (t : Bool). if t then [] else onto_if (stay.stays a b events) (words_of Sender (stay.heard_by b a 0 e)) (onto (words_of Sender (stay.heard_in_stay b a 0 events)) [])) (sym turned)
+    ∙ sym (words_more Sender (stay.begins b a e events) (stay.stays a b events) (stay.heard_in_stay b a 0 events) (stay.heard_by b a 0 e)))
+    (sym (words_more Receiver begin (stay.stays b a events) (stay.heard_in_stay a b 0 events) (stay.heard_by a b 0 e)))

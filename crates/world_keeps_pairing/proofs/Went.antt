@@ -10,7 +10,7 @@ use Rattle.leader1822.proofs.lemmas.{same_flow-true, same_host-true}
 use Rattle.pairing_law.specs.Ends.{End, nothing, fits}
 use Rattle.pairing_law.specs.Marks.{Mark, Ask, Close}
 use Rattle.pairing_law.specs.Places.{placed_event}
-use Rattle.pairing_law.specs.Sides.{Life, Side, hears, opened, says}
+use Rattle.pairing_law.specs.Sides.{Life, Side, hears, lives_opened, says}
 use Rattle.pairing_law.specs.Links.{Sockets, Who}
 use Rattle.reset_law.specs.Events.{Event, place}
 use Rattle.reset_law.specs.Stays as stay
@@ -116,7 +116,7 @@ module _ (h p : Host) where
   asked_more c log None w = tt
   asked_more c log (Some n) w = went_more h p n c log w
 
-  opened_went : (log : List Crossing) (a q : Option ℕ) (lives : List Life) → AskedWent log a → AllWent log lives → AllWent log (opened a q lives)
+  opened_went : (log : List Crossing) (a q : Option ℕ) (lives : List Life) → AskedWent log a → AllWent log lives → AllWent log (lives_opened a q lives)
   opened_went log None q lives a w = w
   opened_went log (Some n) None lives a w = w
   opened_went log (Some n) (Some k) lives a w = (a, w)
@@ -132,7 +132,7 @@ module _ (h p : Host) where
 
   hears_one : (log : List Crossing) (m : Mark) (x : Side) → SideWent log x → SideWent log (hears m x)
   hears_one log (Ask n) x w = by (fits (Ask n) x.end) where
-    by : (b : Bool) → AskedWent log (if b then record x.end { partner = Some n } else x.end).asked × AllWent log (if b then opened x.end.asked (Some n) x.lives else x.lives)
+    by : (b : Bool) → AskedWent log (if b then record x.end { partner = Some n } else x.end).asked × AllWent log (if b then lives_opened x.end.asked (Some n) x.lives else x.lives)
     by true = (w.0, opened_went log x.end.asked (Some n) x.lives w.0 w.1)
     by false = w
   hears_one log Close x w = by (fits Close x.end) x.end.gone where

@@ -63,8 +63,8 @@ abbrev pub keeps : Host → Host → Event → List Event → Bool
 keeps x y e events = stay.ready x y (e ∷ events) && not (stay.takes_reset x y e)
 
 -- it leaves where it doesn't keep
-abbrev pub left : Bool → Who → List Step → List Step
-left keeps who steps = if keeps then steps else Leaves who ∷ steps
+abbrev pub steps_left : Bool → Who → List Step → List Step
+steps_left keeps who steps = if keeps then steps else Leaves who ∷ steps
 
 abbrev pub met : Bool → List Step → List Step
 met begins steps = if begins then Meets ∷ steps else steps
@@ -83,4 +83,4 @@ taken_by a b e events steps =
 abbrev pub steps : Host → Host → List Event → List Step
 steps a b [] = []
 steps a b (e ∷ events) =
-    met (stay.begins a b e events) (left (keeps a b e events) Receiver (left (keeps b a e events) Sender (taken_by a b e events (spoken_by a b e (steps a b events)))))
+    met (stay.begins a b e events) (steps_left (keeps a b e events) Receiver (steps_left (keeps b a e events) Sender (taken_by a b e events (spoken_by a b e (steps a b events)))))

@@ -20,7 +20,7 @@ ghost use Rattle.pairing_law.specs.Marks.{Ask, Close};
 ghost use Rattle.pairing_law.specs.Partners.{IsIn, SafePartners};
 ghost use Rattle.pairing_law.specs.Places.{tagged};
 ghost use Rattle.pairing_law.specs.Sides.{both};
-ghost use Rattle.pairing_law.specs.Example.{first, second};
+ghost use Rattle.pairing_law.specs.Example.{first_sockets, second_sockets};
 ghost use Rattle.net_sim.specs.declared.life.Life.{Life};
 ghost use Rattle.net_sim.specs.Safe as book;
 ghost use Rattle.net_sim.specs.Safe.{AreTwo, Match, control_flow, own_request, partner_request, receives};
@@ -29,7 +29,7 @@ ghost use Rattle.host_keeps_pairing.specs.Ends.{HasEnd};
 ghost use Rattle.net_sim.specs.Clean.{HaveAddresses, IsLawful};
 ghost use Rattle.net_sim.specs.Story.{Moment, program};
 ghost use Rattle.net_sim.specs.Timeline.{IsTimeline, crossings_of};
-ghost use Rattle.pairing_law.specs.Links.{AreSteps, Leaves, Receiver, Says, Sender, Sockets, events_at, heard, receiver, said, sender, stays};
+ghost use Rattle.pairing_law.specs.Links.{AreSteps, Leaves, Receiver, Says, Sender, Sockets, events_at, heard_words, receiver, said_words, sender, stays};
 ghost use Rattle.world_keeps_pairing.specs.Free.{law_events, origin_in};
 ghost use Rattle.world_keeps_pairing.specs.Steps.{onto, spoken_by, steps, words_by, words_of};
 ghost use Rattle.host_keeps_pairing.specs.Openings.{AreAmong};
@@ -49,8 +49,8 @@ pub fn dialogues()
     ensures stays { (a b : Host) (events : List reset.Event) → (stays Receiver (steps a b events) ≡ stay.stays a b events) × (stays Sender (steps a b events) ≡ stay.stays b a events) }
 
     // what each said and heard in its last stay is what stands in the texts of that law
-    ensures said { (a b : Host) (events : List reset.Event) → (said Receiver (steps a b events) ≡ onto (words_of Receiver (stay.said a b 0 events)) []) × (said Sender (steps a b events) ≡ onto (words_of Sender (stay.said b a 0 events)) []) }
-    ensures heard { (a b : Host) (events : List reset.Event) → (heard Receiver (steps a b events) ≡ onto (words_of Sender (stay.heard b a 0 events)) []) × (heard Sender (steps a b events) ≡ onto (words_of Receiver (stay.heard a b 0 events)) []) }
+    ensures said { (a b : Host) (events : List reset.Event) → (said_words Receiver (steps a b events) ≡ onto (words_of Receiver (stay.said_in_stay a b 0 events)) []) × (said_words Sender (steps a b events) ≡ onto (words_of Sender (stay.said_in_stay b a 0 events)) []) }
+    ensures heard { (a b : Host) (events : List reset.Event) → (heard_words Receiver (steps a b events) ≡ onto (words_of Sender (stay.heard_in_stay b a 0 events)) []) × (heard_words Sender (steps a b events) ≡ onto (words_of Receiver (stay.heard_in_stay a b 0 events)) []) }
 
     // in a run, whatever they say, if they may say it, each hears only what it may, and they meet as they may
     ensures may { (hosts : List Host) (e : reset.Event) (events : List reset.Event) (a b : Host) → runs.IsRun hosts (e ∷ events) → AreSteps (spoken_by a b e (steps a b events)) → AreSteps (steps a b (e ∷ events)) }
@@ -131,18 +131,18 @@ pub fn worked_lives()
 /// Words and steps: host `one` asks host `two` for a connection, and closes it, in one message.
 pub fn worked_steps()
     // the receiver's words are its RTS with its link and the CLS of its receiving sockets; the sender's its STR and the others
-    ensures receiver { words_by Receiver 5 (Legal (command.Rts 16 33 2) ∷ Legal (command.Str 35 18 8) ∷ Legal (command.Cls 16 33) ∷ Legal (command.Cls 35 18) ∷ Wrong 1 [] ∷ []) ≡ record { sockets = first; link = 2; mark = Ask 5 } ∷ record { sockets = first; link = 0; mark = Close } ∷ [] }
-    ensures sender { words_by Sender 5 (Legal (command.Rts 16 33 2) ∷ Legal (command.Str 35 18 8) ∷ Legal (command.Cls 16 33) ∷ Legal (command.Cls 35 18) ∷ Wrong 1 [] ∷ []) ≡ record { sockets = second; link = 0; mark = Ask 5 } ∷ record { sockets = second; link = 0; mark = Close } ∷ [] }
+    ensures receiver { words_by Receiver 5 (Legal (command.Rts 16 33 2) ∷ Legal (command.Str 35 18 8) ∷ Legal (command.Cls 16 33) ∷ Legal (command.Cls 35 18) ∷ Wrong 1 [] ∷ []) ≡ record { sockets = first_sockets; link = 2; mark = Ask 5 } ∷ record { sockets = first_sockets; link = 0; mark = Close } ∷ [] }
+    ensures sender { words_by Sender 5 (Legal (command.Rts 16 33 2) ∷ Legal (command.Str 35 18 8) ∷ Legal (command.Cls 16 33) ∷ Legal (command.Cls 35 18) ∷ Wrong 1 [] ∷ []) ≡ record { sockets = second_sockets; link = 0; mark = Ask 5 } ∷ record { sockets = second_sockets; link = 0; mark = Close } ∷ [] }
 
     // what is said of two receiving sockets, or of two sending ones, is no word
     ensures none { (words_by Receiver 5 (Legal (command.Cls 16 18) ∷ Legal (command.Rts 33 35 2) ∷ []) ≡ []) × (words_by Sender 5 (Legal (command.Cls 33 35) ∷ Legal (command.Str 16 18 8) ∷ []) ≡ []) }
 
     // the message goes out at place 5, while both stay
-    ensures said { steps one two (Out one two 0 (Other (tagged 5 asking)) ∷ reset_of_two) ≡ Says Receiver (record { sockets = first; link = 0; mark = Close }) ∷ Says Receiver (record { sockets = first; link = 2; mark = Ask 5 }) ∷ steps one two reset_of_two }
+    ensures said { steps one two (Out one two 0 (Other (tagged 5 asking)) ∷ reset_of_two) ≡ Says Receiver (record { sockets = first_sockets; link = 0; mark = Close }) ∷ Says Receiver (record { sockets = first_sockets; link = 2; mark = Ask 5 }) ∷ steps one two reset_of_two }
 
     // and is heard at that place, by a host that stays; by one that has left nothing is
-    ensures heard { heard Sender (steps one two (In one two 0 (Other (tagged 5 asking)) ∷ reset_of_two)) ≡ record { sockets = first; link = 0; mark = Close } ∷ record { sockets = first; link = 2; mark = Ask 5 } ∷ [] }
-    ensures unheard { heard Sender (steps one two (In one two 0 (Other (tagged 5 asking)) ∷ [])) ≡ [] }
+    ensures heard { heard_words Sender (steps one two (In one two 0 (Other (tagged 5 asking)) ∷ reset_of_two)) ≡ record { sockets = first_sockets; link = 0; mark = Close } ∷ record { sockets = first_sockets; link = 2; mark = Ask 5 } ∷ [] }
+    ensures unheard { heard_words Sender (steps one two (In one two 0 (Other (tagged 5 asking)) ∷ [])) ≡ [] }
 
     // they meet where the RRP is taken, and leave where the first contacts the second anew
     ensures meets { (stays Receiver (steps one two reset_of_two) ≡ true) × (stays Sender (steps one two reset_of_two) ≡ true) }

@@ -99,5 +99,5 @@ own_calls a b (x ∷ moments) = if keeps a b (event_in x) (events_of moments) th
 
 -- a host numbers a connection by its own socket, the foreign one, and how many connections of theirs it has seen go (`numbered`). Its peer
 -- names the same connection by the same number, and its own socket first
-abbrev pub turned : ℕ → ℕ → ℕ → ℕ
-turned own foreign gone = numbered foreign own gone
+abbrev pub numbered_by_peer : ℕ → ℕ → ℕ → ℕ
+numbered_by_peer own foreign gone = numbered foreign own gone

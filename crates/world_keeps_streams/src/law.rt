@@ -20,7 +20,7 @@ ghost use Rattle.net_sim.specs.Timeline.{IsTimeline, crossings_of};
 ghost use Rattle.net_sim.specs.Told.{kept_in};
 ghost use Rattle.net_sim.specs.World.{WorldState};
 ghost use Rattle.net_sim.specs.WorkedMoments.{connected};
-ghost use Rattle.world_keeps_streams.specs.Calls.{own_calls, turned};
+ghost use Rattle.world_keeps_streams.specs.Calls.{own_calls, numbered_by_peer};
 
 use leader1822::Carrier;
 
@@ -41,11 +41,11 @@ pub fn programs()
 /// and how many connections of theirs are over, which both count alike.
 pub fn streams()
     // what the one has taken in a connection is a front of what the other has sent in it
-    ensures front { (hosts : List Host) (moments : List Moment) → HaveAddresses hosts → mail.IsRun hosts (crossings_of moments) → IsTimeline hosts moments → (a b : Host) (link : ℕ) → (link == 0) ≡ false → stay.stays a b (events_of moments) ≡ true → stay.stays b a (events_of moments) ≡ true → (c : ℕ) → IsFront ((receiver_now numbered b link (own_calls a b moments)).taken c) ((sender_now turned a link (own_calls b a moments)).sent c) }
+    ensures front { (hosts : List Host) (moments : List Moment) → HaveAddresses hosts → mail.IsRun hosts (crossings_of moments) → IsTimeline hosts moments → (a b : Host) (link : ℕ) → (link == 0) ≡ false → stay.stays a b (events_of moments) ≡ true → stay.stays b a (events_of moments) ≡ true → (c : ℕ) → IsFront ((receiver_now numbered b link (own_calls a b moments)).taken c) ((sender_now numbered_by_peer a link (own_calls b a moments)).sent c) }
 
     // with what was returned, what was taken is within what was granted, and so is what was sent
     ensures taken { (hosts : List Host) (moments : List Moment) → HaveAddresses hosts → mail.IsRun hosts (crossings_of moments) → IsTimeline hosts moments → (a b : Host) (link : ℕ) → (link == 0) ≡ false → stay.stays a b (events_of moments) ≡ true → stay.stays b a (events_of moments) ≡ true → (c : ℕ) → AreGranted ((receiver_now numbered b link (own_calls a b moments)).taken c) ((receiver_now numbered b link (own_calls a b moments)).returned c) ((receiver_now numbered b link (own_calls a b moments)).granted c) }
-    ensures sent { (hosts : List Host) (moments : List Moment) → HaveAddresses hosts → mail.IsRun hosts (crossings_of moments) → IsTimeline hosts moments → (a b : Host) (link : ℕ) → (link == 0) ≡ false → stay.stays a b (events_of moments) ≡ true → stay.stays b a (events_of moments) ≡ true → (c : ℕ) → AreGranted ((sender_now turned a link (own_calls b a moments)).sent c) ((receiver_now numbered b link (own_calls a b moments)).returned c) ((receiver_now numbered b link (own_calls a b moments)).granted c) }
+    ensures sent { (hosts : List Host) (moments : List Moment) → HaveAddresses hosts → mail.IsRun hosts (crossings_of moments) → IsTimeline hosts moments → (a b : Host) (link : ℕ) → (link == 0) ≡ false → stay.stays a b (events_of moments) ≡ true → stay.stays b a (events_of moments) ≡ true → (c : ℕ) → AreGranted ((sender_now numbered_by_peer a link (own_calls b a moments)).sent c) ((receiver_now numbered b link (own_calls a b moments)).returned c) ((receiver_now numbered b link (own_calls a b moments)).granted c) }
 {}
 
 /// The lives of a book, over every list of moments in which what crosses is a run of the mailboxes.
@@ -80,5 +80,5 @@ pub fn worked_calls()
     ensures contact { own_calls dialogue.first dialogue.second (Asked dialogue.first (request.Contact dialogue.second) ∷ connected) ≡ [] }
 
     // both count alike
-    ensures turned { (own foreign gone : ℕ) → turned own foreign gone ≡ numbered foreign own gone }
+    ensures turned { (own foreign gone : ℕ) → numbered_by_peer own foreign gone ≡ numbered foreign own gone }
 {}

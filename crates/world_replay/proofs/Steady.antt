@@ -1,5 +1,5 @@
 -- A settled carrier leaves a world no choice.
-use Rattle.std.proofs.Common.{◌≡◌, ◌||◌, inl, inr, ℕ, zero, suc, Bool, true, false, List, ◌∷◌, length, nat_lt, Option, Some, None, Result, Ok, Err, refl, sym, ap, subst, ◌∙◌}
+use Rattle.std.proofs.Common.{◌≡◌, ◌||◌, inl, inr, ℕ, zero, suc, Bool, true, false, List, [], ◌∷◌, length, nat_lt, Option, Some, None, Result, Ok, Err, refl, sym, ap, subst, ◌∙◌}
 use Rattle.std.proofs.lemmas.Bool.{false≢true}
 use Rattle.std.specs.Bool.{MatchBool}
 use Rattle.leader1822.specs.Calls.{crossing_of, step_crossings, is_memory, is_halt}
@@ -11,7 +11,7 @@ use Rattle.leader1822.specs.declared.crossing.Inbound.{Inbound}
 use Rattle.leader1822.specs.declared.event.NetEvent.{NetEvent}
 use Rattle.leader1822.specs.declared.message.HostMessage.{HostMessage}
 use Rattle.net_sim.specs.Book.{Kept}
-use Rattle.net_sim.specs.World.{Calls, WorldState, seat_of, services_of, up_in, with_carrier, moved, changed, with_server, with_user, TypeGives, DoesOrHalts, stops, wants_memory, Refuses, Does, Halts, Passes, OfferEnds, OfferGives, TakeEnds, TakeGives, NetEnds, QuietEnds, AskGives, AtProgram, AtSeat, EventGives, StepGives, Repeats, TurnsOf, Calms, CalmGives}
+use Rattle.net_sim.specs.World.{Calls, WorldState, seat_of, services_of, up_in, with_carrier, world_moved, changed, with_server, with_user, TypeGives, DoesOrHalts, stops, wants_memory, Refuses, Does, Halts, Passes, OfferEnds, OfferGives, TakeEnds, TakeGives, NetEnds, QuietEnds, AskGives, AtProgram, AtSeat, EventGives, StepGives, Repeats, TurnsOf, Calms, CalmGives}
 use Rattle.net_sim.specs.declared.event.Event.{Event}
 use Rattle.net_sim.specs.declared.event.Event.TheVariants.{Net, Quiet, Offer, Take, Ask, Server, User, Typed}
 use Rattle.net_sim.specs.declared.event.WorldFault.{WorldFault}
@@ -155,7 +155,7 @@ halts_stop c old r new h goes = no_stop r (ap stops h.answer ∙ memory_stops h.
 module _ {C : Type 0} (calls : Calls C) (settled : AreSettled (carried calls)) where
   -- an offer
   abbrev offered_to : Host → NcpState → HostMessage → WorldState C → Unit {0} → C → WorldState C
-  offered_to h s m old done c = moved c h (crossing.Out m) (offered s (length old.kept.book.crossings)) old
+  offered_to h s m old done c = world_moved c h (crossing.Out m) (offered s (length old.kept.book.crossings)) old
 
   offer_ends : (h : Host) (s : NcpState) (m : HostMessage) (old : WorldState C) (a : Result (Unit {0}) CarrierFault) (c : C) (r : Result (Unit {0}) WorldFault) (new : WorldState C) → calls.offers old.carrier m a c → OfferEnds h s m a c old r new
       → stops r ≡ false → Ends (calls.offers old.carrier m) (offered_to h s m old) old r new
@@ -179,7 +179,7 @@ module _ {C : Type 0} (calls : Calls C) (settled : AreSettled (carried calls)) w
   -- a taking
   abbrev taken_by : Host → NcpState → WorldState C → Option Inbound → C → WorldState C
   taken_by h s old None c = with_carrier c old
-  taken_by h s old (Some i) c = moved c h (crossing_of i) (accepted s i (length old.kept.book.crossings)) old
+  taken_by h s old (Some i) c = world_moved c h (crossing_of i) (accepted s i (length old.kept.book.crossings)) old
 
   take_ends : (h : Host) (s : NcpState) (old : WorldState C) (a : Result (Option Inbound) CarrierFault) (c : C) (r : Result (Unit {0}) WorldFault) (new : WorldState C) → calls.takes old.carrier h a c → TakeEnds h s a c old r new
       → stops r ≡ false → Ends (calls.takes old.carrier h) (taken_by h s old) old r new

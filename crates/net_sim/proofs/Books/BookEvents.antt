@@ -8,8 +8,8 @@ use Rattle.leader1822.specs.Mailboxes.{same_flow}
 use Rattle.leader1822.specs.declared.crossing.Crossing.{Crossing}
 use Rattle.sockets.specs.declared.request.Request.{Request}
 use Rattle.reset_law.specs.Boxes.{Box, WaitsWith, Fits, boxes, post_of, posted}
-use Rattle.reset_law.specs.Events.{Event, Contact, Out, In, Told, Down, Up, Idle, is_up, part_of, place, turned}
-use Rattle.reset_law.specs.Pairs.{Pair, MaySend, moved, pair}
+use Rattle.reset_law.specs.Events.{Event, Contact, Out, In, Told, Down, Up, Idle, is_up, part_of, place, up_after_event}
+use Rattle.reset_law.specs.Pairs.{Pair, MaySend, pair_moved, pair}
 use Rattle.reset_law.specs.Runs.{Needs, Allowed, IsRun}
 use Rattle.net_sim.specs.Book.{Called, contacts_asked}
 use Rattle.net_sim.specs.Projection.{event_of, event_by}
@@ -47,15 +47,15 @@ place_told (Asked h r ∷ moments) = by_asked (λ e xs. place (called_events xs 
 
 up_told : (hosts : List Host) (h : Host) (moments : List Moment) → is_up hosts h (told_events moments) ≡ is_up hosts h (events_of moments)
 up_told hosts h [] = refl
-up_told hosts h (Crossed c ∷ moments) = ap (λ (up : Bool). turned h (event_of c) up) (up_told hosts h moments)
+up_told hosts h (Crossed c ∷ moments) = ap (λ (up : Bool). up_after_event h (event_of c) up) (up_told hosts h moments)
 up_told hosts h (Asked g r ∷ moments) = by_asked (λ e xs. is_up hosts h (called_events xs ++ told_events moments) ≡ is_up hosts h (e ∷ events_of moments)) g (places moments) r (λ peer. up_told hosts h moments) (up_told hosts h moments)
 
 pub pair_told : (a b : Host) (moments : List Moment) → pair a b (told_events moments) ≡ pair a b (events_of moments)
 pair_told a b [] = refl
-pair_told a b (Crossed c ∷ moments) = ap (λ (p : Pair). moved (part_of a b (event_of c)) p) (pair_told a b moments)
+pair_told a b (Crossed c ∷ moments) = ap (λ (p : Pair). pair_moved (part_of a b (event_of c)) p) (pair_told a b moments)
 pair_told a b (Asked h r ∷ moments) =
     by_asked (λ e xs. pair a b (called_events xs ++ told_events moments) ≡ pair a b (e ∷ events_of moments)) h (places moments) r
-    (λ peer. ap (λ (p : Pair). moved (part_of a b (Contact h peer)) p) (pair_told a b moments)) (pair_told a b moments)
+    (λ peer. ap (λ (p : Pair). pair_moved (part_of a b (Contact h peer)) p) (pair_told a b moments)) (pair_told a b moments)
 
 boxes_told : (a b : Host) (moments : List Moment) → boxes a b (told_events moments) ≡ boxes a b (events_of moments)
 boxes_told a b [] = refl

@@ -22,20 +22,20 @@ use Rattle.host_pairs.specs.declared.notice.Notice.{Notice}
 use Rattle.sockets.specs.declared.fault.NcpFault.TheVariants as problem
 use Rattle.sockets.specs.declared.request.Request.{Request}
 use Rattle.sockets.specs.declared.request.Request.TheVariants as request
-use Rattle.host_services.specs.Services.{DeskState, ServicesState, opening_desk}
+use Rattle.host_services.specs.Services.{ServiceDeskState, ServicesState, opening_desk}
 use Rattle.host_services.specs.Turns.{server_begun, user_begun}
 use Rattle.host_services.specs.TypedLines.{line_bits}
-use Rattle.net_sim.specs.Book.{Kept, crossed, all_crossed, told, all_told, asked, all_asked}
+use Rattle.net_sim.specs.Book.{Kept, crossed, all_crossed, book_told, all_told, asked, all_asked}
 use Rattle.net_sim.specs.Carriers.{shown, IsBooked}
 use Rattle.net_sim.specs.Whole.{Each}
 use Rattle.net_sim.proofs.Books.Always.{run_keeps, calm_keeps}
-use Rattle.net_sim.specs.World.{Calls, WorldState, WorldFault, Carrier, Program, Event, Net, Quiet, Offer, Take, Ask, Server, User, Typed, Seat, opening_world, seat_of, services_of, noticed, tended, turn_of, with_server, with_user, with_carrier, moved, changed, served_at, DoesOrHalts, TypeGives, Refuses, Does, Halts, Passes, OfferEnds, OfferGives, TakeEnds, TakeGives, NetEnds, QuietEnds, AskGives, AtProgram, AtSeat, EventGives, StepGives, RunGives, CalmGives}
+use Rattle.net_sim.specs.World.{Calls, WorldState, WorldFault, Carrier, Program, Event, Net, Quiet, Offer, Take, Ask, Server, User, Typed, Seat, opening_world, seat_of, services_of, noticed, tended, turn_of, with_server, with_user, with_carrier, world_moved, changed, served_at, DoesOrHalts, TypeGives, Refuses, Does, Halts, Passes, OfferEnds, OfferGives, TakeEnds, TakeGives, NetEnds, QuietEnds, AskGives, AtProgram, AtSeat, EventGives, StepGives, RunGives, CalmGives}
 
 -- ---- the crossings of what is kept
 
 pub told_crossings : (h : Host) (ns : List Notice) (k : Kept) → (all_told h ns k).book.crossings ≡ k.book.crossings
 told_crossings h [] k = refl
-told_crossings h (n ∷ ns) k = told_crossings h ns (told h n k)
+told_crossings h (n ∷ ns) k = told_crossings h ns (book_told h n k)
 
 pub crossed_crossings : (cs : List Crossing) (k : Kept) → (all_crossed cs k).book.crossings ≡ cs ++ k.book.crossings
 crossed_crossings [] k = refl
@@ -102,7 +102,7 @@ module _ {C : Type 0} (own : Calls C) where
   offer_ends : (h : Host) (s : NcpState) (m : HostMessage) (answer : Result (Unit {0}) CarrierFault) (c : C) (old : WorldState C) (r : Result (Unit {0}) WorldFault) (new : WorldState C)
       → IsBooked own.seen old → old.stopped ≡ false → ShowsOffer (calls.seen old.carrier) m answer (calls.seen c) → OfferEnds h s m answer c old r new → IsBooked own.seen new
   offer_ends h s m (Ok done) c old r new b running shows ends = elim ends [
-    | inl d ↦ done_books old c (crossing.Out m ∷ []) (moved c h (crossing.Out m) (offered s (length old.kept.book.crossings)) old) r new b running (grown_log (calls.seen old.carrier) (crossing.Out m ∷ []) (calls.seen c) shows) refl
+    | inl d ↦ done_books old c (crossing.Out m ∷ []) (world_moved c h (crossing.Out m) (offered s (length old.kept.book.crossings)) old) r new b running (grown_log (calls.seen old.carrier) (crossing.Out m ∷ []) (calls.seen c) shows) refl
         (heard_crossings h (offered s (length old.kept.book.crossings)).1 (turn_of h (noticed old) (services_of h old.services) (offered s (length old.kept.book.crossings))).1.asked (crossed (crossing.Out m) old.kept)) d
     | inr x ↦ halt_books old c (crossing.Out m ∷ []) r new b running (grown_log (calls.seen old.carrier) (crossing.Out m ∷ []) (calls.seen c) shows) x
   ]
@@ -121,7 +121,7 @@ module _ {C : Type 0} (own : Calls C) where
   take_ends h s (Ok None) c old r new b running shows ends =
       done_books old c [] (with_carrier c old) r new b running (grown_log (calls.seen old.carrier) [] (calls.seen c) shows) refl refl ends
   take_ends h s (Ok (Some i)) c old r new b running shows ends = elim ends [
-    | inl d ↦ done_books old c (crossing_of i ∷ []) (moved c h (crossing_of i) (accepted s i (length old.kept.book.crossings)) old) r new b running (grown_log (calls.seen old.carrier) (crossing_of i ∷ []) (calls.seen c) shows.0) refl
+    | inl d ↦ done_books old c (crossing_of i ∷ []) (world_moved c h (crossing_of i) (accepted s i (length old.kept.book.crossings)) old) r new b running (grown_log (calls.seen old.carrier) (crossing_of i ∷ []) (calls.seen c) shows.0) refl
         (heard_crossings h (accepted s i (length old.kept.book.crossings)).1 (turn_of h (noticed old) (services_of h old.services) (accepted s i (length old.kept.book.crossings))).1.asked (crossed (crossing_of i) old.kept)) d
     | inr x ↦ halt_books old c (crossing_of i ∷ []) r new b running (grown_log (calls.seen old.carrier) (crossing_of i ∷ []) (calls.seen c) shows.0) x
   ]
@@ -151,7 +151,7 @@ module _ {C : Type 0} (own : Calls C) where
   ]
 
   -- something of the services alone
-  begun_books : (h : Host) (t : ServicesState × DeskState) (old : WorldState C) (r : Result (Unit {0}) WorldFault) (new : WorldState C) → IsBooked own.seen old → old.stopped ≡ false
+  begun_books : (h : Host) (t : ServicesState × ServiceDeskState) (old : WorldState C) (r : Result (Unit {0}) WorldFault) (new : WorldState C) → IsBooked own.seen old → old.stopped ≡ false
       → DoesOrHalts (tended h t old) old r new → IsBooked own.seen new
   begun_books h t old r new b running (inl d) = done_books old old.carrier [] (tended h t old) r new b running refl refl (asked_crossings h t.1.asked old.kept) d
   begun_books h t old r new b running (inr x) = halt_books old old.carrier [] r new b running refl x

@@ -10,7 +10,7 @@ use Rattle.leader1822.specs.declared.crossing.Crossing.TheVariants as crossing
 use Rattle.leader1822.specs.declared.crossing.Inbound.{Inbound}
 use Rattle.leader1822.specs.declared.crossing.Inbound.TheVariants as inbound
 use Rattle.sockets.proofs.lemmas.{same_host-true}
-use Rattle.sockets.specs.Accepting.{accepted, turn_of, turned}
+use Rattle.sockets.specs.Accepting.{accepted, turn_of, after_turn}
 use Rattle.host_pairs.specs.Turn.{message_taken, answered_turn}
 use Rattle.host_pairs.specs.Entries.{is_busy}
 use Rattle.host_pairs.specs.Pair.{PairState}
@@ -30,11 +30,11 @@ use Rattle.net_sim.specs.Book.{Kept}
 use Rattle.net_sim.specs.Carriers.{shown}
 use Rattle.net_sim.specs.Clean.{HaveAddresses, IsLawful}
 use Rattle.net_sim.specs.Inside.Held.{IsHeld}
-use Rattle.net_sim.specs.Inside.Parts.{AreLive, IsOnce, ended, hosts_of, hosts_served, running}
-use Rattle.net_sim.specs.Story.{Moment, Crossed, Asked, after, places, program}
+use Rattle.net_sim.specs.Inside.Parts.{AreLive, IsOnce, world_ended, hosts_of, hosts_served, running}
+use Rattle.net_sim.specs.Story.{Moment, Crossed, Asked, program_after, places, program}
 use Rattle.net_sim.specs.Timeline.{crossings_of}
 use Rattle.net_sim.specs.Whole.{IsNamed, IsWhole, seat_in}
-use Rattle.net_sim.specs.World.{Calls, WorldState, WorldFault, Carrier, Event, Seat, HostServices, EventGives, Refuses, StepGives, opening_world}
+use Rattle.net_sim.specs.World.{Calls, WorldState, WorldFault, Carrier, Event, Seat, ServiceSeat, EventGives, Refuses, StepGives, opening_world}
 use Rattle.net_sim.proofs.Resets.Clean.{opening_lawful, step_lawful}
 use Rattle.net_sim.proofs.Books.Whole.{step_whole}
 
@@ -80,10 +80,10 @@ turn_live false x y left right = right
 accepted_live : (s : NcpState) (i : Inbound) (stamp : ℕ) → IsLive s → IsLive (accepted s i stamp).0
 unfolding accepted
 accepted_live s (inbound.Message m) stamp live =
-    turn_live (same_host s.own m.flow.destination) (turned s m.flow.source (message_taken m.flow.source stamp m.flow.link.0 m.text (turn_of s m.flow.source))) (s, []) live live
+    turn_live (same_host s.own m.flow.destination) (after_turn s m.flow.source (message_taken m.flow.source stamp m.flow.link.0 m.text (turn_of s m.flow.source))) (s, []) live live
 accepted_live s (inbound.Answer kind f) stamp live =
     let busy : Bool = is_busy (pair_with f.destination s.peers).busy f.link.0 in
-    let turn : NcpState × List Notice = turned s f.destination (answered_turn f.destination kind f.link.0 (turn_of s f.destination)) in
+    let turn : NcpState × List Notice = after_turn s f.destination (answered_turn f.destination kind f.link.0 (turn_of s f.destination)) in
     turn_live (same_host s.own f.source) (if busy then turn else (s, [])) (s, []) (turn_live busy turn (s, []) live live) live
 
 offered_live : (s : NcpState) (stamp : ℕ) → IsLive s → IsLive (offered s stamp).0
@@ -112,7 +112,7 @@ served_live s (request.Close socket) live =
     (owner_live s (owner_of socket s.peers) (λ e. closed_end socket) live)
 served_live s (request.Echo peer octet) live = live
 
-after_live : (a : Host) (here : ℕ) (x : Moment) (s : NcpState) → IsLive s → IsLive (after a here x s)
+after_live : (a : Host) (here : ℕ) (x : Moment) (s : NcpState) → IsLive s → IsLive (program_after a here x s)
 after_live a here (Crossed (crossing.Out m)) s live = if_live (same_host a m.flow.source) (offered s here).0 s (offered_live s here live) live
 after_live a here (Crossed (crossing.In m)) s live = if_live (same_host a m.flow.destination) (accepted s (inbound.Message m) here).0 s (accepted_live s (inbound.Message m) here live) live
 after_live a here (Crossed (crossing.Answer kind f)) s live = if_live (same_host a f.source) (accepted s (inbound.Answer kind f) here).0 s (accepted_live s (inbound.Answer kind f) here live) live
@@ -198,7 +198,7 @@ event_steps {C} calls e old r new run gives =
     let mine : EventGives calls old e r new = subst (λ (w : WorldState C). EventGives calls w e r new) (still_running old run) gives in
     subst (λ (b : Bool). MatchBool b (Refuses (Carrier fault.Stopped) old r new) (EventGives calls old e r new)) (sym run) mine
 
-pub followed_held : {C : Type 0} (own : Calls C) (e : Event) (old : WorldState C) (c : C) (seats : List Seat) (services : List HostServices) (k : Kept) (r : Result (Unit {0}) WorldFault) → IsHeld own.seen old → IsNamed e
-    → old.stopped ≡ false → EventGives (shown own) (running old.carrier old.seats old.services old.kept) e r (ended c seats services k r) → IsRun (own.seen c).hosts (own.seen c).log → IsHeld own.seen (ended c seats services k r)
+pub followed_held : {C : Type 0} (own : Calls C) (e : Event) (old : WorldState C) (c : C) (seats : List Seat) (services : List ServiceSeat) (k : Kept) (r : Result (Unit {0}) WorldFault) → IsHeld own.seen old → IsNamed e
+    → old.stopped ≡ false → EventGives (shown own) (running old.carrier old.seats old.services old.kept) e r (world_ended c seats services k r) → IsRun (own.seen c).hosts (own.seen c).log → IsHeld own.seen (world_ended c seats services k r)
 followed_held own e old c seats services k r held named run gives is =
-    step_held own e old r (ended c seats services k r) held named (event_steps (shown own) e old r (ended c seats services k r) run gives) is
+    step_held own e old r (world_ended c seats services k r) held named (event_steps (shown own) e old r (world_ended c seats services k r) run gives) is

@@ -7,26 +7,26 @@ use Rattle.net_sim.specs.Inside.Seats.{emptied_in_order, turned_in_order}
 use Rattle.host_pairs.specs.declared.notice.Notice.{Notice}
 use Rattle.leader1822.specs.Host.{Host}
 use Rattle.sockets.specs.declared.request.Request.{Request}
-use Rattle.net_sim.specs.Book.{Kept, Told, Called, Reported, crossed, all_crossed, told, all_told, asked, all_asked, all_reported, contacts_asked}
+use Rattle.net_sim.specs.Book.{Kept, Told, Called, Reported, crossed, all_crossed, book_told, all_told, asked, all_asked, all_reported, contacts_asked}
 use Rattle.net_sim.specs.Inside.Lives as all
 use Rattle.net_sim.specs.Inside.Lives.{LivesState, of_kept, followed, written, told_at}
-use Rattle.net_sim.specs.World.{Seat, HostServices, turned, all_turned, emptied, all_emptied}
+use Rattle.net_sim.specs.World.{Seat, ServiceSeat, seats_turned, all_turned, emptied, all_emptied}
 
-turned_behind : (cs : List Crossing) (c : Crossing) (seats : List Seat) → all_turned (cs ++ c ∷ []) seats ≡ all_turned cs (turned c seats)
+turned_behind : (cs : List Crossing) (c : Crossing) (seats : List Seat) → all_turned (cs ++ c ∷ []) seats ≡ all_turned cs (seats_turned c seats)
 turned_behind [] c seats = refl
-turned_behind (d ∷ cs) c seats = ap (λ (s : List Seat). turned d s) (turned_behind cs c seats)
+turned_behind (d ∷ cs) c seats = ap (λ (s : List Seat). seats_turned d s) (turned_behind cs c seats)
 
 pub turned_reversed : (cs : List Crossing) (seats : List Seat) → turned_in_order cs seats ≡ all_turned (reverse cs) seats
 turned_reversed [] seats = refl
 turned_reversed (c ∷ cs) seats =
-    turned_reversed cs (turned c seats) ∙ sym (turned_behind (reverse cs) c seats)
+    turned_reversed cs (seats_turned c seats) ∙ sym (turned_behind (reverse cs) c seats)
     ∙ ap (λ (ds : List Crossing). all_turned ds seats) (sym (reverse-append (c ∷ []) cs))
 
-emptied_behind : (cs : List Crossing) (c : Crossing) (all : List HostServices) → all_emptied (cs ++ c ∷ []) all ≡ all_emptied cs (emptied c all)
+emptied_behind : (cs : List Crossing) (c : Crossing) (all : List ServiceSeat) → all_emptied (cs ++ c ∷ []) all ≡ all_emptied cs (emptied c all)
 emptied_behind [] c all = refl
-emptied_behind (d ∷ cs) c all = ap (λ (s : List HostServices). emptied d s) (emptied_behind cs c all)
+emptied_behind (d ∷ cs) c all = ap (λ (s : List ServiceSeat). emptied d s) (emptied_behind cs c all)
 
-pub emptied_reversed : (cs : List Crossing) (all : List HostServices) → emptied_in_order cs all ≡ all_emptied (reverse cs) all
+pub emptied_reversed : (cs : List Crossing) (all : List ServiceSeat) → emptied_in_order cs all ≡ all_emptied (reverse cs) all
 emptied_reversed [] all = refl
 emptied_reversed (c ∷ cs) all =
     emptied_reversed cs (emptied c all) ∙ sym (emptied_behind (reverse cs) c all)
@@ -59,8 +59,8 @@ written_told h (n ∷ ns) k =
     let t : Told = told_at h (length k.book.crossings) n in
     let ts : List Told = map (told_at h (length k.book.crossings)) ns in
     same_kept k.book.crossings k.book.crossings (k.book.notices ++ t ∷ ts) ((k.book.notices ++ t ∷ []) ++ ts) (k.book.contacts ++ []) (k.book.contacts ++ []) (k.book.reports ++ []) (k.book.reports ++ [])
-    (all.all_told ts (all.told h n (of_kept k))) refl (sym (append_assoc k.book.notices (t ∷ []) ts)) refl refl
-    ∙ written_told h ns (told h n k)
+    (all.all_told ts (all.lives_state_told h n (of_kept k))) refl (sym (append_assoc k.book.notices (t ∷ []) ts)) refl refl
+    ∙ written_told h ns (book_told h n k)
 
 -- after what crossed
 written_crossed : (cs : List Crossing) (ts : List Told) (k : Kept) → plain cs ts k ≡ plain [] ts (all_crossed (reverse cs) k)
@@ -109,7 +109,7 @@ written_ran h (r ∷ rs) reports k =
 
 told_places : (h : Host) (ns : List Notice) (k : Kept) → (all_told h ns k).book.crossings ≡ k.book.crossings
 told_places h [] k = refl
-told_places h (n ∷ ns) k = told_places h ns (told h n k)
+told_places h (n ∷ ns) k = told_places h ns (book_told h n k)
 
 -- all that follows what was written before
 after_that : (cs : List Crossing) (a : Option (Host × Request)) (first : List Called) (ts : List Told) (h : Host) (rs : List Request) (reports : List Reported) (k before : Kept) (n : ℕ)

@@ -3,7 +3,7 @@ use Rattle.std.proofs.Common.{◌≡◌, ℕ, ◌+◌, ◌<◌, ◌≤◌, ◌&&
 use Rattle.std.proofs.lemmas.List.{map-append, length-map, drop_more}
 use Rattle.std.proofs.Math.Seq.{take-append_seam}
 use Rattle.leader1822.specs.Host.{Host, same_host}
-use Rattle.net_sim.specs.Book.{Life, changed_when, where_it, handed_to, ended, lives_at}
+use Rattle.net_sim.specs.Book.{Life, changed_when, where_it, handed_to, life_ended, lives_at}
 use Rattle.net_sim.specs.Inside.Endings.{Ending, ends}
 use Rattle.net_sim.specs.Inside.Places.{places, is_open_at}
 use Rattle.net_sim.specs.declared.life.Ending.TheVariants as ending
@@ -116,11 +116,11 @@ filter_shift y ys (at ∷ ats) = at_first (filter_shift y ys ats) (is_open_at ys
   at_first rest true = ap (λ (all : List ℕ). suc at ∷ all) rest
   at_first rest false = rest
 
-left_open : (test : Life → Bool) (xs : List Life) → places (where_it test ended xs) ≡ filter (is_open_at (where_it test ended xs)) (places xs)
+left_open : (test : Life → Bool) (xs : List Life) → places (where_it test life_ended xs) ≡ filter (is_open_at (where_it test life_ended xs)) (places xs)
 left_open test [] = refl
-left_open test (x ∷ xs) = at_first (λ y. ap (λ (ats : List ℕ). map suc ats) (left_open test xs) ∙ sym (filter_shift y (where_it test ended xs) (places xs))) x.ended (test x) refl where
+left_open test (x ∷ xs) = at_first (λ y. ap (λ (ats : List ℕ). map suc ats) (left_open test xs) ∙ sym (filter_shift y (where_it test life_ended xs) (places xs))) x.ended (test x) refl where
   ys : List Life
-  ys = where_it test ended xs
+  ys = where_it test life_ended xs
 
   Left : Life → Type 0
   Left y = map suc (places ys) ≡ filter (is_open_at (y ∷ ys)) (map suc (places xs))
@@ -131,20 +131,20 @@ left_open test (x ∷ xs) = at_first (λ y. ap (λ (ats : List ℕ). map suc ats
       ap (λ (c : Bool). if c then map suc (places ys) else 0 ∷ map suc (places ys)) e ∙ ap (λ (ats : List ℕ). 0 ∷ ats) rest
       ∙ ap (λ (c : Bool). if not c then 0 ∷ filter (is_open_at (y ∷ ys)) (map suc (places xs)) else filter (is_open_at (y ∷ ys)) (map suc (places xs))) (sym e)
 
-  at_first : ((y : Life) → Left y) → (b t : Bool) → x.ended ≡ b → places (changed_when t ended x ∷ ys) ≡ filter (is_open_at (changed_when t ended x ∷ ys)) (if b then map suc (places xs) else 0 ∷ map suc (places xs))
-  at_first rest true true e = rest (ended x)
-  at_first rest false true e = rest (ended x)
+  at_first : ((y : Life) → Left y) → (b t : Bool) → x.ended ≡ b → places (changed_when t life_ended x ∷ ys) ≡ filter (is_open_at (changed_when t life_ended x ∷ ys)) (if b then map suc (places xs) else 0 ∷ map suc (places xs))
+  at_first rest true true e = rest (life_ended x)
+  at_first rest false true e = rest (life_ended x)
   at_first rest b false e = as_it_is b x (rest x) e
 
 -- lives end
-pub known_left : (test : Life → Bool) (xs ys : List Life) (ats bs : List ℕ) → ats ≡ places xs → ys ≡ where_it test ended xs → bs ≡ filter (is_open_at ys) ats → bs ≡ places ys
+pub known_left : (test : Life → Bool) (xs ys : List Life) (ats bs : List ℕ) → ats ≡ places xs → ys ≡ where_it test life_ended xs → bs ≡ filter (is_open_at ys) ats → bs ≡ places ys
 known_left test xs ys ats bs known is left =
     left ∙ ap (λ (ns : List ℕ). filter (is_open_at ys) ns) known ∙ ap (λ (zs : List Life). filter (is_open_at zs) (places xs)) is ∙ sym (left_open test xs) ∙ ap (λ (zs : List Life). places zs) (sym is)
 
 -- what a loop made of the lives stands in their place
-pub put_back : (test : Life → Bool) (xs ys zs : List Life) (n : ℕ) → n ≡ length xs → ys ≡ where_it test ended xs → take n (ys ++ zs) ≡ where_it test ended xs
+pub put_back : (test : Life → Bool) (xs ys zs : List Life) (n : ℕ) → n ≡ length xs → ys ≡ where_it test life_ended xs → take n (ys ++ zs) ≡ where_it test life_ended xs
 put_back test xs ys zs n long is =
-    let same : n ≡ length ys = long ∙ sym (length-map xs (where_here test ended)) ∙ ap (λ (all : List Life). length all) (sym is) in
+    let same : n ≡ length ys = long ∙ sym (length-map xs (where_here test life_ended)) ∙ ap (λ (all : List Life). length all) (sym is) in
     ap (λ (k : ℕ). take k (ys ++ zs)) same ∙ take-append_seam ys zs ∙ is
 
 -- ---- one place more

@@ -26,16 +26,16 @@ use Rattle.sockets.specs.declared.request.Request.{Request}
 use Rattle.sockets.specs.declared.request.Request.TheVariants as request
 use Rattle.host_services.proofs.lemmas.{server_asked_all, server_named_all, told_asked, user_asked_all, user_named_all}
 use Rattle.host_services.specs.Named.{HasAsked, MayAsk, NamePeers, NoneRefused}
-use Rattle.host_services.specs.Services.{DeskState, ServicesState, opening_desk}
+use Rattle.host_services.specs.Services.{ServiceDeskState, ServicesState, opening_desk}
 use Rattle.host_services.specs.Turns.{server_begun, user_begun}
 use Rattle.host_services.specs.TypedLines.{line_bits}
-use Rattle.net_sim.specs.Book.{Called, Kept, contacts_asked, crossed, all_crossed, told, all_told, asked}
+use Rattle.net_sim.specs.Book.{Called, Kept, contacts_asked, crossed, all_crossed, book_told, all_told, asked}
 use Rattle.net_sim.specs.Carriers.{shown}
 use Rattle.net_sim.specs.Story.{Moment, Crossed, Asked, program, places}
 use Rattle.net_sim.specs.Timeline.{Happens, IsAddressed, IsAsked, IsTimeline, contacts_of, crossings_of}
 use Rattle.net_sim.specs.Told.{host_in, kept_in, notices_by, without_reports}
 use Rattle.net_sim.specs.Whole.{AreServed, Each, IsNamed, IsWhole, seat_in}
-use Rattle.net_sim.specs.World.{Calls, WorldState, WorldFault, Carrier, Program, Event, Net, Quiet, Offer, Take, Ask, Server, User, Typed, Seat, opening_world, seat_of, seated, all_turned, services_of, noticed, heard, tended, turn_of, with_server, with_user, DoesOrHalts, TypeGives, with_program, with_carrier, moved, changed, Refuses, Does, Halts, Passes, OfferEnds, OfferGives, TakeEnds, TakeGives, NetEnds, QuietEnds, AskGives, AtProgram, AtSeat, EventGives, StepGives, RunGives, CalmGives, opening_seats}
+use Rattle.net_sim.specs.World.{Calls, WorldState, WorldFault, Carrier, Program, Event, Net, Quiet, Offer, Take, Ask, Server, User, Typed, Seat, opening_world, seat_of, seated, all_turned, services_of, noticed, world_heard, tended, turn_of, with_server, with_user, DoesOrHalts, TypeGives, with_program, with_carrier, world_moved, changed, Refuses, Does, Halts, Passes, OfferEnds, OfferGives, TakeEnds, TakeGives, NetEnds, QuietEnds, AskGives, AtProgram, AtSeat, EventGives, StepGives, RunGives, CalmGives, opening_seats}
 use Rattle.net_sim.proofs.Books.Always.{run_keeps, calm_keeps}
 use Rattle.net_sim.proofs.Hosts.Asks.{after_each, asks_contacts, asks_crossings, asks_each, asks_of, asks_timeline, emptied_served, named_of, opening_served, same_each, still_served}
 use Rattle.net_sim.proofs.Books.Booked.{asked_crossings, told_crossings, crossed_crossings}
@@ -49,7 +49,7 @@ use Rattle.net_sim.proofs.Hosts.Telling.{kept_asked, kept_more, kept_turned}
 
 told_contacts : (h : Host) (ns : List Notice) (k : Kept) → (all_told h ns k).book.contacts ≡ k.book.contacts
 told_contacts h [] k = refl
-told_contacts h (n ∷ ns) k = told_contacts h ns (told h n k)
+told_contacts h (n ∷ ns) k = told_contacts h ns (book_told h n k)
 
 crossed_contacts : (cs : List Crossing) (k : Kept) → (all_crossed cs k).book.contacts ≡ k.book.contacts
 crossed_contacts [] k = refl
@@ -115,7 +115,7 @@ module _ {C : Type 0} (own : Calls C) (hosts : List Host) where
       subst Whole (sym h.1) now
 
   -- services had their turns at a host that is up: what they asked for comes as one moment after the other
-  tended_whole : (h : Host) (d : DeskState) (t : ServicesState × DeskState) (before moments : List Moment) (mid : WorldState C) (r : Result (Unit {0}) WorldFault) (new : WorldState C) → IsTimeline hosts moments
+  tended_whole : (h : Host) (d : ServiceDeskState) (t : ServicesState × ServiceDeskState) (before moments : List Moment) (mid : WorldState C) (r : Result (Unit {0}) WorldFault) (new : WorldState C) → IsTimeline hosts moments
       → (own.seen mid.carrier).hosts ≡ hosts → mid.kept.book.crossings ≡ crossings_of moments → mid.kept.book.contacts ≡ contacts_of moments → without_reports mid.kept ≡ kept_in moments → IsUp moments h d.program
       → mid.seats ≡ map (seat_in hosts before) hosts → ((g : Host) → with_program (same_host h g) (Some d.program) (seat_in hosts before g) ≡ seat_in hosts moments g)
       → AreServed hosts mid.services → d.asked ≡ [] → HasAsked d t.1 → NamePeers t.0 → Does (tended h t mid) r new → Whole new
@@ -148,9 +148,9 @@ module _ {C : Type 0} (own : Calls C) (hosts : List Host) where
   heard_whole : (h : Host) (turn : NcpState × List Notice) (before moments : List Moment) (old : WorldState C) (mid : WorldState C) (r : Result (Unit {0}) WorldFault) (new : WorldState C) → IsTimeline hosts moments
       → (own.seen mid.carrier).hosts ≡ hosts → mid.kept.book.crossings ≡ crossings_of moments → mid.kept.book.contacts ≡ contacts_of moments → without_reports (all_told h turn.1 mid.kept) ≡ kept_in moments
       → mid.seats ≡ map (seat_in hosts before) hosts → ((g : Host) → with_program (same_host h g) (Some turn.0) (seat_in hosts before g) ≡ seat_in hosts moments g)
-      → AreServed hosts mid.services → Does (heard h turn mid) r new → Whole new
+      → AreServed hosts mid.services → Does (world_heard h turn mid) r new → Whole new
   heard_whole h turn before moments old mid r new timeline network crossings contacts kept seats each served_here does =
-      let d : DeskState = opening_desk h (noticed mid) turn.0 in
+      let d : ServiceDeskState = opening_desk h (noticed mid) turn.0 in
       let asks : HasAsked (opening_desk h (noticed mid) turn.0) (turn_of h (noticed mid) (services_of h mid.services) turn).1 × NamePeers (turn_of h (noticed mid) (services_of h mid.services) turn).0 =
       told_asked turn.1 (services_of h mid.services) (opening_desk h (noticed mid) turn.0) (named_of h mid.services served_here.named) in
       tended_whole h (opening_desk h (noticed mid) turn.0) (turn_of h (noticed mid) (services_of h mid.services) turn) before moments (record mid { kept = all_told h turn.1 mid.kept }) r new timeline network
@@ -160,7 +160,7 @@ module _ {C : Type 0} (own : Calls C) (hosts : List Host) where
   crossed_whole : (h : Host) (x : Crossing) (c : C) (turn : NcpState × List Notice) (old : WorldState C) (r : Result (Unit {0}) WorldFault) (new : WorldState C) → (w : Whole old) → old.stopped ≡ false
       → (own.seen c).hosts ≡ hosts → Happens hosts (Crossed x) w.moments → host_in (Crossed x) ≡ h → turn.1 ≡ notices_by (Crossed x) w.moments
       → ((g : Host) → with_program (same_host h g) (Some turn.0) (seat_in hosts w.moments g) ≡ seat_in hosts (Crossed x ∷ w.moments) g)
-      → Does (moved c h x turn old) r new ⊎ Halts c old r new → Whole new
+      → Does (world_moved c h x turn old) r new ⊎ Halts c old r new → Whole new
   crossed_whole h x c turn old r new w running network happens its notices each (inl d) =
       heard_whole h turn w.moments (Crossed x ∷ w.moments) old (record old { carrier = c; kept = crossed x old.kept }) r new (happens, w.timeline) network
       (ap (λ (xs : List Crossing). x ∷ xs) w.crossings) w.contacts (kept_more (Crossed x) h turn.1 old.kept w.moments its notices w.kept) (w.seats running) each (w.services running) d
@@ -252,7 +252,7 @@ module _ {C : Type 0} (own : Calls C) (hosts : List Host) where
       ask_whole h (request.Send socket (line_bits line)) s (refusal s (request.Send socket (line_bits line))) old r new (tt, tt) refl w running u gives
 
   -- a service begins
-  begun_whole : (h : Host) (s : NcpState) (t : ServicesState × DeskState) (old : WorldState C) (r : Result (Unit {0}) WorldFault) (new : WorldState C) → (w : Whole old) → old.stopped ≡ false → IsUp w.moments h s
+  begun_whole : (h : Host) (s : NcpState) (t : ServicesState × ServiceDeskState) (old : WorldState C) (r : Result (Unit {0}) WorldFault) (new : WorldState C) → (w : Whole old) → old.stopped ≡ false → IsUp w.moments h s
       → HasAsked (opening_desk h (noticed old) s) t.1 → NamePeers t.0 → DoesOrHalts (tended h t old) old r new → Whole new
   begun_whole h s t old r new w running u asks named (inl d) =
       tended_whole h (opening_desk h (noticed old) s) t w.moments w.moments old r new w.timeline w.network w.crossings w.contacts w.kept u (w.seats running) (same_each hosts w.moments h s u.up u.program)

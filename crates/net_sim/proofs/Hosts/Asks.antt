@@ -16,7 +16,7 @@ use Rattle.net_sim.specs.Book.{Called, Kept, all_asked, asked, contacts_asked}
 use Rattle.net_sim.specs.Story.{Moment, Asked, program, places}
 use Rattle.net_sim.specs.Timeline.{IsTimeline, contacts_of, crossings_of}
 use Rattle.net_sim.specs.Whole.{AreServed, seat_in}
-use Rattle.net_sim.specs.World.{HostServices, Seat, all_emptied, opening_services, services_in, services_of, serviced, with_program, with_services}
+use Rattle.net_sim.specs.World.{ServiceSeat, Seat, all_emptied, opening_services, services_in, services_of, serviced, with_program, with_services}
 use Rattle.net_sim.proofs.Hosts.Seats.{seated_at}
 
 -- ---- moments
@@ -86,31 +86,31 @@ after_each hosts h p q a b c one two g = then_each hosts h p q a b c g (one g) (
 
 -- ---- the services of all hosts
 
-abbrev HasNamed : HostServices → Type 0
+abbrev HasNamed : ServiceSeat → Type 0
 HasNamed s = NamePeers s.services
 
-one_order : (b : Bool) (x : ServicesState) (s : HostServices) → (with_services b x s).host ≡ s.host
+one_order : (b : Bool) (x : ServicesState) (s : ServiceSeat) → (with_services b x s).host ≡ s.host
 one_order true x s = refl
 one_order false x s = refl
 
-same_order : (h : Host) (x : ServicesState) (all : List HostServices) → map (λ (s : HostServices). s.host) (serviced h x all) ≡ map (λ (s : HostServices). s.host) all
+same_order : (h : Host) (x : ServicesState) (all : List ServiceSeat) → map (λ (s : ServiceSeat). s.host) (serviced h x all) ≡ map (λ (s : ServiceSeat). s.host) all
 same_order h x [] = refl
 same_order h x (s ∷ all) =
-    ap (λ (g : Host). g ∷ map (λ (y : HostServices). y.host) (serviced h x all)) (one_order (same_host h s.host) x s) ∙ ap (λ (hs : List Host). s.host ∷ hs) (same_order h x all)
+    ap (λ (g : Host). g ∷ map (λ (y : ServiceSeat). y.host) (serviced h x all)) (one_order (same_host h s.host) x s) ∙ ap (λ (hs : List Host). s.host ∷ hs) (same_order h x all)
 
-one_named : (b : Bool) (x : ServicesState) (s : HostServices) → NamePeers x → HasNamed s → HasNamed (with_services b x s)
+one_named : (b : Bool) (x : ServicesState) (s : ServiceSeat) → NamePeers x → HasNamed s → HasNamed (with_services b x s)
 one_named true x s new old = new
 one_named false x s new old = old
 
-all_named : (h : Host) (x : ServicesState) (all : List HostServices) → NamePeers x → All HasNamed all → All HasNamed (serviced h x all)
+all_named : (h : Host) (x : ServicesState) (all : List ServiceSeat) → NamePeers x → All HasNamed all → All HasNamed (serviced h x all)
 all_named h x [] new old = All-nil HasNamed
 all_named h x (s ∷ all) new old =
     All-cons HasNamed (with_services (same_host h s.host) x s) (serviced h x all) (one_named (same_host h s.host) x s new (All-head HasNamed s all old)) (all_named h x all new (All-tail HasNamed s all old))
 
-pub still_served : (hosts : List Host) (h : Host) (x : ServicesState) (all : List HostServices) → NamePeers x → AreServed hosts all → AreServed hosts (serviced h x all)
+pub still_served : (hosts : List Host) (h : Host) (x : ServicesState) (all : List ServiceSeat) → NamePeers x → AreServed hosts all → AreServed hosts (serviced h x all)
 still_served hosts h x all new old = record { order = same_order h x all ∙ old.order; named = all_named h x all new old.named }
 
-pub emptied_served : (hosts : List Host) (cs : List Crossing) (all : List HostServices) → AreServed hosts all → AreServed hosts (all_emptied cs all)
+pub emptied_served : (hosts : List Host) (cs : List Crossing) (all : List ServiceSeat) → AreServed hosts all → AreServed hosts (all_emptied cs all)
 emptied_served hosts [] all old = old
 emptied_served hosts (crossing.Down h ∷ cs) all old = still_served hosts h no_services (all_emptied cs all) (All-nil NamesPeer) (emptied_served hosts cs all old)
 emptied_served hosts (crossing.Up h ∷ cs) all old = emptied_served hosts cs all old
@@ -118,13 +118,13 @@ emptied_served hosts (crossing.Out m ∷ cs) all old = emptied_served hosts cs a
 emptied_served hosts (crossing.In m ∷ cs) all old = emptied_served hosts cs all old
 emptied_served hosts (crossing.Answer kind f ∷ cs) all old = emptied_served hosts cs all old
 
-found_named : (b : Bool) (s : HostServices) (rest : Option HostServices) → HasNamed s → NamePeers (services_in rest) → NamePeers (services_in (if b then Some s else rest))
+found_named : (b : Bool) (s : ServiceSeat) (rest : Option ServiceSeat) → HasNamed s → NamePeers (services_in rest) → NamePeers (services_in (if b then Some s else rest))
 found_named true s rest here later = here
 found_named false s rest here later = later
 
-pub named_of : (h : Host) (all : List HostServices) → All HasNamed all → NamePeers (services_of h all)
+pub named_of : (h : Host) (all : List ServiceSeat) → All HasNamed all → NamePeers (services_of h all)
 named_of h [] old = All-nil NamesPeer
-named_of h (s ∷ all) old = found_named (same_host h s.host) s (find (λ (x : HostServices). same_host h x.host) all) (All-head HasNamed s all old) (named_of h all (All-tail HasNamed s all old))
+named_of h (s ∷ all) old = found_named (same_host h s.host) s (find (λ (x : ServiceSeat). same_host h x.host) all) (All-head HasNamed s all old) (named_of h all (All-tail HasNamed s all old))
 
 pub opening_served : (hosts : List Host) → AreServed hosts (opening_services hosts)
 opening_served [] = record { order = refl; named = All-nil HasNamed }

@@ -13,7 +13,7 @@ use Rattle.sockets.specs.Accepting.{accepted}
 use Rattle.sockets.specs.Pairs.{NcpState}
 use Rattle.sockets.specs.Sending.{next_out, offered}
 use Rattle.net_sim.specs.Book.{Kept}
-use Rattle.net_sim.specs.Inside.Calm.{Turn, Round}
+use Rattle.net_sim.specs.Inside.Calm.{CalmTurn, Round}
 use Rattle.net_sim.specs.Inside.Parts.{IsOnce, hosts_of}
 use Rattle.net_sim.specs.World.{Calls, WorldState, WorldFault, Carrier, Program, Event, Quiet, Offer, Take, Seat, seat_of, seated, services_of, noticed, turn_of, Refuses, Does, Halts, Passes, OfferEnds, OfferGives, TakeEnds, TakeGives, QuietEnds, AtProgram, AtSeat, EventGives, StepGives, wants_memory, stops, Repeats, TurnsOf, up_in, Calms, CalmGives}
 use Rattle.net_sim.proofs.Hosts.SeatLemmas.{absent}
@@ -232,16 +232,16 @@ module _ {C : Type 0} (calls : Calls C) where
 
   -- ---- a host's turn
 
-  turn_same : (h : Host) (old : WorldState C) (r : Answer) (new : WorldState C) → stops r ≡ false → IsOnce (hosts_of old.seats) → Turn calls h old r new → standings new.seats ≡ standings old.seats
+  turn_same : (h : Host) (old : WorldState C) (r : Answer) (new : WorldState C) → stops r ≡ false → IsOnce (hosts_of old.seats) → CalmTurn calls h old r new → standings new.seats ≡ standings old.seats
   turn_same h old r new on once t =
       again_by (Repeats calls (Offer h) 32 t.1 r new) (standings new.seats ≡ standings old.seats) t.0 t.1 r new on
       (λ is g. (let first : standings t.1.seats ≡ standings old.seats = repeats_same (Take h) 16 old t.0 t.1 (Takes h) is once t.2 in
       repeats_same (Offer h) 32 t.1 r new (Offers h) on (once_still old.seats t.1.seats first once) g ∙ first)) (stops t.0) refl t.3
 
-  pub stop_turn : (h : Host) (old taken : WorldState C) (answer : Answer) → Repeats calls (Take h) 16 old answer taken → stops answer ≡ true → Turn calls h old answer taken
+  pub stop_turn : (h : Host) (old taken : WorldState C) (answer : Answer) → Repeats calls (Take h) 16 old answer taken → stops answer ≡ true → CalmTurn calls h old answer taken
   stop_turn h old taken answer took is = (answer, taken, took, rw is (refl, refl))
 
-  pub whole_turn : (h : Host) (old taken new : WorldState C) (answer r : Answer) → Repeats calls (Take h) 16 old answer taken → stops answer ≡ false → Repeats calls (Offer h) 32 taken r new → Turn calls h old r new
+  pub whole_turn : (h : Host) (old taken new : WorldState C) (answer r : Answer) → Repeats calls (Take h) 16 old answer taken → stops answer ≡ false → Repeats calls (Offer h) 32 taken r new → CalmTurn calls h old r new
   whole_turn h old taken new answer r took on sent = (answer, taken, took, rw on sent)
 
   turn_on : (h : Host) (hosts : List Host) (old sent : WorldState C) (second : Answer) (r : Answer) (new : WorldState C) → stops second ≡ false → TurnsOf calls hosts sent r new
@@ -296,7 +296,7 @@ module _ {C : Type 0} (calls : Calls C) where
   rest_of begin now place same h =
       ap (λ (xs : List Standing). drop place xs) (sym same) ∙ h.rest ∙ ap (λ (xs : List Standing). standing h.seat ∷ drop (suc place) xs) same
 
-  pub one_turned : (begin now mid : WorldState C) (place : ℕ) (host : Host) (answer : Answer) → place < length now.seats → Turned begin place now → Found now.seats place (Some host) → Turn calls host now answer mid
+  pub one_turned : (begin now mid : WorldState C) (place : ℕ) (host : Host) (answer : Answer) → place < length now.seats → Turned begin place now → Found now.seats place (Some host) → CalmTurn calls host now answer mid
       → stops answer ≡ false → Turned begin (place + 1) mid
   one_turned begin now mid place host answer lt t found turn on =
       let h : Here now.seats place = here now.seats place lt in
@@ -317,7 +317,7 @@ module _ {C : Type 0} (calls : Calls C) where
         left = λ r new rest. t.left r new (down_ends begin now place h.seat r new (rest_of begin now place t.same h) (is_some h.seat.program) refl (found h.seat h.got) rest);
       }
 
-  pub stop_turned : (begin now mid : WorldState C) (place : ℕ) (host : Host) (answer : Answer) → place < length now.seats → Turned begin place now → Found now.seats place (Some host) → Turn calls host now answer mid
+  pub stop_turned : (begin now mid : WorldState C) (place : ℕ) (host : Host) (answer : Answer) → place < length now.seats → Turned begin place now → Found now.seats place (Some host) → CalmTurn calls host now answer mid
       → stops answer ≡ true → TurnsOf calls (up_in begin.seats) begin answer mid
   stop_turned begin now mid place host answer lt t found turn is =
       let h : Here now.seats place = here now.seats place lt in

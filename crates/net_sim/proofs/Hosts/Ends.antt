@@ -24,44 +24,44 @@ use Rattle.host_pairs.specs.declared.notice.Notice.{Notice}
 use Rattle.sockets.specs.declared.request.Request.{Request}
 use Rattle.sockets.specs.declared.request.Request.TheVariants as request
 use Rattle.net_sim.specs.Book.{Kept, crossed, all_crossed, all_told, asked}
-use Rattle.host_services.specs.Services.{DeskState, ServicesState, opening_desk}
+use Rattle.host_services.specs.Services.{ServiceDeskState, ServicesState, opening_desk}
 use Rattle.host_services.specs.Turns.{server_begun, user_begun}
 use Rattle.host_services.specs.TypedLines.{line_bits}
-use Rattle.net_sim.specs.Inside.Parts.{AreDone, Sits, running, ended}
-use Rattle.net_sim.specs.World.{Calls, WorldState, WorldFault, Program, Seat, HostServices, seat_of, seated, services_of, serviced, turn_of, tended, with_server, with_user, wants_memory, moved, Does, DoesOrHalts, Halts, Refuses, AtSeat, AskGives, OfferGives, TakeGives, TypeGives}
+use Rattle.net_sim.specs.Inside.Parts.{AreDone, Sits, running, world_ended}
+use Rattle.net_sim.specs.World.{Calls, WorldState, WorldFault, Program, Seat, ServiceSeat, seat_of, seated, services_of, serviced, turn_of, tended, with_server, with_user, wants_memory, world_moved, Does, DoesOrHalts, Halts, Refuses, AtSeat, AskGives, OfferGives, TakeGives, TypeGives}
 use Rattle.net_sim.proofs.Hosts.SeatLemmas.{sits_gives}
 
-halts : {C : Type 0} (c : C) (old : WorldState C) (seats : List Seat) (ss : List HostServices) (k : Kept) (f : WorldFault) → wants_memory f ≡ true → k ≡ old.kept → Halts c old (Err f) (ended c seats ss k (Err f))
+halts : {C : Type 0} (c : C) (old : WorldState C) (seats : List Seat) (ss : List ServiceSeat) (k : Kept) (f : WorldFault) → wants_memory f ≡ true → k ≡ old.kept → Halts c old (Err f) (world_ended c seats ss k (Err f))
 halts c old seats ss k f memory kept = record { fault = f; answer = refl; memory = memory; carrier = refl; kept = kept; stopped = memory }
 
 memory_of : (f : WorldFault) → f ≡ Program problem.OutOfMemory → wants_memory f ≡ true
 memory_of f is = ap (λ (x : WorldFault). wants_memory x) is
 
 -- the services of a host had their turns in a world of these parts
-tended_is : {C : Type 0} (h : Host) (t : ServicesState × DeskState) (c : C) (seats seats1 : List Seat) (ss ss1 : List HostServices) (before k1 : Kept) → AreDone h t seats ss before seats1 ss1 k1
+tended_is : {C : Type 0} (h : Host) (t : ServicesState × ServiceDeskState) (c : C) (seats seats1 : List Seat) (ss ss1 : List ServiceSeat) (before k1 : Kept) → AreDone h t seats ss before seats1 ss1 k1
     → running c seats1 ss1 k1 ≡ tended h t (running c seats ss before)
 tended_is {C} h t c seats seats1 ss ss1 before k1 d =
-    ap (λ (x : List Seat). running c x ss1 k1) d.seats_are ∙ ap (λ (x : List HostServices). running c (seated h (Some t.1.program) seats) x k1) d.services_are
+    ap (λ (x : List Seat). running c x ss1 k1) d.seats_are ∙ ap (λ (x : List ServiceSeat). running c (seated h (Some t.1.program) seats) x k1) d.services_are
     ∙ ap (λ (x : Kept). running c (seated h (Some t.1.program) seats) (serviced h t.0 ss) x) d.kept_is
 
 -- a crossing at a host, and what its program and its services made of it
-moved_ends : {C : Type 0} (h : Host) (x : Crossing) (turn : NcpState × List Notice) (c0 c1 : C) (seats seats1 : List Seat) (ss ss1 : List HostServices) (k k1 : Kept) (news : List Crossing) (r : Result (Unit {0}) WorldFault) → reverse news ≡ x ∷ []
+moved_ends : {C : Type 0} (h : Host) (x : Crossing) (turn : NcpState × List Notice) (c0 c1 : C) (seats seats1 : List Seat) (ss ss1 : List ServiceSeat) (k k1 : Kept) (news : List Crossing) (r : Result (Unit {0}) WorldFault) → reverse news ≡ x ∷ []
     → OnOk r (AreDone h (turn_of h (length k.book.notices) (services_of h ss) turn) seats ss (all_told h turn.1 (all_crossed (reverse news) k)) seats1 ss1 k1) → IfErr r (λ f. (f ≡ Program problem.OutOfMemory) × (k1 ≡ k))
-    → Does (moved c1 h x turn (running c0 seats ss k)) r (ended c1 seats1 ss1 k1 r) ⊎ Halts c1 (running c0 seats ss k) r (ended c1 seats1 ss1 k1 r)
+    → Does (world_moved c1 h x turn (running c0 seats ss k)) r (world_ended c1 seats1 ss1 k1 r) ⊎ Halts c1 (running c0 seats ss k) r (world_ended c1 seats1 ss1 k1 r)
 moved_ends {C} h x turn c0 c1 seats seats1 ss ss1 k k1 news (Ok tt) is done kept =
-    let t : ServicesState × DeskState = turn_of h (length k.book.notices) (services_of h ss) turn in
+    let t : ServicesState × ServiceDeskState = turn_of h (length k.book.notices) (services_of h ss) turn in
     let now : AreDone h (turn_of h (length k.book.notices) (services_of h ss) turn) seats ss (all_told h turn.1 (crossed x k)) seats1 ss1 k1 =
     subst (λ (cs : List Crossing). AreDone h (turn_of h (length k.book.notices) (services_of h ss) turn) seats ss (all_told h turn.1 (all_crossed cs k)) seats1 ss1 k1) is done in
     inl (refl, tended_is h (turn_of h (length k.book.notices) (services_of h ss) turn) c1 seats seats1 ss ss1 (all_told h turn.1 (crossed x k)) k1 now)
 moved_ends {C} h x turn c0 c1 seats seats1 ss ss1 k k1 news (Err f) is done kept = inr (halts c1 (running c0 seats ss k) seats1 ss1 k1 f (memory_of f kept.0) kept.1)
 
-pub take_ends : {C : Type 0} (calls : Calls C) (h : Host) (place : ℕ) (s : NcpState) (i : Inbound) (c0 c1 : C) (seats seats1 : List Seat) (ss ss1 : List HostServices) (k k1 : Kept) (news : List Crossing) (r : Result (Unit {0}) WorldFault)
+pub take_ends : {C : Type 0} (calls : Calls C) (h : Host) (place : ℕ) (s : NcpState) (i : Inbound) (c0 c1 : C) (seats seats1 : List Seat) (ss ss1 : List ServiceSeat) (k k1 : Kept) (news : List Crossing) (r : Result (Unit {0}) WorldFault)
     → Sits h place s seats → calls.takes c0 h (Ok (Some i)) c1 → reverse news ≡ crossing_of i ∷ []
     → OnOk r (AreDone h (turn_of h (length k.book.notices) (services_of h ss) (accepted s i (length k.book.crossings))) seats ss (all_told h (accepted s i (length k.book.crossings)).1 (all_crossed (reverse news) k)) seats1 ss1 k1)
     → IfErr r (λ f. (f ≡ Program problem.OutOfMemory) × (k1 ≡ k))
-    → AtSeat (λ s. TakeGives calls h s (running c0 seats ss k) r (ended c1 seats1 ss1 k1 r)) (seat_of h seats) (running c0 seats ss k) r (ended c1 seats1 ss1 k1 r)
+    → AtSeat (λ s. TakeGives calls h s (running c0 seats ss k) r (world_ended c1 seats1 ss1 k1 r)) (seat_of h seats) (running c0 seats ss k) r (world_ended c1 seats1 ss1 k1 r)
 take_ends {C} calls h place s i c0 c1 seats seats1 ss ss1 k k1 news r sits rel is done kept =
-    sits_gives (λ s. TakeGives calls h s (running c0 seats ss k) r (ended c1 seats1 ss1 k1 r)) h place s (running c0 seats ss k) r (ended c1 seats1 ss1 k1 r) sits
+    sits_gives (λ s. TakeGives calls h s (running c0 seats ss k) r (world_ended c1 seats1 ss1 k1 r)) h place s (running c0 seats ss k) r (world_ended c1 seats1 ss1 k1 r) sits
     (Ok (Some i), c1, rel, moved_ends h (crossing_of i) (accepted s i (length k.book.crossings)) c0 c1 seats seats1 ss ss1 k k1 news r is done kept)
 
 -- an offer of what the program says next
@@ -69,14 +69,14 @@ offer_some : {C : Type 0} (calls : Calls C) (h : Host) (s : NcpState) (m : HostM
     → OfferGives calls h s (next_out s) old r new
 offer_some {C} calls h s m old r new is gives = subst (λ (o : Option HostMessage). OfferGives calls h s o old r new) (sym is) gives
 
-pub offer_ends : {C : Type 0} (calls : Calls C) (h : Host) (place : ℕ) (s : NcpState) (m : HostMessage) (c0 c1 : C) (seats seats1 : List Seat) (ss ss1 : List HostServices) (k k1 : Kept) (news : List Crossing) (r : Result (Unit {0}) WorldFault)
+pub offer_ends : {C : Type 0} (calls : Calls C) (h : Host) (place : ℕ) (s : NcpState) (m : HostMessage) (c0 c1 : C) (seats seats1 : List Seat) (ss ss1 : List ServiceSeat) (k k1 : Kept) (news : List Crossing) (r : Result (Unit {0}) WorldFault)
     → Sits h place s seats → next_out s ≡ Some m → calls.offers c0 m (Ok tt) c1 → reverse news ≡ crossing.Out m ∷ []
     → OnOk r (AreDone h (turn_of h (length k.book.notices) (services_of h ss) (offered s (length k.book.crossings))) seats ss (all_told h (offered s (length k.book.crossings)).1 (all_crossed (reverse news) k)) seats1 ss1 k1)
     → IfErr r (λ f. (f ≡ Program problem.OutOfMemory) × (k1 ≡ k))
-    → AtSeat (λ s. OfferGives calls h s (next_out s) (running c0 seats ss k) r (ended c1 seats1 ss1 k1 r)) (seat_of h seats) (running c0 seats ss k) r (ended c1 seats1 ss1 k1 r)
+    → AtSeat (λ s. OfferGives calls h s (next_out s) (running c0 seats ss k) r (world_ended c1 seats1 ss1 k1 r)) (seat_of h seats) (running c0 seats ss k) r (world_ended c1 seats1 ss1 k1 r)
 offer_ends {C} calls h place s m c0 c1 seats seats1 ss ss1 k k1 news r sits says rel is done kept =
-    sits_gives (λ s. OfferGives calls h s (next_out s) (running c0 seats ss k) r (ended c1 seats1 ss1 k1 r)) h place s (running c0 seats ss k) r (ended c1 seats1 ss1 k1 r) sits
-    (offer_some calls h s m (running c0 seats ss k) r (ended c1 seats1 ss1 k1 r) says
+    sits_gives (λ s. OfferGives calls h s (next_out s) (running c0 seats ss k) r (world_ended c1 seats1 ss1 k1 r)) h place s (running c0 seats ss k) r (world_ended c1 seats1 ss1 k1 r) sits
+    (offer_some calls h s m (running c0 seats ss k) r (world_ended c1 seats1 ss1 k1 r) says
     (inr (Ok tt, c1, rel, moved_ends h (crossing.Out m) (offered s (length k.book.crossings)) c0 c1 seats seats1 ss ss1 k k1 news r is done kept)))
 
 -- memory ran out for the message. That there is one is known
@@ -84,46 +84,46 @@ some_message : (o : Option HostMessage) → is_some o ≡ true → (m : HostMess
 some_message None h = absurd (cc)
 some_message (Some m) h = (m, refl)
 
-pub offer_halts : {C : Type 0} (calls : Calls C) (h : Host) (place : ℕ) (s : NcpState) (c0 : C) (seats : List Seat) (ss : List HostServices) (k : Kept) (f : WorldFault) (r : Result (Unit {0}) WorldFault) → Sits h place s seats
+pub offer_halts : {C : Type 0} (calls : Calls C) (h : Host) (place : ℕ) (s : NcpState) (c0 : C) (seats : List Seat) (ss : List ServiceSeat) (k : Kept) (f : WorldFault) (r : Result (Unit {0}) WorldFault) → Sits h place s seats
     → is_some (next_out s) ≡ true → f ≡ Program problem.OutOfMemory → r ≡ Err f
-    → AtSeat (λ s. OfferGives calls h s (next_out s) (running c0 seats ss k) r (ended c0 seats ss k r)) (seat_of h seats) (running c0 seats ss k) r (ended c0 seats ss k r)
+    → AtSeat (λ s. OfferGives calls h s (next_out s) (running c0 seats ss k) r (world_ended c0 seats ss k r)) (seat_of h seats) (running c0 seats ss k) r (world_ended c0 seats ss k r)
 offer_halts {C} calls h place s c0 seats ss k f r sits says is e =
     let m : (m : HostMessage) × next_out s ≡ Some m = some_message (next_out s) says in
-    let stops : Halts c0 (running c0 seats ss k) r (ended c0 seats ss k r) =
-    subst (λ (x : Result (Unit {0}) WorldFault). Halts c0 (running c0 seats ss k) x (ended c0 seats ss k x)) (sym e) (halts c0 (running c0 seats ss k) seats ss k f (memory_of f is) refl) in
-    sits_gives (λ s. OfferGives calls h s (next_out s) (running c0 seats ss k) r (ended c0 seats ss k r)) h place s (running c0 seats ss k) r (ended c0 seats ss k r) sits
-    (offer_some calls h s m.0 (running c0 seats ss k) r (ended c0 seats ss k r) m.1 (inl stops))
+    let stops : Halts c0 (running c0 seats ss k) r (world_ended c0 seats ss k r) =
+    subst (λ (x : Result (Unit {0}) WorldFault). Halts c0 (running c0 seats ss k) x (world_ended c0 seats ss k x)) (sym e) (halts c0 (running c0 seats ss k) seats ss k f (memory_of f is) refl) in
+    sits_gives (λ s. OfferGives calls h s (next_out s) (running c0 seats ss k) r (world_ended c0 seats ss k r)) h place s (running c0 seats ss k) r (world_ended c0 seats ss k r) sits
+    (offer_some calls h s m.0 (running c0 seats ss k) r (world_ended c0 seats ss k r) m.1 (inl stops))
 
 -- ---- a request
 
 -- what comes of a request that isn't refused
-abbrev pub IsServed : Host → Request → NcpState → List Seat → List Seat → List HostServices → List HostServices → Kept → Kept → Result (Unit {0}) WorldFault → Type 0
+abbrev pub IsServed : Host → Request → NcpState → List Seat → List Seat → List ServiceSeat → List ServiceSeat → Kept → Kept → Result (Unit {0}) WorldFault → Type 0
 IsServed h q s seats seats1 ss ss1 k k1 r =
     MatchResult r (λ _. AreDone h (turn_of h (length k.book.notices) (services_of h ss) (served s q, served_notices s q)) seats ss (all_told h (served_notices s q) (asked h q k)) seats1 ss1 k1)
     (λ f. (f ≡ Program problem.OutOfMemory) × (k1 ≡ k))
 
 -- the same, of services that are known
-abbrev pub IsAnswered : Host → NcpState → ServicesState → Request → List Seat → List Seat → List HostServices → List HostServices → Kept → Kept → Result (Unit {0}) WorldFault → Type 0
+abbrev pub IsAnswered : Host → NcpState → ServicesState → Request → List Seat → List Seat → List ServiceSeat → List ServiceSeat → Kept → Kept → Result (Unit {0}) WorldFault → Type 0
 IsAnswered h s x q seats seats1 ss ss1 k k1 r =
     MatchResult r (λ _. AreDone h (turn_of h (length k.book.notices) x (served s q, served_notices s q)) seats ss (all_told h (served_notices s q) (asked h q k)) seats1 ss1 k1)
     (λ f. (f ≡ Program problem.OutOfMemory) × (k1 ≡ k))
 
 -- and of one that is
-abbrev pub IsRefused : NcpFault → List Seat → List Seat → List HostServices → List HostServices → Kept → Kept → Result (Unit {0}) WorldFault → Type 0
+abbrev pub IsRefused : NcpFault → List Seat → List Seat → List ServiceSeat → List ServiceSeat → Kept → Kept → Result (Unit {0}) WorldFault → Type 0
 IsRefused f seats seats1 ss ss1 k k1 r = (r ≡ Err (Program f)) × ((seats1 ≡ seats) × ((ss1 ≡ ss) × (k1 ≡ k)))
 
-served_ends : {C : Type 0} (h : Host) (q : Request) (s : NcpState) (c : C) (seats seats1 : List Seat) (ss ss1 : List HostServices) (k k1 : Kept) (r : Result (Unit {0}) WorldFault)
-    → IsServed h q s seats seats1 ss ss1 k k1 r → AskGives h q s None (running c seats ss k) r (ended c seats1 ss1 k1 r)
+served_ends : {C : Type 0} (h : Host) (q : Request) (s : NcpState) (c : C) (seats seats1 : List Seat) (ss ss1 : List ServiceSeat) (k k1 : Kept) (r : Result (Unit {0}) WorldFault)
+    → IsServed h q s seats seats1 ss ss1 k k1 r → AskGives h q s None (running c seats ss k) r (world_ended c seats1 ss1 k1 r)
 served_ends {C} h q s c seats seats1 ss ss1 k k1 (Ok tt) m =
     inl (refl, tended_is h (turn_of h (length k.book.notices) (services_of h ss) (served s q, served_notices s q)) c seats seats1 ss ss1 (all_told h (served_notices s q) (asked h q k)) k1 m)
 served_ends {C} h q s c seats seats1 ss ss1 k k1 (Err f) m = inr (halts c (running c seats ss k) seats1 ss1 k1 f (memory_of f m.0) m.1)
 
-refused_is : {C : Type 0} (f : NcpFault) (c : C) (seats seats1 : List Seat) (ss ss1 : List HostServices) (k k1 : Kept) (r : Result (Unit {0}) WorldFault) → wants_memory (Program f) ≡ false
-    → IsRefused f seats seats1 ss ss1 k k1 r → Refuses (Program f) (running c seats ss k) r (ended c seats1 ss1 k1 r)
+refused_is : {C : Type 0} (f : NcpFault) (c : C) (seats seats1 : List Seat) (ss ss1 : List ServiceSeat) (k k1 : Kept) (r : Result (Unit {0}) WorldFault) → wants_memory (Program f) ≡ false
+    → IsRefused f seats seats1 ss ss1 k k1 r → Refuses (Program f) (running c seats ss k) r (world_ended c seats1 ss1 k1 r)
 refused_is {C} f c seats seats1 ss ss1 k k1 r calm m =
     let with : Bool → WorldState C = λ b. record { carrier = c; seats = seats1; services = ss1; kept = k1; stopped = b } in (
       m.0,
-      ap (λ (x : Result (Unit {0}) WorldFault). ended c seats1 ss1 k1 x) m.0 ∙ ap with calm ∙ ap (λ (x : List Seat). running c x ss1 k1) m.1.0 ∙ ap (λ (x : List HostServices). running c seats x k1) m.1.1.0
+      ap (λ (x : Result (Unit {0}) WorldFault). world_ended c seats1 ss1 k1 x) m.0 ∙ ap with calm ∙ ap (λ (x : List Seat). running c x ss1 k1) m.1.0 ∙ ap (λ (x : List ServiceSeat). running c seats x k1) m.1.1.0
           ∙ ap (λ (b : Kept). running c seats ss b) m.1.1.1,
     )
 
@@ -180,60 +180,60 @@ refusal_calm s (request.Interrupt socket) = open_calm closing_fault (owner_of so
 refusal_calm s (request.Close socket) = either_calm (listens_on socket s.listening) (close_fault (owner_of socket s.peers)) (close_calm (owner_of socket s.peers))
 refusal_calm s (request.Echo peer octet) = first_calm (not (is_ready (pair_with peer s.peers).phase)) problem.NotContacted None refl tt
 
-asked_by_refusal : {C : Type 0} (h : Host) (q : Request) (s : NcpState) (c : C) (seats seats1 : List Seat) (ss ss1 : List HostServices) (k k1 : Kept) (r : Result (Unit {0}) WorldFault) (o : Option NcpFault) → refusal s q ≡ o → IsCalm o
+asked_by_refusal : {C : Type 0} (h : Host) (q : Request) (s : NcpState) (c : C) (seats seats1 : List Seat) (ss ss1 : List ServiceSeat) (k k1 : Kept) (r : Result (Unit {0}) WorldFault) (o : Option NcpFault) → refusal s q ≡ o → IsCalm o
     → ((f : NcpFault) → refusal s q ≡ Some f → IsRefused f seats seats1 ss ss1 k k1 r) → (refusal s q ≡ None → IsServed h q s seats seats1 ss ss1 k k1 r)
-    → AskGives h q s o (running c seats ss k) r (ended c seats1 ss1 k1 r)
+    → AskGives h q s o (running c seats ss k) r (world_ended c seats1 ss1 k1 r)
 asked_by_refusal h q s c seats seats1 ss ss1 k k1 r None e calm refused done = served_ends h q s c seats seats1 ss ss1 k k1 r (done e)
 asked_by_refusal h q s c seats seats1 ss ss1 k k1 r (Some f) e calm refused done = refused_is f c seats seats1 ss ss1 k k1 r calm (refused f e)
 
-pub ask_ends : {C : Type 0} (h : Host) (q : Request) (place : ℕ) (s : NcpState) (c : C) (seats seats1 : List Seat) (ss ss1 : List HostServices) (k k1 : Kept) (r : Result (Unit {0}) WorldFault) → Sits h place s seats
+pub ask_ends : {C : Type 0} (h : Host) (q : Request) (place : ℕ) (s : NcpState) (c : C) (seats seats1 : List Seat) (ss ss1 : List ServiceSeat) (k k1 : Kept) (r : Result (Unit {0}) WorldFault) → Sits h place s seats
     → ((f : NcpFault) → refusal s q ≡ Some f → IsRefused f seats seats1 ss ss1 k k1 r) → (refusal s q ≡ None → IsServed h q s seats seats1 ss ss1 k k1 r)
-    → AtSeat (λ s. AskGives h q s (refusal s q) (running c seats ss k) r (ended c seats1 ss1 k1 r)) (seat_of h seats) (running c seats ss k) r (ended c seats1 ss1 k1 r)
+    → AtSeat (λ s. AskGives h q s (refusal s q) (running c seats ss k) r (world_ended c seats1 ss1 k1 r)) (seat_of h seats) (running c seats ss k) r (world_ended c seats1 ss1 k1 r)
 ask_ends {C} h q place s c seats seats1 ss ss1 k k1 r sits refused done =
-    sits_gives (λ s. AskGives h q s (refusal s q) (running c seats ss k) r (ended c seats1 ss1 k1 r)) h place s (running c seats ss k) r (ended c seats1 ss1 k1 r) sits
+    sits_gives (λ s. AskGives h q s (refusal s q) (running c seats ss k) r (world_ended c seats1 ss1 k1 r)) h place s (running c seats ss k) r (world_ended c seats1 ss1 k1 r) sits
     (asked_by_refusal h q s c seats seats1 ss ss1 k k1 r (refusal s q) refl (refusal_calm s q) refused done)
 
 -- ---- a line that is typed
 
-typed_by : {C : Type 0} (h : Host) (line : List ℕ) (s : NcpState) (c : C) (seats seats1 : List Seat) (ss ss1 : List HostServices) (k k1 : Kept) (r : Result (Unit {0}) WorldFault) (o : Option ℕ)
+typed_by : {C : Type 0} (h : Host) (line : List ℕ) (s : NcpState) (c : C) (seats seats1 : List Seat) (ss ss1 : List ServiceSeat) (k k1 : Kept) (r : Result (Unit {0}) WorldFault) (o : Option ℕ)
     → (o ≡ None → IsRefused problem.NotOpen seats seats1 ss ss1 k k1 r)
     → ((socket : ℕ) (f : NcpFault) → o ≡ Some socket → refusal s (request.Send socket (line_bits line)) ≡ Some f → IsRefused f seats seats1 ss ss1 k k1 r)
     → ((socket : ℕ) → o ≡ Some socket → refusal s (request.Send socket (line_bits line)) ≡ None → IsServed h (request.Send socket (line_bits line)) s seats seats1 ss ss1 k k1 r)
-    → TypeGives h line s o (running c seats ss k) r (ended c seats1 ss1 k1 r)
+    → TypeGives h line s o (running c seats ss k) r (world_ended c seats1 ss1 k1 r)
 typed_by h line s c seats seats1 ss ss1 k k1 r None without refused done = refused_is problem.NotOpen c seats seats1 ss ss1 k k1 r refl (without refl)
 typed_by h line s c seats seats1 ss ss1 k k1 r (Some socket) without refused done =
     asked_by_refusal h (request.Send socket (line_bits line)) s c seats seats1 ss ss1 k k1 r (refusal s (request.Send socket (line_bits line))) refl (refusal_calm s (request.Send socket (line_bits line)))
     (λ f e. refused socket f refl e) (λ e. done socket refl e)
 
-pub type_ends : {C : Type 0} (h : Host) (line : List ℕ) (place : ℕ) (s : NcpState) (c : C) (seats seats1 : List Seat) (ss ss1 : List HostServices) (k k1 : Kept) (r : Result (Unit {0}) WorldFault) → Sits h place s seats
+pub type_ends : {C : Type 0} (h : Host) (line : List ℕ) (place : ℕ) (s : NcpState) (c : C) (seats seats1 : List Seat) (ss ss1 : List ServiceSeat) (k k1 : Kept) (r : Result (Unit {0}) WorldFault) → Sits h place s seats
     → ((services_of h ss).typing ≡ None → IsRefused problem.NotOpen seats seats1 ss ss1 k k1 r)
     → ((socket : ℕ) (f : NcpFault) → (services_of h ss).typing ≡ Some socket → refusal s (request.Send socket (line_bits line)) ≡ Some f → IsRefused f seats seats1 ss ss1 k k1 r)
     → ((socket : ℕ) → (services_of h ss).typing ≡ Some socket → refusal s (request.Send socket (line_bits line)) ≡ None → IsServed h (request.Send socket (line_bits line)) s seats seats1 ss ss1 k k1 r)
-    → AtSeat (λ s. TypeGives h line s (services_of h ss).typing (running c seats ss k) r (ended c seats1 ss1 k1 r)) (seat_of h seats) (running c seats ss k) r (ended c seats1 ss1 k1 r)
+    → AtSeat (λ s. TypeGives h line s (services_of h ss).typing (running c seats ss k) r (world_ended c seats1 ss1 k1 r)) (seat_of h seats) (running c seats ss k) r (world_ended c seats1 ss1 k1 r)
 type_ends {C} h line place s c seats seats1 ss ss1 k k1 r sits without refused done =
-    sits_gives (λ s. TypeGives h line s (services_of h ss).typing (running c seats ss k) r (ended c seats1 ss1 k1 r)) h place s (running c seats ss k) r (ended c seats1 ss1 k1 r) sits
+    sits_gives (λ s. TypeGives h line s (services_of h ss).typing (running c seats ss k) r (world_ended c seats1 ss1 k1 r)) h place s (running c seats ss k) r (world_ended c seats1 ss1 k1 r) sits
     (typed_by h line s c seats seats1 ss ss1 k k1 r (services_of h ss).typing without refused done)
 
 -- ---- a service that begins
 
-begun_ends : {C : Type 0} (h : Host) (t : ServicesState × DeskState) (c : C) (seats seats1 : List Seat) (ss ss1 : List HostServices) (k k1 : Kept) (r : Result (Unit {0}) WorldFault)
+begun_ends : {C : Type 0} (h : Host) (t : ServicesState × ServiceDeskState) (c : C) (seats seats1 : List Seat) (ss ss1 : List ServiceSeat) (k k1 : Kept) (r : Result (Unit {0}) WorldFault)
     → OnOk r (AreDone h t seats ss k seats1 ss1 k1) → IfErr r (λ f. (f ≡ Program problem.OutOfMemory) × (k1 ≡ k))
-    → DoesOrHalts (tended h t (running c seats ss k)) (running c seats ss k) r (ended c seats1 ss1 k1 r)
+    → DoesOrHalts (tended h t (running c seats ss k)) (running c seats ss k) r (world_ended c seats1 ss1 k1 r)
 begun_ends {C} h t c seats seats1 ss ss1 k k1 (Ok tt) done kept = inl (refl, tended_is h t c seats seats1 ss ss1 k k1 done)
 begun_ends {C} h t c seats seats1 ss ss1 k k1 (Err f) done kept = inr (halts c (running c seats ss k) seats1 ss1 k1 f (memory_of f kept.0) kept.1)
 
-pub server_ends : {C : Type 0} (h : Host) (listen base place : ℕ) (s : NcpState) (c : C) (seats seats1 : List Seat) (ss ss1 : List HostServices) (k k1 : Kept) (r : Result (Unit {0}) WorldFault) → Sits h place s seats
+pub server_ends : {C : Type 0} (h : Host) (listen base place : ℕ) (s : NcpState) (c : C) (seats seats1 : List Seat) (ss ss1 : List ServiceSeat) (k k1 : Kept) (r : Result (Unit {0}) WorldFault) → Sits h place s seats
     → OnOk r (AreDone h (server_begun listen base (services_of h ss) (opening_desk h (length k.book.notices) s)) seats ss k seats1 ss1 k1) → IfErr r (λ f. (f ≡ Program problem.OutOfMemory) × (k1 ≡ k))
-    → AtSeat (λ s. DoesOrHalts (with_server h listen base s (running c seats ss k)) (running c seats ss k) r (ended c seats1 ss1 k1 r)) (seat_of h seats) (running c seats ss k) r (ended c seats1 ss1 k1 r)
+    → AtSeat (λ s. DoesOrHalts (with_server h listen base s (running c seats ss k)) (running c seats ss k) r (world_ended c seats1 ss1 k1 r)) (seat_of h seats) (running c seats ss k) r (world_ended c seats1 ss1 k1 r)
 server_ends {C} h listen base place s c seats seats1 ss ss1 k k1 r sits done kept =
-    sits_gives (λ s. DoesOrHalts (with_server h listen base s (running c seats ss k)) (running c seats ss k) r (ended c seats1 ss1 k1 r)) h place s (running c seats ss k) r (ended c seats1 ss1 k1 r) sits
+    sits_gives (λ s. DoesOrHalts (with_server h listen base s (running c seats ss k)) (running c seats ss k) r (world_ended c seats1 ss1 k1 r)) h place s (running c seats ss k) r (world_ended c seats1 ss1 k1 r) sits
     (begun_ends h (server_begun listen base (services_of h ss) (opening_desk h (length k.book.notices) s)) c seats seats1 ss ss1 k k1 r done kept)
 
-pub user_ends : {C : Type 0} (h peer : Host) (listen mine place : ℕ) (s : NcpState) (c : C) (seats seats1 : List Seat) (ss ss1 : List HostServices) (k k1 : Kept) (r : Result (Unit {0}) WorldFault) → Sits h place s seats
+pub user_ends : {C : Type 0} (h peer : Host) (listen mine place : ℕ) (s : NcpState) (c : C) (seats seats1 : List Seat) (ss ss1 : List ServiceSeat) (k k1 : Kept) (r : Result (Unit {0}) WorldFault) → Sits h place s seats
     → OnOk r (AreDone h (user_begun peer listen mine (services_of h ss) (opening_desk h (length k.book.notices) s)) seats ss k seats1 ss1 k1) → IfErr r (λ f. (f ≡ Program problem.OutOfMemory) × (k1 ≡ k))
-    → AtSeat (λ s. DoesOrHalts (with_user h peer listen mine s (running c seats ss k)) (running c seats ss k) r (ended c seats1 ss1 k1 r)) (seat_of h seats) (running c seats ss k) r (ended c seats1 ss1 k1 r)
+    → AtSeat (λ s. DoesOrHalts (with_user h peer listen mine s (running c seats ss k)) (running c seats ss k) r (world_ended c seats1 ss1 k1 r)) (seat_of h seats) (running c seats ss k) r (world_ended c seats1 ss1 k1 r)
 user_ends {C} h peer listen mine place s c seats seats1 ss ss1 k k1 r sits done kept =
-    sits_gives (λ s. DoesOrHalts (with_user h peer listen mine s (running c seats ss k)) (running c seats ss k) r (ended c seats1 ss1 k1 r)) h place s (running c seats ss k) r (ended c seats1 ss1 k1 r) sits
+    sits_gives (λ s. DoesOrHalts (with_user h peer listen mine s (running c seats ss k)) (running c seats ss k) r (world_ended c seats1 ss1 k1 r)) h place s (running c seats ss k) r (world_ended c seats1 ss1 k1 r) sits
     (begun_ends h (user_begun peer listen mine (services_of h ss) (opening_desk h (length k.book.notices) s)) c seats seats1 ss ss1 k k1 r done kept)
 
 -- ---- what has just crossed

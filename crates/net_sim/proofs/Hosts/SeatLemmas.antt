@@ -1,5 +1,5 @@
 -- Where a host sits.
-use Rattle.std.proofs.Common.{◌≡◌, ℕ, ◌<◌, Bool, true, false, ◌||◌, not, is_some, cond, List, ◌∷◌, length, Option, Some, None, Result, find, slice_index_or, refl, ap, sym, subst, ◌∙◌}
+use Rattle.std.proofs.Common.{◌≡◌, ℕ, ◌<◌, Bool, true, false, ◌||◌, not, is_some, cond, List, [], ◌∷◌, length, Option, Some, None, Result, find, slice_index_or, refl, ap, sym, subst, ◌∙◌}
 use Rattle.std.specs.List.{position}
 use Rattle.std.proofs.lemmas.List.{get_or_default}
 use Rattle.leader1822.specs.Host.{Host, same_host, is_host}

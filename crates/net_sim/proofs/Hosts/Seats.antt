@@ -14,7 +14,7 @@ use Rattle.sockets.specs.Pairs.{NcpState, opening_state}
 use Rattle.net_sim.specs.Story.{Moment, Crossed, program}
 use Rattle.net_sim.specs.Timeline.{IsTimeline, contacts_of, crossings_of}
 use Rattle.net_sim.specs.Whole.{seat_in}
-use Rattle.net_sim.specs.World.{Seat, all_turned, seat_of, seated, turned, with_program}
+use Rattle.net_sim.specs.World.{Seat, all_turned, seat_of, seated, seats_turned, with_program}
 
 -- ---- finding a seat
 
@@ -101,9 +101,9 @@ with_crossings (c ∷ cs) moments = Crossed c ∷ with_crossings cs moments
 pub turned_seats : (hosts : List Host) (cs : List Crossing) (moments : List Moment) → AreTurns cs → all_turned cs (map (seat_in hosts moments) hosts) ≡ map (seat_in hosts (with_crossings cs moments)) hosts
 turned_seats hosts [] moments t = refl
 turned_seats hosts (crossing.Down h ∷ cs) moments t =
-    ap (λ (seats : List Seat). turned (crossing.Down h) seats) (turned_seats hosts cs moments t.1) ∙ all_seated hosts hosts (with_crossings cs moments) (Crossed (crossing.Down h) ∷ with_crossings cs moments) h None (stops_at hosts (with_crossings cs moments) h)
+    ap (λ (seats : List Seat). seats_turned (crossing.Down h) seats) (turned_seats hosts cs moments t.1) ∙ all_seated hosts hosts (with_crossings cs moments) (Crossed (crossing.Down h) ∷ with_crossings cs moments) h None (stops_at hosts (with_crossings cs moments) h)
 turned_seats hosts (crossing.Up h ∷ cs) moments t =
-    ap (λ (seats : List Seat). turned (crossing.Up h) seats) (turned_seats hosts cs moments t.1) ∙ all_seated hosts hosts (with_crossings cs moments) (Crossed (crossing.Up h) ∷ with_crossings cs moments) h (Some (opening_state h)) (starts_at hosts (with_crossings cs moments) h)
+    ap (λ (seats : List Seat). seats_turned (crossing.Up h) seats) (turned_seats hosts cs moments t.1) ∙ all_seated hosts hosts (with_crossings cs moments) (Crossed (crossing.Up h) ∷ with_crossings cs moments) h (Some (opening_state h)) (starts_at hosts (with_crossings cs moments) h)
 turned_seats hosts (crossing.Out m ∷ cs) moments t = absurd t.0
 turned_seats hosts (crossing.In m ∷ cs) moments t = absurd t.0
 turned_seats hosts (crossing.Answer kind f ∷ cs) moments t = absurd t.0

@@ -5,7 +5,7 @@ use Rattle.leader1822.proofs.lemmas.{same_host-refl}
 use Rattle.sockets.specs.Pairs.{NcpState}
 use Rattle.host_services.specs.Services.{ServicesState}
 use Rattle.net_sim.specs.Inside.Parts.{IsOnce, Serves, Sits, hosts_of, hosts_served}
-use Rattle.net_sim.specs.World.{HostServices, Seat, services_of, serviced}
+use Rattle.net_sim.specs.World.{ServiceSeat, Seat, services_of, serviced}
 
 -- ---- a host that is none of these
 
@@ -13,11 +13,11 @@ or_false : (a b : Bool) → (a || b) ≡ false → (a ≡ false) × (b ≡ false
 or_false true b h = absurd (cc)
 or_false false b h = (refl, h)
 
-not_there : (h : Host) (x : ServicesState) (all : List HostServices) → is_host (hosts_served all) h ≡ false → serviced h x all ≡ all
+not_there : (h : Host) (x : ServicesState) (all : List ServiceSeat) → is_host (hosts_served all) h ≡ false → serviced h x all ≡ all
 not_there h x [] away = refl
 not_there h x (s ∷ all) away =
     let t : (same_host h s.host ≡ false) × (is_host (hosts_served all) h ≡ false) = or_false (same_host h s.host) (is_host (hosts_served all) h) away in
-    rw t.0 (ap (λ (rest : List HostServices). s ∷ rest) (not_there h x all t.1))
+    rw t.0 (ap (λ (rest : List ServiceSeat). s ∷ rest) (not_there h x all t.1))
 
 -- ---- a host at a place
 
@@ -42,16 +42,16 @@ not_first : (g h : Host) (hosts : List Host) → ((x : Host) → same_host x g �
 not_first g h hosts once later true e = absurd (let no : is_host hosts h ≡ false = once h e in let both : true ≡ false = sym later ∙ no in cc)
 not_first g h hosts once later false e = refl
 
-abbrev of : Host → ServicesState → HostServices
+abbrev of : Host → ServicesState → ServiceSeat
 of g y = record { host = g; services = y }
 
 -- the first of them
-first_served : (h : Host) (x : HostServices) (all : List HostServices) → x.host ≡ h → is_host (hosts_served all) h ≡ false → Serves h 0 (services_of h (x ∷ all)) (x ∷ all)
+first_served : (h : Host) (x : ServiceSeat) (all : List ServiceSeat) → x.host ≡ h → is_host (hosts_served all) h ≡ false → Serves h 0 (services_of h (x ∷ all)) (x ∷ all)
 first_served h x all is away =
     let e : same_host h x.host ≡ true = same_is x.host h is in
     let found : services_of h (x ∷ all) ≡ x.services = rw e refl in
     let eta : x ≡ of h x.services = ap (λ (g : Host). of g x.services) is in
-    let whole : (after : ServicesState) → serviced h after (x ∷ all) ≡ of x.host after ∷ all = λ after. rw e (ap (λ (rest : List HostServices). of x.host after ∷ rest) (not_there h after all away)) in
+    let whole : (after : ServicesState) → serviced h after (x ∷ all) ≡ of x.host after ∷ all = λ after. rw e (ap (λ (rest : List ServiceSeat). of x.host after ∷ rest) (not_there h after all away)) in
     record {
       within = omega arith;
       is = λ d. eta ∙ ap (λ (y : ServicesState). of h y) (sym found);
@@ -60,7 +60,7 @@ first_served h x all is away =
     }
 
 -- one of the others
-later_served : (h : Host) (x : HostServices) (all : List HostServices) (place : ℕ) → same_host h x.host ≡ false → Serves h place (services_of h all) all → Serves h (suc place) (services_of h (x ∷ all)) (x ∷ all)
+later_served : (h : Host) (x : ServiceSeat) (all : List ServiceSeat) (place : ℕ) → same_host h x.host ≡ false → Serves h place (services_of h all) all → Serves h (suc place) (services_of h (x ∷ all)) (x ∷ all)
 later_served h x all place e rest =
     let found : services_of h (x ∷ all) ≡ services_of h all = rw e refl in
     let whole : (after : ServicesState) → serviced h after (x ∷ all) ≡ x ∷ serviced h after all = λ after. rw e refl in
@@ -68,10 +68,10 @@ later_served h x all place e rest =
       within = omega (arith, rest.within);
       is = λ d. rest.is d ∙ ap (λ (y : ServicesState). of h y) (sym found);
       found = refl;
-      set = λ after. ap (λ (ys : List HostServices). x ∷ ys) (rest.set after) ∙ sym (whole after);
+      set = λ after. ap (λ (ys : List ServiceSeat). x ∷ ys) (rest.set after) ∙ sym (whole after);
     }
 
-served_at : (h : Host) (all : List HostServices) (place : ℕ) (o : Host) → IsOnce (hosts_served all) → place < length (hosts_served all) → slice_index_or (hosts_served all) place o ≡ h
+served_at : (h : Host) (all : List ServiceSeat) (place : ℕ) (o : Host) → IsOnce (hosts_served all) → place < length (hosts_served all) → slice_index_or (hosts_served all) place o ≡ h
     → Serves h place (services_of h all) all
 served_at h [] place o once lt is = absurd (omega (arith, lt))
 served_at h (x ∷ all) zero o once lt is = first_served h x all is (once.0 h (same_is x.host h is))
@@ -91,7 +91,7 @@ as_many : (seats : List Seat) → length (hosts_of seats) ≡ length seats
 as_many [] = refl
 as_many (x ∷ seats) = ap suc (as_many seats)
 
-pub serves : (h : Host) (place : ℕ) (s : NcpState) (seats : List Seat) (all : List HostServices) → IsOnce (hosts_of seats) → hosts_served all ≡ hosts_of seats → Sits h place s seats → Serves h place (services_of h all) all
+pub serves : (h : Host) (place : ℕ) (s : NcpState) (seats : List Seat) (all : List ServiceSeat) → IsOnce (hosts_of seats) → hosts_served all ≡ hosts_of seats → Sits h place s seats → Serves h place (services_of h all) all
 serves h place s seats all once order sits =
     let at : slice_index_or (hosts_served all) place h ≡ h =
     ap (λ (hs : List Host). slice_index_or hs place h) order ∙ seat_host seats place h (record { host = h; program = Some s }) h (Some s) sits.within (sits.is (record { host = h; program = Some s })) in

@@ -10,7 +10,7 @@ use Rattle.sockets.specs.Requests.{served_notices}
 use Rattle.sockets.specs.declared.request.Request.{Request}
 use Rattle.sockets.specs.declared.request.Request.TheVariants as request
 use Rattle.host_services.specs.Named.{IsSilent, MayAsk}
-use Rattle.net_sim.specs.Book.{Kept, all_asked, all_crossed, all_told, asked, told}
+use Rattle.net_sim.specs.Book.{Kept, all_asked, all_crossed, all_told, asked, book_told}
 use Rattle.net_sim.specs.Story.{Moment, Crossed, Asked, program}
 use Rattle.net_sim.specs.Told.{host_in, kept_by, kept_in, notices_by, without_reports}
 use Rattle.net_sim.proofs.Hosts.Asks.{asks_of}
@@ -19,7 +19,7 @@ use Rattle.net_sim.proofs.Hosts.Seats.{AreTurns, with_crossings}
 -- reports change nothing else
 bare_told : (h : Host) (ns : List Notice) (k : Kept) → without_reports (all_told h ns k) ≡ all_told h ns (without_reports k)
 bare_told h [] k = refl
-bare_told h (n ∷ ns) k = bare_told h ns (told h n k)
+bare_told h (n ∷ ns) k = bare_told h ns (book_told h n k)
 
 bare_by : (x : Moment) (k : Kept) → without_reports (kept_by x k) ≡ kept_by x (without_reports k)
 bare_by (Crossed c) k = refl

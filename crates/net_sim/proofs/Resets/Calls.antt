@@ -25,7 +25,7 @@ use Rattle.sockets.specs.declared.request.Request.{Request}
 use Rattle.sockets.specs.declared.request.Request.TheVariants as request
 use Rattle.sockets.proofs.lemmas.{others_stay, pair_changed}
 use Rattle.reset_law.specs.Events.{Part, Call, Take, Hear, when, part_of}
-use Rattle.reset_law.specs.Pairs.{Pair, moved}
+use Rattle.reset_law.specs.Pairs.{Pair, pair_moved}
 use Rattle.reset_law.specs.Pairs as resets
 use Rattle.net_sim.specs.Projection.{has_control, message_on, event_of, event_by, Agrees, IsApart, IsQueued}
 use Rattle.net_sim.proofs.Resets.Kept.{AreKept, Kept, any_changed, any_more, asks, free_away, plain_one, strays, kept_settled}
@@ -37,13 +37,13 @@ opening_agrees own h = record { phase = refl; owed = refl; busy = λ k. refl; re
 -- ---- one peer and the others
 
 pub part_by : (g h : Host) (q : PairState) (peers : List Peer) (p : Pair) (part : Part) → Agrees (pair_with h peers) p
-    → (Agrees (pair_with g peers) p → Agrees q (moved (Some part) p)) → (b : Bool) → same_host h g ≡ b
-    → Agrees (pair_with h (with_pair g q peers)) (moved (when b part) p)
+    → (Agrees (pair_with g peers) p → Agrees q (pair_moved (Some part) p)) → (b : Bool) → same_host h g ≡ b
+    → Agrees (pair_with h (with_pair g q peers)) (pair_moved (when b part) p)
 part_by g h q peers p part a work true e =
     let is : h ≡ g = same_host-true h g e in
-    let here : Agrees q (moved (Some part) p) = work (subst (λ (x : Host). Agrees (pair_with x peers) p) is a) in
+    let here : Agrees q (pair_moved (Some part) p) = work (subst (λ (x : Host). Agrees (pair_with x peers) p) is a) in
     let put : pair_with h (with_pair g q peers) ≡ q = (let r : pair_with h (with_pair g q peers) ≡ cond (same_host h g) q (pair_with h peers) = pair_changed g h q peers in rw e at r) in
-    subst (λ (x : PairState). Agrees x (moved (Some part) p)) (sym put) here
+    subst (λ (x : PairState). Agrees x (pair_moved (Some part) p)) (sym put) here
 part_by g h q peers p part a work false e = subst (λ (x : PairState). Agrees x p) (sym (others_stay g h q peers e)) a
 
 quiet_by : (g h : Host) (q : PairState) (peers : List Peer) (p : Pair) → Agrees (pair_with h peers) p
@@ -62,14 +62,14 @@ quiet g h q peers p a work = quiet_by g h q peers p a work (same_host h g) refl
 
 message_by : (s : NcpState) (m : HostMessage) (stamp : ℕ) (h : Host) (p : Pair) → IsApart m.flow.link.0 m.text (message_on m.flow.link.0 m.text) → Agrees (pair_with h s.peers) p
     → (b : Bool) → same_host s.own m.flow.destination ≡ b
-    → Agrees (pair_with h (accepted_message s m stamp).0.peers) (moved (part_of s.own h (event_of (crossing.In m))) p)
+    → Agrees (pair_with h (accepted_message s m stamp).0.peers) (pair_moved (part_of s.own h (event_of (crossing.In m))) p)
 message_by s m stamp h p apart a true e =
     rw e (part_by m.flow.source h (message_taken m.flow.source stamp m.flow.link.0 m.text (turn_of s m.flow.source)).pair s.peers p (Take (message_on m.flow.link.0 m.text)) a
     (λ b. agrees_message m.flow.source stamp m.flow.link.0 m.text (turn_of s m.flow.source) p apart b) (same_host h m.flow.source) refl)
 message_by s m stamp h p apart a false e = rw e a
 
 pub message_agrees : (s : NcpState) (m : HostMessage) (stamp : ℕ) (h : Host) (p : Pair) → IsApart m.flow.link.0 m.text (message_on m.flow.link.0 m.text) → Agrees (pair_with h s.peers) p
-    → Agrees (pair_with h (accepted s (inbound.Message m) stamp).0.peers) (moved (part_of s.own h (event_of (crossing.In m))) p)
+    → Agrees (pair_with h (accepted s (inbound.Message m) stamp).0.peers) (pair_moved (part_of s.own h (event_of (crossing.In m))) p)
 unfolding accepted
 message_agrees s m stamp h p apart a = message_by s m stamp h p apart a (same_host s.own m.flow.destination) refl
 
@@ -78,7 +78,7 @@ abbrev IsOut : NcpState → Flow → Host → Pair → Type 0
 IsOut s f h p = same_host s.own f.source ≡ true → same_host h f.destination ≡ true → is_some (p.out f.link.0) ≡ true
 
 unanswered : (s : NcpState) (kind : Answer) (f : Flow) (h : Host) (p : Pair) → same_host s.own f.source ≡ true → IsOut s f h p → Agrees (pair_with h s.peers) p
-    → is_busy (pair_with f.destination s.peers).busy f.link.0 ≡ false → (b : Bool) → same_host h f.destination ≡ b → Agrees (pair_with h s.peers) (moved (when b (Hear f.link.0 kind)) p)
+    → is_busy (pair_with f.destination s.peers).busy f.link.0 ≡ false → (b : Bool) → same_host h f.destination ≡ b → Agrees (pair_with h s.peers) (pair_moved (when b (Hear f.link.0 kind)) p)
 unanswered s kind f h p own out a idle true e =
     let is : h ≡ f.destination = same_host-true h f.destination e in
     let busy : is_busy (pair_with f.destination s.peers).busy f.link.0 ≡ true = ap (λ (x : Host). is_busy (pair_with x s.peers).busy f.link.0) (sym is) ∙ sym (a.busy f.link.0) ∙ out own e in
@@ -87,7 +87,7 @@ unanswered s kind f h p own out a idle false e = a
 
 answer_by : (s : NcpState) (kind : Answer) (f : Flow) (h : Host) (p : Pair) → IsOut s f h p → Agrees (pair_with h s.peers) p
     → (b c : Bool) → same_host s.own f.source ≡ b → is_busy (pair_with f.destination s.peers).busy f.link.0 ≡ c
-    → Agrees (pair_with h (accepted_answer s kind f).0.peers) (moved (part_of s.own h (event_of (crossing.Answer kind f))) p)
+    → Agrees (pair_with h (accepted_answer s kind f).0.peers) (pair_moved (part_of s.own h (event_of (crossing.Answer kind f))) p)
 answer_by s kind f h p out a true true e g =
     rw (e, g) (part_by f.destination h (answered_turn f.destination kind f.link.0 (turn_of s f.destination)).pair s.peers p (Hear f.link.0 kind) a
     (λ b. agrees_answer f.destination kind f.link.0 (turn_of s f.destination) p b) (same_host h f.destination) refl)
@@ -96,13 +96,13 @@ answer_by s kind f h p out a false c e g = rw e a
 
 pub answer_agrees : (s : NcpState) (kind : Answer) (f : Flow) (stamp : ℕ) (h : Host) (p : Pair)
     → (same_host s.own f.source ≡ true → same_host h f.destination ≡ true → is_some (p.out f.link.0) ≡ true) → Agrees (pair_with h s.peers) p
-    → Agrees (pair_with h (accepted s (inbound.Answer kind f) stamp).0.peers) (moved (part_of s.own h (event_of (crossing.Answer kind f))) p)
+    → Agrees (pair_with h (accepted s (inbound.Answer kind f) stamp).0.peers) (pair_moved (part_of s.own h (event_of (crossing.Answer kind f))) p)
 unfolding accepted
 answer_agrees s kind f stamp h p out a = answer_by s kind f h p out a (same_host s.own f.source) (is_busy (pair_with f.destination s.peers).busy f.link.0) refl refl
 
 -- ---- what a user asks for
 
-agrees_contacted : (q : PairState) (p : Pair) → Agrees q p → Agrees (contacted q) (moved (Some Call) p)
+agrees_contacted : (q : PairState) (p : Pair) → Agrees q p → Agrees (contacted q) (pair_moved (Some Call) p)
 agrees_contacted q p a = record { phase = refl; owed = a.owed; busy = a.busy; ready = λ h. absurd (cc); begun = λ h. absurd (cc); plain = tt; linked = refl }
 
 agrees_requested : (e : Entry) (c : Command) (q : PairState) (p : Pair) → asks e ≡ false → strays e ≡ false → IsQueued c → Agrees q p → Agrees (requested e c q) p
@@ -158,11 +158,11 @@ close_agrees s socket h p a true e = rw e a
 close_agrees s socket h p a false e = rw e (owner_agrees s (owner_of socket s.peers) (λ x. closed_end socket) h p (λ x q. agrees_closed socket q p) a)
 
 contact_agrees : (s : NcpState) (peer h : Host) (p : Pair) → Agrees (pair_with h s.peers) p
-    → Agrees (pair_with h (with_pair peer (contacted (pair_with peer s.peers)) s.peers)) (moved (part_of s.own h (event_by s.own (request.Contact peer))) p)
+    → Agrees (pair_with h (with_pair peer (contacted (pair_with peer s.peers)) s.peers)) (pair_moved (part_of s.own h (event_by s.own (request.Contact peer))) p)
 contact_agrees s peer h p a =
     rw (same_host-refl s.own) (part_by peer h (contacted (pair_with peer s.peers)) s.peers p Call a (agrees_contacted (pair_with peer s.peers) p) (same_host h peer) refl)
 
-pub request_agrees : (s : NcpState) (r : Request) (h : Host) (p : Pair) → Agrees (pair_with h s.peers) p → Agrees (pair_with h (served s r).peers) (moved (part_of s.own h (event_by s.own r)) p)
+pub request_agrees : (s : NcpState) (r : Request) (h : Host) (p : Pair) → Agrees (pair_with h s.peers) p → Agrees (pair_with h (served s r).peers) (pair_moved (part_of s.own h (event_by s.own r)) p)
 unfolding served
 request_agrees s (request.Contact peer) h p a = contact_agrees s peer h p a
 request_agrees s (request.Listen socket size) h p a = a

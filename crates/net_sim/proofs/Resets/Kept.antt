@@ -12,10 +12,10 @@ use Rattle.ncp_control.specs.DataHeader.{header_of}
 use Rattle.ncp_control.specs.Command.{detail_of, spelling}
 use Rattle.host_pairs.specs.Commands as commands
 use Rattle.host_pairs.specs.Control.{error, ERRONEOUS, NO_SOCKET, NOT_CONNECTED}
-use Rattle.host_pairs.specs.Commands.{changed, joined, matched_once, rts_heard, rts_taken_by, rts_taken, str_linked, str_heard, str_taken_by, str_taken, closed_once, cls_taken_by, cls_taken, Found, Unconnected, Ending, Open, at_end, sender_on, receiver_on, all_taken, gvb_taken, ret_taken, interrupted, taken, asked_on_link, asked_with_size}
+use Rattle.host_pairs.specs.Commands.{changed, entry_joined, matched_once, rts_heard, rts_taken_by, rts_taken, str_linked, str_heard, str_taken_by, str_taken, closed_once, cls_taken_by, cls_taken, Found, Unconnected, Ending, Open, at_end, sender_on, receiver_on, all_taken, gvb_taken, ret_taken, interrupted, desk_taken, asked_on_link, asked_with_size}
 use Rattle.host_pairs.specs.Data.{data_found, data_taken, arrived_if, is_acceptable}
 use Rattle.host_pairs.specs.Entries.{changed_first, closed_when, connection_links, is_at, must_close, cls_of, is_over, free_link, entry_at, receiving_end, receives_on, refused_end, sending_end, sends_on}
-use Rattle.host_pairs.specs.Desk.{DeskState, queued, told, settled, swept, listener_on}
+use Rattle.host_pairs.specs.Desk.{DeskState, command_queued, desk_told, settled, swept, listener_on}
 use Rattle.host_pairs.specs.declared.entry.Entry.{Entry}
 use Rattle.host_pairs.specs.declared.listener.Listener.{Listener}
 use Rattle.host_pairs.specs.declared.notice.Notice.{Notice}
@@ -150,13 +150,13 @@ kept_if : (b : Bool) (d e f : DeskState) → Kept d e → Kept d f → Kept d (i
 kept_if true d e f j k = j
 kept_if false d e f j k = k
 
-kept_queued : (c : Command) (d : DeskState) → IsQueued c → Kept d (queued c d)
+kept_queued : (c : Command) (d : DeskState) → IsQueued c → Kept d (command_queued c d)
 kept_queued c d q = record { asked = λ h. h; plain = plain_one c d.queue q; linked = λ h. h }
 
-pub kept_error : (code : ℕ) (octets : List ℕ) (d : DeskState) → Kept d (queued (error code octets) d)
+pub kept_error : (code : ℕ) (octets : List ℕ) (d : DeskState) → Kept d (command_queued (error code octets) d)
 kept_error code octets d = kept_queued (error code octets) d (plain_error code octets)
 
-kept_told : (notices : List Notice) (d : DeskState) → Kept d (told notices d)
+kept_told : (notices : List Notice) (d : DeskState) → Kept d (desk_told notices d)
 kept_told notices d = record { asked = λ h. h; plain = λ h. h; linked = λ h. h }
 
 kept_changed : (test : Entry → Bool) (change : Entry → Entry) (d : DeskState) → AreKept change → Kept d (changed test change d)
@@ -245,7 +245,7 @@ kept_ret link messages bits e d =
 
 -- ---- all commands, and data
 
-pub kept_taken : (peer : Host) (busy : List ℕ) (stamp : ℕ) (c : Command) → names_control c ≡ false → (d : DeskState) → Kept d (taken peer busy stamp c d)
+pub kept_taken : (peer : Host) (busy : List ℕ) (stamp : ℕ) (c : Command) → names_control c ≡ false → (d : DeskState) → Kept d (desk_taken peer busy stamp c d)
 kept_taken peer busy stamp command.Nop away d = kept d
 kept_taken peer busy stamp (command.Rts receive send link) away d = kept_rts peer send receive link stamp d away
 kept_taken peer busy stamp (command.Str send receive size) away d = kept_str_by peer receive send size stamp (entry_at receive send d.entries) d

@@ -29,7 +29,7 @@ use Rattle.sockets.proofs.lemmas.{next_is, next_pair}
 use Rattle.host_pairs.proofs.lemmas.{both, what_goes}
 use Rattle.reset_law.specs.Boxes.{at_link}
 use Rattle.reset_law.specs.Events.{Message, Reset, Reply, Other, Send, part_of}
-use Rattle.reset_law.specs.Pairs.{Pair, Kind, IsFree, moved, sent}
+use Rattle.reset_law.specs.Pairs.{Pair, Kind, IsFreePair, pair_moved, pair_sent}
 use Rattle.reset_law.specs.Pairs as resets
 use Rattle.reset_law.specs.Phases as law
 use Rattle.net_sim.specs.Projection.{is_rst, is_rrp, is_alone, message_on, phase_of, has_asked, event_of, IsApart, ArePlain, AllPlain, Agrees, has_control, on_control}
@@ -48,7 +48,7 @@ none_is (Some x) e = absurd (cc)
 free_of : (q : PairState) (p : Pair) → Agrees q p → (k : ℕ) → is_busy q.busy k ≡ false → p.out k ≡ None
 free_of q p a k idle = none_is (p.out k) (a.busy k ∙ idle)
 
-all_free : (q : PairState) (p : Pair) → Agrees q p → q.busy ≡ [] → IsFree p.out
+all_free : (q : PairState) (p : Pair) → Agrees q p → q.busy ≡ [] → IsFreePair p.out
 all_free q p a none k = free_of q p a k (ap (λ (busy : List ℕ). is_busy busy k) none)
 
 busy_by : (b c : Bool) (x : Kind) (o : Option Kind) → b ≡ c → is_some (if b then Some x else o) ≡ (c || is_some o)
@@ -267,7 +267,7 @@ after peer stamp listening x q = pair_after x q (parcel_gone peer stamp q.busy x
 -- a parcel may go by the law, and then the pair is where the law has it
 pub record Goes (q : PairState) (p : Pair) (x : Parcel) (new : PairState) : Type 0 where
   pub may : resets.MaySend p (link_for x) (message_on (link_for x) (text_for q x))
-  pub agrees : Agrees new (sent (link_for x) (message_on (link_for x) (text_for q x)) p)
+  pub agrees : Agrees new (pair_sent (link_for x) (message_on (link_for x) (text_for q x)) p)
 
 not_want : (ph : host.Phase) → program.is_want ph ≡ false → phase_of ph ≢ law.Want
 not_want phase.Closed e = λ h. absurd (cc)
@@ -278,7 +278,7 @@ not_want phase.Ready e = λ h. absurd (cc)
 
 reset_goes : (peer : Host) (stamp : ℕ) (listening : List Listener) (q : PairState) (p : Pair) → Agrees q p → MayReset q → Goes q p parcel.Reset (after peer stamp listening parcel.Reset q)
 reset_goes peer stamp listening q p a m =
-    let P : Message → Type 0 = λ x. resets.MaySend p 0 x × Agrees (after peer stamp listening parcel.Reset q) (sent 0 x p) in
+    let P : Message → Type 0 = λ x. resets.MaySend p 0 x × Agrees (after peer stamp listening parcel.Reset q) (pair_sent 0 x p) in
     let no : has_asked q.entries ≡ true → ⊥ = λ h. (let r : program.is_ready phase.Want ≡ true = ap program.is_ready (sym m.wanted) ∙ a.ready h in cc) in
     let goes : P Reset = (
       (refl, a.phase ∙ ap phase_of m.wanted, all_free q p a m.silent),
@@ -289,7 +289,7 @@ reset_goes peer stamp listening q p a m =
 
 reply_goes : (peer : Host) (stamp : ℕ) (listening : List Listener) (q : PairState) (p : Pair) → Agrees q p → MayReply q → Goes q p parcel.Reply (after peer stamp listening parcel.Reply q)
 reply_goes peer stamp listening q p a m =
-    let P : Message → Type 0 = λ x. resets.MaySend p 0 x × Agrees (after peer stamp listening parcel.Reply q) (sent 0 x p) in
+    let P : Message → Type 0 = λ x. resets.MaySend p 0 x × Agrees (after peer stamp listening parcel.Reply q) (pair_sent 0 x p) in
     let goes : P Reply = (
       (refl, a.owed ∙ m.owed, (λ w. not_want q.phase m.unwanted (sym a.phase ∙ w)), all_free q p a m.silent),
       record { phase = a.phase; owed = refl; busy = busier q p a 0 resets.Rrp; ready = a.ready; begun = a.begun; plain = a.plain; linked = a.linked },
@@ -300,7 +300,7 @@ reply_goes peer stamp listening q p a m =
 -- what is said on connections
 said_goes : (q new : PairState) (p : Pair) (l : ℕ) (text : List Bool) → Agrees q p → MaySpeak q → p.out l ≡ None → (l ≡ 0) ⊎ (p.begun ≡ true)
     → new.phase ≡ q.phase → new.owed ≡ q.owed → new.busy ≡ l ∷ q.busy → ArePlain new.queue → has_control new.entries ≡ false
-    → resets.MaySend p l (Other text) × Agrees new (sent l (Other text) p)
+    → resets.MaySend p l (Other text) × Agrees new (pair_sent l (Other text) p)
 said_goes q new p l text a m free begun ph ow bu plain linked = (
   (a.phase ∙ ap phase_of m.ready, a.owed ∙ m.owes, free, begun),
   record {
@@ -317,7 +317,7 @@ said_goes q new p l text a m free begun ph ow bu plain linked = (
 commands_go : (peer : Host) (stamp : ℕ) (listening : List Listener) (q : PairState) (p : Pair) (count : ℕ) → Agrees q p → MaySpeak q × MayCommand q count
     → Goes q p (parcel.Commands count) (after peer stamp listening (parcel.Commands count) q)
 commands_go peer stamp listening q p count a m =
-    let P : Message → Type 0 = λ x. resets.MaySend p 0 x × Agrees (after peer stamp listening (parcel.Commands count) q) (sent 0 x p) in
+    let P : Message → Type 0 = λ x. resets.MaySend p 0 x × Agrees (after peer stamp listening (parcel.Commands count) q) (pair_sent 0 x p) in
     let kept : (commands_gone peer stamp (take count q.queue) (desk_of q listening)).queue ≡ q.queue = all_gone_queue peer stamp (take count q.queue) (desk_of q listening) in
     let plain : ArePlain (drop count (commands_gone peer stamp (take count q.queue) (desk_of q listening)).queue) = subst (λ (cs : List Command). ArePlain (drop count cs)) (sym kept) (plain_drop count q.queue a.plain) in
     let goes : P (Other (text_for q (parcel.Commands count))) =
@@ -336,7 +336,7 @@ answered_free busy (Some link) some h = not_busy (is_busy busy link) h where
 bytes_go : (peer : Host) (stamp : ℕ) (listening : List Listener) (q : PairState) (p : Pair) (e : Entry) (size count : ℕ) → Agrees q p → MaySpeak q × MaySend q e size count → has_asked q.entries ≡ true
     → (link_of e.link == 0) ≡ false → Goes q p (parcel.Bytes e size count) (after peer stamp listening (parcel.Bytes e size count) q)
 bytes_go peer stamp listening q p e size count a m asked away =
-    let P : Message → Type 0 = λ x. resets.MaySend p (link_of e.link) x × Agrees (after peer stamp listening (parcel.Bytes e size count) q) (sent (link_of e.link) x p) in
+    let P : Message → Type 0 = λ x. resets.MaySend p (link_of e.link) x × Agrees (after peer stamp listening (parcel.Bytes e size count) q) (pair_sent (link_of e.link) x p) in
     let goes : P (Other (text_for q (parcel.Bytes e size count))) =
     said_goes q (after peer stamp listening (parcel.Bytes e size count) q) p (link_of e.link) (text_for q (parcel.Bytes e size count)) a m.0
     (free_of q p a (link_of e.link) (answered_free q.busy e.link m.1.linked m.1.answered)) (inr (a.begun asked)) refl refl refl a.plain
@@ -363,11 +363,11 @@ offer_may s g x p order n a =
     (goes g.host 0 s.listening g.pair p x (subst (λ (q : PairState). Agrees q p) pair a) (next_is g x s.peers n)).may
 
 pub offer_agrees : (s : NcpState) (stamp : ℕ) (g : Peer) (x : Parcel) (h : Host) (p : Pair) → AreInOrder s.peers → next_in s.peers ≡ Some (g, x) → Agrees (pair_with h s.peers) p
-    → Agrees (pair_with h (offered s stamp).0.peers) (moved (part_of s.own h (event_of (crossing.Out (message_for s.own g x)))) p)
+    → Agrees (pair_with h (offered s stamp).0.peers) (pair_moved (part_of s.own h (event_of (crossing.Out (message_for s.own g x)))) p)
 unfolding offered
 offer_agrees s stamp g x h p order n a =
     let pair : pair_with g.host s.peers ≡ g.pair = next_pair s.peers g x order n in
-    let step : Agrees (pair_with g.host s.peers) p → Agrees (after g.host stamp s.listening x g.pair) (sent (link_for x) (message_on (link_for x) (text_for g.pair x)) p) =
+    let step : Agrees (pair_with g.host s.peers) p → Agrees (after g.host stamp s.listening x g.pair) (pair_sent (link_for x) (message_on (link_for x) (text_for g.pair x)) p) =
     λ b. (goes g.host stamp s.listening g.pair p x (subst (λ (q : PairState). Agrees q p) pair b) (next_is g x s.peers n)).agrees in
     rw (n, same_host-refl s.own) (part_by g.host h (after g.host stamp s.listening x g.pair) s.peers p (Send (link_for x) (message_on (link_for x) (text_for g.pair x))) a step (same_host h g.host) refl)
 

@@ -1,5 +1,5 @@
 -- After every story each program is, for each peer, where the law of resets has it.
-use Rattle.std.proofs.Common.{◌≡◌, ℕ, Bool, true, false, if◌then◌else◌, List, ◌∷◌, Option, Some, None, is_some, refl, sym, subst, ◌∙◌}
+use Rattle.std.proofs.Common.{◌≡◌, ℕ, Bool, true, false, if◌then◌else◌, List, [], ◌∷◌, Option, Some, None, is_some, refl, sym, subst, ◌∙◌}
 use Rattle.leader1822.specs.Host.{Host, same_host}
 use Rattle.leader1822.specs.declared.address.Flow.{Flow}
 use Rattle.leader1822.specs.declared.crossing.Answer.{Answer}
@@ -21,9 +21,9 @@ use Rattle.sockets.specs.declared.peer.Peer.{Peer}
 use Rattle.sockets.specs.declared.request.Request.{Request}
 use Rattle.sockets.specs.declared.request.Request.TheVariants as request
 use Rattle.reset_law.specs.Events.{Event, part_of}
-use Rattle.reset_law.specs.Pairs.{Pair, moved, pair}
+use Rattle.reset_law.specs.Pairs.{Pair, pair_moved, pair}
 use Rattle.net_sim.specs.Projection.{Agrees, event_of, event_by}
-use Rattle.net_sim.specs.Story.{Moment, Crossed, Asked, places, event_in, events_of, after, program, IsNext, Follows, IsStory}
+use Rattle.net_sim.specs.Story.{Moment, Crossed, Asked, places, event_in, events_of, program_after, program, IsNext, Follows, IsStory}
 use Rattle.net_sim.proofs.Resets.Calls.{opening_agrees, request_agrees, message_agrees, answer_agrees}
 use Rattle.net_sim.proofs.Resets.Offers.{offer_agrees}
 
@@ -76,7 +76,7 @@ own_if : (b : Bool) (s t : NcpState) (a : Host) → s.own ≡ a → t.own ≡ a 
 own_if true s t a e f = e
 own_if false s t a e f = f
 
-after_own : (a : Host) (here : ℕ) (x : Moment) (s : NcpState) → s.own ≡ a → (after a here x s).own ≡ a
+after_own : (a : Host) (here : ℕ) (x : Moment) (s : NcpState) → s.own ≡ a → (program_after a here x s).own ≡ a
 after_own a here (Crossed (crossing.Out m)) s e = own_if (same_host a m.flow.source) _ s a (offered_own s here ∙ e) e
 after_own a here (Crossed (crossing.In m)) s e = own_if (same_host a m.flow.destination) _ s a (accepted_own s (inbound.Message m) here ∙ e) e
 after_own a here (Crossed (crossing.Answer kind f)) s e = own_if (same_host a f.source) _ s a (accepted_own s (inbound.Answer kind f) here ∙ e) e
@@ -97,10 +97,10 @@ abbrev Before : Host → Host → List Moment → Type 0
 Before a b moments = Agrees (pair_with b (program a moments).peers) (pair a b (events_of moments))
 
 -- what the law says of the program's own address, it says of the host
-as_own : (a b : Host) (e : Event) (q : PairState) (p : Pair) (s : NcpState) → s.own ≡ a → Agrees q (moved (part_of s.own b e) p) → Agrees q (moved (part_of a b e) p)
-as_own a b e q p s own h = subst (λ (x : Host). Agrees q (moved (part_of x b e) p)) own h
+as_own : (a b : Host) (e : Event) (q : PairState) (p : Pair) (s : NcpState) → s.own ≡ a → Agrees q (pair_moved (part_of s.own b e) p) → Agrees q (pair_moved (part_of a b e) p)
+as_own a b e q p s own h = subst (λ (x : Host). Agrees q (pair_moved (part_of x b e) p)) own h
 
-another : (a b h : Host) (r : Request) (q : PairState) (p : Pair) → same_host a h ≡ false → Agrees q p → Agrees q (moved (part_of a b (event_by h r)) p)
+another : (a b h : Host) (r : Request) (q : PairState) (p : Pair) → same_host a h ≡ false → Agrees q p → Agrees q (pair_moved (part_of a b (event_by h r)) p)
 another a b h (request.Contact peer) q p e k = rw e k
 another a b h (request.Listen socket size) q p e k = k
 another a b h (request.OpenSend peer own foreign size) q p e k = k
@@ -116,35 +116,35 @@ asked_stands : (a b h : Host) (r : Request) (moments : List Moment) → Before a
 asked_stands a b h r moments k true e =
     let s : NcpState = program a moments in
     let is : a ≡ h = same_host-true a h e in
-    let step : Agrees (pair_with b (served (program a moments) r).peers) (moved (part_of a b (event_by a r)) (pair a b (events_of moments))) =
-    subst (λ (x : Host). Agrees (pair_with b (served (program a moments) r).peers) (moved (part_of x b (event_by x r)) (pair a b (events_of moments)))) (program_own a moments) (request_agrees (program a moments) r b (pair a b (events_of moments)) k) in
-    rw e (subst (λ (x : Host). Agrees (pair_with b (served (program a moments) r).peers) (moved (part_of a b (event_by x r)) (pair a b (events_of moments)))) is step)
+    let step : Agrees (pair_with b (served (program a moments) r).peers) (pair_moved (part_of a b (event_by a r)) (pair a b (events_of moments))) =
+    subst (λ (x : Host). Agrees (pair_with b (served (program a moments) r).peers) (pair_moved (part_of x b (event_by x r)) (pair a b (events_of moments)))) (program_own a moments) (request_agrees (program a moments) r b (pair a b (events_of moments)) k) in
+    rw e (subst (λ (x : Host). Agrees (pair_with b (served (program a moments) r).peers) (pair_moved (part_of a b (event_by x r)) (pair a b (events_of moments)))) is step)
 asked_stands a b h r moments k false e = rw e (another a b h r (pair_with b (program a moments).peers) (pair a b (events_of moments)) e k)
 
 in_stands : (a b : Host) (m : HostMessage) (moments : List Moment) → Follows (Crossed (crossing.In m)) moments → Before a b moments → (c : Bool) → same_host a m.flow.destination ≡ c → Stands a b (Crossed (crossing.In m)) moments
 in_stands a b m moments apart k true e =
-    let step : Agrees (pair_with b (accepted (program a moments) (inbound.Message m) (places moments)).0.peers) (moved (part_of a b (event_of (crossing.In m))) (pair a b (events_of moments))) =
+    let step : Agrees (pair_with b (accepted (program a moments) (inbound.Message m) (places moments)).0.peers) (pair_moved (part_of a b (event_of (crossing.In m))) (pair a b (events_of moments))) =
     as_own a b (event_of (crossing.In m)) _ (pair a b (events_of moments)) (program a moments) (program_own a moments) (message_agrees (program a moments) m (places moments) b (pair a b (events_of moments)) apart k) in
-    let now : Agrees (pair_with b (if true then (accepted (program a moments) (inbound.Message m) (places moments)).0 else program a moments).peers) (moved (part_of a b (event_of (crossing.In m))) (pair a b (events_of moments))) = step in
-    subst (λ (x : Bool). Agrees (pair_with b (if x then (accepted (program a moments) (inbound.Message m) (places moments)).0 else program a moments).peers) (moved (part_of a b (event_of (crossing.In m))) (pair a b (events_of moments)))) (sym e) now
+    let now : Agrees (pair_with b (if true then (accepted (program a moments) (inbound.Message m) (places moments)).0 else program a moments).peers) (pair_moved (part_of a b (event_of (crossing.In m))) (pair a b (events_of moments))) = step in
+    subst (λ (x : Bool). Agrees (pair_with b (if x then (accepted (program a moments) (inbound.Message m) (places moments)).0 else program a moments).peers) (pair_moved (part_of a b (event_of (crossing.In m))) (pair a b (events_of moments)))) (sym e) now
 in_stands a b m moments apart k false e = rw e k
 
 out_of : (a b : Host) (m : HostMessage) (moments : List Moment) → IsNext (program a moments) m → Before a b moments
-    → Agrees (pair_with b (offered (program a moments) (places moments)).0.peers) (moved (part_of a b (event_of (crossing.Out m))) (pair a b (events_of moments)))
+    → Agrees (pair_with b (offered (program a moments) (places moments)).0.peers) (pair_moved (part_of a b (event_of (crossing.Out m))) (pair a b (events_of moments)))
 out_of a b m moments n k =
     let s : NcpState = program a moments in
-    let step : Agrees (pair_with b (offered (program a moments) (places moments)).0.peers) (moved (part_of (program a moments).own b (event_of (crossing.Out (message_for (program a moments).own n.peer n.parcel)))) (pair a b (events_of moments))) =
+    let step : Agrees (pair_with b (offered (program a moments) (places moments)).0.peers) (pair_moved (part_of (program a moments).own b (event_of (crossing.Out (message_for (program a moments).own n.peer n.parcel)))) (pair a b (events_of moments))) =
     offer_agrees (program a moments) (places moments) n.peer n.parcel b (pair a b (events_of moments)) n.order n.next k in
-    let said : Agrees (pair_with b (offered (program a moments) (places moments)).0.peers) (moved (part_of (program a moments).own b (event_of (crossing.Out m))) (pair a b (events_of moments))) =
-    subst (λ (x : HostMessage). Agrees (pair_with b (offered (program a moments) (places moments)).0.peers) (moved (part_of (program a moments).own b (event_of (crossing.Out x))) (pair a b (events_of moments)))) (sym n.message) step in
+    let said : Agrees (pair_with b (offered (program a moments) (places moments)).0.peers) (pair_moved (part_of (program a moments).own b (event_of (crossing.Out m))) (pair a b (events_of moments))) =
+    subst (λ (x : HostMessage). Agrees (pair_with b (offered (program a moments) (places moments)).0.peers) (pair_moved (part_of (program a moments).own b (event_of (crossing.Out x))) (pair a b (events_of moments)))) (sym n.message) step in
     as_own a b (event_of (crossing.Out m)) _ (pair a b (events_of moments)) (program a moments) (program_own a moments) said
 
 out_stands : (a b : Host) (m : HostMessage) (moments : List Moment) → Follows (Crossed (crossing.Out m)) moments → Before a b moments → (c : Bool) → same_host a m.flow.source ≡ c → Stands a b (Crossed (crossing.Out m)) moments
 out_stands a b m moments n k true e =
     let is : a ≡ m.flow.source = same_host-true a m.flow.source e in
-    let step : Agrees (pair_with b (offered (program a moments) (places moments)).0.peers) (moved (part_of a b (event_of (crossing.Out m))) (pair a b (events_of moments))) =
+    let step : Agrees (pair_with b (offered (program a moments) (places moments)).0.peers) (pair_moved (part_of a b (event_of (crossing.Out m))) (pair a b (events_of moments))) =
     out_of a b m moments (subst (λ (x : Host). IsNext (program x moments) m) (sym is) n) k in
-    subst (λ (x : Bool). Agrees (pair_with b (if x then (offered (program a moments) (places moments)).0 else program a moments).peers) (moved (part_of a b (event_of (crossing.Out m))) (pair a b (events_of moments)))) (sym e) step
+    subst (λ (x : Bool). Agrees (pair_with b (if x then (offered (program a moments) (places moments)).0 else program a moments).peers) (pair_moved (part_of a b (event_of (crossing.Out m))) (pair a b (events_of moments)))) (sym e) step
 out_stands a b m moments n k false e = rw e k
 
 answer_stands : (a b : Host) (kind : Answer) (f : Flow) (moments : List Moment) → Follows (Crossed (crossing.Answer kind f)) moments → Before a b moments → (c : Bool) → same_host a f.source ≡ c → Stands a b (Crossed (crossing.Answer kind f)) moments
@@ -152,9 +152,9 @@ answer_stands a b kind f moments out k true e =
     let is : a ≡ f.source = same_host-true a f.source e in
     let there : same_host (program a moments).own f.source ≡ true → same_host b f.destination ≡ true → is_some ((pair a b (events_of moments)).out f.link.0) ≡ true =
     λ own to. subst (λ (y : Host). is_some ((pair a y (events_of moments)).out f.link.0) ≡ true) (sym (same_host-true b f.destination to)) (subst (λ (x : Host). is_some ((pair x f.destination (events_of moments)).out f.link.0) ≡ true) (sym is) out) in
-    let step : Agrees (pair_with b (accepted (program a moments) (inbound.Answer kind f) (places moments)).0.peers) (moved (part_of a b (event_of (crossing.Answer kind f))) (pair a b (events_of moments))) =
+    let step : Agrees (pair_with b (accepted (program a moments) (inbound.Answer kind f) (places moments)).0.peers) (pair_moved (part_of a b (event_of (crossing.Answer kind f))) (pair a b (events_of moments))) =
     as_own a b (event_of (crossing.Answer kind f)) _ (pair a b (events_of moments)) (program a moments) (program_own a moments) (answer_agrees (program a moments) kind f (places moments) b (pair a b (events_of moments)) there k) in
-    subst (λ (x : Bool). Agrees (pair_with b (if x then (accepted (program a moments) (inbound.Answer kind f) (places moments)).0 else program a moments).peers) (moved (part_of a b (event_of (crossing.Answer kind f))) (pair a b (events_of moments)))) (sym e) step
+    subst (λ (x : Bool). Agrees (pair_with b (if x then (accepted (program a moments) (inbound.Answer kind f) (places moments)).0 else program a moments).peers) (pair_moved (part_of a b (event_of (crossing.Answer kind f))) (pair a b (events_of moments)))) (sym e) step
 answer_stands a b kind f moments out k false e = rw e k
 
 down_stands : (a b h : Host) (moments : List Moment) → Before a b moments → (c : Bool) → same_host a h ≡ c → Stands a b (Crossed (crossing.Down h)) moments

@@ -7,12 +7,12 @@ use Rattle.leader1822.specs.declared.crossing.Answer.TheVariants as answer
 use Rattle.ncp_control.specs.declared.command.Command.{Command}
 use Rattle.ncp_control.specs.declared.command.Command.TheVariants as command
 use Rattle.host_pairs.specs.Turn.{TurnState, if_ready, with_desk, reset_taken, reply_taken, command_taken, order_taken, orders_taken, message_taken, freed, settled_turn, rfnm_taken, failed, answered_turn}
-use Rattle.host_pairs.specs.Commands.{taken}
+use Rattle.host_pairs.specs.Commands.{desk_taken}
 use Rattle.host_pairs.specs.Control.{Order, Legal, Wrong, orders_of, error}
 use Rattle.host_pairs.specs.Data.{data_taken}
 use Rattle.host_pairs.specs.Entries.{is_busy}
 use Rattle.host_pairs.specs.Pair.{PairState}
-use Rattle.host_pairs.specs.Desk.{DeskState, desk_of, queued}
+use Rattle.host_pairs.specs.Desk.{DeskState, desk_of, command_queued}
 use Rattle.host_pairs.specs.Phases as program
 use Rattle.host_pairs.specs.declared.entry.Entry.{Entry}
 use Rattle.host_pairs.specs.declared.listener.Listener.{Listener}
@@ -21,7 +21,7 @@ use Rattle.host_pairs.specs.declared.phase.Phase as host
 use Rattle.host_pairs.specs.declared.phase.Phase.TheVariants as phase
 use Rattle.reset_law.specs.Boxes.{at_link}
 use Rattle.reset_law.specs.Events.{Message, Reset, Reply, Other}
-use Rattle.reset_law.specs.Pairs.{Pair, Kind, took, told}
+use Rattle.reset_law.specs.Pairs.{Pair, Kind, took, pair_answered}
 use Rattle.reset_law.specs.Phases as law
 use Rattle.net_sim.specs.Projection.{has_control, is_rst, is_rrp, names_control, is_alone, control_message, message_on, phase_of, Agrees, IsPlain, AllPlain, IsApart}
 use Rattle.net_sim.proofs.Resets.Kept.{Kept, kept_taken, kept_data, kept_error, kept_settled}
@@ -117,24 +117,24 @@ agrees_reply peer t p a = record {
 -- ---- orders
 
 agrees_command : (peer : Host) (stamp : ℕ) (c : Command) (t : TurnState) (p : Pair) → is_rst c ≡ false → is_rrp c ≡ false → names_control c ≡ false → Agrees t.pair p → Agrees (command_taken peer stamp c t).pair p
-agrees_command peer stamp command.Nop t p rst rrp away a = agrees_if (taken peer t.pair.busy stamp command.Nop) t p (kept_taken peer t.pair.busy stamp command.Nop away) a
-agrees_command peer stamp (command.Rts receive send link) t p rst rrp away a = agrees_if (taken peer t.pair.busy stamp (command.Rts receive send link)) t p (kept_taken peer t.pair.busy stamp (command.Rts receive send link) away) a
-agrees_command peer stamp (command.Str send receive size) t p rst rrp away a = agrees_if (taken peer t.pair.busy stamp (command.Str send receive size)) t p (kept_taken peer t.pair.busy stamp (command.Str send receive size) away) a
-agrees_command peer stamp (command.Cls own foreign) t p rst rrp away a = agrees_if (taken peer t.pair.busy stamp (command.Cls own foreign)) t p (kept_taken peer t.pair.busy stamp (command.Cls own foreign) away) a
-agrees_command peer stamp (command.All link messages bits) t p rst rrp away a = agrees_if (taken peer t.pair.busy stamp (command.All link messages bits)) t p (kept_taken peer t.pair.busy stamp (command.All link messages bits) away) a
-agrees_command peer stamp (command.Gvb link messages bits) t p rst rrp away a = agrees_if (taken peer t.pair.busy stamp (command.Gvb link messages bits)) t p (kept_taken peer t.pair.busy stamp (command.Gvb link messages bits) away) a
-agrees_command peer stamp (command.Ret link messages bits) t p rst rrp away a = agrees_if (taken peer t.pair.busy stamp (command.Ret link messages bits)) t p (kept_taken peer t.pair.busy stamp (command.Ret link messages bits) away) a
-agrees_command peer stamp (command.Inr link) t p rst rrp away a = agrees_if (taken peer t.pair.busy stamp (command.Inr link)) t p (kept_taken peer t.pair.busy stamp (command.Inr link) away) a
-agrees_command peer stamp (command.Ins link) t p rst rrp away a = agrees_if (taken peer t.pair.busy stamp (command.Ins link)) t p (kept_taken peer t.pair.busy stamp (command.Ins link) away) a
-agrees_command peer stamp (command.Eco octet) t p rst rrp away a = agrees_if (taken peer t.pair.busy stamp (command.Eco octet)) t p (kept_taken peer t.pair.busy stamp (command.Eco octet) away) a
-agrees_command peer stamp (command.Erp octet) t p rst rrp away a = agrees_if (taken peer t.pair.busy stamp (command.Erp octet)) t p (kept_taken peer t.pair.busy stamp (command.Erp octet) away) a
-agrees_command peer stamp (command.Err code detail) t p rst rrp away a = agrees_if (taken peer t.pair.busy stamp (command.Err code detail)) t p (kept_taken peer t.pair.busy stamp (command.Err code detail) away) a
+agrees_command peer stamp command.Nop t p rst rrp away a = agrees_if (desk_taken peer t.pair.busy stamp command.Nop) t p (kept_taken peer t.pair.busy stamp command.Nop away) a
+agrees_command peer stamp (command.Rts receive send link) t p rst rrp away a = agrees_if (desk_taken peer t.pair.busy stamp (command.Rts receive send link)) t p (kept_taken peer t.pair.busy stamp (command.Rts receive send link) away) a
+agrees_command peer stamp (command.Str send receive size) t p rst rrp away a = agrees_if (desk_taken peer t.pair.busy stamp (command.Str send receive size)) t p (kept_taken peer t.pair.busy stamp (command.Str send receive size) away) a
+agrees_command peer stamp (command.Cls own foreign) t p rst rrp away a = agrees_if (desk_taken peer t.pair.busy stamp (command.Cls own foreign)) t p (kept_taken peer t.pair.busy stamp (command.Cls own foreign) away) a
+agrees_command peer stamp (command.All link messages bits) t p rst rrp away a = agrees_if (desk_taken peer t.pair.busy stamp (command.All link messages bits)) t p (kept_taken peer t.pair.busy stamp (command.All link messages bits) away) a
+agrees_command peer stamp (command.Gvb link messages bits) t p rst rrp away a = agrees_if (desk_taken peer t.pair.busy stamp (command.Gvb link messages bits)) t p (kept_taken peer t.pair.busy stamp (command.Gvb link messages bits) away) a
+agrees_command peer stamp (command.Ret link messages bits) t p rst rrp away a = agrees_if (desk_taken peer t.pair.busy stamp (command.Ret link messages bits)) t p (kept_taken peer t.pair.busy stamp (command.Ret link messages bits) away) a
+agrees_command peer stamp (command.Inr link) t p rst rrp away a = agrees_if (desk_taken peer t.pair.busy stamp (command.Inr link)) t p (kept_taken peer t.pair.busy stamp (command.Inr link) away) a
+agrees_command peer stamp (command.Ins link) t p rst rrp away a = agrees_if (desk_taken peer t.pair.busy stamp (command.Ins link)) t p (kept_taken peer t.pair.busy stamp (command.Ins link) away) a
+agrees_command peer stamp (command.Eco octet) t p rst rrp away a = agrees_if (desk_taken peer t.pair.busy stamp (command.Eco octet)) t p (kept_taken peer t.pair.busy stamp (command.Eco octet) away) a
+agrees_command peer stamp (command.Erp octet) t p rst rrp away a = agrees_if (desk_taken peer t.pair.busy stamp (command.Erp octet)) t p (kept_taken peer t.pair.busy stamp (command.Erp octet) away) a
+agrees_command peer stamp (command.Err code detail) t p rst rrp away a = agrees_if (desk_taken peer t.pair.busy stamp (command.Err code detail)) t p (kept_taken peer t.pair.busy stamp (command.Err code detail) away) a
 agrees_command peer stamp command.Rst t p rst rrp away a = absurd (cc)
 agrees_command peer stamp command.Rrp t p rst rrp away a = absurd (cc)
 
 agrees_order : (peer : Host) (stamp : ℕ) (o : Order) (t : TurnState) (p : Pair) → IsPlain o → Agrees t.pair p → Agrees (order_taken peer stamp o t).pair p
 agrees_order peer stamp (Legal c) t p plain a = agrees_command peer stamp c t p plain.0 plain.1 plain.2 a
-agrees_order peer stamp (Wrong code octets) t p plain a = agrees_if (queued (error code octets)) t p (kept_error code octets) a
+agrees_order peer stamp (Wrong code octets) t p plain a = agrees_if (command_queued (error code octets)) t p (kept_error code octets) a
 
 agrees_orders : (peer : Host) (stamp : ℕ) (os : List Order) (t : TurnState) (p : Pair) → AllPlain os → Agrees t.pair p → Agrees (orders_taken peer stamp os t).pair p
 agrees_orders peer stamp [] t p plain a = a
@@ -295,10 +295,10 @@ agrees_failed : (peer : Host) (t : TurnState) (p : Pair) → Agrees t.pair p →
 agrees_failed peer t p a = failed_by peer t.pair.phase t.pair.owed t.pair.busy t.pair.entries t.pair.queue t.listening t.notices p a
 
 answer_by : (peer : Host) (kind : Answer) (link : ℕ) (t : TurnState) (p : Pair) → Agrees (record t { pair = freed link t.pair }).pair (record p { out = at_link p.out link None })
-    → Agrees (answered_turn peer kind link t).pair (told link kind p)
+    → Agrees (answered_turn peer kind link t).pair (pair_answered link kind p)
 answer_by peer answer.Rfnm link t p a = agrees_rfnm link (record t { pair = freed link t.pair }) (record p { out = at_link p.out link None }) a
 answer_by peer answer.Incomplete link t p a = agrees_failed peer (record t { pair = freed link t.pair }) (record p { out = at_link p.out link None }) a
 answer_by peer answer.Dead link t p a = agrees_failed peer (record t { pair = freed link t.pair }) (record p { out = at_link p.out link None }) a
 
-pub agrees_answer : (peer : Host) (kind : Answer) (link : ℕ) (t : TurnState) (p : Pair) → Agrees t.pair p → Agrees (answered_turn peer kind link t).pair (told link kind p)
+pub agrees_answer : (peer : Host) (kind : Answer) (link : ℕ) (t : TurnState) (p : Pair) → Agrees t.pair p → Agrees (answered_turn peer kind link t).pair (pair_answered link kind p)
 agrees_answer peer kind link t p a = answer_by peer kind link t p (agrees_freed t.pair p link a)

@@ -7,7 +7,7 @@ use Rattle.leader1822.proofs.lemmas.{same_host-true}
 use Rattle.ncp_control.specs.declared.command.Command.{Command}
 use Rattle.ncp_control.specs.declared.command.Command.TheVariants as command
 use Rattle.host_pairs.specs.Turn.{TurnState, if_ready, command_taken, message_taken, order_taken, orders_taken}
-use Rattle.sockets.specs.Accepting.{accepted, accepted_message, turn_of, turned}
+use Rattle.sockets.specs.Accepting.{accepted, accepted_message, turn_of, after_turn}
 use Rattle.host_pairs.specs.Control.{Order, Legal, Wrong, orders_of}
 use Rattle.host_pairs.specs.Data.{data_taken}
 use Rattle.host_pairs.specs.Desk.{DeskState}
@@ -62,7 +62,7 @@ put_back g h ps = pair_changed g h (pair_with g ps) ps ∙ same_by g h ps (same_
 unheard_by : (s : NcpState) (m : HostMessage) (stamp : ℕ) → message_taken m.flow.source stamp m.flow.link.0 m.text (turn_of s m.flow.source) ≡ turn_of s m.flow.source → (b : Bool) → same_host s.own m.flow.destination ≡ b
     → IsUnheard s (accepted_message s m stamp)
 unheard_by s m stamp same true e =
-    let now : accepted_message s m stamp ≡ turned s m.flow.source (turn_of s m.flow.source) = rw e (ap (λ (t : TurnState). turned s m.flow.source t) same) in
+    let now : accepted_message s m stamp ≡ after_turn s m.flow.source (turn_of s m.flow.source) = rw e (ap (λ (t : TurnState). after_turn s m.flow.source t) same) in
     subst (IsUnheard s) (sym now) (record { told = refl; pairs = λ h. put_back m.flow.source h s.peers; listening = refl })
 unheard_by s m stamp same false e = rw e (record { told = refl; pairs = λ h. refl; listening = refl })
 

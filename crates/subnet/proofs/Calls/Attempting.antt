@@ -6,7 +6,7 @@ use Rattle.std.proofs.lemmas.Bool.Decides.{nat_tests}
 use Rattle.leader1822.specs.Calls.{is_memory}
 use Rattle.leader1822.specs.declared.carrier.CarrierFault.{CarrierFault}
 use Rattle.leader1822.specs.declared.carrier.CarrierFault.TheVariants as fault
-use Rattle.imp_node.specs.State.{State, Turn}
+use Rattle.imp_node.specs.State.{State, ImpTurn}
 use Rattle.subnet.specs.Net.{Net, imp_at, with_turn}
 use Rattle.subnet.specs.Events.{at_up, at_imp}
 use Rattle.subnet.specs.Calls.{grows_at}
@@ -18,7 +18,7 @@ ignored_at : (n : Net) (i : ℕ) (o : Option State) (c : ImpCall) (e : CarrierFa
 ignored_at n i None c e at quiet refused = refl
 ignored_at n i (Some s) c e at quiet refused =
     let same : set n.imps i (Some s) ≡ n.imps = ap (set n.imps i) (sym at) ∙ set-get_or n.imps i None in
-    ap (λ (imps : List (Option State)). record n { imps = imps }) (sym same) ∙ ap (λ (t : Turn). with_turn i t n) (sym (quiet s e refused))
+    ap (λ (imps : List (Option State)). record n { imps = imps }) (sym same) ∙ ap (λ (t : ImpTurn). with_turn i t n) (sym (quiet s e refused))
 
 failed_alike : (n new : Net) (i : ℕ) (c : ImpCall) (e : CarrierFault) (b : Bool) (grows : Bool) → b ≡ false → Ignores c → Fails (at_up (imp_at n.imps i) (call_refusal c)) grows b e n new → new ≡ at_imp (imp_at n.imps i) i (call_turn c) n
 failed_alike n new i c e true grows untrue quiet h = cc

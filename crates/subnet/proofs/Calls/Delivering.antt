@@ -3,7 +3,7 @@ use Rattle.std.proofs.Common.{◌≡◌, ℕ, ◌+◌, Bool, true, false, List, 
 use Rattle.std.proofs.lemmas.Bool.{or_right}
 use Rattle.std.proofs.lemmas.Bool.Decides.{nat_tests}
 use Rattle.leader1822.specs.declared.event.Direction.{Direction}
-use Rattle.imp_node.specs.State.{State, Turn}
+use Rattle.imp_node.specs.State.{State, ImpTurn}
 use Rattle.imp_node.specs.Turns.{from_line_grows}
 use Rattle.subnet.specs.Net.{Net, imp_at, wire_at, far_end, frames_on, port_of}
 use Rattle.subnet.specs.Flows.{imp_is_up}
@@ -28,7 +28,7 @@ copy_wanted f filled = some_bits (bits_carried f.content) filled
 -- ---- what a delivery is
 
 -- nothing comes in at an IMP that is down
-down_alike : (o : Option State) (n : Net) (i : ℕ) (call : State → Turn) → imp_is_up o ≡ false → at_imp o i call n ≡ n
+down_alike : (o : Option State) (n : Net) (i : ℕ) (call : State → ImpTurn) → imp_is_up o ≡ false → at_imp o i call n ≡ n
 down_alike None n i call down = refl
 down_alike (Some s) n i call down = cc
 

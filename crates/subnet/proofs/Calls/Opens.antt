@@ -4,7 +4,7 @@ use Rattle.std.specs.Prelude.{IfSome}
 use Rattle.std.proofs.lemmas.List.Elements.{All-get_or}
 use Rattle.imp_node.specs.State.{State}
 use Rattle.subnet.specs.Net.{Wire, ends_at, port_of}
-use Rattle.subnet.specs.Opening.{Ends, empty_wire, opened, opened_from}
+use Rattle.subnet.specs.Opening.{Ends, empty_wire, opened_imp, opened_from}
 use Rattle.subnet.specs.Inside.Calling.{IsLive, AreLive}
 use Rattle.subnet.proofs.Calls.Living.{read_alike}
 use Rattle.subnet.proofs.Calls.Starts as starts
@@ -17,7 +17,7 @@ places_opened i [] ports = refl
 places_opened i (site ∷ sites) ports = ap suc (places_opened (i + 1) sites ports)
 
 -- each IMP has its number
-live_one : (i : ℕ) (site : Option ℕ) (ports : ℕ) → IsLive i (opened i site ports)
+live_one : (i : ℕ) (site : Option ℕ) (ports : ℕ) → IsLive i (opened_imp i site ports)
 live_one i None ports = tt
 live_one i (Some hosts) ports = (refl, refl)
 
@@ -25,7 +25,7 @@ live_from : (i k : ℕ) (sites : List (Option ℕ)) (ports : ℕ → ℕ) → Is
 live_from i k [] ports = tt
 live_from i zero (site ∷ sites) ports =
     let same : i + 0 ≡ i = omega arith in
-    subst (λ (n : ℕ). IsLive n (opened i site (ports i))) (sym same) (live_one i site (ports i))
+    subst (λ (n : ℕ). IsLive n (opened_imp i site (ports i))) (sym same) (live_one i site (ports i))
 live_from i (suc k) (site ∷ sites) ports =
     let same : i + suc k ≡ i + 1 + k = omega arith in
     subst (λ (n : ℕ). IsLive n (get_or (opened_from (i + 1) sites ports) k None)) (sym same) (live_from (i + 1) k sites ports)

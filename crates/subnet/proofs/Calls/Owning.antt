@@ -17,11 +17,11 @@ use Rattle.link_table.specs.declared.source.Release.{Release}
 use Rattle.link_table.specs.declared.source.Release.TheVariants as release
 use Rattle.imp_node.specs.declared.waiting.Message.{Message}
 use Rattle.imp_node.specs.declared.waiting.Told.{Told}
-use Rattle.imp_node.specs.State.{State, Turn, number, host_at, with_host, port_at}
+use Rattle.imp_node.specs.State.{State, ImpTurn, number, host_at, with_host, port_at}
 use Rattle.imp_node.specs.Flows.{answered_by}
-use Rattle.imp_node.specs.Arrival.{Arrival, Passing, Old, Undeliverable, Piece, NoSlot, Whole, Unmarked, Answering, arrival, arrived, arrival_has_room, taken, taken_frame, from_line}
+use Rattle.imp_node.specs.Arrival.{Arrival, Passing, Old, Undeliverable, Piece, NoSlot, Whole, Unmarked, Answering, arrival, arrived, arrival_has_room, frame_taken, taken_frame, from_line}
 use Rattle.imp_node.specs.Offering.{Way, Nowhere, Here, Away, way_of, offered}
-use Rattle.imp_node.specs.Stopping.{returned, all_returned, stopped}
+use Rattle.imp_node.specs.Stopping.{message_returned, all_returned, stopped}
 use Rattle.imp_node.specs.Taking.{is_from_here, replied, reply_has_room, taken_by, to_host}
 use Rattle.subnet.specs.declared.imp_call.ImpCall.{ImpCall}
 use Rattle.subnet.specs.declared.imp_call.ImpCall.TheVariants as call
@@ -48,12 +48,12 @@ arrived_own (Whole text) p s = refl
 arrived_own Unmarked p s = refl
 arrived_own (Answering kind) p s = answered_own _ kind _ p.number s
 
-turn_own : (b : Bool) (s : State) (t u : Turn) → number t.state ≡ number s → number u.state ≡ number s → number (if b then t else u).state ≡ number s
+turn_own : (b : Bool) (s : State) (t u : ImpTurn) → number t.state ≡ number s → number u.state ≡ number s → number (if b then t else u).state ≡ number s
 turn_own true s t u e h = e
 turn_own false s t u e h = h
 
 taken_own : (r : Result Received ChannelFault) (k : ℕ) (f : Frame) (s : State) → number (taken_frame r k f s).state ≡ number s
-taken_own (Ok (received.Fresh p)) k f s = turn_own (arrival_has_room (arrival s p) s p) s _ _ (arrived_own (arrival s p) p (taken k f s)) refl
+taken_own (Ok (received.Fresh p)) k f s = turn_own (arrival_has_room (arrival s p) s p) s _ _ (arrived_own (arrival s p) p (frame_taken k f s)) refl
 taken_own (Ok received.Repeat) k f s = refl
 taken_own (Ok received.AckOnly) k f s = refl
 taken_own (Ok (received.Routes distances)) k f s = refl
@@ -75,12 +75,12 @@ taken_by_own h [] [] s = refl
 pub to_host_own : (s : State) (h : ℕ) → number (to_host s h).state ≡ number s
 to_host_own s h = taken_by_own h (host_at s h).answers (host_at s h).queue s
 
-returned_own : (m : Message) (s : State) → number (returned m s) ≡ number s
+returned_own : (m : Message) (s : State) → number (message_returned m s) ≡ number s
 returned_own m s = either_own (reply_has_room s m) s (replied answer.Dead kind.Dead m s) s (replied_own answer.Dead kind.Dead m s) refl
 
 all_returned_own : (ms : List Message) (s : State) → number (all_returned ms s) ≡ number s
 all_returned_own [] s = refl
-all_returned_own (m ∷ others) s = all_returned_own others (returned m s) ∙ returned_own m s
+all_returned_own (m ∷ others) s = all_returned_own others (message_returned m s) ∙ returned_own m s
 
 pub call_own : (c : ImpCall) (s : State) → number (call_turn c s).state ≡ number s
 call_own (call.Offer m) s = offered_own (way_of s m.flow) m s

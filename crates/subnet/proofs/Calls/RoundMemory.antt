@@ -1,6 +1,6 @@
 -- When a quiet round may want memory.
 use Rattle.std.specs.Prelude.{if◌then◌else◌}
-use Rattle.std.proofs.Common.{◌≡◌, ℕ, zero, suc, ◌+◌, Bool, false, true, List, ◌∷◌, ◌++◌, length, nat_lt, take, drop, get_or, set, slice_get, Option, Some, None, ◌||◌, ◌&&◌, refl, ap, sym, subst, ◌∙◌, arith}
+use Rattle.std.proofs.Common.{◌≡◌, ℕ, zero, suc, ◌+◌, Bool, false, true, List, [], ◌∷◌, ◌++◌, length, nat_lt, take, drop, get_or, set, slice_get, Option, Some, None, ◌||◌, ◌&&◌, refl, ap, sym, subst, ◌∙◌, arith}
 use Rattle.std.specs.List.{list_any}
 use Rattle.std.proofs.lemmas.Bool.Decides.{nat_tests}
 use Rattle.std.proofs.lemmas.Bool.{or_from}
@@ -13,8 +13,8 @@ use Rattle.imp_channel.specs.Line.{End, submitted}
 use Rattle.imp_channel.specs.declared.frame.Frame.{Frame}
 use Rattle.imp_node.specs.declared.outgoing.Outgoing.{Outgoing}
 use Rattle.imp_node.specs.declared.port.Port.{Port}
-use Rattle.imp_node.specs.State.{State, Turn, port_at, down_port}
-use Rattle.imp_node.specs.Pump.{Pumped, target, sent_on, sent, pumped, pump}
+use Rattle.imp_node.specs.State.{State, ImpTurn, port_at, down_port}
+use Rattle.imp_node.specs.Pump.{Pumped, target, sent_on, packet_sent, pumped, pump}
 use Rattle.imp_node.specs.Lines.{told_from, route, resent_from, resend}
 use Rattle.imp_node.specs.Arrival.{from_line, ignored}
 use Rattle.imp_node.specs.Turns.{resend_grows, route_grows, from_line_grows}
@@ -76,7 +76,7 @@ sent_on_ports : (ports : List Port) (k : ℕ) (p : PacketFields) (o : Option (En
 sent_on_ports ports k p None none = refl
 sent_on_ports ports k p (Some put) none = cc
 
-sent_ports : (ports : List Port) (p : PacketFields) (o : Option ℕ) → (sent ports p o).frames ≡ [] → (sent ports p o).ports ≡ ports
+sent_ports : (ports : List Port) (p : PacketFields) (o : Option ℕ) → (packet_sent ports p o).frames ≡ [] → (packet_sent ports p o).ports ≡ ports
 sent_ports ports p None none = refl
 sent_ports ports p (Some k) none = sent_on_ports ports k p (submitted (port_at ports k).line p) none
 
@@ -84,27 +84,27 @@ again_on : (routes : Table) (ports : List Port) (p : PacketFields) (others : Lis
     → next_of routes (target p) ≡ Some k → submitted (port_at ports k).line p ≡ o → (sent_on ports k p o).frames ≡ [] → (pumped routes ports others).frames ≡ []
     → (pumped routes ports ((sent_on ports k p o).waits ++ others)).frames ≡ []
 again_on routes ports p others k None next busy none rest =
-    let waits : sent ports p (next_of routes (target p)) ≡ record { ports = ports; waits = p ∷ []; frames = [] } = ap (sent ports p) next ∙ ap (sent_on ports k p) busy in
+    let waits : packet_sent ports p (next_of routes (target p)) ≡ record { ports = ports; waits = p ∷ []; frames = [] } = ap (packet_sent ports p) next ∙ ap (sent_on ports k p) busy in
     ap (λ (first : Pumped). first.frames ++ (pumped routes first.ports others).frames) waits ∙ rest
 again_on routes ports p others k (Some put) next busy none rest = cc
 
 again_by : (routes : Table) (ports : List Port) (p : PacketFields) (others : List PacketFields) (o : Option ℕ)
-    → next_of routes (target p) ≡ o → (sent ports p o).frames ≡ [] → (pumped routes ports others).frames ≡ []
-    → (pumped routes ports ((sent ports p o).waits ++ others)).frames ≡ []
+    → next_of routes (target p) ≡ o → (packet_sent ports p o).frames ≡ [] → (pumped routes ports others).frames ≡ []
+    → (pumped routes ports ((packet_sent ports p o).waits ++ others)).frames ≡ []
 again_by routes ports p others None next none rest = rest
 again_by routes ports p others (Some k) next none rest = again_on routes ports p others k (submitted (port_at ports k).line p) next refl none rest
 
 ports_stay : (routes : Table) (ports : List Port) (store : List PacketFields) → (pumped routes ports store).frames ≡ [] → (pumped routes ports store).ports ≡ ports
 ports_stay routes ports [] none = refl
 ports_stay routes ports (p ∷ ps) none =
-    let first : Pumped = sent ports p (next_of routes (target p)) in
+    let first : Pumped = packet_sent ports p (next_of routes (target p)) in
     let each : (first.frames ≡ []) × ((pumped routes first.ports ps).frames ≡ []) = both_empty first.frames (pumped routes first.ports ps).frames none in
     ports_stay routes first.ports ps each.1 ∙ sent_ports ports p (next_of routes (target p)) each.0
 
 none_again : (routes : Table) (ports : List Port) (store : List PacketFields) → (pumped routes ports store).frames ≡ [] → (pumped routes ports (pumped routes ports store).waits).frames ≡ []
 none_again routes ports [] none = refl
 none_again routes ports (p ∷ ps) none =
-    let first : Pumped = sent ports p (next_of routes (target p)) in
+    let first : Pumped = packet_sent ports p (next_of routes (target p)) in
     let each : (first.frames ≡ []) × ((pumped routes first.ports ps).frames ≡ []) = both_empty first.frames (pumped routes first.ports ps).frames none in
     let rest : (pumped routes ports (pumped routes first.ports ps).waits).frames ≡ [] =
     subst (λ (qs : List Port). (pumped routes qs (pumped routes first.ports ps).waits).frames ≡ []) (sent_ports ports p (next_of routes (target p)) each.0) (none_again routes first.ports ps each.1)
@@ -188,7 +188,7 @@ with_silent n i s after at quiet none =
     (tested_alike (brings_bits (set n.imps i (Some after))) (brings_bits n.imps) n.lines (brought_alike n.imps (set n.imps i (Some after)) (up_alike n.imps i s after at)) ∙ each.1)
 
 -- a call that puts no frame on a line
-called : (n : Net) (i : ℕ) (o : Option State) (turn : State → Turn) → imp_at n.imps i ≡ o → grows_at o route_grows ≡ false
+called : (n : Net) (i : ℕ) (o : Option State) (turn : State → ImpTurn) → imp_at n.imps i ≡ o → grows_at o route_grows ≡ false
     → ((s : State) → IsSilent s → ((turn s).frames ≡ []) × IsSilent (turn s).state) → round_grows n ≡ false → round_grows (at_imp o i turn n) ≡ false
 called n i None turn at quiet keeps none = none
 called n i (Some s) turn at quiet keeps none =
@@ -249,14 +249,14 @@ end_ignores s k f quiet =
 -- so nothing grows
 ignoring_wants_none : (o : Option State) (k : ℕ) (f : Frame) → grows_at o route_grows ≡ false → (imp_is_up o ≡ true → copy_grows f ≡ false) → grows_at o (λ s. copy_grows f || from_line_grows s k f) ≡ false
 ignoring_wants_none None k f quiet none = refl
-ignoring_wants_none (Some s) k f quiet none = or_from (copy_grows f) (from_line_grows s k f) (none refl) (wants_none (from_line s k f).frames (ap (λ (turn : Turn). turn.frames) (end_ignores s k f (silent s quiet))))
+ignoring_wants_none (Some s) k f quiet none = or_from (copy_grows f) (from_line_grows s k f) (none refl) (wants_none (from_line s k f).frames (ap (λ (turn : ImpTurn). turn.frames) (end_ignores s k f (silent s quiet))))
 
 -- and nothing changes
 ignoring_keeps : (n : Net) (i : ℕ) (o : Option State) (k : ℕ) (f : Frame) → imp_at n.imps i ≡ o → grows_at o route_grows ≡ false → at_imp o i (λ s. from_line s k f) n ≡ n
 ignoring_keeps n i None k f at quiet = refl
 ignoring_keeps n i (Some s) k f at quiet =
     let same : set n.imps i (Some s) ≡ n.imps = ap (set n.imps i) (sym at) ∙ set-get_or n.imps i None in
-    ap (λ (turn : Turn). with_turn i turn n) (end_ignores s k f (silent s quiet)) ∙ ap (λ (imps : List (Option State)). record n { imps = imps }) same
+    ap (λ (turn : ImpTurn). with_turn i turn n) (end_ignores s k f (silent s quiet)) ∙ ap (λ (imps : List (Option State)). record n { imps = imps }) same
 
 delivers_none : (n : Net) (l : ℕ) (d : Direction) (k : ℕ) (o : Option Frame) → slice_get (frames_on d (wire_at n.lines l)) k ≡ o → round_grows n ≡ false → delivered_grows n l d o ≡ false
 delivers_none n l d k None there none = refl

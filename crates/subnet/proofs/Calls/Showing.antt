@@ -23,14 +23,14 @@ use Rattle.leader1822.proofs.lemmas.{guard, mail_is, same_host-true}
 use Rattle.imp_channel.specs.declared.frame.Frame.{Frame}
 use Rattle.imp_node.specs.declared.waiting.Message.{Message}
 use Rattle.imp_node.specs.declared.waiting.Told.{Told}
-use Rattle.imp_node.specs.State.{State, HostState, Turn, no_host, host_at}
+use Rattle.imp_node.specs.State.{State, HostState, ImpTurn, no_host, host_at}
 use Rattle.imp_node.specs.Arrival.{from_line}
 use Rattle.imp_node.specs.Lines.{resend, route, end_down, end_up}
 use Rattle.imp_node.specs.Offering.{from_host}
 use Rattle.imp_node.specs.Stopping.{give_up, forget, abandon, host_down, host_up}
 use Rattle.imp_node.specs.Taking.{to_host, first_of}
 use Rattle.subnet.specs.Net.{Net, imp_at, wire_at, port_of, frames_on, far_end}
-use Rattle.subnet.specs.Events.{at_imp, at_up, logging, accepted, is_imp, site_at, imp_refusal, offer_out, given_at, taken, crossings_of, take_in, delivered, deliver, downs_from, downs_at, quiet_round, step_refusal, stepped}
+use Rattle.subnet.specs.Events.{at_imp, at_up, logging, accepted, is_imp, site_at, imp_refusal, offer_out, given_at, taken_by_host, crossings_of, take_in, delivered, deliver, downs_from, downs_at, quiet_round, step_refusal, stepped}
 use Rattle.subnet.specs.Flows.{sender_at, host_is_up}
 use Rattle.subnet.specs.Opening.{host_there, hosts_of_one, hosts_from}
 use Rattle.subnet.specs.Seen.{seen, IsListed, SameNetwork}
@@ -202,7 +202,7 @@ imp_down_shown n i allowed listed is =
 
 -- ---- the log after each call
 
-call_log : (o : Option State) (i : ℕ) (call : State → Turn) (n : Net) → (at_imp o i call n).log ≡ n.log
+call_log : (o : Option State) (i : ℕ) (call : State → ImpTurn) (n : Net) → (at_imp o i call n).log ≡ n.log
 call_log None i call n = refl
 call_log (Some s) i call n = refl
 
@@ -215,8 +215,8 @@ deliver_log n l d k = by (slice_get (frames_on d (wire_at n.lines l)) k) where
 pub offer_log : (n : Net) (m : HostMessage) → (offer_out n m).log ≡ crossing.Out m ∷ n.log
 offer_log n m = ap (λ (log : List Crossing). crossing.Out m ∷ log) (call_log (imp_at n.imps m.flow.source.imp) m.flow.source.imp (λ s. from_host s m) n)
 
-pub take_log : (n : Net) (h : Host) → (take_in n h).log ≡ crossings_of (taken n h) ++ n.log
-take_log n h = ap (λ (log : List Crossing). crossings_of (taken n h) ++ log) (call_log (imp_at n.imps h.imp) h.imp (λ s. to_host s h.host) n)
+pub take_log : (n : Net) (h : Host) → (take_in n h).log ≡ crossings_of (taken_by_host n h) ++ n.log
+take_log n h = ap (λ (log : List Crossing). crossings_of (taken_by_host n h) ++ log) (call_log (imp_at n.imps h.imp) h.imp (λ s. to_host s h.host) n)
 
 pub step_log : (n : Net) (e : NetEvent) → step_refusal n e ≡ None → IsListed n → IsSound n → (stepped n e).log ≡ step_crossings (seen n) e ++ n.log
 step_log n (event.Deliver l d k) allowed listed is = deliver_log n l d k
@@ -242,7 +242,7 @@ round_log n = round_keeps (λ m. m.log ≡ n.log) (record {
 }) n refl
 
 -- what a host is given is for it
-pub take_for : (n : Net) (h : Host) (i : Inbound) → IsSound n → taken n h ≡ Some i → IsFor h i
+pub take_for : (n : Net) (h : Host) (i : Inbound) → IsSound n → taken_by_host n h ≡ Some i → IsFor h i
 take_for n h i is given = by (imp_at n.imps h.imp) (is.imps h.imp) given where
   first : (ts : List Told) (ms : List Message) → All (λ t. t.flow.source ≡ h) ts → All (λ m. m.flow.destination ≡ h) ms → first_of ts ms ≡ Some i → IsFor h i
   first (t ∷ ts) ms answers queue is_first = let same : inbound.Answer t.kind t.flow ≡ i = cc in subst (IsFor h) same (All-head (λ (x : Told). x.flow.source ≡ h) t ts answers)
@@ -255,7 +255,7 @@ take_for n h i is given = by (imp_at n.imps h.imp) (is.imps h.imp) given where
 
 -- ---- hosts and sites stay
 
-call_same : (o : Option State) (i : ℕ) (call : State → Turn) (n : Net) → SameNetwork n (at_imp o i call n)
+call_same : (o : Option State) (i : ℕ) (call : State → ImpTurn) (n : Net) → SameNetwork n (at_imp o i call n)
 call_same None i call n = record { hosts = refl; sites = refl }
 call_same (Some s) i call n = record { hosts = refl; sites = refl }
 
@@ -275,7 +275,7 @@ pub offer_same : (n : Net) (m : HostMessage) → SameNetwork n (offer_out n m)
 offer_same n m = logged_same n (at_imp (imp_at n.imps m.flow.source.imp) m.flow.source.imp (λ s. from_host s m) n) (crossing.Out m ∷ []) (call_same (imp_at n.imps m.flow.source.imp) m.flow.source.imp (λ s. from_host s m) n)
 
 pub take_same : (n : Net) (h : Host) → SameNetwork n (take_in n h)
-take_same n h = logged_same n (at_imp (imp_at n.imps h.imp) h.imp (λ s. to_host s h.host) n) (crossings_of (taken n h)) (call_same (imp_at n.imps h.imp) h.imp (λ s. to_host s h.host) n)
+take_same n h = logged_same n (at_imp (imp_at n.imps h.imp) h.imp (λ s. to_host s h.host) n) (crossings_of (taken_by_host n h)) (call_same (imp_at n.imps h.imp) h.imp (λ s. to_host s h.host) n)
 
 pub step_same : (n : Net) (e : NetEvent) → SameNetwork n (stepped n e)
 step_same n (event.Deliver l d k) = deliver_same n l d k

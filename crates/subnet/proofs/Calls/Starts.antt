@@ -1,10 +1,10 @@
 -- An IMP starts.
-use Rattle.std.proofs.Common.{◌≡◌, ℕ, ◌+◌, ◌-◌, ◌<◌, ◌≤◌, zero, suc, ◌==◌, ◌&&◌, not, Bool, true, false, List, ◌∷◌, ◌++◌, length, replicate, get_or, set, count_by, Option, Some, None, is_some, refl, ap, sym, subst, ◌∙◌, arith, All, eqb-true, eq-eqb, inl, inr}
+use Rattle.std.proofs.Common.{◌≡◌, ℕ, ◌+◌, ◌-◌, ◌<◌, ◌≤◌, zero, suc, ◌==◌, ◌&&◌, not, Bool, true, false, List, [], ◌∷◌, ◌++◌, length, replicate, get_or, set, count_by, Option, Some, None, is_some, refl, ap, sym, subst, ◌∙◌, arith, All, eqb-true, eq-eqb, inl, inr}
 use Rattle.std.proofs.lemmas.Bool.{cases_Bool}
 use Rattle.std.specs.Prelude.{IfSome}
 use Rattle.std.proofs.lemmas.List.Elements.{All-head, All-tail}
 use Rattle.std.proofs.Math.Seq.{take-length}
-use Rattle.imp_node.specs.State.{State, HostState, number, host_at, no_host, up_host, opening}
+use Rattle.imp_node.specs.State.{State, HostState, number, host_at, no_host, up_host, opening_node}
 use Rattle.imp_node.specs.Queries as queries
 use Rattle.imp_node.specs.Stopping.{host_down}
 use Rattle.subnet.specs.Net.{Wire, Net, ends_at, port_of}
@@ -17,7 +17,7 @@ use Rattle.subnet.proofs.Calls.Living.{all_set}
 
 -- an IMP as it opens, save that its first hosts are down
 abbrev pub down_to : ℕ → ℕ → ℕ → ℕ → State
-down_to own ports down up = record (opening own 0 ports) { hosts = replicate down no_host ++ replicate up up_host }
+down_to own ports down up = record (opening_node own 0 ports) { hosts = replicate down no_host ++ replicate up up_host }
 
 next_up : (down up : ℕ) → get_or (replicate down no_host ++ replicate (suc up) up_host) down no_host ≡ up_host
 next_up zero up = refl
@@ -37,13 +37,13 @@ one_more_down own ports k hosts below =
     let next : suc k ≡ k + 1 = omega arith in
     subst (λ (m : ℕ). (host_down (down_to own ports k m) k).state ≡ down_to own ports (k + 1) (hosts - (k + 1))) (sym left)
     (quiet_down (down_to own ports k (suc (hosts - (k + 1)))) k (next_up k (hosts - (k + 1))) refl
-    ∙ ap (λ (hosts : List HostState). record (opening own 0 ports) { hosts = hosts }) (next_down k (hosts - (k + 1)))
+    ∙ ap (λ (hosts : List HostState). record (opening_node own 0 ports) { hosts = hosts }) (next_down k (hosts - (k + 1)))
     ∙ ap (λ (m : ℕ). down_to own ports m (hosts - (k + 1))) next)
 
-pub opened : (own ports hosts : ℕ) → opening own hosts ports ≡ down_to own ports 0 (hosts - 0)
+pub opened : (own ports hosts : ℕ) → opening_node own hosts ports ≡ down_to own ports 0 (hosts - 0)
 opened own ports hosts =
     let all : hosts - 0 ≡ hosts = omega arith in
-    ap (λ (n : ℕ). record (opening own 0 ports) { hosts = replicate n up_host }) (sym all)
+    ap (λ (n : ℕ). record (opening_node own 0 ports) { hosts = replicate n up_host }) (sym all)
 
 -- ---- sites
 

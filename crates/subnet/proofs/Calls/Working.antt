@@ -28,9 +28,9 @@ use Rattle.imp_node.specs.Stopping.{own_host, give_up_refusal, host_down_refusal
 use Rattle.subnet.specs.Net.{Net, imp_at, wire_at, port_of, frames_on}
 use Rattle.subnet.specs.Alive.{has_data, has_flow, is_remembered}
 use Rattle.subnet.specs.Calls.{Kept, running, refusal_of, HasHalted, Fails, take_grows, step_grows, round_grows}
-use Rattle.subnet.specs.Events.{at_up, first_of, accepted, is_imp, has_end, give_up_alive, outstanding_at, offer_refusal, offer_out, take_refusal, taken, crossings_of, take_in, frame_refusal, imp_refusal, at_end_refusal, at_host_refusal, starting_refusal, abandoning_refusal, giving_up_refusal, forgetting_refusal, step_refusal, stepped, quiet_round}
+use Rattle.subnet.specs.Events.{at_up, first_of, accepted, is_imp, has_end, give_up_alive, outstanding_at, offer_refusal, offer_out, take_refusal, taken_by_host, crossings_of, take_in, frame_refusal, imp_refusal, at_end_refusal, at_host_refusal, starting_refusal, abandoning_refusal, giving_up_refusal, forgetting_refusal, step_refusal, stepped, quiet_round}
 use Rattle.subnet.specs.Flows.{Alive, view}
-use Rattle.subnet.specs.Opening.{Ends, hosts_from, opening}
+use Rattle.subnet.specs.Opening.{Ends, hosts_from, opening_subnet}
 use Rattle.subnet.specs.Routed.{IsHostMessage}
 use Rattle.subnet.specs.Seen.{IsListed, SameNetwork}
 use Rattle.subnet.specs.Inside.Calling as ends
@@ -233,17 +233,17 @@ crossed old new n entries goes is same log = record {
 
 -- ---- the opening
 
-pub opening_working : (sites : List (Option ℕ)) (ends : List Ends) → length sites ≤ 17 → IsWorking (running (opening (hosts_from 0 sites) sites ends))
+pub opening_working : (sites : List (Option ℕ)) (ends : List Ends) → length sites ≤ 17 → IsWorking (running (opening_subnet (hosts_from 0 sites) sites ends))
 opening_working sites ends few = record {
   run = tt;
   ordered = hosts_ordered sites;
   whole = λ goes. record { listed = refl; sound = opening_sound (hosts_from 0 sites) sites ends (hosts_fit sites); routed = opening_routed (hosts_from 0 sites) sites ends few };
 }
 
-pub opened_working : (hosts : List Host) (sites : List (Option ℕ)) (ends : List Ends) (n : Net) → n ≡ opening hosts sites ends → hosts ≡ hosts_from 0 sites → length sites ≤ 17
+pub opened_working : (hosts : List Host) (sites : List (Option ℕ)) (ends : List Ends) (n : Net) → n ≡ opening_subnet hosts sites ends → hosts ≡ hosts_from 0 sites → length sites ≤ 17
     → (let new : Kept = record { net = n; stopped = false } in IsWorking new)
 opened_working hosts sites ends n is listed few =
-    let at : List Host → Net = λ hs. opening hs sites ends in
+    let at : List Host → Net = λ hs. opening_subnet hs sites ends in
     subst (λ (m : Net). IsWorking (running m)) (sym is) (subst (λ (hs : List Host). IsWorking (running (at hs))) (sym listed) (opening_working sites ends few))
 
 -- ---- the calls
@@ -353,13 +353,13 @@ went_on refusal old goes none = ap (λ (s : Bool). first_of s fault.Stopped (ref
 abbrev pub kept_by : {T : Type 0} → Net → Result T CarrierFault → Kept
 kept_by n r = record { net = n; stopped = runs_out r }
 
-offer_done : (old : Kept) (m : HostMessage) (n : Net) (r : Result (Unit {0}) CarrierFault) → old.stopped ≡ false → ends.Ends (offer_refusal old.net m) true (λ done. n ≡ offer_out old.net m) old.net n r → OnErr r (SameLog old.net n)
+offer_done : (old : Kept) (m : HostMessage) (n : Net) (r : Result (Unit {0}) CarrierFault) → old.stopped ≡ false → ends.CallEnds (offer_refusal old.net m) true (λ done. n ≡ offer_out old.net m) old.net n r → OnErr r (SameLog old.net n)
     → SubnetOffer old m r (kept_by n r)
 offer_done old m n (Ok done) goes ends same = (went_on (λ k. offer_refusal k m) old goes ends.0, ap running ends.1)
 offer_done old m n (Err e) goes ends same = failed (λ k. offer_refusal k m) true e old n (is_memory e) refl goes ends same
 
 take_done : (old : Kept) (h : Host) (n : Net) (r : Result (Option Inbound) CarrierFault) → old.stopped ≡ false
-    → ends.Ends (take_refusal old.net h) (take_grows old.net h) (λ given. (given ≡ taken old.net h) × (n ≡ take_in old.net h)) old.net n r → OnErr r (SameLog old.net n) → SubnetTake old h r (kept_by n r)
+    → ends.CallEnds (take_refusal old.net h) (take_grows old.net h) (λ given. (given ≡ taken_by_host old.net h) × (n ≡ take_in old.net h)) old.net n r → OnErr r (SameLog old.net n) → SubnetTake old h r (kept_by n r)
 take_done old h n (Ok given) goes ends same = (went_on (λ k. take_refusal k h) old goes ends.0, (ends.1.0, ap running ends.1.1))
 take_done old h n (Err e) goes ends same = failed (λ k. take_refusal k h) (take_grows old.net h) e old n (is_memory e) refl goes ends same
 
@@ -377,13 +377,13 @@ live k goes is i = by (imp_at k.net.imps i) ((is.whole goes).sound.imps i) where
 -- ---- what the fields of the subnet keep
 
 pub offer_invariant : (old : Kept) (m : HostMessage) (n : Net) (r : Result (Unit {0}) CarrierFault) (s : Bool) → s ≡ runs_out r → old.stopped ≡ false → IsHostMessage m
-    → ends.Ends (offer_refusal old.net m) true (λ done. n ≡ offer_out old.net m) old.net n r → OnErr r (SameLog old.net n) → IsWorking old → (let new : Kept = record { net = n; stopped = s } in IsWorking new)
+    → ends.CallEnds (offer_refusal old.net m) true (λ done. n ≡ offer_out old.net m) old.net n r → OnErr r (SameLog old.net n) → IsWorking old → (let new : Kept = record { net = n; stopped = s } in IsWorking new)
 offer_invariant old m n r s stops goes message ends same is =
     let at : Bool → Kept = λ b. record { net = n; stopped = b } in
     subst (λ (b : Bool). IsWorking (at b)) (sym stops) (offer_working old m r (kept_by n r) message (offer_done old m n r goes ends same) is)
 
 pub take_invariant : (old : Kept) (h : Host) (n : Net) (r : Result (Option Inbound) CarrierFault) (s : Bool) → s ≡ runs_out r → old.stopped ≡ false
-    → ends.Ends (take_refusal old.net h) (take_grows old.net h) (λ given. (given ≡ taken old.net h) × (n ≡ take_in old.net h)) old.net n r → OnErr r (SameLog old.net n) → IsWorking old
+    → ends.CallEnds (take_refusal old.net h) (take_grows old.net h) (λ given. (given ≡ taken_by_host old.net h) × (n ≡ take_in old.net h)) old.net n r → OnErr r (SameLog old.net n) → IsWorking old
     → (let new : Kept = record { net = n; stopped = s } in IsWorking new)
 take_invariant old h n r s stops goes ends same is =
     let at : Bool → Kept = λ b. record { net = n; stopped = b } in

@@ -21,7 +21,7 @@ use Rattle.packetiser.specs.PacketFields.{PacketFields, IsPacket, flow_of}
 use Rattle.packetiser.specs.Pieces.{CarriesPieceOf}
 use Rattle.packetiser.specs.Rejoining.{IsRejoined}
 use Rattle.packetiser.specs.Slots as slots
-use Rattle.packetiser.specs.Slots.{IsPieceFor, gathered, joined}
+use Rattle.packetiser.specs.Slots.{IsPieceFor, gathered, joined_pieces}
 use Rattle.packetiser.specs.declared.packet.PacketKind.{PacketKind}
 use Rattle.packetiser.specs.declared.packet.PacketKind.TheVariants as kind
 use Rattle.packetiser.proofs.lemmas.{joined_whole, rejoined}
@@ -33,12 +33,12 @@ use Rattle.imp_channel.specs.declared.line.Received.{Received}
 use Rattle.imp_channel.specs.declared.line.Received.TheVariants as received
 use Rattle.imp_channel.proofs.lemmas.{fresh_carried, received_has}
 use Rattle.flow_law.specs.View.{View, Packet, Queued, Kind}
-use Rattle.flow_law.specs.Moves.{Move, NoteGone, Whole, Freed, Brings, CanNote, Joined, IsTold, after}
+use Rattle.flow_law.specs.Moves.{Move, NoteGone, Whole, Freed, Brings, CanNote, Joined, IsTold, view_moved}
 use Rattle.flow_law.proofs.lemmas.{makes_one}
 use Rattle.imp_node.specs.declared.waiting.Message.{Message}
-use Rattle.imp_node.specs.State.{State, Turn, number, host_at, port_at}
+use Rattle.imp_node.specs.State.{State, ImpTurn, number, host_at, port_at}
 use Rattle.imp_node.specs.Arrival as arrivals
-use Rattle.imp_node.specs.Arrival.{Arrival, Passing, Old, Undeliverable, Piece, NoSlot, Unmarked, Answering, arrival, arrival_has_room, arrived, taken, acknowledged, heard, ignored, taken_frame, from_line}
+use Rattle.imp_node.specs.Arrival.{Arrival, Passing, Old, Undeliverable, Piece, NoSlot, Unmarked, Answering, arrival, arrival_has_room, arrived, frame_taken, acknowledged, vector_heard, ignored, taken_frame, from_line}
 use Rattle.imp_node.specs.Contents as contents
 use Rattle.imp_node.specs.Flows.{answer_packet}
 use Rattle.imp_node.specs.Making.{dead_for}
@@ -82,7 +82,7 @@ arrived_answers (Answering k) p s format all = freed_messages k (flow_of p) p.nu
 -- ---- a packet that arrived, and what its arrival did
 
 -- a turn that a packet which was alive brought about
-record IsBrought (n : Net) (i : ℕ) (s : State) (p : PacketFields) (turn : Turn) : Type 0 where
+record IsBrought (n : Net) (i : ℕ) (s : State) (p : PacketFields) (turn : ImpTurn) : Type 0 where
   pub at : imp_at n.imps i ≡ Some s
   pub old : IsImp i s
   pub new : IsImp i turn.state
@@ -93,17 +93,17 @@ record IsBrought (n : Net) (i : ℕ) (s : State) (p : PacketFields) (turn : Turn
 nothing_only : (n m : Net) → OnlyNew n [] m → NothingNew n m
 nothing_only n m only = subst (λ (ps : List PacketFields). All (Contains ps) (packets m)) (append-nil (packets n)) only
 
-silent_arrival : (n : Net) (i : ℕ) (s : State) (p : PacketFields) (turn : Turn) → IsBrought n i s p turn → AllUnmoved s turn.state → OnlyNew n [] (with_turn i turn n) → IsSound n → IsSound (with_turn i turn n)
+silent_arrival : (n : Net) (i : ℕ) (s : State) (p : PacketFields) (turn : ImpTurn) → IsBrought n i s p turn → AllUnmoved s turn.state → OnlyNew n [] (with_turn i turn n) → IsSound n → IsSound (with_turn i turn n)
 silent_arrival n i s p turn b still only is = silent_turn n i s turn b.at still b.new b.answers (nothing_only n (with_turn i turn n) only) is
 
 alive_here : (n : Net) (p : PacketFields) → Contains (packets n) p → Alive n (flow_of p) (packet_of p)
 alive_here n p there = record { fields = p; there = there; flow = refl; packet = refl }
 
 -- the IMP of a piece's destination
-home : (n : Net) (i : ℕ) (s : State) (p : PacketFields) (turn : Turn) → IsBrought n i s p turn → IsNewHere s p → p.destination.imp ≡ i
+home : (n : Net) (i : ℕ) (s : State) (p : PacketFields) (turn : ImpTurn) → IsBrought n i s p turn → IsNewHere s p → p.destination.imp ≡ i
 home n i s p turn b new = new.here ∙ b.old.own
 
-can_note : (n : Net) (i : ℕ) (s : State) (p : PacketFields) (turn : Turn) → IsBrought n i s p turn → IsNewHere s p → CanNote (view n (flow_of p)) (Alive n (flow_of p)) (packet_of p)
+can_note : (n : Net) (i : ℕ) (s : State) (p : PacketFields) (turn : ImpTurn) → IsBrought n i s p turn → IsNewHere s p → CanNote (view n (flow_of p)) (Alive n (flow_of p)) (packet_of p)
 can_note n i s p turn b new =
     let g : Flow = flow_of p in
     let at : imp_at n.imps g.destination.imp ≡ Some s = ap (imp_at n.imps) (home n i s p turn b new) ∙ b.at in
@@ -117,7 +117,7 @@ can_note n i s p turn b new =
     }
 
 -- its number is noted, and the message is gone
-noted_sound : (n : Net) (i : ℕ) (s : State) (p : PacketFields) (turn : Turn) (made : List PacketFields) → IsBrought n i s p turn → IsNewHere s p
+noted_sound : (n : Net) (i : ℕ) (s : State) (p : PacketFields) (turn : ImpTurn) (made : List PacketFields) → IsBrought n i s p turn → IsNewHere s p
     → Moved s turn.state (flow_of p) (sender s (flow_of p)) (noted_with p.number (receiver s (flow_of p)))
     → OnlyNew n made (with_turn i turn n) → All (λ q. flow_of q ≡ flow_of p) made → All IsPacket made → All (λ q. IsTold Kind.Dead p.number (packet_of q)) made
     → IsSound n → IsSound (with_turn i turn n)
@@ -145,7 +145,7 @@ noted_sound n i s p turn made b new moved only of_flow formats dead is =
     }) is
 
 -- it came for a host that is down or not there: Dead is made
-undeliverable_sound : (n : Net) (i : ℕ) (s : State) (p : PacketFields) (turn : Turn) → IsBrought n i s p turn → IsNewHere s p
+undeliverable_sound : (n : Net) (i : ℕ) (s : State) (p : PacketFields) (turn : ImpTurn) → IsBrought n i s p turn → IsNewHere s p
     → Moved s turn.state (flow_of p) (sender s (flow_of p)) (noted_with p.number (receiver s (flow_of p)))
     → OnlyNew n (answer_packet kind.Dead (flow_of p) p.number ∷ []) (with_turn i turn n) → IsSound n → IsSound (with_turn i turn n)
 undeliverable_sound n i s p turn b new moved only is =
@@ -162,7 +162,7 @@ undeliverable_sound n i s p turn b new moved only is =
 -- ---- a piece makes its message whole
 
 -- the pieces that are joined are alive, so they are those of any text whose pieces are all that is alive of the message
-whole_joined : (n : Net) (i : ℕ) (s : State) (p : PacketFields) (turn : Turn) (w : List Bool) → IsBrought n i s p turn → MakesWhole s p w → Joined flows.Piece (Alive n (flow_of p)) (packet_of p) (text_of w)
+whole_joined : (n : Net) (i : ℕ) (s : State) (p : PacketFields) (turn : ImpTurn) (w : List Bool) → IsBrought n i s p turn → MakesWhole s p w → Joined flows.Piece (Alive n (flow_of p)) (packet_of p) (text_of w)
 whole_joined n i s p turn w b makes text pieces =
     let g : Flow = flow_of p in
     let ps : List PacketFields = gathered s.slots p in
@@ -181,7 +181,7 @@ whole_joined n i s p turn w b makes text pieces =
     ps (All-contains_itself ps) in
     ap text_of (r.bits ∙ joined_whole (body text) ps carry r.one_message.whole) ∙ text_of-body text
 
-whole_sound : (n : Net) (i : ℕ) (s : State) (p : PacketFields) (turn : Turn) (w text : List Bool) → IsBrought n i s p turn → MakesWhole s p w → text ≡ text_of w
+whole_sound : (n : Net) (i : ℕ) (s : State) (p : PacketFields) (turn : ImpTurn) (w text : List Bool) → IsBrought n i s p turn → MakesWhole s p w → text ≡ text_of w
     → Moved s turn.state (flow_of p) (sender s (flow_of p)) (queued_with (record { flow = flow_of p; number = p.number; text = text }) (noted_with p.number (receiver s (flow_of p))))
     → OnlyNew n [] (with_turn i turn n) → IsSound n → IsSound (with_turn i turn n)
 whole_sound n i s p turn w text b makes is_text moved only is =
@@ -209,7 +209,7 @@ whole_sound n i s p turn w text b makes is_text moved only is =
       here =
           makes_one move (view n g) (view next g) (Alive n g) (Alive next g)
           (record { note = can_note n i s p turn b makes.new; joined = joins })
-          (waits ∙ ap (λ (q : List Queued). (let v : View = record (after move (view n g)) { queue = q } in v)) (map-append queued_of to.queue (message ∷ [])))
+          (waits ∙ ap (λ (q : List Queued). (let v : View = record (view_moved move (view n g)) { queue = q } in v)) (map-append queued_of to.queue (message ∷ [])))
           (λ x. alive_or_made n next [] (λ (y : Packet). ⊥) g x only (All-nil (λ (q : PacketFields). ⊥)));
       shown = refl;
     }) is
@@ -234,7 +234,7 @@ freed_awaited (Some (standing.Outstanding l)) number e = by (l == number) refl e
   by true same e = ap Some (eqb-true l number same)
   by false same e = absurd (cc)
 
-answered_sound : (n : Net) (i : ℕ) (s : State) (p : PacketFields) (turn : Turn) (k : Answer) → IsBrought n i s p turn → p.source.imp ≡ number s → Tells p.kind k → release_in p.number (finite.get s.sources (flow_of p)) ≡ release.Freed
+answered_sound : (n : Net) (i : ℕ) (s : State) (p : PacketFields) (turn : ImpTurn) (k : Answer) → IsBrought n i s p turn → p.source.imp ≡ number s → Tells p.kind k → release_in p.number (finite.get s.sources (flow_of p)) ≡ release.Freed
     → Moved s turn.state (flow_of p) (ended_with k (sender s (flow_of p))) (receiver s (flow_of p)) → OnlyNew n [] (with_turn i turn n) → IsSound n → IsSound (with_turn i turn n)
 answered_sound n i s p turn k b here tells frees moved only is =
     let g : Flow = flow_of p in
@@ -268,7 +268,7 @@ answered_sound n i s p turn k b here tells frees moved only is =
 
 -- ---- an arrival
 
-arrival_sound : (a : Arrival) (n : Net) (i : ℕ) (s : State) (p : PacketFields) (turn : Turn) → IsBrought n i s p turn → ArrivalSays a s p → ArrivalMoves a p s turn.state → OnlyNew n (dead_for a p) (with_turn i turn n)
+arrival_sound : (a : Arrival) (n : Net) (i : ℕ) (s : State) (p : PacketFields) (turn : ImpTurn) → IsBrought n i s p turn → ArrivalSays a s p → ArrivalMoves a p s turn.state → OnlyNew n (dead_for a p) (with_turn i turn n)
     → IsSound n → IsSound (with_turn i turn n)
 arrival_sound Passing n i s p turn b says moves only is = silent_arrival n i s p turn b moves only is
 arrival_sound Old n i s p turn b says moves only is = silent_arrival n i s p turn b moves only is
@@ -284,12 +284,12 @@ arrival_sound (Answering k) n i s p turn b says moves only is = by (release_in p
   by release.Stale stale still = silent_arrival n i s p turn b still only is
 
 -- a turn that moves no flow made Dead only if a number was noted, so none
-still_sound : (a : Arrival) (k : ℕ) (f : Frame) (n : Net) (i : ℕ) (s : State) (p : PacketFields) → (let turn : Turn = pump (acknowledged k (taken k f s)) (arrived a p (taken k f s)) in
+still_sound : (a : Arrival) (k : ℕ) (f : Frame) (n : Net) (i : ℕ) (s : State) (p : PacketFields) → (let turn : ImpTurn = pump (acknowledged k (frame_taken k f s)) (arrived a p (frame_taken k f s)) in
     IsBrought n i s p turn → ArrivalSays a s p → AllUnmoved s turn.state → OnlyNew n (dead_for a p) (with_turn i turn n) → IsSound n → IsSound (with_turn i turn n))
 still_sound Passing k f n i s p b says still only is = silent_arrival n i s p _ b still only is
 still_sound Old k f n i s p b says still only is = silent_arrival n i s p _ b still only is
 still_sound Undeliverable k f n i s p b says still only is =
-    let turn : Turn = pump (acknowledged k (taken k f s)) (arrived Undeliverable p (taken k f s)) in
+    let turn : ImpTurn = pump (acknowledged k (frame_taken k f s)) (arrived Undeliverable p (frame_taken k f s)) in
     let g : Flow = flow_of p in
     let moved : Moved s turn.state g (sender s g) (noted_with p.number (receiver s g)) = record { sender = (still g).sender; receiver = (noted_moved g p.number s).receiver; others = λ f other. still f } in
     undeliverable_sound n i s p turn b says.0 moved only is
@@ -302,7 +302,7 @@ still_sound (Answering x) k f n i s p b says still only is = silent_arrival n i 
 -- ---- a frame
 
 -- what is known of the turn of a frame that is live
-record IsFrame (n : Net) (i : ℕ) (s : State) (f : Frame) (turn : Turn) : Type 0 where
+record IsFrame (n : Net) (i : ℕ) (s : State) (f : Frame) (turn : ImpTurn) : Type 0 where
   pub new : IsImp i turn.state
   pub moves : FrameMoves f s turn.state
   pub only : OnlyNew n (dead_made f s) (with_turn i turn n)
@@ -315,22 +315,22 @@ record IsLive (n : Net) (i : ℕ) (s : State) (f : Frame) : Type 0 where
   pub sound : IsSound n
 
 -- a turn that only takes acknowledgements and distances, and pumps
-taken_has : (P : PacketFields → Type 0) (k : ℕ) (f : Frame) (s : State) → Has P s → Has P (taken k f s)
+taken_has : (P : PacketFields → Type 0) (k : ℕ) (f : Frame) (s : State) → Has P s → Has P (frame_taken k f s)
 taken_has P k f s h = record {
   store = h.store;
   lines = All-set (PortHas P) s.ports k _ (received_has P (port_at s.ports k).line f (port_has P s.ports k h.lines)) h.lines;
   slots = h.slots;
 }
 
-quiet_frame : (n : Net) (i : ℕ) (s : State) (f : Frame) (turn : Turn) → IsLive n i s f → IsFrame n i s f turn → AllUnmoved s turn.state → contents.messages turn.state ≡ contents.messages s
+quiet_frame : (n : Net) (i : ℕ) (s : State) (f : Frame) (turn : ImpTurn) → IsLive n i s f → IsFrame n i s f turn → AllUnmoved s turn.state → contents.messages turn.state ≡ contents.messages s
     → (Has (Contains (packets n)) s → TurnHas (Contains (packets n)) turn) → IsSound (with_turn i turn n)
 quiet_frame n i s f turn live frame still same has =
     silent_turn n i s turn live.at still frame.new (subst (All Answerable) (sym same) (answerable n i s live.at live.sound)) (turn_nothing n i s turn live.at has) live.sound
 
-fresh_sound : (n : Net) (i : ℕ) (s : State) (k : ℕ) (f : Frame) (p : PacketFields) → carried_by f.content ≡ p ∷ [] → IsLive n i s f → (let turn : Turn = pump (acknowledged k (taken k f s)) (arrived (arrival s p) p (taken k f s)) in
+fresh_sound : (n : Net) (i : ℕ) (s : State) (k : ℕ) (f : Frame) (p : PacketFields) → carried_by f.content ≡ p ∷ [] → IsLive n i s f → (let turn : ImpTurn = pump (acknowledged k (frame_taken k f s)) (arrived (arrival s p) p (frame_taken k f s)) in
     IsFrame n i s f turn → IsSound (with_turn i turn n))
 fresh_sound n i s k f p carried live frame =
-    let turn : Turn = pump (acknowledged k (taken k f s)) (arrived (arrival s p) p (taken k f s)) in
+    let turn : ImpTurn = pump (acknowledged k (frame_taken k f s)) (arrived (arrival s p) p (frame_taken k f s)) in
     let all : All (Contains (packets n)) (p ∷ []) = subst (All (Contains (packets n))) carried (frame_packets (Contains (packets n)) f live.there) in
     let there : Contains (packets n) p = All-head (Contains (packets n)) p [] all in
     let format : IsPacket p = All-contains IsPacket (packets n) p live.sound.formats there in
@@ -340,7 +340,7 @@ fresh_sound n i s k f p carried live frame =
       new = frame.new;
       there = there;
       format = format;
-      answers = arrived_answers (arrival s p) p (taken k f s) format (answerable n i s live.at live.sound);
+      answers = arrived_answers (arrival s p) p (frame_taken k f s) format (answerable n i s live.at live.sound);
     } in
     let more : OnlyNew n (dead_for (arrival s p) p ++ []) (with_turn i turn n) = subst (λ (ps : List PacketFields). OnlyNew n (flat_map (λ (q : PacketFields). dead_for (arrival s q) q) ps) (with_turn i turn n)) carried frame.only in
     let only : OnlyNew n (dead_for (arrival s p) p) (with_turn i turn n) = subst (λ (ps : List PacketFields). OnlyNew n ps (with_turn i turn n)) (append-nil (dead_for (arrival s p) p)) more in
@@ -360,21 +360,21 @@ ignored_sound n i s f live frame =
 frame_sound : (got : Result Received ChannelFault) (n : Net) (i : ℕ) (s : State) (k : ℕ) (f : Frame) → ((p : PacketFields) → got ≡ Ok (received.Fresh p) → carried_by f.content ≡ p ∷ [])
     → IsLive n i s f → IsFrame n i s f (taken_frame got k f s) → IsSound (with_turn i (taken_frame got k f s) n)
 frame_sound (Ok (received.Fresh p)) n i s k f carried live frame = at (arrival_has_room (arrival s p) s p) frame where
-  at : (room : Bool) → IsFrame n i s f (cond room (pump (acknowledged k (taken k f s)) (arrived (arrival s p) p (taken k f s))) (ignored s))
-      → IsSound (with_turn i (cond room (pump (acknowledged k (taken k f s)) (arrived (arrival s p) p (taken k f s))) (ignored s)) n)
+  at : (room : Bool) → IsFrame n i s f (cond room (pump (acknowledged k (frame_taken k f s)) (arrived (arrival s p) p (frame_taken k f s))) (ignored s))
+      → IsSound (with_turn i (cond room (pump (acknowledged k (frame_taken k f s)) (arrived (arrival s p) p (frame_taken k f s))) (ignored s)) n)
   at true frame = fresh_sound n i s k f p (carried p refl) live frame
   at false frame = ignored_sound n i s f live frame
 frame_sound (Ok received.Repeat) n i s k f carried live frame =
     let P : PacketFields → Type 0 = Contains (packets n) in
-    quiet_frame n i s f (pump (acknowledged k (taken k f s)) (taken k f s)) live frame (λ g. record { sender = refl; receiver = refl }) refl
-    (λ has. pump_has P (acknowledged k (taken k f s)) (taken k f s) (All-cons (OutgoingHas P) _ [] tt (All-nil (OutgoingHas P))) (taken_has P k f s has))
+    quiet_frame n i s f (pump (acknowledged k (frame_taken k f s)) (frame_taken k f s)) live frame (λ g. record { sender = refl; receiver = refl }) refl
+    (λ has. pump_has P (acknowledged k (frame_taken k f s)) (frame_taken k f s) (All-cons (OutgoingHas P) _ [] tt (All-nil (OutgoingHas P))) (taken_has P k f s has))
 frame_sound (Ok received.AckOnly) n i s k f carried live frame =
     let P : PacketFields → Type 0 = Contains (packets n) in
-    quiet_frame n i s f (pump [] (taken k f s)) live frame (λ g. record { sender = refl; receiver = refl }) refl (λ has. quiet_has P (taken k f s) (taken_has P k f s has))
+    quiet_frame n i s f (pump [] (frame_taken k f s)) live frame (λ g. record { sender = refl; receiver = refl }) refl (λ has. quiet_has P (frame_taken k f s) (taken_has P k f s has))
 frame_sound (Ok (received.Routes distances)) n i s k f carried live frame =
     let P : PacketFields → Type 0 = Contains (packets n) in
-    quiet_frame n i s f (pump [] (heard k distances (taken k f s))) live frame (λ g. record { sender = refl; receiver = refl }) refl
-    (λ has. (let got : Has P (taken k f s) = taken_has P k f s has in quiet_has P (heard k distances (taken k f s)) (record { store = got.store; lines = got.lines; slots = got.slots })))
+    quiet_frame n i s f (pump [] (vector_heard k distances (frame_taken k f s))) live frame (λ g. record { sender = refl; receiver = refl }) refl
+    (λ has. (let got : Has P (frame_taken k f s) = taken_has P k f s has in quiet_has P (vector_heard k distances (frame_taken k f s)) (record { store = got.store; lines = got.lines; slots = got.slots })))
 frame_sound (Err fault) n i s k f carried live frame = ignored_sound n i s f live frame
 
 line_sound : (n : Net) (i : ℕ) (s : State) (k : ℕ) (f : Frame) → IsLive n i s f → IsSound (with_turn i (from_line s k f) n)

@@ -16,7 +16,7 @@ use Rattle.flow_law.specs.View.{View, Packet, Kind}
 use Rattle.flow_law.specs.Moves.{Move, NoData, after_all, shown_by}
 use Rattle.flow_law.specs.Follows.{Follows, AllFollow}
 use Rattle.flow_law.proofs.lemmas.{makes_one, stays}
-use Rattle.imp_node.specs.State.{State, Turn}
+use Rattle.imp_node.specs.State.{State, ImpTurn}
 use Rattle.imp_node.specs.Queries.{is_data, is_data_between, is_message_between}
 use Rattle.imp_node.specs.Sides.{Sender, Receiver, sender, receiver}
 use Rattle.imp_node.specs.Moves.{Becomes}
@@ -115,7 +115,7 @@ shown false v = refl
 
 forgot : (n : Net) (at from : ℕ) (s : State) → imp_at n.imps at ≡ Some s → has_data n from at ≡ false → IsSound n → IsSound (with_turn at (forget s from) n)
 forgot n at from s there none is =
-    let turn : Turn = forget s from in
+    let turn : ImpTurn = forget s from in
     let m : Net = with_turn at turn n in
     let silent : All (λ p. is_data_between from at p ≡ false) (packets n) = (nowhere n (is_data_between from at) (is_message_between from at) none).0 in
     let among : NothingNew n m = subst (λ (o : Option State). NothingNew n (at_imp o at (λ (t : State). forget t from) n)) there (forget_nothing n at from) in

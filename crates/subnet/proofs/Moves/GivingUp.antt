@@ -13,11 +13,11 @@ use Rattle.leader1822.proofs.lemmas.{guard, same_flow-refl}
 use Rattle.packetiser.specs.PacketFields.{PacketFields, IsPacket, flow_of}
 use Rattle.packetiser.specs.declared.packet.PacketKind.TheVariants as kind
 use Rattle.flow_law.specs.View.{Packet, Queued}
-use Rattle.flow_law.specs.Moves.{GiveUp, CanGiveUp, after}
+use Rattle.flow_law.specs.Moves.{GiveUp, CanGiveUp, view_moved}
 use Rattle.flow_law.specs.Follows.{OneFollows}
 use Rattle.flow_law.proofs.lemmas.{makes_one, one_follows}
 use Rattle.imp_node.specs.declared.waiting.Message.{Message}
-use Rattle.imp_node.specs.State.{State, HostState, Turn, no_host, host_at}
+use Rattle.imp_node.specs.State.{State, HostState, ImpTurn, no_host, host_at}
 use Rattle.imp_node.specs.Flows.{answer_packet, given}
 use Rattle.imp_node.specs.Offering.{is_own}
 use Rattle.imp_node.specs.Queries.{outstanding, packet_has}
@@ -72,7 +72,7 @@ given_queue (y ∷ hosts) zero x same = ap (λ (ms : List Message). ms ++ flat_m
 given_queue (y ∷ hosts) (suc h) x same = ap (λ (ms : List Message). y.queue ++ ms) (given_queue hosts h x same)
 
 given_up_view : (n : Net) (f : Flow) (s : State) (number : ℕ) → imp_at n.imps f.source.imp ≡ Some s → Moved s (give_up s f).state f (ended_with answer.Incomplete (sender s f)) (receiver s f)
-    → view (with_turn f.source.imp (give_up s f) n) f ≡ after (GiveUp number) (view n f)
+    → view (with_turn f.source.imp (give_up s f) n) f ≡ view_moved (GiveUp number) (view n f)
 given_up_view n f s number at moved =
     let i : ℕ = f.source.imp in
     let j : ℕ = f.destination.imp in
@@ -104,7 +104,7 @@ given_up_turn : (n : Net) (f : Flow) (s : State) (number : ℕ) → imp_at n.imp
     → IsSound n → IsSound (with_turn f.source.imp (give_up s f) n)
 given_up_turn n f s number at awaited dead accepted is =
     let i : ℕ = f.source.imp in
-    let turn : Turn = give_up s f in
+    let turn : ImpTurn = give_up s f in
     let m : Net = with_turn i turn n in
     let none : All (NotIn f number) (packets n) × All (NotOf f number) (messages n) = not_alive n f number dead in
     let moved : Moved s turn.state f (ended_with answer.Incomplete (sender s f)) (receiver s f) = give_up_moves s f in

@@ -28,7 +28,7 @@ use Rattle.flow_law.specs.Invariant.{Invariant}
 use Rattle.flow_law.specs.Local.{stopped_host, stopped_host_queued}
 use Rattle.flow_law.proofs.lemmas.{down_shown, queued_alone, queued_awaited}
 use Rattle.imp_node.specs.declared.waiting.Message.{Message}
-use Rattle.imp_node.specs.State.{State, Turn, no_host, number, host_at, is_up, is_there}
+use Rattle.imp_node.specs.State.{State, ImpTurn, no_host, number, host_at, is_up, is_there}
 use Rattle.imp_node.specs.Contents as contents
 use Rattle.imp_node.specs.Flows.{answer_packet, answered_by, freed}
 use Rattle.imp_node.specs.Making.{reply_for, host_down_makes}
@@ -36,7 +36,7 @@ use Rattle.imp_node.specs.Pump.{stored}
 use Rattle.imp_node.specs.Queries.{outstanding}
 use Rattle.imp_node.specs.Sides.{IsImp, Sender, Receiver, sender, receiver, messages_of, ended_with}
 use Rattle.imp_node.specs.Moves.{sender_told, source_down, destination_down}
-use Rattle.imp_node.specs.Stopping.{returned, all_returned, stopped, host_down, host_down_refusal}
+use Rattle.imp_node.specs.Stopping.{message_returned, all_returned, stopped, host_down, host_down_refusal}
 use Rattle.imp_node.specs.Taking.{is_from_here, reply_has_room}
 use Rattle.imp_node.proofs.lemmas.{freed_with, host_down_imp, returned_moves, same_at, stopped_becomes}
 use Rattle.subnet.specs.Net.{Net, imp_at, with_turn}
@@ -54,7 +54,7 @@ use Rattle.subnet.proofs.Moves.ManyFlows.{all_moved, at_end, at_end_if}
 
 -- ---- messages are given back, one after another
 
-returned_number : (m : Message) (s : State) → number (returned m s) ≡ number s
+returned_number : (m : Message) (s : State) → number (message_returned m s) ≡ number s
 returned_number m s = at (reply_has_room s m) (is_from_here s m) (release_in m.number (finite.get s.sources m.flow)) where
   at : (room here : Bool) (r : Release) → number (cond room (cond here (answered_by r answer.Dead m.flow m.number s) (stored (answer_packet kind.Dead m.flow m.number) s)) s) ≡ number s
   at true true release.Freed = refl
@@ -62,7 +62,7 @@ returned_number m s = at (reply_has_room s m) (is_from_here s m) (release_in m.n
   at true false r = refl
   at false here r = refl
 
-returned_answers : (m : Message) (s : State) → All Answerable (contents.messages s) → All Answerable (contents.messages (returned m s))
+returned_answers : (m : Message) (s : State) → All Answerable (contents.messages s) → All Answerable (contents.messages (message_returned m s))
 returned_answers m s all = at (reply_has_room s m) (is_from_here s m) where
   at : (room here : Bool) → All Answerable (contents.messages (cond room (cond here (freed answer.Dead m.flow m.number s) (stored (answer_packet kind.Dead m.flow m.number) s)) s))
   at true true = freed_messages answer.Dead m.flow m.number s all
@@ -71,27 +71,27 @@ returned_answers m s all = at (reply_has_room s m) (is_from_here s m) where
 
 all_answers : (ms : List Message) (s : State) → All Answerable (contents.messages s) → All Answerable (contents.messages (all_returned ms s))
 all_answers [] s all = all
-all_answers (m ∷ ms) s all = all_answers ms (returned m s) (returned_answers m s all)
+all_answers (m ∷ ms) s all = all_answers ms (message_returned m s) (returned_answers m s all)
 
-returned_receiver : (m : Message) (s : State) (f : Flow) → receiver (returned m s) f ≡ receiver s f
+returned_receiver : (m : Message) (s : State) (f : Flow) → receiver (message_returned m s) f ≡ receiver s f
 returned_receiver m s f = elim (cases_Bool (same_flow f m.flow)) [
-  | inl same ↦ (let F : Flow → Type 0 = λ k. receiver (returned m s) k ≡ receiver s k in subst F (sym (same_flow-true f m.flow same)) (returned_moves m s).receiver)
+  | inl same ↦ (let F : Flow → Type 0 = λ k. receiver (message_returned m s) k ≡ receiver s k in subst F (sym (same_flow-true f m.flow same)) (returned_moves m s).receiver)
   | inr other ↦ ((returned_moves m s).others f other).receiver
 ]
 
 all_receiver : (ms : List Message) (s : State) (f : Flow) → receiver (all_returned ms s) f ≡ receiver s f
 all_receiver [] s f = refl
-all_receiver (m ∷ ms) s f = all_receiver ms (returned m s) f ∙ returned_receiver m s f
+all_receiver (m ∷ ms) s f = all_receiver ms (message_returned m s) f ∙ returned_receiver m s f
 
 -- where none is of the flow, its source hears nothing
 none_of_it : (ms : List Message) (s : State) (f : Flow) → messages_of f ms ≡ [] → sender (all_returned ms s) f ≡ sender s f
 none_of_it [] s f none = refl
 none_of_it (m ∷ ms) s f none = elim (cases_Bool (same_flow f m.flow)) [
   | inl same ↦ (let some : m ∷ messages_of f ms ≡ [] = rw same at none in absurd (cc))
-  | inr other ↦ (let rest : messages_of f ms ≡ [] = rw other at none in none_of_it ms (returned m s) f rest ∙ ((returned_moves m s).others f other).sender)
+  | inr other ↦ (let rest : messages_of f ms ≡ [] = rw other at none in none_of_it ms (message_returned m s) f rest ∙ ((returned_moves m s).others f other).sender)
 ]
 
-told_dead : (m : Message) (s : State) → is_from_here s m ≡ true → outstanding s m.flow ≡ Some m.number → sender (returned m s) m.flow ≡ ended_with answer.Dead (sender s m.flow)
+told_dead : (m : Message) (s : State) → is_from_here s m ≡ true → outstanding s m.flow ≡ Some m.number → sender (message_returned m s) m.flow ≡ ended_with answer.Dead (sender s m.flow)
 told_dead m s here awaited =
     let r : Release = release_in m.number (finite.get s.sources m.flow) in
     (returned_moves m s).sender
@@ -107,12 +107,12 @@ one_of_it (x ∷ ms) s f m one here awaited = elim (cases_Bool (same_flow f x.fl
       let first : x ≡ m = cc in
       let rest : messages_of f ms ≡ [] = cc in
       let flow : f ≡ x.flow = same_flow-true f x.flow same in
-      let F : Flow → Type 0 = λ k. (k.source.imp == number s) ≡ true → outstanding s k ≡ Some x.number → sender (returned x s) k ≡ ended_with answer.Dead (sender s k) in
-      let told : sender (returned x s) f ≡ ended_with answer.Dead (sender s f) = subst F (sym flow) (told_dead x s) here (awaited ∙ ap (λ (y : Message). Some y.number) (sym first)) in
-      none_of_it ms (returned x s) f rest ∙ told)
+      let F : Flow → Type 0 = λ k. (k.source.imp == number s) ≡ true → outstanding s k ≡ Some x.number → sender (message_returned x s) k ≡ ended_with answer.Dead (sender s k) in
+      let told : sender (message_returned x s) f ≡ ended_with answer.Dead (sender s f) = subst F (sym flow) (told_dead x s) here (awaited ∙ ap (λ (y : Message). Some y.number) (sym first)) in
+      none_of_it ms (message_returned x s) f rest ∙ told)
   | inr other ↦ (let rest : messages_of f ms ≡ m ∷ [] = rw other at one in
-      let still : sender (returned x s) f ≡ sender s f = ((returned_moves x s).others f other).sender in
-      one_of_it ms (returned x s) f m rest (ap (λ (k : ℕ). f.source.imp == k) (returned_number x s) ∙ here) (ap (λ (y : Sender). y.outstanding) still ∙ awaited)
+      let still : sender (message_returned x s) f ≡ sender s f = ((returned_moves x s).others f other).sender in
+      one_of_it ms (message_returned x s) f m rest (ap (λ (k : ℕ). f.source.imp == k) (returned_number x s) ∙ here) (ap (λ (y : Sender). y.outstanding) still ∙ awaited)
       ∙ ap (ended_with answer.Dead) still)
 ]
 
@@ -415,7 +415,7 @@ flow_goes n h s f stop only law (Some m) is =
 
 gone : (n : Net) (h : Host) (s : State) → Stopping n h s → IsSound n → IsSound (after_stop n h s)
 gone n h s stop is =
-    let turn : Turn = host_down s h.host in
+    let turn : ImpTurn = host_down s h.host in
     let m : Net = after_stop n h s in
     let q : List Message = (host_at s h.host).queue in
     let made : List PacketFields = host_down_makes s h.host in

@@ -16,7 +16,7 @@ use Rattle.flow_law.specs.Moves.{Move, CanStartSource, after_all}
 use Rattle.flow_law.specs.Follows.{Follows, AllFollow}
 use Rattle.flow_law.specs.Local.{started_host}
 use Rattle.flow_law.proofs.lemmas.{makes_one, stays, up_shown}
-use Rattle.imp_node.specs.State.{State, HostState, Turn, host_at, is_up, is_there}
+use Rattle.imp_node.specs.State.{State, HostState, ImpTurn, host_at, is_up, is_there}
 use Rattle.imp_node.specs.Sides.{IsImp, Sender, Receiver, sender, receiver}
 use Rattle.imp_node.specs.Moves.{Becomes, source_up, destination_up}
 use Rattle.imp_node.specs.Stopping.{own_host, host_up, host_up_refusal}
@@ -111,7 +111,7 @@ new_view n h s f there within =
 
 started : (n : Net) (h : Host) (s : State) → Startable n h s → IsSound n → IsSound (logging (crossing.Up h ∷ []) (with_turn h.imp (host_up s h.host) n))
 started n h s can is =
-    let turn : Turn = host_up s h.host in
+    let turn : ImpTurn = host_up s h.host in
     let m : Net = logging (crossing.Up h ∷ []) (with_turn h.imp turn n) in
     let there : imp_at n.imps h.imp ≡ Some s = can.at in
     let imp : IsImp h.imp s = subst (IsAt h.imp) there (is.imps h.imp) in

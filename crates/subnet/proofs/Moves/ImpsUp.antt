@@ -63,7 +63,7 @@ started_receiver i hosts ports f =
 
 started_is : (i hosts ports : ℕ) → IsImp i (started_imp i hosts ports)
 started_is i hosts ports =
-    let opened : IsImp i (imp.opening i hosts ports) = opening_imp i hosts ports in
+    let opened : IsImp i (imp.opening_node i hosts ports) = opening_imp i hosts ports in
     record {
       own = opened.own;
       live = opened.live;

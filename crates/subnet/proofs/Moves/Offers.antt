@@ -31,7 +31,7 @@ use Rattle.packetiser.specs.declared.packet.PacketKind.TheVariants as kind
 use Rattle.packetiser.proofs.lemmas.{body_sized, few_pieces, packets_are, piece_fits}
 use Rattle.flow_law.specs.View.{View, Packet, Queued}
 use Rattle.flow_law.specs.Moves as moves
-use Rattle.flow_law.specs.Moves.{Move, DeadNow, Begin, BeginLocal, CanOffer, CanBegin, NumberFree, IsPieceOf, after}
+use Rattle.flow_law.specs.Moves.{Move, DeadNow, Begin, BeginLocal, CanOffer, CanBegin, NumberFree, IsPieceOf, view_moved}
 use Rattle.flow_law.proofs.lemmas.{makes_one, out_here}
 use Rattle.imp_node.specs.declared.waiting.Message.{Message}
 use Rattle.imp_node.specs.declared.waiting.Told.{Told}
@@ -296,7 +296,7 @@ within n s m o is carriable moved sound =
       here =
           makes_one move (view n g) (view next g) (Alive n g) (Alive next g)
           (record { offer = can_offer n s g o.at o.ready; free = number_free n s g o.at o.ready (ap goes is) o.dead })
-          (waits ∙ ap (λ (q : List Queued). (let v : View = record (after move (view n g)) { queue = q } in v)) (map-append queued_of to.queue (message k ∷ [])))
+          (waits ∙ ap (λ (q : List Queued). (let v : View = record (view_moved move (view n g)) { queue = q } in v)) (map-append queued_of to.queue (message k ∷ [])))
           (λ x. alive_or_made n next [] (λ (y : Packet). ⊥) g x only (All-nil (λ (p : PacketFields). ⊥)));
       shown = out_here m n.log;
     }) sound

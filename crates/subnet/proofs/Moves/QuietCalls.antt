@@ -7,7 +7,7 @@ use Rattle.packetiser.specs.PacketFields.{IsPacket}
 use Rattle.packetiser.specs.declared.packet.PacketKind.TheVariants as kind
 use Rattle.flow_law.proofs.lemmas.{silent_follows}
 use Rattle.imp_node.specs.declared.waiting.Message.{Message}
-use Rattle.imp_node.specs.State.{State, Turn}
+use Rattle.imp_node.specs.State.{State, ImpTurn}
 use Rattle.imp_node.specs.Flows.{answer_packet}
 use Rattle.imp_node.specs.Lines.{resend, route, end_down, end_up}
 use Rattle.imp_node.specs.Stopping.{abandon}
@@ -28,7 +28,7 @@ formats_less n m among formats = All-weaker (Contains (packets n)) IsPacket (λ 
 
 -- ---- a call of one IMP
 
-quiet_turn : (n : Net) (i : ℕ) (s : State) (turn : Turn) → imp_at n.imps i ≡ Some s → AllUnmoved s turn.state → IsImp i turn.state → turn.state.hosts ≡ s.hosts → NothingNew n (with_turn i turn n) → IsSound n → IsSound (with_turn i turn n)
+quiet_turn : (n : Net) (i : ℕ) (s : State) (turn : ImpTurn) → imp_at n.imps i ≡ Some s → AllUnmoved s turn.state → IsImp i turn.state → turn.state.hosts ≡ s.hosts → NothingNew n (with_turn i turn n) → IsSound n → IsSound (with_turn i turn n)
 quiet_turn n i s turn at still imp hosts among is =
     let m : Net = with_turn i turn n in
     record {
@@ -38,7 +38,7 @@ quiet_turn n i s turn at still imp hosts among is =
       answers = subst (All (λ (q : Message). IsPacket (answer_packet kind.Rfnm q.flow q.number))) (sym (same_messages n.imps i s turn.state at hosts)) is.answers;
     }
 
-quiet_call : (n : Net) (i : ℕ) (call : State → Turn) → ((s : State) → AllUnmoved s (call s).state) → ((s : State) → IsImp i s → IsImp i (call s).state) → ((s : State) → (call s).state.hosts ≡ s.hosts)
+quiet_call : (n : Net) (i : ℕ) (call : State → ImpTurn) → ((s : State) → AllUnmoved s (call s).state) → ((s : State) → IsImp i s → IsImp i (call s).state) → ((s : State) → (call s).state.hosts ≡ s.hosts)
     → NothingNew n (at_imp (imp_at n.imps i) i call n) → IsSound n → IsSound (at_imp (imp_at n.imps i) i call n)
 quiet_call n i call still keeps hosts among is = by (imp_at n.imps i) refl among where
   by : (o : Option State) → imp_at n.imps i ≡ o → NothingNew n (at_imp o i call n) → IsSound (at_imp o i call n)

@@ -14,10 +14,10 @@ use Rattle.subnet.specs.Alive.{has_data}
 use Rattle.subnet.specs.Calls.{grows_at}
 use Rattle.subnet.specs.Events.{first_of, has_end, at_up, at_imp, accepted, is_imp, offer_alive, offer_refusal, offer_out, host_stopped, host_started}
 use Rattle.subnet.specs.declared.imp_call.ImpCall.TheVariants as call
-use Rattle.subnet.specs.Inside.Calling.{call_turn, call_grows, IsLive, AreLive, Fails, Ends, Makes, Steps}
+use Rattle.subnet.specs.Inside.Calling.{call_turn, call_grows, IsLive, AreLive, Fails, CallEnds, Makes, Steps}
 
 -- a refusal that doesn't apply is passed over
-pub passed : {A T : Type 0} (b : Bool) (e : CarrierFault) (refusal : Option CarrierFault) (grows : Bool) (Gives : T → Type 0) (old new : A) (r : Result T CarrierFault) → b ≡ false → Ends refusal grows Gives old new r → Ends (first_of b e refusal) grows Gives old new r
+pub passed : {A T : Type 0} (b : Bool) (e : CarrierFault) (refusal : Option CarrierFault) (grows : Bool) (Gives : T → Type 0) (old new : A) (r : Result T CarrierFault) → b ≡ false → CallEnds refusal grows Gives old new r → CallEnds (first_of b e refusal) grows Gives old new r
 passed true e refusal grows Gives old new r untrue h = cc
 passed false e refusal grows Gives old new r untrue h = h
 
@@ -47,7 +47,7 @@ forget_step n new at from r made live here there apart gone =
     passed (not (is_imp n at && is_imp n from)) fault.NoSuch _ _ _ n new r (ap not (both _ _ here there))
     (passed (at == from) fault.NoSuch _ _ _ n new r apart
     (passed (has_data n from at) fault.StillAlive _ _ _ n new r gone
-    (subst (λ (o : Option CarrierFault). Ends o (grows_at (imp_at n.imps at) (call_grows (call.Forget from))) (λ (done : Unit {0}). new ≡ at_imp (imp_at n.imps at) at (call_turn (call.Forget from)) n) n new r) (forget_accepted at from (imp_at n.imps at) (live at) apart) made)))
+    (subst (λ (o : Option CarrierFault). CallEnds o (grows_at (imp_at n.imps at) (call_grows (call.Forget from))) (λ (done : Unit {0}). new ≡ at_imp (imp_at n.imps at) at (call_turn (call.Forget from)) n) n new r) (forget_accepted at from (imp_at n.imps at) (live at) apart) made)))
 
 -- ---- an offer
 
@@ -56,7 +56,7 @@ fails_more : {A : Type 0} (refusal : Option CarrierFault) (grows b : Bool) (e : 
 fails_more refusal grows true e old new h = (h.0, refl)
 fails_more refusal grows false e old new h = h
 
-pub offer_failed : (n new : Net) (m : HostMessage) (e : CarrierFault) → is_host n.hosts m.flow.source ≡ true → offer_alive n m.flow (imp_at n.imps m.flow.source.imp) ≡ false → Makes m.flow.source.imp (call.Offer m) n new (Err e) → Ends {T = Unit {0}} (offer_refusal n m) true (λ done. new ≡ offer_out n m) n new (Err e)
+pub offer_failed : (n new : Net) (m : HostMessage) (e : CarrierFault) → is_host n.hosts m.flow.source ≡ true → offer_alive n m.flow (imp_at n.imps m.flow.source.imp) ≡ false → Makes m.flow.source.imp (call.Offer m) n new (Err e) → CallEnds {T = Unit {0}} (offer_refusal n m) true (λ done. new ≡ offer_out n m) n new (Err e)
 offer_failed n new m e there gone made =
     passed (not (is_host n.hosts m.flow.source)) fault.NoSuch _ true (λ (done : Unit {0}). new ≡ offer_out n m) n new (Err e) (ap not there)
     (passed (offer_alive n m.flow (imp_at n.imps m.flow.source.imp)) fault.StillAlive _ true (λ (done : Unit {0}). new ≡ offer_out n m) n new (Err e) gone

@@ -19,7 +19,7 @@ use Rattle.flow_law.specs.Moves.{Move, shown_by}
 use Rattle.flow_law.specs.Follows.{Follows, passed_over}
 use Rattle.flow_law.proofs.lemmas.{answer_elsewhere, in_elsewhere, one_follows, out_elsewhere, silent_follows}
 use Rattle.imp_node.specs.declared.waiting.Message.{Message}
-use Rattle.imp_node.specs.State.{State, HostState, Turn}
+use Rattle.imp_node.specs.State.{State, HostState, ImpTurn}
 use Rattle.imp_node.specs.Contents as contents
 use Rattle.imp_node.specs.Flows.{answer_packet}
 use Rattle.imp_node.specs.Sides.{Sender, Receiver, sender, receiver, IsImp, Unmoved}
@@ -38,7 +38,7 @@ use Rattle.subnet.proofs.Moves.Views.{turn_view, alive_less, at_set}
 -- ---- the packets after a turn
 
 -- a turn that makes these packets
-pub turn_only : (n : Net) (i : ℕ) (s : State) (turn : Turn) (made : List PacketFields) → imp_at n.imps i ≡ Some s
+pub turn_only : (n : Net) (i : ℕ) (s : State) (turn : ImpTurn) (made : List PacketFields) → imp_at n.imps i ≡ Some s
     → (Has (Contains (packets n ++ made)) s → All (Contains (packets n ++ made)) made → TurnHas (Contains (packets n ++ made)) turn) → OnlyNew n made (with_turn i turn n)
 turn_only n i s turn made at has =
     let P : PacketFields → Type 0 = Contains (packets n ++ made) in
@@ -48,7 +48,7 @@ turn_only n i s turn made at has =
     net_packets P (with_turn i turn n) (with_turn_has P i turn n h (has (subst (ImpHas P) at (imp_has P n.imps i h.imps)) new))
 
 -- a turn that makes none
-pub turn_nothing : (n : Net) (i : ℕ) (s : State) (turn : Turn) → imp_at n.imps i ≡ Some s → (Has (Contains (packets n)) s → TurnHas (Contains (packets n)) turn) → NothingNew n (with_turn i turn n)
+pub turn_nothing : (n : Net) (i : ℕ) (s : State) (turn : ImpTurn) → imp_at n.imps i ≡ Some s → (Has (Contains (packets n)) s → TurnHas (Contains (packets n)) turn) → NothingNew n (with_turn i turn n)
 turn_nothing n i s turn at has =
     let P : PacketFields → Type 0 = Contains (packets n) in
     let h : NetHas P n = net_itself n in
@@ -127,7 +127,7 @@ pub destination_same : (imps : List (Option State)) (i : ℕ) (s t : State) (g :
 destination_same imps i s t g at still = same_at (λ (o : Option State). receiver_at o g) imps i g.destination.imp (Some t) None (still ∙ ap (λ (o : Option State). receiver_at o g) (sym at))
 
 -- both IMPs stay up, the sides are these now, and so is the box
-pub moved_view : (n : Net) (i : ℕ) (s : State) (turn : Turn) (entries : List Crossing) (g : Flow) (from : Sender) (to : Receiver) (box : Box) → imp_at n.imps i ≡ Some s
+pub moved_view : (n : Net) (i : ℕ) (s : State) (turn : ImpTurn) (entries : List Crossing) (g : Flow) (from : Sender) (to : Receiver) (box : Box) → imp_at n.imps i ≡ Some s
     → sender_at (imp_at (slice_set n.imps i (Some turn.state)) g.source.imp) g ≡ from
     → receiver_at (imp_at (slice_set n.imps i (Some turn.state)) g.destination.imp) g ≡ to
     → box_of g (entries ++ n.log) ≡ box
@@ -166,7 +166,7 @@ answer_crosses hosts told g log = record { ups = tt; unseen = λ f other. answer
 -- ---- the turn
 
 -- a turn of one IMP, with these crossings: a flow makes these moves and these packets, and all others stay
-pub record IsTurnOf (n : Net) (i : ℕ) (s : State) (turn : Turn) (entries : List Crossing) (g : Flow) (moves : List Move) (made : List PacketFields) : Type 0 where
+pub record IsTurnOf (n : Net) (i : ℕ) (s : State) (turn : ImpTurn) (entries : List Crossing) (g : Flow) (moves : List Move) (made : List PacketFields) : Type 0 where
   pub at : imp_at n.imps i ≡ Some s
   pub sound : IsImp i turn.state
   pub others : (f : Flow) → same_flow f g ≡ false → Unmoved s turn.state f
@@ -179,7 +179,7 @@ pub record IsTurnOf (n : Net) (i : ℕ) (s : State) (turn : Turn) (entries : Lis
   pub shown : passed_over g entries n.log ≡ shown_by moves (view n g)
 
 -- it keeps a subnet sound
-pub followed_turn : (n : Net) (i : ℕ) (s : State) (turn : Turn) (entries : List Crossing) (g : Flow) (moves : List Move) (made : List PacketFields)
+pub followed_turn : (n : Net) (i : ℕ) (s : State) (turn : ImpTurn) (entries : List Crossing) (g : Flow) (moves : List Move) (made : List PacketFields)
     → IsTurnOf n i s turn entries g moves made → IsSound n → IsSound (logging entries (with_turn i turn n))
 followed_turn n i s turn entries g moves made t is =
     let m : Net = logging entries (with_turn i turn n) in
@@ -203,7 +203,7 @@ followed_turn n i s turn entries g moves made t is =
 -- ---- a silent turn
 
 -- a turn of one IMP that moves no flow and makes nothing keeps a subnet sound
-pub silent_turn : (n : Net) (i : ℕ) (s : State) (turn : Turn) → imp_at n.imps i ≡ Some s → ((f : Flow) → Unmoved s turn.state f) → IsImp i turn.state → All Answerable (contents.messages turn.state)
+pub silent_turn : (n : Net) (i : ℕ) (s : State) (turn : ImpTurn) → imp_at n.imps i ≡ Some s → ((f : Flow) → Unmoved s turn.state f) → IsImp i turn.state → All Answerable (contents.messages turn.state)
     → NothingNew n (with_turn i turn n) → IsSound n → IsSound (with_turn i turn n)
 silent_turn n i s turn at still imp answers among is =
     let m : Net = with_turn i turn n in

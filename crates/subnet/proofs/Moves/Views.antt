@@ -7,7 +7,7 @@ use Rattle.leader1822.specs.Mailboxes.{Box, box_of}
 use Rattle.leader1822.specs.declared.address.Flow.{Flow}
 use Rattle.flow_law.specs.View.{Packet}
 use Rattle.imp_node.specs.declared.waiting.Message.{Message}
-use Rattle.imp_node.specs.State.{State, HostState, Turn}
+use Rattle.imp_node.specs.State.{State, HostState, ImpTurn}
 use Rattle.imp_node.specs.Contents as imp
 use Rattle.imp_node.specs.Sides.{Sender, Receiver, Unmoved}
 use Rattle.imp_node.proofs.lemmas.{same_at}
@@ -21,7 +21,7 @@ pub view_parts : (u v : Bool) (s t : Sender) (w x : Bool) (q r : Receiver) (b : 
 view_parts u v s t w x q r b from source to destination = rw (from, source, to, destination) refl
 
 -- a flow that a call of one IMP leaves alone
-pub turn_view : (n : Net) (i : ℕ) (s : State) (turn : Turn) (f : Flow) → imp_at n.imps i ≡ Some s → Unmoved s turn.state f → view (with_turn i turn n) f ≡ view n f
+pub turn_view : (n : Net) (i : ℕ) (s : State) (turn : ImpTurn) (f : Flow) → imp_at n.imps i ≡ Some s → Unmoved s turn.state f → view (with_turn i turn n) f ≡ view n f
 turn_view n i s turn f at still =
     let imps : List (Option State) = slice_set n.imps i (Some turn.state) in
     view_parts

@@ -9,9 +9,9 @@ use Rattle.flow_law.proofs.lemmas.{sound_run}
 use Rattle.subnet.specs.Net.{Net}
 use Rattle.subnet.specs.Events.{quiet_round}
 use Rattle.subnet.specs.Flows.{Alive, view}
-use Rattle.subnet.specs.Opening.{Ends, AreHosts, opening}
+use Rattle.subnet.specs.Opening.{Ends, AreHosts, opening_subnet}
 use Rattle.subnet.specs.Routed.{IsHostMessage, IsRouted}
-use Rattle.subnet.specs.Run.{Call, Offer, Take, Happen, Round, refusal, after, done_by, ran, OffersMessages}
+use Rattle.subnet.specs.Run.{Call, Offer, Take, Happen, Round, refusal, net_after, done_by, ran, OffersMessages}
 use Rattle.subnet.specs.Sound.{IsSound}
 use Rattle.subnet.proofs.Moves.EventSteps.{step_sound}
 use Rattle.subnet.proofs.Moves.Offers.{offer_sound}
@@ -28,9 +28,9 @@ record IsWhole (hosts : List Host) (n : Net) : Type 0 where
   sound : IsSound n
   routed : IsRouted n
 
-done : (hosts : List Host) (n : Net) (c : Call) → IsWhole hosts n → (refusal n c ≡ None → IsWhole hosts (after n c)) → IsWhole hosts (done_by (refusal n c) n c)
+done : (hosts : List Host) (n : Net) (c : Call) → IsWhole hosts n → (refusal n c ≡ None → IsWhole hosts (net_after n c)) → IsWhole hosts (done_by (refusal n c) n c)
 done hosts n c is accepted = by (refusal n c) accepted where
-  by : (o : Option CarrierFault) → (o ≡ None → IsWhole hosts (after n c)) → IsWhole hosts (done_by o n c)
+  by : (o : Option CarrierFault) → (o ≡ None → IsWhole hosts (net_after n c)) → IsWhole hosts (done_by o n c)
   by None accepted = accepted refl
   by (Some fault) accepted = is
 
@@ -67,15 +67,15 @@ ran_whole hosts n (Round ∷ calls) messages is = rounded hosts (ran calls n) (r
 
 -- ---- from the opening on
 
-opened_whole : (hosts : List Host) (sites : List (Option ℕ)) (ends : List Ends) (calls : List Call) → AreHosts hosts sites → length sites ≤ 17 → OffersMessages calls → IsWhole hosts (ran calls (opening hosts sites ends))
+opened_whole : (hosts : List Host) (sites : List (Option ℕ)) (ends : List Ends) (calls : List Call) → AreHosts hosts sites → length sites ≤ 17 → OffersMessages calls → IsWhole hosts (ran calls (opening_subnet hosts sites ends))
 opened_whole hosts sites ends calls are few messages =
-    ran_whole hosts (opening hosts sites ends) calls messages (record { same = refl; sound = opening_sound hosts sites ends are; routed = opening_routed hosts sites ends few })
+    ran_whole hosts (opening_subnet hosts sites ends) calls messages (record { same = refl; sound = opening_sound hosts sites ends are; routed = opening_routed hosts sites ends few })
 
-pub always_sound : (hosts : List Host) (sites : List (Option ℕ)) (ends : List Ends) (calls : List Call) → AreHosts hosts sites → length sites ≤ 17 → OffersMessages calls → IsSound (ran calls (opening hosts sites ends))
+pub always_sound : (hosts : List Host) (sites : List (Option ℕ)) (ends : List Ends) (calls : List Call) → AreHosts hosts sites → length sites ≤ 17 → OffersMessages calls → IsSound (ran calls (opening_subnet hosts sites ends))
 always_sound hosts sites ends calls are few messages = (opened_whole hosts sites ends calls are few messages).sound
 
-pub always_run : (hosts : List Host) (sites : List (Option ℕ)) (ends : List Ends) (calls : List Call) → AreHosts hosts sites → length sites ≤ 17 → OffersMessages calls → IsRun hosts (ran calls (opening hosts sites ends)).log
+pub always_run : (hosts : List Host) (sites : List (Option ℕ)) (ends : List Ends) (calls : List Call) → AreHosts hosts sites → length sites ≤ 17 → OffersMessages calls → IsRun hosts (ran calls (opening_subnet hosts sites ends)).log
 always_run hosts sites ends calls are few messages =
-    let n : Net = ran calls (opening hosts sites ends) in
+    let n : Net = ran calls (opening_subnet hosts sites ends) in
     let is : IsWhole hosts n = opened_whole hosts sites ends calls are few messages in
     subst (λ (hs : List Host). IsRun hs n.log) is.same (sound_run n.hosts n.log (view n) (Alive n) is.sound.flows)

@@ -13,7 +13,7 @@ use Rattle.imp_channel.specs.declared.frame.Content.TheVariants as content
 use Rattle.imp_channel.specs.declared.frame.Frame.{Frame}
 use Rattle.imp_channel.proofs.lemmas.{ContentHas}
 use Rattle.imp_node.specs.declared.outgoing.Outgoing.{Outgoing}
-use Rattle.imp_node.specs.State.{State, Turn}
+use Rattle.imp_node.specs.State.{State, ImpTurn}
 use Rattle.imp_node.proofs.lemmas.{All_left, All_right, Has, OutgoingHas, TurnHas, has_packets, packets_has}
 use Rattle.subnet.specs.Net.{Net, Wire, imp_at, wire_at, line_places, line_from, followed_by, with_frame, put_on, put_one, put_all, with_turn, frames_on, without_at, dropping}
 use Rattle.subnet.specs.Alive.{packets_on, packets_on_wire, packets_at_imp, packets}
@@ -169,7 +169,7 @@ put_all_has P lines i (out ∷ outs) has all =
 
 -- ---- calls of IMPs
 
-pub with_turn_has : (P : PacketFields → Type 0) (i : ℕ) (turn : Turn) (n : Net) → NetHas P n → TurnHas P turn → NetHas P (with_turn i turn n)
+pub with_turn_has : (P : PacketFields → Type 0) (i : ℕ) (turn : ImpTurn) (n : Net) → NetHas P n → TurnHas P turn → NetHas P (with_turn i turn n)
 with_turn_has P i turn n h t = record {
   imps = All-set (ImpHas P) n.imps i (Some turn.state) t.state h.imps;
   lines = put_all_has P n.lines i turn.frames h.lines t.frames;

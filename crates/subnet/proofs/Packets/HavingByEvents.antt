@@ -15,7 +15,7 @@ use Rattle.imp_channel.specs.declared.frame.Content.{Content}
 use Rattle.imp_channel.specs.declared.frame.Content.TheVariants as content
 use Rattle.imp_channel.specs.declared.frame.Frame.{Frame}
 use Rattle.imp_channel.proofs.lemmas.{ContentHas}
-use Rattle.imp_node.specs.State.{State, Turn}
+use Rattle.imp_node.specs.State.{State, ImpTurn}
 use Rattle.imp_node.specs.State as imp
 use Rattle.imp_node.specs.Arrival.{arrival, from_line}
 use Rattle.imp_node.specs.Offering.{from_host}
@@ -26,7 +26,7 @@ use Rattle.imp_node.specs.Making.{dead_for, from_host_makes, from_line_makes, to
 use Rattle.imp_node.proofs.lemmas.{Has, TurnHas, abandon_has, end_down_has, end_up_has, forget_has, from_host_has, from_line_has, give_up_has, host_down_has, host_up_has, resend_has, route_has, start_has, to_host_has}
 use Rattle.subnet.specs.Net.{Net, imp_at, wire_at, ends_at, port_of, frames_on, far_end}
 use Rattle.subnet.specs.Alive.{packets}
-use Rattle.subnet.specs.Events.{at_imp, logging, offer_out, taken, crossings_of, take_in, delivered, deliver, drop_frame, host_stopped, host_started, started_imp, hosts_at, site_at, imp_started, imp_stopped}
+use Rattle.subnet.specs.Events.{at_imp, logging, offer_out, taken_by_host, crossings_of, take_in, delivered, deliver, drop_frame, host_stopped, host_started, started_imp, hosts_at, site_at, imp_started, imp_stopped}
 use Rattle.subnet.specs.Making.{NothingNew, OnlyNew, made_at, offer_makes, take_makes, stop_makes, dead_made, frame_makes, deliver_makes}
 use Rattle.subnet.proofs.Packets.Having.{FrameHas, ImpHas, NetHas, GotHas, net_packets, packets_net, net_itself, imp_has, wire_has, way_has, got_has, with_turn_has, dropped_has}
 
@@ -36,17 +36,17 @@ logged_has : (P : PacketFields → Type 0) (entries : List Crossing) (n : Net) �
 logged_has P entries n h = record { imps = h.imps; lines = h.lines }
 
 -- one that makes packets
-making_has : (P : PacketFields → Type 0) (o : Option State) (i : ℕ) (call : State → Turn) (makes : State → List PacketFields) (n : Net)
+making_has : (P : PacketFields → Type 0) (o : Option State) (i : ℕ) (call : State → ImpTurn) (makes : State → List PacketFields) (n : Net)
     → NetHas P n → ImpHas P o → All P (made_at o makes) → ((s : State) → Has P s → All P (makes s) → TurnHas P (call s)) → NetHas P (at_imp o i call n)
 making_has P None i call makes n h has made each = h
 making_has P (Some s) i call makes n h has made each = with_turn_has P i (call s) n h (each s has made)
 
 -- one that makes none
-call_has : (P : PacketFields → Type 0) (o : Option State) (i : ℕ) (call : State → Turn) (n : Net) → NetHas P n → ImpHas P o → ((s : State) → Has P s → TurnHas P (call s)) → NetHas P (at_imp o i call n)
+call_has : (P : PacketFields → Type 0) (o : Option State) (i : ℕ) (call : State → ImpTurn) (n : Net) → NetHas P n → ImpHas P o → ((s : State) → Has P s → TurnHas P (call s)) → NetHas P (at_imp o i call n)
 call_has P None i call n h has each = h
 call_has P (Some s) i call n h has each = with_turn_has P i (call s) n h (each s has)
 
-quiet_call_has : (P : PacketFields → Type 0) (n : Net) (i : ℕ) (call : State → Turn) → NetHas P n → ((s : State) → Has P s → TurnHas P (call s)) → NetHas P (at_imp (imp_at n.imps i) i call n)
+quiet_call_has : (P : PacketFields → Type 0) (n : Net) (i : ℕ) (call : State → ImpTurn) → NetHas P n → ((s : State) → Has P s → TurnHas P (call s)) → NetHas P (at_imp (imp_at n.imps i) i call n)
 quiet_call_has P n i call h each = call_has P (imp_at n.imps i) i call n h (imp_has P n.imps i h.imps) each
 
 -- ---- the events that make packets
@@ -59,7 +59,7 @@ offer_has P n m h made =
 
 take_has : (P : PacketFields → Type 0) (n : Net) (h : Host) → NetHas P n → All P (take_makes n h) → NetHas P (take_in n h)
 take_has P n h has made =
-    logged_has P (crossings_of (taken n h)) (at_imp (imp_at n.imps h.imp) h.imp (λ s. to_host s h.host) n)
+    logged_has P (crossings_of (taken_by_host n h)) (at_imp (imp_at n.imps h.imp) h.imp (λ s. to_host s h.host) n)
     (making_has P (imp_at n.imps h.imp) h.imp (λ s. to_host s h.host) (λ s. to_host_makes s h.host) n has (imp_has P n.imps h.imp has.imps) made (λ s here rfnm. to_host_has P s h.host here rfnm))
 
 stop_has : (P : PacketFields → Type 0) (n : Net) (h : Host) → NetHas P n → All P (stop_makes n h) → NetHas P (host_stopped n h)
@@ -96,7 +96,7 @@ start_host_has P n h has =
     (quiet_call_has P n h.imp (λ s. host_up s h.host) has (λ s here. host_up_has P s h.host here))
 
 started_has : (P : PacketFields → Type 0) (i hosts ports : ℕ) → Has P (started_imp i hosts ports)
-started_has P i hosts ports = let h : Has P (imp.opening i hosts ports) = start_has P i hosts ports in record { store = h.store; lines = h.lines; slots = h.slots }
+started_has P i hosts ports = let h : Has P (imp.opening_node i hosts ports) = start_has P i hosts ports in record { store = h.store; lines = h.lines; slots = h.slots }
 
 start_imp_has : (P : PacketFields → Type 0) (n : Net) (i : ℕ) → NetHas P n → NetHas P (imp_started n i)
 start_imp_has P n i h =
@@ -131,7 +131,7 @@ pub deliver_only : (n : Net) (l : ℕ) (d : Direction) (k : ℕ) → OnlyNew n (
 deliver_only n l d k = makes_only n (deliver n l d k) (deliver_makes n l d k) (deliver_has (Contains (packets n ++ deliver_makes n l d k)) n l d k)
 
 -- a call of one IMP that makes none
-calls_nothing : (n : Net) (i : ℕ) (call : State → Turn) → ((s : State) → Has (Contains (packets n)) s → TurnHas (Contains (packets n)) (call s)) → NothingNew n (at_imp (imp_at n.imps i) i call n)
+calls_nothing : (n : Net) (i : ℕ) (call : State → ImpTurn) → ((s : State) → Has (Contains (packets n)) s → TurnHas (Contains (packets n)) (call s)) → NothingNew n (at_imp (imp_at n.imps i) i call n)
 calls_nothing n i call each = keeps n (at_imp (imp_at n.imps i) i call n) (λ h. quiet_call_has (Contains (packets n)) n i call h each)
 
 pub drop_nothing : (n : Net) (l : ℕ) (d : Direction) (k : ℕ) → NothingNew n (drop_frame n l d k)

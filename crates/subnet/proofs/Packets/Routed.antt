@@ -36,21 +36,21 @@ use Rattle.imp_node.specs.declared.outgoing.Outgoing.{Outgoing}
 use Rattle.imp_node.specs.declared.port.Port.{Port}
 use Rattle.imp_node.specs.declared.waiting.Message.{Message}
 use Rattle.imp_node.specs.declared.waiting.Told.{Told}
-use Rattle.imp_node.specs.State.{State, Turn, number, host_at, with_host, port_at}
+use Rattle.imp_node.specs.State.{State, ImpTurn, number, host_at, with_host, port_at}
 use Rattle.imp_node.specs.Room.{has_route}
 use Rattle.imp_node.specs.Flows.{answered_by}
 use Rattle.imp_node.specs.Arrival as arrivals
-use Rattle.imp_node.specs.Arrival.{Arrival, Passing, Old, Undeliverable, Piece, NoSlot, Unmarked, Answering, arrival, arrived, arrival_has_room, taken, acknowledged, heard, ignored, taken_frame, from_line}
+use Rattle.imp_node.specs.Arrival.{Arrival, Passing, Old, Undeliverable, Piece, NoSlot, Unmarked, Answering, arrival, arrived, arrival_has_room, frame_taken, acknowledged, vector_heard, ignored, taken_frame, from_line}
 use Rattle.imp_node.specs.Offering.{Way, Nowhere, Here, Away, way_of, offered, from_host}
-use Rattle.imp_node.specs.Pump.{Pumped, target, sent_on, sent, pumped, pump}
+use Rattle.imp_node.specs.Pump.{Pumped, target, sent_on, packet_sent, pumped, pump}
 use Rattle.imp_node.specs.Lines.{on_port, resent_by, resent_from, resend, told_by, told_from, route, end_down, end_up}
-use Rattle.imp_node.specs.Stopping.{give_up, forget, abandon, returned, all_returned, stopped, host_down, host_up}
+use Rattle.imp_node.specs.Stopping.{give_up, forget, abandon, message_returned, all_returned, stopped, host_down, host_up}
 use Rattle.imp_node.specs.Taking.{is_from_here, reply_has_room, replied, taken_by, to_host}
 use Rattle.subnet.specs.Net.{Net, Wire, imp_at, wire_at, ends_at, port_of, line_places, line_from, followed_by, with_frame, put_on, put_one, put_all, with_turn, frames_on, far_end, without_at, dropping}
 use Rattle.subnet.specs.Events as events
 use Rattle.subnet.specs.Events.{at_imp, logging, offer_out, crossings_of, take_in, delivered, deliver, drop_frame, quiet_round, host_stopped, host_started, started_imp, hosts_at, site_at, imp_stopped, imp_started, downs_at, stepped}
 use Rattle.subnet.specs.Offers.{IsCarriable, CanGo, CanGoFrom}
-use Rattle.subnet.specs.Opening.{Ends, empty_wire, opened, opened_from, opening}
+use Rattle.subnet.specs.Opening.{Ends, empty_wire, opened_imp, opened_from, opening_subnet}
 use Rattle.subnet.specs.Routed.{TellsVector, FrameTells, WireTells, HeardVector, ImpHeard, IsRouted, IsHostMessage}
 use Rattle.subnet.specs.Sound.{IsAt, IsSound}
 use Rattle.subnet.proofs.Calls.Rounds.{round_keeps}
@@ -61,7 +61,7 @@ abbrev OutTells : Outgoing → Type 0
 OutTells out = FrameTells out.frame
 
 -- an IMP after a call, and its frames
-record TurnTells (turn : Turn) : Type 0 where
+record TurnTells (turn : ImpTurn) : Type 0 where
   pub heard : All HeardVector turn.state.routes.heard
   pub frames : All OutTells turn.frames
 
@@ -69,7 +69,7 @@ sent_on_tells : (ports : List Port) (k : ℕ) (p : PacketFields) (e : End) (free
 sent_on_tells ports k p e None = All-nil OutTells
 sent_on_tells ports k p e (Some c) = All-cons OutTells _ [] tt (All-nil OutTells)
 
-sent_tells : (ports : List Port) (p : PacketFields) (next : Option ℕ) → All OutTells (sent ports p next).frames
+sent_tells : (ports : List Port) (p : PacketFields) (next : Option ℕ) → All OutTells (packet_sent ports p next).frames
 unfolding submitted
 sent_tells ports p None = All-nil OutTells
 sent_tells ports p (Some k) = sent_on_tells ports k p (port_at ports k).line _
@@ -77,7 +77,7 @@ sent_tells ports p (Some k) = sent_on_tells ports k p (port_at ports k).line _
 pumped_tells : (routes : Table) (ports : List Port) (ps : List PacketFields) → All OutTells (pumped routes ports ps).frames
 pumped_tells routes ports [] = All-nil OutTells
 pumped_tells routes ports (p ∷ ps) =
-    let one : Pumped = sent ports p (next_of routes (target p)) in
+    let one : Pumped = packet_sent ports p (next_of routes (target p)) in
     All-append OutTells one.frames (pumped routes one.ports ps).frames (sent_tells ports p (next_of routes (target p))) (pumped_tells routes one.ports ps)
 
 pump_tells : (frames : List Outgoing) (s : State) → All OutTells frames → All HeardVector s.routes.heard → TurnTells (pump frames s)
@@ -122,7 +122,7 @@ taken_by_routes h [] [] s = refl
 all_returned_routes : (ms : List Message) (s : State) → (all_returned ms s).routes ≡ s.routes
 all_returned_routes [] s = refl
 all_returned_routes (m ∷ others) s =
-    all_returned_routes others (returned m s) ∙ either_routes (reply_has_room s m) s (replied answer.Dead kind.Dead m s) s (replied_routes answer.Dead kind.Dead m s) refl
+    all_returned_routes others (message_returned m s) ∙ either_routes (reply_has_room s m) s (replied answer.Dead kind.Dead m s) s (replied_routes answer.Dead kind.Dead m s) refl
 
 -- a call that leaves what was heard
 same_heard : (s t : State) → t.routes ≡ s.routes → All HeardVector s.routes.heard → All HeardVector t.routes.heard
@@ -192,10 +192,10 @@ acknowledged_tells k s = All-cons OutTells (record { port = k; frame = acknowled
 frame_tells : (got : Result Received ChannelFault) (k : ℕ) (f : Frame) (s : State) → ((distances : List ℕ) → got ≡ Ok (received.Routes distances) → IsVector distances)
     → All HeardVector s.routes.heard → TurnTells (taken_frame got k f s)
 frame_tells (Ok (received.Fresh p)) k f s told here = at (arrival_has_room (arrival s p) s p) where
-  at : (room : Bool) → TurnTells (cond room (pump (acknowledged k (taken k f s)) (arrived (arrival s p) p (taken k f s))) (ignored s))
-  at true = pump_tells (acknowledged k (taken k f s)) (arrived (arrival s p) p (taken k f s)) (acknowledged_tells k (taken k f s)) (same_heard (taken k f s) (arrived (arrival s p) p (taken k f s)) (arrived_routes (arrival s p) p (taken k f s)) here)
+  at : (room : Bool) → TurnTells (cond room (pump (acknowledged k (frame_taken k f s)) (arrived (arrival s p) p (frame_taken k f s))) (ignored s))
+  at true = pump_tells (acknowledged k (frame_taken k f s)) (arrived (arrival s p) p (frame_taken k f s)) (acknowledged_tells k (frame_taken k f s)) (same_heard (frame_taken k f s) (arrived (arrival s p) p (frame_taken k f s)) (arrived_routes (arrival s p) p (frame_taken k f s)) here)
   at false = record { heard = here; frames = All-nil OutTells }
-frame_tells (Ok received.Repeat) k f s told here = pump_tells (acknowledged k (taken k f s)) (taken k f s) (acknowledged_tells k (taken k f s)) here
+frame_tells (Ok received.Repeat) k f s told here = pump_tells (acknowledged k (frame_taken k f s)) (frame_taken k f s) (acknowledged_tells k (frame_taken k f s)) here
 frame_tells (Ok received.AckOnly) k f s told here = quiet_tells _ here
 frame_tells (Ok (received.Routes distances)) k f s told here = quiet_tells _ (All-set HeardVector s.routes.heard k (Some distances) (told distances refl) here)
 frame_tells (Err fault) k f s told here = record { heard = here; frames = All-nil OutTells }
@@ -244,14 +244,14 @@ imp_heard (o ∷ imps) (suc i) all = imp_heard imps i (All-tail ImpHeard o imps 
 still_few : (imps : List (Option State)) (i : ℕ) (o : Option State) → length imps ≤ 17 → length (slice_set imps i o) ≤ 17
 still_few imps i o few = subst (λ (k : ℕ). k ≤ 17) (sym (length-set imps i o)) few
 
-turn_routed : (i : ℕ) (turn : Turn) (n : Net) → TurnTells turn → IsRouted n → IsRouted (with_turn i turn n)
+turn_routed : (i : ℕ) (turn : ImpTurn) (n : Net) → TurnTells turn → IsRouted n → IsRouted (with_turn i turn n)
 turn_routed i turn n t is = record {
   few = still_few n.imps i (Some turn.state) is.few;
   imps = All-set ImpHeard n.imps i (Some turn.state) t.heard is.imps;
   lines = put_all_tells n.lines i turn.frames is.lines t.frames;
 }
 
-call_routed : (n : Net) (i : ℕ) (call : State → Turn) → ((s : State) → All HeardVector s.routes.heard → TurnTells (call s)) → IsRouted n → IsRouted (at_imp (imp_at n.imps i) i call n)
+call_routed : (n : Net) (i : ℕ) (call : State → ImpTurn) → ((s : State) → All HeardVector s.routes.heard → TurnTells (call s)) → IsRouted n → IsRouted (at_imp (imp_at n.imps i) i call n)
 call_routed n i call tells is = by (imp_at n.imps i) (imp_heard n.imps i is.imps) where
   by : (o : Option State) → ImpHeard o → IsRouted (at_imp o i call n)
   by None here = is
@@ -266,7 +266,7 @@ pub offer_routed : (n : Net) (m : HostMessage) → IsRouted n → IsRouted (offe
 offer_routed n m is = logged_routed (crossing.Out m ∷ []) (at_imp (imp_at n.imps m.flow.source.imp) m.flow.source.imp (λ s. from_host s m) n) (call_routed n m.flow.source.imp (λ s. from_host s m) (from_host_tells m) is)
 
 pub take_routed : (n : Net) (h : Host) → IsRouted n → IsRouted (take_in n h)
-take_routed n h is = logged_routed (crossings_of (events.taken n h)) (at_imp (imp_at n.imps h.imp) h.imp (λ s. to_host s h.host) n) (call_routed n h.imp (λ s. to_host s h.host) (to_host_tells h.host) is)
+take_routed n h is = logged_routed (crossings_of (events.taken_by_host n h)) (at_imp (imp_at n.imps h.imp) h.imp (λ s. to_host s h.host) n) (call_routed n h.imp (λ s. to_host s h.host) (to_host_tells h.host) is)
 
 abbrev GotTells : Option Frame → Type 0
 GotTells None = Unit {0}
@@ -342,8 +342,8 @@ round_routed n is = round_keeps IsRouted (record { route = route_routed; resend 
 
 opened_heard : (i : ℕ) (sites : List (Option ℕ)) (ports : ℕ → ℕ) → All ImpHeard (opened_from i sites ports)
 opened_heard i [] ports = All-nil ImpHeard
-opened_heard i (site ∷ sites) ports = All-cons ImpHeard (opened i site (ports i)) (opened_from (i + 1) sites ports) (at site) (opened_heard (i + 1) sites ports) where
-  at : (o : Option ℕ) → ImpHeard (opened i o (ports i))
+opened_heard i (site ∷ sites) ports = All-cons ImpHeard (opened_imp i site (ports i)) (opened_from (i + 1) sites ports) (at site) (opened_heard (i + 1) sites ports) where
+  at : (o : Option ℕ) → ImpHeard (opened_imp i o (ports i))
   at None = tt
   at (Some hosts) = All-replicate HeardVector (ports i) None tt
 
@@ -355,7 +355,7 @@ empty_tells : (ends : List Ends) → All WireTells (map empty_wire ends)
 empty_tells [] = All-nil WireTells
 empty_tells (e ∷ ends) = All-cons WireTells (empty_wire e) (map empty_wire ends) (record { forward = All-nil FrameTells; back = All-nil FrameTells }) (empty_tells ends)
 
-pub opening_routed : (hosts : List Host) (sites : List (Option ℕ)) (ends : List Ends) → length sites ≤ 17 → IsRouted (opening hosts sites ends)
+pub opening_routed : (hosts : List Host) (sites : List (Option ℕ)) (ends : List Ends) → length sites ≤ 17 → IsRouted (opening_subnet hosts sites ends)
 opening_routed hosts sites ends few =
     let ports : ℕ → ℕ = λ i. count_by (ends_at i) (map empty_wire ends) in
     record { few = subst (λ (k : ℕ). k ≤ 17) (sym (opened_length 0 sites ports)) few; imps = opened_heard 0 sites ports; lines = empty_tells ends }

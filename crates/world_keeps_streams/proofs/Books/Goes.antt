@@ -5,7 +5,7 @@ use Rattle.leader1822.specs.Host.{Host}
 use Rattle.ncp_control.specs.declared.allocation.Allocation.{Allocation}
 use Rattle.host_keeps_streams.specs.Histories.{numbered}
 use Rattle.reset_law.specs.Stays as stay
-use Rattle.net_sim.specs.Book.{ended}
+use Rattle.net_sim.specs.Book.{life_ended}
 use Rattle.net_sim.specs.Safe.{receives, sends}
 use Rattle.net_sim.specs.Story.{Moment, event_in, events_of}
 use Rattle.net_sim.specs.declared.life.Life.{Life}
@@ -44,7 +44,7 @@ module _ (a b : Host) (Own Heard : List Moment → ℕ → ℕ → ℕ → ℕ �
     (keeps : (n : ℕ) → Keeps (stay.stays a b (events_of (y ∷ ms))) (stay.stays b a (events_of (y ∷ ms))) (j n).x (k n).x)
     (own_on : (receive send stamp g : ℕ) → Own ms receive send stamp g → Own (y ∷ ms) receive send stamp g)
     (heard_on : (s : Life) → IsOf s (lives_in ms) → s.host ≡ b → s.peer ≡ a → (g : ℕ) → Heard ms s.foreign s.socket s.partner_stamp g → Heard (y ∷ ms) s.foreign s.socket s.partner_stamp g) where
-  abbrev leaving_r : (x : Life) → stay.stays a b (events_of (y ∷ ms)) ≡ false → PresentR a b Own Heard ms j x → PresentR a b Own Heard (y ∷ ms) k (ended x)
+  abbrev leaving_r : (x : Life) → stay.stays a b (events_of (y ∷ ms)) ≡ false → PresentR a b Own Heard ms j x → PresentR a b Own Heard (y ∷ ms) k (life_ended x)
   leaving_r x off p = record {
     link = p.link;
     g = p.g;
@@ -58,7 +58,7 @@ module _ (a b : Host) (Own Heard : List Moment → ℕ → ℕ → ℕ → ℕ �
     over = λ o. refl;
   }
 
-  abbrev leaving_s : (s : Life) → IsOf s (lives_in ms) → s.host ≡ b → s.peer ≡ a → stay.stays b a (events_of (y ∷ ms)) ≡ false → PresentS a b Own Heard ms j s → PresentS a b Own Heard (y ∷ ms) k (ended s)
+  abbrev leaving_s : (s : Life) → IsOf s (lives_in ms) → s.host ≡ b → s.peer ≡ a → stay.stays b a (events_of (y ∷ ms)) ≡ false → PresentS a b Own Heard ms j s → PresentS a b Own Heard (y ∷ ms) k (life_ended s)
   leaving_s s there f g off p = record {
     link = p.link;
     g = p.g;
@@ -94,8 +94,8 @@ module _ (a b : Host) (Own Heard : List Moment → ℕ → ℕ → ℕ → ℕ �
 
   pub left_has_r : stay.stays a b (events_of (y ∷ ms)) ≡ false → Away a b (lives_in ms) (lives_in (y ∷ ms)) → (n c : ℕ) → HasR a b Own Heard ms j n c → HasR a b Own Heard (y ∷ ms) k n c
   left_has_r off away n c h = record {
-    life = ended h.life;
-    there = in_now (ended h.life) (still_there a b (since a b ms) (lives_in ms) (lives_in (y ∷ ms)) (since_bound a b ms) away h.life h.there h.host h.peer);
+    life = life_ended h.life;
+    there = in_now (life_ended h.life) (still_there a b (since a b ms) (lives_in ms) (lives_in (y ∷ ms)) (since_bound a b ms) away h.life h.there h.host h.peer);
     host = h.host;
     peer = h.peer;
     kind = h.kind;
@@ -106,8 +106,8 @@ module _ (a b : Host) (Own Heard : List Moment → ℕ → ℕ → ℕ → ℕ �
 
   pub left_has_s : stay.stays b a (events_of (y ∷ ms)) ≡ false → Away b a (lives_in ms) (lives_in (y ∷ ms)) → (n c : ℕ) → HasS a b Own Heard ms j n c → HasS a b Own Heard (y ∷ ms) k n c
   left_has_s off away n c h = record {
-    life = ended h.life;
-    there = in_now (ended h.life) (still_there b a (since a b ms) (lives_in ms) (lives_in (y ∷ ms)) (since_bound a b ms) away h.life h.there h.host h.peer);
+    life = life_ended h.life;
+    there = in_now (life_ended h.life) (still_there b a (since a b ms) (lives_in ms) (lives_in (y ∷ ms)) (since_bound a b ms) away h.life h.there h.host h.peer);
     host = h.host;
     peer = h.peer;
     kind = h.kind;

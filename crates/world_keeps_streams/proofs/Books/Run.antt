@@ -14,7 +14,7 @@ use Rattle.net_sim.specs.Story.{Moment, event_in, events_of}
 use Rattle.net_sim.specs.Timeline.{IsTimeline, crossings_of}
 use Rattle.net_sim.specs.declared.life.Life.{Life}
 use Rattle.world_keeps_streams.specs.Calls.{own_calls}
-use Rattle.world_keeps_streams.proofs.Steps.Joined.{Joined, Keeps, turned}
+use Rattle.world_keeps_streams.proofs.Steps.Joined.{Joined, Keeps, numbered_by_peer}
 use Rattle.world_keeps_streams.proofs.Calls.Chain.{mail_below}
 use Rattle.world_keeps_streams.proofs.Lives.Lists.{IsOf}
 use Rattle.world_keeps_streams.proofs.Requests.Sides.{Lawful, lives_in}
@@ -30,7 +30,7 @@ pub record Given (hosts : List Host) (a b : Host) (Own Heard : List Moment → �
   pub matched : (ms : List Moment) → Lawful hosts ms → (x s : Life) (g : ℕ) → IsOf x (lives_in ms) → IsOf s (lives_in ms) → (x.host ≡ a) × (x.peer ≡ b) → (s.host ≡ b) × (s.peer ≡ a) → (x.socket ≡ s.foreign) × (x.foreign ≡ s.socket)
       → receives x ≡ true → Own ms x.socket x.foreign x.own_stamp g → Heard ms s.foreign s.socket s.partner_stamp g → Match (crossings_of ms) x s
   -- the streams
-  pub starts : (n : ℕ) → (j : Joined a b (suc n) []) × (j.x ≡ streams.opening)
+  pub starts : (n : ℕ) → (j : Joined a b (suc n) []) × (j.x ≡ streams.opening_stream)
   pub meets : (y : Moment) (ms : List Moment) → Lawful hosts (y ∷ ms) → stay.begins a b (event_in y) (events_of ms) ≡ true → (n : ℕ) → Joined a b (suc n) (y ∷ ms)
   pub goes : (y : Moment) (ms : List Moment) → Lawful hosts (y ∷ ms) → stay.begins a b (event_in y) (events_of ms) ≡ false → (n : ℕ) (j : Joined a b (suc n) ms)
       → (k : Joined a b (suc n) (y ∷ ms)) × Keeps (stay.stays a b (events_of (y ∷ ms))) (stay.stays b a (events_of (y ∷ ms))) j.x k.x
@@ -38,7 +38,7 @@ pub record Given (hosts : List Host) (a b : Host) (Own Heard : List Moment → �
   pub carried_r : (ms : List Moment) → Lawful hosts ms → stay.stays a b (events_of ms) ≡ true → (x : Life) → IsOf x (present_in a b ms) → x.host ≡ a → x.peer ≡ b → receives x ≡ true → Receives a b Own Heard ms x
   pub carried_s : (ms : List Moment) → Lawful hosts ms → stay.stays b a (events_of ms) ≡ true → (s : Life) → IsOf s (present_in a b ms) → s.host ≡ b → s.peer ≡ a → sends s ≡ true → Sends a b Own Heard ms s
   pub taken_by : (ms : List Moment) → Lawful hosts ms → stay.stays a b (events_of ms) ≡ true → (n c : ℕ) → 1 ≤ ((receiver_now numbered b (suc n) (own_calls a b ms)).granted c).messages → HasReceives a b Own Heard ms n c
-  pub sent_by : (ms : List Moment) → Lawful hosts ms → stay.stays b a (events_of ms) ≡ true → (n c : ℕ) → ((sender_now turned a (suc n) (own_calls b a ms)).sent c ≡ [] → ⊥) → HasSends a b Own Heard ms n c
+  pub sent_by : (ms : List Moment) → Lawful hosts ms → stay.stays b a (events_of ms) ≡ true → (n c : ℕ) → ((sender_now numbered_by_peer a (suc n) (own_calls b a ms)).sent c ≡ [] → ⊥) → HasSends a b Own Heard ms n c
   -- and of one that leaves, or has left
   pub away_r : (y : Moment) (ms : List Moment) → Lawful hosts (y ∷ ms) → stay.stays a b (events_of (y ∷ ms)) ≡ false → Away a b (lives_in ms) (lives_in (y ∷ ms))
   pub away_s : (y : Moment) (ms : List Moment) → Lawful hosts (y ∷ ms) → stay.stays b a (events_of (y ∷ ms)) ≡ false → Away b a (lives_in ms) (lives_in (y ∷ ms))
@@ -128,7 +128,7 @@ module _ (hosts : List Host) (a b : Host) (Own Heard : List Moment → ℕ → �
     bound = omega arith;
     receiving = λ x i. absurd i;
     sending = λ x i. absurd i;
-    has_receiver = λ n c some. (let e : 1 ≤ (streams.opening.receiver.granted c).messages = subst (λ (x : Stream). 1 ≤ (x.receiver.granted c).messages) (given.starts n).1 some in absurd (omega (arith, e)));
+    has_receiver = λ n c some. (let e : 1 ≤ (streams.opening_stream.receiver.granted c).messages = subst (λ (x : Stream). 1 ≤ (x.receiver.granted c).messages) (given.starts n).1 some in absurd (omega (arith, e)));
     has_sender = λ n c some. absurd (some (ap (λ (x : Stream). x.sender.sent c) (given.starts n).1));
   }
 

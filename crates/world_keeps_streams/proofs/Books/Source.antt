@@ -2,7 +2,7 @@
 use Rattle.std.proofs.Common.{◌≡◌, ◌⊎◌, inl, inr, ℕ, suc, ◌+◌, ◌≤◌, Bool, true, List, [], ◌∷◌, length, refl, ap, sym, subst, ◌∙◌, arith}
 use Rattle.leader1822.specs.Host.{Host}
 use Rattle.ncp_control.specs.declared.allocation.Allocation.{Allocation}
-use Rattle.stream_law.specs.Within.{IsSafe, bits_in}
+use Rattle.stream_law.specs.Within.{IsSafe, message_bits}
 use Rattle.host_keeps_streams.specs.Histories.{numbered}
 use Rattle.host_keeps_streams.proofs.lemmas.{numbered_tells}
 use Rattle.net_sim.specs.Safe as book
@@ -80,7 +80,7 @@ module _ (a b : Host) (Own Heard : List Moment → ℕ → ℕ → ℕ → ℕ �
         let safe : IsSafe (w.j p.link).x (numbered s.foreign s.socket p.g) = safe_inv (w.j p.link).x (w.j p.link).joint.inv_x (numbered s.foreign s.socket p.g) in
         let one : 1 ≤ length ((w.j p.link).x.sender.sent (numbered s.foreign s.socket p.g)) = some_sent ((w.j p.link).x.sender.sent (numbered s.foreign s.socket p.g)) some in
         let in_messages : length ((w.j p.link).x.sender.sent (numbered s.foreign s.socket p.g)) + ((w.j p.link).x.receiver.returned (numbered s.foreign s.socket p.g)).messages ≤ ((w.j p.link).x.receiver.granted (numbered s.foreign s.socket p.g)).messages = safe.sent.in_messages in
-        let in_bits : bits_in ((w.j p.link).x.sender.sent (numbered s.foreign s.socket p.g)) + ((w.j p.link).x.receiver.returned (numbered s.foreign s.socket p.g)).bits ≤ ((w.j p.link).x.receiver.granted (numbered s.foreign s.socket p.g)).bits = safe.sent.in_bits in
+        let in_bits : message_bits ((w.j p.link).x.sender.sent (numbered s.foreign s.socket p.g)) + ((w.j p.link).x.receiver.returned (numbered s.foreign s.socket p.g)).bits ≤ ((w.j p.link).x.receiver.granted (numbered s.foreign s.socket p.g)).bits = safe.sent.in_bits in
         let h : HasR a b Own Heard ms w.j p.link (numbered s.foreign s.socket p.g) = w.has_receiver p.link (numbered s.foreign s.socket p.g) (omega (arith, one, in_messages)) in
         let granted : (w.j h.is.link).x.receiver.granted (numbered h.life.socket h.life.foreign h.is.g) ≡ (w.j p.link).x.receiver.granted (numbered s.foreign s.socket p.g) =
         ap (λ (n : ℕ). (w.j n).x.receiver.granted (numbered h.life.socket h.life.foreign h.is.g)) h.link ∙ ap (λ (n : ℕ). (w.j p.link).x.receiver.granted n) h.name in
@@ -91,7 +91,7 @@ module _ (a b : Host) (Own Heard : List Moment → ℕ → ℕ → ℕ → ℕ �
         let rm : h.life.returned.messages ≡ ((w.j p.link).x.receiver.returned (numbered s.foreign s.socket p.g)).messages = h.is.returned_messages ∙ ap (λ (v : Allocation). v.messages) returned in
         let rb : h.life.returned.bits ≡ ((w.j p.link).x.receiver.returned (numbered s.foreign s.socket p.g)).bits = h.is.returned_bits ∙ ap (λ (v : Allocation). v.bits) returned in
         let sm : s.messages ≡ length ((w.j p.link).x.sender.sent (numbered s.foreign s.socket p.g)) = p.gave.messages in
-        let sb : length s.bits ≡ bits_in ((w.j p.link).x.sender.sent (numbered s.foreign s.socket p.g)) = ap (λ (bs : List Bool). length bs) p.gave.bits ∙ all_bits_length ((w.j p.link).x.sender.sent (numbered s.foreign s.socket p.g)) in
+        let sb : length s.bits ≡ message_bits ((w.j p.link).x.sender.sent (numbered s.foreign s.socket p.g)) = ap (λ (bs : List Bool). length bs) p.gave.bits ∙ all_bits_length ((w.j p.link).x.sender.sent (numbered s.foreign s.socket p.g)) in
         record {
           receiver = h.life;
           there = h.there;

@@ -3,7 +3,7 @@ use Rattle.std.proofs.Common.{◌≡◌, ℕ, ◌+◌, ◌≤◌, Bool, List, []
 use Rattle.std.proofs.lemmas.List.{append_assoc, length-append}
 use Rattle.net_sim.specs.Safe as book
 use Rattle.stream_law.specs.Streams.{Stream}
-use Rattle.stream_law.specs.Within.{bits_in, AreGranted, IsFront, IsSafe}
+use Rattle.stream_law.specs.Within.{message_bits, AreGranted, IsFront, IsSafe}
 use Rattle.stream_law.proofs.lemmas.{Account, Bits, Counter, Inv, Messages, total, total_bits, total_front, total_messages}
 use Rattle.world_keeps_streams.proofs.Carried.Streams.{all_bits}
 
@@ -14,7 +14,7 @@ granted_as x h c ms less =
     let k : total Messages ms ≤ total Messages (x.sender.sent c) = less Messages in
     let l : total Bits ms ≤ total Bits (x.sender.sent c) = less Bits in
     let m : total Messages ms ≡ length ms = total_messages ms in
-    let n : total Bits ms ≡ bits_in ms = total_bits ms in
+    let n : total Bits ms ≡ message_bits ms = total_bits ms in
     record { in_messages = omega (arith, a, k, m); in_bits = omega (arith, b, l, n) }
 
 pub safe_inv : (x : Stream) → Inv x → (c : ℕ) → IsSafe x c
@@ -30,7 +30,7 @@ all_bits_append : (xs ys : List (List Bool)) → all_bits (xs ++ ys) ≡ all_bit
 all_bits_append [] ys = refl
 all_bits_append (x ∷ xs) ys = ap (λ (bs : List Bool). x ++ bs) (all_bits_append xs ys) ∙ sym (append_assoc x (all_bits xs) (all_bits ys))
 
-pub all_bits_length : (xs : List (List Bool)) → length (all_bits xs) ≡ bits_in xs
+pub all_bits_length : (xs : List (List Bool)) → length (all_bits xs) ≡ message_bits xs
 all_bits_length [] = refl
 all_bits_length (x ∷ xs) = length-append x (all_bits xs) ∙ ap (λ (n : ℕ). length x + n) (all_bits_length xs)
 

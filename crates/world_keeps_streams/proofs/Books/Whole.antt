@@ -5,13 +5,13 @@ use Rattle.stream_law.specs.Receivers.{Receiver}
 use Rattle.stream_law.specs.Senders.{Sender}
 use Rattle.host_keeps_streams.specs.Histories.{numbered, receiver_now, sender_now}
 use Rattle.reset_law.specs.Stays as stay
-use Rattle.net_sim.specs.Book.{ended}
+use Rattle.net_sim.specs.Book.{life_ended}
 use Rattle.net_sim.specs.Safe as book
 use Rattle.net_sim.specs.Safe.{IsGranted, Match, receives, sends}
 use Rattle.net_sim.specs.Story.{Moment, event_in, events_of}
 use Rattle.net_sim.specs.declared.life.Life.{Life}
 use Rattle.world_keeps_streams.specs.Calls.{own_calls}
-use Rattle.world_keeps_streams.proofs.Steps.Joined.{Joined, turned}
+use Rattle.world_keeps_streams.proofs.Steps.Joined.{Joined, numbered_by_peer}
 use Rattle.world_keeps_streams.proofs.Carried.Streams.{all_bits}
 use Rattle.world_keeps_streams.proofs.Lives.Lists.{IsOf, of_drop, of_either, of_left, of_map, of_mapped, drop_grown}
 use Rattle.world_keeps_streams.proofs.Requests.Sides.{lives_in}
@@ -43,7 +43,7 @@ pub record Away (h p : Host) (old new : List Life) : Type 0 where
   pub more : List Life
   pub is : new ≡ map change old ++ more
   pub names : (x : Life) → ((change x).host ≡ x.host) × ((change x).peer ≡ x.peer)
-  pub over : (x : Life) → IsOf x old → x.host ≡ h → x.peer ≡ p → change x ≡ ended x
+  pub over : (x : Life) → IsOf x old → x.host ≡ h → x.peer ≡ p → change x ≡ life_ended x
   pub none : (x : Life) → IsOf x more → x.host ≡ h → x.peer ≡ p → ⊥
 
 pub record Was (h p : Host) (n : ℕ) (old : List Life) (x : Life) : Type 0 where
@@ -51,7 +51,7 @@ pub record Was (h p : Host) (n : ℕ) (old : List Life) (x : Life) : Type 0 wher
   pub there : IsOf life (drop n old)
   pub host : life.host ≡ h
   pub peer : life.peer ≡ p
-  pub is : x ≡ ended life
+  pub is : x ≡ life_ended life
 
 pub nil_bits : (bs : List Bool) → bs ++ [] ≡ bs
 nil_bits [] = refl
@@ -72,7 +72,7 @@ module _ (a b : Host) (Own Heard : List Moment → ℕ → ℕ → ℕ → ℕ �
   pub record Sends (ms : List Moment) (s : Life) : Type 0 where
     pub link : ℕ
     pub g : ℕ
-    pub gave : Gave s (sender_now turned a (suc link) (own_calls b a ms)) (numbered s.foreign s.socket g)
+    pub gave : Gave s (sender_now numbered_by_peer a (suc link) (own_calls b a ms)) (numbered s.foreign s.socket g)
     pub heard : Heard ms s.foreign s.socket s.partner_stamp g
 
   pub record HasReceives (ms : List Moment) (n c : ℕ) : Type 0 where
@@ -190,7 +190,7 @@ was_there h p n old new less w x i f g =
       | inr new_one ↦ absurd (w.none x new_one f g)
     ]
 
-pub still_there : (h p : Host) (n : ℕ) (old new : List Life) → n ≤ length old → (w : Away h p old new) → (x : Life) → IsOf x (drop n old) → x.host ≡ h → x.peer ≡ p → IsOf (ended x) (drop n new)
+pub still_there : (h p : Host) (n : ℕ) (old new : List Life) → n ≤ length old → (w : Away h p old new) → (x : Life) → IsOf x (drop n old) → x.host ≡ h → x.peer ≡ p → IsOf (life_ended x) (drop n new)
 still_there h p n old new less w x i f g =
-    subst (λ (l : List Life). IsOf (ended x) l) (sym (ap (drop n) w.is ∙ drop_grown w.change n old w.more less))
-    (of_left (ended x) (map w.change (drop n old)) w.more (subst (λ (v : Life). IsOf v (map w.change (drop n old))) (w.over x (of_drop n x old i) f g) (of_map w.change x (drop n old) i)))
+    subst (λ (l : List Life). IsOf (life_ended x) l) (sym (ap (drop n) w.is ∙ drop_grown w.change n old w.more less))
+    (of_left (life_ended x) (map w.change (drop n old)) w.more (subst (λ (v : Life). IsOf v (map w.change (drop n old))) (w.over x (of_drop n x old i) f g) (of_map w.change x (drop n old) i)))

@@ -6,9 +6,9 @@ use Rattle.leader1822.specs.declared.crossing.Crossing.TheVariants as crossing
 use Rattle.leader1822.proofs.lemmas.{same_host-true}
 use Rattle.ncp_control.specs.Numbers.{is_byte_size, is_receive_socket, is_send_socket}
 use Rattle.ncp_control.specs.declared.command.Command.{Command}
-use Rattle.host_pairs.specs.Commands.{taken}
+use Rattle.host_pairs.specs.Commands.{desk_taken}
 use Rattle.host_pairs.specs.Control.{Legal, Order, Wrong, error, orders_of}
-use Rattle.host_pairs.specs.Desk.{desk_of, listens_on, queued}
+use Rattle.host_pairs.specs.Desk.{desk_of, listens_on, command_queued}
 use Rattle.host_pairs.specs.Entries.{is_busy}
 use Rattle.host_pairs.specs.Pair.{PairState}
 use Rattle.host_pairs.specs.Parcels as parcel
@@ -52,13 +52,13 @@ module _ (peer : Host) (stamp : ℕ) where
   heard_sizes : (orders : List Order) (t : TurnState) (older : List calls.Moment) → AreJoint orders → AreOrders orders → is_ready t.pair.phase ≡ true → DeskRanged t → AllSizes older → AllSizes (orders_heard peer stamp orders t older)
   heard_sizes [] t older joint legal ready r h = h
   heard_sizes (Legal c ∷ orders) t older joint legal ready r h =
-      let next : order_taken peer stamp (Legal c) t ≡ with_desk t (taken peer t.pair.busy stamp c (desk_of t.pair t.listening)) = ready_when peer stamp (Legal c) t joint.0 ready in
-      let now : Ranged (taken peer t.pair.busy stamp c (desk_of t.pair t.listening)) = ranged_taken peer t.pair.busy stamp c (desk_of t.pair t.listening) legal.0 r in
+      let next : order_taken peer stamp (Legal c) t ≡ with_desk t (desk_taken peer t.pair.busy stamp c (desk_of t.pair t.listening)) = ready_when peer stamp (Legal c) t joint.0 ready in
+      let now : Ranged (desk_taken peer t.pair.busy stamp c (desk_of t.pair t.listening)) = ranged_taken peer t.pair.busy stamp c (desk_of t.pair t.listening) legal.0 r in
       heard_sizes orders (order_taken peer stamp (Legal c) t) (called (Hears stamp 0 c) t.pair t.listening ∷ older) joint.1 legal.1 (ap (λ (u : TurnState). is_ready u.pair.phase) next ∙ ready)
       (subst (λ (u : TurnState). DeskRanged u) (sym next) (record { ends = now.ends; commands = now.commands; sizes = now.sizes })) ((legal.0, r.sizes), h)
   heard_sizes (Wrong code octets ∷ orders) t older joint legal ready r h =
-      let next : order_taken peer stamp (Wrong code octets) t ≡ with_desk t (queued (error code octets) (desk_of t.pair t.listening)) = ready_when peer stamp (Wrong code octets) t joint.0 ready in
-      let now : Ranged (queued (error code octets) (desk_of t.pair t.listening)) = ranged_error code octets (desk_of t.pair t.listening) legal.0.0 legal.0.1 r in
+      let next : order_taken peer stamp (Wrong code octets) t ≡ with_desk t (command_queued (error code octets) (desk_of t.pair t.listening)) = ready_when peer stamp (Wrong code octets) t joint.0 ready in
+      let now : Ranged (command_queued (error code octets) (desk_of t.pair t.listening)) = ranged_error code octets (desk_of t.pair t.listening) legal.0.0 legal.0.1 r in
       heard_sizes orders (order_taken peer stamp (Wrong code octets) t) older joint.1 legal.1 (ap (λ (u : TurnState). is_ready u.pair.phase) next ∙ ready)
       (subst (λ (u : TurnState). DeskRanged u) (sym next) (record { ends = now.ends; commands = now.commands; sizes = now.sizes })) h
 

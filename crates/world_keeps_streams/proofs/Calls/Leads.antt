@@ -6,10 +6,10 @@ use Rattle.leader1822.specs.declared.crossing.Answer.TheVariants as answer
 use Rattle.ncp_control.specs.declared.command.Command.{Command}
 use Rattle.ncp_control.specs.declared.command.Command.TheVariants as command
 use Rattle.host_pairs.specs.Allowed.{MayGo}
-use Rattle.host_pairs.specs.Commands.{taken}
+use Rattle.host_pairs.specs.Commands.{desk_taken}
 use Rattle.host_pairs.specs.Control.{Order, Legal, Wrong, error, orders_of}
 use Rattle.host_pairs.specs.Data.{data_taken}
-use Rattle.host_pairs.specs.Desk.{DeskState, desk_of, queued, settled}
+use Rattle.host_pairs.specs.Desk.{DeskState, desk_of, command_queued, settled}
 use Rattle.host_pairs.specs.Pair.{PairState}
 use Rattle.host_pairs.specs.Parcels as parcel
 use Rattle.host_pairs.specs.Parcels.{Parcel, command_gone, commands_gone, pair_after, parcel_gone, with_connections}
@@ -73,11 +73,11 @@ module _ (peer : Host) (stamp : ℕ) where
       → IsHistory peer (orders_heard peer stamp orders t older ++ base) × (ends_now peer (orders_heard peer stamp orders t older ++ base) ≡ (orders_taken peer stamp orders t).pair.entries)
   heard_leads [] t older base joint ready h e = (h, e)
   heard_leads (Legal c ∷ orders) t older base joint ready h e =
-      let next : order_taken peer stamp (Legal c) t ≡ with_desk t (taken peer t.pair.busy stamp c (desk_of t.pair t.listening)) = ready_when peer stamp (Legal c) t joint.0 ready in
+      let next : order_taken peer stamp (Legal c) t ≡ with_desk t (desk_taken peer t.pair.busy stamp c (desk_of t.pair t.listening)) = ready_when peer stamp (Legal c) t joint.0 ready in
       heard_leads orders (order_taken peer stamp (Legal c) t) (called (Hears stamp 0 c) t.pair t.listening ∷ older) base joint.1 (ap (λ (u : TurnState). is_ready u.pair.phase) next ∙ ready)
       (sym e, h) (sym (ap (λ (u : TurnState). u.pair.entries) next))
   heard_leads (Wrong code octets ∷ orders) t older base joint ready h e =
-      let next : order_taken peer stamp (Wrong code octets) t ≡ with_desk t (queued (error code octets) (desk_of t.pair t.listening)) = ready_when peer stamp (Wrong code octets) t joint.0 ready in
+      let next : order_taken peer stamp (Wrong code octets) t ≡ with_desk t (command_queued (error code octets) (desk_of t.pair t.listening)) = ready_when peer stamp (Wrong code octets) t joint.0 ready in
       heard_leads orders (order_taken peer stamp (Wrong code octets) t) older base joint.1 (ap (λ (u : TurnState). is_ready u.pair.phase) next ∙ ready)
       h (e ∙ sym (ap (λ (u : TurnState). u.pair.entries) next))
 

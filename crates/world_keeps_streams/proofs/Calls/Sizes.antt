@@ -10,7 +10,7 @@ use Rattle.ncp_control.specs.declared.command.Command.TheVariants as command
 use Rattle.ncp_control.specs.declared.data_header.DataHeader.{DataHeader}
 use Rattle.host_pairs.specs.Asked.{receiver_requested}
 use Rattle.host_pairs.specs.Commands as commands
-use Rattle.host_pairs.specs.Commands.{Ending, Found, Open, Unconnected, all_taken, at_end, cls_taken_by, gvb_taken, interrupted, matched_once, receiver_on, ret_taken, rts_heard, rts_taken_by, sender_on, str_heard, str_linked, str_taken_by, taken}
+use Rattle.host_pairs.specs.Commands.{Ending, Found, Open, Unconnected, all_taken, at_end, cls_taken_by, gvb_taken, interrupted, matched_once, receiver_on, ret_taken, rts_heard, rts_taken_by, sender_on, str_heard, str_linked, str_taken_by, desk_taken}
 use Rattle.host_pairs.specs.Control.{ERRONEOUS}
 use Rattle.host_pairs.specs.Data.{arrived_if, data_found, is_acceptable}
 use Rattle.host_pairs.specs.Desk.{DeskState, listener_on}
@@ -97,7 +97,7 @@ end_sized c change Unconnected d k h = h
 end_sized c change Ending d k h = h
 end_sized c change (Open e) d k h = k e
 
-taken_sized : (peer : Host) (busy : List ℕ) (stamp : ℕ) (c : Command) (d : DeskState) → IsCommand c → AreSizes d.listening → AreSized d.entries → AreSized (taken peer busy stamp c d).entries
+taken_sized : (peer : Host) (busy : List ℕ) (stamp : ℕ) (c : Command) (d : DeskState) → IsCommand c → AreSizes d.listening → AreSized d.entries → AreSized (desk_taken peer busy stamp c d).entries
 taken_sized peer busy stamp command.Nop d ok sizes h = h
 taken_sized peer busy stamp (command.Rts receive send link) d ok sizes h =
     either (list_any (sends_on link) d.entries) (commands.faulted ERRONEOUS (command.Rts receive send link) d) (rts_taken_by peer send receive link stamp (entry_at send receive d.entries) d) h

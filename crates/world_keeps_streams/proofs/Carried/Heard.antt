@@ -1,11 +1,11 @@
 -- The lives of a host with one peer, over all that it hears in one message of its peer.
-use Rattle.std.proofs.Common.{◌≡◌, ℕ, ◌≤◌, ◌==◌, true, false, List, ◌∷◌, ◌++◌, drop, length, refl, ap, sym, subst, ◌∙◌, append-nil, arith}
+use Rattle.std.proofs.Common.{◌≡◌, ℕ, ◌≤◌, ◌==◌, true, false, List, [], ◌∷◌, ◌++◌, drop, length, refl, ap, sym, subst, ◌∙◌, append-nil, arith}
 use Rattle.leader1822.specs.Host.{Host}
 use Rattle.ncp_control.specs.declared.command.Command.{Command}
 use Rattle.ncp_control.specs.declared.command.Command.TheVariants as command
-use Rattle.host_pairs.specs.Commands.{taken}
+use Rattle.host_pairs.specs.Commands.{desk_taken}
 use Rattle.host_pairs.specs.Control.{Legal, Order, Wrong, error}
-use Rattle.host_pairs.specs.Desk.{DeskState, desk_of, listens_on, queued}
+use Rattle.host_pairs.specs.Desk.{DeskState, desk_of, listens_on, command_queued}
 use Rattle.host_pairs.specs.Phases.{is_ready}
 use Rattle.host_pairs.specs.Turn.{TurnState, command_taken, if_ready, order_taken, orders_taken, with_desk}
 use Rattle.host_pairs.specs.declared.entry.Entry.{Entry}
@@ -50,7 +50,7 @@ module _ (number : ℕ → ℕ → ℕ → ℕ) (tells : IsTelling number) (a b 
   AreOrdinary [] = Unit {0}
   AreOrdinary (o ∷ os) = IsOrdinary o × AreOrdinary os
 
-  ordinary_is : (stamp : ℕ) (c : Command) (t : TurnState) → IsOrdinary (Legal c) → command_taken b stamp c t ≡ if_ready (taken b t.pair.busy stamp c) t
+  ordinary_is : (stamp : ℕ) (c : Command) (t : TurnState) → IsOrdinary (Legal c) → command_taken b stamp c t ≡ if_ready (desk_taken b t.pair.busy stamp c) t
   ordinary_is stamp command.Nop t o = refl
   ordinary_is stamp (command.Rts receive send link) t o = refl
   ordinary_is stamp (command.Str send receive size) t o = refl
@@ -79,11 +79,11 @@ module _ (number : ℕ → ℕ → ℕ → ℕ) (tells : IsTelling number) (a b 
     placed_ready : (work : DeskState → DeskState) (t : TurnState) → ((k : ℕ) (m : Place) → GoodTurn a k m b κ t → GoodTurn a k m b κ (if_ready work t)) → Placed t → Placed (if_ready work t)
     placed_ready work t does p k = ((p k).0, (p k).1, does k (p k).0 (p k).2)
 
-    placed_taken : (stamp : ℕ) (c : Command) (t : TurnState) → Placed t → Placed (if_ready (taken b t.pair.busy stamp c) t)
-    placed_taken stamp c t p = placed_ready (taken b t.pair.busy stamp c) t (λ k m g. good_ready a k m b κ (taken b t.pair.busy stamp c) t (good_taken a k m b (all_told a t.notices κ) t.pair.busy stamp c (desk_of t.pair t.listening)) g) p
+    placed_taken : (stamp : ℕ) (c : Command) (t : TurnState) → Placed t → Placed (if_ready (desk_taken b t.pair.busy stamp c) t)
+    placed_taken stamp c t p = placed_ready (desk_taken b t.pair.busy stamp c) t (λ k m g. good_ready a k m b κ (desk_taken b t.pair.busy stamp c) t (good_taken a k m b (all_told a t.notices κ) t.pair.busy stamp c (desk_of t.pair t.listening)) g) p
 
-    placed_wrong : (c : Command) (t : TurnState) → Placed t → Placed (if_ready (queued c) t)
-    placed_wrong c t p = placed_ready (queued c) t (λ k m g. good_ready a k m b κ (queued c) t (good_queued a k m b (all_told a t.notices κ) c (desk_of t.pair t.listening)) g) p
+    placed_wrong : (c : Command) (t : TurnState) → Placed t → Placed (if_ready (command_queued c) t)
+    placed_wrong c t p = placed_ready (command_queued c) t (λ k m g. good_ready a k m b κ (command_queued c) t (good_queued a k m b (all_told a t.notices κ) c (desk_of t.pair t.listening)) g) p
 
     -- what is told by a call, since that place
     later_told : (t : TurnState) (call : calls.Call) (ns : List Notice) → ns ≡ notices_of b call t.pair t.listening → ((ls : List Life) → all_lives a (notices_of b call t.pair t.listening) ls ≡ After a b (deed_of call t.pair) ls) → n ≤ length (all_told a t.notices κ).book.lives
@@ -99,23 +99,23 @@ module _ (number : ℕ → ℕ → ℕ → ℕ) (tells : IsTelling number) (a b 
     heard_one : (stamp : ℕ) (c : Command) (t : TurnState) (older : List calls.Moment) → is_ready t.pair.phase ≡ true → Placed t → n ≤ length (all_told a t.notices κ).book.lives
         → IsHistory b (called (Hears stamp 0 c) t.pair t.listening ∷ older) → AllAllowed (called (Hears stamp 0 c) t.pair t.listening ∷ older)
         → CarryIn a b number older t.pair.entries (drop n (all_told a t.notices κ).book.lives)
-        → CarryIn a b number (called (Hears stamp 0 c) t.pair t.listening ∷ older) (if_ready (taken b t.pair.busy stamp c) t).pair.entries (drop n (all_told a (if_ready (taken b t.pair.busy stamp c) t).notices κ).book.lives)
+        → CarryIn a b number (called (Hears stamp 0 c) t.pair t.listening ∷ older) (if_ready (desk_taken b t.pair.busy stamp c) t).pair.entries (drop n (all_told a (if_ready (desk_taken b t.pair.busy stamp c) t).notices κ).book.lives)
     heard_one stamp c t older ready placed less history allowed k =
         subst (λ (u : TurnState). CarryIn a b number (called (Hears stamp 0 c) t.pair t.listening ∷ older) u.pair.entries (drop n (all_told a u.notices κ).book.lives)) (sym is)
-        (subst (λ (ls : List Life). CarryIn a b number (called (Hears stamp 0 c) t.pair t.listening ∷ older) (taken b t.pair.busy stamp c (desk_of t.pair t.listening)).entries ls) (sym same)
+        (subst (λ (ls : List Life). CarryIn a b number (called (Hears stamp 0 c) t.pair t.listening ∷ older) (desk_taken b t.pair.busy stamp c (desk_of t.pair t.listening)).entries ls) (sym same)
         (call_more older (called (Hears stamp 0 c) t.pair t.listening) (drop n (all_told a t.notices κ).book.lives) history allowed (placed 0).2.refusing (allowed 2 refl).0.0 (placed_owned t placed) now k)) where
           new : TurnState
-          new = with_desk t (taken b t.pair.busy stamp c (desk_of t.pair t.listening))
+          new = with_desk t (desk_taken b t.pair.busy stamp c (desk_of t.pair t.listening))
 
-          is : if_ready (taken b t.pair.busy stamp c) t ≡ with_desk t (taken b t.pair.busy stamp c (desk_of t.pair t.listening))
+          is : if_ready (desk_taken b t.pair.busy stamp c) t ≡ with_desk t (desk_taken b t.pair.busy stamp c (desk_of t.pair t.listening))
           is = rw ready refl
 
-          same : drop n (all_told a (t.notices ++ (taken b t.pair.busy stamp c (desk_of t.pair t.listening)).notices) κ).book.lives ≡ After a b (hears stamp c t.pair) (drop n (all_told a t.notices κ).book.lives)
-          same = later_told t (Hears stamp 0 c) (taken b t.pair.busy stamp c (desk_of t.pair t.listening)).notices refl (call_told a b t.pair t.listening (Hears stamp 0 c) tt) less
+          same : drop n (all_told a (t.notices ++ (desk_taken b t.pair.busy stamp c (desk_of t.pair t.listening)).notices) κ).book.lives ≡ After a b (hears stamp c t.pair) (drop n (all_told a t.notices κ).book.lives)
+          same = later_told t (Hears stamp 0 c) (desk_taken b t.pair.busy stamp c (desk_of t.pair t.listening)).notices refl (call_told a b t.pair t.listening (Hears stamp 0 c) tt) less
 
-          now : AreOwned a b (taken b t.pair.busy stamp c (desk_of t.pair t.listening)).entries (After a b (hears stamp c t.pair) (drop n (all_told a t.notices κ).book.lives))
-          now = subst (λ (ls : List Life). AreOwned a b (taken b t.pair.busy stamp c (desk_of t.pair t.listening)).entries ls) same
-              (placed_owned (with_desk t (taken b t.pair.busy stamp c (desk_of t.pair t.listening))) (subst (λ (u : TurnState). Placed u) is (placed_taken stamp c t placed)))
+          now : AreOwned a b (desk_taken b t.pair.busy stamp c (desk_of t.pair t.listening)).entries (After a b (hears stamp c t.pair) (drop n (all_told a t.notices κ).book.lives))
+          now = subst (λ (ls : List Life). AreOwned a b (desk_taken b t.pair.busy stamp c (desk_of t.pair t.listening)).entries ls) same
+              (placed_owned (with_desk t (desk_taken b t.pair.busy stamp c (desk_of t.pair t.listening))) (subst (λ (u : TurnState). Placed u) is (placed_taken stamp c t placed)))
 
     -- ---- all orders of a message, one after the other
 
@@ -140,11 +140,11 @@ module _ (number : ℕ → ℕ → ℕ → ℕ) (tells : IsTelling number) (a b 
 
     -- an error is only queued
     wrong_one : (c : Command) (t : TurnState) (older : List calls.Moment) → is_ready t.pair.phase ≡ true → CarryIn a b number older t.pair.entries (drop n (all_told a t.notices κ).book.lives)
-        → CarryIn a b number older (if_ready (queued c) t).pair.entries (drop n (all_told a (if_ready (queued c) t).notices κ).book.lives)
+        → CarryIn a b number older (if_ready (command_queued c) t).pair.entries (drop n (all_told a (if_ready (command_queued c) t).notices κ).book.lives)
     wrong_one c t older ready k =
         subst (λ (u : TurnState). CarryIn a b number older u.pair.entries (drop n (all_told a u.notices κ).book.lives)) (sym is)
         (subst (λ (ns : List Notice). CarryIn a b number older t.pair.entries (drop n (all_told a ns κ).book.lives)) (sym (append-nil t.notices)) k) where
-          is : if_ready (queued c) t ≡ with_desk t (queued c (desk_of t.pair t.listening))
+          is : if_ready (command_queued c) t ≡ with_desk t (command_queued c (desk_of t.pair t.listening))
           is = rw ready refl
 
     -- what was before is a part of the history
@@ -163,18 +163,18 @@ module _ (number : ℕ → ℕ → ℕ → ℕ) (tells : IsTelling number) (a b 
         → CarryIn a b number (orders_heard b stamp os t older) (orders_taken b stamp os t).pair.entries (drop n (all_told a (orders_taken b stamp os t).notices κ).book.lives)
     heard_all stamp [] t older o ready placed less history allowed k = k
     heard_all stamp (Legal c ∷ os) t older o ready placed less history allowed k =
-        let is : command_taken b stamp c t ≡ if_ready (taken b t.pair.busy stamp c) t = ordinary_is stamp c t o.0 in
+        let is : command_taken b stamp c t ≡ if_ready (desk_taken b t.pair.busy stamp c) t = ordinary_is stamp c t o.0 in
         let m : calls.Moment = called (Hears stamp 0 c) t.pair t.listening in
         heard_all stamp os (order_taken b stamp (Legal c) t) (called (Hears stamp 0 c) t.pair t.listening ∷ older) o.1
-        (subst (λ (u : TurnState). is_ready u.pair.phase ≡ true) (sym is) (ready_still (taken b t.pair.busy stamp c) t ready))
+        (subst (λ (u : TurnState). is_ready u.pair.phase ≡ true) (sym is) (ready_still (desk_taken b t.pair.busy stamp c) t ready))
         (subst (λ (u : TurnState). Placed u) (sym is) (placed_taken stamp c t placed))
-        (subst (λ (u : TurnState). n ≤ length (all_told a u.notices κ).book.lives) (sym is) (later_more (taken b t.pair.busy stamp c) t ready less))
+        (subst (λ (u : TurnState). n ≤ length (all_told a u.notices κ).book.lives) (sym is) (later_more (desk_taken b t.pair.busy stamp c) t ready less))
         history allowed
         (subst (λ (u : TurnState). CarryIn a b number (called (Hears stamp 0 c) t.pair t.listening ∷ older) u.pair.entries (drop n (all_told a u.notices κ).book.lives)) (sym is)
         (heard_one stamp c t older ready placed less (heard_history stamp os (order_taken b stamp (Legal c) t) (called (Hears stamp 0 c) t.pair t.listening ∷ older) history)
         (λ link other. heard_allowed link stamp os (order_taken b stamp (Legal c) t) (called (Hears stamp 0 c) t.pair t.listening ∷ older) (allowed link other)) k))
     heard_all stamp (Wrong code octets ∷ os) t older o ready placed less history allowed k =
-        heard_all stamp os (order_taken b stamp (Wrong code octets) t) older o.1 (ready_still (queued (error code octets)) t ready) (placed_wrong (error code octets) t placed) (later_more (queued (error code octets)) t ready less) history allowed
+        heard_all stamp os (order_taken b stamp (Wrong code octets) t) older o.1 (ready_still (command_queued (error code octets)) t ready) (placed_wrong (error code octets) t placed) (later_more (command_queued (error code octets)) t ready less) history allowed
         (wrong_one (error code octets) t older ready k)
 
 -- what is heard comes upon what was before

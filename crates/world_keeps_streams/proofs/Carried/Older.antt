@@ -44,8 +44,8 @@ module _ (a b : Host) where
 
   told_over : (h : Host) (m : Notice) (n : ℕ) (ls : List Life) → n ≤ length ls → AreOver a b n ls → AreOver a b n (lives_told h m ls)
   told_over h (notice.Opened socket peer foreign own partner) n ls l o = more_over n ls (book.new_life h socket peer foreign own partner ∷ []) l o
-  told_over h (notice.Ended socket peer foreign) n ls l o = where_over n (book.lives_between h socket peer foreign) book.ended ls (λ x e f g. refl) o
-  told_over h (notice.PairReset peer) n ls l o = where_over n (book.lives_with h peer) book.ended ls (λ x e f g. refl) o
+  told_over h (notice.Ended socket peer foreign) n ls l o = where_over n (book.lives_between h socket peer foreign) book.life_ended ls (λ x e f g. refl) o
+  told_over h (notice.PairReset peer) n ls l o = where_over n (book.lives_with h peer) book.life_ended ls (λ x e f g. refl) o
   told_over h (notice.Sent socket bits) n ls l o = where_over n (book.lives_at h socket) (book.carried bits) ls (λ x e. e) o
   told_over h (notice.Arrived socket bits) n ls l o = where_over n (book.lives_at h socket) (book.carried bits) ls (λ x e. e) o
   told_over h (notice.Returned socket p q) n ls l o = where_over n (book.lives_at h socket) (book.returned p q) ls (λ x e. e) o
@@ -75,7 +75,7 @@ module _ (a b : Host) where
   kept_over (Crossed (crossing.Out m)) n k o = o
   kept_over (Crossed (crossing.In m)) n k o = o
   kept_over (Crossed (crossing.Answer kind f)) n k o = o
-  kept_over (Crossed (crossing.Down h)) n k o = where_over n (book.lives_on h) book.ended k.book.lives (λ x e f g. refl) o
+  kept_over (Crossed (crossing.Down h)) n k o = where_over n (book.lives_on h) book.life_ended k.book.lives (λ x e f g. refl) o
   kept_over (Crossed (crossing.Up h)) n k o = o
   kept_over (Asked h q) n k o = asked_over h q n k.book.lives o
 

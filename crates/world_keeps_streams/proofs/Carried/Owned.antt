@@ -84,7 +84,7 @@ owned_dropped a b es n lives o x there host peer goes = o x (among_dropped n liv
 
 pub told_lives : (h : Host) (ns : List Notice) (k : Kept) → (all_told h ns k).book.lives ≡ all_lives h ns k.book.lives
 told_lives h [] k = refl
-told_lives h (n ∷ ns) k = told_lives h ns (book.told h n k)
+told_lives h (n ∷ ns) k = told_lives h ns (book.book_told h n k)
 
 drop_map : {A : Type 0} (f : A → A) (n : ℕ) (xs new : List A) → n ≤ length xs → drop n (map f xs ++ new) ≡ map f (drop n xs) ++ new
 drop_map f zero xs new l = refl
@@ -102,8 +102,8 @@ where_length test f (x ∷ xs) = ap (λ (n : ℕ). suc n) (where_length test f x
 pub told_longer : (h : Host) (n : Notice) (ls : List Life) → length ls ≤ length (lives_told h n ls)
 told_longer h (notice.Opened socket peer foreign own partner) ls =
     let e : length (ls ++ book.new_life h socket peer foreign own partner ∷ []) ≡ length ls + 1 = length-append ls (book.new_life h socket peer foreign own partner ∷ []) in omega (arith, e)
-told_longer h (notice.Ended socket peer foreign) ls = let e : length (where_it (book.lives_between h socket peer foreign) book.ended ls) ≡ length ls = where_length (book.lives_between h socket peer foreign) book.ended ls in omega (arith, e)
-told_longer h (notice.PairReset peer) ls = let e : length (where_it (book.lives_with h peer) book.ended ls) ≡ length ls = where_length (book.lives_with h peer) book.ended ls in omega (arith, e)
+told_longer h (notice.Ended socket peer foreign) ls = let e : length (where_it (book.lives_between h socket peer foreign) book.life_ended ls) ≡ length ls = where_length (book.lives_between h socket peer foreign) book.life_ended ls in omega (arith, e)
+told_longer h (notice.PairReset peer) ls = let e : length (where_it (book.lives_with h peer) book.life_ended ls) ≡ length ls = where_length (book.lives_with h peer) book.life_ended ls in omega (arith, e)
 told_longer h (notice.Sent socket bits) ls = let e : length (where_it (book.lives_at h socket) (book.carried bits) ls) ≡ length ls = where_length (book.lives_at h socket) (book.carried bits) ls in omega (arith, e)
 told_longer h (notice.Arrived socket bits) ls = let e : length (where_it (book.lives_at h socket) (book.carried bits) ls) ≡ length ls = where_length (book.lives_at h socket) (book.carried bits) ls in omega (arith, e)
 told_longer h (notice.Returned socket m n) ls = let e : length (where_it (book.lives_at h socket) (book.returned m n) ls) ≡ length ls = where_length (book.lives_at h socket) (book.returned m n) ls in omega (arith, e)
@@ -136,7 +136,7 @@ pub by_length : (x : Moment) (k : Kept) → length (kept_by x k).book.lives ≡ 
 by_length (Crossed (crossing.Out m)) k = refl
 by_length (Crossed (crossing.In m)) k = refl
 by_length (Crossed (crossing.Answer kind f)) k = refl
-by_length (Crossed (crossing.Down h)) k = where_length (book.lives_on h) book.ended k.book.lives
+by_length (Crossed (crossing.Down h)) k = where_length (book.lives_on h) book.life_ended k.book.lives
 by_length (Crossed (crossing.Up h)) k = refl
 by_length (Asked h q) k = asked_length h q k.book.lives
 

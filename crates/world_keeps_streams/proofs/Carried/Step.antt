@@ -10,7 +10,7 @@ use Rattle.host_pairs.proofs.lemmas.{both}
 use Rattle.host_keeps_streams.proofs.lemmas.{is_there}
 use Rattle.net_sim.specs.declared.life.Life.{Life}
 use Rattle.net_sim.specs.Book as book
-use Rattle.net_sim.specs.Book.{changed_when, ended, lives_at, lives_between, new_life}
+use Rattle.net_sim.specs.Book.{changed_when, life_ended, lives_at, lives_between, new_life}
 use Rattle.net_sim.specs.Safe.{receives, sends}
 use Rattle.world_keeps_lives.proofs.lemmas.{clash}
 use Rattle.world_keeps_streams.proofs.Deeds.Effects as deeds
@@ -76,8 +76,8 @@ pub by_goes : (a p : Host) (d : Deed) (x : Life) → (life_by a p d x).ended ≡
 by_goes a p d x e = of x.ended refl where
   still : (es : List Entry) (y : Life) → y.ended ≡ true → (life_ends a p es y).ended ≡ true
   still [] y t = t
-  still (e ∷ es) y t = still es (if e.mine then changed_when (lives_between a e.own p e.foreign y) ended y else y) (by e.mine (lives_between a e.own p e.foreign y)) where
-    by : (v w : Bool) → (if v then changed_when w ended y else y).ended ≡ true
+  still (e ∷ es) y t = still es (if e.mine then changed_when (lives_between a e.own p e.foreign y) life_ended y else y) (by e.mine (lives_between a e.own p e.foreign y)) where
+    by : (v w : Bool) → (if v then changed_when w life_ended y else y).ended ≡ true
     by true true = refl
     by true false = t
     by false w = t
@@ -113,8 +113,8 @@ by_same a p d x = of d where
 
   ends : (es : List Entry) (y : Life) → Same x y → Same x (life_ends a p es y)
   ends [] y s = s
-  ends (e ∷ es) y s = ends es (if e.mine then changed_when (lives_between a e.own p e.foreign y) ended y else y) (by e.mine (lives_between a e.own p e.foreign y)) where
-    by : (v w : Bool) → Same x (if v then changed_when w ended y else y)
+  ends (e ∷ es) y s = ends es (if e.mine then changed_when (lives_between a e.own p e.foreign y) life_ended y else y) (by e.mine (lives_between a e.own p e.foreign y)) where
+    by : (v w : Bool) → Same x (if v then changed_when w life_ended y else y)
     by true true = record { host = s.host; peer = s.peer; socket = s.socket; foreign = s.foreign }
     by true false = s
     by false w = s
@@ -145,7 +145,7 @@ ends_hit a p (e ∷ es) x goes t = by e.mine (lives_between a e.own p e.foreign 
   more : Hit es x → Hit (e ∷ es) x
   more h = record { end = h.end; there = inr h.there; own = h.own; foreign = h.foreign }
 
-  by : (v w : Bool) → lives_between a e.own p e.foreign x ≡ w → ((life_ends a p es x).ended ≡ true → Hit es x) → (life_ends a p es (if v then changed_when w ended x else x)).ended ≡ true → Hit (e ∷ es) x
+  by : (v w : Bool) → lives_between a e.own p e.foreign x ≡ w → ((life_ends a p es x).ended ≡ true → Hit es x) → (life_ends a p es (if v then changed_when w life_ended x else x)).ended ≡ true → Hit (e ∷ es) x
   by true true is rest h =
       let q : (_ ≡ true) × ((x.foreign == e.foreign) ≡ true) = both (lives_at a e.own x && same_host p x.peer) (x.foreign == e.foreign) is in
       let l : (lives_at a e.own x ≡ true) × (same_host p x.peer ≡ true) = both (lives_at a e.own x) (same_host p x.peer) q.0 in
@@ -179,9 +179,9 @@ stamp_when false f x k = refl
 
 stamp_ends : (a p : Host) (es : List Entry) (x : Life) → (life_ends a p es x).partner_stamp ≡ x.partner_stamp
 stamp_ends a p [] x = refl
-stamp_ends a p (e ∷ es) x = stamp_ends a p es (if e.mine then changed_when (lives_between a e.own p e.foreign x) ended x else x) ∙ by e.mine where
-  by : (v : Bool) → (if v then changed_when (lives_between a e.own p e.foreign x) ended x else x).partner_stamp ≡ x.partner_stamp
-  by true = stamp_when (lives_between a e.own p e.foreign x) ended x (λ y. refl)
+stamp_ends a p (e ∷ es) x = stamp_ends a p es (if e.mine then changed_when (lives_between a e.own p e.foreign x) life_ended x else x) ∙ by e.mine where
+  by : (v : Bool) → (if v then changed_when (lives_between a e.own p e.foreign x) life_ended x else x).partner_stamp ≡ x.partner_stamp
+  by true = stamp_when (lives_between a e.own p e.foreign x) life_ended x (λ y. refl)
   by false = refl
 
 pub by_stamp : (a p : Host) (d : Deed) (x : Life) → (life_by a p d x).partner_stamp ≡ x.partner_stamp

@@ -1,5 +1,5 @@
 -- The lives of a host with one peer beside what the laws of their links have, as one call changes them.
-use Rattle.std.proofs.Common.{◌≡◌, inl, inr, ℕ, suc, ◌+◌, ◌≤◌, ◌==◌, ◌&&◌, not, Bool, true, false, if◌then◌else◌, List, ◌∷◌, ◌++◌, length, Option, Some, is_some, refl, ap, sym, subst, ◌∙◌, append-nil, eq-eqb, arith}
+use Rattle.std.proofs.Common.{◌≡◌, inl, inr, ℕ, suc, ◌+◌, ◌≤◌, ◌==◌, ◌&&◌, not, Bool, true, false, if◌then◌else◌, List, [], ◌∷◌, ◌++◌, length, Option, Some, is_some, refl, ap, sym, subst, ◌∙◌, append-nil, eq-eqb, arith}
 use Rattle.std.proofs.lemmas.Bool.{eqb-true}
 use Rattle.std.proofs.lemmas.List.{append_assoc, length-append}
 use Rattle.leader1822.specs.Host.{Host}
@@ -15,7 +15,7 @@ use Rattle.host_keeps_streams.specs.Histories.{gone_by}
 use Rattle.host_keeps_streams.proofs.lemmas.{is_there}
 use Rattle.net_sim.specs.declared.life.Life.{Life}
 use Rattle.net_sim.specs.Book as book
-use Rattle.net_sim.specs.Book.{changed_when, ended, lives_at, lives_between}
+use Rattle.net_sim.specs.Book.{changed_when, life_ended, lives_at, lives_between}
 use Rattle.world_keeps_lives.specs.Lives.{mine_on}
 use Rattle.world_keeps_lives.proofs.lemmas.{clash}
 use Rattle.world_keeps_streams.proofs.Deeds.Effects as deeds
@@ -111,10 +111,10 @@ gone_one es after gone own foreign e t = rw (e, t) refl
 
 -- ---- what a life has by a deed
 
-ends_keep : (a p : Host) (es : List Entry) (x : Life) (P : Life → Type 0) → ((y : Life) → P y → P (ended y)) → P x → P (life_ends a p es x)
+ends_keep : (a p : Host) (es : List Entry) (x : Life) (P : Life → Type 0) → ((y : Life) → P y → P (life_ended y)) → P x → P (life_ends a p es x)
 ends_keep a p [] x P keeps h = h
-ends_keep a p (e ∷ es) x P keeps h = ends_keep a p es (if e.mine then changed_when (lives_between a e.own p e.foreign x) ended x else x) P keeps (by e.mine (lives_between a e.own p e.foreign x)) where
-  by : (v w : Bool) → P (if v then changed_when w ended x else x)
+ends_keep a p (e ∷ es) x P keeps h = ends_keep a p es (if e.mine then changed_when (lives_between a e.own p e.foreign x) life_ended x else x) P keeps (by e.mine (lives_between a e.own p e.foreign x)) where
+  by : (v w : Bool) → P (if v then changed_when w life_ended x else x)
   by true true = keeps x h
   by true false = h
   by false w = h

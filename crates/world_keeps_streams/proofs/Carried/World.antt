@@ -20,7 +20,7 @@ use Rattle.net_sim.specs.Timeline.{IsTimeline, crossings_of}
 use Rattle.net_sim.proofs.lemmas.{coupled}
 use Rattle.world_keeps_lives.proofs.lemmas.{clash}
 use Rattle.world_keeps_pairing.specs.Steps.{keeps}
-use Rattle.world_keeps_streams.specs.Calls.{answer_calls, calls_by, message_calls, next_calls, own_calls, parcel_calls, request_calls, turned}
+use Rattle.world_keeps_streams.specs.Calls.{answer_calls, calls_by, message_calls, next_calls, own_calls, parcel_calls, request_calls, numbered_by_peer}
 use Rattle.world_keeps_streams.proofs.Carried.Calls.{Carries}
 use Rattle.world_keeps_streams.proofs.Carried.Every.{Keeping, carries_by}
 use Rattle.world_keeps_streams.proofs.Moments.Answer.{keeps_answer}
@@ -90,12 +90,12 @@ module _ (number : ℕ → ℕ → ℕ → ℕ) (tells : IsTelling number) (host
 -- ---- all moments, by a host's own numbers, and by those of its peer
 
 module _ (hosts : List Host) (addresses : HaveAddresses hosts) (a b : Host) where
-  allowed_turned : (ms : List Moment) → mail.IsRun hosts (crossings_of ms) → IsTimeline hosts ms → (link : ℕ) → (link == 0) ≡ false → AreAllowed turned b link (own_calls a b ms)
+  allowed_turned : (ms : List Moment) → mail.IsRun hosts (crossings_of ms) → IsTimeline hosts ms → (link : ℕ) → (link == 0) ≡ false → AreAllowed numbered_by_peer b link (own_calls a b ms)
   allowed_turned ms run time link off =
-      may.allowed turned link hosts addresses a b (λ ns r t. (joined link off hosts addresses b a ns r t).allowed_b) (λ x ns r t. may_calls hosts addresses x ns r t a b) ms run time
+      may.allowed numbered_by_peer link hosts addresses a b (λ ns r t. (joined link off hosts addresses b a ns r t).allowed_b) (λ x ns r t. may_calls hosts addresses x ns r t a b) ms run time
 
   pub carries_numbered : (ms : List Moment) → mail.IsRun hosts (crossings_of ms) → IsTimeline hosts ms → Carries numbered a b ms
   carries_numbered ms run time = carries numbered numbered_tells hosts addresses a b (λ ns r t link off. all_allowed hosts addresses link off a b ns r t) ms run time
 
-  pub carries_turned : (ms : List Moment) → mail.IsRun hosts (crossings_of ms) → IsTimeline hosts ms → Carries turned a b ms
-  carries_turned ms run time = carries turned turned_tells hosts addresses a b allowed_turned ms run time
+  pub carries_turned : (ms : List Moment) → mail.IsRun hosts (crossings_of ms) → IsTimeline hosts ms → Carries numbered_by_peer a b ms
+  carries_turned ms run time = carries numbered_by_peer turned_tells hosts addresses a b allowed_turned ms run time

@@ -12,7 +12,7 @@ use Rattle.host_keeps_streams.specs.Ends.{has_opened}
 use Rattle.host_keeps_streams.specs.Names.{named}
 use Rattle.net_sim.specs.declared.life.Life.{Life}
 use Rattle.net_sim.specs.Book as book
-use Rattle.net_sim.specs.Book.{changed_when, ended, lives_at, lives_between, lives_told, new_life}
+use Rattle.net_sim.specs.Book.{changed_when, life_ended, lives_at, lives_between, lives_told, new_life}
 
 -- ---- one of a list
 
@@ -38,7 +38,7 @@ pub data Deed : Type 0 where
 
 abbrev pub life_ends : Host → Host → List Entry → Life → Life
 life_ends a p [] x = x
-life_ends a p (e ∷ es) x = life_ends a p es (if e.mine then changed_when (lives_between a e.own p e.foreign x) ended x else x)
+life_ends a p (e ∷ es) x = life_ends a p es (if e.mine then changed_when (lives_between a e.own p e.foreign x) life_ended x else x)
 
 abbrev pub life_by : Host → Host → Deed → Life → Life
 life_by a p Nothing x = x

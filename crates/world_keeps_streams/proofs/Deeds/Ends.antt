@@ -12,7 +12,7 @@ use Rattle.ncp_control.specs.declared.data_header.DataHeader.{DataHeader}
 use Rattle.host_pairs.specs.Allowed.{MayGo}
 use Rattle.host_pairs.specs.Asked.{receiver_requested, with_more_bits}
 use Rattle.host_pairs.specs.Commands as commands
-use Rattle.host_pairs.specs.Commands.{Found, Unconnected, Ending, Open, asked_on_link, asked_with_size, at_end, found_in, granted, given_back, interrupted, returned, ret_taken, taken}
+use Rattle.host_pairs.specs.Commands.{Found, Unconnected, Ending, Open, asked_on_link, asked_with_size, at_end, found_in, granted, given_back, interrupted, returned, ret_taken, desk_taken}
 use Rattle.host_pairs.specs.Data.{arrived_if, data_found, data_of, data_taken, is_acceptable, spent}
 use Rattle.host_pairs.specs.Desk.{DeskState, desk_of, listener_on}
 use Rattle.host_pairs.specs.Entries.{called_off, changed_at, changed_first, closed_by_partner, closed_when, entry_at, free_link, is_at, is_ending, is_mine_on, is_open, is_over, is_receiving, must_close, receives_on, receiving_end, refused_end, sending_end, sends_on}
@@ -296,7 +296,7 @@ module _ (name : ℕ → ℕ → ℕ) (p : Host) (q : PairState) (listening : Li
   is_at_link : (link : ℕ) (e : Entry) → find (receives_on link) q.entries ≡ Some e → is_open e ≡ true → IsAt e q.entries
   is_at_link link e f o = record { there = (found_among (receives_on link) q.entries e f).0; mine = open_mine e (refusing_found (receives_on link) q.entries e refusing f) o; opened = o }
 
-  hear_does : (stamp : ℕ) (c : Command) → IsCommand c → Does (hears stamp c q) q.entries (taken p q.busy stamp c (desk_of q listening)).entries
+  hear_does : (stamp : ℕ) (c : Command) → IsCommand c → Does (hears stamp c q) q.entries (desk_taken p q.busy stamp c (desk_of q listening)).entries
   hear_does stamp command.Nop i = does_nothing q.entries
   hear_does stamp (command.Rts receive send link) i =
       does_if (list_any (sends_on link) q.entries) deeds.Nothing (matches send receive (asked_on_link stamp link) q.entries (entry_at send receive q.entries)) q.entries _ _ (does_nothing q.entries)

@@ -7,10 +7,10 @@ use Rattle.ncp_control.specs.declared.command.Command.{Command}
 use Rattle.ncp_control.specs.declared.command.Command.TheVariants as command
 use Rattle.ncp_control.specs.declared.data_header.DataHeader.{DataHeader}
 use Rattle.host_pairs.specs.Commands as commands
-use Rattle.host_pairs.specs.Commands.{Found, Unconnected, Ending, Open, asked_on_link, asked_with_size, at_end, found_in, interrupted, matched, ret_taken, rts_heard, rts_taken_by, str_heard, str_linked, str_taken_by, taken}
+use Rattle.host_pairs.specs.Commands.{Found, Unconnected, Ending, Open, asked_on_link, asked_with_size, at_end, found_in, interrupted, matched, ret_taken, rts_heard, rts_taken_by, str_heard, str_linked, str_taken_by, desk_taken}
 use Rattle.host_pairs.specs.Data.{arrived_if, data_found, data_of, data_taken, is_acceptable}
 use Rattle.host_pairs.specs.Desk.{DeskState, desk_of, listener_on}
-use Rattle.host_pairs.specs.Entries.{changed_at, closed_by_partner, closed_when, ending, entry_at, free_link, is_ending, is_over, must_close, opening, opening_by, receives_on, sends_on}
+use Rattle.host_pairs.specs.Entries.{changed_at, closed_by_partner, closed_when, ending, entry_at, free_link, is_ending, is_over, must_close, opening_notices, opening_by, receives_on, sends_on}
 use Rattle.host_pairs.specs.Pair.{PairState}
 use Rattle.host_pairs.specs.Parcels.{Bytes, asked_at, cls_sent, command_gone, parcel_gone}
 use Rattle.host_pairs.specs.declared.entry.Entry.{Entry}
@@ -19,13 +19,13 @@ use Rattle.host_pairs.specs.declared.notice.Notice.{Notice}
 use Rattle.host_pairs.specs.declared.notice.Notice.TheVariants as notice
 use Rattle.host_keeps_streams.specs.Histories.{Call, Hears, Takes, Says, Sends, Answered, OpensReceiver, OpensSender, Grants, AsksBack, Gives, Closes}
 use Rattle.net_sim.specs.declared.life.Life.{Life}
-use Rattle.net_sim.specs.Book.{changed_when, ended, lives_between, lives_told}
+use Rattle.net_sim.specs.Book.{changed_when, life_ended, lives_between, lives_told}
 use Rattle.world_keeps_streams.proofs.Deeds.Effects as deeds
 use Rattle.world_keeps_streams.proofs.Deeds.Effects.{Deed, all_lives, life_by, life_ends, new_by}
 use Rattle.world_keeps_streams.proofs.Deeds.Kinds.{arrives, arrives_if, closings, deed_of, hears, matches, opens, opens_by, returns, says, sweeps}
 
 abbrev pub notices_of : Host → Call → PairState → List Listener → List Notice
-notices_of p (Hears stamp said c) q listening = (taken p q.busy stamp c (desk_of q listening)).notices
+notices_of p (Hears stamp said c) q listening = (desk_taken p q.busy stamp c (desk_of q listening)).notices
 notices_of p (Takes link text) q listening = (data_taken link text (desk_of q listening)).notices
 notices_of p (Says stamp c) q listening = (command_gone p stamp c (desk_of q listening)).notices
 notices_of p (Sends stamp e size count) q listening = (parcel_gone p stamp q.busy (Bytes e size count) (desk_of q listening)).notices
@@ -63,7 +63,7 @@ module _ (a p : Host) where
   tells_if false d e f g h k = k
 
   -- one that opens
-  tells_opens : (o : Option Entry) → Tells (opening p o) (opens o)
+  tells_opens : (o : Option Entry) → Tells (opening_notices p o) (opens o)
   tells_opens None = none_told
   tells_opens (Some e) = by e.asked e.partner where
     here : (u v : ℕ) (k : Bool) → Tells (if k then [] else notice.Opened e.own p e.foreign u v ∷ []) (if k then deeds.Nothing else deeds.Opens e u v)
@@ -76,9 +76,9 @@ module _ (a p : Host) where
     by (Some u) (Some v) = here u v (is_ending e)
 
   -- ends that go
-  one_ends : (e : Entry) (ls : List Life) → all_lives a (ending p e) ls ≡ map (λ x. if e.mine then changed_when (lives_between a e.own p e.foreign x) ended x else x) ls
+  one_ends : (e : Entry) (ls : List Life) → all_lives a (ending p e) ls ≡ map (λ x. if e.mine then changed_when (lives_between a e.own p e.foreign x) life_ended x else x) ls
   one_ends e ls = by e.mine where
-    by : (v : Bool) → all_lives a (if v then notice.Ended e.own p e.foreign ∷ [] else []) ls ≡ map (λ x. if v then changed_when (lives_between a e.own p e.foreign x) ended x else x) ls
+    by : (v : Bool) → all_lives a (if v then notice.Ended e.own p e.foreign ∷ [] else []) ls ≡ map (λ x. if v then changed_when (lives_between a e.own p e.foreign x) life_ended x else x) ls
     by true = refl
     by false = sym (map_same ls)
 
@@ -86,8 +86,8 @@ module _ (a p : Host) where
   all_end [] ls = sym (map_same ls)
   all_end (e ∷ es) ls =
       told_append (ending p e) (flat_map (ending p) es) ls ∙ ap (λ (xs : List Life). all_lives a (flat_map (ending p) es) xs) (one_ends e ls)
-      ∙ all_end es (map (λ x. if e.mine then changed_when (lives_between a e.own p e.foreign x) ended x else x) ls)
-      ∙ map_twice (λ x. if e.mine then changed_when (lives_between a e.own p e.foreign x) ended x else x) (λ x. life_ends a p es x) ls
+      ∙ all_end es (map (λ x. if e.mine then changed_when (lives_between a e.own p e.foreign x) life_ended x else x) ls)
+      ∙ map_twice (λ x. if e.mine then changed_when (lives_between a e.own p e.foreign x) life_ended x else x) (λ x. life_ends a p es x) ls
 
   tells_ends : (es : List Entry) → Tells (flat_map (ending p) es) (deeds.Ends es)
   tells_ends es ls = all_end es ls ∙ sym (append-nil (map (λ x. life_ends a p es x) ls))
@@ -160,7 +160,7 @@ module _ (a p : Host) where
       by None = none_told
       by (Some h) = tells_if (is_acceptable e h) _ _ (deeds.Arrives e (data_of (data_bits h) text)) deeds.Nothing (arrived_told e (data_of (data_bits h) text)) none_told
 
-    hear_told : (stamp : ℕ) (c : Command) → Tells (taken p q.busy stamp c (desk_of q listening)).notices (hears stamp c q)
+    hear_told : (stamp : ℕ) (c : Command) → Tells (desk_taken p q.busy stamp c (desk_of q listening)).notices (hears stamp c q)
     hear_told stamp command.Nop = none_told
     hear_told stamp (command.Rts receive send link) =
         tells_if (list_any (sends_on link) q.entries) _ _ deeds.Nothing (matches send receive (asked_on_link stamp link) q.entries (entry_at send receive q.entries)) none_told (rts_told send receive link stamp (entry_at send receive q.entries))

@@ -1,5 +1,5 @@
 -- Which request of the peer an end has, where ends change, come and go.
-use Rattle.std.proofs.Common.{◌≡◌, ℕ, ◌*◌, ◌==◌, ◌&&◌, nat_le, Bool, true, false, List, ◌∷◌, ◌++◌, map, filter, Option, Some, None, is_some, refl, ap, sym, subst, ◌∙◌, ◌⊎◌, inl, inr}
+use Rattle.std.proofs.Common.{◌≡◌, ℕ, ◌*◌, ◌==◌, ◌&&◌, nat_le, Bool, true, false, List, [], ◌∷◌, ◌++◌, map, filter, Option, Some, None, is_some, refl, ap, sym, subst, ◌∙◌, ◌⊎◌, inl, inr}
 use Rattle.std.proofs.lemmas.Bool.{eqb-true}
 use Rattle.std.specs.List.{list_any}
 use Rattle.leader1822.specs.Host.{Host}
@@ -10,7 +10,7 @@ use Rattle.ncp_control.specs.declared.data_header.DataHeader.{DataHeader}
 use Rattle.stream_law.specs.Receivers.{Receiver}
 use Rattle.stream_law.specs.Senders.{Sender}
 use Rattle.host_pairs.specs.Asked.{receiver_requested, with_more_bits}
-use Rattle.host_pairs.specs.Commands.{Found, Unconnected, Ending, Open, all_taken, asked_on_link, asked_with_size, at_end, cls_taken_by, given_back, granted, gvb_taken, interrupted, ret_taken, returned, receiver_on, rts_heard, rts_taken, rts_taken_by, sender_on, str_heard, str_linked, str_taken_by, taken}
+use Rattle.host_pairs.specs.Commands.{Found, Unconnected, Ending, Open, all_taken, asked_on_link, asked_with_size, at_end, cls_taken_by, given_back, granted, gvb_taken, interrupted, ret_taken, returned, receiver_on, rts_heard, rts_taken, rts_taken_by, sender_on, str_heard, str_linked, str_taken_by, desk_taken}
 use Rattle.host_pairs.specs.Data.{arrived_if, data_found, is_acceptable, spent}
 use Rattle.host_pairs.specs.Desk.{DeskState, desk_of, listener_on}
 use Rattle.host_pairs.specs.Entries.{called_off, changed_first, closed_by_partner, entry_at, free_link, is_at, is_mine_on, receiving_end, receives_on, refused_end, sending_end, sends_on}
@@ -250,9 +250,9 @@ BringsBy k x y v = ⊥
 
 module _ (peer : Host) (busy : List ℕ) (stamp : ℕ) (d : DeskState) (name : ℕ → ℕ → ℕ) (apart : AreApart (numbers name d.entries)) where
   abbrev IsTakenOf : Command → Type 0
-  IsTakenOf c = (x y v : ℕ) → partner_at (entry_at x y (taken peer busy stamp c d).entries) ≡ Some v → (partner_at (entry_at x y d.entries) ≡ Some v) ⊎ Brings stamp c x y v
+  IsTakenOf c = (x y v : ℕ) → partner_at (entry_at x y (desk_taken peer busy stamp c d).entries) ≡ Some v → (partner_at (entry_at x y d.entries) ≡ Some v) ⊎ Brings stamp c x y v
 
-  plainly : (c : Command) → AreSame d.entries (taken peer busy stamp c d).entries → IsTakenOf c
+  plainly : (c : Command) → AreSame d.entries (desk_taken peer busy stamp c d).entries → IsTakenOf c
   plainly c s x y v t = inl (sym (s x y) ∙ t)
 
   taken_partners : (c : Command) → IsTakenOf c

@@ -2,7 +2,7 @@
 use Rattle.std.proofs.Common.{◌≡◌, ◌⊎◌, inl, inr, Bool, true, false, List, ◌∷◌, map, ap, sym, subst, ◌∙◌}
 use Rattle.leader1822.specs.Host.{Host}
 use Rattle.reset_law.specs.Stays as stay
-use Rattle.net_sim.specs.Book.{ended}
+use Rattle.net_sim.specs.Book.{life_ended}
 use Rattle.net_sim.specs.Story.{Moment, events_of}
 use Rattle.net_sim.specs.declared.life.Life.{Life}
 use Rattle.world_keeps_streams.proofs.Lives.Lists.{Grown, IsOf, grown, of_left, of_map}
@@ -14,14 +14,14 @@ use Rattle.world_keeps_streams.proofs.Books.Whole.{Away}
 with_end : Life → Bool → Life
 with_end x v = record x { ended = v }
 
-ended_same : (x : Life) → x.ended ≡ true → x ≡ ended x
+ended_same : (x : Life) → x.ended ≡ true → x ≡ life_ended x
 unfolding with_end
 ended_same x e = ap (with_end x) e
 
 module _ (hosts : List Host) (h p : Host) (y : Moment) (ms : List Moment) (l : Lawful hosts (y ∷ ms)) (left : stay.stays h p (events_of (y ∷ ms)) ≡ false)
     (none : (x : Life) → IsOf x (grown y ms).more → x.host ≡ h → x.peer ≡ p → ⊥) where
   -- each of its lives stays as it is, or ends
-  pub away : ((x : Life) → IsOf x (lives_in ms) → x.host ≡ h → x.peer ≡ p → ((grown y ms).change x ≡ x) ⊎ ((grown y ms).change x ≡ ended x)) → Away h p (lives_in ms) (lives_in (y ∷ ms))
+  pub away : ((x : Life) → IsOf x (lives_in ms) → x.host ≡ h → x.peer ≡ p → ((grown y ms).change x ≡ x) ⊎ ((grown y ms).change x ≡ life_ended x)) → Away h p (lives_in ms) (lives_in (y ∷ ms))
   away quiet =
       let g : Grown (lives_in ms) (lives_in (y ∷ ms)) = grown y ms in
       record {
@@ -38,7 +38,7 @@ module _ (hosts : List Host) (h p : Host) (y : Moment) (ms : List Moment) (l : L
         over_now : (x : Life) → IsOf x (lives_in ms) → x.host ≡ h → x.peer ≡ p → ((grown y ms).change x).ended ≡ true
         over_now x i f k = over_when_left hosts (y ∷ ms) l h p left ((grown y ms).change x) (there x i) (((grown y ms).names x).host ∙ f) (((grown y ms).names x).peer ∙ k)
 
-        by : (x : Life) → IsOf x (lives_in ms) → x.host ≡ h → x.peer ≡ p → ((grown y ms).change x ≡ x) ⊎ ((grown y ms).change x ≡ ended x) → (grown y ms).change x ≡ ended x
+        by : (x : Life) → IsOf x (lives_in ms) → x.host ≡ h → x.peer ≡ p → ((grown y ms).change x ≡ x) ⊎ ((grown y ms).change x ≡ life_ended x) → (grown y ms).change x ≡ life_ended x
         by x i f k (inl same) = same ∙ ended_same x (ap (λ (v : Life). v.ended) (sym same) ∙ over_now x i f k)
         by x i f k (inr over) = over
 

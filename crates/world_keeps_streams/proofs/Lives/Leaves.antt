@@ -14,7 +14,7 @@ use Rattle.host_keeps_pairing.specs.Words.{marks}
 use Rattle.pairing_law.specs.Ends.{End, nothing}
 use Rattle.pairing_law.proofs.lemmas.{takes_in_stay}
 use Rattle.reset_law.specs.Events.{Event, Idle, In, Message, Other, Out, Reply, Reset, Send, Take, are, when}
-use Rattle.reset_law.specs.Pairs.{MaySend, moved, pair}
+use Rattle.reset_law.specs.Pairs.{MaySend, pair_moved, pair}
 use Rattle.reset_law.specs.Phases as law
 use Rattle.reset_law.specs.Runs.{IsRun}
 use Rattle.reset_law.specs.Stays as stay
@@ -22,7 +22,7 @@ use Rattle.reset_law.proofs.lemmas.{ready_phase}
 use Rattle.sockets.specs.Pairs.{pair_with}
 use Rattle.sockets.specs.declared.request.Request.{Request}
 use Rattle.sockets.specs.declared.request.Request.TheVariants as request
-use Rattle.net_sim.specs.Book.{ended}
+use Rattle.net_sim.specs.Book.{life_ended}
 use Rattle.net_sim.specs.Projection.{IsApart, message_on}
 use Rattle.net_sim.specs.Story.{Moment, Crossed, Asked, event_in, events_of, places, program}
 use Rattle.net_sim.specs.Timeline.{crossings_of}
@@ -83,14 +83,14 @@ module _ (h p : Host) (events : List Event) (ready : stay.ready h p events ≡ t
 
   keeps_text : (x y : Host) (l : ℕ) (text : List Bool) → keeps h p (In x y l (Other text)) events ≡ true
   keeps_text x y l text = still (In x y l (Other text)) (by (are h p y x)) refl where
-    by : (v : Bool) → stay.is_ready (moved (when v (Take (Other text))) (pair h p events)).phase ≡ true
+    by : (v : Bool) → stay.is_ready (pair_moved (when v (Take (Other text))) (pair h p events)).phase ≡ true
     by true = ready
     by false = ready
 
   -- its next RST waits for a contact
   keeps_out : (hosts : List Host) (y : Host) (l : ℕ) (m : Message) → IsRun hosts (Out h y l m ∷ events) → keeps h p (Out h y l m) events ≡ true
   keeps_out hosts y l m run = still (Out h y l m) (by (are h p h y) refl m run.1) refl where
-    by : (v : Bool) → are h p h y ≡ v → (n : Message) → MaySend (pair h y events) l n → stay.is_ready (moved (when v (Send l n)) (pair h p events)).phase ≡ true
+    by : (v : Bool) → are h p h y ≡ v → (n : Message) → MaySend (pair h y events) l n → stay.is_ready (pair_moved (when v (Send l n)) (pair h p events)).phase ≡ true
     by false e n may = ready
     by true e Reply may = ready
     by true e (Other text) may = ready
@@ -190,7 +190,7 @@ module _ (hosts : List Host) (h p : Host) (y : Moment) (ms : List Moment) (l : L
   none_begins = none_of (stay.stays h p (events_of ms)) h p y ms (bare (stay.stays h p (events_of ms)) refl)
 
   -- where it stayed before
-  pub quiet : stay.stays h p (events_of ms) ≡ true → (x : Life) → IsOf x (lives_in ms) → x.host ≡ h → x.peer ≡ p → ((grown y ms).change x ≡ x) ⊎ ((grown y ms).change x ≡ ended x)
+  pub quiet : stay.stays h p (events_of ms) ≡ true → (x : Life) → IsOf x (lives_in ms) → x.host ≡ h → x.peer ≡ p → ((grown y ms).change x ≡ x) ⊎ ((grown y ms).change x ≡ life_ended x)
   quiet before x i f k = quiet_of true h p y ms (bare true before) refl x i f k
 
   pub leaves : Away h p (lives_in ms) (lives_in (y ∷ ms))

@@ -9,7 +9,7 @@ use Rattle.host_pairs.specs.declared.notice.Notice.TheVariants as notice
 use Rattle.sockets.specs.declared.request.Request.{Request}
 use Rattle.sockets.specs.declared.request.Request.TheVariants as request
 use Rattle.net_sim.specs.declared.life.Life.{Life}
-use Rattle.net_sim.specs.Book.{Kept, all_told, carried, changed_when, ended, granted, lives_asked, lives_at, lives_between, lives_on, lives_told, lives_with, new_life, returned, told, where_it}
+use Rattle.net_sim.specs.Book.{Kept, all_told, carried, changed_when, life_ended, granted, lives_asked, lives_at, lives_between, lives_on, lives_told, lives_with, new_life, returned, book_told, where_it}
 use Rattle.net_sim.specs.Story.{Moment, Crossed, Asked}
 use Rattle.net_sim.specs.Told.{host_in, kept_by, kept_in, notices_by}
 use Rattle.world_keeps_lives.proofs.lemmas.{clash}
@@ -59,15 +59,15 @@ pub record Bare (calm : Bool) (h p : Host) (old new : List Life) : Type 0 where
   pub is : new ≡ map change old ++ more
   pub host : (x : Life) → (change x).host ≡ x.host
   pub peer : (x : Life) → (change x).peer ≡ x.peer
-  pub quiet : calm ≡ true → (x : Life) → x.host ≡ h → x.peer ≡ p → (change x ≡ x) ⊎ (change x ≡ ended x)
+  pub quiet : calm ≡ true → (x : Life) → x.host ≡ h → x.peer ≡ p → (change x ≡ x) ⊎ (change x ≡ life_ended x)
   pub none : (x : Life) → IsOf x more → x.host ≡ h → x.peer ≡ p → ⊥
 
 -- ended twice is ended
-twice : (x y z : Life) → (y ≡ x) ⊎ (y ≡ ended x) → (z ≡ y) ⊎ (z ≡ ended y) → (z ≡ x) ⊎ (z ≡ ended x)
+twice : (x y z : Life) → (y ≡ x) ⊎ (y ≡ life_ended x) → (z ≡ y) ⊎ (z ≡ life_ended y) → (z ≡ x) ⊎ (z ≡ life_ended x)
 twice x y z (inl e) (inl f) = inl (f ∙ e)
-twice x y z (inl e) (inr f) = inr (f ∙ ap ended e)
+twice x y z (inl e) (inr f) = inr (f ∙ ap life_ended e)
 twice x y z (inr e) (inl f) = inr (f ∙ e)
-twice x y z (inr e) (inr f) = inr (f ∙ ap ended e)
+twice x y z (inr e) (inr f) = inr (f ∙ ap life_ended e)
 
 module _ (calm : Bool) (h p : Host) where
   bare_none : (xs : List Life) → Bare calm h p xs xs
@@ -114,7 +114,7 @@ module _ (calm : Bool) (h p : Host) where
     by x e f (inr i) = k.none x i e f
 
   -- a change of those that pass a test: none of these lives does, or it ends them
-  bare_where : (test : Life → Bool) (f : Life → Life) (xs : List Life) → ((x : Life) → ((f x).host ≡ x.host) × ((f x).peer ≡ x.peer)) → (calm ≡ true → (x : Life) → x.host ≡ h → x.peer ≡ p → (test x ≡ false) ⊎ (f x ≡ ended x))
+  bare_where : (test : Life → Bool) (f : Life → Life) (xs : List Life) → ((x : Life) → ((f x).host ≡ x.host) × ((f x).peer ≡ x.peer)) → (calm ≡ true → (x : Life) → x.host ≡ h → x.peer ≡ p → (test x ≡ false) ⊎ (f x ≡ life_ended x))
       → Bare calm h p xs (where_it test f xs)
   bare_where test f xs names quiet = record {
     change = λ x. changed_when (test x) f x;
@@ -133,7 +133,7 @@ module _ (calm : Bool) (h p : Host) where
     peer true x = (names x).1
     peer false x = refl
 
-    by : (v : Bool) (x : Life) → (v ≡ false) ⊎ (f x ≡ ended x) → (changed_when v f x ≡ x) ⊎ (changed_when v f x ≡ ended x)
+    by : (v : Bool) (x : Life) → (v ≡ false) ⊎ (f x ≡ life_ended x) → (changed_when v f x ≡ x) ⊎ (changed_when v f x ≡ life_ended x)
     by v x (inl e) = inl (ap (λ (w : Bool). changed_when w f x) e)
     by true x (inr e) = inr e
     by false x (inr e) = inl refl
@@ -155,8 +155,8 @@ module _ (calm : Bool) (h p : Host) where
 
     elsewhere_told : (n : Notice) (xs : List Life) → Bare calm h p xs (lives_told g n xs)
     elsewhere_told (notice.Opened socket peer foreign own partner) xs = bare_more xs (new_life g socket peer foreign own partner) (λ e f. clash ⊥ (same_host g h) (ap (same_host g) (sym e) ∙ same_host-refl g) away)
-    elsewhere_told (notice.Ended socket peer foreign) xs = bare_where (lives_between g socket peer foreign) ended xs (λ x. (refl, refl)) (λ c x e f. inr refl)
-    elsewhere_told (notice.PairReset peer) xs = bare_where (lives_with g peer) ended xs (λ x. (refl, refl)) (λ c x e f. inr refl)
+    elsewhere_told (notice.Ended socket peer foreign) xs = bare_where (lives_between g socket peer foreign) life_ended xs (λ x. (refl, refl)) (λ c x e f. inr refl)
+    elsewhere_told (notice.PairReset peer) xs = bare_where (lives_with g peer) life_ended xs (λ x. (refl, refl)) (λ c x e f. inr refl)
     elsewhere_told (notice.Sent socket bits) xs = bare_where (lives_at g socket) (carried bits) xs (λ x. (refl, refl)) (λ c x e f. inl (at_off socket x e))
     elsewhere_told (notice.Arrived socket bits) xs = bare_where (lives_at g socket) (carried bits) xs (λ x. (refl, refl)) (λ c x e f. inl (at_off socket x e))
     elsewhere_told (notice.Returned socket messages bits) xs = bare_where (lives_at g socket) (returned messages bits) xs (λ x. (refl, refl)) (λ c x e f. inl (at_off socket x e))
@@ -168,7 +168,7 @@ module _ (calm : Bool) (h p : Host) where
 
     elsewhere_all : (ns : List Notice) (k : Kept) → Bare calm h p k.book.lives (all_told g ns k).book.lives
     elsewhere_all [] k = bare_none k.book.lives
-    elsewhere_all (n ∷ ns) k = bare_on k.book.lives (lives_told g n k.book.lives) (all_told g ns (told g n k)).book.lives (elsewhere_told n k.book.lives) (elsewhere_all ns (told g n k))
+    elsewhere_all (n ∷ ns) k = bare_on k.book.lives (lives_told g n k.book.lives) (all_told g ns (book_told g n k)).book.lives (elsewhere_told n k.book.lives) (elsewhere_all ns (book_told g n k))
 
     elsewhere_asked : (r : Request) (xs : List Life) → Bare calm h p xs (lives_asked g r xs)
     elsewhere_asked (request.Grant socket messages bits) xs = bare_where (lives_at g socket) (granted messages bits) xs (λ x. (refl, refl)) (λ c x e f. inl (at_off socket x e))
@@ -184,13 +184,13 @@ module _ (calm : Bool) (h p : Host) where
 
   -- ---- a notice of the host
 
-  loud : (f : Life → Life) (test : Life → Bool) → calm ≡ false → calm ≡ true → (x : Life) → x.host ≡ h → x.peer ≡ p → (test x ≡ false) ⊎ (f x ≡ ended x)
-  loud f test l c x e g = clash ((test x ≡ false) ⊎ (f x ≡ ended x)) calm c l
+  loud : (f : Life → Life) (test : Life → Bool) → calm ≡ false → calm ≡ true → (x : Life) → x.host ≡ h → x.peer ≡ p → (test x ≡ false) ⊎ (f x ≡ life_ended x)
+  loud f test l c x e g = clash ((test x ≡ false) ⊎ (f x ≡ life_ended x)) calm c l
 
   fine_told : (g : Host) (n : Notice) (xs : List Life) → Fine calm p n → Bare calm h p xs (lives_told g n xs)
   fine_told g (notice.Opened socket peer foreign own partner) xs t = bare_more xs (new_life g socket peer foreign own partner) (λ e f. t f)
-  fine_told g (notice.Ended socket peer foreign) xs t = bare_where (lives_between g socket peer foreign) ended xs (λ x. (refl, refl)) (λ c x e f. inr refl)
-  fine_told g (notice.PairReset peer) xs t = bare_where (lives_with g peer) ended xs (λ x. (refl, refl)) (λ c x e f. inr refl)
+  fine_told g (notice.Ended socket peer foreign) xs t = bare_where (lives_between g socket peer foreign) life_ended xs (λ x. (refl, refl)) (λ c x e f. inr refl)
+  fine_told g (notice.PairReset peer) xs t = bare_where (lives_with g peer) life_ended xs (λ x. (refl, refl)) (λ c x e f. inr refl)
   fine_told g (notice.Sent socket bits) xs t = bare_where (lives_at g socket) (carried bits) xs (λ x. (refl, refl)) (loud (carried bits) (lives_at g socket) t)
   fine_told g (notice.Arrived socket bits) xs t = bare_where (lives_at g socket) (carried bits) xs (λ x. (refl, refl)) (loud (carried bits) (lives_at g socket) t)
   fine_told g (notice.Returned socket messages bits) xs t = bare_where (lives_at g socket) (returned messages bits) xs (λ x. (refl, refl)) (loud (returned messages bits) (lives_at g socket) t)
@@ -202,7 +202,7 @@ module _ (calm : Bool) (h p : Host) where
 
   fine_all : (g : Host) (ns : List Notice) (k : Kept) → AllFine calm p ns → Bare calm h p k.book.lives (all_told g ns k).book.lives
   fine_all g [] k t = bare_none k.book.lives
-  fine_all g (n ∷ ns) k t = bare_on k.book.lives (lives_told g n k.book.lives) (all_told g ns (told g n k)).book.lives (fine_told g n k.book.lives t.0) (fine_all g ns (told g n k) t.1)
+  fine_all g (n ∷ ns) k t = bare_on k.book.lives (lives_told g n k.book.lives) (all_told g ns (book_told g n k)).book.lives (fine_told g n k.book.lives t.0) (fine_all g ns (book_told g n k) t.1)
 
   fine_asked : (g : Host) (r : Request) (xs : List Life) → IsFineAsked calm r → Bare calm h p xs (lives_asked g r xs)
   fine_asked g (request.Grant socket messages bits) xs t = bare_where (lives_at g socket) (granted messages bits) xs (λ x. (refl, refl)) (loud (granted messages bits) (lives_at g socket) t)
@@ -219,7 +219,7 @@ module _ (calm : Bool) (h p : Host) where
   -- ---- a moment
 
   by_elsewhere : (y : Moment) (k : Kept) → same_host (host_in y) h ≡ false → Bare calm h p k.book.lives (kept_by y k).book.lives
-  by_elsewhere (Crossed (crossing.Down g)) k away = bare_where (lives_on g) ended k.book.lives (λ x. (refl, refl)) (λ c x e f. inr refl)
+  by_elsewhere (Crossed (crossing.Down g)) k away = bare_where (lives_on g) life_ended k.book.lives (λ x. (refl, refl)) (λ c x e f. inr refl)
   by_elsewhere (Crossed (crossing.Up g)) k away = bare_none k.book.lives
   by_elsewhere (Crossed (crossing.Out m)) k away = bare_none k.book.lives
   by_elsewhere (Crossed (crossing.In m)) k away = bare_none k.book.lives
@@ -227,7 +227,7 @@ module _ (calm : Bool) (h p : Host) where
   by_elsewhere (Asked g r) k away = elsewhere_asked g away r k.book.lives
 
   by_fine : (y : Moment) (k : Kept) → IsFineBy calm y → Bare calm h p k.book.lives (kept_by y k).book.lives
-  by_fine (Crossed (crossing.Down g)) k fine = bare_where (lives_on g) ended k.book.lives (λ x. (refl, refl)) (λ c x e f. inr refl)
+  by_fine (Crossed (crossing.Down g)) k fine = bare_where (lives_on g) life_ended k.book.lives (λ x. (refl, refl)) (λ c x e f. inr refl)
   by_fine (Crossed (crossing.Up g)) k fine = bare_none k.book.lives
   by_fine (Crossed (crossing.Out m)) k fine = bare_none k.book.lives
   by_fine (Crossed (crossing.In m)) k fine = bare_none k.book.lives
@@ -266,6 +266,6 @@ module _ (calm : Bool) (h p : Host) (y : Moment) (ms : List Moment) (b : Bare ca
   pub none_of : (x : Life) → IsOf x (grown y ms).more → x.host ≡ h → x.peer ≡ p → ⊥
   none_of x i e f = b.none x (subst (λ (l : List Life). IsOf x l) (same_more (grown y ms).change b.change (kept_in ms).book.lives (grown y ms).more b.more one_way) i) e f
 
-  pub quiet_of : calm ≡ true → (x : Life) → IsOf x (kept_in ms).book.lives → x.host ≡ h → x.peer ≡ p → ((grown y ms).change x ≡ x) ⊎ ((grown y ms).change x ≡ ended x)
+  pub quiet_of : calm ≡ true → (x : Life) → IsOf x (kept_in ms).book.lives → x.host ≡ h → x.peer ≡ p → ((grown y ms).change x ≡ x) ⊎ ((grown y ms).change x ≡ life_ended x)
   quiet_of c x i e f =
-      subst (λ (v : Life). (v ≡ x) ⊎ (v ≡ ended x)) (sym (same_change (grown y ms).change b.change (kept_in ms).book.lives (grown y ms).more b.more one_way x i)) (b.quiet c x e f)
+      subst (λ (v : Life). (v ≡ x) ⊎ (v ≡ life_ended x)) (sym (same_change (grown y ms).change b.change (kept_in ms).book.lives (grown y ms).more b.more one_way x i)) (b.quiet c x e f)

@@ -14,7 +14,7 @@ use Rattle.host_pairs.specs.About.{AreAbout, IsAbout}
 use Rattle.host_pairs.specs.Commands.{changed}
 use Rattle.host_pairs.specs.Control.{Order, Legal, Wrong, orders_of}
 use Rattle.host_pairs.specs.Desk.{DeskState, desk_of, swept}
-use Rattle.host_pairs.specs.Entries.{changed_at, changed_first, ending, entry_at, is_at, is_busy, is_over, opening, opening_by}
+use Rattle.host_pairs.specs.Entries.{changed_at, changed_first, ending, entry_at, is_at, is_busy, is_over, opening_notices, opening_by}
 use Rattle.host_pairs.specs.Parcels as parcel
 use Rattle.host_pairs.specs.Parcels.{Parcel, asked_at, cls_sent, command_gone, commands_gone, parcel_gone}
 use Rattle.host_pairs.specs.Phases.{is_ready}
@@ -24,7 +24,7 @@ use Rattle.host_pairs.specs.declared.notice.Notice.{Notice}
 use Rattle.host_pairs.specs.declared.notice.Notice.TheVariants as notice
 use Rattle.host_pairs.specs.declared.phase.Phase.{Phase}
 use Rattle.host_pairs.specs.declared.phase.Phase.TheVariants as phase
-use Rattle.sockets.specs.Accepting.{accepted, turn_of, turned}
+use Rattle.sockets.specs.Accepting.{accepted, turn_of, after_turn}
 use Rattle.sockets.specs.Pairs.{NcpState, pair_with}
 use Rattle.sockets.specs.Peers.{AreInOrder}
 use Rattle.sockets.specs.Requests.{served_notices}
@@ -50,7 +50,7 @@ unasked_changed test change es same none e i = by (among_changed test change es 
   by (inr c) = ap (λ (x : Entry). x.partner) (sym c.is) ∙ same c.end ∙ none c.end c.there
 
 -- nothing is told of an opening
-opening_none : (peer : Host) (o : Option Entry) → ((e : Entry) → o ≡ Some e → e.partner ≡ None) → opening peer o ≡ []
+opening_none : (peer : Host) (o : Option Entry) → ((e : Entry) → o ≡ Some e → e.partner ≡ None) → opening_notices peer o ≡ []
 opening_none peer None none = refl
 opening_none peer (Some e) none = ap (opening_by peer e e.asked) (none e refl) ∙ by e.asked where
   by : (asked : Option ℕ) → opening_by peer e asked None ≡ []
@@ -77,7 +77,7 @@ module _ (calm : Bool) (p : Host) where
   desk_asked peer stamp own foreign d h =
       let none : AllUnasked (changed_at own foreign (asked_at stamp) d.entries) = unasked_changed (is_at own foreign) (asked_at stamp) d.entries (λ e. refl) h.0 in (
         none,
-        fine_both calm p d.notices (opening peer (entry_at own foreign (changed_at own foreign (asked_at stamp) d.entries))) h.1
+        fine_both calm p d.notices (opening_notices peer (entry_at own foreign (changed_at own foreign (asked_at stamp) d.entries))) h.1
             (subst (λ (ns : List Notice). AllFine calm p ns) (sym (opening_none peer (entry_at own foreign (changed_at own foreign (asked_at stamp) d.entries))
             (λ e is. unasked_changed (is_at own foreign) (asked_at stamp) d.entries (λ x. refl) h.0 e (found_among (is_at own foreign) (changed_at own foreign (asked_at stamp) d.entries) e is).0))) tt),
       )
@@ -182,15 +182,15 @@ module _ (calm : Bool) (p : Host) where
     pub answer_fine : (kind : Answer) (f : Flow) → AllFine calm p (accepted s (inbound.Answer kind f) stamp).1
     unfolding accepted
     answer_fine kind f =
-        if_fine (same_host s.own f.source) (if is_busy (pair_with f.destination s.peers).busy f.link.0 then turned s f.destination (answered_turn f.destination kind f.link.0 (turn_of s f.destination)) else (s, [])) (s, [])
-        (if_fine (is_busy (pair_with f.destination s.peers).busy f.link.0) (turned s f.destination (answered_turn f.destination kind f.link.0 (turn_of s f.destination))) (s, [])
+        if_fine (same_host s.own f.source) (if is_busy (pair_with f.destination s.peers).busy f.link.0 then after_turn s f.destination (answered_turn f.destination kind f.link.0 (turn_of s f.destination)) else (s, [])) (s, [])
+        (if_fine (is_busy (pair_with f.destination s.peers).busy f.link.0) (after_turn s f.destination (answered_turn f.destination kind f.link.0 (turn_of s f.destination))) (s, [])
         (answer_turn f.destination f.link.0 (turn_of s f.destination) tt kind) tt) tt
 
     -- ---- a message
 
     message_fine : (m : HostMessage) → AllFine calm p (message_taken m.flow.source stamp m.flow.link.0 m.text (turn_of s m.flow.source)).notices → AllFine calm p (accepted s (inbound.Message m) stamp).1
     unfolding accepted
-    message_fine m fine = if_fine (same_host s.own m.flow.destination) (turned s m.flow.source (message_taken m.flow.source stamp m.flow.link.0 m.text (turn_of s m.flow.source))) (s, []) fine tt
+    message_fine m fine = if_fine (same_host s.own m.flow.destination) (after_turn s m.flow.source (message_taken m.flow.source stamp m.flow.link.0 m.text (turn_of s m.flow.source))) (s, []) fine tt
 
     reset_told : (peer : Host) (ph : Phase) → AllFine calm p (reset_notices peer ph)
     reset_told peer phase.Closed = (tt, tt)

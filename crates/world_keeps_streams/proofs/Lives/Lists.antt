@@ -10,7 +10,7 @@ use Rattle.host_pairs.specs.declared.notice.Notice.TheVariants as notice
 use Rattle.sockets.specs.declared.request.Request.{Request}
 use Rattle.sockets.specs.declared.request.Request.TheVariants as request
 use Rattle.net_sim.specs.declared.life.Life.{Life}
-use Rattle.net_sim.specs.Book.{Kept, all_told, carried, changed_when, ended, granted, lives_asked, lives_at, lives_between, lives_crossed, lives_on, lives_told, lives_with, new_life, returned, told, where_it}
+use Rattle.net_sim.specs.Book.{Kept, all_told, carried, changed_when, life_ended, granted, lives_asked, lives_at, lives_between, lives_crossed, lives_on, lives_told, lives_with, new_life, returned, book_told, where_it}
 use Rattle.net_sim.specs.Safe.{AreTwo}
 use Rattle.net_sim.specs.Story.{Moment, Crossed, Asked}
 use Rattle.net_sim.specs.Told.{host_in, kept_by, kept_in, notices_by}
@@ -214,8 +214,8 @@ on_off h x e = and_off (same_host h x.host) x.ended e
 
 grown_told : (h : Host) (n : Notice) (xs : List Life) → Grown xs (lives_told h n xs)
 grown_told h (notice.Opened socket peer foreign own partner) xs = grown_more xs (new_life h socket peer foreign own partner ∷ [])
-grown_told h (notice.Ended socket peer foreign) xs = grown_where (lives_between h socket peer foreign) ended xs (λ x. record { host = refl; socket = refl; peer = refl; foreign = refl; own = refl; partner = refl }) (between_off h socket peer foreign)
-grown_told h (notice.PairReset peer) xs = grown_where (lives_with h peer) ended xs (λ x. record { host = refl; socket = refl; peer = refl; foreign = refl; own = refl; partner = refl }) (with_off h peer)
+grown_told h (notice.Ended socket peer foreign) xs = grown_where (lives_between h socket peer foreign) life_ended xs (λ x. record { host = refl; socket = refl; peer = refl; foreign = refl; own = refl; partner = refl }) (between_off h socket peer foreign)
+grown_told h (notice.PairReset peer) xs = grown_where (lives_with h peer) life_ended xs (λ x. record { host = refl; socket = refl; peer = refl; foreign = refl; own = refl; partner = refl }) (with_off h peer)
 grown_told h (notice.Sent socket bits) xs = grown_where (lives_at h socket) (carried bits) xs (λ x. record { host = refl; socket = refl; peer = refl; foreign = refl; own = refl; partner = refl }) (at_off h socket)
 grown_told h (notice.Arrived socket bits) xs = grown_where (lives_at h socket) (carried bits) xs (λ x. record { host = refl; socket = refl; peer = refl; foreign = refl; own = refl; partner = refl }) (at_off h socket)
 grown_told h (notice.Returned socket messages bits) xs = grown_where (lives_at h socket) (returned messages bits) xs (λ x. record { host = refl; socket = refl; peer = refl; foreign = refl; own = refl; partner = refl }) (at_off h socket)
@@ -227,10 +227,10 @@ grown_told h (notice.RemoteError peer code detail) xs = grown_none xs
 
 grown_all_told : (h : Host) (ns : List Notice) (k : Kept) → Grown k.book.lives (all_told h ns k).book.lives
 grown_all_told h [] k = grown_none k.book.lives
-grown_all_told h (n ∷ ns) k = grown_on k.book.lives (lives_told h n k.book.lives) (all_told h ns (told h n k)).book.lives (grown_told h n k.book.lives) (grown_all_told h ns (told h n k))
+grown_all_told h (n ∷ ns) k = grown_on k.book.lives (lives_told h n k.book.lives) (all_told h ns (book_told h n k)).book.lives (grown_told h n k.book.lives) (grown_all_told h ns (book_told h n k))
 
 grown_crossed : (c : Crossing) (xs : List Life) → Grown xs (lives_crossed c xs)
-grown_crossed (crossing.Down h) xs = grown_where (lives_on h) ended xs (λ x. record { host = refl; socket = refl; peer = refl; foreign = refl; own = refl; partner = refl }) (on_off h)
+grown_crossed (crossing.Down h) xs = grown_where (lives_on h) life_ended xs (λ x. record { host = refl; socket = refl; peer = refl; foreign = refl; own = refl; partner = refl }) (on_off h)
 grown_crossed (crossing.Up h) xs = grown_none xs
 grown_crossed (crossing.Out m) xs = grown_none xs
 grown_crossed (crossing.In m) xs = grown_none xs

@@ -17,7 +17,7 @@ use Rattle.net_sim.proofs.lemmas.{Coupled}
 use Rattle.world_keeps_pairing.specs.Free.{law_events, origin_in}
 use Rattle.world_keeps_pairing.specs.Lives.{ArePaired}
 use Rattle.world_keeps_pairing.proofs.lemmas.{IsPair, are_origins, at_texts, even_odd, foreign_of, half, life_paired, other, own_of, receiver_half, sender_half, served_in}
-use Rattle.world_keeps_streams.specs.Calls.{own_calls, turned}
+use Rattle.world_keeps_streams.specs.Calls.{own_calls, numbered_by_peer}
 use Rattle.world_keeps_streams.proofs.Carried.Streams.{IsSent, IsTaken}
 use Rattle.world_keeps_streams.proofs.Carried.Calls as carried
 use Rattle.world_keeps_streams.proofs.Carried.Calls.{Carries, Named}
@@ -72,7 +72,7 @@ foreign_receives x s (inr p) = p.1
 
 -- ---- lives
 
-module _ (hosts : List Host) (a b : Host) (mine : (ms : List Moment) → Lawful hosts ms → Carries numbered a b ms) (theirs : (ms : List Moment) → Lawful hosts ms → Carries turned b a ms)
+module _ (hosts : List Host) (a b : Host) (mine : (ms : List Moment) → Lawful hosts ms → Carries numbered a b ms) (theirs : (ms : List Moment) → Lawful hosts ms → Carries numbered_by_peer b a ms)
     (none_mine : NoneBegin hosts a b) (none_theirs : NoneBegin hosts b a) where
   -- ---- one life
 
@@ -80,7 +80,7 @@ module _ (hosts : List Host) (a b : Host) (mine : (ms : List Moment) → Lawful 
   Mine ms link g x = CarriedOn (Named numbered b (own_calls a b ms)) numbered (gone_now b (own_calls a b ms)) (pair_with b (program a ms).peers).entries (λ n. receiver_now numbered b n (own_calls a b ms)) (λ n. sender_now numbered b n (own_calls a b ms)) link g x
 
   abbrev Theirs : List Moment → ℕ → ℕ → Life → Type 0
-  Theirs ms link g x = CarriedOn (Named turned a (own_calls b a ms)) turned (gone_now a (own_calls b a ms)) (pair_with a (program b ms).peers).entries (λ n. receiver_now turned a n (own_calls b a ms)) (λ n. sender_now turned a n (own_calls b a ms)) link g x
+  Theirs ms link g x = CarriedOn (Named numbered_by_peer a (own_calls b a ms)) numbered_by_peer (gone_now a (own_calls b a ms)) (pair_with a (program b ms).peers).entries (λ n. receiver_now numbered_by_peer a n (own_calls b a ms)) (λ n. sender_now numbered_by_peer a n (own_calls b a ms)) link g x
 
   module _ (ms : List Moment) (l : Lawful hosts ms) where
     own_request : stay.stays a b (events_of ms) ≡ true → (link g : ℕ) (x : Life) → IsOf x (lives_in ms) → x.host ≡ a → x.peer ≡ b → receives x ≡ true → Mine ms link g x → Own a b ms x.socket x.foreign x.own_stamp g
@@ -92,9 +92,9 @@ module _ (hosts : List Host) (a b : Host) (mine : (ms : List Moment) → Lawful 
 
     heard_request : stay.stays b a (events_of ms) ≡ true → (link g : ℕ) (x : Life) → IsOf x (lives_in ms) → sends x ≡ true → Theirs ms link g x → Heard a b ms x.foreign x.socket x.partner_stamp g
     heard_request stays link g x i r c =
-        let allowed : AreAllowed turned a 1 (own_calls b a ms) = (joined 1 refl hosts l.0 a b ms l.1 l.2).allowed_b stays in
+        let allowed : AreAllowed numbered_by_peer a 1 (own_calls b a ms) = (joined 1 refl hosts l.0 a b ms l.1 l.2).allowed_b stays in
         subst (λ (y : Side). Asks g (origin_in (crossings_of ms) b a x.partner_stamp) y.heard) (sym (sender_half (record { receive = x.foreign; send = x.socket }) a b (law_events ms)))
-        (law_heard hosts ms l b a turned allowed stays (record { receive = x.foreign; send = x.socket }) (foreign_receives x r (life_pair hosts ms l x i), r) Sender g x.partner_stamp c.named)
+        (law_heard hosts ms l b a numbered_by_peer allowed stays (record { receive = x.foreign; send = x.socket }) (foreign_receives x r (life_pair hosts ms l x i), r) Sender g x.partner_stamp c.named)
 
     abbrev receives_on : stay.stays a b (events_of ms) ≡ true → (n g : ℕ) (x : Life) → IsOf x (lives_in ms) → x.host ≡ a → x.peer ≡ b → receives x ≡ true → Mine ms (suc n) g x → Receives a b (Own a b) (Heard a b) ms x
     receives_on stays n g x i f k r c =
@@ -114,7 +114,7 @@ module _ (hosts : List Host) (a b : Host) (mine : (ms : List Moment) → Lawful 
 
     abbrev sends_on : stay.stays b a (events_of ms) ≡ true → (n g : ℕ) (x : Life) → IsOf x (lives_in ms) → sends x ≡ true → Theirs ms (suc n) g x → Sends a b (Own a b) (Heard a b) ms x
     sends_on stays n g x i r c =
-        let t : IsSent (turned x.socket x.foreign g) (sender_now turned a (suc n) (own_calls b a ms)) x = c.sent r in
+        let t : IsSent (numbered_by_peer x.socket x.foreign g) (sender_now numbered_by_peer a (suc n) (own_calls b a ms)) x = c.sent r in
         record {
           link = n;
           g = g;
@@ -166,7 +166,7 @@ module _ (hosts : List Host) (a b : Host) (mine : (ms : List Moment) → Lawful 
             })
       ]
 
-  pub sent_by : (ms : List Moment) → Lawful hosts ms → stay.stays b a (events_of ms) ≡ true → (n c : ℕ) → ((sender_now turned a (suc n) (own_calls b a ms)).sent c ≡ [] → ⊥) → HasSends a b (Own a b) (Heard a b) ms n c
+  pub sent_by : (ms : List Moment) → Lawful hosts ms → stay.stays b a (events_of ms) ≡ true → (n c : ℕ) → ((sender_now numbered_by_peer a (suc n) (own_calls b a ms)).sent c ≡ [] → ⊥) → HasSends a b (Own a b) (Heard a b) ms n c
   sent_by ms l stays n c some =
       elim ((theirs ms l).sends (suc n) (off n) c) [
         | inl u ↦ absurd (some u)

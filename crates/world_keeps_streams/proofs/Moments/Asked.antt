@@ -23,7 +23,7 @@ use Rattle.sockets.specs.declared.request.Request.{Request}
 use Rattle.sockets.specs.declared.request.Request.TheVariants as request
 use Rattle.net_sim.specs.declared.life.Life.{Life}
 use Rattle.net_sim.specs.Book as book
-use Rattle.net_sim.specs.Book.{asked, changed_when, ended, lives_asked, lives_at, lives_with, where_it}
+use Rattle.net_sim.specs.Book.{asked, changed_when, life_ended, lives_asked, lives_at, lives_with, where_it}
 use Rattle.net_sim.specs.Clean.{HaveAddresses}
 use Rattle.net_sim.specs.Story.{Asked, Moment, event_in, events_of, program}
 use Rattle.net_sim.specs.Timeline.{IsTimeline, crossings_of}
@@ -169,8 +169,8 @@ module _ (number : ℕ → ℕ → ℕ → ℕ) (tells : IsTelling number) (host
     -- ---- a contact with another host
 
     contact_kept : (g : Host) → same_host b g ≡ false → (t : Bool) → request_calls b s r ≡ [] → (kept_in (Asked a r ∷ ms)).book.lives ≡ all_lives a (if t then notice.PairReset g ∷ [] else []) (kept_in ms).book.lives → Kept
-    contact_kept g other true is same = others is (lives_with a g) ended (λ y. (refl, refl)) off same where
-      off : IsOff a b (lives_with a g) ended (kept_in ms).book.lives
+    contact_kept g other true is same = others is (lives_with a g) life_ended (λ y. (refl, refl)) off same where
+      off : IsOff a b (lives_with a g) life_ended (kept_in ms).book.lives
       off y there host peer =
           let away : same_host g y.peer ≡ false = ap (λ (p : Host). same_host g p) peer ∙ same_host-sym g b ∙ other in
           rw away (none_of (same_host a y.host)) where

@@ -6,7 +6,7 @@ use Rattle.leader1822.specs.declared.crossing.Crossing.TheVariants as crossing
 use Rattle.reset_law.specs.Pairs.{pair}
 use Rattle.host_keeps_streams.specs.Histories.{AreAllowed, IsTelling}
 use Rattle.net_sim.specs.declared.life.Life.{Life}
-use Rattle.net_sim.specs.Book.{ended, lives_on}
+use Rattle.net_sim.specs.Book.{life_ended, lives_on}
 use Rattle.net_sim.specs.Clean.{HaveAddresses}
 use Rattle.net_sim.specs.Story.{Crossed, Moment, event_in, events_of}
 use Rattle.net_sim.specs.Timeline.{IsTimeline, crossings_of}
@@ -25,7 +25,7 @@ module _ (number : ℕ → ℕ → ℕ → ℕ) (tells : IsTelling number) (host
   pub keeps_down : (h : Host) (ms : List Moment) → mail.IsRun hosts (crossings_of (Crossed (crossing.Down h) ∷ ms)) → IsTimeline hosts (Crossed (crossing.Down h) ∷ ms) → keeps a b (event_in (Crossed (crossing.Down h))) (events_of ms) ≡ true
       → Carries number a b ms → Carries number a b (Crossed (crossing.Down h) ∷ ms)
   keeps_down h ms run time on c =
-      others_kept number tells hosts addresses a b allowed (Crossed (crossing.Down h)) ms run time on refl (lives_on h) ended (λ y. (refl, refl)) off refl c where
+      others_kept number tells hosts addresses a b allowed (Crossed (crossing.Down h)) ms run time on refl (lives_on h) life_ended (λ y. (refl, refl)) off refl c where
         other : same_host h a ≡ false
         other = same_host-sym h a ∙ kept_stop (same_host a h) (pair a b (events_of ms)) on
 

@@ -127,8 +127,8 @@ module _ (a b : Host) where
     away_told : (n : Notice) (ls : List Life) → AreAlike ls (lives_told h n ls)
     away_told (notice.Opened socket peer foreign own partner) ls =
         alike_more ls (new_life h socket peer foreign own partner ∷ []) ((λ host p. clash ⊥ (same_host h a) (subst (λ (g : Host). same_host h g ≡ true) host (same_host-refl h)) off), tt)
-    away_told (notice.Ended socket peer foreign) ls = alike_where (lives_between h socket peer foreign) book.ended ls (λ x. refl) (λ x. refl) (λ x there g p is. between_other socket foreign peer x g is)
-    away_told (notice.PairReset peer) ls = alike_where (lives_with h peer) book.ended ls (λ x. refl) (λ x. refl) (λ x there g p is. with_other peer x g is)
+    away_told (notice.Ended socket peer foreign) ls = alike_where (lives_between h socket peer foreign) book.life_ended ls (λ x. refl) (λ x. refl) (λ x there g p is. between_other socket foreign peer x g is)
+    away_told (notice.PairReset peer) ls = alike_where (lives_with h peer) book.life_ended ls (λ x. refl) (λ x. refl) (λ x there g p is. with_other peer x g is)
     away_told (notice.Sent socket bits) ls = alike_at_other socket (book.carried bits) ls (λ x. refl) (λ x. refl)
     away_told (notice.Arrived socket bits) ls = alike_at_other socket (book.carried bits) ls (λ x. refl) (λ x. refl)
     away_told (notice.Returned socket messages bits) ls = alike_at_other socket (book.returned messages bits) ls (λ x. refl) (λ x. refl)
@@ -182,8 +182,8 @@ module _ (a b : Host) where
 
     named_told : (n : Notice) → IsNamed p n → (ls : List Life) → AreAlike ls (lives_told a n ls)
     named_told (notice.Opened socket peer foreign own partner) is ls = alike_more ls (new_life a socket peer foreign own partner ∷ []) ((λ host to. named_new peer is to), tt)
-    named_told (notice.Ended socket peer foreign) is ls = alike_where (lives_between a socket peer foreign) book.ended ls (λ x. refl) (λ x. refl) (λ x there h to t. other_between socket foreign peer is x to t)
-    named_told (notice.PairReset peer) is ls = alike_where (lives_with a peer) book.ended ls (λ x. refl) (λ x. refl) (λ x there h to t. other_with peer is x to t)
+    named_told (notice.Ended socket peer foreign) is ls = alike_where (lives_between a socket peer foreign) book.life_ended ls (λ x. refl) (λ x. refl) (λ x there h to t. other_between socket foreign peer is x to t)
+    named_told (notice.PairReset peer) is ls = alike_where (lives_with a peer) book.life_ended ls (λ x. refl) (λ x. refl) (λ x there h to t. other_with peer is x to t)
     named_told (notice.Sent socket bits) is ls = absurd is
     named_told (notice.Arrived socket bits) is ls = absurd is
     named_told (notice.Returned socket messages bits) is ls = absurd is
@@ -207,14 +207,14 @@ module _ (a b : Host) where
     IsClearOf (deeds.Returns e messages bits) ls = IsClear e.own ls
     IsClearOf d ls = Unit {0}
 
-    one_ended : (v : Bool) (e : Entry) (x : Life) → IsLike x (if v then changed_when (lives_between a e.own p e.foreign x) book.ended x else x)
-    one_ended true e x = like_when (lives_between a e.own p e.foreign x) book.ended x (λ y. refl) (λ y. refl) (λ h to t. other_between e.own e.foreign p refl x to t)
+    one_ended : (v : Bool) (e : Entry) (x : Life) → IsLike x (if v then changed_when (lives_between a e.own p e.foreign x) book.life_ended x else x)
+    one_ended true e x = like_when (lives_between a e.own p e.foreign x) book.life_ended x (λ y. refl) (λ y. refl) (λ h to t. other_between e.own e.foreign p refl x to t)
     one_ended false e x = like_same x
 
     like_ended : (es : List Entry) (x : Life) → IsLike x (life_ends a p es x)
     like_ended [] x = like_same x
     like_ended (e ∷ es) x =
-        let y : Life = if e.mine then changed_when (lives_between a e.own p e.foreign x) book.ended x else x in
+        let y : Life = if e.mine then changed_when (lives_between a e.own p e.foreign x) book.life_ended x else x in
         like_then x y (life_ends a p es y) (one_ended e.mine e x) (like_ended es y)
 
     like_at : (k : ℕ) (f : Life → Life) (ls : List Life) → ((x : Life) → (f x).host ≡ x.host) → ((x : Life) → (f x).peer ≡ x.peer) → IsClear k ls → (x : Life) → Among x ls → IsLike x (changed_when (lives_at a k x) f x)

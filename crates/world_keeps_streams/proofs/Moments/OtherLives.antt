@@ -16,7 +16,7 @@ use Rattle.ncp_control.specs.declared.command.Command.TheVariants as command
 use Rattle.host_pairs.specs.Allowed.{MayGo}
 use Rattle.host_pairs.specs.Asked.{contact_notices}
 use Rattle.host_pairs.specs.Desk.{DeskState, desk_of}
-use Rattle.host_pairs.specs.Entries.{changed_at, ending, entry_at, is_busy, is_ending, is_mine_on, is_over, opening, opening_by}
+use Rattle.host_pairs.specs.Entries.{changed_at, ending, entry_at, is_busy, is_ending, is_mine_on, is_over, opening_notices, opening_by}
 use Rattle.host_pairs.specs.Pair.{PairState}
 use Rattle.host_pairs.specs.Parcels as parcel
 use Rattle.host_pairs.specs.Parcels.{Parcel, asked_at, cls_sent, command_gone, commands_gone, link_of, may_send_on, next_of, parcel_gone}
@@ -28,7 +28,7 @@ use Rattle.host_pairs.specs.declared.notice.Notice.TheVariants as notice
 use Rattle.host_pairs.specs.declared.phase.Phase.{Phase}
 use Rattle.host_pairs.proofs.lemmas.{both, what_goes}
 use Rattle.host_keeps_streams.proofs.lemmas.Senders as senders
-use Rattle.sockets.specs.Accepting.{accepted, turn_of, turned}
+use Rattle.sockets.specs.Accepting.{accepted, turn_of, after_turn}
 use Rattle.sockets.specs.Pairs.{NcpState, owner_of, pair_with}
 use Rattle.sockets.specs.Peers.{AreInOrder}
 use Rattle.sockets.specs.Requests.{first_if, grant_fault, on_open, refusal, served_notices}
@@ -89,7 +89,7 @@ goes_to h None = h
 goes_to h (Some m) = m.flow.destination
 
 module _ (a b p : Host) where
-  named_opening : (o : Option Entry) → AreNamed a b p (opening p o)
+  named_opening : (o : Option Entry) → AreNamed a b p (opening_notices p o)
   named_opening None = tt
   named_opening (Some e) = by e.asked e.partner where
     here : (u v : ℕ) (k : Bool) → AreNamed a b p (if k then [] else notice.Opened e.own p e.foreign u v ∷ [])
@@ -110,9 +110,9 @@ module _ (a b p : Host) where
 
   named_gone : (stamp : ℕ) (c : Command) (d : DeskState) → AreNamed a b p d.notices → AreNamed a b p (command_gone p stamp c d).notices
   named_gone stamp (command.Rts receive send link) d is =
-      named_append a b p d.notices (opening p (entry_at receive send (changed_at receive send (asked_at stamp) d.entries))) is (named_opening (entry_at receive send (changed_at receive send (asked_at stamp) d.entries)))
+      named_append a b p d.notices (opening_notices p (entry_at receive send (changed_at receive send (asked_at stamp) d.entries))) is (named_opening (entry_at receive send (changed_at receive send (asked_at stamp) d.entries)))
   named_gone stamp (command.Str send receive size) d is =
-      named_append a b p d.notices (opening p (entry_at send receive (changed_at send receive (asked_at stamp) d.entries))) is (named_opening (entry_at send receive (changed_at send receive (asked_at stamp) d.entries)))
+      named_append a b p d.notices (opening_notices p (entry_at send receive (changed_at send receive (asked_at stamp) d.entries))) is (named_opening (entry_at send receive (changed_at send receive (asked_at stamp) d.entries)))
   named_gone stamp (command.Cls own foreign) d is = named_append a b p d.notices (flat_map (ending p) (filter is_over (changed_at own foreign cls_sent d.entries))) is (named_ending (filter is_over (changed_at own foreign cls_sent d.entries)))
   named_gone stamp command.Nop d is = is
   named_gone stamp (command.All link m n) d is = is
@@ -172,7 +172,7 @@ module _ (a b : Host) (s : NcpState) (κ : Kept) (holds : (k : ℕ) → Holds a 
   message_here : (m : HostMessage) (stamp : ℕ) → same_host b m.flow.source ≡ false → AreAlike a b κ.book.lives (all_lives a (accepted s (inbound.Message m) stamp).1 κ.book.lives)
   unfolding accepted
   message_here m stamp off = by (same_host s.own m.flow.destination) where
-    by : (v : Bool) → AreAlike a b κ.book.lives (all_lives a (if v then turned s m.flow.source (message_taken m.flow.source stamp m.flow.link.0 m.text (turn_of s m.flow.source)) else (s, [])).1 κ.book.lives)
+    by : (v : Bool) → AreAlike a b κ.book.lives (all_lives a (if v then after_turn s m.flow.source (message_taken m.flow.source stamp m.flow.link.0 m.text (turn_of s m.flow.source)) else (s, [])).1 κ.book.lives)
     by true =
         let turn : same_host m.flow.source b ≡ false = same_turned b m.flow.source off in
         subst (λ (ls : List Life). AreAlike a b κ.book.lives ls) (told_lives a (message_taken m.flow.source stamp m.flow.link.0 m.text (turn_of s m.flow.source)).notices κ)
@@ -182,7 +182,7 @@ module _ (a b : Host) (s : NcpState) (κ : Kept) (holds : (k : ℕ) → Holds a 
   answer_here : (kind : Answer) (f : Flow) (stamp : ℕ) → same_host b f.destination ≡ false → AreAlike a b κ.book.lives (all_lives a (accepted s (inbound.Answer kind f) stamp).1 κ.book.lives)
   unfolding accepted
   answer_here kind f stamp off = by (same_host s.own f.source) (is_busy (pair_with f.destination s.peers).busy f.link.0) where
-    by : (v w : Bool) → AreAlike a b κ.book.lives (all_lives a (if v then (if w then turned s f.destination (answered_turn f.destination kind f.link.0 (turn_of s f.destination)) else (s, [])) else (s, [])).1 κ.book.lives)
+    by : (v w : Bool) → AreAlike a b κ.book.lives (all_lives a (if v then (if w then after_turn s f.destination (answered_turn f.destination kind f.link.0 (turn_of s f.destination)) else (s, [])) else (s, [])).1 κ.book.lives)
     by true true =
         subst (λ (ls : List Life). AreAlike a b κ.book.lives ls) (told_lives a (answered_turn f.destination kind f.link.0 (turn_of s f.destination)).notices κ)
         (answer_alike a b f.destination (same_turned b f.destination off) κ kind f.link.0 (turn_of s f.destination))
@@ -269,7 +269,7 @@ module _ (a b : Host) where
       (second_off (same_host a f.source) (same_host b f.destination) off e))
       (λ g. alike_same a b (kept_in ms).book.lives)
   moment_alike hosts addresses (Crossed (crossing.Down h)) ms run time off =
-      alike_where a b (lives_on h) book.ended (kept_in ms).book.lives (λ x. refl) (λ x. refl) (λ x there host peer is. on_other a b h (same_turned a h off) x host is)
+      alike_where a b (lives_on h) book.life_ended (kept_in ms).book.lives (λ x. refl) (λ x. refl) (λ x there host peer is. on_other a b h (same_turned a h off) x host is)
   moment_alike hosts addresses (Crossed (crossing.Up h)) ms run time off = alike_same a b (kept_in ms).book.lives
   moment_alike hosts addresses (Asked h r) ms run time off =
       acts h (λ g. served_notices (program g ms) r) (kept_in ms).book.lives (λ g. lives_asked g r (kept_in ms).book.lives)

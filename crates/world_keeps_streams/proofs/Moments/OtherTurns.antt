@@ -9,10 +9,10 @@ use Rattle.ncp_control.specs.DataHeader.{data_bits, header_of}
 use Rattle.ncp_control.specs.declared.command.Command.{Command}
 use Rattle.ncp_control.specs.declared.command.Command.TheVariants as command
 use Rattle.ncp_control.specs.declared.data_header.DataHeader.{DataHeader}
-use Rattle.host_pairs.specs.Commands.{asked_on_link, asked_with_size, found_in, taken}
+use Rattle.host_pairs.specs.Commands.{asked_on_link, asked_with_size, found_in, desk_taken}
 use Rattle.host_pairs.specs.Control.{Legal, Order, Wrong, error, orders_of}
 use Rattle.host_pairs.specs.Data.{data_of, data_taken, is_acceptable}
-use Rattle.host_pairs.specs.Desk.{DeskState, desk_of, listens_on, queued}
+use Rattle.host_pairs.specs.Desk.{DeskState, desk_of, listens_on, command_queued}
 use Rattle.host_pairs.specs.Entries.{changed_at, entry_at, is_ending, is_mine_on, is_open, receives_on, sends_on}
 use Rattle.host_pairs.specs.Pair.{PairState}
 use Rattle.host_pairs.specs.Phases.{is_ready, reply_phase}
@@ -162,14 +162,14 @@ module _ (a b p : Host) (off : same_host p b ≡ false) where
       by true = told_more t.notices (work (desk_of t.pair t.listening)).notices (alike placed)
       by false = alike_same a b (Lives t.notices)
 
-    hear_step : (stamp : ℕ) (c : Command) (t : TurnState) → Step t (if_ready (taken p t.pair.busy stamp c) t)
+    hear_step : (stamp : ℕ) (c : Command) (t : TurnState) → Step t (if_ready (desk_taken p t.pair.busy stamp c) t)
     hear_step stamp c t =
-        ready_step (taken p t.pair.busy stamp c) t (λ k m g. good_ready a k m p κ (taken p t.pair.busy stamp c) t (good_taken a k m p (all_told a t.notices κ) t.pair.busy stamp c (desk_of t.pair t.listening)) g)
+        ready_step (desk_taken p t.pair.busy stamp c) t (λ k m g. good_ready a k m p κ (desk_taken p t.pair.busy stamp c) t (good_taken a k m p (all_told a t.notices κ) t.pair.busy stamp c (desk_of t.pair t.listening)) g)
         (λ placed. call_alike t placed (Hears stamp 0 c) tt (hits_hears t.pair (placed 0).2.refusing stamp c))
 
-    wrong_step : (c : Command) (t : TurnState) → Step t (if_ready (queued c) t)
+    wrong_step : (c : Command) (t : TurnState) → Step t (if_ready (command_queued c) t)
     wrong_step c t =
-        ready_step (queued c) t (λ k m g. good_ready a k m p κ (queued c) t (good_queued a k m p (all_told a t.notices κ) c (desk_of t.pair t.listening)) g) (λ placed. alike_same a b (Lives t.notices))
+        ready_step (command_queued c) t (λ k m g. good_ready a k m p κ (command_queued c) t (good_queued a k m p (all_told a t.notices κ) c (desk_of t.pair t.listening)) g) (λ placed. alike_same a b (Lives t.notices))
 
     data_step : (link : ℕ) (text : List Bool) (t : TurnState) → Step t (if_ready (data_taken link text) t)
     data_step link text t =

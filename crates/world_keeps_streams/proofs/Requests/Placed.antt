@@ -1,5 +1,5 @@
 -- Requests by the places where they went out, connection by connection: what the clauses of a safe book ask of them.
-use Rattle.std.proofs.Common.{◌≡◌, ℕ, true, false, List, ◌∷◌, Option, Some, None, refl, ap, subst}
+use Rattle.std.proofs.Common.{◌≡◌, ℕ, true, false, List, [], ◌∷◌, Option, Some, None, refl, ap, subst}
 use Rattle.leader1822.specs.Host.{Host}
 use Rattle.reset_law.specs.Stays as stay
 use Rattle.net_sim.specs.Safe.{Match, receives}

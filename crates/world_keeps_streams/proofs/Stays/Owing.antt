@@ -6,7 +6,7 @@ use Rattle.leader1822.specs.declared.crossing.Answer.TheVariants as answer
 use Rattle.reset_law.specs.Phases.{Phase, Closed, Want, Gone, Heard, Ready, failed_phase}
 use Rattle.reset_law.specs.Events.{Message, Reset, Reply, Other, Event, Contact, Out, In, Told, Down, Up, Idle, Call, Send, Take, Hear, Begin, when, are, place}
 use Rattle.reset_law.specs.Boxes.{Box, Empty, Waiting, Put, Fetch, Clear, ClearAll, at_link, boxes}
-use Rattle.reset_law.specs.Pairs.{Plain, kind_of, Pair, MaySend, moved, pair}
+use Rattle.reset_law.specs.Pairs.{Plain, kind_of, Pair, MaySend, pair_moved, pair}
 use Rattle.reset_law.specs.Invariant.{kind_in}
 use Rattle.reset_law.specs.Runs.{IsRun}
 use Rattle.reset_law.specs.Stays.{is_ready, ready, begins, takes_reset, stays}
@@ -34,27 +34,27 @@ sends_signal l (Other text) p owed may e = contradicts p.owed owed may.1
 
 -- ---- but for an RST that is taken nothing makes a host owe
 
-owed_call : (t : Bool) (p : Pair) → (moved (when t Call) p).owed ≡ true → p.owed ≡ true
+owed_call : (t : Bool) (p : Pair) → (pair_moved (when t Call) p).owed ≡ true → p.owed ≡ true
 owed_call true p e = e
 owed_call false p e = e
 
-owed_begin : (t : Bool) (p : Pair) → (moved (when t Begin) p).owed ≡ true → p.owed ≡ true
+owed_begin : (t : Bool) (p : Pair) → (pair_moved (when t Begin) p).owed ≡ true → p.owed ≡ true
 owed_begin true p e = absurd (cc)
 owed_begin false p e = e
 
-owed_sent : (t : Bool) (l : ℕ) (m : Message) (p : Pair) → (moved (when t (Send l m)) p).owed ≡ true → p.owed ≡ true
+owed_sent : (t : Bool) (l : ℕ) (m : Message) (p : Pair) → (pair_moved (when t (Send l m)) p).owed ≡ true → p.owed ≡ true
 owed_sent true l Reset p e = e
 owed_sent true l Reply p e = absurd (cc)
 owed_sent true l (Other text) p e = e
 owed_sent false l m p e = e
 
-owed_told : (t : Bool) (l : ℕ) (k : Answer) (p : Pair) → (moved (when t (Hear l k)) p).owed ≡ true → p.owed ≡ true
+owed_told : (t : Bool) (l : ℕ) (k : Answer) (p : Pair) → (pair_moved (when t (Hear l k)) p).owed ≡ true → p.owed ≡ true
 owed_told true l answer.Rfnm p e = e
 owed_told true l answer.Dead p e = e
 owed_told true l answer.Incomplete p e = e
 owed_told false l k p e = e
 
-owed_taken : (t : Bool) (m : Message) (p : Pair) → (m ≡ Reset → t ≡ false) → (moved (when t (Take m)) p).owed ≡ true → p.owed ≡ true
+owed_taken : (t : Bool) (m : Message) (p : Pair) → (m ≡ Reset → t ≡ false) → (pair_moved (when t (Take m)) p).owed ≡ true → p.owed ≡ true
 owed_taken true Reset p none e = let no : true ≡ false = none refl in absurd (cc)
 owed_taken true Reply p none e = e
 owed_taken true (Other text) p none e = e
@@ -111,7 +111,7 @@ failed_owed (Gone early) false e = absurd (cc)
 failed_owed Heard false e = absurd (cc)
 failed_owed Ready false e = absurd (cc)
 
-told_owed : (t : Bool) (l : ℕ) (k : Answer) (p : Pair) → t ≡ true → is_ready (moved (when t (Hear l k)) p).phase ≡ true → (k ≡ answer.Rfnm) ⊎ (p.owed ≡ true)
+told_owed : (t : Bool) (l : ℕ) (k : Answer) (p : Pair) → t ≡ true → is_ready (pair_moved (when t (Hear l k)) p).phase ≡ true → (k ≡ answer.Rfnm) ⊎ (p.owed ≡ true)
 told_owed true l answer.Rfnm p is e = inl refl
 told_owed true l answer.Dead p is e = inr (failed_owed p.phase p.owed e)
 told_owed true l answer.Incomplete p is e = inr (failed_owed p.phase p.owed e)

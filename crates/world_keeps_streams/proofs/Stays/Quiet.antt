@@ -233,7 +233,7 @@ module _ (number other : ℕ → ℕ → ℕ → ℕ) (tells : IsTelling number)
         quiet_step (Told l is) = subst Step (sym is) (answers l)
         quiet_step (Replied stamp is) = subst Step (sym is) (replies stamp)
 
-      pub reach : (ms : List calls.Moment) (queue : List Command) → IsSolo peer ms queue → J before_x before_y (alone peer [] []) b → before_x.receiver ≡ receivers.opening → before_y.sender ≡ senders.opening → R ms queue
+      pub reach : (ms : List calls.Moment) (queue : List Command) → IsSolo peer ms queue → J before_x before_y (alone peer [] []) b → before_x.receiver ≡ receivers.opening_receiver → before_y.sender ≡ senders.opening_sender → R ms queue
       reach [] queue h j e f = reached_more [] [] queue h (record { x = before_x; y = before_y; joint = j; received = e; sent = f; sender = refl; receiver = refl })
       reach (m ∷ ms) queue h j e f =
           let r : R ms m.pair.queue = reach ms m.pair.queue h.2 j e f in

@@ -14,7 +14,7 @@ use Rattle.host_pairs.specs.Phases as program_phases
 use Rattle.reset_law.specs.Phases.{Phase, Closed, Want, Gone, Heard, Ready, failed_phase}
 use Rattle.reset_law.specs.Events.{Message, Reset, Reply, Other, Event, Contact, Out, In, Told, Down, Up, Idle, Call, Send, Take, Hear, Begin, when, are}
 use Rattle.reset_law.specs.Boxes.{Box, Empty, Waiting, Taken, WaitsWith, boxes}
-use Rattle.reset_law.specs.Pairs.{MaySend, moved, pair}
+use Rattle.reset_law.specs.Pairs.{MaySend, pair_moved, pair}
 use Rattle.reset_law.specs.Pairs as law
 use Rattle.reset_law.specs.Runs.{IsRun}
 use Rattle.reset_law.specs.Stays.{is_ready, ready, takes_reset, stays}
@@ -44,13 +44,13 @@ both_true true true e = absurd (cc)
 both_true true false e = (refl, refl)
 both_true false t e = absurd (cc)
 
-out_silent : (t : Bool) (l : ℕ) (m : Message) (p : law.Pair) → (moved (when t (Send l m)) p).begun ≡ false → p.begun ≡ false
+out_silent : (t : Bool) (l : ℕ) (m : Message) (p : law.Pair) → (pair_moved (when t (Send l m)) p).begun ≡ false → p.begun ≡ false
 out_silent true l Reset p e = e
 out_silent true l Reply p e = e
 out_silent true l (Other text) p e = absurd (cc)
 out_silent false l m p e = e
 
-in_silent : (t : Bool) (m : Message) (p : law.Pair) → (m ≡ Reset → t ≡ false) → (moved (when t (Take m)) p).begun ≡ false → p.begun ≡ false
+in_silent : (t : Bool) (m : Message) (p : law.Pair) → (m ≡ Reset → t ≡ false) → (pair_moved (when t (Take m)) p).begun ≡ false → p.begun ≡ false
 in_silent true Reset p k e = absurd (let no : true ≡ false = k refl in cc)
 in_silent true Reply p k e = e
 in_silent true (Other text) p k e = e
@@ -64,17 +64,17 @@ failed_silent (Gone early) false begun r e = absurd (cc)
 failed_silent Heard false begun r e = absurd (cc)
 failed_silent Ready false begun r e = absurd (cc)
 
-told_silent : (t : Bool) (l : ℕ) (k : Answer) (p : law.Pair) → is_ready (moved (when t (Hear l k)) p).phase ≡ true → (moved (when t (Hear l k)) p).begun ≡ false → p.begun ≡ false
+told_silent : (t : Bool) (l : ℕ) (k : Answer) (p : law.Pair) → is_ready (pair_moved (when t (Hear l k)) p).phase ≡ true → (pair_moved (when t (Hear l k)) p).begun ≡ false → p.begun ≡ false
 told_silent true l answer.Rfnm p r e = e
 told_silent true l answer.Dead p r e = failed_silent p.phase p.owed p.begun r e
 told_silent true l answer.Incomplete p r e = failed_silent p.phase p.owed p.begun r e
 told_silent false l k p r e = e
 
-call_silent : (t : Bool) (p : law.Pair) → is_ready (moved (when t Call) p).phase ≡ true → (moved (when t Call) p).begun ≡ false → p.begun ≡ false
+call_silent : (t : Bool) (p : law.Pair) → is_ready (pair_moved (when t Call) p).phase ≡ true → (pair_moved (when t Call) p).begun ≡ false → p.begun ≡ false
 call_silent true p r e = absurd (cc)
 call_silent false p r e = e
 
-begin_silent : (t : Bool) (p : law.Pair) → is_ready (moved (when t Begin) p).phase ≡ true → (moved (when t Begin) p).begun ≡ false → p.begun ≡ false
+begin_silent : (t : Bool) (p : law.Pair) → is_ready (pair_moved (when t Begin) p).phase ≡ true → (pair_moved (when t Begin) p).begun ≡ false → p.begun ≡ false
 begin_silent true p r e = absurd (cc)
 begin_silent false p r e = e
 
@@ -96,7 +96,7 @@ silent_before a b Idle events k e = e
 -- ---- one moment
 
 -- a host that is ready after a message that isn't a text went out of an RRP
-only_reply : (l : ℕ) (m : Message) (p : law.Pair) → MaySend p l m → is_ready (moved (Some (Send l m)) p).phase ≡ true → (moved (Some (Send l m)) p).begun ≡ false → (is_ready p.phase ≡ true) × (p.owed ≡ true)
+only_reply : (l : ℕ) (m : Message) (p : law.Pair) → MaySend p l m → is_ready (pair_moved (Some (Send l m)) p).phase ≡ true → (pair_moved (Some (Send l m)) p).begun ≡ false → (is_ready p.phase ≡ true) × (p.owed ≡ true)
 only_reply l Reset p may r e = absurd (cc)
 only_reply l Reply p may r e = (r, may.1)
 only_reply l (Other text) p may r e = absurd (cc)
@@ -135,8 +135,8 @@ module _ (a b : Host) where
           let msg : Message = message_on m.flow.link.0 m.text in
           let may : MaySend (pair a b events) m.flow.link.0 msg = carry (λ v w. MaySend (pair v w events) m.flow.link.0 msg) a b m.flow.source m.flow.destination both run.1 in
           let o : (is_ready (pair a b events).phase ≡ true) × ((pair a b events).owed ≡ true) =
-          only_reply m.flow.link.0 msg (pair a b events) may (subst (λ (t : Bool). is_ready (moved (when t (Send m.flow.link.0 msg)) (pair a b events)).phase ≡ true) both r)
-          (subst (λ (t : Bool). (moved (when t (Send m.flow.link.0 msg)) (pair a b events)).begun ≡ false) both silent) in
+          only_reply m.flow.link.0 msg (pair a b events) may (subst (λ (t : Bool). is_ready (pair_moved (when t (Send m.flow.link.0 msg)) (pair a b events)).phase ≡ true) both r)
+          (subst (λ (t : Bool). (pair_moved (when t (Send m.flow.link.0 msg)) (pair a b events)).begun ≡ false) both silent) in
           let agrees : Agrees (before moments) (pair a b events) = story_agrees moments a b c.story in
           (sym (ready_both a b moments c.story) ∙ o.0, sym agrees.owed ∙ o.1)
         where
@@ -170,7 +170,7 @@ module _ (a b : Host) where
           let place : (p : ℕ) × (boxes b a events m.flow.link.0 ≡ Waiting p (Other m.text)) = waiting (boxes b a events m.flow.link.0) (Other m.text) waits in
           absurd (contradicts (stays a b events) (waits_in_stay hosts events c.run b a (ready_phase (pair a b events).phase was) m.flow.link.0 place.0 m.text place.1) left)
         where
-          text_ready : (t : Bool) (text : List Bool) (p : law.Pair) → is_ready (moved (when t (Take (Other text))) p).phase ≡ true → is_ready p.phase ≡ true
+          text_ready : (t : Bool) (text : List Bool) (p : law.Pair) → is_ready (pair_moved (when t (Take (Other text))) p).phase ≡ true → is_ready p.phase ≡ true
           text_ready true text p e = e
           text_ready false text p e = e
 

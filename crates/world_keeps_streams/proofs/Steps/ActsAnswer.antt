@@ -23,7 +23,7 @@ use Rattle.pair_keeps_streams.proofs.lemmas.{Fetched, Free, Party, Steps}
 use Rattle.reset_law.specs.Boxes.{Box, Empty, Waiting, Taken, Fits, Clear, ClearAll, posted, boxes}
 use Rattle.reset_law.specs.Events.{Reset, Reply, Other, Begin, are, place, when}
 use Rattle.reset_law.specs.Invariant.{kind_in, is_signal}
-use Rattle.reset_law.specs.Pairs.{Plain, Pair, moved, pair}
+use Rattle.reset_law.specs.Pairs.{Plain, Pair, pair_moved, pair}
 use Rattle.reset_law.specs.Runs.{IsRun}
 use Rattle.reset_law.specs.Stays as stay
 use Rattle.reset_law.proofs.lemmas.{alone_run}
@@ -41,7 +41,7 @@ use Rattle.world_keeps_streams.proofs.Steps.Joined.{commands_in, post_in}
 use Rattle.world_keeps_streams.proofs.Stays.Resets.{stays_ready}
 use Rattle.world_keeps_streams.proofs.Stays.Owing.{told_rfnm}
 
-kept_start : (t : Bool) (q : Pair) → (stay.is_ready (moved (when t Begin) q).phase && not false) ≡ true → t ≡ false
+kept_start : (t : Bool) (q : Pair) → (stay.is_ready (pair_moved (when t Begin) q).phase && not false) ≡ true → t ≡ false
 kept_start true q k = absurd (let no : false ≡ true = k in cc)
 kept_start false q k = refl
 

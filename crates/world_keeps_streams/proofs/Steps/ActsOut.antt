@@ -18,7 +18,7 @@ use Rattle.host_keeps_streams.specs.Histories.{IsTelling}
 use Rattle.pair_keeps_streams.proofs.lemmas.{Joint, Party, Steps}
 use Rattle.reset_law.specs.Boxes.{Box, Empty, Waiting, Put, posted, boxes}
 use Rattle.reset_law.specs.Events.{Message, Reset, Reply, Other, Out, Send, are, place, when}
-use Rattle.reset_law.specs.Pairs.{Pair, moved, pair}
+use Rattle.reset_law.specs.Pairs.{Pair, pair_moved, pair}
 use Rattle.reset_law.specs.Runs.{IsRun}
 use Rattle.reset_law.specs.Stays as stay
 use Rattle.sockets.specs.Pairs.{NcpState, pair_with}
@@ -43,7 +43,7 @@ clash : (P : Type 0) (t : Bool) → t ≡ true → t ≡ false → P
 clash P true e f = absurd (let no : true ≡ false = f in cc)
 clash P false e f = absurd (let no : false ≡ true = e in cc)
 
-kept_text : (t : Bool) (k : ℕ) (text : List Bool) (q : Pair) → stay.is_ready q.phase ≡ true → (stay.is_ready (moved (when t (Send k (Other text))) q).phase && not false) ≡ true
+kept_text : (t : Bool) (k : ℕ) (text : List Bool) (q : Pair) → stay.is_ready q.phase ≡ true → (stay.is_ready (pair_moved (when t (Send k (Other text))) q).phase && not false) ≡ true
 kept_text true k text q e = rw e refl
 kept_text false k text q e = rw e refl
 

@@ -6,7 +6,7 @@ use Rattle.leader1822.specs.Mailboxes as mail
 use Rattle.leader1822.specs.declared.crossing.Crossing.TheVariants as crossing
 use Rattle.leader1822.specs.declared.message.HostMessage.{HostMessage}
 use Rattle.ncp_control.specs.declared.command.Command.{Command}
-use Rattle.stream_law.specs.Streams.{Stream, opening}
+use Rattle.stream_law.specs.Streams.{Stream, opening_stream}
 use Rattle.host_keeps_ranges.specs.Ranges.{IsRanged}
 use Rattle.host_keeps_streams.specs.Histories.{IsTelling, numbered}
 use Rattle.host_keeps_streams.proofs.lemmas.{numbered_tells}
@@ -31,7 +31,7 @@ use Rattle.world_keeps_streams.proofs.Steps.ActsOut.{act_out}
 use Rattle.world_keeps_streams.proofs.Calls.Chain.{mail_below}
 use Rattle.world_keeps_streams.proofs.Steps.GoesOut.{box_is_free}
 use Rattle.world_keeps_streams.proofs.Steps.Held.{Acted, Held, side}
-use Rattle.world_keeps_streams.proofs.Steps.Joined.{Joined, commands_in, party, post_in, turned, turned_tells}
+use Rattle.world_keeps_streams.proofs.Steps.Joined.{Joined, commands_in, party, post_in, numbered_by_peer, turned_tells}
 use Rattle.world_keeps_streams.proofs.Steps.Joining.{Goes, Mirrors, both_act, old_held}
 use Rattle.world_keeps_streams.proofs.Calls.MayCalls.{MayCalls}
 use Rattle.world_keeps_streams.proofs.Stays.Resets.{out_alone, stays_out}
@@ -104,14 +104,14 @@ alone_second hosts a b (Crossed (crossing.Down g)) moments run old = tt
 alone_second hosts a b (Crossed (crossing.Up g)) moments run old = tt
 alone_second hosts a b (Asked g r) moments run old = tt
 
-module _ (link : ℕ) (off : (link == 0) ≡ false) (steps : Steps numbered turned numbered_tells turned_tells link) (back : Steps turned numbered turned_tells numbered_tells link) (mirrors : Mirrors link) (hosts : List Host) (a b : Host) where
+module _ (link : ℕ) (off : (link == 0) ≡ false) (steps : Steps numbered numbered_by_peer numbered_tells turned_tells link) (back : Steps numbered_by_peer numbered turned_tells numbered_tells link) (mirrors : Mirrors link) (hosts : List Host) (a b : Host) where
   module _ (moments : List Moment) (ranged : (h : Host) → IsRanged (program h moments)) (story : IsStory moments) (run : IsRun hosts (events_of moments)) (old : Joined a b link moments) where
     own_goes : (x : Moment) → NotIn x → IsStory (x ∷ moments) → IsRun hosts (events_of (x ∷ moments)) → ((h p : Host) → MayCalls (calls_by h p x moments)) → stay.begins a b (event_in x) (events_of moments) ≡ false → Goes a b link x moments old
     own_goes x other_kind now law may none =
         both_act link mirrors a b x moments old (boxes a b (events_of (x ∷ moments))) (boxes b a (events_of moments))
-        (half numbered turned numbered_tells turned_tells link off steps hosts a b moments old.rest_a (party b a link old.rest_b moments) old.x old.y (old_held link mirrors a b x moments old (boxes a b (events_of (x ∷ moments))) (boxes b a (events_of moments)))
+        (half numbered numbered_by_peer numbered_tells turned_tells link off steps hosts a b moments old.rest_a (party b a link old.rest_b moments) old.x old.y (old_held link mirrors a b x moments old (boxes a b (events_of (x ∷ moments))) (boxes b a (events_of moments)))
         (ranged a) story run x other_kind now law (alone_first hosts a b x moments law) none (may a b))
-        (λ rest first second held. half turned numbered turned_tells numbered_tells link off back hosts b a moments old.rest_b
+        (λ rest first second held. half numbered_by_peer numbered turned_tells numbered_tells link off back hosts b a moments old.rest_b
         (side a b (x ∷ moments) (commands_in (boxes a b (events_of (x ∷ moments)) 0) ++ rest) (post_in (boxes a b (events_of (x ∷ moments)) link))) second first held
         (ranged b) story run x other_kind now law (alone_second hosts a b x moments law none) (sym (begins_either a b (event_in x) (events_of moments)) ∙ none) (may b a))
 
@@ -119,10 +119,10 @@ module _ (link : ℕ) (off : (link == 0) ≡ false) (steps : Steps numbered turn
         → stay.begins a b (event_in (Crossed (crossing.In m))) (events_of moments) ≡ false → Goes a b link (Crossed (crossing.In m)) moments old
     in_goes m now law may none =
         both_act link mirrors a b (Crossed (crossing.In m)) moments old (boxes a b (events_of moments)) (boxes b a (events_of (Crossed (crossing.In m) ∷ moments)))
-        (act_in numbered turned numbered_tells turned_tells link off steps hosts a b moments (commands_in (boxes a b (events_of moments) 0)) old.rest_a (post_in (boxes a b (events_of moments) link)) (party b a link old.rest_b moments) old.rest_b old.x old.y
+        (act_in numbered numbered_by_peer numbered_tells turned_tells link off steps hosts a b moments (commands_in (boxes a b (events_of moments) 0)) old.rest_a (post_in (boxes a b (events_of moments) link)) (party b a link old.rest_b moments) old.rest_b old.x old.y
         (old_held link mirrors a b (Crossed (crossing.In m)) moments old (boxes a b (events_of moments)) (boxes b a (events_of (Crossed (crossing.In m) ∷ moments)))) m now law
         (λ s free. ap post_in (box_is_free hosts a b moments run story s link free)) none (λ k s. may a b))
-        (λ rest first second held. act_in turned numbered turned_tells numbered_tells link off back hosts b a moments (commands_in (boxes b a (events_of (Crossed (crossing.In m) ∷ moments)) 0)) old.rest_b
+        (λ rest first second held. act_in numbered_by_peer numbered turned_tells numbered_tells link off back hosts b a moments (commands_in (boxes b a (events_of (Crossed (crossing.In m) ∷ moments)) 0)) old.rest_b
         (post_in (boxes b a (events_of (Crossed (crossing.In m) ∷ moments)) link))
         (side a b (Crossed (crossing.In m) ∷ moments) (commands_in (boxes a b (events_of moments) 0) ++ rest) (post_in (boxes a b (events_of moments) link))) rest second first held m now law
         (λ s free. ap post_in (fetched_free (are b a m.flow.source m.flow.destination) (place (events_of moments)) m.flow.link.0 (boxes b a (events_of moments)) link (box_is_free hosts b a moments run story s link free)))
@@ -154,11 +154,11 @@ module _ (link : ℕ) (off : (link == 0) ≡ false) (steps : Steps numbered turn
       let before : Coupled hosts moments = coupled hosts addresses moments below time.1 in
       goes moments (programs_ranged moments (served_in hosts moments time.1)) before.story before.run old x now.story now.run (may x moments run time) none
 
-  pub joined : HaveAddresses hosts → CallsMay → HaveMet → Joint numbered turned numbered_tells turned_tells link opening opening (party a b link [] []) (party b a link [] [])
+  pub joined : HaveAddresses hosts → CallsMay → HaveMet → Joint numbered numbered_by_peer numbered_tells turned_tells link opening_stream opening_stream (party a b link [] []) (party b a link [] [])
       → (moments : List Moment) → mail.IsRun hosts (crossings_of moments) → IsTimeline hosts moments → Joined a b link moments
   joined addresses may met start [] run time = record {
-    x = opening;
-    y = opening;
+    x = opening_stream;
+    y = opening_stream;
     rest_a = [];
     rest_b = [];
     joint = start;

@@ -1,12 +1,12 @@
 -- What a host that stays takes of its peer; and what one takes that has left.
-use Rattle.std.proofs.Common.{◌≡◌, ℕ, Bool, true, false, List, ◌∷◌, ◌++◌, refl, ap, sym, ◌∙◌}
+use Rattle.std.proofs.Common.{◌≡◌, ℕ, Bool, true, false, List, [], ◌∷◌, ◌++◌, refl, ap, sym, ◌∙◌}
 use Rattle.leader1822.specs.Host.{Host}
 use Rattle.ncp_control.specs.declared.command.Command.{Command}
 use Rattle.ncp_control.specs.declared.command.Command.TheVariants as command
 use Rattle.stream_law.specs.Streams.{Stream}
-use Rattle.host_pairs.specs.Commands.{taken}
+use Rattle.host_pairs.specs.Commands.{desk_taken}
 use Rattle.host_pairs.specs.Control.{Order, Legal, Wrong, error}
-use Rattle.host_pairs.specs.Desk.{desk_of, queued}
+use Rattle.host_pairs.specs.Desk.{desk_of, command_queued}
 use Rattle.host_pairs.specs.Entries.{is_busy}
 use Rattle.host_pairs.specs.Pair.{PairState}
 use Rattle.host_pairs.specs.Phases.{is_ready}
@@ -94,7 +94,7 @@ module _ (number other : ℕ → ℕ → ℕ → ℕ) (tells : IsTelling number)
         → Goes number other tells others link p (orders_heard p stamp orders t older ++ own) (orders_taken p stamp orders t).pair front post (record b { pending = rest }) x y
     heard_run [] t older rest x y joint ready room may h = stays_as number other tells others link p (older ++ own) t.pair front post (record b { pending = rest }) x y h
     heard_run (Legal c ∷ orders) t older rest x y joint ready room may h =
-        let is : order_taken p stamp (Legal c) t ≡ with_desk t (taken p t.pair.busy stamp c (desk_of t.pair t.listening)) = ready_when p stamp (Legal c) t joint.0 ready in
+        let is : order_taken p stamp (Legal c) t ≡ with_desk t (desk_taken p t.pair.busy stamp c (desk_of t.pair t.listening)) = ready_when p stamp (Legal c) t joint.0 ready in
         let m : MayCalls (called (Hears stamp 0 c) t.pair t.listening ∷ older) = heard_under orders (order_taken p stamp (Legal c) t) (called (Hears stamp 0 c) t.pair t.listening ∷ older) may in
         let one : Goes number other tells others link p (called (Hears stamp 0 c) t.pair t.listening ∷ (older ++ own)) (order_taken p stamp (Legal c) t).pair front post (record b { pending = legal_in orders ++ rest }) x y =
         hears_here number other tells others link p (older ++ own) t.pair front post (record b { pending = c ∷ (legal_in orders ++ rest) }) x y h steps t.listening stamp c (legal_in orders ++ rest) refl m.0.0 m.0.1 m.0.2 m.0.3 room
@@ -104,7 +104,7 @@ module _ (number other : ℕ → ℕ → ℕ → ℕ) (tells : IsTelling number)
         (λ first second g. heard_run orders (order_taken p stamp (Legal c) t) (called (Hears stamp 0 c) t.pair t.listening ∷ older) rest first second joint.1 (ap (λ (u : TurnState). is_ready u.pair.phase) is ∙ ready)
         (λ f. room (sym (ap (λ (u : TurnState). is_busy u.pair.busy link) is) ∙ f)) may g)
     heard_run (Wrong code octets ∷ orders) t older rest x y joint ready room may h =
-        let is : order_taken p stamp (Wrong code octets) t ≡ with_desk t (queued (error code octets) (desk_of t.pair t.listening)) = ready_when p stamp (Wrong code octets) t joint.0 ready in
+        let is : order_taken p stamp (Wrong code octets) t ≡ with_desk t (command_queued (error code octets) (desk_of t.pair t.listening)) = ready_when p stamp (Wrong code octets) t joint.0 ready in
         heard_run orders (order_taken p stamp (Wrong code octets) t) older rest x y joint.1 (ap (λ (u : TurnState). is_ready u.pair.phase) is ∙ ready)
         (λ f. room (sym (ap (λ (u : TurnState). is_busy u.pair.busy link) is) ∙ f)) may
         (wordless_here number other tells others link p (older ++ own) t.pair front post (record b { pending = legal_in orders ++ rest }) x y h steps t.listening (error code octets) tt

@@ -15,9 +15,9 @@ use Rattle.sockets.specs.Pairs.{pair_with}
 use Rattle.net_sim.specs.Story.{Moment, events_of, program}
 use Rattle.pair_keeps_streams.proofs.lemmas.{Fetched, Free, Joint, Lies, Party, Post}
 use Rattle.world_keeps_streams.specs.Calls.{own_calls}
-pub use Rattle.world_keeps_streams.specs.Calls.{turned}
+pub use Rattle.world_keeps_streams.specs.Calls.{numbered_by_peer}
 
-pub turned_tells : IsTelling turned
+pub turned_tells : IsTelling numbered_by_peer
 turned_tells = record {
   own = λ a b g c d h e. numbered_tells.foreign b a g d c h e;
   foreign = λ a b g c d h e. numbered_tells.own b a g d c h e;
@@ -69,17 +69,17 @@ pub record Joined (a b : Host) (link : ℕ) (moments : List Moment) : Type 0 whe
   pub y : Stream
   pub rest_a : List Command
   pub rest_b : List Command
-  pub joint : Joint numbered turned numbered_tells turned_tells link x y (party a b link rest_a moments) (party b a link rest_b moments)
+  pub joint : Joint numbered numbered_by_peer numbered_tells turned_tells link x y (party a b link rest_a moments) (party b a link rest_b moments)
   pub queue_a : stay.stays a b (events_of moments) ≡ true → rest_a ≡ (pair_with b (program a moments).peers).queue
   pub queue_b : stay.stays b a (events_of moments) ≡ true → rest_b ≡ (pair_with a (program b moments).peers).queue
   -- the streams are those of the calls that the two made
   pub received_a : stay.stays a b (events_of moments) ≡ true → x.receiver ≡ receiver_now numbered b link (own_calls a b moments)
   pub sent_a : stay.stays a b (events_of moments) ≡ true → y.sender ≡ sender_now numbered b link (own_calls a b moments)
-  pub received_b : stay.stays b a (events_of moments) ≡ true → y.receiver ≡ receiver_now turned a link (own_calls b a moments)
-  pub sent_b : stay.stays b a (events_of moments) ≡ true → x.sender ≡ sender_now turned a link (own_calls b a moments)
+  pub received_b : stay.stays b a (events_of moments) ≡ true → y.receiver ≡ receiver_now numbered_by_peer a link (own_calls b a moments)
+  pub sent_b : stay.stays b a (events_of moments) ≡ true → x.sender ≡ sender_now numbered_by_peer a link (own_calls b a moments)
   -- and each of these calls might be made
   pub allowed_a : stay.stays a b (events_of moments) ≡ true → AreAllowed numbered b link (own_calls a b moments)
-  pub allowed_b : stay.stays b a (events_of moments) ≡ true → AreAllowed turned a link (own_calls b a moments)
+  pub allowed_b : stay.stays b a (events_of moments) ≡ true → AreAllowed numbered_by_peer a link (own_calls b a moments)
 
 -- what is kept of a stream after its receiver has left: it may take what lies there still, but grants and gets back nothing; and after its sender has
 pub record Keeps (receiver_stays sender_stays : Bool) (old new : Stream) : Type 0 where

@@ -2,7 +2,7 @@
 use Rattle.std.proofs.Common.{◌≡◌, ℕ, ◌==◌, false, List, [], ◌∷◌, refl}
 use Rattle.leader1822.specs.Host.{Host}
 use Rattle.leader1822.specs.Mailboxes as mail
-use Rattle.stream_law.specs.Streams.{opening}
+use Rattle.stream_law.specs.Streams.{opening_stream}
 use Rattle.host_keeps_streams.specs.Histories.{numbered}
 use Rattle.host_keeps_streams.proofs.lemmas.{numbered_tells}
 use Rattle.pair_keeps_streams.proofs.lemmas.{Joint, Steps, all_steps, mirror, opened}
@@ -11,26 +11,26 @@ use Rattle.net_sim.specs.Clean.{HaveAddresses}
 use Rattle.net_sim.specs.Story.{Moment, event_in, events_of}
 use Rattle.net_sim.specs.Timeline.{IsTimeline, crossings_of}
 use Rattle.world_keeps_streams.proofs.Steps.Goes as going
-use Rattle.world_keeps_streams.proofs.Steps.Joined.{Joined, party, turned, turned_tells}
+use Rattle.world_keeps_streams.proofs.Steps.Joined.{Joined, party, numbered_by_peer, turned_tells}
 use Rattle.world_keeps_streams.proofs.Steps.Joining.{Goes, Mirrors}
 use Rattle.world_keeps_streams.proofs.Calls.MayLaw.{law_calls}
 use Rattle.world_keeps_streams.proofs.Stays.Meets.{meets}
 
 module _ (link : ℕ) (off : (link == 0) ≡ false) where
-  steps : Steps numbered turned numbered_tells turned_tells link
-  steps = all_steps numbered turned numbered_tells turned_tells (λ own foreign g. refl) link off
+  steps : Steps numbered numbered_by_peer numbered_tells turned_tells link
+  steps = all_steps numbered numbered_by_peer numbered_tells turned_tells (λ own foreign g. refl) link off
 
-  back : Steps turned numbered turned_tells numbered_tells link
-  back = all_steps turned numbered turned_tells numbered_tells (λ own foreign g. refl) link off
+  back : Steps numbered_by_peer numbered turned_tells numbered_tells link
+  back = all_steps numbered_by_peer numbered turned_tells numbered_tells (λ own foreign g. refl) link off
 
   mirrors : Mirrors link
   mirrors = record {
-    there = λ x y a b j. mirror numbered turned numbered_tells turned_tells link x y a b j;
-    back = λ x y a b j. mirror turned numbered turned_tells numbered_tells link x y a b j;
+    there = λ x y a b j. mirror numbered numbered_by_peer numbered_tells turned_tells link x y a b j;
+    back = λ x y a b j. mirror numbered_by_peer numbered turned_tells numbered_tells link x y a b j;
   }
 
-  start : (a b : Host) → Joint numbered turned numbered_tells turned_tells link opening opening (party a b link [] []) (party b a link [] [])
-  start a b = opened numbered turned numbered_tells turned_tells link (party a b link [] []) (party b a link [] []) refl refl refl refl (λ own foreign. refl) (λ own foreign. refl) refl refl
+  start : (a b : Host) → Joint numbered numbered_by_peer numbered_tells turned_tells link opening_stream opening_stream (party a b link [] []) (party b a link [] [])
+  start a b = opened numbered numbered_by_peer numbered_tells turned_tells link (party a b link [] []) (party b a link [] []) refl refl refl refl (λ own foreign. refl) (λ own foreign. refl) refl refl
 
   module _ (hosts : List Host) (addresses : HaveAddresses hosts) (a b : Host) where
     -- one moment more, in which no stay begins

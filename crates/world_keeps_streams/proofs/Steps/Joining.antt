@@ -13,7 +13,7 @@ use Rattle.reset_law.specs.Boxes.{Box, boxes}
 use Rattle.reset_law.specs.Stays as stay
 use Rattle.net_sim.specs.Story.{Moment, events_of}
 use Rattle.world_keeps_streams.proofs.Steps.Held.{Acted, Held, side}
-use Rattle.world_keeps_streams.proofs.Steps.Joined.{Joined, Keeps, commands_in, party, post_in, turned, turned_tells}
+use Rattle.world_keeps_streams.proofs.Steps.Joined.{Joined, Keeps, commands_in, party, post_in, numbered_by_peer, turned_tells}
 
 -- a moment more, and what is kept of both streams
 pub record Goes (a b : Host) (link : ℕ) (x : Moment) (moments : List Moment) (old : Joined a b link moments) : Type 0 where
@@ -23,21 +23,21 @@ pub record Goes (a b : Host) (link : ℕ) (x : Moment) (moments : List Moment) (
 
 -- the two seen the other way
 pub record Mirrors (link : ℕ) : Type 0 where
-  pub there : (x y : Stream) (a b : Party) → Joint numbered turned numbered_tells turned_tells link x y a b → Joint turned numbered turned_tells numbered_tells link y x b a
-  pub back : (x y : Stream) (a b : Party) → Joint turned numbered turned_tells numbered_tells link x y a b → Joint numbered turned numbered_tells turned_tells link y x b a
+  pub there : (x y : Stream) (a b : Party) → Joint numbered numbered_by_peer numbered_tells turned_tells link x y a b → Joint numbered_by_peer numbered turned_tells numbered_tells link y x b a
+  pub back : (x y : Stream) (a b : Party) → Joint numbered_by_peer numbered turned_tells numbered_tells link x y a b → Joint numbered numbered_by_peer numbered_tells turned_tells link y x b a
 
 module _ (link : ℕ) (mirrors : Mirrors link) (a b : Host) (x : Moment) (moments : List Moment) (old : Joined a b link moments) (za zb : ℕ → Box) where
   abbrev pub first_held : Type 0
-  first_held = Held numbered turned numbered_tells turned_tells link a b moments (commands_in (boxes a b (events_of moments) 0)) old.rest_a (post_in (boxes a b (events_of moments) link)) (party b a link old.rest_b moments) old.x old.y
+  first_held = Held numbered numbered_by_peer numbered_tells turned_tells link a b moments (commands_in (boxes a b (events_of moments) 0)) old.rest_a (post_in (boxes a b (events_of moments) link)) (party b a link old.rest_b moments) old.x old.y
 
   abbrev pub FirstActs : Type 0
   FirstActs =
-      Acted numbered turned numbered_tells turned_tells link a b (x ∷ moments) (commands_in (za 0)) (post_in (za link)) (side b a moments (commands_in (zb 0) ++ old.rest_b) (post_in (zb link))) old.x old.y
+      Acted numbered numbered_by_peer numbered_tells turned_tells link a b (x ∷ moments) (commands_in (za 0)) (post_in (za link)) (side b a moments (commands_in (zb 0) ++ old.rest_b) (post_in (zb link))) old.x old.y
 
   abbrev pub SecondActs : Type 0
   SecondActs =
-      (rest : List Command) (first second : Stream) → Held turned numbered turned_tells numbered_tells link b a moments (commands_in (zb 0)) old.rest_b (post_in (zb link)) (side a b (x ∷ moments) (commands_in (za 0) ++ rest) (post_in (za link))) second first
-      → Acted turned numbered turned_tells numbered_tells link b a (x ∷ moments) (commands_in (boxes b a (events_of (x ∷ moments)) 0)) (post_in (boxes b a (events_of (x ∷ moments)) link))
+      (rest : List Command) (first second : Stream) → Held numbered_by_peer numbered turned_tells numbered_tells link b a moments (commands_in (zb 0)) old.rest_b (post_in (zb link)) (side a b (x ∷ moments) (commands_in (za 0) ++ rest) (post_in (za link))) second first
+      → Acted numbered_by_peer numbered turned_tells numbered_tells link b a (x ∷ moments) (commands_in (boxes b a (events_of (x ∷ moments)) 0)) (post_in (boxes b a (events_of (x ∷ moments)) link))
       (side a b (x ∷ moments) (commands_in (boxes a b (events_of (x ∷ moments)) 0) ++ rest) (post_in (boxes a b (events_of (x ∷ moments)) link))) second first
 
   pub old_held : first_held
@@ -45,7 +45,7 @@ module _ (link : ℕ) (mirrors : Mirrors link) (a b : Host) (x : Moment) (moment
 
   pub both_act : FirstActs → SecondActs → Goes a b link x moments old
   both_act one act =
-      let two : Acted turned numbered turned_tells numbered_tells link b a (x ∷ moments) (commands_in (boxes b a (events_of (x ∷ moments)) 0)) (post_in (boxes b a (events_of (x ∷ moments)) link))
+      let two : Acted numbered_by_peer numbered turned_tells numbered_tells link b a (x ∷ moments) (commands_in (boxes b a (events_of (x ∷ moments)) 0)) (post_in (boxes b a (events_of (x ∷ moments)) link))
       (side a b (x ∷ moments) (commands_in (boxes a b (events_of (x ∷ moments)) 0) ++ one.rest) (post_in (boxes a b (events_of (x ∷ moments)) link))) one.second one.first =
       act one.rest one.first one.second (record {
         joint = mirrors.there one.first one.second (side a b (x ∷ moments) (commands_in (za 0) ++ one.rest) (post_in (za link))) (side b a moments (commands_in (zb 0) ++ old.rest_b) (post_in (zb link))) one.held.joint;

@@ -15,7 +15,7 @@ use Rattle.sockets.specs.Pairs.{pair_with}
 use Rattle.net_sim.specs.Clean.{HaveAddresses}
 use Rattle.net_sim.specs.Story.{Moment, events_of, program}
 use Rattle.net_sim.specs.Timeline.{IsTimeline, crossings_of}
-use Rattle.world_keeps_streams.specs.Calls.{own_calls, turned}
+use Rattle.world_keeps_streams.specs.Calls.{own_calls, numbered_by_peer}
 use Rattle.world_keeps_streams.proofs.Calls.Allowed.{may_calls}
 use Rattle.world_keeps_streams.proofs.Calls.Chain.{Chained, chain}
 use Rattle.world_keeps_streams.proofs.Books.Streams.{safe_inv}
@@ -53,13 +53,13 @@ module _ (hosts : List Host) (addresses : HaveAddresses hosts) (link : ℕ) (off
     received : (joined link off hosts addresses a b moments run time).x.receiver ≡ receiver_now numbered b link (own_calls a b moments)
     received = (joined link off hosts addresses a b moments run time).received_a mine
 
-    sent : (joined link off hosts addresses a b moments run time).x.sender ≡ sender_now turned a link (own_calls b a moments)
+    sent : (joined link off hosts addresses a b moments run time).x.sender ≡ sender_now numbered_by_peer a link (own_calls b a moments)
     sent = (joined link off hosts addresses a b moments run time).sent_b theirs
 
     safe : IsSafe (joined link off hosts addresses a b moments run time).x c
     safe = safe_inv (joined link off hosts addresses a b moments run time).x (joined link off hosts addresses a b moments run time).joint.inv_x c
 
-    pub both_front : IsFront ((receiver_now numbered b link (own_calls a b moments)).taken c) ((sender_now turned a link (own_calls b a moments)).sent c)
+    pub both_front : IsFront ((receiver_now numbered b link (own_calls a b moments)).taken c) ((sender_now numbered_by_peer a link (own_calls b a moments)).sent c)
     both_front =
         subst (λ (s : Sender). IsFront ((receiver_now numbered b link (own_calls a b moments)).taken c) (s.sent c)) sent
         (subst (λ (r : Receiver). IsFront (r.taken c) ((joined link off hosts addresses a b moments run time).x.sender.sent c)) received safe.front)
@@ -67,7 +67,7 @@ module _ (hosts : List Host) (addresses : HaveAddresses hosts) (link : ℕ) (off
     pub both_taken : AreGranted ((receiver_now numbered b link (own_calls a b moments)).taken c) ((receiver_now numbered b link (own_calls a b moments)).returned c) ((receiver_now numbered b link (own_calls a b moments)).granted c)
     both_taken = subst (λ (r : Receiver). AreGranted (r.taken c) (r.returned c) (r.granted c)) received safe.taken
 
-    pub both_sent : AreGranted ((sender_now turned a link (own_calls b a moments)).sent c) ((receiver_now numbered b link (own_calls a b moments)).returned c) ((receiver_now numbered b link (own_calls a b moments)).granted c)
+    pub both_sent : AreGranted ((sender_now numbered_by_peer a link (own_calls b a moments)).sent c) ((receiver_now numbered b link (own_calls a b moments)).returned c) ((receiver_now numbered b link (own_calls a b moments)).granted c)
     both_sent =
         subst (λ (s : Sender). AreGranted (s.sent c) ((receiver_now numbered b link (own_calls a b moments)).returned c) ((receiver_now numbered b link (own_calls a b moments)).granted c)) sent
         (subst (λ (r : Receiver). AreGranted ((joined link off hosts addresses a b moments run time).x.sender.sent c) (r.returned c) (r.granted c)) received safe.sent)

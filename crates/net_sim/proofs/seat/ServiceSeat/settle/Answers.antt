@@ -2,7 +2,7 @@ use Rattle.std.proofs.Common.{rules, reverse, length}
 use Rattle.net_sim.specs.Book.{all_crossed, all_told}
 use Rattle.net_sim.specs.World.{turn_of}
 use Rattle.net_sim.proofs.Hosts.Doing.{done_of}
-use Rattle.net_sim.proofs.seat.HostServices.settle.Goals as goal
+use Rattle.net_sim.proofs.seat.ServiceSeat.settle.Goals as goal
 
 pub returns-clause-done : goal.returns-clause-done
 returns-clause-done c =

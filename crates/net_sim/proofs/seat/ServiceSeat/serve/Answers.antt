@@ -3,7 +3,7 @@ use Rattle.net_sim.specs.Book.{all_told, asked}
 use Rattle.net_sim.specs.World.{turn_of}
 use Rattle.sockets.specs.Requests.{served, served_notices}
 use Rattle.net_sim.proofs.Hosts.Doing.{done_of}
-use Rattle.net_sim.proofs.seat.HostServices.serve.Goals as goal
+use Rattle.net_sim.proofs.seat.ServiceSeat.serve.Goals as goal
 
 pub returns-clause-done : goal.returns-clause-done
 returns-clause-done c =
