@@ -1,5 +1,5 @@
 -- Counterexamples: machines that lack one need of one move each, and for each a history that is no run of the mailbox.
--- The law of a flow does not rest on them. They show that it asks for no more than it wants.
+-- The law of a flow does not rest on them. They show that it asks for no more than it needs.
 use Rattle.std.specs.Prelude.{◌≡◌, ℕ, zero, suc, ◌-◌, Bool, true, false, List, [], ◌∷◌, Some, None}
 use Rattle.std.specs.List.{Contains}
 use Rattle.leader1822.specs.declared.crossing.Answer.TheVariants as answer

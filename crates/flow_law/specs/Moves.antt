@@ -56,7 +56,7 @@ abbrev pub next_number : Option ℕ → ℕ
 next_number None = 0
 next_number (Some last) = next last
 
--- the destination would take this packet's message for new
+-- the destination would take this packet's message as new
 pub record New (to_up : Bool) (kept : Option ℕ) (x : Packet) : Type 0 where
   pub up : to_up ≡ true
   pub data_packet : x.kind ≡ Kind.Data

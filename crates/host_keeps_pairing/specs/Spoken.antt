@@ -12,7 +12,7 @@ use Rattle.reset_law.specs.Example as example
 use Rattle.reset_law.specs.Stays as stays
 use Rattle.host_keeps_pairing.specs.Words.{marks_in}
 
--- a text that carries its place in front is parted again
+-- a text that begins with its place is split again
 abbrev pub one_more : ℕ × List Bool → ℕ × List Bool
 one_more parts = (suc parts.0, parts.1)
 

@@ -23,7 +23,7 @@ abbrev pub returned_in : Option Word → List (ℕ × ℕ)
 returned_in (Some (Ret c messages bits)) = (messages, bits) ∷ []
 returned_in w = []
 
--- a command of the peer that changes no end of this host that receives on the link, but for requests and CLS, which may
+-- a command of the peer that changes no end of this host that receives on the link, except for requests and CLS, which may
 abbrev pub LeavesReceiver : ℕ → Command → Type 0
 LeavesReceiver link (command.Rts receive send l) = ⊥
 LeavesReceiver link (command.Str send receive size) = ⊥

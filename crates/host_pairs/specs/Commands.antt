@@ -34,7 +34,7 @@ asked_on_link stamp link e = record e { partner = Some stamp; link = Some link }
 abbrev pub asked_with_size : ℕ → ℕ → Entry → Entry
 asked_with_size stamp size e = record e { partner = Some stamp; size = Some size }
 
--- a new end
+-- a new end stands behind the others
 abbrev pub entry_joined : Entry → DeskState → DeskState
 entry_joined e d = record d { entries = d.entries ++ e ∷ [] }
 

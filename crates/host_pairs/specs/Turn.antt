@@ -100,7 +100,7 @@ closed notices t = record t {
   notices = t.notices ++ notices;
 }
 
--- a message was lost, or the peer is dead. While a reset is under way anyway nothing more comes of it
+-- a message was lost, or the peer is dead. While the pair is closed, or an RST waits to go out, nothing more comes of it
 abbrev pub failed_by : Host → Phase → TurnState → TurnState
 failed_by peer phase.Closed t = t
 failed_by peer phase.Want t = t
@@ -112,7 +112,7 @@ abbrev pub is_gone : Phase → Bool
 is_gone (phase.Gone early) = true
 is_gone p = false
 
--- an RST that failed ends the contact in any case; any other message's failure is passed over while an RRP is owed
+-- an RST that failed ends the contact in any case; any other message's failure is ignored while an RRP is owed
 abbrev pub failed : Host → TurnState → TurnState
 failed peer t = if is_gone t.pair.phase || not t.pair.owed then failed_by peer t.pair.phase t else settled_turn t
 

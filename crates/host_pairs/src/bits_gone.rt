@@ -29,7 +29,7 @@ pub(crate) fn part(alloc: Global, bits: &Bits, from: usize, to: usize) -> Result
     }
 }
 
-/// So many bits from the front.
+/// The first so many of these bits.
 pub(crate) fn front(alloc: Global, bits: &Bits, count: usize) -> Result<Bits, AllocError>
     ensures { IfOk result (λ front. front ≡ take count bits.now) }
 {

@@ -52,7 +52,7 @@ impl Desk {
         Ok(())
     }
 
-    /// Adds an end.
+    /// Adds an end behind the others.
     pub(crate) fn join(&mut self, entry: Entry) -> Result<(), AllocError>
         ensures { OnOk result (self.new ≡ entry_joined entry self.old) }
     {

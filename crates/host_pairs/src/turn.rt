@@ -23,7 +23,7 @@ use std::mem;
 /// A pair, what listens, and what the user is told.
 #[derive(Drop)]
 pub struct Turn {
-    /// The pair.
+    /// The pair that is worked on.
     pub pair: Pair,
     /// The host's sockets that listen.
     pub listening: Vec<Listener>,
@@ -220,7 +220,7 @@ impl Turn {
     }
 
     /// A message was lost, or the peer is dead. An RST that failed ends the contact in any case; any other
-    /// message's failure is passed over while an RRP is owed.
+    /// message's failure is ignored while an RRP is owed.
     fn fail(&mut self, alloc: Global, peer: HostAddr) -> Result<(), AllocError>
         ensures state { OnOk result (self.new ≡ turns.failed peer self.old) }
         ensures memory { OnErr result (0 < newly_said self.old (turns.failed peer self.old)) }

@@ -24,7 +24,7 @@ use Rattle.host_services.specs.declared.service.Service.TheVariants as service
 
 -- ---- requests
 
--- a request that is refused is passed over
+-- a request that is refused is ignored
 abbrev pub tried_by : Option NcpFault → Request → ServiceDeskState → ServiceDeskState
 tried_by None r d = serving r d
 tried_by (Some f) r d = d
@@ -36,7 +36,7 @@ tried d r = tried_by (refusal d.program r) r d
 abbrev pub tries : ServiceDeskState → List Request → ServiceDeskState
 tries d requests = fold tried d requests
 
--- a server and a user ask until they are refused: what was served before stands, and what follows is passed over
+-- a server and a user ask until they are refused: what was served before stands, and what follows is ignored
 abbrev pub asked_by : Option NcpFault → ServiceDeskState → ServiceDeskState × Option NcpFault → ServiceDeskState × Option NcpFault
 asked_by None d rest = rest
 asked_by (Some f) d rest = (d, Some f)

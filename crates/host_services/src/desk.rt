@@ -49,7 +49,7 @@ pub struct Deeds {
 
 /// A copy of a request.
 ///
-/// Errors: `AllocError` where memory is wanted for its bits.
+/// Errors: `AllocError` when there is no memory for its bits.
 pub fn copy_of(request: &Request) -> Result<Request, AllocError>
     ensures copy { IfOk result (λ copy. copy ≡ request.now) }
     ensures memory { OnErr result (HasBits request.now) }

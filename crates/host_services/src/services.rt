@@ -91,7 +91,7 @@ impl Services {
 
     /// They are told of these notices of their host, one after another. What they ask for is asked at once.
     ///
-    /// Errors: `AllocError` where memory is wanted for what they do, only where there is a notice.
+    /// Errors: `AllocError` when memory runs out, only where there is a notice.
     #[tactic(auto, unfolding(crate::specs::Turns::services_told))]
     pub fn tell(&mut self, desk: &mut ServiceDesk, notices: &[Notice]) -> Result<(), AllocError>
         ensures memory { OnErr result (0 < length notices.now) }
@@ -106,7 +106,7 @@ impl Services {
     /// A server of an initial connection begins, on the odd socket `listen` and with an even base. One that can't begin, or whose
     /// first requests are refused, is reported to have failed.
     ///
-    /// Errors: `AllocError` where memory is wanted.
+    /// Errors: `AllocError` when memory runs out.
     #[tactic(auto, unfolding(crate::specs::Turns::server_begun))]
     pub fn serve(
         &mut self,
@@ -135,7 +135,7 @@ impl Services {
     /// A user of an initial connection begins, from the even socket `own` to the odd socket `listen` of a peer. One that can't
     /// begin, or whose first request is refused, is reported to have failed.
     ///
-    /// Errors: `AllocError` where memory is wanted.
+    /// Errors: `AllocError` when memory runs out.
     #[tactic(auto, unfolding(crate::specs::Turns::user_begun))]
     pub fn connect(
         &mut self,

@@ -42,7 +42,7 @@ pub fn worked_notices()
     // an end that is refused fails the server: its report counts the notices up to and with that one
     ensures refused { (services_told (notice.Ready first ∷ notice.Ended 100 first 19 ∷ notice.Ready first ∷ []) (server_begun 7 100 no_services fresh).0 fresh).1.reports ≡ of_second 8 (report.Server (outcome.Failed failure.Refused)) ∷ [] }
 
-    // a line is reported with the notice that brings its end, and the grant that is asked for is passed over where it is refused
+    // a line is reported with the notice that brings its end, and the grant that is asked for is ignored where it is refused
     ensures line { (services_told (notice.Arrived 18 (bits_of (72 ∷ 73 ∷ 13 ∷ [])) ∷ notice.Arrived 18 (bits_of (10 ∷ [])) ∷ []) (record { running = service.Terminal (opening_terminal 18 19) ∷ []; typing = Some 19 }) fresh).1.reports ≡ of_second 8 (report.Line (72 ∷ 73 ∷ [])) ∷ [] }
     ensures grant { (services_told (notice.Arrived 18 (bits_of (72 ∷ [])) ∷ []) (record { running = service.Terminal (opening_terminal 18 19) ∷ []; typing = Some 19 }) fresh).1.asked ≡ [] }
 {}

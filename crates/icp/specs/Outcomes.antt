@@ -13,7 +13,7 @@ use Rattle.sockets.specs.declared.request.Request.{Request}
 abbrev pub IcpTurn : Type 0 → Type 0
 IcpTurn S = S × List Request × Option Outcome
 
--- it passes the notice over
+-- it ignores the notice
 abbrev pub passed : {S : Type 0} → S → IcpTurn S
 passed s = (s, [], None)
 
@@ -25,7 +25,7 @@ failed s f = (s, [], Some (outcome.Failed f))
 abbrev pub local_outcome : Bool → NcpFault → Option Outcome
 local_outcome over fault = if over then None else Some (outcome.Failed (failure.Local fault))
 
--- a machine that can't begin for `refusal`, and else begins with this property: want of memory comes last
+-- a machine that can't begin for `refusal`, and else begins with this property: running out of memory comes last
 abbrev pub Decided : {T : Type 0} → Option StartFault → (T → Type 0) → Result T StartFault → Type 0
 Decided refusal Gives (Ok x) = (refusal ≡ None) × Gives x
 Decided refusal Gives (Err fault.OutOfMemory) = refusal ≡ None

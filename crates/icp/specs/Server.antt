@@ -15,7 +15,7 @@ use Rattle.sockets.specs.declared.request.Request.{Request}
 use Rattle.sockets.specs.declared.request.Request.TheVariants as request
 
 -- the socket on which users ask, the two on which one is served, the partner of each once it was opened, whether there is
--- an outcome, and whether want of memory has made it useless
+-- an outcome, and whether running out of memory has made it useless
 pub record ServerState : Type 0 where
   pub listen : ℕ
   pub receive : ℕ

@@ -16,7 +16,7 @@ use Rattle.sockets.specs.declared.request.Request.TheVariants as request
 
 -- the server's host and the socket that is asked there, its own socket that asks, and the two that are to be used; whether
 -- the first connection was opened, the bits that came on it so far, the base once they said it, and which of the two
--- connections was opened since; whether there is an outcome, and whether want of memory has made it useless
+-- connections was opened since; whether there is an outcome, and whether running out of memory has made it useless
 pub record UserState : Type 0 where
   pub peer : Host
   pub listen : ℕ

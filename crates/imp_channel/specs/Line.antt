@@ -34,7 +34,7 @@ channel_at e c = slice_index_or e.sending c opening_channel
 abbrev pub expected_at : End → ℕ → Bool
 expected_at e c = slice_index_or e.expected c false
 
--- two bits differ
+-- whether two bits differ
 abbrev pub differs : Bool → Bool → Bool
 differs true y = not y
 differs false y = y

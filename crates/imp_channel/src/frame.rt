@@ -86,7 +86,7 @@ impl Carried {
         self.bit
     }
 
-    /// The packet.
+    /// The packet that the frame carries.
     pub fn packet(&self) -> &Packet
         ensures { result.now ≡ self.now.packet }
     {
@@ -225,7 +225,7 @@ fn read_packet(alloc: Global, rest: &[u8]) -> Result<Content, ChannelFault>
     }))
 }
 
-/// Reads distances.
+/// Reads the sixteen distances of a routes frame.
 fn read_routes(rest: &[u8]) -> Result<Content, ChannelFault>
     ensures exact { result ≡ routes_in rest.now }
     ensures kind { IfOk result (λ content. kind_octet content ≡ 2) }

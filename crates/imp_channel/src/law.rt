@@ -15,7 +15,7 @@ ghost use Rattle.imp_channel.specs.declared.line.Received.TheVariants as receive
 /// Both ends begin just reset, and each acts as often and in whatever order the schedule says: it puts
 /// packets in, sends the frames of its busy channels again, acknowledges, tells its distances, and takes
 /// frames that the other end wrote. The frames taken never go back in the list of those written: one may be
-/// passed over, as lost, and one may be taken again before a later one. Then on every channel, in both
+/// skipped, as lost, and one may be taken again before a later one. Then on every channel, in both
 /// directions, the packets that `receive` answered as `Fresh` are the first of those that were handed to
 /// `submit`, in their order and each once, and every packet whose channel became free was given.
 pub fn in_order()

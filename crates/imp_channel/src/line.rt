@@ -17,9 +17,9 @@ use std::marker::Model;
 pub enum Received {
     /// A packet that wasn't given before.
     Fresh(Packet),
-    /// Acknowledgements alone.
+    /// An acknowledgement frame: it brought nothing else.
     AckOnly,
-    /// The neighbour's distances.
+    /// The distances of the neighbour.
     Routes(Vector),
     /// A packet that was given before.
     Repeat,

@@ -20,7 +20,7 @@ pub data Way : Type 0 where
   Nowhere : Way
   -- to a host of this IMP
   Here : Way
-  -- over lines
+  -- to another IMP, over lines
   Away : Way
 
 abbrev pub way_of : State → Flow → Way

@@ -21,7 +21,7 @@ pub record HostState : Type 0 where
   pub queue : List Message
 
 pub record State : Type 0 where
-  -- want of memory came in some call before: nothing is said of what the IMP keeps, and it is not to be used again
+  -- memory ran out in an earlier call: nothing is said of what the IMP keeps, and it is not to be used again
   pub spent : Bool
   -- its hosts: 0, 1 and so on
   pub hosts : List HostState
@@ -45,7 +45,7 @@ pub record ImpTurn : Type 0 where
 
 -- ---- reading it
 
--- its number
+-- the IMP's own number
 abbrev pub number : State → ℕ
 number s = s.routes.own
 

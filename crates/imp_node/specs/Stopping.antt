@@ -77,7 +77,7 @@ host_down s h = pump [] (all_returned (host_at s h).queue (stopped s h))
 abbrev pub own_host : State → ℕ → Host
 own_host s h = record { imp = number s; host = h }
 
--- it is unsettled while a message of it is outstanding
+-- it comes up only when none of its messages is outstanding
 abbrev pub host_up_refusal : State → ℕ → Option CarrierFault
 host_up_refusal s h =
     if not (is_there s h) then Some fault.NoSuch

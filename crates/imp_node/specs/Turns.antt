@@ -1,4 +1,4 @@
--- How a call of an IMP ends, and which calls may want memory.
+-- How a call of an IMP ends, and which calls may run out of memory.
 use Rattle.std.specs.Prelude.{◌≡◌, ℕ, Bool, true, false, List, [], ◌∷◌, length, Option, Some, None, Result, Ok, Err, nat_lt, ◌||◌}
 use Rattle.leader1822.specs.declared.address.Flow.{Flow}
 use Rattle.leader1822.specs.declared.carrier.CarrierFault.{CarrierFault}
@@ -15,7 +15,7 @@ use Rattle.imp_node.specs.Lines.{resend, route, end_down, end_up}
 use Rattle.imp_node.specs.Stopping.{give_up, forget, abandon, host_down, host_up}
 
 -- A call that is refused for `refusal`, and else gives a value with this property. The first refusal of the list is given, and
--- leaves the IMP as it was. Want of memory comes last, only where something grows, and leaves the IMP spent: nothing else is
+-- leaves the IMP as it was. Running out of memory comes last, only where something grows, and leaves the IMP spent: nothing else is
 -- said of it then
 abbrev pub Turned : {T : Type 0} → Option CarrierFault → Bool → (T → Type 0) → State → State → Result T CarrierFault → Type 0
 Turned refusal grows Gives old new (Ok x) = (refusal ≡ None) × Gives x

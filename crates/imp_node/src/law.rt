@@ -80,7 +80,7 @@ pub fn moving()
     // else the oldest message: its flow has one message less, and its source is told where it is at this IMP
     ensures message_taken { (s : State) (h : ℕ) (m : Message) (others : List Message) → is_up s h ≡ true → (host_at s h).answers ≡ [] → (host_at s h).queue ≡ m ∷ others → m.flow.destination.host ≡ h → Moved s (to_host s h).state m.flow (sender_told (is_from_here s m) (release_in m.number (map.get s.sources m.flow)) answer.Rfnm (sender s m.flow)) (without_first others m.flow (receiver s m.flow)) }
 
-    // else nothing
+    // if neither waits, nothing changes
     ensures nothing_taken { (s : State) (h : ℕ) → (host_at s h).answers ≡ [] → (host_at s h).queue ≡ [] → AllUnmoved s (to_host s h).state }
 
     // the outstanding message of a flow is given up, or last numbers are forgotten
@@ -137,7 +137,7 @@ pub fn asking()
     ensures touched { (s : State) (imp : ℕ) → touches s imp ≡ true → Any (λ p. packet_touches imp p ≡ true) (packets s) ⊎ Any (λ m. message_touches imp m ≡ true) (messages s) }
     ensures untouched { (s : State) (imp : ℕ) → touches s imp ≡ false → All (λ p. packet_touches imp p ≡ false) (packets s) × All (λ m. message_touches imp m ≡ false) (messages s) }
 
-    // a message of a flow that begins is refused for want of room alone, and else begins the next number
+    // a message of a flow that begins is refused only if there is no room, and else begins the next number
     ensures begins { (s : State) (m : HostMessage) → begins s m.flow ≡ true → from_host_refusal s m ≡ (if way_has_room (way_of s m.flow) s m then None else Some fault.NoRoom) }
     ensures number { (s : State) (m : HostMessage) → begins s m.flow ≡ true → last (from_host s m).state m.flow ≡ Some (next_number s m.flow) }
 
@@ -193,7 +193,7 @@ pub fn worked_routes()
     // the middle one of three IMPs in a row
     ensures told { (route (imp 2 (Some from_1 ∷ Some from_3 ∷ []) [])).frames ≡ map (λ k. on_port k (record { acks = replicate 8 false; content = content.Routes (1 ∷ 0 ∷ 1 ∷ replicate 13 16) })) (0 ∷ 1 ∷ []) }
 
-    // a packet in a channel of a line that goes down takes the line of another neighbour that knows the way
+    // a packet in a channel of a line that goes down takes the line of another neighbour that knows a route
     ensures rerouted { (end_down (pump [] (imp 1 (Some from_2 ∷ Some from_3_near_2 ∷ []) (packets_to 2 1))).state 0).frames ≡ on_port 1 (packet_frame 0 (only_packet (flow (host 0 1) (host 0 2) 0) 0)) ∷ [] }
 
     // and is dropped where none does

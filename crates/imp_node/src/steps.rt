@@ -30,7 +30,7 @@ impl Imp {
         Ok(frames)
     }
 
-    /// Want of memory came: it is not to be used again.
+    /// Memory ran out: it is not to be used again.
     pub(crate) fn exhaust(&mut self) -> CarrierFault
         ensures state { self.new ≡ record self.old { spent = true } }
         ensures fault { result ≡ fault.OutOfMemory }

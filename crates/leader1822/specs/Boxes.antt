@@ -28,7 +28,7 @@ abbrev pub Queues : Type 0 → Type 0
 Queues A = map.FinMap host_cmp (List A)
 
 -- the hosts, those of them that are down, the messages and the answers that wait for each, the log (newest first), and
--- whether want of memory has stopped it all
+-- whether running out of memory has stopped it all
 pub record Boxes : Type 0 where
   pub hosts : List Host
   pub down : List Host
@@ -37,7 +37,7 @@ pub record Boxes : Type 0 where
   pub log : List Crossing
   pub stopped : Bool
 
--- between hosts that are all up, with nothing on its way
+-- between hosts that are all up, with nothing in transit
 abbrev pub opening_boxes : List Host → Boxes
 opening_boxes hosts = record { hosts = hosts; down = []; messages = map.empty; answers = map.empty; log = []; stopped = false }
 
@@ -278,13 +278,13 @@ step_grows b (event.Abandon f) = false
 
 -- ---- the calls
 
--- After want of memory hosts and log are as before. Nothing is said of what waits, since nothing is ever taken again
+-- After memory has run out hosts and log are as before. Nothing is said of what waits, since nothing is ever taken again
 pub record HasHalted (old new : Boxes) : Type 0 where
   pub hosts : new.hosts ≡ old.hosts
   pub log : new.log ≡ old.log
   pub stopped : new.stopped ≡ true
 
--- a call that is refused for `refusal`, and else gives a value with this property; it may want memory only where it is not
+-- a call that is refused for `refusal`, and else gives a value with this property; it may run out of memory only if it is not
 -- refused and `grows` is true
 abbrev pub BoxesDecided : {T : Type 0} → Option CarrierFault → Bool → (T → Type 0) → Boxes → Result T CarrierFault → Boxes → Type 0
 BoxesDecided refusal grows Gives old (Ok x) new = (refusal ≡ None) × Gives x
@@ -301,7 +301,7 @@ BoxesTake old h r new = BoxesDecided (host_refusal old h) (take_grows old h) (λ
 abbrev pub BoxesStep : Boxes → NetEvent → Result (Unit {0}) CarrierFault → Boxes → Type 0
 BoxesStep old e r new = BoxesDecided (step_refusal old e) (step_grows old e) (λ done. new ≡ stepped old e) old r new
 
--- nothing is on its way, so a quiet round changes nothing
+-- nothing is in transit, so a quiet round changes nothing
 abbrev pub BoxesRound : Boxes → Result (Unit {0}) CarrierFault → Boxes → Type 0
 BoxesRound old (Ok done) new = (old.stopped ≡ false) × (new ≡ old)
 BoxesRound old (Err e) new = (old.stopped ≡ true) × (e ≡ fault.Stopped) × (new ≡ old)

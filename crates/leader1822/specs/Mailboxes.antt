@@ -99,7 +99,7 @@ pub data Passing : Type 0 where
   DestinationDown : Passing
   DestinationUp : Passing
 
--- the list with this passing in front, if the test holds
+-- the list with this passing at its head, if the test holds
 abbrev pub first_if : Bool → Passing → List Passing → List Passing
 first_if test p ps = if test then p ∷ ps else ps
 

@@ -53,7 +53,7 @@ impl Model for Contents {
 }
 
 impl Contents {
-    /// These hosts, all up, with nothing on its way.
+    /// These hosts, all up, with nothing in transit.
     pub(crate) fn new(alloc: Global, hosts: Vec<HostAddr>) -> Contents
         ensures { result ≡ record { boxes = boxes.opening_boxes hosts.items; flows = map.empty } }
     {
@@ -70,7 +70,7 @@ impl Contents {
 
     // ---- looking
 
-    /// The hosts.
+    /// The hosts of the network, in order.
     pub(crate) fn hosts(&self) -> &[HostAddr]
         ensures { result.now ≡ self.now.boxes.hosts }
     {
@@ -84,7 +84,7 @@ impl Contents {
         &self.log
     }
 
-    /// Whether want of memory has stopped them.
+    /// Whether running out of memory has stopped them.
     pub(crate) fn has_stopped(&self) -> bool
         ensures { result ≡ self.now.boxes.stopped }
     {
@@ -258,7 +258,7 @@ impl Contents {
         Ok(())
     }
 
-    /// Stops them for want of memory.
+    /// Stops them, since memory has run out.
     pub(crate) fn halt(&mut self) -> CarrierFault
         ensures state { self.new ≡ record self.old { boxes = record self.old.boxes { stopped = true } } }
         ensures fault { result ≡ OutOfMemory }

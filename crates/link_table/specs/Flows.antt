@@ -115,7 +115,7 @@ age_of kept n = if is_new kept n then age.New else age.Old
 
 -- ---- refusals
 
--- a call that is refused for `refusal`, and else gives a value with this property: want of memory comes last
+-- a call that is refused for `refusal`, and else gives a value with this property: running out of memory comes last
 abbrev pub FlowDecided : {T : Type 0} → Option FlowFault → (T → Type 0) → Result T FlowFault → Type 0
 FlowDecided refusal Gives (Ok x) = (refusal ≡ None) × Gives x
 FlowDecided refusal Gives (Err fault.OutOfMemory) = refusal ≡ None

@@ -15,7 +15,7 @@ ghost use Rattle.link_table.specs.declared.source.Release.TheVariants as release
 ghost use Rattle.link_table.specs.Window.{next_of, oldest_of, is_new_of, NearOf};
 ghost use Rattle.link_table.specs.Numbers.{modulus, window, next, oldest, is_new, Near};
 
-/// Any window over numbers that go round, where there are more than twice as many numbers as the window
+/// Any window over numbers that wrap around, where there are more than twice as many numbers as the window
 /// is wide: what lies behind the last number and what lies ahead of it never meet.
 pub fn any_window()
     // the next number is a number

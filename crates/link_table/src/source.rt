@@ -111,7 +111,7 @@ impl SourceFlows {
     }
 
     /// Begins a message of an idle flow and answers its number: 0 for the flow's first message, and then
-    /// one after the other, going round. The flow is then outstanding with it. A refusal changes nothing.
+    /// one after the other, wrapping around. The flow is then outstanding with it. A refusal changes nothing.
     ///
     /// Errors: `Blocked` if the flow isn't idle. `OutOfMemory` only for a flow of which no message was
     /// begun before, since only then the table grows.

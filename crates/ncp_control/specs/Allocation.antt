@@ -2,7 +2,7 @@
 use Rattle.std.specs.Prelude.{ℕ, ◌+◌, ◌-◌, ◌*◌, ◌/◌, ◌<◌, ◌≤◌, ◌==◌, min, if◌then◌else◌, List, [], ◌∷◌}
 use Rattle.ncp_control.specs.declared.allocation.Allocation.{Allocation}
 
--- the opening
+-- at first nothing is granted
 abbrev pub nothing : Allocation
 nothing = record { messages = 0; bits = 0 }
 

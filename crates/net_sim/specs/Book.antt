@@ -134,7 +134,7 @@ pub record Kept : Type 0 where
 abbrev pub opening_kept : Kept
 opening_kept = record { book = opening_book; handed = [] }
 
--- something crossed
+-- the crossing stands in the log, and a host that stops ends its lives
 abbrev pub crossed : Crossing → Kept → Kept
 crossed c k = record k { book = record k.book { crossings = c ∷ k.book.crossings; lives = lives_crossed c k.book.lives } }
 

@@ -66,7 +66,7 @@ all_turned (c ∷ cs) seats = seats_turned c (all_turned cs seats)
 
 -- ---- what runs on the hosts
 
--- nothing
+-- at first no services run
 abbrev pub opening_services : List Host → List ServiceSeat
 opening_services hosts = map (λ h. record { host = h; services = no_services }) hosts
 
@@ -96,8 +96,8 @@ all_emptied (c ∷ cs) all = emptied c (all_emptied cs all)
 
 -- ---- the world
 
--- the carrier, the hosts in the carrier's order, what runs on them, what is kept of them, and whether want of memory has stopped
--- all
+-- the carrier, the hosts in the carrier's order, what runs on them, what is kept of them, and whether running out of memory has
+-- stopped all
 pub record WorldState (C : Type 0) : Type 0 where
   pub carrier : C
   pub seats : List Seat
@@ -181,11 +181,11 @@ wants_memory (Program f) = false
 abbrev pub Refuses : {C : Type 0} → WorldFault → WorldState C → Result (Unit {0}) WorldFault → WorldState C → Type 0
 Refuses f old r new = (r ≡ Err f) × (new ≡ old)
 
--- it is done
+-- the call succeeds, and this is the world after it
 abbrev pub Does : {C : Type 0} → WorldState C → Result (Unit {0}) WorldFault → WorldState C → Type 0
 Does done r new = (r ≡ Ok tt) × (new ≡ done)
 
--- want of memory stops the world, with its carrier as its last call left it. What is kept stands as it was
+-- running out of memory stops the world, with its carrier as its last call left it. What is kept stays as it was
 pub record Halts {C : Type 0} (c : C) (old : WorldState C) (r : Result (Unit {0}) WorldFault) (new : WorldState C) : Type 0 where
   pub fault : WorldFault
   pub answer : r ≡ Err fault
@@ -194,7 +194,7 @@ pub record Halts {C : Type 0} (c : C) (old : WorldState C) (r : Result (Unit {0}
   pub kept : new.kept ≡ old.kept
   pub stopped : new.stopped ≡ true
 
--- the carrier refused: so does the world, and want of memory stops both
+-- the carrier refused: so does the world, and running out of memory stops both
 abbrev pub Passes : {C : Type 0} → CarrierFault → C → WorldState C → Result (Unit {0}) WorldFault → WorldState C → Type 0
 Passes e c old r new = (r ≡ Err (Carrier e)) × (new ≡ record old { carrier = c; stopped = is_memory e })
 
@@ -262,7 +262,7 @@ EventGives calls old (Server h listen base) r new = AtSeat (λ s. DoesOrHalts (w
 EventGives calls old (User h peer listen own) r new = AtSeat (λ s. DoesOrHalts (with_user h peer listen own s old) old r new) (seat_of h old.seats) old r new
 EventGives calls old (Typed h line) r new = AtSeat (λ s. TypeGives h line s (services_of h old.services).typing old r new) (seat_of h old.seats) old r new
 
--- after want of memory nothing is done any more
+-- after memory has run out every event is refused as `Stopped`
 abbrev pub StepGives : {C : Type 0} → Calls C → WorldState C → Event → Result (Unit {0}) WorldFault → WorldState C → Type 0
 StepGives calls old e r new = MatchBool old.stopped (Refuses (Carrier fault.Stopped) old r new) (EventGives calls old e r new)
 
@@ -273,7 +273,7 @@ stops (Ok done) = false
 stops (Err (Carrier f)) = is_memory f || is_halt f
 stops (Err (Program f)) = wants_memory (Program f)
 
--- one event after the other: a refused one is passed over, and want of memory ends it
+-- one event after the other: it continues after a refusal, and ends when memory runs out
 abbrev pub Runs : {C : Type 0} → Calls C → WorldState C → List Event → Result (Unit {0}) WorldFault → WorldState C → Type 0
 Runs calls old [] r new = Does old r new
 Runs {C} calls old (e ∷ events) r new =

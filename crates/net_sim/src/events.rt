@@ -192,7 +192,7 @@ pub(crate) fn type_line<C: Carrier>(
     type_at(alloc, seats, services, at, book, line)
 }
 
-/// Any of these.
+/// Any of the eight events.
 pub(crate) fn follow<C: Carrier>(
     alloc: Global,
     carrier: &mut C,

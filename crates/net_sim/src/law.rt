@@ -70,7 +70,7 @@ pub fn stories()
     ensures own { (moments : List Moment) (a : Host) → (program a moments).own ≡ a }
 {}
 
-/// What stands in the book of a world, whatever its carrier is made of: all that crossed, but for the event in which memory ran
+/// What stands in the book of a world, whatever its carrier is made of: all that crossed, except for the event in which memory ran
 /// out, after every list of events.
 pub fn books<C: Carrier>()
     // over a carrier that hasn't been used
@@ -110,8 +110,8 @@ pub fn mailboxes()
 {}
 
 /// The book of a world tells one list of moments, the crossings and what users asked for and weren't refused, whatever the carrier is
-/// made of. All that is kept, but for what services report, is theirs, and until want of memory each host has the program that comes
-/// of them.
+/// made of. All that is kept, except for what services report, is theirs, and until memory runs out each host has the program that
+/// comes of them.
 pub fn worlds<C: Carrier>()
     // over a carrier that hasn't been used
     ensures opening { (c : C) → (C.seen c).log ≡ [] → IsWhole C.seen (C.seen c).hosts (opening_world (shown (record { seen = C.seen; offers = C.offers; takes = C.takes; steps = C.steps; rounds = C.rounds })) c) }
@@ -129,7 +129,7 @@ pub fn clean_resets<C: Carrier>()
     // a host that is through a reset with a peer takes of it only what went out after its last clean point
     ensures clean { (hosts : List Host) (w : WorldState C) → IsLawful C.seen hosts w → (newer older : List Crossing) (m : HostMessage) → w.kept.book.crossings ≡ newer ++ crossing.In m ∷ older → IsText m → is_through m.flow.destination m.flow.source w.kept.book.contacts older ≡ true → IsFresh m w.kept.book.contacts older }
 
-    // link by link, what a host heard of its peer in its last stay is a front of what the peer said in its own
+    // link by link, what a host heard of its peer in its last stay is a prefix of what the peer said in its own
     ensures stays { (hosts : List Host) (w : WorldState C) → IsLawful C.seen hosts w → (a b : Host) (link : ℕ) → IsFront (heard_in_stay a b link (events_in w.kept.book.contacts w.kept.book.crossings)) (said_in_stay a b link (events_in w.kept.book.contacts w.kept.book.crossings)) }
 
     // for the book is a run of the law of resets, and each program in a seat is, for each peer, where that law has it

@@ -140,7 +140,7 @@ fn forget_ended(open_at: &mut Vec<usize>, lives: &[Life])
 }
 
 impl Lives {
-    /// None.
+    /// No lives.
     pub(crate) fn new(alloc: Global) -> Lives
         ensures { result ≡ all.none }
     {
@@ -152,7 +152,7 @@ impl Lives {
         }
     }
 
-    /// Lives end.
+    /// The lives that end are marked as ended.
     fn end(&mut self, ending: &Ending)
         ensures { self.new ≡ all.lives_state_ended ending.now self.old }
     {
@@ -160,7 +160,7 @@ impl Lives {
         forget_ended(&mut self.open_at, &self.lives);
     }
 
-    /// A life begins.
+    /// A life begins, with nothing handed over yet.
     fn begin(&mut self, life: Life) -> Result<(), AllocError>
         requires begins { life.ended ≡ false }
         ensures { OnOk result (self.new ≡ all.begun life self.old) }
@@ -173,7 +173,7 @@ impl Lives {
         Ok(())
     }
 
-    /// Something crossed.
+    /// Something crossed: a host that stops ends its lives.
     fn cross(&mut self, crossing: &Crossing)
         ensures { self.new ≡ all.crossed crossing.now self.old }
     {
@@ -330,7 +330,7 @@ impl Lives {
         }
     }
 
-    /// The lives.
+    /// The lives, in the order of opening.
     pub(crate) fn lives(&self) -> &[Life]
         ensures { result.now ≡ self.now.lives }
     {

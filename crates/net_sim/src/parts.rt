@@ -69,7 +69,7 @@ pub(crate) fn hear(
     Ok(())
 }
 
-/// What a host's program says next. Memory is wanted only where it says something.
+/// What a host's program says next. It needs memory only if it says something.
 #[tactic(auto, unfolding(sockets::specs::Sending::next_out))]
 pub(crate) fn next_out(seats: &[Seat], at: usize) -> Result<Option<HostMessage>, WorldFault>
     requires within { at < length seats.now }

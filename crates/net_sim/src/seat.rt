@@ -15,7 +15,7 @@ use std::alloc::{AllocError, Global};
 /// A host of the network, and its program while it is up.
 #[derive(Drop)]
 pub struct Seat {
-    /// The host.
+    /// The host's address.
     pub host: HostAddr,
     /// Its network control program; none while it is down.
     pub program: Option<Ncp>,
@@ -44,7 +44,7 @@ impl Seat {
 /// A host of the network, and what runs there beside its network control program.
 #[derive(Drop)]
 pub struct ServiceSeat {
-    /// The host.
+    /// The host's address.
     pub host: HostAddr,
     /// Its services; none while it is down.
     pub services: Services,
@@ -113,7 +113,7 @@ pub(crate) fn opening_seats(alloc: Global, hosts: &[HostAddr]) -> Result<Vec<Sea
     Ok(seats)
 }
 
-/// A host stops.
+/// A host stops, and its program is gone.
 fn stop(seats: &mut [Seat], host: HostAddr)
     ensures { seats.new ≡ world.seated host None seats.old }
 {
@@ -122,7 +122,7 @@ fn stop(seats: &mut [Seat], host: HostAddr)
     }
 }
 
-/// A host starts.
+/// A host starts, with a new program.
 fn start(alloc: Global, seats: &mut [Seat], host: HostAddr)
     ensures { seats.new ≡ world.seated host (Some (opening_state host)) seats.old }
 {

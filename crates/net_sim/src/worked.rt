@@ -135,7 +135,7 @@ pub fn worked_worlds()
     ensures is_down { (r : Result (Unit {0}) WorldFault) (new : WorldState Seen) → StepGives any_carrier down (Ask second (request.Echo first 65)) r new → (r ≡ Err (Carrier fault.IsDown)) × (new ≡ down) }
     ensures refused { (r : Result (Unit {0}) WorldFault) (new : WorldState Seen) → StepGives any_carrier fresh (Ask second (request.Echo first 65)) r new → (r ≡ Err (Program problem.NotContacted)) × (new ≡ fresh) }
 
-    // after want of memory nothing comes before Stopped
+    // after memory has run out nothing comes before Stopped
     ensures stopped { (r : Result (Unit {0}) WorldFault) (new : WorldState Seen) → StepGives any_carrier halted (Ask third (request.Echo second 65)) r new → (r ≡ Err (Carrier fault.Stopped)) × (new ≡ halted) }
 
     // a host that has nothing to say offers nothing

@@ -76,7 +76,7 @@ impl Model for Reassembly {
 impl Reassembly {
     /// No message in reassembly. Room for eight is reserved, so that only their pieces take memory later.
     ///
-    /// Errors: want of memory.
+    /// Errors: memory runs out.
     pub fn new(alloc: Global) -> Result<Reassembly, AllocError>
         ensures { IfOk result (λ reassembly. reassembly ≡ []) }
     {

@@ -56,7 +56,7 @@ pub fn resets()
     ensures left { (hosts : List Host) (event : reset.Event) (events : List reset.Event) (a b : Host) → reset_run.IsRun hosts (event ∷ events) → stay.begins a b event events ≡ true → (stay.stays a b events ≡ false) × (stay.stays b a events ≡ false) }
 {}
 
-/// What was heard is a front of what was said with its places too: each text carries in front the place where it went out.
+/// What was heard is a prefix of what was said with its places too: each text begins with the place where it went out.
 pub fn places()
     // a text so tagged tells both
     ensures tagged { (p q : ℕ) (s t : List Bool) → tagged p s ≡ tagged q t → (p ≡ q) × (s ≡ t) }
@@ -65,7 +65,7 @@ pub fn places()
     ensures run { (hosts : List Host) (events : List reset.Event) → reset_run.IsRun hosts events → reset_run.IsRun hosts (placed events) }
     ensures same { (events : List reset.Event) (a b : Host) → (pair a b (placed events) ≡ pair a b events) × (stay.stays a b (placed events) ≡ stay.stays a b events) }
 
-    // so what a host heard of its peer in its stay is a front of what the peer said in its own, text by text and place by place
+    // so what a host heard of its peer in its stay is a prefix of what the peer said in its own, text by text and place by place
     ensures front { (hosts : List Host) (events : List reset.Event) → reset_run.IsRun hosts events → (a b : Host) (link : ℕ) → stay.IsFront (stay.heard_in_stay a b link (placed events)) (stay.said_in_stay a b link (placed events)) }
 {}
 
@@ -98,7 +98,7 @@ pub fn worked_connection()
     ensures first { Asks 0 3 (both again).one.said }
     ensures second { Asks 1 9 (both again).one.said }
 
-    // a request that is refused opens nothing, and a CLS from each side is still wanted
+    // a request that is refused opens nothing, and a CLS from each side is still needed
     ensures refused { ((both refused).two.lives ≡ []) × ((both refused).one.end ≡ record { asked = Some 3; partner = None; gone = false; taken = true }) }
 
     // CLS that cross end both

@@ -27,14 +27,14 @@ outcome_of (Err e) = Err e
 
 -- ---- a calm: rounds in which the network is left alone, and its hosts take what comes
 
--- how a part of a calm may go: the carrier before, the want of memory that ended it, if any did, and the carrier after
+-- how a part of a calm may go: the carrier before, the fault that ended it, if memory ran out, and the carrier after
 abbrev pub Part : Type 0 → Type 1
 Part C = C → Result (Unit {0}) CarrierFault → C → Type 0
 
 abbrev pub Nothing : {C : Type 0} → Part C
 Nothing old r new = (r ≡ Ok tt) × (new ≡ old)
 
--- where the first part ended for want of memory, the next one doesn't begin
+-- where memory ran out in the first part, the next one doesn't begin
 abbrev pub Onward : {C : Type 0} → Part C → Result (Unit {0}) CarrierFault → Part C
 Onward Next (Ok done) mid r new = Next mid r new
 Onward Next (Err f) mid r new = (r ≡ Err f) × (new ≡ mid)
@@ -43,7 +43,7 @@ Onward Next (Err f) mid r new = (r ≡ Err f) × (new ≡ mid)
 abbrev pub Chain : {C : Type 0} → Part C → Part C → Part C
 Chain {C} First Next old r new = (first : Result (Unit {0}) CarrierFault) × (mid : C) × First old first mid × Onward Next first mid r new
 
--- a calm passes over a refusal and doesn't tell it, but want of memory ends it
+-- a calm continues after a refusal and doesn't tell it, but ends when memory runs out
 abbrev pub calmly : Result (Unit {0}) CarrierFault → Result (Unit {0}) CarrierFault
 calmly (Ok done) = Ok done
 calmly (Err f) = if is_halt f || is_memory f then Err f else Ok tt
@@ -88,12 +88,12 @@ EventGives calls old (event.Take h) r new = (answer : Result (Option Inbound) Ca
 EventGives calls old (event.Net e) r new = calls.steps old e r new
 EventGives calls old (event.Calm rounds) r new = Rounds calls rounds old r new
 
--- a replay goes on after an event that was done and after one that was refused, but not after want of memory
+-- a replay continues after an event that was done and after one that was refused, but not after memory has run out
 abbrev pub GoesOn : Result (Unit {0}) CarrierFault → Type 0
 GoesOn (Ok done) = Unit {0}
 GoesOn (Err f) = (is_halt f || is_memory f) ≡ false
 
--- want of memory has stopped the carrier, now or earlier
+-- running out of memory has stopped the carrier, now or earlier
 abbrev pub Halts : Result (Unit {0}) CarrierFault → Type 0
 Halts (Ok done) = ⊥
 Halts (Err f) = (is_halt f || is_memory f) ≡ true

@@ -64,7 +64,7 @@ fn take_all<C: Carrier>(carrier: &mut C, host: HostAddr) -> Result<(), CarrierFa
     Ok(())
 }
 
-/// What a calm tells of an outcome: it passes over a refusal, but not over want of memory.
+/// What a calm tells of an outcome: it continues after a refusal, but not after memory has run out.
 fn calmly(outcome: Result<(), CarrierFault>) -> Result<(), CarrierFault>
     ensures calm { result ≡ calmly outcome }
     ensures told { IfErr result (λ f. Halts (Err f)) }

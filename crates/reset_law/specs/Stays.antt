@@ -35,7 +35,7 @@ stays a b (e ∷ events) = begins a b e events || (ready a b (e ∷ events) && n
 
 -- ---- words
 
--- what `a` says to `b` on a link by this event, but for RST and RRP
+-- what `a` says to `b` on a link by this event, except for RST and RRP
 abbrev pub said_by : Host → Host → ℕ → Event → List (List Bool)
 said_by a b l (Out x y k (Other text)) = if are a b x y && l == k then text ∷ [] else []
 said_by a b l e = []
@@ -55,7 +55,7 @@ abbrev pub heard_in_stay : Host → Host → ℕ → List Event → List (List B
 heard_in_stay a b l [] = []
 heard_in_stay a b l (e ∷ events) = if begins a b e events then [] else heard_in_stay a b l events ++ (if stays b a events then heard_by a b l e else [])
 
--- what waits in a box, but for RST and RRP
+-- what waits in a box, except for RST and RRP
 abbrev pub waits_in : Box → List (List Bool)
 waits_in (Waiting place (Other text)) = text ∷ []
 waits_in box = []

@@ -42,7 +42,7 @@ pub fn clean_reset()
 /// What two hosts hear of one another, link by link, while they stay together. A stay begins where both hosts are through a
 /// reset, and ends for each of them where it leaves.
 pub fn stays()
-    // what a host heard of its peer in its stay is a front of what the peer said in its own, whoever has left meanwhile
+    // what a host heard of its peer in its stay is a prefix of what the peer said in its own, whoever has left meanwhile
     ensures front { (hosts : List Host) (events : List Event) → IsRun hosts events → (a b : Host) (link : ℕ) → IsFront (heard_in_stay a b link events) (said_in_stay a b link events) }
 
     // while the host stays, so is what it heard and what waits for it

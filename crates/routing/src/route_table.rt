@@ -28,7 +28,7 @@ impl Model for RouteTable {
 impl RouteTable {
     /// The table of an IMP with this number and this many ports. Nothing was heard on any port.
     ///
-    /// Errors: want of memory, and only if there are ports.
+    /// Errors: memory runs out, which can happen only if there are ports.
     pub fn new(alloc: Global, own: u8, ports: u8) -> Result<Self, AllocError>
         ensures opening { IfOk result (λ table. table ≡ opening_table own ports) }
         ensures memory { OnErr result (0 < ports) }

@@ -132,6 +132,6 @@ pub record IsTextRead (words : List ℕ) : Type 0 where
   pub few : count ≤ 8063
   pub hex : IsHex word
 
--- memory is wanted to read a message's octets, and to keep an event
+-- memory is needed to read a message's octets, and to keep an event
 abbrev pub WantsMemory : List ℕ → Type 0
 WantsMemory line = ((words : List ℕ) × (line ≡ codes "out " ++ words) × IsTextRead words) ⊎ ((e : RawEvent) × (line ≡ spelling e) × IsEvent e)

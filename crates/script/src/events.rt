@@ -14,11 +14,11 @@ use crate::word::{cut, plain_number, read_count, read_host, read_octet, read_tex
 use leader1822::{Flow, HostMessage, Link};
 use std::alloc::{AllocError, Global};
 
-/// The events of a script, in order. Empty lines and lines that begin with `#` are passed over, but they are
+/// The events of a script, in order. Empty lines and lines that begin with `#` are ignored, but they are
 /// counted.
 ///
-/// Errors: `BadLine` with the number of the first line, counted from 1, that is no event. `OutOfMemory` only
-/// at a line that wants memory, an event or a message whose octets are hexadecimal, with no bad line before
+/// Errors: `BadLine` with the number of the first line, counted from 1, that is not an event. `OutOfMemory` only
+/// at a line that needs memory, an event or a message whose octets are hexadecimal, with no bad line before
 /// it.
 pub fn read_script(alloc: Global, text: &[u8]) -> Result<Vec<RawEvent>, LineFault>
     requires { length text.now ≤ MAX_INPUT }

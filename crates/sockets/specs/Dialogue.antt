@@ -1,4 +1,4 @@
--- Two hosts and what is on its way between them, step by step: words for worked examples.
+-- Two hosts and what is in transit between them, step by step: words for worked examples.
 use Rattle.std.specs.Prelude.{ℕ, ◌+◌, Bool, not, if◌then◌else◌, List, [], ◌∷◌, ◌++◌, find, filter, map, Option, Some, None}
 use Rattle.leader1822.specs.Host.{Host, same_host}
 use Rattle.leader1822.specs.Flow.{same_flow}
@@ -31,7 +31,7 @@ abbrev pub without_first : {A : Type 0} → (A → Bool) → List A → List A
 without_first test [] = []
 without_first test (x ∷ xs) = if test x then xs else x ∷ without_first test xs
 
--- what can happen
+-- what can happen in a dialogue
 pub data Step : Type 0 where
   -- the host's user asks for something
   Ask : (host : Host) → (request : Request) → Step

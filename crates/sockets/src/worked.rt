@@ -239,7 +239,7 @@ pub fn worked_resets()
 
 /// Every command in every phase of a reset.
 pub fn worked_phases()
-    // outside the ready phase every command but RST and RRP is passed over, and so are data and malformed messages
+    // outside the ready phase every command but RST and RRP is ignored, and so are data and malformed messages
     ensures closed_commands { control_heard closed second every_command ≡ (closed, []) }
     ensures closed_data { got closed second 5 (0 ∷ 8 ∷ 0 ∷ 1 ∷ 0 ∷ 65 ∷ []) ≡ (closed, []) }
     ensures closed_malformed { got closed second 0 (0 ∷ 7 ∷ 0 ∷ 1 ∷ 0 ∷ []) ≡ (closed, []) }
@@ -266,7 +266,7 @@ pub fn worked_phases()
     ensures rst_taken_reset { next_out (control_heard rst_taken second RST).0 ≡ Some (control first second RRP) }
     ensures untold_when_taken { (control_heard rst_taken second RST).1 ≡ [] }
 
-    // an RRP is passed over where no RST of this host is about
+    // an RRP is ignored if no RST of this host waits for one
     ensures closed_reply { control_heard closed second RRP ≡ (closed, []) }
     ensures want_reply { control_heard want second RRP ≡ (want, []) }
     ensures ready_reply { control_heard ready second RRP ≡ (ready, []) }

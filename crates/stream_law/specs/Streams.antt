@@ -1,4 +1,4 @@
--- The two hosts of a link in one stay, and what is under way between them.
+-- The two hosts of a link in one stay, and what is in transit between them.
 use Rattle.std.specs.Prelude.{◌≡◌, ℕ, Bool, true, List, [], ◌∷◌, ◌++◌, Option, Some, None}
 use Rattle.stream_law.specs.Words.{Word}
 use Rattle.stream_law.specs.Receivers as receivers
@@ -14,7 +14,7 @@ pub data Box : Type 0 where
   Waiting : (connection size : ℕ) → (bits : List Bool) → Box
   Taken : Box
 
--- what each said and the other hasn't heard, the oldest first: it waits to go out, or is on its way
+-- what each said and the other hasn't heard, the oldest first: it waits to go out, or is in transit
 pub record Stream : Type 0 where
   pub receiver : Receiver
   pub sender : Sender
@@ -31,7 +31,7 @@ pub data Event : Type 0 where
   Receives : (move : receivers.Move) → Event
   Sends : (move : senders.Move) → Event
 
--- ---- what is under way
+-- ---- what is in transit
 
 abbrev pub word_queued : Option Word → List Word → List Word
 word_queued None words = words

@@ -12,7 +12,7 @@ ghost use Rattle.stream_law.specs.Example.{two, three, opened_events, granted_ev
 /// Whatever the two hosts of a link do while they stay together, connection after connection. What is assumed of them stands in
 /// `IsRun`: their own rules, and that what one said is heard in order.
 pub fn streams()
-    // in each connection what was taken is a front of what was sent. What was taken and what was returned are granted, and so are what was
+    // in each connection what was taken is a prefix of what was sent. What was taken and what was returned are granted, and so are what was
     // sent and what was returned
     ensures safe { (events : List Event) (c : ℕ) → IsRun events → IsSafe (stream events) c }
 
@@ -43,7 +43,7 @@ pub fn worked_stream()
     ensures sent { ((stream sent_events).box ≡ Waiting 1 1 two) × ((stream sent_events).sender.allocation ≡ record { messages = 1; bits = 8 }) × ((stream sent_events).receiver.allocation ≡ record { messages = 2; bits = 10 }) }
     ensures taken { ((stream taken_events).receiver.taken 1 ≡ two ∷ []) × ((stream taken_events).sender.sent 1 ≡ two ∷ []) × ((stream taken_events).receiver.allocation ≡ record { messages = 1; bits = 8 }) × ((stream taken_events).box ≡ Taken) }
 
-    // half of one message is none, half of eight bits is four; what was granted meanwhile is under way
+    // half of one message is none, half of eight bits is four; what was granted meanwhile is in transit
     ensures returned { ((stream returned_events).receiver.returned 1 ≡ record { messages = 0; bits = 4 }) × ((stream returned_events).receiver.granted 1 ≡ record { messages = 3; bits = 13 }) × ((stream returned_events).receiver.allocation ≡ record { messages = 2; bits = 7 }) }
     ensures left { ((stream returned_events).sender.allocation ≡ record { messages = 1; bits = 4 }) × ((stream returned_events).to_sender ≡ All 1 1 3 ∷ []) }
 
@@ -135,7 +135,7 @@ pub fn worked_within()
     ensures many { AreGranted (two ∷ three ∷ []) (record { messages = 1; bits = 2 }) (record { messages = 2; bits = 7 }) → ⊥ }
     ensures much { AreGranted (two ∷ three ∷ []) (record { messages = 1; bits = 2 }) (record { messages = 3; bits = 6 }) → ⊥ }
 
-    // a return behind other words is under way
+    // a return behind other words is in transit
     ensures returned { NoneReturned (Str 2 1 ∷ Cls 1 ∷ Ret 1 0 4 ∷ []) → ⊥ }
 
     // data that wait are left over, and so is an end of the sender that isn't closed

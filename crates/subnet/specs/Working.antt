@@ -20,7 +20,7 @@ pub record IsWhole (n : Net) : Type 0 where
   pub sound : IsSound n
   pub routed : IsRouted n
 
--- what holds of a subnet always, and what until want of memory stops it
+-- what holds of a subnet always, and what holds until memory runs out
 pub record IsWorking (k : Kept) : Type 0 where
   pub run : IsRun k.net.hosts k.net.log
   pub ordered : InOrder k.net.hosts

@@ -20,7 +20,7 @@ pub enum ImpCall {
     Arrive(u8, Frame),
     /// What is not acknowledged is sent again.
     Resend,
-    /// Distances are told.
+    /// It tells its neighbours its distances.
     Route,
     /// The end of a line at a port stops.
     EndDown(u8),
@@ -32,9 +32,9 @@ pub enum ImpCall {
     Forget(ImpNumber),
     /// The slot of a flow is thrown away.
     Abandon(Flow),
-    /// A host stops.
+    /// One of its hosts stops.
     HostDown(u8),
-    /// A host starts.
+    /// One of its hosts starts.
     HostUp(u8),
 }
 

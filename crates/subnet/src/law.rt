@@ -71,7 +71,7 @@ pub fn shown()
     ensures quiet_round { (n : Net) → (quiet_round n).log ≡ n.log }
 {}
 
-/// A subnet as a carrier: each call, whether it succeeds, is refused or wants memory, keeps what holds of a subnet
+/// A subnet as a carrier: each call, whether it succeeds, is refused or runs out of memory, keeps what holds of a subnet
 /// always, and shows what every carrier's calls show.
 pub fn carrier()
     ensures offer_out { (old new : Kept) (m : HostMessage) (result : Result Unit CarrierFault) → IsHostMessage m → SubnetOffer old m result new → IsWorking old → IsWorking new }
@@ -202,7 +202,7 @@ pub fn sound_steps()
     ensures quiet_round { (n : Net) → IsSound n → IsSound (quiet_round n) }
 {}
 
-/// When a quiet round may want memory.
+/// When a quiet round may run out of memory.
 pub fn round_memory()
     // never where no IMP is up, whatever frames are live
     ensures no_imp { (n : Net) → ((i : ℕ) → imp_at n.imps i ≡ None) → round_grows n ≡ false }
@@ -255,13 +255,13 @@ pub fn worked_still_alive()
     ensures offer_window { offer_refusal (pair (Some (begun_up_to 127)) (Some imp_2) (data_frame 0 ∷ []) []) our_message ≡ Some fault.StillAlive }
     ensures offer_within { offer_refusal (pair (Some (begun_up_to 127)) (Some imp_2) (data_frame 1 ∷ []) []) our_message ≡ None }
 
-    // numbers go round, also where fewer were begun; an answer counts like data
+    // numbers wrap around, also where fewer were begun; an answer counts like data
     ensures offer_round { offer_refusal (pair (Some (begun_up_to 0)) (Some imp_2) [] (rfnm_frame 129 ∷ [])) our_message ≡ Some fault.StillAlive }
 
     // before the first number nothing is in the way
     ensures offer_first { offer_refusal (pair (Some imp_1) (Some imp_2) (data_frame 129 ∷ []) []) our_message ≡ None }
 
-    // want of room comes behind it; and what would begin no number, without a route or from a host that is down, does not wait
+    // `NoRoom` comes after it; and what would begin no number, without a route or from a host that is down, does not wait
     ensures offer_full { (offer_refusal (pair (Some (record (begun_up_to 127) { store = packets_to 3 32 })) (Some imp_2) (data_frame 0 ∷ []) []) our_message ≡ Some fault.StillAlive) × (offer_refusal (pair (Some (record (begun_up_to 127) { store = packets_to 3 32 })) (Some imp_2) (data_frame 1 ∷ []) []) our_message ≡ Some fault.NoRoom) }
     ensures offer_nowhere { offer_refusal (pair (Some (record (begun_up_to 127) { routes = record { own = 1; heard = None ∷ [] } })) (Some imp_2) (data_frame 0 ∷ []) []) our_message ≡ None }
     ensures offer_down { offer_refusal (pair (Some (record (begun_up_to 127) { hosts = no_host ∷ no_host ∷ [] })) (Some imp_2) (data_frame 0 ∷ []) []) our_message ≡ Some fault.IsDown }
@@ -280,7 +280,7 @@ pub fn worked_still_alive()
     ensures forget_back { step_refusal (pair (Some imp_1) (Some imp_2) (data_frame 0 ∷ []) []) (event.Forget 1 2) ≡ None }
     ensures forget_answer { step_refusal (pair (Some imp_1) (Some imp_2) [] (rfnm_frame 0 ∷ [])) (event.Forget 2 1) ≡ None }
 
-    // an IMP comes up: something of a flow from it is alive, also an answer. What others only passed over it doesn't count
+    // an IMP comes up: something of a flow from it is alive, also an answer. What only travelled over it for others doesn't count
     ensures start_answer { starting_refusal (pair None (Some imp_2) [] (rfnm_frame 0 ∷ [])) 1 ≡ Some fault.StillAlive }
     ensures start_destination { starting_refusal (pair (Some imp_1) None (data_frame 0 ∷ []) []) 2 ≡ Some fault.StillAlive }
     ensures start_passing { starting_refusal (pair None (Some imp_2) (passing_frame ∷ []) []) 1 ≡ None }
@@ -330,7 +330,7 @@ pub fn worked_refusals()
     ensures other_line { (step_refusal (record (pair (Some imp_1) (Some imp_2) [] []) { lines = triangle }) (event.EndDown 1 2) ≡ Some fault.NoSuch) × (step_refusal (record (pair (Some imp_1) (Some imp_2) [] []) { lines = triangle }) (event.EndUp 2 0) ≡ Some fault.IsUp) }
 {}
 
-/// A quiet round.
+/// What a quiet round does to IMPs and frames.
 pub fn worked_rounds()
     // after one round from the opening each IMP has heard what the other could tell before the round, and no frame is left
     ensures heard { quiet_round opened_pair ≡ pair (Some imp_1) (Some imp_2) [] [] }
@@ -345,7 +345,7 @@ pub fn worked_rounds()
     ensures down { quiet_round (pair (Some imp_1) None (data_frame 0 ∷ []) []) ≡ pair (Some imp_1) None [] [] }
 {}
 
-/// When memory may be wanted.
+/// When memory may run out.
 pub fn worked_memory()
     // an IMP that stops: only where a host goes down with it
     ensures stops { (step_grows (pair (Some one_host_down) (Some imp_2) [] []) (event.ImpDown 1) ≡ true) × (step_grows (pair (Some hosts_down) (Some imp_2) [] []) (event.ImpDown 1) ≡ false) }

@@ -1,4 +1,4 @@
-//! A subnet opens.
+//! How a subnet is opened from its hosts, sites and lines.
 
 ghost use Rattle.std.specs.Prelude.{◌≡◌, ◌≤◌, ◌<◌, None, length, map, count_by, slice_index_or, All, IfOk, IfSome};
 ghost use Rattle.packetiser.specs.Limits.{greatest_imp};
@@ -13,10 +13,10 @@ use leader1822::{HostAddr, ImpNumber};
 use std::alloc::{AllocError, Global};
 
 impl Parts {
-    /// A subnet at its opening: its hosts, how many hosts the IMP of each number has, if there is one, and the
+    /// A subnet at its start: its hosts, how many hosts the IMP of each number has, if there is one, and the
     /// ends of its lines. All IMPs, ends of lines and hosts are up.
     ///
-    /// Errors: want of memory alone.
+    /// Errors: memory runs out, and nothing else.
     #[tactic(auto, using(crate::proofs::Calls::Opens::places_opened, crate::proofs::Calls::Opens::opened_live, crate::proofs::Calls::Opens::lines_opened))]
     pub(crate) fn open(
         alloc: Global,

@@ -1,4 +1,4 @@
-//! Quiet rounds.
+//! Quiet rounds: every IMP tells and sends again, and every frame arrives once.
 
 ghost use Rattle.std.specs.Prelude.{◌≡◌, length, true, OnOk, OnErr};
 ghost use Rattle.std.specs.List.{range_with_len};
@@ -14,9 +14,9 @@ use std::alloc::AllocError;
 
 impl Parts {
     /// Each IMP that is up tells its distances and sends again. Then the frames of each line are delivered and
-    /// dropped, one way after the other.
+    /// dropped, one direction after the other.
     ///
-    /// Errors: want of memory alone.
+    /// Errors: memory runs out, and nothing else.
     pub(crate) fn quiet_round(&mut self) -> Result<(), AllocError>
         requires { AreLive self.old.imps }
         ensures ok { OnOk result (self.new ≡ events.quiet_round self.old) }
@@ -73,7 +73,7 @@ impl Parts {
         self.attempt(imp, ImpCall::Resend)
     }
 
-    /// The frames of each of so many lines are delivered and dropped, one way after the other.
+    /// The frames of each of so many lines are delivered and dropped, one direction after the other.
     #[tactic(auto, using(crate::proofs::Calls::Carries::range_more))]
     fn turn_all(&mut self, lines: usize) -> Result<(), AllocError>
         requires { AreLive self.old.imps }

@@ -1,4 +1,4 @@
-//! An IMP starts.
+//! An IMP starts: when it is refused, and how it begins.
 
 ghost use Rattle.std.specs.Prelude.{◌≡◌, ◌≤◌, ◌<◌, ◌==◌, ◌&&◌, not, true, false, length, slice_set, count_by, Some, IfOk, OnOk};
 ghost use Rattle.std.specs.List.{list_any};

@@ -18,7 +18,7 @@ use std::alloc::{AllocError, Global};
 const MOST_HOSTS: u8 = 4;
 
 impl Parts {
-    /// A host stops.
+    /// A host stops: what waits for it is cleared, and the sources of these messages are told Dead.
     pub(crate) fn host_down(&mut self, host: HostAddr) -> Result<(), CarrierFault>
         requires { AreLive self.old.imps }
         ensures step { Steps (event.HostDown host) self.old self.new result }
@@ -35,7 +35,7 @@ impl Parts {
         Ok(())
     }
 
-    /// A host starts.
+    /// A host starts, unless a message of it is outstanding.
     pub(crate) fn host_up(&mut self, host: HostAddr) -> Result<(), CarrierFault>
         requires { AreLive self.old.imps }
         ensures step { Steps (event.HostUp host) self.old self.new result }

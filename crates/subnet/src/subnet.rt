@@ -1,4 +1,4 @@
-//! A packet subnet.
+//! A packet subnet: all IMPs and lines, as a carrier.
 
 ghost use Rattle.std.specs.Prelude.{◌≡◌, ◌<◌, ◌≤◌, true, false, reverse, None, All, IfSome, IfOk, length, slice_index_or};
 ghost use Rattle.subnet.specs.Inside.Calling.{AreLive, SameLog, runs_out};
@@ -16,10 +16,10 @@ use link_table::Number;
 use std::alloc::{AllocError, Global};
 use std::marker::Model;
 
-/// All IMPs and lines of a network, and what is on its way in them.
+/// All IMPs and lines of a network, and what is in transit in them.
 ///
 /// Hosts offer messages to their IMPs, which cut them into packets and pass those on over lines; each packet
-/// may be lost, repeated and overtaken. Want of memory stops the subnet: nothing is done any more, and its log
+/// may be lost, repeated and overtaken. Running out of memory stops the subnet: nothing more is done, and its log
 /// stands.
 #[derive(Drop)]
 pub struct Subnet {
@@ -47,7 +47,7 @@ impl Subnet {
     /// number how many hosts an IMP has, 0 to 4, where there is one: there is none of the number 0, and none above
     /// 16. `hosts` are the hosts of all IMPs, one after another. There are fewer than 256 lines.
     ///
-    /// Errors: want of memory alone.
+    /// Errors: memory runs out, and nothing else.
     pub fn new(
         alloc: Global,
         hosts: Vec<HostAddr>,
@@ -70,14 +70,14 @@ impl Subnet {
     /// Whether a packet or message of this flow and number is alive: a packet in a store, a channel, a slot or a
     /// live frame, or a whole message that waits for its host. An answer that waits for its host does not count.
     ///
-    /// It takes no memory. After want of memory has stopped the subnet, nothing is known of what is alive.
+    /// It takes no memory. After memory has run out, nothing is known of what is alive.
     pub fn alive(&self, flow: &Flow, number: Number) -> bool
         ensures { result ≡ is_alive self.now.net flow.now number }
     {
         self.parts.is_alive(flow, number)
     }
 
-    /// Whether want of memory has stopped it. Its log is a run, and until then it is whole.
+    /// Whether running out of memory has stopped it. Its log is a run, and until then it is whole.
     fn has_stopped(&self) -> bool
         ensures same { result ≡ self.now.stopped }
         ensures working { IsWorking self.now }
@@ -122,7 +122,7 @@ impl Subnet {
         outcome
     }
 
-    /// A round in which what is on its way moves on.
+    /// A round in which what is in transit moves on.
     #[tactic(auto, using(crate::proofs::Calls::Working::round_done))]
     fn round(&mut self) -> Result<(), CarrierFault>
         ensures { SubnetRound self.old result self.new }
@@ -197,7 +197,7 @@ impl Carrier for Subnet {
 }
 
 impl Parts {
-    /// A quiet round, which may fail for want of memory.
+    /// A quiet round, which may run out of memory.
     fn fails_in_round(&mut self) -> bool
         requires { AreLive self.old.imps }
         ensures round { result ≡ false → self.new ≡ events.quiet_round self.old }
@@ -222,7 +222,7 @@ impl Parts {
     }
 }
 
-/// Whether memory was wanted.
+/// Whether memory ran out.
 fn has_run_out(outcome: &Result<Option<Inbound>, CarrierFault>) -> bool
     ensures { result ≡ runs_out outcome.now }
 {

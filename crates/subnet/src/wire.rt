@@ -92,7 +92,7 @@ impl Wire {
 
     /// A copy of the frame at a place of those that go one way; `None` where there is none.
     ///
-    /// Errors: want of memory alone.
+    /// Errors: memory runs out, and nothing else.
     pub(crate) fn copy(
         &self,
         direction: Direction,
@@ -121,7 +121,7 @@ impl Wire {
     /// An IMP puts a frame on the line, behind the others that go the same way. On a full line the frame is
     /// lost.
     ///
-    /// Errors: want of memory alone.
+    /// Errors: memory runs out, and nothing else.
     pub(crate) fn put(&mut self, imp: u8, frame: Frame) -> Result<(), AllocError>
         ensures { OnOk result (self.new ≡ with_frame imp frame self.old) }
     {

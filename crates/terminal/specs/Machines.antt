@@ -9,7 +9,7 @@ use Rattle.terminal.specs.Octets.{whole, part}
 
 -- ---- the echo service
 
--- its two sockets, the bits behind the last whole octet that came, and whether want of memory has made it useless
+-- its two sockets, the bits after the last whole octet that came, and whether running out of memory has made it useless
 pub record EchoState : Type 0 where
   pub receive : ℕ
   pub send : ℕ

@@ -30,7 +30,7 @@ impl Model for Line {
 }
 
 impl Line {
-    /// Its octets.
+    /// The octets of the line, without its end.
     pub fn as_octets(&self) -> &[u8]
         ensures { result.now ≡ self.now }
     {

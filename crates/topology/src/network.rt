@@ -204,7 +204,7 @@ impl Topology {
     }
 }
 
-/// Why a text is no document, as a fault of a topology: only want of memory is told as such.
+/// Why a text is not a document, as a fault of a topology: only running out of memory is told as such.
 fn fault_of(error: &toml::de::Error) -> TopologyFault
     ensures memory { (result ≡ TopologyFault.OutOfMemory) ↔ IsMemory error.now }
 {

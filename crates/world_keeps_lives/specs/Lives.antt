@@ -29,7 +29,7 @@ AreRefusing (e ∷ entries) = (e.mine ≡ false → has_cls e.closing ≡ true) 
 
 -- ---- a life and its end
 
--- what was sent in a life is a front of what was handed over, and what was taken in it is granted
+-- what was sent in a life is a prefix of what was handed over, and what was taken in it is granted
 pub record IsSafe (x : Life) (handed : List Bool) : Type 0 where
   pub front : sends x ≡ true → IsFront x.bits handed
   pub within : receives x ≡ true → IsGranted x x.messages (length x.bits)

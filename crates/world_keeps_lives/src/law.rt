@@ -38,7 +38,7 @@ pub fn programs()
     // what a receiving life took, with what was returned, is within what it granted
     ensures taken { (hosts : List Host) (moments : List Moment) → HaveAddresses hosts → mail.IsRun hosts (crossings_of moments) → IsTimeline hosts moments → (receiver : Life) → Contains (kept_in moments).book.lives receiver → receives receiver ≡ true → IsGranted receiver receiver.messages (length receiver.bits) }
 
-    // what each sending life sent is a front of what was handed over in it
+    // what each sending life sent is a prefix of what was handed over in it
     ensures handed { (hosts : List Host) (moments : List Moment) → HaveAddresses hosts → mail.IsRun hosts (crossings_of moments) → IsTimeline hosts moments → AreHanded (kept_in moments).book.lives (kept_in moments).handed }
 {}
 
@@ -65,7 +65,7 @@ pub fn worked_ends()
 
 /// Lives of host `first`, which sends from socket 33 and receives on 16.
 pub fn worked_lives()
-    // what was sent is a front of what was handed over; not of less, and not of other bits
+    // what was sent is a prefix of what was handed over; not of less, and not of other bits
     ensures sent { IsSafe (carried (true ∷ []) (new_life first 33 second 16 6 10)) (true ∷ false ∷ []) }
     ensures more { IsSafe (carried (true ∷ []) (new_life first 33 second 16 6 10)) [] → ⊥ }
     ensures others { IsSafe (carried (true ∷ []) (new_life first 33 second 16 6 10)) (false ∷ true ∷ []) → ⊥ }

@@ -40,7 +40,7 @@ pub fn programs()
 /// Two programs that stay together since both were through a reset, link by link and connection by connection. A connection is told by its two sockets
 /// and how many connections of theirs are over, which both count alike.
 pub fn streams()
-    // what the one has taken in a connection is a front of what the other has sent in it
+    // what the one has taken in a connection is a prefix of what the other has sent in it
     ensures front { (hosts : List Host) (moments : List Moment) → HaveAddresses hosts → mail.IsRun hosts (crossings_of moments) → IsTimeline hosts moments → (a b : Host) (link : ℕ) → (link == 0) ≡ false → stay.stays a b (events_of moments) ≡ true → stay.stays b a (events_of moments) ≡ true → (c : ℕ) → IsFront ((receiver_now numbered b link (own_calls a b moments)).taken c) ((sender_now numbered_by_peer a link (own_calls b a moments)).sent c) }
 
     // with what was returned, what was taken is within what was granted, and so is what was sent
@@ -50,7 +50,7 @@ pub fn streams()
 
 /// The lives of a book, over every list of moments in which what crosses is a run of the mailboxes.
 pub fn lives()
-    // what a receiving life took is a front of what its one partner sent: where it took any bit there is one
+    // what a receiving life took is a prefix of what its one partner sent: where it took any bit there is one
     ensures source { (hosts : List Host) (moments : List Moment) → HaveAddresses hosts → mail.IsRun hosts (crossings_of moments) → IsTimeline hosts moments → (receiver : Life) → Contains (kept_in moments).book.lives receiver → receives receiver ≡ true → (receiver.bits ≡ [] → ⊥) → Source (crossings_of moments) (kept_in moments).book.lives receiver }
 
     // what a sending life sent that it matches, with what was returned, is within what it granted

@@ -195,7 +195,7 @@ pub(crate) fn print_refusal<W: Write>(
     check_written(writeln!(writer, "refused {name}"))
 }
 
-/// The name of a refusal. `None` where want of memory has stopped the world.
+/// The name of a refusal. `None` where running out of memory has stopped the world.
 fn name_of(fault: WorldFault) -> Option<&'static str>
     ensures name { IfSome result (λ name. name.now ≡ refusal_name fault) }
     ensures goes_on { IsSome result ↔ (stops (Err fault) ≡ false) }
@@ -206,7 +206,7 @@ fn name_of(fault: WorldFault) -> Option<&'static str>
     }
 }
 
-/// The name of a refusal by a host's program. `None` for want of memory.
+/// The name of a refusal by a host's program. `None` if memory ran out.
 fn program_refusal(fault: NcpFault) -> Option<&'static str>
     ensures name { IfSome result (λ name. name.now ≡ problem_name fault) }
     ensures goes_on { IsSome result ↔ (stops (Err (WorldFault.Program fault)) ≡ false) }

@@ -115,7 +115,7 @@ fn outcome(alloc: Global, script: &str, way: Way) -> Option<Outcome> {
 const ROWS: [(&str, Way, Refused, [usize; 5]); 4] = [
     // a grant past what a counter holds is refused by a program, and a host that is down by the carrier
     (CALLS, Way::Steps, [1, 1], [12, 4, 1, 2, 16]),
-    // a run passes over them
+    // a run continues after them
     (CALLS, Way::Run, [0, 0], [12, 4, 1, 2, 16]),
     // 0/1 has nothing to take and offers its RST; then 0/2 takes it and offers its RRP
     ("contact 0/1 0/2", Way::Calm(1), [0, 0], [3, 1, 1, 0, 0]),

@@ -1,3 +1,6 @@
+-- The book of a world: what each event puts into it, and what it keeps. Main lemmas: Whole `step_whole` (after an event the book still tells one list
+-- of moments), Whole `run_whole` (after a list of events), Places `all_changed` (what is done to the open lives is done to all), Booked (the book has
+-- what crossed), Refusals `step_stands` (a refusal, and running out of memory, leave it as it was).
 pub mod Always
 pub mod BookEvents
 pub mod Booked

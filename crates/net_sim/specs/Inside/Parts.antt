@@ -36,7 +36,7 @@ pub record Sits (h : Host) (place : ℕ) (s : NcpState) (seats : List Seat) : Ty
   pub found : seat_of h seats ≡ Some (record { host = h; program = Some s })
   pub set : (p : Option NcpState) → slice_set seats place (record { host = h; program = p }) ≡ seated h p seats
 
--- it runs nowhere
+-- the host doesn't exist, or is down and has no program
 pub data IsAway (h : Host) (f : WorldFault) (seats : List Seat) : Type 0 where
   NoSeat : f ≡ Carrier fault.NoSuch → seat_of h seats ≡ None → IsAway h f seats
   NoProgram : (seat : Seat) → f ≡ Carrier fault.IsDown → seat_of h seats ≡ Some seat → seat.program ≡ None → IsAway h f seats

@@ -1,3 +1,6 @@
+-- The calls of `Subnet`: what they leave, what hosts see, and when memory may run out. Main lemmas: Working `offer_shown`, `take_shown`, `step_shown`
+-- and `round_shown` (what each call shows), Rounds `quiet_round_sound` (what a quiet round keeps), RoundMemory (when it may need memory), Silence
+-- `not_alive` (a question that finds nothing alive), Opens (a subnet opens).
 pub mod Attempting
 pub mod Carries
 pub mod Carrying

@@ -95,7 +95,7 @@ abbrev pub Fails : {A : Type 0} → Option CarrierFault → Bool → Bool → Ca
 Fails refusal grows true e old new = (refusal ≡ None) × (grows ≡ true)
 Fails refusal grows false e old new = (refusal ≡ Some e) × (new ≡ old)
 
--- A call that is refused for `refusal`, and else gives a value with this property. A refusal changes nothing. Want of memory
+-- A call that is refused for `refusal`, and else gives a value with this property. A refusal changes nothing. Running out of memory
 -- comes last, only where something grows
 abbrev pub CallEnds : {A T : Type 0} → Option CarrierFault → Bool → (T → Type 0) → A → A → Result T CarrierFault → Type 0
 CallEnds refusal grows Gives old new (Ok x) = (refusal ≡ None) × Gives x
@@ -106,11 +106,11 @@ abbrev pub Makes : ℕ → ImpCall → Net → Net → Result (Unit {0}) Carrier
 Makes i c old new r =
     CallEnds (at_up (imp_at old.imps i) (call_refusal c)) (grows_at (imp_at old.imps i) (call_grows c)) (λ done. new ≡ at_imp (imp_at old.imps i) i (call_turn c) old) old new r
 
--- an event
+-- an event is refused, or gives the subnet that is `stepped`
 abbrev pub Steps : NetEvent → Net → Net → Result (Unit {0}) CarrierFault → Type 0
 Steps e old new r = CallEnds (step_refusal old e) (step_grows old e) (λ done. new ≡ stepped old e) old new r
 
--- want of memory
+-- whether memory ran out in a call
 abbrev pub runs_out : {T : Type 0} → Result T CarrierFault → Bool
 runs_out (Ok x) = false
 runs_out (Err e) = is_memory e
