@@ -42,7 +42,7 @@ write_fault (Err f) h = subst IsReplayFault (sym h) tt
 abbrev ends_with : ScriptFault → Result (Unit {0}) ScriptFault
 ends_with f = Err f
 
--- only want of memory is told as want of memory
+-- only running out of memory is told as running out of memory
 pub told_memory : (f : ReplayFault) (g : ScriptFault) → g ≡ told_as f → ends_with g ≡ ends_with fault.OutOfMemory → f ≡ replay.OutOfMemory
 told_memory replay.OutOfMemory g told is = refl
 told_memory replay.CannotWrite g told is = cc

@@ -42,7 +42,7 @@ writes_all calls opening last events a b c empty h safe end = record {
   written = appends_more a b c (output h.shown) (codes "end\n") h.written end;
 }
 
--- a replay that ends for want of memory
+-- a replay that runs out of memory
 pub writes_part : {C : Type 0} (calls : Calls C) (opening last : C) (events : List RawEvent) (a b : Option (List ℕ)) → (calls.seen opening).log ≡ [] → Writes (EndsIn calls StopsIn opening events last) a b
     → SafeMessages (calls.seen last).log → Writes (StopsFrom calls opening events) a b
 writes_part calls opening last events a b empty h safe = record {

@@ -80,7 +80,7 @@ whole {Piece} v t x text can h =
 
 -- ---- the outstanding message is settled by an answer
 
--- an answer that fits the box, while nothing is on its way to the destination
+-- an answer that fits the box, while nothing is in transit to the destination
 pub record Ends (v : View) (t : Packet → Type 0) (kind : Answer) : Type 0 where
   pub fits : Fits kind v.box
   pub unread : v.queue ≡ []

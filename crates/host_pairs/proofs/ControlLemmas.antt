@@ -171,7 +171,7 @@ wanted_of peer stamp (suc most) octets now total enough said some wants =
     let here : 0 < said_by peer stamp (orders_within (1 + most) octets) now = wants most in
     omega (arith, here, before, said)
 
--- where the next order wants memory, the octets want it
+-- where the next order needs memory, the octets need it
 pub left_wanted : (peer : Host) (stamp : ℕ) (octets : List ℕ) (now end : TurnState) (total : ℕ) → IsLeft peer stamp octets now end total → 0 < length octets
     → ((more : ℕ) → 0 < said_by peer stamp (orders_within (1 + more) octets) now) → 0 < total
 left_wanted peer stamp octets now end total left some wants = wanted_of peer stamp left.most octets now total left.enough left.said some wants

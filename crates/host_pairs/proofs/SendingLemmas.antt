@@ -42,7 +42,7 @@ whole_octets octets n is = rw is (whole octets)
 
 -- ---- commands
 
--- a front of whole commands has room in one control message
+-- a prefix of whole commands has room in one control message
 pub packed_room : (commands : List Command) → length (spellings (take (packed_count commands) commands)) ≤ 120
 packed_room commands = (longest_front commands).fits
 

@@ -73,7 +73,7 @@ abbrev pub Kept : Channel → Bool → List Passing → List Bool → List Packe
 Kept ch expects way acks put given freed =
     IsIdle ch expects way acks put given freed ⊎ (IsWaiting ch expects way acks put given freed ⊎ IsTaken ch expects way acks put given freed)
 
--- Whatever is passed over on the way leaves these as they are.
+-- Whatever is skipped leaves these as they are.
 
 AllHave-drop : (n : ℕ) (b : Bool) (way : List Passing) → AllHave b way → AllHave b (drop n way)
 AllHave-drop zero b way h = h
@@ -118,7 +118,7 @@ Turns-drop (suc n) b [] h = tt
 Turns-drop (suc n) b (a ∷ acks) (inl h) = Turns-drop n b acks h.1
 Turns-drop (suc n) b (a ∷ acks) (inr h) = Turns-from_AllAre b (drop n acks) (AllAre-drop n (not b) acks h.1)
 
--- frames may be passed over both ways
+-- frames may be skipped both ways
 pub kept_drop : (n m : ℕ) (ch : Channel) (expects : Bool) (way : List Passing) (acks : List Bool) (put given freed : List PacketFields)
     → Kept ch expects way acks put given freed → Kept ch expects (drop n way) (drop m acks) put given freed
 kept_drop n m ch expects way acks put given freed (inl k) =

@@ -131,7 +131,7 @@ later f frames from to le =
     drop-map f (to - from) (drop from frames)
     ∙ ap (λ (l : List Frame). map f l) (drop-drop (to - from) from frames ∙ ap (λ (n : ℕ). drop n frames) (let e : from + (to - from) ≡ to = omega arith in e))
 
--- frames may be passed over
+-- frames may be skipped
 kept_reach : (c : ℕ) (me you : Side) (place : ℕ) → you.reached ≤ place → place ≤ length you.written
     → BothKept c me you → BothKept c me (record you { reached = place })
 kept_reach c me you place from to k = record {

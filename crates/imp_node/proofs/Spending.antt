@@ -1,4 +1,4 @@
--- No call spends an IMP, save by want of memory.
+-- No call spends an IMP, save by running out of memory.
 use Rattle.std.proofs.Common.{◌≡◌, ℕ, Bool, true, false, List, [], ◌∷◌, Result, Ok, Err, refl, ◌∙◌}
 use Rattle.std.specs.Prelude.{if◌then◌else◌}
 use Rattle.leader1822.specs.declared.address.Flow.{Flow}

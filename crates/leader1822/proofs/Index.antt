@@ -374,7 +374,7 @@ both_up : (v : Bool) → v ≡ (v && true)
 both_up true = refl
 both_up false = refl
 
--- boxes between hosts that are all up, with nothing on its way
+-- boxes between hosts that are all up, with nothing in transit
 pub opening_kept : (hosts : List Host) → InOrder hosts → IsKept (record { boxes = opening_boxes hosts; flows = empty })
 opening_kept hosts order =
     let b : Boxes = opening_boxes hosts in

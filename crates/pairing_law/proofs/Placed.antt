@@ -1,4 +1,4 @@
--- Texts that carry their places make a run as well: so what was heard is a front of what was said, with its places.
+-- Texts that carry their places make a run as well: so what was heard is a prefix of what was said, with its places.
 use Rattle.std.proofs.Common.{◌≡◌, ℕ, zero, suc, Bool, true, false, not, ◌&&◌, ◌||◌, List, [], ◌∷◌, refl, ap, sym, subst, ◌∙◌, if◌then◌else◌, ◌==◌, ◌+◌}
 use Rattle.leader1822.specs.Host.{Host, same_host}
 use Rattle.leader1822.specs.declared.crossing.Answer.{Answer}

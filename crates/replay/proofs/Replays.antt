@@ -17,7 +17,7 @@ replays_show calls old new (e ∷ events) shown (mid, first, rest, happens, more
     ∙ sym (append_assoc (reverse (crossings_of rest)) (reverse (crossings_of first)) (calls.seen old).log)
     ∙ ap (λ cs. cs ++ (calls.seen old).log) (sym (reverse-append (crossings_of first) (crossings_of rest)) ∙ ap reverse (sym all))
 
--- what a replay that ended for want of memory shows is what its log gained
+-- what a replay that ran out of memory shows is what its log gained
 pub stops_show : {C : Type 0} (calls : Calls C) (old new : C) (events : List RawEvent) (shown : List Shown) → EndsIn calls StopsIn old events new shown
     → (calls.seen new).log ≡ reverse (crossings_of shown) ++ (calls.seen old).log
 stops_show calls old new events shown h =

@@ -16,7 +16,7 @@ use Rattle.replay.proofs.Shown.{shown_crossings-append}
 use Rattle.script.specs.declared.event.RawEvent.{RawEvent}
 use Rattle.script.specs.declared.event.RawEvent.TheVariants as event
 
--- ---- want of memory
+-- ---- running out of memory
 
 not_both : (r : Result (Unit {0}) CarrierFault) → Halts r → GoesOn r → ⊥
 not_both (Ok done) halts goes = halts
@@ -50,7 +50,7 @@ same_grows calls old new same = stays calls old new (ap (λ c. (calls.seen c).lo
 
 -- ---- the parts of a calm
 
--- a part goes one way, want of memory aside; it only adds crossings; and where memory ran out, what crossed by then is the
+-- a part goes one way, running out of memory aside; it only adds crossings; and where memory ran out, what crossed by then is the
 -- first of what crosses in the whole part
 record Steady {C : Type 0} (calls : Calls C) (P : Part C) : Type 0 where
   once : (old : C) (r q : Result (Unit {0}) CarrierFault) (new other : C) → P old r new → GoesOn r → P old q other → GoesOn q → SameEnd r q new other
@@ -103,7 +103,7 @@ steady_chain calls First Next sf sn = record {
 
 -- ---- takings, quiet rounds, rounds
 
--- a taking behind which a host goes on, or ends without want of memory, went on
+-- a taking behind which a host goes on, or ends without running out of memory, went on
 taking_goes : (a : Result (Option Inbound) CarrierFault) (r : Result (Unit {0}) CarrierFault) (More Left : Type 0) → IfGiven a More ((r ≡ calmly (outcome_of a)) × Left) → GoesOn r → GoesOn (outcome_of a)
 taking_goes (Ok (Some given)) r More Left h goes = tt
 taking_goes (Ok None) r More Left h goes = tt

@@ -50,7 +50,7 @@ line_count text =
 
 -- ---- events of any kind, by how they are spelled and which of them are valid
 
--- one more line that is passed over
+-- one more line that is ignored
 pub ask_past : {E : Type 0} (spell : E → List ℕ) (IsMeant : E → Type 0) (events : List E) (lines : List (List ℕ)) (line : List ℕ) → is_passed_over line ≡ true → AskForAs spell IsMeant events lines → AskForAs spell IsMeant events (lines ++ line ∷ [])
 ask_past {E} spell IsMeant events lines line passed asked =
     let none : filter asks (line ∷ []) ≡ [] = ap (λ p. cond (not p) (line ∷ []) []) passed in

@@ -32,7 +32,7 @@ use Rattle.world_replay.proofs.Grown.{Grew, begins, grew_more, grew_same, step_g
 
 -- ---- what goes one way
 
--- what ends so goes one way, want of memory aside; the book only grows by it; and where memory ran out, the book can only grow
+-- what ends so goes one way, running out of memory aside; the book only grows by it; and where memory ran out, the book can only grow
 -- to what it is where it didn't
 pub record Steady {C : Type 0} (k : Kept) (P : Result (Unit {0}) WorldFault → WorldState C → Type 0) : Type 0 where
   pub once : (r q : Result (Unit {0}) WorldFault) (new other : WorldState C) → P r new → stops r ≡ false → P q other → stops q ≡ false → (r ≡ q) × (new ≡ other)

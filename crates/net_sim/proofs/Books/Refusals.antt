@@ -1,4 +1,4 @@
--- A refusal, and want of memory, leave what is kept as it was.
+-- A refusal, and running out of memory, leave what is kept as it was.
 use Rattle.std.proofs.Common.{◌≡◌, ◌⊎◌, inl, inr, ℕ, List, Bool, true, false, Option, Some, None, Result, Ok, Err, ap, sym, ◌∙◌}
 use Rattle.std.specs.Bool.{MatchBool}
 use Rattle.leader1822.specs.Host.{Host}

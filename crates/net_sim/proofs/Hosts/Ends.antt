@@ -127,7 +127,7 @@ refused_is {C} f c seats seats1 ss ss1 k k1 r calm m =
           ∙ ap (λ (b : Kept). running c seats ss b) m.1.1.1,
     )
 
--- no refusal is want of memory
+-- no refusal is running out of memory
 abbrev IsCalm : Option NcpFault → Type 0
 IsCalm None = Unit {0}
 IsCalm (Some f) = wants_memory (Program f) ≡ false

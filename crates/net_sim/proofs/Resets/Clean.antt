@@ -121,7 +121,7 @@ module _ {C : Type 0} (seen : C → Seen) (hosts : List Host) (w : WorldState C)
       let kept : (text : List Bool) × (mail.box_of m.flow older ≡ mail.Waiting waits.place text) = seen_waiting m.flow.link.0 (mail.box_of m.flow older) waits.place (Other m.text) box in
       record { place = waits.place; out = waiting_out m.flow waits.place kept.0 older kept.1; after = waits.after }
 
-  -- link by link, what a host heard in its last stay is a front of what was said
+  -- link by link, what a host heard in its last stay is a prefix of what was said
   pub book_front : (a b : Host) (link : ℕ) → IsFront (heard_in_stay a b link (events_in contacts log)) (said_in_stay a b link (events_in contacts log))
   book_front a b link = heard_front hosts (events_in contacts log) book_run a b link
 

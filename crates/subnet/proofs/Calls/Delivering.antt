@@ -21,7 +21,7 @@ some_bits : (bits : List Bool) → (bits ≡ [] → ⊥) → nat_lt 0 (length bi
 some_bits [] filled = absurd (filled refl)
 some_bits (b ∷ bits) filled = rw (← add-one (length bits)) (above_none (length bits))
 
--- a copy wants memory only for bits
+-- a copy needs memory only for bits
 pub copy_wanted : (f : Frame) → (bits_carried f.content ≡ [] → ⊥) → copy_grows f ≡ true
 copy_wanted f filled = some_bits (bits_carried f.content) filled
 

@@ -1,4 +1,4 @@
--- When a quiet round may want memory.
+-- When a quiet round may need memory.
 use Rattle.std.specs.Prelude.{if◌then◌else◌}
 use Rattle.std.proofs.Common.{◌≡◌, ℕ, zero, suc, ◌+◌, Bool, false, true, List, [], ◌∷◌, ◌++◌, length, nat_lt, take, drop, get_or, set, slice_get, Option, Some, None, ◌||◌, ◌&&◌, refl, ap, sym, subst, ◌∙◌, arith}
 use Rattle.std.specs.List.{list_any}

@@ -395,7 +395,7 @@ step_invariant old e n r s stops goes ends same is =
     let at : Bool → Kept = λ b. record { net = n; stopped = b } in
     subst (λ (b : Bool). IsWorking (at b)) (sym stops) (step_working old e r (kept_by n r) (step_done old e n r goes ends same) is)
 
--- a quiet round fails only for want of memory
+-- a quiet round fails only by running out of memory
 pub round_done : (old : Kept) (n : Net) (failed : Bool) → old.stopped ≡ false → (failed ≡ false → n ≡ quiet_round old.net) → (failed ≡ true → round_grows old.net ≡ true) → SameLog old.net n
     → (let new : Kept = record { net = n; stopped = failed } in SubnetRound old (if failed then Err fault.OutOfMemory else Ok tt) new)
 round_done old n true goes round grows same = (went_on (λ k. None) old goes refl, grows refl, record { hosts = same.hosts; log = same.log; stopped = refl })

@@ -16,7 +16,7 @@ use Rattle.subnet.specs.Events.{first_of, has_end, at_up, at_imp, accepted, is_i
 use Rattle.subnet.specs.declared.imp_call.ImpCall.TheVariants as call
 use Rattle.subnet.specs.Inside.Calling.{call_turn, call_grows, IsLive, AreLive, Fails, CallEnds, Makes, Steps}
 
--- a refusal that doesn't apply is passed over
+-- a refusal that doesn't apply is skipped
 pub passed : {A T : Type 0} (b : Bool) (e : CarrierFault) (refusal : Option CarrierFault) (grows : Bool) (Gives : T → Type 0) (old new : A) (r : Result T CarrierFault) → b ≡ false → CallEnds refusal grows Gives old new r → CallEnds (first_of b e refusal) grows Gives old new r
 passed true e refusal grows Gives old new r untrue h = cc
 passed false e refusal grows Gives old new r untrue h = h

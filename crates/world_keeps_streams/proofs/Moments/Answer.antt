@@ -41,7 +41,7 @@ use Rattle.world_keeps_streams.proofs.Moments.Out.{allowed_at, both_same, histor
 
 -- ---- an answer after which the pair is ready
 
--- a failure that isn't passed over leaves a pair that isn't ready
+-- a failure that isn't ignored leaves a pair that isn't ready
 failed_unready : (p : Host) (ph : Phase) (t : TurnState) → t.pair.phase ≡ ph → program_phases.is_ready (failed_by p ph t).pair.phase ≡ false
 failed_unready p phase.Closed t e = ap program_phases.is_ready e
 failed_unready p phase.Want t e = ap program_phases.is_ready e
