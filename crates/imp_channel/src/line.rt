@@ -209,6 +209,8 @@ fn lowest_free(channels: &[Channel]) -> Option<usize>
 }
 
 /// A frame's packet is on a channel that is in use.
+///
+/// It is there for the proof alone, and does nothing: `Carried::channel` tells that the channel is one of the eight.
 fn channel_in_use(content: &Content)
     ensures { is_foreign content.now ≡ false }
 {

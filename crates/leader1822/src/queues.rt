@@ -46,6 +46,8 @@ impl<T: Drop> Queues<T> {
     }
 
     /// Nothing changes where what waits for a host is put in its own place.
+    ///
+    /// It is there for the proof alone, and does nothing: a caller that changes no queue learns this equation.
     pub(crate) fn stays(&self, host: &HostAddr)
         ensures { with_queue self.now host.now (for_host self.now host.now) ≡ self.now }
     {

@@ -19,6 +19,9 @@ use sockets::{Ncp, Notice, Request};
 use std::alloc::{AllocError, Global};
 
 /// A request names its peer by an address, and has numbers in their ranges, as the types of both have it.
+///
+/// It is there for the proof alone, and does nothing: it looks at the address and at the numbers, and the prover then knows
+/// their ranges, which it does not take from a type by itself.
 pub(crate) fn is_addressed(request: &Request)
     ensures addressed { IsAddressed request.now }
     ensures ranged { IsAsked request.now }

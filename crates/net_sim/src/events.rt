@@ -124,6 +124,7 @@ pub(crate) fn ask<C: Carrier>(
     requires order { hosts_served services.old ≡ hosts_of seats.old }
     ensures { EventGives (shown (record { seen = C.seen; offers = C.offers; takes = C.takes; steps = C.steps; rounds = C.rounds })) (running carrier.old seats.old services.old book.old) (Ask host request.now) result (world_ended carrier.new seats.new services.new book.new result) }
 {
+    // for the proof alone: the carrier is asked nothing else here, and `log` tells what it shows, which stays the same
     let _ = carrier.log();
     let at = up_at(seats, host)?;
     ask_at(alloc, seats, services, at, book, request)
@@ -145,6 +146,7 @@ pub(crate) fn begin_server<C: Carrier>(
     requires order { hosts_served services.old ≡ hosts_of seats.old }
     ensures { EventGives (shown (record { seen = C.seen; offers = C.offers; takes = C.takes; steps = C.steps; rounds = C.rounds })) (running carrier.old seats.old services.old book.old) (Server host listen base) result (world_ended carrier.new seats.new services.new book.new result) }
 {
+    // for the proof alone, as in `ask`
     let _ = carrier.log();
     let at = up_at(seats, host)?;
     server_at(alloc, seats, services, at, book, listen, base)
@@ -167,6 +169,7 @@ pub(crate) fn begin_user<C: Carrier>(
     requires order { hosts_served services.old ≡ hosts_of seats.old }
     ensures { EventGives (shown (record { seen = C.seen; offers = C.offers; takes = C.takes; steps = C.steps; rounds = C.rounds })) (running carrier.old seats.old services.old book.old) (User host peer listen own) result (world_ended carrier.new seats.new services.new book.new result) }
 {
+    // for the proof alone, as in `ask`
     let _ = carrier.log();
     let at = up_at(seats, host)?;
     user_at(alloc, seats, services, at, book, peer, listen, own)
@@ -187,6 +190,7 @@ pub(crate) fn type_line<C: Carrier>(
     requires order { hosts_served services.old ≡ hosts_of seats.old }
     ensures { EventGives (shown (record { seen = C.seen; offers = C.offers; takes = C.takes; steps = C.steps; rounds = C.rounds })) (running carrier.old seats.old services.old book.old) (Typed host line.now) result (world_ended carrier.new seats.new services.new book.new result) }
 {
+    // for the proof alone, as in `ask`
     let _ = carrier.log();
     let at = up_at(seats, host)?;
     type_at(alloc, seats, services, at, book, line)
@@ -230,6 +234,8 @@ pub(crate) fn follow<C: Carrier>(
 }
 
 /// A user names its peer by an address, in numbers of their ranges, as the types of both have it.
+///
+/// It is there for the proof alone, as `is_addressed` is.
 pub(crate) fn is_named(event: &Event)
     ensures { IsNamed event.now }
 {

@@ -139,6 +139,7 @@ impl<C: Carrier> World<C> {
             &mut self.book,
             event,
         );
+        // for the proof alone: the log is a run of the mailboxes, which is a part of what a world keeps
         let _ = self.carrier.log();
         self.stopped = runs_out(&done);
         done
@@ -146,6 +147,8 @@ impl<C: Carrier> World<C> {
 }
 
 /// Each host has an address, as the type of an address has it.
+///
+/// It is there for the proof alone, and does nothing: of each host that it looks at the prover then knows the ranges.
 fn are_addresses(hosts: &[HostAddr])
     ensures { All (λ h. IsAddress h) hosts.now }
 {

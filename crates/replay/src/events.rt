@@ -72,6 +72,7 @@ pub fn replay_events<C: Carrier, W: Write>(
     ensures cannot_write { result ≡ Err ReplayFault.CannotWrite → (shown : List Shown) × EndsIn (record { seen = C.seen; offers = C.offers; takes = C.takes; steps = C.steps; rounds = C.rounds }) MayDo carrier.old events.now carrier.new shown }
 {
     let outcome = replay_in_turn(carrier, events, writer);
+    // for the proof alone: the log is a run of the mailboxes, and of each run the promise about messages is proved
     let _log = carrier.log();
     outcome
 }

@@ -169,6 +169,7 @@ impl Carrier for Subnet {
     /// where the RFNM has no place.
     #[tactic(auto, using(crate::proofs::Calls::Working::take_shown))]
     fn take_in(&mut self, host: HostAddr) -> Result<Option<Inbound>, CarrierFault> {
+        // for the proof alone: its clause `working` says that the log is a run, and the network whole until it stops
         let _ = self.has_stopped();
         self.take(host)
     }
@@ -177,6 +178,7 @@ impl Carrier for Subnet {
     /// with its refusals in their order.
     #[tactic(auto, using(crate::proofs::Calls::Working::step_shown))]
     fn step(&mut self, event: NetEvent) -> Result<(), CarrierFault> {
+        // for the proof alone, as in `take_in`
         let _ = self.has_stopped();
         self.happen(event)
     }
@@ -230,6 +232,9 @@ fn has_run_out(outcome: &Result<Option<Inbound>, CarrierFault>) -> bool
 }
 
 /// What the type of a message promises.
+///
+/// It is there for the proof alone, and does nothing: it looks at the addresses, at the text and at the link, and the
+/// prover then knows their ranges.
 fn known(message: &HostMessage)
     ensures { IsHostMessage message.now }
 {
@@ -241,7 +246,7 @@ fn known(message: &HostMessage)
     is_octet(message.flow.link.0);
 }
 
-/// A link is an octet.
+/// A link is an octet. It is there for the proof alone.
 fn is_octet(link: u8)
     ensures { link < 256 }
 {}

@@ -25,7 +25,7 @@ fn second() -> HostAddr
 }
 
 /// A world of 0/1 and 0/2 in which nothing has happened.
-pub(crate) fn world(alloc: Global) -> Result<World<PlainBoxes>, AllocError> {
+fn world(alloc: Global) -> Result<World<PlainBoxes>, AllocError> {
     let mut hosts = Vec::new(alloc);
     hosts.push(first())?;
     hosts.push(second())?;
