@@ -1,25 +1,23 @@
-#!/usr/bin/env python3
-"""Compares one IMP with a second reading of its rules, on calls made by chance.
+"""One IMP against the independent model in Python, on calls made by chance (minutes): ./check imp [RUNS]
+
+Compares one IMP with a second reading of its rules, on calls made by chance.
 
 The proofs say that `Imp` does what its definitions say. Whether the definitions say what docs/imp.md says is for readers
 to judge; this script tries it as well. `Imp` in tools/imp_rules.py was written from those rules, in another language and
 another form, with packets and frames spelled from the formats. Both run every call, and answers, frames and what the
 queries tell have to be the same. The same calls are made each time.
 
-The driver, tools/imp-calls.rs, is built without proof in a folder of its own: ./check-imp [RUNS]
+The driver, tools/imp-calls.rs, is built without proof in a folder of its own: ./check imp [RUNS]
 """
 
-import os
 import random
 import sys
 import tempfile
 from collections import Counter
 
-ROOT = os.path.dirname(os.path.realpath(__file__))
-sys.path.insert(0, f"{ROOT}/tools")
 
-from drivers import run_cases, with_driver, write_case  # noqa: E402
-from imp_rules import CHANNELS, DATA, DEAD, PIECE, RFNM, Imp, Refused, body, octets, spell_flow, spell_frame  # noqa: E402
+from drivers import run_cases, with_driver, write_case
+from imp_rules import CHANNELS, DATA, DEAD, PIECE, RFNM, Imp, Refused, body, octets, spell_flow, spell_frame
 
 RUNS = 1000
 CALLS = 100
@@ -212,13 +210,9 @@ def main():
         said = run_cases(driver, folder)
     if said is not None:
         print(said)
-        print("check-imp: a run came to something else than the rules say (the cases are made again by their number)")
+        print("check imp: a run came to something else than the rules say (the cases are made again by their number)")
         return 1
-    print(f"check-imp: {runs * CALLS} calls in {runs} runs agree")
+    print(f"check imp: {runs * CALLS} calls in {runs} runs agree")
     for name, count in sorted(seen.items()):
         print(f"  {name}: {count}")
     return 0
-
-
-if __name__ == "__main__":
-    sys.exit(main())

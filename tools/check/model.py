@@ -1,5 +1,6 @@
-#!/usr/bin/env python3
-"""Compares the program with a second reading of its rules, on inputs made by chance.
+"""The program against the independent model in Python, on inputs made by chance (two minutes).
+
+Compares the program with a second reading of its rules, on inputs made by chance.
 
 The proofs say that the program does what the definitions say. Whether the definitions say what docs/program.md and
 docs/mailboxes.md say is for readers to judge; this script tries it as well. tools/script_rules.py, and what it stands on,
@@ -14,7 +15,6 @@ It wants the program that ./build or .ci/run keeps. With `--try`, and perhaps th
 takes the program that `rt try` builds without proofs, and fewer inputs, since that one is slow.
 """
 
-import os
 import random
 import re
 import subprocess
@@ -22,13 +22,12 @@ import sys
 import tempfile
 from collections import Counter
 
-ROOT = os.path.dirname(os.path.realpath(__file__))
-sys.path.insert(0, f"{ROOT}/tools")
 
-from imp_rules import spell_flow  # noqa: E402, F401
-from script_rules import BadLine, expected, network_is_good, opened, read_line  # noqa: E402, F401
-from world_chance import reached  # noqa: E402
-from world_chance import some_script as some_script_of_world  # noqa: E402
+from imp_rules import spell_flow  # noqa: F401 (for tools/check/explain.py)
+from parts import ROOT, any_program
+from script_rules import BadLine, expected, network_is_good, opened, read_line  # noqa: F401
+from world_chance import reached
+from world_chance import some_script as some_script_of_world
 
 INPUTS = 3000
 WORLDS = 1500
@@ -219,7 +218,7 @@ class Tried:
                 yield int(found[2]), outputs.get(found[1], ""), said
             said = line if line.startswith("arpasim: ") else ""
         if not ended:
-            sys.exit(f"check-model: `rt try` ran nothing:\n{ran.stderr.decode('latin-1')}")
+            sys.exit(f"check model: `rt try` ran nothing:\n{ran.stderr.decode('latin-1')}")
 
 
 def what_it_runs(program):
@@ -237,14 +236,14 @@ def compare(program, inputs, runs):
     for place, (found, (options, network, lines)) in enumerate(zip(program.ends(given), inputs)):
         wanted = expected(options, network, [*lines, ""], runs)
         if found != wanted:
-            print(f"check-model: input {place} differs, with the options {options}:\n{given[place][1]!r}\nfound  {found}\nwanted {wanted}")
+            print(f"check model: input {place} differs, with the options {options}:\n{given[place][1]!r}\nfound  {found}\nwanted {wanted}")
             return None
         ends[re.sub(r" \d+", " N", found[2].strip()) or "run or read to the end"] += 1
         lines_printed += found[1].count("\n")
         came_to += reached(found[1].splitlines())
     for said, count in sorted(ends.items()):
-        print(f"check-model: {count} inputs: {said}")
-    print(f"check-model: {len(inputs)} inputs, {lines_printed} lines of output, all the same")
+        print(f"check model: {count} inputs: {said}")
+    print(f"check model: {len(inputs)} inputs, {lines_printed} lines of output, all the same")
     return came_to
 
 
@@ -252,23 +251,19 @@ def main():
     if sys.argv[1:2] == ["--try"]:
         program = Tried((sys.argv[2:3] or [ROOT])[0])
     else:
-        program = Kept(subprocess.run([f"{ROOT}/tools/kept-program"], capture_output=True, text=True, check=True).stdout.strip())
-        if not os.path.isfile(program.path):
-            print("check-model: there is no program of these sources: ./build makes it")
+        program = Kept(any_program())
+        if program.path is None:
+            print("check model: there is no program of these sources")
             return 1
     runs = what_it_runs(program)
     inputs, worlds = (INPUTS, WORLDS) if isinstance(program, Kept) else (INPUTS // 20, WORLDS // 10)
     if compare(program, [some_input(random.Random(seed)) for seed in range(inputs)], runs) is None:
         return 1
     if "worlds" not in runs:
-        print("check-model: this program runs no networks with host programs, so none is tried")
+        print("check model: this program runs no networks with host programs, so none is tried")
         return 0
     came_to = compare(program, [some_world_input(seed, runs) for seed in range(worlds)], runs)
     if came_to is None:
         return 1
-    print("check-model: worlds came to", ", ".join(f"{count} {name}" for name, count in sorted(came_to.items())))
+    print("check model: worlds came to", ", ".join(f"{count} {name}" for name, count in sorted(came_to.items())))
     return 0
-
-
-if __name__ == "__main__":
-    sys.exit(main())

@@ -1,5 +1,4 @@
-#!/usr/bin/env python3
-"""Compares how two states of this repository handle many waiting messages: ./measure-boxes OTHER [ROUNDS]
+"""How fast plain mailboxes are with many messages waiting, beside an earlier state: ./measure boxes OTHER [ROUNDS]
 
 OTHER is a clone at another commit, the earlier one. ./build has to be run in both before. The two are measured in turn,
 so that a busy machine slows both.
@@ -26,8 +25,9 @@ import subprocess
 import sys
 import tempfile
 
-ROOT = os.path.dirname(os.path.realpath(__file__))
-MOST_OCTETS = 1_048_576
+from measuring import processor_time, written
+from parts import ROOT, proved_program
+
 TOPOLOGY = 'carrier = "plain"\nraw = true\n' + "".join(f"[[imp]]\nid={imp}\nhosts=4\n" for imp in range(1, 10)) + "%\n"
 # A host that sends nothing and is sent nothing, and the others.
 IDLE = "3/9"
@@ -61,65 +61,37 @@ def stops_and_starts(count):
 SCRIPTS = {"takes where nothing waits": takes, "givings up from the newest": givings_up, "refused offers": refused_offers, "stops and starts": stops_and_starts}
 
 
-def kept_program(root):
-    """The program that ./build keeps for the sources of a clone."""
-    program = subprocess.run([f"{root}/tools/kept-program"], capture_output=True, text=True, check=True).stdout.strip()
-    if not os.path.isfile(program):
-        sys.exit(f"measure-boxes: there is no program of the sources of {root}: ./build there makes it")
-    return program
-
-
-def processor_time(program, source):
-    """How many milliseconds of the processor a run takes, from its start to its end."""
-    streams = [(os.POSIX_SPAWN_OPEN, 0, source, os.O_RDONLY, 0), (os.POSIX_SPAWN_OPEN, 1, "/dev/null", os.O_WRONLY, 0)]
-    process = os.posix_spawn(program, [program], {}, file_actions=streams)
-    _, status, used = os.wait4(process, 0)
-    if status != 0:
-        sys.exit(f"measure-boxes: {program} ended with {status}")
-    return 1000 * (used.ru_utime + used.ru_stime)
-
-
 def printed(program, source):
     with open(source, "rb") as octets:
         return subprocess.run([program], stdin=octets, capture_output=True, check=True).stdout
 
 
-def written(folder, name, count):
-    """The file of a script of so many lines."""
+def filled(name, count):
+    """A script of so many lines."""
     lines = SCRIPTS[name](count)
     lines += (count - len(lines)) * [f"take {IDLE}"]
-    octets = (TOPOLOGY + "\n".join(lines) + "\n").encode()
-    if len(octets) > MOST_OCTETS:
-        sys.exit(f"measure-boxes: {name}: {count} lines have {len(octets)} octets")
-    source = f"{folder}/{name}-{count}"
-    with open(source, "wb") as file:
-        file.write(octets)
-    return source
+    return TOPOLOGY + "\n".join(lines) + "\n"
 
 
 def main():
     if not 2 <= len(sys.argv) <= 3:
-        sys.exit("measure-boxes: the path of a clone at another commit is wanted, and how many rounds")
-    programs = [kept_program(os.path.realpath(sys.argv[1])), kept_program(ROOT)]
+        sys.exit("measure boxes: the path of a clone at another commit is wanted, and how many rounds")
+    programs = [proved_program(os.path.realpath(sys.argv[1])), proved_program(ROOT)]
     rounds = int(sys.argv[2]) if len(sys.argv) == 3 else 11
     with tempfile.TemporaryDirectory() as folder:
         print("| Measured | Lines | Before | After | Times | Ten times the lines |\n|---|---|---|---|---|---|")
         for name in SCRIPTS:
             short = 0
             for count in (6_000, 60_000):
-                source = written(folder, name, count)
+                source = written(folder, f"{name}-{count}", filled(name, count))
                 if printed(programs[0], source) != printed(programs[1], source):
-                    sys.exit(f"measure-boxes: {name}: the two programs print something else")
-                times = [[processor_time(program, source)] for program in programs]
+                    sys.exit(f"measure boxes: {name}: the two programs print something else")
+                times = [[1000 * processor_time([program], source)] for program in programs]
                 for _ in range(rounds - 1):
                     for taken, program in zip(times, programs):
                         if taken[0] < 1000:
-                            taken.append(processor_time(program, source))
+                            taken.append(1000 * processor_time([program], source))
                 before, after = map(statistics.median, times)
                 growth = f"{after / short:.1f}" if short else "-"
                 print(f"| {name} | {count:,} | {before:.1f} ms | {after:.1f} ms | {before / after:.1f} | {growth} |", flush=True)
                 short = after
-
-
-if __name__ == "__main__":
-    main()

@@ -1,5 +1,6 @@
-#!/usr/bin/env python3
-"""Compares hosts' programs with a second reading of their rules, on calls made by chance.
+"""A host's program against the independent model in Python, on calls made by chance (minutes): ./check hosts [RUNS | FOLDER]
+
+Compares hosts' programs with a second reading of their rules, on calls made by chance.
 
 The proofs say that `Ncp` does what its definitions say. Whether the definitions say what docs/hosts.md says is for readers
 to judge; this script tries it as well. tools/host_rules.py was written from those rules, in another language and another
@@ -8,8 +9,8 @@ goes out next have to be the same. The same calls are made each time. In half of
 they send, over boxes that may lose it; in the others one host gets what a peer of any kind may send. Besides, every command
 is cut at every length, and each octet of it is changed.
 
-The driver, tools/host-calls.rs, is built without proof in a folder of its own: ./check-hosts [RUNS]
-A folder of calls with what they owe can be tried too: ./check-hosts FOLDER
+The driver, tools/host-calls.rs, is built without proof in a folder of its own: ./check hosts [RUNS]
+A folder of calls with what they owe can be tried too: ./check hosts FOLDER
 """
 
 import os
@@ -19,12 +20,10 @@ import sys
 import tempfile
 from collections import Counter
 
-ROOT = os.path.dirname(os.path.realpath(__file__))
-sys.path.insert(0, f"{ROOT}/tools")
 
-from drivers import run_cases, with_driver, write_case  # noqa: E402
-from host_rules import GONE, READY, Host, Refused, bits_of, control_message, header, number, spell_bits  # noqa: E402
-from imp_rules import spell_flow, spell_host  # noqa: E402
+from drivers import run_cases, with_driver, write_case
+from host_rules import GONE, READY, Host, Refused, bits_of, control_message, header, number, spell_bits
+from imp_rules import spell_flow, spell_host
 
 RUNS = 250
 CALLS = 400
@@ -421,13 +420,9 @@ def main():
         said = run_cases(driver, folder)
     if said is not None:
         print(said)
-        print("check-hosts: a run came to something else than the rules say (the runs are made again by their number)")
+        print("check hosts: a run came to something else than the rules say (the runs are made again by their number)")
         return 1
-    print(f"check-hosts: {seen.pop('calls')} calls agree")
+    print(f"check hosts: {seen.pop('calls')} calls agree")
     for name, count in sorted(seen.items()):
         print(f"  {name}: {count}")
     return 0
-
-
-if __name__ == "__main__":
-    sys.exit(main())

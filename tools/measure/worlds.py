@@ -1,5 +1,4 @@
-#!/usr/bin/env python3
-"""Measures how fast host programs run over both carriers: ./measure-worlds [--program FILE] [ROUNDS]
+"""How fast host programs run over both carriers: ./measure worlds [--program FILE] [ROUNDS]
 
 ./build has to be run before, or FILE is the program. Two hosts talk over plain mailboxes, and over a chain of four IMPs:
 
@@ -17,15 +16,14 @@ is wanted for ten times the work. What a run prints is counted: every message ha
 to end. It wants GNU time at /usr/bin/time, and is not part of the gate.
 """
 
-import os
 import random
 import statistics
-import subprocess
 import sys
 import tempfile
 
-ROOT = os.path.dirname(os.path.realpath(__file__))
-MOST_OCTETS = 1_048_576
+from measuring import most_memory, processor_time, written
+from parts import proved_program
+
 CONNECTIONS = 40
 # For each carrier: its topology, its second host, and the rounds of a calm in which one message or one request passes.
 CARRIERS = {
@@ -96,42 +94,14 @@ MEASURED = [
 ]
 
 
-def kept_program():
-    program = subprocess.run([f"{ROOT}/tools/kept-program"], capture_output=True, text=True, check=True).stdout.strip()
-    if not os.path.isfile(program):
-        sys.exit("measure-worlds: there is no program of the present sources: ./build makes it")
-    return program
-
-
-def used(program, source):
-    """The processor time of a run in seconds, from its start to its end."""
-    streams = [(os.POSIX_SPAWN_OPEN, 0, source, os.O_RDONLY, 0), (os.POSIX_SPAWN_OPEN, 1, "/dev/null", os.O_WRONLY, 0)]
-    process = os.posix_spawn(program, [program], {}, file_actions=streams)
-    _, status, usage = os.wait4(process, 0)
-    if status != 0:
-        sys.exit(f"measure-worlds: the program ended with {status}")
-    return usage.ru_utime + usage.ru_stime
-
-
-def most_memory(program, source, wanted):
-    """The most memory that a run held, in KiB, by GNU time. What it prints has to have so many lines of each of these kinds."""
-    with open(source, "rb") as octets:
-        ran = subprocess.run(["/usr/bin/time", "-f", "%M", program], stdin=octets, capture_output=True, check=True)
-    kinds = [line.partition(b" ")[0].decode() for line in ran.stdout.splitlines()]
+def memory_of(program, source, wanted):
+    """The most memory that a run held, in KiB. What it prints has to have so many lines of each of these kinds."""
+    memory, output = most_memory(program, source)
+    kinds = [line.partition(b" ")[0].decode() for line in output.splitlines()]
     found = {kind: kinds.count(kind) for kind in [*wanted, "refused", "error"]}
     if found != {**wanted, "refused": 0, "error": 0}:
-        sys.exit(f"measure-worlds: {source}: printed were {found}, not {wanted}")
-    return int(ran.stderr)
-
-
-def written(folder, name, head, lines):
-    text = (head + "\n".join(lines) + "\n").encode()
-    if len(text) > MOST_OCTETS:
-        sys.exit(f"measure-worlds: {name} has {len(text)} octets")
-    source = os.path.join(folder, name)
-    with open(source, "wb") as file:
-        file.write(text)
-    return source
+        sys.exit(f"measure worlds: {source}: printed were {found}, not {wanted}")
+    return memory
 
 
 def measure(program, folder, rounds, name, make, carrier, sizes):
@@ -140,9 +110,9 @@ def measure(program, folder, rounds, name, make, carrier, sizes):
     for size in sizes:
         head, sender, passing = CARRIERS[carrier]
         lines, printed = make(sender, passing, size)
-        source = written(folder, f"{make.__name__}-{sender[2]}-{size}", head, lines)
-        memory = most_memory(program, source, printed)
-        runs = [used(program, source) for _ in range(rounds)]
+        source = written(folder, f"{make.__name__}-{sender[2]}-{size}", head + "\n".join(lines) + "\n")
+        memory = memory_of(program, source, printed)
+        runs = [processor_time([program], source) for _ in range(rounds)]
         median, best = statistics.median(runs), min(runs)
         growth = f"{best / short:.1f} times" if short else "-"
         print(f"| {name} | {carrier} | {size:,} | {1000 * median:.1f} ms | {1000 * best:.1f} ms | {memory:,} KiB | {growth} |", flush=True)
@@ -151,7 +121,7 @@ def measure(program, folder, rounds, name, make, carrier, sizes):
 
 def main():
     words = sys.argv[1:]
-    program = kept_program() if words[:1] != ["--program"] else words[1]
+    program = proved_program() if words[:1] != ["--program"] else words[1]
     words = words[2:] if words[:1] == ["--program"] else words
     rounds = int(words[0]) if words else 11
     with tempfile.TemporaryDirectory() as folder:
@@ -163,6 +133,3 @@ def main():
 
 
 CHANCE = random.Random(1822)
-
-if __name__ == "__main__":
-    main()

@@ -1,30 +1,27 @@
-#!/usr/bin/env python3
-"""Compares a whole subnet with a second reading of its rules, on events made by chance.
+"""A whole subnet against the independent model in Python, on events made by chance (minutes): ./check subnet [RUNS]
+
+Compares a whole subnet with a second reading of its rules, on events made by chance.
 
 The proofs say that `Subnet` does what its definitions say. Whether the definitions say what docs/subnet.md says is for
 readers to judge; this script tries it as well. tools/subnet_rules.py was written from those rules, in another language and
 another form. Both run every event, and what crosses and what is refused has to be the same. The same events are made each
 time. What happens is mostly about what is there: frames that are live, messages that are outstanding, slots that are held.
 
-The driver, tools/subnet-calls.rs, is built without proof in a folder of its own: ./check-subnet [RUNS]
-Networks of the greatest size, sixteen IMPs and forty lines, five at each IMP, are tried by ./check-subnet largest [RUNS]
-A folder of networks and scripts with their outputs can be tried too: ./check-subnet FOLDER
+The driver, tools/subnet-calls.rs, is built without proof in a folder of its own: ./check subnet [RUNS]
+Networks of the greatest size, sixteen IMPs and forty lines, five at each IMP, are tried by ./check subnet largest [RUNS]
+A folder of networks and scripts with their outputs can be tried too: ./check subnet FOLDER
 """
 
 import os
 import random
-import shutil
-import subprocess
 import sys
 import tempfile
-import tomllib
 from collections import Counter
 
-ROOT = os.path.dirname(os.path.realpath(__file__))
-sys.path.insert(0, f"{ROOT}/tools")
 
-from imp_rules import spell_flow, spell_host  # noqa: E402
-from subnet_rules import Subnet  # noqa: E402
+from drivers import run_cases, with_driver, write_case
+from imp_rules import spell_flow, spell_host
+from subnet_rules import Subnet
 
 RUNS = 1000
 EVENTS = 100
@@ -165,34 +162,6 @@ def spell_event(kind, *parts):
 # ---- the driver
 
 
-def crates_below(lines, name):
-    """A crate of the repository and those that it stands on."""
-    found = [name] if name in lines else []
-    for low in lines.get(name, []):
-        found += [it for it in crates_below(lines, low) if it not in found]
-    return found
-
-
-def with_driver(folder):
-    """Puts the driver into a folder, and the crates that it stands on."""
-    with open(f"{ROOT}/crates.txt", encoding="utf-8") as file:
-        lines = dict(line.strip().split(":") for line in file if line.strip() and not line.startswith("#"))
-    needed = crates_below({name: below.split() for name, below in lines.items()}, "subnet")
-    for name in needed:
-        shutil.copytree(f"{ROOT}/crates/{name}", f"{folder}/crates/{name}", ignore=shutil.ignore_patterns("out"))
-    os.makedirs(f"{folder}/crates/subnet_calls/src")
-    shutil.copy(f"{ROOT}/tools/subnet-calls.rs", f"{folder}/crates/subnet_calls/src/main.rt")
-    with open(f"{folder}/crates.txt", "w", encoding="utf-8") as file:
-        file.writelines(f"{name}:{lines[name]}\n" for name in needed)
-        file.write("subnet_calls: bit_messages hex leader1822 subnet\n")
-
-
-def write_case(folder, name, lines, owed):
-    for path, content in (f"{folder}/cases/{name}", lines), (f"{folder}/cases/{name}.stdout", owed):
-        with open(path, "w", encoding="utf-8") as file:
-            file.write("\n".join(content) + "\n")
-
-
 def with_runs(folder, runs, is_largest):
     """Puts the events of each run into a folder, and what is owed for them. Counts the events by what they came to."""
     seen = Counter()
@@ -205,6 +174,8 @@ def with_runs(folder, runs, is_largest):
 
 def with_files(folder, source):
     """Puts the networks and scripts of a folder into another, as the driver reads them. Counts them."""
+    import tomllib  # Python before 3.11 has none
+
     seen = Counter()
     for name in sorted(os.listdir(source)):
         if not name.endswith(".stdout"):
@@ -229,21 +200,15 @@ def main():
     source = words[0] if words and os.path.isdir(words[0]) else None
     runs = int(words[is_largest]) if not source and len(words) > is_largest else LARGEST_RUNS if is_largest else RUNS
     with tempfile.TemporaryDirectory() as folder:
-        with_driver(folder)
-        os.makedirs(f"{folder}/cases")
+        driver = with_driver(folder, "subnet-calls.rs", "subnet", "bit_messages hex leader1822")
         seen = with_files(folder, source) if source else with_runs(folder, runs, is_largest)
-        command = ["rt", "try", "--cases", f"{folder}/cases"]
-        ran = subprocess.run(command, cwd=f"{folder}/crates/subnet_calls", capture_output=True, text=True)
-    if ran.returncode != 0:
-        print(ran.stdout[-4000:] + ran.stderr[-4000:])
-        print("check-subnet: a run came to something else than the rules say (the runs are made again by their number)")
+        said = run_cases(driver, folder)
+    if said is not None:
+        print(said)
+        print("check subnet: a run came to something else than the rules say (the runs are made again by their number)")
         return 1
     events = LARGEST_EVENTS if is_largest else EVENTS
-    print(f"check-subnet: {'all scripts' if source else f'{runs * events} events in {runs} runs'} agree")
+    print(f"check subnet: {'all scripts' if source else f'{runs * events} events in {runs} runs'} agree")
     for name, count in sorted(seen.items()):
         print(f"  {name}: {count}")
     return 0
-
-
-if __name__ == "__main__":
-    sys.exit(main())

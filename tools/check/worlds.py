@@ -1,5 +1,6 @@
-#!/usr/bin/env python3
-"""Runs hosts with their programs over networks made by chance, in the model alone, and audits their books: ./check-worlds [RUNS]
+"""The promise of the book, in worlds made by chance that the model alone runs (half a minute for 1,000): ./check worlds [RUNS]
+
+Runs hosts with their programs over networks made by chance, in the model alone, and audits their books: ./check worlds [RUNS]
 
 The model is the second reading of the rules (tools/world_rules.py). Of each book it is computed whether it keeps its promise,
 from the crossings, the lives and the bits that were handed over (tools/audit_rules.py): at the end of each run, and after each
@@ -12,20 +13,17 @@ are wrong in one place have to be told from the right one by one of these books.
 """
 
 import copy
-import os
 import sys
 from collections import Counter
 from dataclasses import replace
 
-ROOT = os.path.dirname(os.path.realpath(__file__))
-sys.path.insert(0, f"{ROOT}/tools")
-sys.dont_write_bytecode = True
 
-from audit_rules import CONTROL, audit, match, partners_are_kept  # noqa: E402
-from clean_rules import unclean  # noqa: E402
-from script_rules import opened, read_line  # noqa: E402
-from world_rules import Life, World  # noqa: E402
-from world_chance import reached, some_script  # noqa: E402
+from audit_rules import CONTROL, audit, match, partners_are_kept
+from clean_rules import unclean
+from parts import ROOT
+from script_rules import opened, read_line
+from world_rules import Life, World
+from world_chance import reached, some_script
 
 RUNS = 3000
 CLOSELY = 10  # of so many runs one is audited after each event
@@ -232,27 +230,23 @@ def run(seed):
 def main():
     for wanted, book in wrong_books():
         if audit(*book) != wanted:
-            print(f"check-worlds: a book that breaks {wanted} is found to break {audit(*book)}")
+            print(f"check worlds: a book that breaks {wanted} is found to break {audit(*book)}")
             return 1
     if any(partners_are_kept(*book) for book in wrong_partners()):
-        print("check-worlds: a book with a life that has no partner's request, or one of another host, keeps what is promised of partners")
+        print("check worlds: a book with a life that has no partner's request, or one of another host, keeps what is promised of partners")
         return 1
     if missed := [*unnoticed()]:
-        print("check-worlds: no book by hand tells these wrong readings of the promise:", *missed, sep="\n")
+        print("check worlds: no book by hand tells these wrong readings of the promise:", *missed, sep="\n")
         return 1
     came_to = Counter()
     runs = int(sys.argv[1]) if len(sys.argv) > 1 else RUNS
     for seed in range(runs):
         part, network, lines, printed = run(seed)
         if part:
-            print(f"check-worlds: run {seed} breaks {part}: {network}", *lines, sep="\n")
+            print(f"check worlds: run {seed} breaks {part}: {network}", *lines, sep="\n")
             return 1
         came_to += printed
-    print(f"check-worlds: {len([*wrong_books(), *wrong_partners()])} books written by hand, each judged rightly, and by {len(WRONG_READINGS)} wrong readings of the promise not all")
-    print("check-worlds: the runs came to", ", ".join(f"{count} {name}" for name, count in sorted(came_to.items())))
-    print(f"check-worlds: {runs} runs, and each book keeps its promise")
+    print(f"check worlds: {len([*wrong_books(), *wrong_partners()])} books written by hand, each judged rightly, and by {len(WRONG_READINGS)} wrong readings of the promise not all")
+    print("check worlds: the runs came to", ", ".join(f"{count} {name}" for name, count in sorted(came_to.items())))
+    print(f"check worlds: {runs} runs, and each book keeps its promise")
     return 0
-
-
-if __name__ == "__main__":
-    sys.exit(main())

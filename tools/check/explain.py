@@ -1,7 +1,8 @@
-#!/usr/bin/env python3
-"""Checks what ./explain tells.
+"""./explain ties each event to what it printed, and names the cause of each refusal (a minute).
 
-- The lines that it ties to each event are those that the second reading of the rules in check-model prints for it, on
+Checks what ./explain tells.
+
+- The lines that it ties to each event are those that the second reading of the rules in tools/check/model.py prints for it, on
   inputs made by chance. So are, in plain networks, the messages of which it says that they still wait.
 - Of a refused event of an example it tells the cause that is written here by hand.
 - Of a refused script line or topology it names a cause exactly if that second reading refuses it, and for inputs written
@@ -13,27 +14,14 @@
 It wants the program that ./build or .ci/run keeps.
 """
 
-import importlib.machinery
-import importlib.util
-import os
 import random
 import re
-import sys
 from collections import Counter
 
-ROOT = os.path.dirname(os.path.realpath(__file__))
-sys.dont_write_bytecode = True
+from parts import ROOT, loaded
 
 
-def loaded(name):
-    """A script beside this one, as a module."""
-    loader = importlib.machinery.SourceFileLoader(name.replace("-", "_"), f"{ROOT}/{name}")
-    module = importlib.util.module_from_spec(importlib.util.spec_from_loader(loader.name, loader))
-    loader.exec_module(module)
-    return module
-
-
-explain, model = loaded("explain"), loaded("check-model")
+explain, model = loaded("explain"), loaded("tools/check/model.py")
 
 # a script line, and words of the cause that is meant
 BAD_LINES = [
@@ -182,7 +170,7 @@ def check_ties(program, seeds):
                 continue
             waiting = {flow for flow, sent in past.sent.items() if sent.waits}
             same(waiting, {tuple(model.spell_flow(flow).split(" ")) for flow, _ in boxes.messages}, f"input {seed}: what waits after line {number}")
-    print(f"check-explain: {events} events, each tied to what it printed")
+    print(f"check explain: {events} events, each tied to what it printed")
 
 
 def example(name):
@@ -203,7 +191,7 @@ def check_refusals(program):
                 same(meant.get((name, number), "a cause written by hand") in lines[at + 1], True, f"{name}, line {number}: {lines[at + 1]}")
                 found += 1
     same(found, len(REFUSALS), "the refused events of the examples")
-    print(f"check-explain: {found} refused events of the examples, each with its cause")
+    print(f"check explain: {found} refused events of the examples, each with its cause")
 
 
 def check_causes(program, seeds):
@@ -241,7 +229,7 @@ def check_causes(program, seeds):
             why = explain.is_event(octets) and explain.wrong_with_line(octets)
             same(bool(why), is_bad, f"the line {line!r}: {why}")
             bad += is_bad
-    print(f"check-explain: a cause named for {len(BAD_LINES) + len(BAD_TOPOLOGIES)} inputs written by hand and for {bad} made by chance")
+    print(f"check explain: a cause named for {len(BAD_LINES) + len(BAD_TOPOLOGIES)} inputs written by hand and for {bad} made by chance")
 
 
 def check_worlds(seeds):
@@ -265,7 +253,7 @@ def check_worlds(seeds):
             is_told = words[1] in {**explain.IN_A_HOST, **explain.IN_A_SUBNET} if words[0] == "refused" else explain.crossing(words)
             same(bool(is_told), True, f"a sentence for {words}")
             outputs[words[0]] += 1
-    print(f"check-explain: {lines} lines of host programs, {bad} of them bad; {outputs.total()} outputs of {len(outputs)} kinds, each with a sentence")
+    print(f"check explain: {lines} lines of host programs, {bad} of them bad; {outputs.total()} outputs of {len(outputs)} kinds, each with a sentence")
 
 
 def table(document, head):
@@ -291,7 +279,7 @@ def check_readme(program):
         _, _, told = explain.replay(explain.Input(b"\n".join(change(example(name).lines[:-1]))), program)
         same([it for at, _, it in told if at == number], [printed], f"{name}, changed as README says, line {number}")
     same(explain.replay(given, None), explain.replay(given, program), "the first message without a kept program")
-    print("check-explain: README's table and changes, and the chart and the dialogue in docs/, are what it tells, with a kept program and without")
+    print("check explain: README's table and changes, and the chart and the dialogue in docs/, are what it tells, with a kept program and without")
 
 
 def check_dialogue(program, rows):
@@ -315,7 +303,7 @@ def check_dialogue(program, rows):
 def main():
     program = explain.kept_program()
     if not program:
-        print("check-explain: there is no program of these sources: ./build makes it")
+        print("check explain: there is no program of these sources: ./build makes it")
         return 1
     try:
         check_ties(program, 60)
@@ -324,10 +312,6 @@ def main():
         check_worlds(100)
         check_readme(program)
     except Wrong as what:
-        print(f"check-explain: {what}")
+        print(f"check explain: {what}")
         return 1
     return 0
-
-
-if __name__ == "__main__":
-    sys.exit(main())

@@ -1,5 +1,6 @@
-#!/usr/bin/env python3
-"""Runs each short example of examples/ over and over: once for each allocation, each read and each write, which fails then.
+"""The program stops as it should when an allocation, a read or a write fails (two minutes; it needs a C compiler).
+
+Runs each short example of examples/ over and over: once for each allocation, each read and each write, which fails then.
 
 A run with no failure has to print what the example's file .stdout says. A run whose allocation or write fails has to end
 with status 3 and a first part of that output, and a run whose read fails with status 1 and no output. Or the failure
@@ -16,10 +17,10 @@ library. Without a compiler it says that nothing was tried, and where the variab
 import os
 import shutil
 import subprocess
-import sys
 import tempfile
 
-ROOT = os.path.dirname(os.path.realpath(__file__))
+from parts import ROOT, any_program
+
 STOPPED = (3, b"arpasim: stopped\n")
 CANNOT_READ = (1, b"arpasim: cannot read\n")
 LONGEST = 1000  # octets of an example
@@ -63,13 +64,13 @@ def check_streams(program):
 
 
 def main():
-    program = subprocess.run([f"{ROOT}/tools/kept-program"], capture_output=True, text=True, check=True).stdout.strip()
-    if not os.path.isfile(program):
-        print("check-failures: there is no program of these sources: ./build makes it")
+    program = any_program()
+    if program is None:
+        print("check failures: there is no program of these sources")
         return 1
     compiler = shutil.which("cc") or shutil.which("clang")
     if not compiler:
-        print("check-failures: NOT TRIED, for want of a C compiler")
+        print("check failures: NOT TRIED, for want of a C compiler")
         return 1 if os.environ.get("CI") else 0
     wrong = 0
     with tempfile.TemporaryDirectory() as room:
@@ -102,6 +103,3 @@ def main():
             print(f"{os.path.basename(example)}: failed in turn {said[0]} allocations, {said[1]} reads, {said[2]} writes")
     wrong += check_streams(program)
     return 1 if wrong else 0
-
-
-sys.exit(main())

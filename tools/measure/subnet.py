@@ -1,5 +1,4 @@
-#!/usr/bin/env python3
-"""Measures how fast a subnet runs: ./measure-subnet [ROUNDS]
+"""How many hops and events a second a subnet runs: ./measure subnet [ROUNDS]
 
 ./build has to be run before. Two kinds of scripts are measured, each at one size and at ten times that size:
 
@@ -14,18 +13,15 @@ and for ten times the events at most eleven times as long. It wants GNU time at 
 gate.
 """
 
-import os
 import random
 import statistics
-import subprocess
 import sys
 import tempfile
 
-ROOT = os.path.dirname(os.path.realpath(__file__))
-sys.path.insert(0, os.path.join(ROOT, "tools"))
-from subnet_rules import Subnet  # noqa: E402
+from measuring import most_memory, processor_time, written
+from parts import proved_program
+from subnet_rules import Subnet
 
-MOST_OCTETS = 1_048_576
 HOPS = 14
 
 
@@ -76,38 +72,8 @@ def chance(events):
     return network(imps, ends), lines[:events]
 
 
-def kept_program():
-    program = subprocess.run([f"{ROOT}/tools/kept-program"], capture_output=True, text=True, check=True).stdout.strip()
-    if not os.path.isfile(program):
-        sys.exit("measure-subnet: there is no program of the present sources: ./build makes it")
-    return program
-
-
-def used(program, source):
-    """The processor time of a run in seconds, from its start to its end."""
-    streams = [(os.POSIX_SPAWN_OPEN, 0, source, os.O_RDONLY, 0), (os.POSIX_SPAWN_OPEN, 1, "/dev/null", os.O_WRONLY, 0)]
-    process = os.posix_spawn(program, [program], {}, file_actions=streams)
-    _, status, usage = os.wait4(process, 0)
-    if status != 0:
-        sys.exit(f"measure-subnet: the program ended with {status}")
-    return usage.ru_utime + usage.ru_stime
-
-
-def most_memory(program, source):
-    """The most memory that a run held, in KiB, by GNU time."""
-    with open(source, "rb") as octets:
-        ran = subprocess.run(["/usr/bin/time", "-f", "%M", program], stdin=octets, capture_output=True, check=True)
-    return int(ran.stderr)
-
-
-def written(folder, name, parts):
-    octets = (parts[0] + "\n".join(parts[1]) + "\n").encode()
-    if len(octets) > MOST_OCTETS:
-        sys.exit(f"measure-subnet: {name} has {len(octets)} octets")
-    source = os.path.join(folder, name)
-    with open(source, "wb") as file:
-        file.write(octets)
-    return source
+def input_of(head, lines):
+    return head + "\n".join(lines) + "\n"
 
 
 MEASURED = [
@@ -118,20 +84,16 @@ MEASURED = [
 
 def main():
     rounds = int(sys.argv[1]) if len(sys.argv) == 2 else 11
-    program = kept_program()
+    program = proved_program()
     with tempfile.TemporaryDirectory() as folder:
         print("| Measured | Count | Median | Best | A second | Most memory | Ten times the count |\n|---|---|---|---|---|---|---|")
         for name, make, counts, unit, each in MEASURED:
             short = 0
             for count in counts:
-                source = written(folder, f"{make.__name__}-{count}", make(count))
-                runs = [used(program, source) for _ in range(rounds)]
+                source = written(folder, f"{make.__name__}-{count}", input_of(*make(count)))
+                runs = [processor_time([program], source) for _ in range(rounds)]
                 median, best = statistics.median(runs), min(runs)
                 speed = f"{each * count / median:,.0f} {unit}"
                 growth = f"{best / short:.1f} times" if short else "-"
-                print(f"| {name} | {count:,} | {1000 * median:.1f} ms | {1000 * best:.1f} ms | {speed} | {most_memory(program, source):,} KiB | {growth} |", flush=True)
+                print(f"| {name} | {count:,} | {1000 * median:.1f} ms | {1000 * best:.1f} ms | {speed} | {most_memory(program, source)[0]:,} KiB | {growth} |", flush=True)
                 short = best
-
-
-if __name__ == "__main__":
-    main()

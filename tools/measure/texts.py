@@ -1,5 +1,4 @@
-#!/usr/bin/env python3
-"""Compares how two states of this repository handle long texts: ./measure-texts OTHER [ROUNDS]
+"""How fast long texts are, beside an earlier state: ./measure texts OTHER [ROUNDS]
 
 OTHER is a clone at another commit, the earlier one. ./build has to be run in both before. The two are measured in turn,
 so that a busy machine slows both.
@@ -23,8 +22,10 @@ import subprocess
 import sys
 import tempfile
 
-ROOT = os.path.dirname(os.path.realpath(__file__))
-MOST_OCTETS = 1_048_576
+from drivers import crates_below
+from measuring import MOST_OCTETS, most_memory, processor_time, written
+from parts import ROOT, proved_program
+
 TEXT_BITS = 8063
 TOPOLOGY = 'carrier = "plain"\nraw = true\n[[imp]]\nid = 1\nhosts = 1\n[[imp]]\nid = 2\nhosts = 1\n%\n'
 CALLS = {"pad16": 20_000, "strip": 20_000, "cut": 8_000, "write": 8_000, "read": 8_000}
@@ -38,35 +39,9 @@ def long_texts():
         octets = chance.getrandbits(TEXT_BITS) << -TEXT_BITS % 8
         line = f"out 0/1 0/2 5 {TEXT_BITS} {octets:0{-(-TEXT_BITS // 8) * 2}X}\ntake 0/2\ntake 0/1\n"
         if size + len(line) > MOST_OCTETS:
-            return "".join(lines).encode(), len(lines) - 1
+            return "".join(lines), len(lines) - 1
         lines.append(line)
         size += len(line)
-
-
-def kept_program(root):
-    """The program that ./build keeps for the sources of a clone."""
-    program = subprocess.run([f"{root}/tools/kept-program"], capture_output=True, text=True, check=True).stdout.strip()
-    if not os.path.isfile(program):
-        sys.exit(f"measure-texts: there is no program of the sources of {root}: ./build there makes it")
-    return program
-
-
-def processor_time(words, source="/dev/null"):
-    """How many seconds of the processor a process takes, from its start to its end."""
-    streams = [(os.POSIX_SPAWN_OPEN, 0, source, os.O_RDONLY, 0), (os.POSIX_SPAWN_OPEN, 1, "/dev/null", os.O_WRONLY, 0)]
-    process = os.posix_spawn(words[0], words, {}, file_actions=streams)
-    _, status, used = os.wait4(process, 0)
-    if status != 0:
-        sys.exit(f"measure-texts: {' '.join(words)} ended with {status}")
-    return used.ru_utime + used.ru_stime
-
-
-def most_memory(program, source):
-    """The most memory that a process held, in KiB, and what it printed."""
-    with open(source, "rb") as octets:
-        words = ["/usr/bin/time", "-f", "%M", program]
-        ran = subprocess.run(words, stdin=octets, capture_output=True, check=True)
-    return int(ran.stderr), ran.stdout
 
 
 def told(name, before, after, unit):
@@ -77,29 +52,19 @@ def told(name, before, after, unit):
 
 def measure_script(programs, folder, rounds):
     """Runs the script of long texts in both states."""
-    octets, count = long_texts()
-    source = f"{folder}/script"
-    with open(source, "wb") as file:
-        file.write(octets)
+    text, count = long_texts()
+    source = written(folder, "script", text)
     held = [most_memory(program, source) for program in programs]
     if held[0][1] != held[1][1] or held[0][1].count(b"\n") != 3 * count + 1:
-        sys.exit("measure-texts: the two programs print something else")
+        sys.exit("measure texts: the two programs print something else")
     times = [[], []]
     for _ in range(rounds):
         for taken, program in zip(times, programs):
             taken.append(1000 * processor_time([program], source))
-    name = f"a script of {len(octets):,} octets, {count} messages"
+    name = f"a script of {len(text):,} octets, {count} messages"
     told(f"{name}: median", *map(statistics.median, times), "ms")
     told(f"{name}: best", *map(min, times), "ms")
     told(f"{name}: most memory", held[0][0], held[1][0], "KiB")
-
-
-def crates_below(lines, name):
-    """A crate of the repository and those that it stands on."""
-    found = [name] if name in lines else []
-    for low in lines.get(name, []):
-        found += [it for it in crates_below(lines, low) if it not in found]
-    return found
 
 
 def caller(root, folder):
@@ -116,7 +81,7 @@ def caller(root, folder):
         file.write("texts: bit_messages leader1822 packetiser\n")
     ran = subprocess.run(["rt", "run", "--", "pad16", "0"], cwd=f"{folder}/crates/texts", capture_output=True, text=True)
     if ran.returncode != 0:
-        sys.exit(f"measure-texts: tools/texts.rs is not proved over {root}:\n{ran.stderr[-2000:]}")
+        sys.exit(f"measure texts: tools/texts.rs is not proved over {root}:\n{ran.stderr[-2000:]}")
     return f"{folder}/crates/texts/out/texts"
 
 
@@ -138,16 +103,12 @@ def measure_calls(programs, rounds):
 
 def main():
     if not 2 <= len(sys.argv) <= 3:
-        sys.exit("measure-texts: the path of a clone at another commit is wanted, and how many rounds")
+        sys.exit("measure texts: the path of a clone at another commit is wanted, and how many rounds")
     roots = [os.path.realpath(sys.argv[1]), ROOT]
     rounds = int(sys.argv[2]) if len(sys.argv) == 3 else 21
-    programs = [kept_program(root) for root in roots]
+    programs = [proved_program(root) for root in roots]
     with tempfile.TemporaryDirectory() as folder:
         print("| Measured | Before | After | Times |\n|---|---|---|---|")
         measure_script(programs, folder, rounds)
         callers = [caller(root, f"{folder}/{name}") for root, name in zip(roots, ("before", "after"))]
         measure_calls(callers, max(3, rounds // 3))
-
-
-if __name__ == "__main__":
-    main()

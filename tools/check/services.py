@@ -1,28 +1,25 @@
-#!/usr/bin/env python3
-"""Compares the machines of the initial connection, the terminal and the echo service with a second reading of their rules.
+"""Initial connection, terminal and echo service against the independent model in Python (minutes): ./check services [RUNS]
+
+Compares the machines of the initial connection, the terminal and the echo service with a second reading of their rules.
 
 The proofs say that these machines do what their definitions say. Whether the definitions say what docs/initial-connection.md says
 is for readers to judge; this script tries it as well. tools/service_rules.py was written from those rules and RFC 165, in another
 language and another form. Both are told notices made by chance, most of them about the machine's own sockets, and what they ask
 for and come to has to be the same.
 
-The driver, tools/service-calls.rs, is built without proof in a folder of its own: ./check-services [RUNS]
+The driver, tools/service-calls.rs, is built without proof in a folder of its own: ./check services [RUNS]
 """
 
-import os
 import random
 import sys
 import tempfile
 from collections import Counter
 
-ROOT = os.path.dirname(os.path.realpath(__file__))
-sys.path.insert(0, f"{ROOT}/tools")
-sys.dont_write_bytecode = True
 
-from drivers import run_cases, with_driver, write_case  # noqa: E402
-from host_rules import bits_of, spell_bits  # noqa: E402
-from imp_rules import spell_host  # noqa: E402
-from service_rules import MOST_SOCKET, Echo, Server, Terminal, User  # noqa: E402
+from drivers import run_cases, with_driver, write_case
+from host_rules import bits_of, spell_bits
+from imp_rules import spell_host
+from service_rules import MOST_SOCKET, Echo, Server, Terminal, User
 
 RUNS = 400
 NOTICES = 30
@@ -145,10 +142,6 @@ def main():
             seen.update(f"{name}: {' '.join(it.split(' ')[: 2 if it.startswith('failed') else 1])}" for owed in made.owed for it in owed.split(";") if it)
         wrong = run_cases(driver, folder)
     for said, count in sorted(seen.items()):
-        print(f"check-services: {count} {said}")
-    print(f"check-services: {wrong}" if wrong else f"check-services: {runs} machines, all the same")
+        print(f"check services: {count} {said}")
+    print(f"check services: {wrong}" if wrong else f"check services: {runs} machines, all the same")
     return 1 if wrong else 0
-
-
-if __name__ == "__main__":
-    sys.exit(main())

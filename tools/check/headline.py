@@ -1,5 +1,6 @@
-#!/usr/bin/env python3
-"""Shows what each rule of docs/headline.md is there for: ./check-headline [FILE]
+"""Each rule of docs/headline.md is needed: without it, a script breaks the promise (seconds).
+
+Shows what each rule of docs/headline.md is there for: ./check headline [FILE]
 
 Each file of `without` has a network and a script, and says in its first two lines which rule is lacking and what breaks.
 It runs in the model that lacks this rule (tools/without_rules.py), where the audit of the book has to find that part of the
@@ -8,7 +9,7 @@ nothing may break either: so no line could be left out, but for one that a file 
 that a file repeats. With a FILE it prints both outputs, without the rule and with it.
 
 Nothing of this is the program: it has all its rules. Some rules of the page are not in `without`, since no book was seen to
-break where one of them alone is lacking: ./check-headline --harmless [RUNS] tries these by chance.
+break where one of them alone is lacking: ./check headline --harmless [RUNS] tries these by chance.
 """
 
 import glob
@@ -16,14 +17,12 @@ import os
 import random
 import sys
 
-ROOT = os.path.dirname(os.path.realpath(__file__))
-sys.path.insert(0, f"{ROOT}/tools")
-sys.dont_write_bytecode = True
 
-from audit_rules import audit, messages_are_kept  # noqa: E402
-from model import network_of  # noqa: E402
-from without_rules import LACKING, opened_without, read_line  # noqa: E402
-from world_chance import Script, some_world  # noqa: E402
+from audit_rules import audit, messages_are_kept
+from model import network_of
+from parts import ROOT
+from without_rules import LACKING, opened_without, read_line
+from world_chance import Script, some_world
 
 REPEATED = 50  # an event that stands so often is one of those that a file repeats
 
@@ -110,9 +109,9 @@ def harmless(runs):
             network = some_world(chance)
             script = Script(chance, network, chance.choice([40, 150, 300]), True, opened_without(rule, network))
             if part := broken(script.world):
-                print(f"check-headline: without `{rule}` run {seed} breaks {part}", *script.lines, sep="\n")
+                print(f"check headline: without `{rule}` run {seed} breaks {part}", *script.lines, sep="\n")
                 return 1
-        print(f"check-headline: {runs} runs without `{rule}`: each book keeps its promise")
+        print(f"check headline: {runs} runs without `{rule}`: each book keeps its promise")
     return 0
 
 
@@ -130,10 +129,6 @@ def main():
     for path in paths:
         if cause := check(path):
             wrong += 1
-            print(f"check-headline: {os.path.basename(path)}: {cause}")
-    print(f"check-headline: {len(paths)} rules, {wrong} of them not shown")
+            print(f"check headline: {os.path.basename(path)}: {cause}")
+    print(f"check headline: {len(paths)} rules, {wrong} of them not shown")
     return 1 if wrong else 0
-
-
-if __name__ == "__main__":
-    sys.exit(main())

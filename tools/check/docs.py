@@ -1,5 +1,6 @@
-#!/usr/bin/env python3
-"""Checks what the documents name: each link leads to a file, each source that is named by its path exists, and each name
+"""Each link, source and name in the documents is there, and crates reach into each other only as they should (seconds).
+
+Checks what the documents name: each link leads to a file, each source that is named by its path exists, and each name
 that the claims about a crate have stands in the code.
 
 crates/NAME/CLAIMS.md is about the crate in whose folder it lies. What it says before its heading `How it was attacked` is what
@@ -16,9 +17,9 @@ import functools
 import glob
 import os
 import re
-import sys
 
-ROOT = os.path.dirname(os.path.realpath(__file__))
+from parts import ROOT
+
 DECLARED = re.compile(
     r"\bimpl(?:<[^>]*>)? +(?:\w+::)*(\w+)"
     r"|\b(?:fn|struct|enum|trait|const|ensures|requires|ghost|abbrev pub|record|data|pub(?= \w+ :)) +(\w+)"
@@ -154,9 +155,5 @@ def is_known(name, crate):
 def main():
     wrong = [*missing_files(), *missing_claims(), *unknown_names(), *unknown_clauses()]
     print(*wrong, sep="\n", end="\n" if wrong else "")
-    print(f"check-docs: {len(wrong)} wrong" if wrong else "check-docs: each link, source and name is there")
+    print(f"check docs: {len(wrong)} wrong" if wrong else "check docs: each link, source and name is there")
     return 1 if wrong else 0
-
-
-if __name__ == "__main__":
-    sys.exit(main())
