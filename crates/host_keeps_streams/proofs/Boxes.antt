@@ -23,7 +23,7 @@ keep_both out (x ∷ xs) ys s a b = (a.0, keep_both out xs ys (senders.moved x s
 
 module _ (name : ℕ → ℕ → ℕ) (busy : List ℕ) where
   -- each end that closes may do so
-  abbrev pub AllSafe : Bool → List Entry → Sender → Type 0
+  abbrev AllSafe : Bool → List Entry → Sender → Type 0
   AllSafe out [] t = Unit {0}
   AllSafe out (y ∷ ys) t = ((must_close busy y && not (is_receiving y)) ≡ true → t.end ≡ Some (named name y) → t.opened ≡ true → out ≡ false) × AllSafe out ys t
 

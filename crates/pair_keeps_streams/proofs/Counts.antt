@@ -1,11 +1,11 @@
 -- What commands say as words, where they are said one after another, and where so many CLS were said before.
-use Rattle.std.proofs.Common.{◌≡◌, ◌⊎◌, ◌≤◌, ℕ, suc, ◌==◌, ◌&&◌, Bool, true, false, if◌then◌else◌, List, [], ◌∷◌, ◌++◌, refl, ap, sym, subst, ◌∙◌, inl, inr, arith, eq-eqb}
+use Rattle.std.proofs.Common.{◌≡◌, ◌⊎◌, ◌≤◌, ℕ, suc, ◌==◌, ◌&&◌, Bool, true, false, if◌then◌else◌, List, [], ◌∷◌, refl, ap, sym, subst, inl, inr, arith, eq-eqb}
 use Rattle.ncp_control.specs.Numbers.{is_receive_socket}
 use Rattle.ncp_control.specs.declared.command.Command.{Command}
 use Rattle.ncp_control.specs.declared.command.Command.TheVariants as command
-use Rattle.stream_law.specs.Words.{Word, Rts, Str, Cls}
+use Rattle.stream_law.specs.Words.{Rts, Str, Cls}
 use Rattle.host_keeps_streams.specs.Histories.{IsTelling}
-use Rattle.pair_keeps_streams.specs.Words.{closings_in, with_closing, receiver_word, receiver_words, sender_word}
+use Rattle.pair_keeps_streams.specs.Words.{closings_in, with_closing, receiver_word, sender_word}
 
 -- ---- one after another
 
@@ -96,11 +96,11 @@ closing_here own foreign n = let a : (own == own) ≡ true = eq-eqb own own refl
 
 -- ---- the same was asked for, as far as it is asked about
 
-abbrev pub IsAskedSame : (ℕ → ℕ → ℕ → ℕ) → (ℕ → Bool) → (ℕ → Bool) → (ℕ → ℕ → ℕ) → Command → Type 0
+abbrev IsAskedSame : (ℕ → ℕ → ℕ → ℕ) → (ℕ → Bool) → (ℕ → Bool) → (ℕ → ℕ → ℕ) → Command → Type 0
 IsAskedSame number asked other n (command.Cls own foreign) = is_receive_socket own ≡ true → asked (number own foreign (n own foreign)) ≡ other (number own foreign (n own foreign))
 IsAskedSame number asked other n c = Unit {0}
 
-abbrev pub AreAskedSame : (ℕ → ℕ → ℕ → ℕ) → (ℕ → Bool) → (ℕ → Bool) → (ℕ → ℕ → ℕ) → List Command → Type 0
+abbrev AreAskedSame : (ℕ → ℕ → ℕ → ℕ) → (ℕ → Bool) → (ℕ → Bool) → (ℕ → ℕ → ℕ) → List Command → Type 0
 AreAskedSame number asked other n [] = Unit {0}
 AreAskedSame number asked other n (c ∷ cs) = IsAskedSame number asked other n c × AreAskedSame number asked other (with_closing c n) cs
 
@@ -113,31 +113,6 @@ pub record IsBeyond (number : ℕ → ℕ → ℕ → ℕ) (n : ℕ → ℕ → 
   pub beyond : n own foreign ≤ count
 
 module _ (number : ℕ → ℕ → ℕ → ℕ) (link : ℕ) (asked other : ℕ → Bool) where
-  receiver_asked : (c : Command) (n : ℕ → ℕ → ℕ) → IsAskedSame number asked other n c → receiver_word number link asked n c ≡ receiver_word number link other n c
-  receiver_asked (command.Cls own foreign) n same = by (is_receive_socket own) refl where
-    by : (v : Bool) → is_receive_socket own ≡ v → receiver_word number link asked n (command.Cls own foreign) ≡ receiver_word number link other n (command.Cls own foreign)
-    by true e = ap (λ (v : Bool). if is_receive_socket own && v then Cls (number own foreign (n own foreign)) ∷ [] else []) (same e)
-    by false e = rw e refl
-  receiver_asked (command.Rts receive send l) n same = refl
-  receiver_asked (command.Str send receive size) n same = refl
-  receiver_asked (command.All l a b) n same = refl
-  receiver_asked (command.Gvb l a b) n same = refl
-  receiver_asked (command.Ret l a b) n same = refl
-  receiver_asked (command.Inr l) n same = refl
-  receiver_asked (command.Ins l) n same = refl
-  receiver_asked (command.Eco octet) n same = refl
-  receiver_asked (command.Erp octet) n same = refl
-  receiver_asked (command.Err code detail) n same = refl
-  receiver_asked command.Nop n same = refl
-  receiver_asked command.Rst n same = refl
-  receiver_asked command.Rrp n same = refl
-
-  receiver_words_asked : (cs : List Command) (n : ℕ → ℕ → ℕ) → AreAskedSame number asked other n cs → receiver_words number link asked n cs ≡ receiver_words number link other n cs
-  receiver_words_asked [] n same = refl
-  receiver_words_asked (c ∷ cs) n same =
-      ap (λ (ws : List Word). ws ++ receiver_words number link asked (with_closing c n) cs) (receiver_asked c n same.0)
-      ∙ ap (λ (ws : List Word). receiver_word number link other n c ++ ws) (receiver_words_asked cs (with_closing c n) same.1)
-
   module _ (tells : IsTelling number) where
     same_cls : (own foreign : ℕ) (cs : List Command) (n : ℕ → ℕ → ℕ) → ((k : ℕ) → (asked k ≡ other k) ⊎ IsBeyond number (closings_in (command.Cls own foreign ∷ cs) n) k)
         → asked (number own foreign (n own foreign)) ≡ other (number own foreign (n own foreign))
@@ -176,7 +151,3 @@ module _ (number : ℕ → ℕ → ℕ → ℕ) (link : ℕ) (asked other : ℕ 
     same_all : (cs : List Command) (n : ℕ → ℕ → ℕ) → ((k : ℕ) → (asked k ≡ other k) ⊎ IsBeyond number (closings_in cs n) k) → AreAskedSame number asked other n cs
     same_all [] n same = tt
     same_all (c ∷ cs) n same = (same_at c cs n same, same_all cs (with_closing c n) same)
-
-    -- what is asked for in addition are connections later than those which the CLS are of
-    pub receiver_words_more : (cs : List Command) (n : ℕ → ℕ → ℕ) → ((k : ℕ) → (asked k ≡ other k) ⊎ IsBeyond number (closings_in cs n) k) → receiver_words number link asked n cs ≡ receiver_words number link other n cs
-    receiver_words_more cs n same = receiver_words_asked cs n (same_all cs n same)

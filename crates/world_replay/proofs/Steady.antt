@@ -54,7 +54,7 @@ steady_done {C} done = record {
 abbrev pub Onward : {C : Type 0} → (WorldState C → Result (Unit {0}) WorldFault → WorldState C → Type 0) → Result (Unit {0}) WorldFault → WorldState C → Result (Unit {0}) WorldFault → WorldState C → Type 0
 Onward Next a mid r new = MatchBool (stops a) ((r ≡ a) × (new ≡ mid)) (Next mid r new)
 
-abbrev pub Then : {C : Type 0} → (Result (Unit {0}) WorldFault → WorldState C → Type 0) → (WorldState C → Result (Unit {0}) WorldFault → WorldState C → Type 0) → Result (Unit {0}) WorldFault → WorldState C → Type 0
+abbrev Then : {C : Type 0} → (Result (Unit {0}) WorldFault → WorldState C → Type 0) → (WorldState C → Result (Unit {0}) WorldFault → WorldState C → Type 0) → Result (Unit {0}) WorldFault → WorldState C → Type 0
 Then {C} P Next r new = (a : Result (Unit {0}) WorldFault) × (mid : WorldState C) × P a mid × Onward Next a mid r new
 
 on_either : {A B X : Type 0} (b : Bool) → (b ≡ true → A → X) → (b ≡ false → B → X) → MatchBool b A B → X

@@ -50,7 +50,7 @@ abbrev pub NoRts : Command → Type 0
 NoRts (command.Rts receive send l) = ⊥
 NoRts c = Unit {0}
 
-abbrev pub HearsNoRts : Call → Type 0
+abbrev HearsNoRts : Call → Type 0
 HearsNoRts (Hears stamp said c) = NoRts c
 HearsNoRts k = Unit {0}
 

@@ -34,7 +34,7 @@ use Rattle.world_keeps_streams.proofs.Deeds.Kinds.{arrives, arrives_if, closings
 
 -- ---- moves that count nothing
 
-abbrev pub IsStill : receivers.Move → Type 0
+abbrev IsStill : receivers.Move → Type 0
 IsStill (receivers.Grant c m n) = ⊥
 IsStill (receivers.Take z bits) = ⊥
 IsStill (receivers.Hear (words.Ret c m n)) = ⊥

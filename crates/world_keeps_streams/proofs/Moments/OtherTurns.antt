@@ -38,7 +38,7 @@ use Rattle.world_keeps_streams.proofs.Moments.OtherAlike.{AreAlike, AreNamed, Is
 
 -- ---- at which ends a call is a deed
 
-abbrev pub Hits : Deed → List Entry → Type 0
+abbrev Hits : Deed → List Entry → Type 0
 Hits (deeds.Arrives e bits) es = IsAt e es
 Hits (deeds.Leaves e bits) es = IsAt e es
 Hits (deeds.Grants e messages bits) es = IsAt e es

@@ -86,7 +86,7 @@ module _ (hosts : List Host) (ms : List Moment) (l : Lawful hosts ms) where
   -- ---- lives of one connection match
 
   -- where the sender took what went out where the receiver's request did
-  pub matched_by : (a b : Host) (x s : book.Life) → Contains (lives_in ms) x → Contains (lives_in ms) s → (s.host ≡ b) × (s.peer ≡ a) → (x.socket ≡ s.foreign) × (x.foreign ≡ s.socket) → receives x ≡ true
+  matched_by : (a b : Host) (x s : book.Life) → Contains (lives_in ms) x → Contains (lives_in ms) s → (s.host ≡ b) × (s.peer ≡ a) → (x.socket ≡ s.foreign) × (x.foreign ≡ s.socket) → receives x ≡ true
       → origin_in (crossings_of ms) b a s.partner_stamp ≡ x.own_stamp → Match (crossings_of ms) x s
   matched_by a b x s here there of_b ends receiving place =
       let c : Coupled hosts ms = coupled_in hosts ms l in

@@ -25,7 +25,7 @@ use Rattle.world_keeps_pairing.proofs.lemmas.{IsPair, Tie, all_hears, all_says, 
 use Rattle.world_keeps_streams.specs.Calls.{own_calls}
 use Rattle.world_keeps_streams.proofs.Deeds.Effects.{Among, found_among}
 use Rattle.world_keeps_streams.proofs.Lives.Left.{entry_end}
-use Rattle.world_keeps_streams.proofs.Requests.Sides.{Heard, Lawful, Own, coupled_in, law_joined}
+use Rattle.world_keeps_streams.proofs.Requests.Sides.{Heard, Lawful, coupled_in, law_joined}
 use Rattle.world_keeps_streams.proofs.Heard.Calls.{closes_in}
 use Rattle.world_keeps_streams.proofs.Heard.Run.{heard_closes}
 
@@ -128,16 +128,6 @@ module _ (hosts : List Host) (ms : List Moment) (l : Lawful hosts ms) (a b : Hos
   joined_halves =
       subst (λ (x : Side). Joined x (half b a (at_texts s Sender) (at_texts s Receiver) (law_events ms))) (receiver_half s a b (law_events ms))
       (subst (λ (y : Side). Joined (receiver s (steps a b (law_events ms))) y) (sender_half s a b (law_events ms)) (law_joined hosts ms l a b s))
-
-  pub own_now : Counts a b ms → stay.stays a b (events_of ms) ≡ true → (e : Entry) → entry_at s.receive s.send (pair_with b (program a ms).peers).entries ≡ Some e → (n : ℕ) → e.asked ≡ Some n
-      → Own a b ms s.receive s.send n (gone_now b (own_calls a b ms) s.receive s.send)
-  own_now counts stays e found n asked =
-      let c : Coupled hosts ms = coupled_in hosts ms l in
-      let j : Joined (half a b (at_texts s Receiver) (at_texts s Sender) (law_events ms)) (half b a (at_texts s Sender) (at_texts s Receiver) (law_events ms)) = joined_halves in
-      subst (λ (x : Side). Asks (gone_now b (own_calls a b ms) s.receive s.send) n x.said) (sym (receiver_half s a b (law_events ms)))
-      (asked_here hosts ms l s q Receiver a b counts stays
-      (((all_tied hosts (origin_in (crossings_of ms)) ms (are_origins 0 (crossings_of ms) [] ms refl) c.story c.run (served_in hosts ms l.2)).tied a b).receiver s q)
-      (half b a (at_texts s Sender) (at_texts s Receiver) (law_events ms)) j.floor j.other j.here e found n asked)
 
   pub heard_now : Counts b a ms → stay.stays b a (events_of ms) ≡ true → (e : Entry) → entry_at s.send s.receive (pair_with a (program b ms).peers).entries ≡ Some e → (t : ℕ) → e.partner ≡ Some t
       → Heard a b ms s.receive s.send t (gone_now a (own_calls b a ms) s.send s.receive)
