@@ -23,9 +23,9 @@ use Rattle.reset_law.specs.Events.{Message, Out}
 use Rattle.reset_law.specs.Pairs.{Pair}
 use Rattle.reset_law.specs.Stays as stay
 use Rattle.net_sim.specs.Projection.{Agrees, message_on}
+use Rattle.net_sim.proofs.lemmas.{data_away}
 use Rattle.world_keeps_pairing.specs.Free.{NameFree}
 use Rattle.world_keeps_pairing.specs.Steps.{all_said, words_by, words_of}
-use Rattle.world_keeps_pairing.proofs.Away.{data_away}
 use Rattle.world_keeps_pairing.proofs.Claims.{Claim, said_claims}
 use Rattle.world_keeps_pairing.proofs.LinkCalls.{LinksOf}
 use Rattle.world_keeps_pairing.proofs.LinkGoes.{Receives}

@@ -208,7 +208,7 @@ away_by q e link none some f true control =
     absurd (let there : has_control q.entries ≡ true = any_found strays (may_send_on q.busy link) q.entries e (stray_by e.link some control) f in let both : true ≡ false = sym there ∙ none in cc)
 away_by q e link none some f false control = refl
 
-data_away : (q : PairState) (e : Entry) (size count : ℕ) → has_control q.entries ≡ false → is_some e.link ≡ true → next_of q ≡ Some (parcel.Bytes e size count) → (link_of e.link == 0) ≡ false
+pub data_away : (q : PairState) (e : Entry) (size count : ℕ) → has_control q.entries ≡ false → is_some e.link ≡ true → next_of q ≡ Some (parcel.Bytes e size count) → (link_of e.link == 0) ≡ false
 data_away q e size count none some n =
     data_found ((link_of e.link == 0) ≡ false) e size count q (λ link f. away_by q e link none some f (link_of e.link == 0) refl)
     (program.is_want q.phase) q.owed (program.is_ready q.phase) refl refl refl n

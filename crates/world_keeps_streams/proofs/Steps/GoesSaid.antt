@@ -24,8 +24,7 @@ use Rattle.reset_law.specs.Boxes.{Box, Empty, Waiting}
 use Rattle.reset_law.specs.Events.{Other}
 use Rattle.reset_law.specs.Pairs.{Pair}
 use Rattle.net_sim.specs.Projection.{Agrees, ArePlain, control_message, message_on}
-use Rattle.net_sim.proofs.lemmas.{says_reply}
-use Rattle.world_keeps_pairing.proofs.lemmas.{data_away}
+use Rattle.net_sim.proofs.lemmas.{data_away, says_reply}
 use Rattle.host_keeps_pairing.proofs.lemmas.{eqb-sym}
 use Rattle.world_keeps_streams.specs.Calls.{called, commands_said, parcel_calls}
 use Rattle.world_keeps_streams.proofs.Steps.Going.{Goes, Here, bytes_here, no_bytes_here, renamed, says_here, stays_as, then_goes}
