@@ -47,13 +47,13 @@ out_by f m p text log rest true e is =
       place_of (mail.Taken place kept) = place
 out_by f m p text log rest false e is = let before : mail.box_of f log ≡ mail.Waiting p text = rw e at is in rw e (rest before)
 
-fetched_waits : (box : mail.Box) (p : ℕ) (text : List Bool) (b : Bool) → (if b then mail.fetched box else box) ≡ mail.Waiting p text → box ≡ mail.Waiting p text
+pub fetched_waits : (box : mail.Box) (p : ℕ) (text : List Bool) (b : Bool) → (if b then mail.fetched box else box) ≡ mail.Waiting p text → box ≡ mail.Waiting p text
 fetched_waits mail.Empty p text true is = is
 fetched_waits (mail.Waiting place kept) p text true is = absurd (let no : mail.Taken place kept ≡ mail.Waiting p text = is in cc)
 fetched_waits (mail.Taken place kept) p text true is = is
 fetched_waits box p text false is = is
 
-cleared_waits : (box : mail.Box) (p : ℕ) (text : List Bool) (b : Bool) → (if b then mail.Empty else box) ≡ mail.Waiting p text → box ≡ mail.Waiting p text
+pub cleared_waits : (box : mail.Box) (p : ℕ) (text : List Bool) (b : Bool) → (if b then mail.Empty else box) ≡ mail.Waiting p text → box ≡ mail.Waiting p text
 cleared_waits box p text true is = absurd (let no : mail.Empty ≡ mail.Waiting p text = is in cc)
 cleared_waits box p text false is = is
 
