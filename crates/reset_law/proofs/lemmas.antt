@@ -4,4 +4,4 @@ pub use Rattle.reset_law.proofs.Joint.{NoPlain, contradicts, phase_ready, plain_
 pub use Rattle.reset_law.proofs.Links.{at}
 pub use Rattle.reset_law.proofs.Runs.{alone_run, carry, down_pair, ready_up, sound_run}
 pub use Rattle.reset_law.proofs.Stays
-pub use Rattle.reset_law.proofs.Stays.{begin_quiet, begins_either, heard_front, joint_either, joint_stays, stays_ready}
+pub use Rattle.reset_law.proofs.Stays.{begin_quiet, begins_either, heard_front, joint_either, joint_stays, reply_from, stays_ready}
