@@ -6,12 +6,12 @@ use Rattle.ncp_control.specs.declared.command.Command.{Command}
 use Rattle.ncp_control.specs.declared.command.Command.TheVariants as command
 use Rattle.host_pairs.specs.Allowed.{MayGo}
 use Rattle.host_pairs.specs.Control.{Legal, Order, orders_of}
-use Rattle.host_pairs.specs.Desk.{DeskState, desk_of}
+use Rattle.host_pairs.specs.Desk.{desk_of}
 use Rattle.host_pairs.specs.Pair.{PairState}
 use Rattle.host_pairs.specs.Parcels as parcel
-use Rattle.host_pairs.specs.Parcels.{Parcel, bits_gone, command_gone, commands_gone, link_for, link_of, may_send_on, next_of, pair_after, parcel_gone, text_for}
+use Rattle.host_pairs.specs.Parcels.{Parcel, bits_gone, commands_gone, link_for, link_of, may_send_on, next_of, pair_after, parcel_gone, text_for}
 use Rattle.host_pairs.specs.declared.listener.Listener.{Listener}
-use Rattle.host_pairs.proofs.lemmas.{what_goes}
+use Rattle.host_pairs.proofs.lemmas.{all_gone_queue, what_goes}
 use Rattle.host_keeps_ranges.specs.Ranges.{AreCommands, IsReadBack}
 use Rattle.host_keeps_pairing.specs.Spoken.{untagged}
 use Rattle.host_keeps_pairing.specs.Words.{MayAllGo}
@@ -34,28 +34,6 @@ use Rattle.world_keeps_pairing.proofs.Local.{Links, all_claims, links_changed}
 use Rattle.world_keeps_pairing.proofs.Marks.{AllPairs, IsPair}
 use Rattle.world_keeps_pairing.proofs.Messages.{are_same}
 use Rattle.world_keeps_pairing.proofs.Programs.{AnRrp, AnRst, AText, Sort, sort_of}
-
--- ---- the queue while commands go out
-
-gone_queue : (peer : Host) (stamp : ℕ) (c : Command) (d : DeskState) → (command_gone peer stamp c d).queue ≡ d.queue
-gone_queue peer stamp command.Nop d = refl
-gone_queue peer stamp (command.Rts a b c) d = refl
-gone_queue peer stamp (command.Str a b c) d = refl
-gone_queue peer stamp (command.Cls a b) d = refl
-gone_queue peer stamp (command.All a b c) d = refl
-gone_queue peer stamp (command.Gvb a b c) d = refl
-gone_queue peer stamp (command.Ret a b c) d = refl
-gone_queue peer stamp (command.Inr a) d = refl
-gone_queue peer stamp (command.Ins a) d = refl
-gone_queue peer stamp (command.Eco a) d = refl
-gone_queue peer stamp (command.Erp a) d = refl
-gone_queue peer stamp (command.Err a b) d = refl
-gone_queue peer stamp command.Rst d = refl
-gone_queue peer stamp command.Rrp d = refl
-
-all_gone_queue : (peer : Host) (stamp : ℕ) (cs : List Command) (d : DeskState) → (commands_gone peer stamp cs d).queue ≡ d.queue
-all_gone_queue peer stamp [] d = refl
-all_gone_queue peer stamp (c ∷ cs) d = all_gone_queue peer stamp cs (command_gone peer stamp c d) ∙ gone_queue peer stamp c d
 
 some_commands : (n : ℕ) (cs : List Command) → AreCommands cs → AreCommands (take n cs)
 some_commands zero cs h = tt

@@ -26,7 +26,7 @@ use Rattle.sockets.specs.declared.peer.Peer.{Peer}
 use Rattle.host_pairs.specs.declared.phase.Phase as host
 use Rattle.host_pairs.specs.declared.phase.Phase.TheVariants as phase
 use Rattle.sockets.proofs.lemmas.{next_is, next_pair}
-use Rattle.host_pairs.proofs.lemmas.{both, what_goes}
+use Rattle.host_pairs.proofs.lemmas.{all_gone_queue, both, what_goes}
 use Rattle.reset_law.specs.Boxes.{at_link}
 use Rattle.reset_law.specs.Events.{Message, Reset, Reply, Other, Send, part_of}
 use Rattle.reset_law.specs.Pairs.{Pair, Kind, IsFreePair, pair_moved, pair_sent}
@@ -213,27 +213,7 @@ data_away q e size count none some n =
     data_found ((link_of e.link == 0) ≡ false) e size count q (λ link f. away_by q e link none some f (link_of e.link == 0) refl)
     (program.is_want q.phase) q.owed (program.is_ready q.phase) refl refl refl n
 
--- ---- the queue while commands go out
-
-gone_queue : (peer : Host) (stamp : ℕ) (c : Command) (d : DeskState) → (command_gone peer stamp c d).queue ≡ d.queue
-gone_queue peer stamp command.Nop d = refl
-gone_queue peer stamp (command.Rts receive send link) d = refl
-gone_queue peer stamp (command.Str send receive size) d = refl
-gone_queue peer stamp (command.Cls own foreign) d = refl
-gone_queue peer stamp (command.All link messages bits) d = refl
-gone_queue peer stamp (command.Gvb link messages bits) d = refl
-gone_queue peer stamp (command.Ret link messages bits) d = refl
-gone_queue peer stamp (command.Inr link) d = refl
-gone_queue peer stamp (command.Ins link) d = refl
-gone_queue peer stamp (command.Eco octet) d = refl
-gone_queue peer stamp (command.Erp octet) d = refl
-gone_queue peer stamp (command.Err code detail) d = refl
-gone_queue peer stamp command.Rst d = refl
-gone_queue peer stamp command.Rrp d = refl
-
-all_gone_queue : (peer : Host) (stamp : ℕ) (cs : List Command) (d : DeskState) → (commands_gone peer stamp cs d).queue ≡ d.queue
-all_gone_queue peer stamp [] d = refl
-all_gone_queue peer stamp (c ∷ cs) d = all_gone_queue peer stamp cs (command_gone peer stamp c d) ∙ gone_queue peer stamp c d
+-- ---- the links of connections while commands go out
 
 request_linked : (peer : Host) (stamp own foreign : ℕ) (d : DeskState) → has_control (request_gone peer stamp own foreign d).entries ≡ true → has_control d.entries ≡ true
 request_linked peer stamp own foreign d h = any_changed strays (is_at own foreign) (asked_at stamp) (λ x k. k) d.entries h
