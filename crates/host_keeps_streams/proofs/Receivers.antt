@@ -97,7 +97,7 @@ bits_there text h is =
 shut_takes : (z : ℕ) (bits : List Bool) (r : Receiver) (c : ℕ) → receivers.is_open c r ≡ false → receivers.takes z bits (Some c) r ≡ r
 shut_takes z bits r c e = rw e refl
 
-accept_same : (c : ℕ) (x : Entry) (r : Receiver) (h : DataHeader) (bits : List Bool) → IsReceiver c x r → is_open x ≡ true → length bits ≡ data_bits h
+pub accept_same : (c : ℕ) (x : Entry) (r : Receiver) (h : DataHeader) (bits : List Bool) → IsReceiver c x r → is_open x ≡ true → length bits ≡ data_bits h
     → (receivers.is_open c r && words.is_size h.size (r.size c) && covers r.allocation (length bits)) ≡ is_acceptable x h
 accept_same c x r h bits i o e =
     ap (λ (v : Bool). v && words.is_size h.size (r.size c) && covers r.allocation (length bits)) (open_same c x r i ∙ o)

@@ -13,9 +13,9 @@ use Rattle.stream_law.specs.Words.{for, covers, holds}
 use Rattle.stream_law.specs.Receivers as receivers
 use Rattle.stream_law.specs.Receivers.{Receiver}
 use Rattle.host_pairs.specs.Commands.{Found, Unconnected, Ending, Open, asked_on_link, asked_with_size, found_in}
-use Rattle.host_pairs.specs.Data.{data_of, is_acceptable, is_covered}
+use Rattle.host_pairs.specs.Data.{data_of, is_acceptable}
 use Rattle.host_pairs.specs.Desk.{desk_of, listener_on}
-use Rattle.host_pairs.specs.Entries.{changed_at, closed_by_partner, closed_when, entry_at, free_link, is_ending, is_open, is_receiving, is_size, must_close, receives_on, sends_on}
+use Rattle.host_pairs.specs.Entries.{changed_at, closed_by_partner, closed_when, entry_at, free_link, is_ending, is_open, is_receiving, must_close, receives_on, sends_on}
 use Rattle.host_pairs.specs.Pair.{PairState}
 use Rattle.host_pairs.specs.Parcels.{asked_at}
 use Rattle.host_pairs.specs.declared.entry.Closing.{Closing}
@@ -27,7 +27,7 @@ use Rattle.host_keeps_streams.specs.Ends.{HasReceiver, IsReceiver}
 use Rattle.host_keeps_streams.specs.Histories.{Call, Hears, Takes, Says, Sends, Answered, OpensReceiver, OpensSender, Grants, AsksBack, Gives, Closes, received_at}
 use Rattle.host_keeps_streams.specs.Moves.{answers_str, asks_for, cls_received, closed_received, asked_received, data_received, on_link, received_by, received_out, str_received}
 use Rattle.host_keeps_streams.specs.Names.{named}
-use Rattle.host_keeps_streams.proofs.lemmas.{at_link, bits_there, find_passes, open_same, other_receives}
+use Rattle.host_keeps_streams.proofs.lemmas.{accept_same, at_link, bits_there, find_passes, open_same, other_receives}
 use Rattle.world_keeps_streams.proofs.Deeds.Effects as deeds
 use Rattle.world_keeps_streams.proofs.Deeds.Effects.{Deed, Receives, at_receiver}
 use Rattle.world_keeps_streams.proofs.Deeds.Kinds.{arrives, arrives_if, closings, deed_of, hears, matches, opens, opens_by, returns, says, sweeps}
@@ -222,18 +222,6 @@ module _ (name : ℕ → ℕ → ℕ) (link : ℕ) where
     by true y = w e refl
     by false true = v
     by false false = u
-
-  accept_same : (c : ℕ) (x : Entry) (r : Receiver) (h : DataHeader) (bits : List Bool) → IsReceiver c x r → is_open x ≡ true → length bits ≡ data_bits h
-      → (receivers.is_open c r && words.is_size h.size (r.size c) && covers r.allocation (length bits)) ≡ is_acceptable x h
-  accept_same c x r h bits i o e =
-      ap (λ (v : Bool). v && words.is_size h.size (r.size c) && covers r.allocation (length bits)) (open_same c x r i ∙ o)
-      ∙ ap (λ (z : Option ℕ). words.is_size h.size z && covers r.allocation (length bits)) i.size
-      ∙ ap (λ (a : Allocation). words.is_size h.size x.size && covers a (length bits)) i.allocation
-      ∙ ap (λ (n : ℕ). words.is_size h.size x.size && covers x.allocation n) e
-      ∙ size_same x.size where
-        size_same : (z : Option ℕ) → (words.is_size h.size z && covers x.allocation (data_bits h)) ≡ (is_size h.size z && is_covered (data_bits h) x.allocation)
-        size_same None = refl
-        size_same (Some z) = refl
 
   -- what the law has at a connection that is its end's
   for_same : {A : Type 0} (x : Entry) (f : ℕ → A) (g : A → A) → receives_on link x ≡ true → (k : ℕ)
