@@ -18,9 +18,9 @@ use Rattle.host_keeps_ranges.proofs.lemmas.{text_good}
 use Rattle.host_keeps_pairing.specs.Words.{MayAllGo, mark_in, marks_in}
 use Rattle.pairing_law.specs.Ends.{nothing}
 use Rattle.pairing_law.specs.Marks.{Mark, Ask, Close}
+use Rattle.net_sim.proofs.lemmas.{cleared_waits, fetched_waits}
 use Rattle.world_keeps_pairing.proofs.Marks.{and_turned}
 use Rattle.world_keeps_pairing.proofs.Programs.{read_marks}
-use Rattle.net_sim.proofs.lemmas.{cleared_waits, fetched_waits}
 
 -- neither a receiving socket with a sending one, nor the other way
 abbrev pub IsUnpaired : ℕ → ℕ → Type 0

@@ -17,10 +17,10 @@ use Rattle.net_sim.specs.Projection.{Agrees}
 use Rattle.net_sim.specs.Story.{Moment, IsStory, events_of, program}
 use Rattle.net_sim.proofs.lemmas.{story_agrees}
 use Rattle.pair_keeps_streams.proofs.lemmas.{Free, Joint, Lies, Party, Post, Steps}
+use Rattle.world_keeps_pairing.proofs.lemmas.{phases_same}
 use Rattle.world_keeps_streams.proofs.Steps.Held.{Acted, acted_out, side}
 use Rattle.world_keeps_streams.proofs.Steps.Joined.{commands_in, post_in}
 use Rattle.world_keeps_streams.proofs.Stays.Resets.{box_busy, stays_ready, up_ready}
-use Rattle.world_keeps_pairing.proofs.lemmas.{phases_same}
 
 -- ---- phases
 
