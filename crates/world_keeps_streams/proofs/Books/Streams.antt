@@ -1,11 +1,9 @@
--- Bits of messages.
+-- Bits of messages, and prefixes of them.
 use Rattle.std.proofs.Common.{◌≡◌, ℕ, ◌+◌, Bool, List, [], ◌∷◌, ◌++◌, length, refl, ap, sym, ◌∙◌}
 use Rattle.std.proofs.lemmas.List.{append_assoc, length-append}
 use Rattle.net_sim.specs.Safe as book
 use Rattle.stream_law.specs.Within.{message_bits, IsFront}
 use Rattle.world_keeps_streams.proofs.Carried.Streams.{all_bits}
-
--- ---- bits
 
 all_bits_append : (xs ys : List (List Bool)) → all_bits (xs ++ ys) ≡ all_bits xs ++ all_bits ys
 all_bits_append [] ys = refl
