@@ -20,6 +20,7 @@ use Rattle.host_pairs.specs.declared.notice.Notice.{Notice}
 use Rattle.host_pairs.specs.declared.notice.Notice.TheVariants as notice
 use Rattle.host_pairs.specs.declared.phase.Phase.{Phase}
 use Rattle.host_pairs.specs.declared.phase.Phase.TheVariants as phase
+use Rattle.host_keeps_pairing.proofs.lemmas.{rfnm_idle}
 use Rattle.net_sim.specs.declared.life.Life.{Life}
 use Rattle.net_sim.specs.Book.{Kept, all_told, lives_with}
 use Rattle.world_keeps_lives.specs.Lives.{AreRefusing, IsLifeOf, NoneOf, at_socket, mine_on}
@@ -170,15 +171,6 @@ module _ (a : Host) (k : ℕ) (m : Place) (p : Host) (k0 : Kept) where
         idle = λ i. ap (λ (es : List Entry). map (λ e. closed_when (must_close t.pair.busy e) e) es) (h.idle i);
         on = subst (λ (κ : Kept). At a k m p (mine_on k (settled t.pair.busy (desk_of t.pair t.listening)).entries) (listens_on k t.listening) κ) (sym (all_told_append a t.notices [] k0)) done.on;
       }
-
-  rfnm_idle : (zero : Bool) (ph : Phase) → is_ready (if zero then taken_phase ph else ph) ≡ false → is_ready ph ≡ false
-  rfnm_idle false ph e = e
-  rfnm_idle true phase.Closed e = refl
-  rfnm_idle true phase.Want e = refl
-  rfnm_idle true (phase.Gone true) e = refl
-  rfnm_idle true (phase.Gone false) e = refl
-  rfnm_idle true phase.Heard e = refl
-  rfnm_idle true phase.Ready e = absurd (cc)
 
   fails : (ph : Phase) (t : TurnState) → t.pair.phase ≡ ph → GoodTurn t → GoodTurn (failed_by p ph t)
   fails phase.Closed t e h = h
