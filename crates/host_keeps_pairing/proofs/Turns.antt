@@ -62,7 +62,15 @@ orders_idle peer stamp (o ∷ os) t e idle =
 pub ready_when : (peer : Host) (stamp : ℕ) (o : Order) (t : TurnState) → IsJoint o → is_ready t.pair.phase ≡ true → order_taken peer stamp o t ≡ with_desk t (work_of peer t.pair.busy stamp o (desk_of t.pair t.listening))
 ready_when peer stamp o t e ready = order_when peer stamp o t e ∙ ap (λ (b : Bool). if b then with_desk t (work_of peer t.pair.busy stamp o (desk_of t.pair t.listening)) else t) ready
 
--- a pair that is not ready after an RFNM was not ready before it
+-- a pair that is not ready after an RRP was not ready before it
+pub reply_idle : (ph : Phase) → is_ready (reply_phase ph) ≡ false → is_ready ph ≡ false
+reply_idle phase.Closed e = refl
+reply_idle phase.Want e = refl
+reply_idle (phase.Gone early) e = refl
+reply_idle phase.Heard e = refl
+reply_idle phase.Ready e = absurd (cc)
+
+-- nor is one that is not ready after an RFNM
 pub rfnm_idle : (zero : Bool) (ph : Phase) → is_ready (if zero then taken_phase ph else ph) ≡ false → is_ready ph ≡ false
 rfnm_idle false ph e = e
 rfnm_idle true phase.Closed e = refl
@@ -111,13 +119,6 @@ module _ (origin : ℕ → ℕ) (own foreign : ℕ) where
   -- there is nothing left
   pub emptied : (q : PairState) → HasEnd origin own foreign (record q { entries = []; queue = [] }) nothing
   emptied q = record { ends = λ place. (refl, refl); idle = λ e. refl }
-
-  reply_idle : (ph : Phase) → is_ready (reply_phase ph) ≡ false → is_ready ph ≡ false
-  reply_idle phase.Closed e = refl
-  reply_idle phase.Want e = refl
-  reply_idle (phase.Gone early) e = refl
-  reply_idle phase.Heard e = refl
-  reply_idle phase.Ready e = absurd (cc)
 
   pub after_reset : (peer : Host) (t : TurnState) → HasEnd origin own foreign (reset_taken peer t).pair nothing
   after_reset peer t = record { ends = λ place. (refl, refl); idle = λ e. refl }
