@@ -137,7 +137,7 @@ offered_imp imp Here m s from to is =
     (record { own = is.own; live = is.live; answers = is.answers; queues = is.queues; slots = is.slots })
 offered_imp imp Away m s from to is = record { own = is.own; live = is.live; answers = is.answers; queues = is.queues; slots = is.slots }
 
-here_imp : (s : State) (f : Flow) → way_of s f ≡ Here → f.destination.imp ≡ number s
+pub here_imp : (s : State) (f : Flow) → way_of s f ≡ Here → f.destination.imp ≡ number s
 here_imp s f is = elim (cases_Bool (f.destination.imp == number s)) [
   | inl own ↦ eqb-true f.destination.imp (number s) own
   | inr other ↦ elim (cases_Bool (has_route s f.destination.imp)) [
