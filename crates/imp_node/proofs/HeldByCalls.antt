@@ -50,7 +50,7 @@ from_host_has P s m h made = quiet_has P (offered (way_of s m.flow) m s) (offere
 
 -- ---- from_line
 
-taken_has : (P : PacketFields → Type 0) (k : ℕ) (f : Frame) (s : State) → Has P s → Has P (frame_taken k f s)
+pub taken_has : (P : PacketFields → Type 0) (k : ℕ) (f : Frame) (s : State) → Has P s → Has P (frame_taken k f s)
 taken_has P k f s h = record {
   store = h.store;
   lines = All-set (PortHas P) s.ports k _ (received_has P (port_at s.ports k).line f (port_has P s.ports k h.lines)) h.lines;
