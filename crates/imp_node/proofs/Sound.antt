@@ -238,12 +238,12 @@ host_up_imp imp s h is = pumped_imp imp [] _ (with_host_imp imp s h (record (hos
 
 -- ---- at the opening
 
-opening_answers : (count h : ℕ) → (get_or (replicate count up_host) h no_host).answers ≡ []
+pub opening_answers : (count h : ℕ) → (get_or (replicate count up_host) h no_host).answers ≡ []
 opening_answers zero h = refl
 opening_answers (suc count) zero = refl
 opening_answers (suc count) (suc h) = opening_answers count h
 
-opening_queue : (count h : ℕ) → (get_or (replicate count up_host) h no_host).queue ≡ []
+pub opening_queue : (count h : ℕ) → (get_or (replicate count up_host) h no_host).queue ≡ []
 opening_queue zero h = refl
 opening_queue (suc count) zero = refl
 opening_queue (suc count) (suc h) = opening_queue count h
