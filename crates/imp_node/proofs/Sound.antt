@@ -43,7 +43,7 @@ use Rattle.imp_node.proofs.SidesOfCalls.{arrival_says}
 -- ---- the hosts of an IMP
 
 -- what holds of each element by its place holds after one was set
-at_set : {A : Type 0} (P : ℕ → A → Type 0) (xs : List A) (k h : ℕ) (x d : A) → P h (get_or xs h d) → P k x → P h (get_or (set xs k x) h d)
+pub at_set : {A : Type 0} (P : ℕ → A → Type 0) (xs : List A) (k h : ℕ) (x d : A) → P h (get_or xs h d) → P k x → P h (get_or (set xs k x) h d)
 at_set P [] k h x d old new = old
 at_set P (y ∷ ys) zero zero x d old new = new
 at_set P (y ∷ ys) zero (suc h) x d old new = old

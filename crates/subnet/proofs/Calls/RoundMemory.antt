@@ -18,13 +18,13 @@ use Rattle.imp_node.specs.Pump.{Pumped, target, sent_on, packet_sent, pumped, pu
 use Rattle.imp_node.specs.Lines.{told_from, route, resent_from, resend}
 use Rattle.imp_node.specs.Arrival.{from_line, ignored}
 use Rattle.imp_node.specs.Turns.{resend_grows, route_grows, from_line_grows}
+use Rattle.imp_node.proofs.lemmas.{at_set}
 use Rattle.subnet.specs.Net.{Net, Wire, no_wire, imp_at, wire_at, frames_on, far_end, dropping, put_all, port_of, with_turn}
 use Rattle.subnet.specs.Flows.{imp_is_up}
 use Rattle.subnet.specs.Calls.{grows_at, copy_grows, delivered_grows, brings_bits, round_grows}
 use Rattle.subnet.specs.Events.{at_imp, delivered, drop_frame, refreshed}
 use Rattle.subnet.specs.declared.imp_call.ImpCall.TheVariants as call
 use Rattle.subnet.specs.Inside.Calling.{call_turn, call_grows, carried_first}
-use Rattle.subnet.proofs.Calls.Living.{all_set}
 
 -- ---- small facts
 
@@ -172,7 +172,7 @@ silent_at n i none = none_at (λ (imp : Option State). grows_at imp route_grows)
 
 up_alike : (imps : List (Option State)) (i : ℕ) (s after : State) → imp_at imps i ≡ Some s → (j : ℕ) → imp_is_up (imp_at (set imps i (Some after)) j) ≡ imp_is_up (imp_at imps j)
 up_alike imps i s after at = λ j.
-    all_set (λ (h : ℕ) (o : Option State). imp_is_up o ≡ imp_is_up (imp_at imps h)) imps i j (Some after) None refl (ap imp_is_up (sym at))
+    at_set (λ (h : ℕ) (o : Option State). imp_is_up o ≡ imp_is_up (imp_at imps h)) imps i j (Some after) None refl (ap imp_is_up (sym at))
 
 brought_alike : (imps others : List (Option State)) → ((j : ℕ) → imp_is_up (imp_at others j) ≡ imp_is_up (imp_at imps j)) → (w : Wire) → brings_bits others w ≡ brings_bits imps w
 brought_alike imps others alike w =

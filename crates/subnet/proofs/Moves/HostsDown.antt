@@ -37,7 +37,7 @@ use Rattle.imp_node.specs.Sides.{IsImp, Sender, Receiver, sender, receiver, mess
 use Rattle.imp_node.specs.Moves.{sender_told, source_down, destination_down}
 use Rattle.imp_node.specs.Stopping.{message_returned, all_returned, stopped, host_down, host_down_refusal}
 use Rattle.imp_node.specs.Taking.{is_from_here, reply_has_room}
-use Rattle.imp_node.proofs.lemmas.{freed_with, host_down_imp, returned_moves, returned_number, same_at, stopped_becomes}
+use Rattle.imp_node.proofs.lemmas.{at_set, freed_with, host_down_imp, returned_moves, returned_number, same_at, stopped_becomes}
 use Rattle.subnet.specs.Net.{Net, imp_at, with_turn}
 use Rattle.subnet.specs.Alive.{packets}
 use Rattle.subnet.specs.Events.{at_imp, at_up, at_host_refusal, logging, host_stopped}
@@ -48,7 +48,7 @@ use Rattle.subnet.proofs.Packets.HavingByEvents.{stop_only}
 use Rattle.subnet.proofs.Calls.Silence.{at_host_all}
 use Rattle.subnet.proofs.Moves.Takes.{freed_messages}
 use Rattle.subnet.proofs.Moves.Turns.{Answerable, set_here, set_queue, set_messages, answerable, source_changed}
-use Rattle.subnet.proofs.Moves.Views.{view_parts, at_set}
+use Rattle.subnet.proofs.Moves.Views.{view_parts}
 use Rattle.subnet.proofs.Moves.ManyFlows.{all_moved, at_end, at_end_if}
 
 -- ---- messages are given back, one after another
