@@ -70,7 +70,7 @@ reply_idle (phase.Gone early) e = refl
 reply_idle phase.Heard e = refl
 reply_idle phase.Ready e = absurd (cc)
 
--- nor is one that is not ready after an RFNM
+-- a pair that is not ready after an RFNM was not ready before it
 pub rfnm_idle : (zero : Bool) (ph : Phase) → is_ready (if zero then taken_phase ph else ph) ≡ false → is_ready ph ≡ false
 rfnm_idle false ph e = e
 rfnm_idle true phase.Closed e = refl

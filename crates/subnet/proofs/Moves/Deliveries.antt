@@ -314,6 +314,7 @@ record IsLive (n : Net) (i : ℕ) (s : State) (f : Frame) : Type 0 where
   pub there : FrameHas (Contains (packets n)) f
   pub sound : IsSound n
 
+-- a turn that only takes acknowledgements and distances, and pumps
 quiet_frame : (n : Net) (i : ℕ) (s : State) (f : Frame) (turn : ImpTurn) → IsLive n i s f → IsFrame n i s f turn → AllUnmoved s turn.state → contents.messages turn.state ≡ contents.messages s
     → (Has (Contains (packets n)) s → TurnHas (Contains (packets n)) turn) → IsSound (with_turn i turn n)
 quiet_frame n i s f turn live frame still same has =
