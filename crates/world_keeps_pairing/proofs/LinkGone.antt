@@ -35,7 +35,7 @@ use Rattle.world_keeps_pairing.proofs.Marks.{AllPairs, IsPair}
 use Rattle.world_keeps_pairing.proofs.Messages.{are_same}
 use Rattle.world_keeps_pairing.proofs.Programs.{AnRrp, AnRst, AText, Sort, sort_of}
 
-some_commands : (n : ℕ) (cs : List Command) → AreCommands cs → AreCommands (take n cs)
+pub some_commands : (n : ℕ) (cs : List Command) → AreCommands cs → AreCommands (take n cs)
 some_commands zero cs h = tt
 some_commands (suc n) [] h = tt
 some_commands (suc n) (c ∷ cs) h = (h.0, some_commands n cs h.1)
