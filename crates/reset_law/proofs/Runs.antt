@@ -98,7 +98,7 @@ pub record IsAlone (bs : ℕ → Box) : Type 0 where
   pub on_zero : (k : ℕ) → is_signal (kind_in (bs k)) ≡ true → k ≡ 0
   pub empty : is_signal (kind_in (bs 0)) ≡ true → (k : ℕ) → k ≢ 0 → bs k ≡ Empty
 
-empty_kind : (x : Box) → kind_in x ≡ None → x ≡ Empty
+pub empty_kind : (x : Box) → kind_in x ≡ None → x ≡ Empty
 empty_kind Empty e = refl
 empty_kind (Waiting p m) e = absurd (cc)
 empty_kind (Taken p m) e = absurd (cc)
