@@ -76,7 +76,7 @@ pub says_reply : (q : PairState) → message_on 0 (text_for q parcel.Reply) ≡ 
 unfolding orders_of octets_of read_of command_of
 says_reply q = refl
 
-plain_take : (n : ℕ) (cs : List Command) → ArePlain cs → ArePlain (take n cs)
+pub plain_take : (n : ℕ) (cs : List Command) → ArePlain cs → ArePlain (take n cs)
 plain_take zero cs h = tt
 plain_take (suc n) [] h = tt
 plain_take (suc n) (c ∷ cs) h = (h.0, plain_take n cs h.1)
