@@ -109,6 +109,9 @@ accept_same c x r h bits i o e =
       size_same None = refl
       size_same (Some z) = refl
 
+pub back_same : (m n : ℕ) (c : ℕ) (x : Entry) (r : Receiver) → IsReceiver c x r → is_open x ≡ true → (receivers.is_open c r && holds r.allocation m n) ≡ (nat_le m x.allocation.messages && nat_le n x.allocation.bits)
+back_same m n c x r i o = ap (λ (v : Bool). v && holds r.allocation m n) (open_same c x r i ∙ o) ∙ ap (λ (a : Allocation). holds a m n) i.allocation
+
 none_told : (d : DeskState) → d.notices ≡ [] → (ms : List (List Bool)) → ms ++ arrivals d.notices ≡ ms
 none_told d silent ms = ap (λ (ns : List Notice). ms ++ arrivals ns) silent ∙ append-nil ms
 
@@ -163,9 +166,6 @@ module _ (name : ℕ → ℕ → ℕ) (link : ℕ) where
 
   shut_back : (m n : ℕ) (r : Receiver) (c : ℕ) → receivers.is_open c r ≡ false → receivers.takes_back m n (Some c) r ≡ r
   shut_back m n r c e = rw e refl
-
-  back_same : (m n : ℕ) (c : ℕ) (x : Entry) (r : Receiver) → IsReceiver c x r → is_open x ≡ true → (receivers.is_open c r && holds r.allocation m n) ≡ (nat_le m x.allocation.messages && nat_le n x.allocation.bits)
-  back_same m n c x r i o = ap (λ (v : Bool). v && holds r.allocation m n) (open_same c x r i ∙ o) ∙ ap (λ (a : Allocation). holds a m n) i.allocation
 
   back_by : (m n : ℕ) (d : DeskState) (r : Receiver) (x : Entry) → find (receives_on link) d.entries ≡ Some x → filter (receives_on link) d.entries ≡ x ∷ [] → IsReceiver (name x.own x.foreign) x r
       → (v : Bool) → (nat_le m x.allocation.messages && nat_le n x.allocation.bits) ≡ v → (receivers.is_open (name x.own x.foreign) r && holds r.allocation m n) ≡ v
