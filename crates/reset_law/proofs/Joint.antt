@@ -11,7 +11,7 @@ use Rattle.reset_law.specs.Monitor.{Monitor, monitor}
 use Rattle.reset_law.specs.Invariant.{kind_in, is_signal, Outstanding, Shape, Sound}
 use Rattle.reset_law.specs.Runs.{IsRun}
 use Rattle.reset_law.specs.Stays.{is_ready, ready, waits_in}
-use Rattle.reset_law.proofs.Links.{at}
+use Rattle.reset_law.proofs.Links.{at, fetched_kind}
 use Rattle.reset_law.proofs.Runs.{carry, IsAlone, sound_run, alone_run, ready_up}
 use Rattle.reset_law.proofs.Fresh.{turned_about, still_ready, ready_taken}
 
@@ -77,11 +77,6 @@ nothing_waits (Waiting p Reset) no_plain = refl
 nothing_waits (Waiting p Reply) no_plain = refl
 nothing_waits (Waiting p (Other text)) no_plain = absurd (no_plain refl)
 nothing_waits (Taken p m) no_plain = refl
-
-fetched_kind : (x : Box) → kind_in (fetched x) ≡ kind_in x
-fetched_kind Empty = refl
-fetched_kind (Waiting p m) = refl
-fetched_kind (Taken p m) = refl
 
 pub plain_fetched : (bs : ℕ → Box) (l : ℕ) → NoPlain bs → NoPlain (at_link bs l (fetched (bs l)))
 plain_fetched bs l h k e = elim (at bs l (fetched (bs l)) k) [
