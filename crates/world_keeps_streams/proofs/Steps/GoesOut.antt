@@ -12,6 +12,7 @@ use Rattle.reset_law.specs.Boxes.{Box, Empty, boxes}
 use Rattle.reset_law.specs.Pairs.{pair}
 use Rattle.reset_law.specs.Runs.{IsRun}
 use Rattle.reset_law.specs.Stays as stay
+use Rattle.reset_law.proofs.lemmas.{stays_ready}
 use Rattle.sockets.specs.Pairs.{pair_with}
 use Rattle.net_sim.specs.Projection.{Agrees}
 use Rattle.net_sim.specs.Story.{Moment, IsStory, events_of, program}
@@ -20,7 +21,7 @@ use Rattle.pair_keeps_streams.proofs.lemmas.{Free, Joint, Lies, Party, Post, Ste
 use Rattle.world_keeps_pairing.proofs.lemmas.{phases_same}
 use Rattle.world_keeps_streams.proofs.Steps.Held.{Acted, acted_out, side}
 use Rattle.world_keeps_streams.proofs.Steps.Joined.{commands_in, post_in}
-use Rattle.world_keeps_streams.proofs.Stays.Resets.{box_busy, stays_ready, up_ready}
+use Rattle.world_keeps_streams.proofs.Stays.Resets.{box_busy, up_ready}
 
 -- ---- phases
 
