@@ -1,8 +1,8 @@
 -- What a user asks for, and what goes out next, may be done.
-use Rattle.std.proofs.Common.{◌≡◌, ℕ, zero, suc, ◌*◌, ◌<◌, ◌≤◌, ◌^◌, ◌&&◌, ◌||◌, not, Bool, true, false, if◌then◌else◌, List, [], ◌∷◌, take, drop, find, Option, Some, None, is_some, refl, ap, sym, subst, ◌∙◌, arith}
+use Rattle.std.proofs.Common.{◌≡◌, ℕ, zero, suc, ◌*◌, ◌<◌, ◌≤◌, ◌^◌, ◌&&◌, not, Bool, true, false, if◌then◌else◌, List, [], ◌∷◌, take, drop, find, Option, Some, None, is_some, refl, ap, sym, subst, ◌∙◌, arith}
 use Rattle.std.proofs.lemmas.List.{take-append-drop}
 use Rattle.leader1822.specs.Host.{Host, same_host}
-use Rattle.leader1822.proofs.lemmas.{same_host-true}
+use Rattle.leader1822.proofs.lemmas.{or_false, same_host-true}
 use Rattle.ncp_control.specs.Numbers.{is_receive_socket, is_send_socket}
 use Rattle.ncp_control.specs.declared.command.Command.{Command}
 use Rattle.host_pairs.specs.Asked.{passes}
@@ -96,10 +96,6 @@ is_none : (o : Option Entry) → is_some o ≡ false → o ≡ None
 is_none None e = refl
 is_none (Some x) e = absurd (cc)
 
-neither : (a b : Bool) → (a || b) ≡ false → (a ≡ false) × (b ≡ false)
-neither true b e = absurd (cc)
-neither false b e = (refl, e)
-
 module _ (s : NcpState) (b : Host) where
   owner_may : (socket : ℕ) (o : Option (Host × Entry)) (k : Entry → Call) → AreInOrder s.peers → owner_of socket s.peers ≡ o
       → ((g : Host) (e : Entry) → o ≡ Some (g, e) → find (is_mine_on socket) (pair_with b s.peers).entries ≡ Some e → MayCall (k e) (pair_with b s.peers)) → AllMay (owner_calls b k (pair_with b s.peers) s.listening o)
@@ -132,14 +128,14 @@ module _ (s : NcpState) (b : Host) where
       let first : (not (is_ready (pair_with peer s.peers).phase) ≡ false) × _ = not_first (not (is_ready (pair_with peer s.peers).phase)) _ _ may in
       let second : (not (is_send_socket own && is_receive_socket foreign) ≡ false) × _ = not_first (not (is_send_socket own && is_receive_socket foreign)) _ _ first.1 in
       let kinds : (is_send_socket own ≡ true) × (is_receive_socket foreign ≡ true) = both (is_send_socket own) (is_receive_socket foreign) (true_is (is_send_socket own && is_receive_socket foreign) second.0) in
-      let free : is_some (entry_at own foreign (pair_with peer s.peers).entries) ≡ false = (neither (is_used s own) _ (not_first (is_taken s peer own foreign) _ _ second.1).0).1 in
+      let free : is_some (entry_at own foreign (pair_with peer s.peers).entries) ≡ false = (or_false (is_used s own) _ (not_first (is_taken s peer own foreign) _ _ second.1).0).1 in
       if_same peer (OpensSender own foreign size)
       (λ is. (kinds.0, kinds.1, subst (λ (h : Host). entry_at own foreign (pair_with h s.peers).entries ≡ None) (sym is) (is_none (entry_at own foreign (pair_with peer s.peers).entries) free))) (same_host b peer) refl
   request_may (request.OpenReceive peer own foreign) order may =
       let first : (not (is_ready (pair_with peer s.peers).phase) ≡ false) × _ = not_first (not (is_ready (pair_with peer s.peers).phase)) _ _ may in
       let second : (not (is_receive_socket own && is_send_socket foreign) ≡ false) × _ = not_first (not (is_receive_socket own && is_send_socket foreign)) _ _ first.1 in
       let kinds : (is_receive_socket own ≡ true) × (is_send_socket foreign ≡ true) = both (is_receive_socket own) (is_send_socket foreign) (true_is (is_receive_socket own && is_send_socket foreign) second.0) in
-      let free : is_some (entry_at own foreign (pair_with peer s.peers).entries) ≡ false = (neither (is_used s own) _ (not_first (is_taken s peer own foreign) _ _ second.1).0).1 in
+      let free : is_some (entry_at own foreign (pair_with peer s.peers).entries) ≡ false = (or_false (is_used s own) _ (not_first (is_taken s peer own foreign) _ _ second.1).0).1 in
       if_same peer (OpensReceiver own foreign)
       (λ is. (kinds.0, kinds.1, subst (λ (h : Host). entry_at own foreign (pair_with h s.peers).entries ≡ None) (sym is) (is_none (entry_at own foreign (pair_with peer s.peers).entries) free))) (same_host b peer) refl
   request_may (request.Send socket bits) order may =
