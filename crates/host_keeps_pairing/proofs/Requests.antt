@@ -54,10 +54,6 @@ none_is : {A : Type 0} (o : Option A) → is_some o ≡ false → o ≡ None
 none_is None e = refl
 none_is (Some x) e = absurd (cc)
 
-true_is : (b : Bool) → not b ≡ false → b ≡ true
-true_is true e = refl
-true_is false e = absurd (cc)
-
 -- ---- an end that is called off
 
 called : Standing → Standing

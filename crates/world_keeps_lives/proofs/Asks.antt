@@ -3,7 +3,7 @@ use Rattle.std.proofs.Common.{◌≡◌, inl, inr, ℕ, ◌==◌, ◌&&◌, Bool
 use Rattle.std.proofs.lemmas.Bool.{eqb-true}
 use Rattle.std.proofs.lemmas.List.{append-nil, append_assoc}
 use Rattle.leader1822.specs.Host.{Host}
-use Rattle.leader1822.proofs.lemmas.{or_false}
+use Rattle.leader1822.proofs.lemmas.{not_false, or_false}
 use Rattle.ncp_control.specs.Numbers.{is_receive_socket, is_send_socket}
 use Rattle.ncp_control.specs.declared.command.Command.{Command}
 use Rattle.ncp_control.specs.declared.command.Command.TheVariants as command
@@ -44,10 +44,6 @@ use Rattle.world_keeps_lives.proofs.Turns.{cleared_on}
 not_first : (test : Bool) (f : NcpFault) (others : Option NcpFault) → first_if test f others ≡ None → (test ≡ false) × (others ≡ None)
 not_first true f others e = absurd (cc)
 not_first false f others e = (refl, e)
-
-true_is : (b : Bool) → not b ≡ false → b ≡ true
-true_is true e = refl
-true_is false e = absurd (cc)
 
 -- ---- accounts
 
@@ -252,7 +248,7 @@ module _ (a : Host) (k : ℕ) where
   send_holds s socket bits κ None f order may h = absurd (cc)
   send_holds s socket bits κ (Some (g, e)) f order may h =
       let found : find (is_mine_on socket) (pair_with g s.peers).entries ≡ Some e = owner_found socket s.peers g e order f in
-      let opened : has_opened e ≡ true = open_opened e (true_is (is_open e) (not_first (not (is_open e)) _ _ may).0) in
+      let opened : has_opened e ≡ true = open_opened e (not_false (is_open e) (not_first (not (is_open e)) _ _ may).0) in
       let own : e.own ≡ socket = own_is socket e (split (is_mine_on socket) (λ y. y) (pair_with g s.peers).entries e found).passes in
       open_holds s g socket (with_more_bits bits) (λ q. q) e κ (asked a (request.Send socket bits) κ) found refl (λ e r. r) (λ q. (refl, refl))
       (λ is m l i. at_handed m g e socket bits l κ (asked a (request.Send socket bits) κ) (subst (λ (n : ℕ). (n == k) ≡ true) own (both e.mine (e.own == k) is).1) opened refl refl i)
@@ -263,7 +259,7 @@ module _ (a : Host) (k : ℕ) where
   grant_holds s socket messages bits κ None f order may h = absurd (cc)
   grant_holds s socket messages bits κ (Some (g, e)) f order may h =
       let found : find (is_mine_on socket) (pair_with g s.peers).entries ≡ Some e = owner_found socket s.peers g e order f in
-      let opened : has_opened e ≡ true = open_opened e (true_is (is_open e) (not_first (not (is_open e)) _ _ may).0) in
+      let opened : has_opened e ≡ true = open_opened e (not_false (is_open e) (not_first (not (is_open e)) _ _ may).0) in
       let own : e.own ≡ socket = own_is socket e (split (is_mine_on socket) (λ y. y) (pair_with g s.peers).entries e found).passes in
       open_holds s g socket (granted messages bits) (commanded (command.All (link_of e.link) messages bits)) e κ (asked a (request.Grant socket messages bits) κ) found refl (λ e r. r) (λ q. (refl, refl))
       (λ is m l i. at_here a k m g (book.granted messages bits) e (granted messages bits e) l κ (asked a (request.Grant socket messages bits) κ) is opened (λ x. refl)
@@ -276,14 +272,14 @@ module _ (a : Host) (k : ℕ) where
   used_send : (s : NcpState) (p : Host) (own foreign size : ℕ) → open_send_refusal s p own foreign size ≡ None → (is_ready (pair_with p s.peers).phase ≡ true) × (is_used s own ≡ false)
   used_send s p own foreign size e =
       let first : (not (is_ready (pair_with p s.peers).phase) ≡ false) × _ = not_first (not (is_ready (pair_with p s.peers).phase)) _ _ e in (
-        true_is (is_ready (pair_with p s.peers).phase) first.0,
+        not_false (is_ready (pair_with p s.peers).phase) first.0,
         (or_false (is_used s own) (is_some (entry_at own foreign (pair_with p s.peers).entries)) (not_first (is_taken s p own foreign) _ _ (not_first (not (is_send_socket own && is_receive_socket foreign)) _ _ first.1).1).0).0,
       )
 
   used_receive : (s : NcpState) (p : Host) (own foreign : ℕ) → open_receive_refusal s p own foreign ≡ None → (is_ready (pair_with p s.peers).phase ≡ true) × (is_used s own ≡ false)
   used_receive s p own foreign e =
       let first : (not (is_ready (pair_with p s.peers).phase) ≡ false) × _ = not_first (not (is_ready (pair_with p s.peers).phase)) _ _ e in (
-        true_is (is_ready (pair_with p s.peers).phase) first.0,
+        not_false (is_ready (pair_with p s.peers).phase) first.0,
         (or_false (is_used s own) (is_some (entry_at own foreign (pair_with p s.peers).entries)) (not_first (is_taken s p own foreign) _ _ (not_first (not (is_receive_socket own && is_send_socket foreign)) _ _ first.1).1).0).0,
       )
 
