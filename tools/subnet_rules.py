@@ -1,6 +1,6 @@
 """The subnet: its rules, read a second time.
 
-It was written from docs/subnet.md over the second reading of one IMP, in another language and another form than the
+It was written from docs/subnet.md over the independent model of one IMP, in another language and another form than the
 definitions. `check model` compares the program with it. Each event prints what crosses, or why it is refused.
 """
 

@@ -116,15 +116,15 @@ class Copy:
 
     def check_with(self, texts):
         """What a check says of the crate with these texts in the place of its own, over what was noted."""
+        shutil.copytree(f"{self.own}/src", f"{self.folder}/src")
         for path, text in texts.items():
-            shutil.copy2(f"{self.own}/{path}", f"{self.folder}/was")
             with open(f"{self.own}/{path}", "w", encoding="utf-8") as file:
                 file.write(text)
         try:
             return self.check()[1]
         finally:
-            for path in texts:
-                shutil.copy2(f"{ROOT}/crates/{self.crate}/{path}", f"{self.own}/{path}")
+            shutil.rmtree(f"{self.own}/src")
+            os.rename(f"{self.folder}/src", f"{self.own}/src")
             shutil.rmtree(f"{self.own}/out")
             shutil.copytree(f"{self.folder}/kept", f"{self.own}/out", symlinks=True)
 

@@ -2,10 +2,10 @@
 
 Checks what ./explain tells.
 
-- The lines that it ties to each event are those that the second reading of the rules in tools/check/model.py prints for it, on
+- The lines that it ties to each event are those that the independent model of the rules in tools/check/model.py prints for it, on
   inputs made by chance. So are, in plain networks, the messages of which it says that they still wait.
 - Of a refused event of an example it tells the cause that is written here by hand.
-- Of a refused script line or topology it names a cause exactly if that second reading refuses it, and for inputs written
+- Of a refused script line or topology it names a cause exactly if that model refuses it, and for inputs written
   here by hand it names the cause that is meant.
 - In networks with host programs it names a cause for each bad line, and has a sentence for each line that is printed there.
 - Without a kept program it tells the same.
@@ -142,7 +142,7 @@ def same(found, wanted, what):
 
 
 def check_ties(program, seeds):
-    """What each event prints, and what still waits after it, against the second reading."""
+    """What each event prints, and what still waits after it, against the independent model."""
     events = 0
     for seed in range(seeds):
         chance = random.Random(seed)
@@ -195,7 +195,7 @@ def check_refusals(program):
 
 
 def check_causes(program, seeds):
-    """A cause is named exactly where the second reading refuses, and the one that is meant."""
+    """A cause is named exactly where the independent model refuses, and the one that is meant."""
     for line, words in BAD_LINES:
         given = explain.Input(GOOD + b"%\ntake 0/1\n" + line + b"\n")
         status, said, _ = explain.replay(given, program)

@@ -1,6 +1,6 @@
 """A host's program against the independent model in Python, on calls made by chance (minutes): ./check hosts [RUNS | FOLDER]
 
-Compares hosts' programs with a second reading of their rules, on calls made by chance.
+Compares hosts' programs with an independent model of their rules, on calls made by chance.
 
 The proofs say that `Ncp` does what its definitions say. Whether the definitions say what docs/hosts.md says is for readers
 to judge; this script tries it as well. tools/host_rules.py was written from those rules, in another language and another
@@ -36,7 +36,7 @@ LINKS = [2, 2, 3, 4, 5, 31, 1, 32, 255]
 OPENED = [(16, 33), (18, 35)]
 
 
-# ---- calls, on the second reading and for the driver
+# ---- calls, on the independent model and for the driver
 
 
 def spell_part(part):

@@ -1,6 +1,6 @@
 """One IMP against the independent model in Python, on calls made by chance (minutes): ./check imp [RUNS]
 
-Compares one IMP with a second reading of its rules, on calls made by chance.
+Compares one IMP with an independent model of its rules, on calls made by chance.
 
 The proofs say that `Imp` does what its definitions say. Whether the definitions say what docs/imp.md says is for readers
 to judge; this script tries it as well. `Imp` in tools/imp_rules.py was written from those rules, in another language and
@@ -137,7 +137,7 @@ class Chance:
         return port, acknowledged, content
 
     def call(self):
-        """A call: its line, and the same call on the second reading."""
+        """A call: its line, and the same call on the independent model."""
         imp = self.imp
         choice = self.random.random()
         if choice < 0.5 and imp.ports:

@@ -1,6 +1,6 @@
 """The program against the independent model in Python, on inputs made by chance (two minutes).
 
-Compares the program with a second reading of its rules, on inputs made by chance.
+Compares the program with an independent model of its rules, on inputs made by chance.
 
 The proofs say that the program does what the definitions say. Whether the definitions say what docs/program.md and
 docs/mailboxes.md say is for readers to judge; this script tries it as well. tools/script_rules.py, and what it stands on,

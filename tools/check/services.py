@@ -1,6 +1,6 @@
 """Initial connection, terminal and echo service against the independent model in Python (minutes): ./check services [RUNS]
 
-Compares the machines of the initial connection, the terminal and the echo service with a second reading of their rules.
+Compares the machines of the initial connection, the terminal and the echo service with an independent model of their rules.
 
 The proofs say that these machines do what their definitions say. Whether the definitions say what docs/initial-connection.md says
 is for readers to judge; this script tries it as well. tools/service_rules.py was written from those rules and RFC 165, in another

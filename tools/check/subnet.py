@@ -1,6 +1,6 @@
 """A whole subnet against the independent model in Python, on events made by chance (minutes): ./check subnet [RUNS]
 
-Compares a whole subnet with a second reading of its rules, on events made by chance.
+Compares a whole subnet with an independent model of its rules, on events made by chance.
 
 The proofs say that `Subnet` does what its definitions say. Whether the definitions say what docs/subnet.md says is for
 readers to judge; this script tries it as well. tools/subnet_rules.py was written from those rules, in another language and
@@ -38,7 +38,7 @@ WEIGHTS = {
 
 
 class Chance:
-    """A network, and events in it. A second reading of the subnet goes along, so that what is there can be named."""
+    """A network, and events in it. An independent model of the subnet goes along, so that what is there can be named."""
 
     def __init__(self, seed, is_largest):
         self.random = random.Random(seed)

@@ -2,7 +2,7 @@
 
 Runs hosts with their programs over networks made by chance, in the model alone, and audits their books: ./check worlds [RUNS]
 
-The model is the second reading of the rules (tools/world_rules.py). Of each book it is computed whether it keeps its promise,
+The model is the independent model of the rules (tools/world_rules.py). Of each book it is computed whether it keeps its promise,
 from the crossings, the lives and the bits that were handed over (tools/audit_rules.py): at the end of each run, and after each
 event of some; in these it is looked at too whether what had an effect on a host went out after that host's last clean point for
 its sender (tools/clean_rules.py). So this script doesn't try the program. It tries the promise itself, and with it two facts that are stronger: no

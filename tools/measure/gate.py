@@ -22,7 +22,7 @@ from drivers import crates_below
 from parts import ROOT
 
 PAGE = f"{ROOT}/docs/PERFORMANCE.md"
-MARKERS = "<!-- ./measure gate: begins -->", "<!-- ./measure gate: ends -->"
+MARKERS = "<!-- gate table: begin -->", "<!-- gate table: end -->"
 
 
 def crates():

@@ -4,7 +4,7 @@
 
 - messages over a chain of eight IMPs: eight messages at a time go from the first to the last, and then `calm` lets them
   and their RFNMs pass. Each makes 14 hops of a packet, besides the routes and acknowledgements that go along.
-- single events by chance in a ring of 16 IMPs with eight chords. The second reading of the rules in Python goes along, so
+- single events by chance in a ring of 16 IMPs with eight chords. The independent model of the rules in Python goes along, so
   that frames that are there are delivered and dropped, and messages are begun on idle flows.
 
 For each the median and the best processor time of the rounds are told, from the start of the process to its end, and the

@@ -193,7 +193,7 @@ coded c h code fields e = let
     P : List ℕ → Type 0 = λ octets. IsCoded (get_or octets 0 0) octets
     in subst P e (spelling_coded c h)
 
--- no front of a spelling but the whole is a command
+-- no prefix of a spelling but the whole is a command
 pub short : (c : Command) (front rest : List ℕ) → IsCommand c → spelling c ≡ front ++ rest → 0 < length rest → read_of front ≡ Err (fault.Short (quoted_of front))
 unfolding read_of
 short c [] rest h e some = refl
@@ -238,7 +238,7 @@ double_below octets place small =
     let cells : All IsOctet (take 2 (drop place octets)) = All-take IsOctet 2 (drop place octets) (All-drop IsOctet place octets small) in
     omega (arith, read_below (take 2 (drop place octets)) 0 cells, read_below (take 2 (drop place octets)) 1 cells)
 
-word_below : (octets : List ℕ) (place : ℕ) → All IsOctet octets → IsWord (number_at w32 octets place)
+pub word_below : (octets : List ℕ) (place : ℕ) → All IsOctet octets → IsWord (number_at w32 octets place)
 word_below octets place small =
     let cells : All IsOctet (take 4 (drop place octets)) = All-take IsOctet 4 (drop place octets) (All-drop IsOctet place octets small) in
     omega (arith, read_below (take 4 (drop place octets)) 0 cells, read_below (take 4 (drop place octets)) 1 cells, read_below (take 4 (drop place octets)) 2 cells, read_below (take 4 (drop place octets)) 3 cells)

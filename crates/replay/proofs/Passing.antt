@@ -13,7 +13,7 @@ use Rattle.replay.specs.Replay.{AllTake, Calls, GoesOn, Halts, Onward, Round, Ro
 use Rattle.replay.specs.Steps.{EventEnds, Grew, PrintEnds}
 use Rattle.replay.specs.declared.events.ReplayFault.{ReplayFault}
 use Rattle.replay.specs.declared.events.ReplayFault.TheVariants as fault
-use Rattle.script.specs.declared.event.Event.TheVariants as event
+use Rattle.script.specs.declared.event.RawEvent.TheVariants as event
 use Rattle.replay.proofs.Shown.{appends_more, appends_none, gained, output-append, shown_crossings-append}
 
 pub grew_more : (old mid new : Seen) → Grew old mid → Grew mid new → Grew old new
@@ -109,7 +109,7 @@ is_done (Ok done) told goes = refl
 is_done (Err f) told goes = absurd (false≢true (sym goes ∙ told))
 
 -- crossings in turn
-grown_more : (old mid new cs ds : List Crossing) → mid ≡ reverse cs ++ old → new ≡ reverse ds ++ mid → new ≡ reverse (cs ++ ds) ++ old
+pub grown_more : (old mid new cs ds : List Crossing) → mid ≡ reverse cs ++ old → new ≡ reverse ds ++ mid → new ≡ reverse (cs ++ ds) ++ old
 grown_more old mid new cs ds h k = k ∙ ap (λ log. reverse ds ++ log) h ∙ sym (append_assoc (reverse ds) (reverse cs) old) ∙ ap (λ log. log ++ old) (sym (reverse-append cs ds))
 
 written_more : (a b c : Option (List ℕ)) (cs ds : List Crossing) → Appends a b (output (shown_crossings cs)) → Appends b c (output (shown_crossings ds)) → Appends a c (output (shown_crossings (cs ++ ds)))
