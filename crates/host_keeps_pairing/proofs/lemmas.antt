@@ -2,7 +2,7 @@
 pub use Rattle.host_keeps_pairing.proofs.Calls.{answer_keeps, message_data, message_hears, message_idle, message_replies, message_resets, offer_may, offer_says, opening_has, put}
 pub use Rattle.host_keeps_pairing.proofs.Endings.{answer_knows, data_told_same, idle_leaves, message_knows, offer_knows, others_leave, request_knows, rrp_leaves, rst_knows}
 pub use Rattle.host_keeps_pairing.proofs.Fronts.{untagged_is}
-pub use Rattle.host_keeps_pairing.proofs.Lists.{Found, at_append, at_one, eqb-sym, found_at, marks_append, none_at}
+pub use Rattle.host_keeps_pairing.proofs.Lists.{Found, at_append, at_one, eqb-sym, found_at, found_same, marks_append, none_at}
 pub use Rattle.host_keeps_pairing.proofs.Partners.{known_match}
 pub use Rattle.host_keeps_pairing.proofs.Passes.{one_gone}
 pub use Rattle.host_keeps_pairing.proofs.Requests.{request_keeps}
