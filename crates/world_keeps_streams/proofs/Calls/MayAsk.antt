@@ -29,12 +29,12 @@ use Rattle.sockets.specs.Requests.{close_fault, closing_fault, grant_fault, is_t
 use Rattle.sockets.specs.declared.fault.NcpFault.{NcpFault}
 use Rattle.sockets.specs.declared.request.Request.{Request}
 use Rattle.sockets.specs.declared.request.Request.TheVariants as request
+use Rattle.sockets.proofs.lemmas.{not_first}
 use Rattle.world_keeps_lives.proofs.lemmas.{owner_found}
 use Rattle.world_keeps_pairing.proofs.lemmas.{send_odd}
 use Rattle.world_keeps_streams.specs.Calls.{called, owner_calls, parcel_calls, request_calls}
 use Rattle.world_keeps_streams.proofs.Calls.May.{AllMay, MayCall}
 use Rattle.world_keeps_streams.proofs.Calls.MayTurns.{said_may}
-use Rattle.world_keeps_streams.proofs.Calls.Moved.{not_first}
 
 -- ---- byte sizes
 
