@@ -107,7 +107,7 @@ begins_either a b e events =
 pub joint_either : (a b : Host) (events : List Event) → joint a b events ≡ true → joint b a events ≡ true
 joint_either a b events together = sym (swap (ready a b events) (ready b a events)) ∙ together
 
-stays_on : (t r k s : Bool) → r ≡ true → k ≡ false → s ≡ true → (t || (r && not k && s)) ≡ true
+pub stays_on : (t r k s : Bool) → r ≡ true → k ≡ false → s ≡ true → (t || (r && not k && s)) ≡ true
 stays_on true r k s e f g = refl
 stays_on false r k s e f g = rw (e, f, g) refl
 
