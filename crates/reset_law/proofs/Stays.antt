@@ -75,7 +75,7 @@ not_true : (b : Bool) → not b ≡ true → b ≡ false
 not_true true e = absurd (cc)
 not_true false e = refl
 
-unready_phase : (ph : Phase) → is_ready ph ≡ false → ph ≢ Ready
+pub unready_phase : (ph : Phase) → is_ready ph ≡ false → ph ≢ Ready
 unready_phase ph e same = contradicts (is_ready ph) (phase_ready ph same) e
 
 pub begin_quiet : (hosts : List Host) (e : Event) (events : List Event) → IsRun hosts (e ∷ events) → (a b : Host) → begins a b e events ≡ true → NoPlain (boxes a b (e ∷ events)) × NoPlain (boxes b a (e ∷ events))
