@@ -247,7 +247,7 @@ any_append : {X : Type 0} (p : X → Bool) (xs ys : List X) → list_any p (xs +
 any_append p [] ys = refl
 any_append p (x ∷ xs) ys = rw (any_append p xs ys) (or_assoc (p x) (list_any p xs) (list_any p ys))
   where
-    pub or_assoc : (a b c : Bool) → (a || (b || c)) ≡ ((a || b) || c)
+    or_assoc : (a b c : Bool) → (a || (b || c)) ≡ ((a || b) || c)
     or_assoc true b c = refl
     or_assoc false b c = refl
 

@@ -1,13 +1,16 @@
 -- Looking through live frames.
-use Rattle.std.proofs.Common.{◌≡◌, Bool, ◌||◌, List, [], ◌∷◌, ◌++◌, refl, ap, ◌∙◌}
+use Rattle.std.proofs.Common.{◌≡◌, Bool, true, false, ◌||◌, List, [], ◌∷◌, ◌++◌, refl, ap, ◌∙◌}
 use Rattle.std.specs.List.{list_any}
-use Rattle.packetiser.proofs.lemmas.{or_assoc}
 use Rattle.imp_channel.specs.Holding.{carried_by}
 use Rattle.imp_channel.specs.declared.frame.Frame.{Frame}
 use Rattle.subnet.specs.declared.seeking.Sought.{Sought}
 use Rattle.subnet.specs.Alive.{packets_on, carries}
 use Rattle.subnet.specs.Net.{Wire}
 use Rattle.subnet.specs.Inside.Seeking.{packet_is, frame_has}
+
+or_assoc : (a b c : Bool) → (a || (b || c)) ≡ ((a || b) || c)
+or_assoc true b c = refl
+or_assoc false b c = refl
 
 any_append : {X : Type 0} (test : X → Bool) (xs ys : List X) → list_any test (xs ++ ys) ≡ (list_any test xs || list_any test ys)
 any_append test [] ys = refl
