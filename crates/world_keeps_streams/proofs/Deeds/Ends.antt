@@ -23,6 +23,7 @@ use Rattle.host_pairs.specs.declared.entry.Entry.{Entry}
 use Rattle.host_pairs.specs.declared.listener.Listener.{Listener}
 use Rattle.host_pairs.proofs.lemmas.{both, not_is, what_goes}
 use Rattle.host_keeps_ranges.proofs.lemmas.{free_is_link}
+use Rattle.host_keeps_pairing.proofs.lemmas.{found_same}
 use Rattle.host_keeps_streams.specs.Ends.{has_opened}
 use Rattle.host_keeps_streams.specs.Histories.{Call, Hears, Takes, Says, Sends, Answered, OpensReceiver, OpensSender, Grants, AsksBack, Gives, Closes, ends_by}
 use Rattle.host_keeps_streams.specs.Names.{AreApart, is_among, named, numbers}
@@ -137,7 +138,7 @@ module _ (x y : ℕ) (change : Entry → Entry) (es : List Entry) (e : Entry) (f
   comes : (d : Deed) → (is_open (change e) ≡ true → OpensAs d (change e)) → Comes d es (changed_first (is_at x y) change es)
   comes d kind = changed_comes d (is_at x y) change es (λ f g among. subst (λ (z : Entry). Becomes d z (change z)) (one f g) (becomes d kind)) where
     one : (f : Entry) → find (is_at x y) es ≡ Some f → e ≡ f
-    one f g = deeds.same_some e f (sym found ∙ g)
+    one f g = found_same e f (sym found ∙ g)
 
   opened_by : (u v : Option ℕ) → (change e).asked ≡ u → (change e).partner ≡ v → Does (opens_by (change e) u v) es (changed_first (is_at x y) change es)
   opened_by None v f g = (comes deeds.Nothing (λ o. clash _ (is_some (change e).asked) (open_parts (change e) o).asked (ap is_some f)), tt)
