@@ -74,7 +74,7 @@ said_are a b events =
 put : (g : Host) (q : PairState) (peers : List Peer) → pair_with g (with_pair g q peers) ≡ q
 put g q peers = pair_changed g g q peers ∙ ap (λ (b : Bool). cond b q (pair_with g peers)) (same_host-refl g)
 
-offered_pair : (s : NcpState) (stamp : ℕ) (g : Peer) (x : Parcel) → next_in s.peers ≡ Some (g, x) → pair_with g.host (offered s stamp).0.peers ≡ pair_after x g.pair (parcel_gone g.host stamp g.pair.busy x (desk_of g.pair s.listening))
+pub offered_pair : (s : NcpState) (stamp : ℕ) (g : Peer) (x : Parcel) → next_in s.peers ≡ Some (g, x) → pair_with g.host (offered s stamp).0.peers ≡ pair_after x g.pair (parcel_gone g.host stamp g.pair.busy x (desk_of g.pair s.listening))
 unfolding offered
 offered_pair s stamp g x is = rw is (put g.host (pair_after x g.pair (parcel_gone g.host stamp g.pair.busy x (desk_of g.pair s.listening))) s.peers)
 
