@@ -152,7 +152,7 @@ module _ (origin : Host → Host → ℕ → ℕ) (a b : Host) (m : HostMessage)
 
 -- ---- what comes of a peer
 
-message_pair : (s : NcpState) (m : HostMessage) (stamp : ℕ) → same_host s.own m.flow.destination ≡ true → pair_with m.flow.source (accepted s (inbound.Message m) stamp).0.peers ≡ (message_taken m.flow.source stamp m.flow.link.0 m.text (turn_of s m.flow.source)).pair
+pub message_pair : (s : NcpState) (m : HostMessage) (stamp : ℕ) → same_host s.own m.flow.destination ≡ true → pair_with m.flow.source (accepted s (inbound.Message m) stamp).0.peers ≡ (message_taken m.flow.source stamp m.flow.link.0 m.text (turn_of s m.flow.source)).pair
 unfolding accepted
 message_pair s m stamp own = by (same_host s.own m.flow.destination) refl where
   by : (b : Bool) → same_host s.own m.flow.destination ≡ b → pair_with m.flow.source (accepted_message s m stamp).0.peers ≡ (message_taken m.flow.source stamp m.flow.link.0 m.text (turn_of s m.flow.source)).pair

@@ -3,7 +3,7 @@ pub use Rattle.world_keeps_pairing.proofs.BookPartners.{life_in, life_matches, l
 pub use Rattle.world_keeps_pairing.proofs.LifeLists.{between_itself, in_among, told_in}
 pub use Rattle.world_keeps_pairing.proofs.LinkGone.{some_commands}
 pub use Rattle.world_keeps_pairing.proofs.LinkRun.{AllTied, all_tied, heard_off_in, takes}
-pub use Rattle.world_keeps_pairing.proofs.LinkTied.{offered_pair}
+pub use Rattle.world_keeps_pairing.proofs.LinkTied.{message_pair, offered_pair}
 pub use Rattle.world_keeps_pairing.proofs.LinkTurns.{odd_send, send_odd}
 pub use Rattle.world_keeps_pairing.proofs.LivesAmong.{by_sockets, lives_among}
 pub use Rattle.world_keeps_pairing.proofs.Marks.{IsPair, even_odd, foreign_of, own_of}
