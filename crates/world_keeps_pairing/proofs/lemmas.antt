@@ -16,5 +16,5 @@ pub use Rattle.world_keeps_pairing.proofs.Sides.{Unheard, all_hears, all_says, a
 pub use Rattle.world_keeps_pairing.proofs.Tied.{AreOrigins, IsOrigin, programs_ranged, receiver_hears, sender_hears}
 pub use Rattle.world_keeps_pairing.proofs.Turns.{heard_is, other, phases_same, ready_is}
 pub use Rattle.world_keeps_pairing.proofs.Unpaired.{IsSilent, IsUnpaired, unpaired_turned, waiting_silent}
-pub use Rattle.world_keeps_pairing.proofs.UnpairedMoments.{AllBare, all_bare}
+pub use Rattle.world_keeps_pairing.proofs.UnpairedMoments.{AllBare, all_bare, mail_below}
 pub use Rattle.world_keeps_pairing.proofs.Worlds.{book_lives, book_run, world_alone, world_partners}

@@ -37,9 +37,9 @@ use Rattle.net_sim.specs.Story.{Asked, Crossed, IsStory, Moment, event_in, event
 use Rattle.net_sim.specs.Timeline.{Happens, IsTimeline, crossings_of}
 use Rattle.net_sim.proofs.lemmas.{coupled}
 use Rattle.world_keeps_pairing.specs.Steps.{keeps}
-use Rattle.world_keeps_pairing.proofs.lemmas.{AText, AnRrp, AnRst, Sort, plain_joint, programs_ranged, served_in, sort_of}
+use Rattle.world_keeps_pairing.proofs.lemmas.{AText, AnRrp, AnRst, Sort, mail_below, plain_joint, programs_ranged, served_in, sort_of}
 use Rattle.world_keeps_streams.specs.Calls.{called, calls_by, commands_said, message_calls, next_calls, orders_heard, own_calls, owner_calls, parcel_calls, request_calls}
-use Rattle.world_keeps_streams.proofs.Calls.Chain.{chain, mail_below}
+use Rattle.world_keeps_streams.proofs.Calls.Chain.{chain}
 use Rattle.world_keeps_streams.proofs.Calls.MayAsk.{AreSized}
 use Rattle.world_keeps_streams.proofs.Calls.Sizes.{AllSizes, HasSize, history_sized, is_size, sizes_append}
 

@@ -35,7 +35,7 @@ use Rattle.net_sim.specs.Told.{kept_in}
 use Rattle.net_sim.proofs.lemmas.{coupled, program_own}
 use Rattle.world_keeps_lives.proofs.lemmas.{held}
 use Rattle.world_keeps_pairing.specs.Steps.{keeps}
-use Rattle.world_keeps_pairing.proofs.lemmas.{AText, AnRrp, AnRst, Sort, message_pair, plain_joint, sort_of}
+use Rattle.world_keeps_pairing.proofs.lemmas.{AText, AnRrp, AnRst, Sort, mail_below, message_pair, plain_joint, sort_of}
 use Rattle.world_keeps_streams.specs.Calls.{called, calls_by, message_calls, orders_heard, own_calls}
 use Rattle.world_keeps_streams.proofs.Deeds.Effects.{Among, all_lives}
 use Rattle.world_keeps_streams.proofs.Deeds.Kinds.{deed_of}
@@ -46,7 +46,7 @@ use Rattle.world_keeps_streams.proofs.Carried.Heard.{AllAllowed, AreOrdinary, Is
 use Rattle.world_keeps_streams.proofs.Carried.Moments.{kept_next, placed_first, single_next}
 use Rattle.world_keeps_streams.proofs.Carried.Owned.{since_within, told_lives}
 use Rattle.world_keeps_streams.proofs.Carried.Still.{still_next}
-use Rattle.world_keeps_streams.proofs.Calls.Chain.{chain, mail_below}
+use Rattle.world_keeps_streams.proofs.Calls.Chain.{chain}
 
 -- what a host tells its user of a message
 notices_there : (s : NcpState) (m : HostMessage) (stamp : ℕ) → same_host s.own m.flow.destination ≡ true

@@ -31,9 +31,9 @@ use Rattle.net_sim.proofs.lemmas.{coupled}
 use Rattle.world_keeps_lives.proofs.lemmas.{GoodTurn, Place, has_ends, held, waits}
 use Rattle.world_keeps_pairing.specs.Free.{origin_in}
 use Rattle.world_keeps_pairing.specs.Steps.{keeps}
-use Rattle.world_keeps_pairing.proofs.lemmas.{offered_pair, programs_ranged, served_in, some_commands}
+use Rattle.world_keeps_pairing.proofs.lemmas.{mail_below, offered_pair, programs_ranged, served_in, some_commands}
 use Rattle.world_keeps_streams.specs.Calls.{called, calls_by, commands_said, own_calls, parcel_calls}
-use Rattle.world_keeps_streams.proofs.Calls.Chain.{chain, mail_below}
+use Rattle.world_keeps_streams.proofs.Calls.Chain.{chain}
 use Rattle.world_keeps_streams.proofs.Deeds.Effects.{Among, all_lives}
 use Rattle.world_keeps_streams.proofs.Deeds.Told.{call_told}
 use Rattle.world_keeps_streams.proofs.Carried.Calls.{Carries, CarryIn, since}
