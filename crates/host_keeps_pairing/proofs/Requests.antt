@@ -31,7 +31,7 @@ use Rattle.host_keeps_pairing.proofs.Desks.{on_joined, on_queued, on_settled, st
 
 -- ---- one peer and the others
 
-peer_here : (P : PairState → Type 0) (g h : Host) (q : PairState) (peers : List Peer) → same_host h g ≡ true → P q → P (pair_with h (with_pair g q peers))
+pub peer_here : (P : PairState → Type 0) (g h : Host) (q : PairState) (peers : List Peer) → same_host h g ≡ true → P q → P (pair_with h (with_pair g q peers))
 peer_here P g h q peers e p =
     let put : pair_with h (with_pair g q peers) ≡ q = (let r : pair_with h (with_pair g q peers) ≡ cond (same_host h g) q (pair_with h peers) = pair_changed g h q peers in rw e at r) in
     subst P (sym put) p

@@ -1,5 +1,5 @@
 -- What users ask for and what is answered, and links.
-use Rattle.std.proofs.Common.{◌≡◌, ℕ, Bool, true, false, not, ◌&&◌, ◌||◌, if◌then◌else◌, cond, List, [], ◌∷◌, ◌++◌, Option, Some, None, is_some, refl, ap, sym, subst, ◌∙◌}
+use Rattle.std.proofs.Common.{◌≡◌, ℕ, Bool, true, false, not, ◌&&◌, ◌||◌, if◌then◌else◌, List, [], ◌∷◌, ◌++◌, Option, Some, None, is_some, refl, sym, subst, ◌∙◌}
 use Rattle.leader1822.specs.Host.{Host, same_host}
 use Rattle.leader1822.specs.declared.address.Flow.{Flow}
 use Rattle.leader1822.specs.declared.crossing.Answer.{Answer}
@@ -27,7 +27,8 @@ use Rattle.sockets.specs.Requests.{at_owner, closed_socket, first_if, is_taken, 
 use Rattle.sockets.specs.declared.peer.Peer.{Peer}
 use Rattle.sockets.specs.declared.request.Request.{Request}
 use Rattle.sockets.specs.declared.request.Request.TheVariants as request
-use Rattle.sockets.proofs.lemmas.{not_first, others_stay, pair_changed}
+use Rattle.sockets.proofs.lemmas.{not_first, others_stay}
+use Rattle.host_keeps_pairing.proofs.lemmas.{peer_here}
 use Rattle.world_keeps_pairing.proofs.Claims.{Claim}
 use Rattle.world_keeps_pairing.proofs.LinkDesks.{linked_settled, receiver_joined}
 use Rattle.world_keeps_pairing.proofs.LinkTurns.{send_odd}
@@ -38,9 +39,6 @@ abbrev pub LinksOf : List Claim → List Claim → PairState → Type 0
 LinksOf said taken q = Links (all_claims q.queue said) taken q.entries
 
 -- ---- which pair is changed
-
-peer_here : (P : PairState → Type 0) (g h : Host) (q : PairState) (peers : List Peer) → same_host h g ≡ true → P q → P (pair_with h (with_pair g q peers))
-peer_here P g h q peers e p = subst P (sym (pair_changed g h q peers ∙ ap (λ (b : Bool). cond b q (pair_with h peers)) e)) p
 
 kept : (P : PairState → Type 0) (g h : Host) (q : PairState) (peers : List Peer) → P (pair_with h peers) → (P (pair_with g peers) → P q) → P (pair_with h (with_pair g q peers))
 kept P g h q peers p work = by (same_host h g) refl where
