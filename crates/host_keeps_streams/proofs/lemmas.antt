@@ -8,4 +8,4 @@ pub use Rattle.host_keeps_streams.proofs.ReceiverHears.{odd_is, own_name, own_pa
 pub use Rattle.host_keeps_streams.proofs.Receivers.{accept_same, at_link, back_same, bits_there, closed_found, open_found, open_same, own_receiver}
 pub use Rattle.host_keeps_streams.proofs.SenderShuts.{due_cls}
 pub use Rattle.host_keeps_streams.proofs.Senders
-pub use Rattle.host_keeps_streams.proofs.Senders.{leaving_shut, open_same as open_same_senders}
+pub use Rattle.host_keeps_streams.proofs.Senders.{leaving_shut, open_same as open_same_senders, unopened}
