@@ -27,8 +27,6 @@ use Rattle.host_keeps_ranges.proofs.Desks.{Keeps, commands_more, ends_changed, e
 use Rattle.host_keeps_ranges.proofs.Takes.{Ranged, SomeRange, more_granted, ranged_settled, receiving_range, sending_range, some_range}
 use Rattle.host_keeps_ranges.proofs.Calls.{pair_range, with_range}
 
--- ---- no refusal
-
 -- ---- the end of a socket
 
 abbrev OwnerRange : Option (Host × Entry) → Type 0

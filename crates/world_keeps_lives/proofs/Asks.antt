@@ -38,8 +38,6 @@ use Rattle.world_keeps_lives.proofs.Hosts.{Done, Holds, IsPut, lift, lifted, nea
 use Rattle.world_keeps_lives.proofs.Owners.{owner_found, unused}
 use Rattle.world_keeps_lives.proofs.Turns.{cleared_on}
 
--- ---- no refusal
-
 -- ---- accounts
 
 granted_safe : (messages bits : ℕ) (x : Life) (t : List Bool) → IsSafe x t → IsSafe (book.granted messages bits x) t
