@@ -165,14 +165,17 @@ class Inside:
     def nothing_waits(self, host):
         """What is still in transit to a host for which nothing waits."""
         told = [f"Nothing waits for host {spell_host(host)}."]
-        coming = {}
-        for it in everything(self.subnet):
-            if (it.flow[1] if it.kind == DATA else it.flow[0]) == host:
-                coming.setdefault((it.what, it.flow, it.number), it)
-        if coming:
-            what = [it.what for it in coming.values()]
+        what = [*{it.what: None for it in everything(self.subnet) if self.is_coming(it, host)}]
+        if what:
             told.append(f"In transit to it {'is' if len(what) == 1 else 'are'} {listed(what)}.")
         return told
+
+    def is_coming(self, it, host):
+        """Whether something that is alive may still come to a host: a message that it has not taken, or an answer that it waits for."""
+        imp = self.subnet.imps[host[1]]
+        if it.kind != DATA:
+            return it.flow[0] == host and imp.outstanding.get(it.flow) == it.number
+        return it.flow[1] == host and (it.flow not in imp.kept or 1 <= (it.number - imp.kept[it.flow]) % 256 <= 127)
 
     # ---- lines
 
