@@ -1,0 +1,102 @@
+"""The sentence of each step: what the line asks for and what came of it, in the words of `explain`.
+
+What a message says is told by `decode`, and what happens inside the network by `inside`, where these are there.
+"""
+
+import host_rules
+
+try:
+    import decode
+except ImportError:
+    decode = None
+
+
+class Teller:
+    """Tells the steps of a replay in turn."""
+
+    def __init__(self, explain, network):
+        self.explain, self.network = explain, network
+        self.past = explain.Past(network.hosts(), network.is_plain())
+
+    def tell(self, step, text):
+        """The sentence of a step whose message has this text (None where it has none, or where it isn't known)."""
+        sentence = self.sentence(step)
+        self.past.see(step.number, step.words, step.printed)
+        return f"{sentence} {self.says(step, text)}".rstrip()
+
+    def sentence(self, step):
+        if step.printed is None:
+            return self.silent(step)
+        kind, *words = step.printed.split(" ")
+        if kind == "refused":
+            return f"Refused: {self.past.refusal(words[0], step.words)}"
+        return self.explain.crossing([kind, *words])
+
+    def silent(self, step):
+        first, last = step.rounds
+        if first:
+            passes = f"Round {first} passes" if first == last else f"Rounds {first} to {last} pass"
+            return f"{passes}, and nothing is printed: no host takes anything, and none is told anything."
+        return inner(step.words, self.network) or self.explain.silence(step.words)
+
+    def says(self, step, text):
+        """What a message says, as a sentence of its own."""
+        told = self.message(step, text)
+        return f"It says: {told}." if told else ""
+
+    def message(self, step, text):
+        """What the message of a step says, in words; nothing where that isn't known."""
+        if text is None or self.network.raw:
+            return ""
+        words = step.printed.split(" ")
+        return message_in_words(int(words[3]), text, int(words[4]))
+
+
+def message_in_words(link, text, bits):
+    """What a text of so many bits on a link says: its commands, or how much data it carries."""
+    if decode:
+        return decode.text_in_words(link, text, bits)
+    names = {getattr(host_rules, name): name for name in ("RST", "RRP", "RTS", "STR", "CLS", "ALL", "GVB", "RET")}
+    parts = host_rules.split(host_rules.bits_of(text)[:bits])
+    if parts is None or link != 0:
+        return f"{parts[1]} bytes of data" if parts else "malformed"
+    return names.get(text[5], "commands") if len(text) > 5 else "no commands"
+
+
+def inner(words, network):
+    """What an event inside the network does, where it prints nothing and is not refused."""
+
+    def line(number, at=None):
+        a, b = network.lines[int(number)]
+        return f"line {number}, between {network.title_of(a)} and {network.title_of(b)}"
+
+    def way(number, direction):
+        a, b = network.lines[int(number)][:: 1 if direction == "+" else -1]
+        return network.title_of(a), network.title_of(b)
+
+    match words:
+        case ["deliver", number, direction, place]:
+            a, b = way(number, direction)
+            which = "The oldest frame" if place == "0" else f"The frame at place {place}"
+            return f"{which} on line {number} from {a} to {b} arrives. It also stays on the line until it is dropped, so it may come again."
+        case ["drop", number, direction, place]:
+            a, b = way(number, direction)
+            which = "The oldest frame" if place == "0" else f"The frame at place {place}"
+            return f"{which} on line {number} from {a} to {b} is gone: it can arrive no more."
+        case ["resend", imp]:
+            return f"{network.title_of(int(imp))} sends again every packet that its neighbours have not acknowledged."
+        case ["route", imp]:
+            return f"{network.title_of(int(imp))} tells its neighbours its distances to all IMPs."
+        case ["enddown", imp, number]:
+            return f"At {network.title_of(int(imp))} the end of {line(number)}, stops. What that IMP still held for it goes back to its store and looks for another way."
+        case ["endup", imp, number]:
+            return f"At {network.title_of(int(imp))} the end of {line(number)}, starts."
+        case ["impup", imp]:
+            return f"{network.title_of(int(imp))} starts again, with empty tables. Its hosts are down until they start."
+        case ["impdown", imp]:
+            return f"{network.title_of(int(imp))} stops, and forgets all that it held."
+        case ["forget", at, other]:
+            return f"{network.title_of(int(at))} drops the last message numbers of flows from {network.title_of(int(other))}."
+        case ["abandon", source, destination, link]:
+            return f"The pieces of the message from {source} to {destination} on link {link} are thrown away, and their slot is free."
+    return ""

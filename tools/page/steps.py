@@ -1,0 +1,135 @@
+"""The steps of a replay, and the rows of the sheet on which they stand.
+
+A step is a printed line, or an event that prints nothing. `calm N` is cut into its rounds: the input is replayed with N
+times `calm 1` in its place, and the output has to stay the same. Rounds in a row that print nothing are one step.
+"""
+
+from dataclasses import dataclass
+
+MOST_ROUNDS = 400  # so many rounds of an input are cut
+MOST_STEPS = 5000  # so many steps are shown
+
+
+class Differs(Exception):
+    """Two things that have to agree do not."""
+
+
+@dataclass
+class Step:
+    """A line that was printed (None where an event prints nothing), with the event that it comes of."""
+
+    number: int  # the event's line in the file
+    words: list  # its words
+    rounds: tuple  # the first and last round of its calm, (0, 0) where it isn't cut
+    printed: str
+    is_first: bool  # of its event's steps
+    row: int = 0
+    deed: tuple = None  # what happens within a round, where that is known
+
+    def is_refused(self):
+        return self.printed is not None and self.printed.startswith("refused ")
+
+
+@dataclass
+class Row:
+    """A row of the sheet: its kind, the line's number in the file (0 for none), and what stands in the two columns.
+
+    Kinds are `comment`, `blank`, `event`, `round` (a later round of a calm), `more` (further lines that an event printed)
+    and `end`."""
+
+    kind: str
+    number: int
+    script: str
+    printed: str = ""
+
+
+# ---- the input, cut
+
+
+def cut(given):
+    """The script's events as they are replayed: the line's number, the round of its calm (0 for none), and the octets."""
+    left, events = MOST_ROUNDS, []
+    for number, line in given.script:
+        if line == b"" or line.startswith(b"#"):
+            continue
+        rounds = int(line[5:]) if line.startswith(b"calm ") else 0
+        if 1 < rounds <= left:
+            left -= rounds
+            events += [(number, place, b"calm 1") for place in range(1, rounds + 1)]
+        else:
+            events.append((number, 0, line))
+    return events
+
+
+def replayed(explain, given, program):
+    """How the program ends on an input and what it says; and the events as `cut` gives them, each with what it printed.
+
+    Beside that, whether there are more events than are shown."""
+    events = cut(given)
+    is_long = len(events) > MOST_STEPS
+    events = events[:MOST_STEPS]
+    head = given.topology() + b"\n%\n" if given.marker else b"%\n"
+    status, said, told = explain.replay(explain.Input(head + b"\n".join(line for *_, line in events) + b"\n"), program)
+    whole_status, whole_said, whole_told = whole(explain, given, program)
+    if whole_status != 0:
+        return whole_status, whole_said, [], False
+    output = [line for _, _, printed in told for line in printed]
+    if status != 0 or whole_told[: len(output)] != output or not is_long and len(whole_told) != len(output):
+        raise Differs("with each calm cut into its rounds the script does not print the same")
+    return 0, said, [(number, place, words, printed) for (number, place, _), (_, words, printed) in zip(events, told)], is_long
+
+
+def whole(explain, given, program):
+    """How the program ends on the whole input, what it says, and the lines that it prints before the last."""
+    run = explain.answers(program, [given.octets]) if program else explain.answers_without_proofs([given.octets])
+    ((status, output, said),) = run
+    return status, said, output.decode().splitlines()[:-1]
+
+
+# ---- steps and rows
+
+
+def steps_of(events):
+    """The steps of what `replayed` gives."""
+    steps, seen = [], None
+    for number, place, words, printed in events:
+        last = steps[-1] if steps else None
+        words = ["calm", "1"] if place else words
+        if place and not printed and last and last.number == number and last.printed is None:
+            last.rounds = (last.rounds[0], place)
+            continue
+        for line in printed or [None]:
+            steps.append(Step(number, words, (place, place), line, number != seen))
+            seen = number
+    return steps
+
+
+def rows_of(explain, given, steps, is_long):
+    """The sheet's rows. Each step gets the place of its row."""
+    of_line, rows = {}, []
+    for step in steps:
+        of_line.setdefault(step.number, []).append(step)
+    shown = [it for it in given.script if not is_long or it[0] <= steps[-1].number]
+    for number, line in shown:
+        text = explain.shown(line, None)
+        if number not in of_line:
+            rows.append(Row("comment" if line else "blank", number, text.lstrip("# ") if line else ""))
+            continue
+        place = None
+        for step in of_line[number]:
+            step.row = len(rows)
+            if step.is_first:
+                rows.append(Row("event", number, explain.shown(line), step.printed or ""))
+            elif step.rounds != place and step.rounds[0]:
+                rows.append(Row("round", 0, round_in_words(step.rounds), step.printed or ""))
+            else:
+                rows.append(Row("more", 0, "", step.printed or ""))
+            place = step.rounds
+    if not is_long:
+        rows.append(Row("end", 0, "", "end"))
+    return rows
+
+
+def round_in_words(rounds):
+    first, last = rounds
+    return f"round {first}" if first == last else f"rounds {first} to {last}"
