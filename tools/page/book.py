@@ -50,9 +50,14 @@ def lives_of(lines, steps):
         life.asked = places[life.own][0] if life.own < len(places) else None
     for at, one in enumerate(lives):
         for other, two in enumerate(lives):
-            if at < other and outs.get(one.partner) == two.own and outs.get(two.partner) == one.own:
+            if at < other and are_ends(one, two) and outs.get(one.partner) == two.own and outs.get(two.partner) == one.own:
                 one.match, two.match = other, at
     return lives
+
+
+def are_ends(one, two):
+    """Whether two lives name each other's sockets."""
+    return (one.host, one.socket, one.peer, one.foreign) == (two.peer, two.foreign, two.host, two.socket)
 
 
 def crossings(steps):

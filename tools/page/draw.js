@@ -22,7 +22,6 @@ function draw(parent, tag, attributes, text) {
 
 const ROW = { comment: 0, blank: 1, event: 2, round: 3, more: 4, end: 5 };
 const ROW_CLASS = ["comment", "blank", "event", "round", "more", "end"];
-const MARGIN = 182; // for words beside the first and the last lane
 const LEAST_GAP = 112; // between lanes; with more than fit so, the chart follows the step
 
 /** The sheet of a replay in a place of the page. */
@@ -49,12 +48,18 @@ function makeSheet(data, place, goTo) {
   laneHeads.addEventListener("wheel", (event) => sheet.moveBy(event.deltaX || event.deltaY), { passive: true });
   body.addEventListener("wheel", (event) => { if (event.deltaX) sheet.moveBy(event.deltaX); }, { passive: true });
 
+  /** The room that words need on the left of the first lane, or on the right of the last one. */
+  function margin(lane, isLeft) {
+    const here = data.marks.filter((mark) => mark[1] === lane && isLeftOf(data, mark) === isLeft);
+    return here.reduce((most, mark) => Math.max(most, 22 + 6.3 * words[mark[3]].length), 24);
+  }
+  const first = margin(0, true), last = margin(data.lanes.length - 1, false);
+
   /** Where the lanes stand in a chart of this room. */
   function layLanes(room) {
     const count = data.lanes.length;
-    const gap = count > 1 ? Math.min(260, Math.max(LEAST_GAP, (room - 2 * MARGIN) / (count - 1))) : 0;
-    sheet.width = Math.max(2 * MARGIN + gap * (count - 1), Math.min(room, 420));
-    const first = (sheet.width - gap * (count - 1)) / 2;
+    const gap = count > 1 ? Math.min(280, Math.max(LEAST_GAP, (room - first - last) / (count - 1))) : 0;
+    sheet.width = Math.max(first + last + gap * (count - 1), Math.min(room, 300));
     sheet.xs = data.lanes.map((_, at) => first + gap * at);
     sheet.room = room;
     laneHeads.replaceChildren();
@@ -135,7 +140,7 @@ function makeSheet(data, place, goTo) {
     for (const mark of data.marks) if (mark[0] === row) { lanes.add(mark[1]); if (mark[4] >= 0) lanes.add(mark[4]); }
     if (!lanes.size) return;
     const xs = [...lanes].map((lane) => sheet.xs[lane]);
-    const low = Math.min(...xs) - MARGIN + 10, high = Math.max(...xs) + MARGIN - 10;
+    const low = Math.min(...xs) - Math.min(first, 160), high = Math.max(...xs) + Math.min(last, 160);
     if (low >= sheet.shift && high <= sheet.shift + sheet.room) return;
     const own = sheet.xs[data.marks.find((mark) => mark[0] === row)[1]];
     const fits = high - low <= sheet.room;
@@ -209,9 +214,14 @@ function head(group, kind, x, y, turn) {
   draw(group, "path", { class: open ? "open head" : "head", d: `M${at(9, 4)}L${at(0, 0)}L${at(9, -4)}${open ? "" : "z"}` });
 }
 
+/** Whether the words of a mark stand on the left of its lane: they look away from the other host. */
+function isLeftOf(data, [, lane, , , other]) {
+  return other >= 0 ? other > lane : lane === 0 && data.lanes.length > 1;
+}
+
 function drawMark(svg, data, sheet, [row, lane, kind, text, other], middle) {
   const x = sheet.xs[lane], y = middle(row);
-  const isLeft = other >= 0 ? other > lane : lane === 0 && sheet.xs.length > 1;
+  const isLeft = isLeftOf(data, [row, lane, kind, text, other]);
   draw(svg, "circle", { class: `dot k${kind}`, cx: x, cy: y, r: 3.2 });
   const at = { class: `word k${kind}`, x: isLeft ? x - 10 : x + 10, y: y + 4, "text-anchor": isLeft ? "end" : "start" };
   draw(svg, "text", at, data.words[text]);

@@ -49,7 +49,7 @@ class Fold:
         self.is_up = {host: True for host in network.hosts()}
         self.ready = {host: [] for host in network.hosts()}
         self.flows, self.past, self.connections = {}, [], []
-        self.line_at_terminal = {}
+        self.stopped = set()  # IMPs, and ends of lines as IMP and line
 
     def see(self, place, step):
         """Takes note of a step, whose place is its number from 1."""
@@ -85,7 +85,14 @@ class Fold:
                     it.signs.append((place, "grant"))
             case ["contact", host, peer]:
                 self.unready(host, peer)
+            case ["enddown", imp, line]:
+                self.stopped.add((int(imp), int(line)))
+            case ["endup", imp, line]:
+                self.stopped.discard((int(imp), int(line)))
+            case ["impup", imp]:
+                self.stopped = {it for it in self.stopped if int(imp) not in (it, it[0] if isinstance(it, tuple) else 0)}
             case ["impdown", imp]:
+                self.stopped.add(int(imp))
                 for name in [it for it in self.flows if it.split(" ")[0].endswith(f"/{imp}")]:
                     self.free(place, name)
 
@@ -184,6 +191,8 @@ class Fold:
         state = {f"u {host}": "up" if is_up else "down" for host, is_up in self.is_up.items()}
         state |= {f"r {host}": ", ".join(peers) for host, peers in self.ready.items()}
         state |= {f"f {name}": f"{flow.state}|{flow.bits}" for name, flow in self.flows.items()}
+        for it in self.stopped:
+            state[f"e {it[0]} {it[1]}" if isinstance(it, tuple) else f"p {it}"] = "down"
         for place, it in enumerate(self.connections):
             counts = [it.messages, it.bits, *it.granted, *it.returned]
             state[f"c {place}"] = "|".join([*map(str, counts), "ended" if it.ended else "open"])

@@ -202,6 +202,9 @@ def spread(boxes, gap):
 def gaps(box, number, imps, lines):
     """The free sectors round an IMP between its lines: their beginnings and widths, the widest first."""
     far = [imps[b if a == number else a] for a, b in lines if number in (a, b)]
+    if not far and len(imps) > 1:  # plain mailboxes have no lines: hosts stand on the outer side
+        others = [it for other, it in imps.items() if other != number]
+        far = [Box(sum(it.x for it in others) / len(others), sum(it.y for it in others) / len(others), 0, 0)]
     turns = sorted(math.atan2(it.y - box.y, it.x - box.x) for it in far)
     if not turns:
         return [(math.pi / 2, 2 * math.pi)]

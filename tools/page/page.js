@@ -125,6 +125,7 @@ function makeAxis(views, place, last, stepsOf, goTo) {
 
 function drawBar(svg, from, to, y, how) {
   if (how === "asked") draw(svg, "line", { class: "asked", x1: from, x2: to, y1: y + 6, y2: y + 6 });
+  else if (how === "taken") draw(svg, "line", { class: "bar taken", x1: from, x2: to, y1: y + AXIS.bar / 2, y2: y + AXIS.bar / 2 });
   else draw(svg, "rect", { class: `bar ${how}`, x: from, y, width: Math.max(1.5, to - from), height: AXIS.bar, rx: 2 });
 }
 
@@ -215,15 +216,17 @@ function start(replays, pairs) {
     event.preventDefault();
     deeds[event.key]();
   });
-  const button = (text, name, key) => {
-    const it = el("button", "", text);
+  const button = (shape, name, key) => {
+    const it = el("button");
+    draw(draw(it, "svg", { width: 16, height: 12, viewBox: "0 0 16 12", "aria-hidden": "true" }), "path", { d: shape });
     it.title = it.ariaLabel = name;
     it.addEventListener("click", () => { deeds[key](); it.blur(); });
     return it;
   };
   play.addEventListener("click", () => { player.play(); play.blur(); });
-  nav.append(button("⏮", "first", "Home"), button("⏪", "line before", "ArrowUp"), button("◀", "step before", "ArrowLeft"), play,
-    button("▶", "next step", "ArrowRight"), button("⏩", "next line", "ArrowDown"), button("⏭", "last", "End"), count);
+  nav.append(button("M2 0h2v12h-2zM14 0v12L5 6z", "to the beginning", "Home"), button("M8 0v12L0 6zM16 0v12L8 6z", "script line before", "ArrowUp"),
+    button("M12 0v12L4 6z", "step before", "ArrowLeft"), play, button("M4 0v12L12 6z", "next step", "ArrowRight"),
+    button("M0 0v12L8 6zM8 0v12L16 6z", "next script line", "ArrowDown"), button("M2 0v12L11 6zM12 0h2v12h-2z", "to the end", "End"), count);
 
   const layOut = () => { views.forEach((view) => view.layOut()); axis.layOut(); };
   const again = () => { const step = player.step; player.step = -1; player.go(step); };

@@ -83,7 +83,7 @@ function makeMap(data, place) {
       }
       arcs.replaceChildren();
       labels.replaceChildren();
-      drawArcs(arcs, labels, state, hosts, [...fixed]);
+      drawArcs(arcs, labels, state, hosts, [...fixed], map);
       if (data.inside) showInside(inside, state, map, imps);
     },
   };
@@ -119,7 +119,7 @@ function hostSign(svg, name, at, isDot) {
 }
 
 /** An arc for the messages between two hosts that have no answer yet. */
-function drawArcs(arcs, labels, state, hosts, taken) {
+function drawArcs(arcs, labels, state, hosts, taken, size) {
   const groups = new Map();
   for (const flow of flowsOf(state)) {
     const key = `${flow.source} ${flow.destination} ${flow.what === "waits" ? "way" : "answer"}`;
@@ -133,7 +133,7 @@ function drawArcs(arcs, labels, state, hosts, taken) {
     const far = Math.hypot(b.x - a.x, b.y - a.y) || 1;
     const bend = how === "way" ? 0.24 : 0.15;
     const nx = (b.y - a.y) / far, ny = -(b.x - a.x) / far;
-    const lift = a === b ? 46 : Math.min(90, far * bend + 14);
+    const lift = a === b ? 46 : Math.min(90, far * bend + 14, roomFor(a, b, nx, ny, size));
     const c = { x: (a.x + b.x) / 2 + nx * lift * 2, y: (a.y + b.y) / 2 + (a === b ? -2 * lift : ny * lift * 2) };
     const path = a === b ? `M${a.x - 8} ${a.y - 12}C${a.x - 40} ${a.y - 62} ${a.x + 40} ${a.y - 62} ${a.x + 8} ${a.y - 12}` : `M${a.x} ${a.y}Q${c.x} ${c.y} ${b.x} ${b.y}`;
     draw(arcs, "path", { class: `arc ${how}`, d: path });
@@ -141,6 +141,14 @@ function drawArcs(arcs, labels, state, hosts, taken) {
     const text = links.length > 3 ? `${links.length} links` : links.join(", ");
     arcLabel(labels, a, b, c, text, how, taken);
   }
+}
+
+/** How far an arc may rise from the middle between its ends, so that it stays in the drawing. */
+function roomFor(a, b, nx, ny, size) {
+  const x = (a.x + b.x) / 2, y = (a.y + b.y) / 2, edge = 12;
+  const across = nx > 0.01 ? (size.w - edge - x) / nx : nx < -0.01 ? (edge - x) / nx : 1e9;
+  const down = ny > 0.01 ? (size.h - edge - y) / ny : ny < -0.01 ? (edge - y) / ny : 1e9;
+  return Math.max(16, Math.min(across, down));
 }
 
 function arcLabel(labels, a, b, c, text, how, taken) {
