@@ -2,7 +2,7 @@
 
 import re
 
-from page import axis, book, chart, document, fold, layout, sentences, steps, texts, topology
+from page import axis, book, chart, document, fold, layout, sentences, steps, texts, topology, within
 
 INTRO_SHOWN = 400  # so many characters of the script's first comment stand below the title
 
@@ -17,14 +17,15 @@ def data_of(explain, given, program, name="", with_inside=False):
     if status != 0:
         raise Refused(status, said)
     network = topology.read(given.topology())
-    told = steps.steps_of(events)
+    with_inside = with_inside and not network.is_plain()
+    told = steps.steps_within(events, within.Within(network)) if with_inside else steps.steps_of(events)
     is_long = is_long or len(told) > steps.MOST_STEPS
     told = told[: steps.MOST_STEPS]
     printed = [step.printed for step in told if step.printed is not None]
     found, source = texts.texts_of(explain, given, network, program, printed)
     rows = steps.rows_of(explain, given, told, is_long)
     lives = lives_of(explain, given, network, program, told, is_long)
-    return Data(explain, given, network, told, rows, found, lives).whole(name, source, is_long)
+    return Data(explain, given, network, told, rows, found, lives).whole(name, notes(network, source, is_long, len(told), with_inside))
 
 
 def lives_of(explain, given, network, program, told, is_long):
@@ -54,14 +55,14 @@ class Data:
             self.words.append(text)
         return self.place_of_word[text]
 
-    def whole(self, name, source, is_long):
+    def whole(self, name, told):
         drawn = chart.Chart(self.network, self.told, self.teller)
         begin = self.fold.shown()
         lines, before = [], begin
         for place, (step, text) in enumerate(zip(self.told, self.texts), 1):
             drawn.see(step, text)
             self.fold.see(place, step)
-            after = self.fold.shown()
+            after = {**self.fold.shown(), **(step.inside or {})}
             lines.append(self.step(step, text, fold.changes(before, after)))
             before = after
         drawn.finish(len(self.rows))
@@ -72,7 +73,8 @@ class Data:
             "title": title,
             "intro": intro,
             "facts": facts(self.network, len({step.number for step in self.told})),
-            "notes": notes(self.network, source, is_long, len(self.told)),
+            "notes": told,
+            "inside": any(step.inside is not None for step in self.told),
             "plain": self.network.is_plain(),
             "raw": self.network.raw,
             "rows": [[KINDS[row.kind], row.number, self.word(row.script), self.word(row.printed)] for row in self.rows],
@@ -138,7 +140,7 @@ def facts(network, events):
     return f"{carrier}, {hosts} · {', '.join(parts)} · {counted(events, 'event')}"
 
 
-def notes(network, source, is_long, count):
+def notes(network, source, is_long, count, with_inside):
     """What the page rests on and what it leaves out, as sentences."""
     told = []
     if is_long:
@@ -147,6 +149,11 @@ def notes(network, source, is_long, count):
         told.append("What messages say is from the independent model in Python, all of whose lines were the same as the program's.")
     if not network.raw and source == texts.UNKNOWN:
         told.append("What messages say is not known here.")
+    if with_inside:
+        told.append(
+            "Frames on lines and what IMPs hold are from the independent model in Python, not from the proved program. "
+            "Each line that the model printed was compared with the program's on this input, and all were the same."
+        )
     return told
 
 

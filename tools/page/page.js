@@ -1,8 +1,6 @@
 "use strict";
 // The page: its head, one or two replays, the time axis, and the step that all of them show.
 
-const SAID = { event: "line", round: "round" };
-
 /** What happens in a step, in the words of script and output. */
 function whatOf(data, step) {
   if (!step) return [];
@@ -10,7 +8,8 @@ function whatOf(data, step) {
   const script = data.rows.find((it) => it[1] === number && it[0] === ROW.event);
   const printed = data.words[data.rows[row][3]];
   const parts = [`line ${number} `, el("b", "", data.words[script[2]])];
-  if (round) parts.push(`, ${data.words[data.rows[row][2]].startsWith("round") ? data.words[data.rows[row][2]] : `round ${round}`}`);
+  const place = data.words[data.rows[row][2]];
+  if (round) parts.push(`, ${place.startsWith("round") ? place : `round ${round}${data.rows[row][0] === ROW.more ? place : ""}`}`);
   return [...parts, printed ? " prints " : " prints nothing", printed ? el("b", "", printed) : ""];
 }
 

@@ -26,10 +26,10 @@ class Teller:
 
     def sentence(self, step):
         if step.printed is None:
-            return self.silent(step)
+            return " ".join(step.told) if step.told else self.silent(step)
         kind, *words = step.printed.split(" ")
         if kind == "refused":
-            return f"Refused: {self.past.refusal(words[0], step.words)}"
+            return f"Refused: {' '.join(step.told) if step.told else self.past.refusal(words[0], step.words)}"
         return self.explain.crossing([kind, *words])
 
     def silent(self, step):

@@ -161,6 +161,73 @@ function arcLabel(labels, a, b, c, text, how, taken) {
   draw(labels, "text", { class: how, x: box.x, y: box.y + 4, "text-anchor": "middle" }, text);
 }
 
+// ---- what is inside
+
+const FRAME = { d: "data", R: "rfnm", X: "dead", r: "routes", a: "ack" };
+
+/** The frames on each line: small signs beside it, in the direction in which they go. */
+function showInside(group, state, map, imps) {
+  group.replaceChildren();
+  map.lines.forEach(([a, b], line) => {
+    for (const way of "+-") {
+      const frames = (state.get(`l ${line} ${way}`) || "").split("|").filter((it) => it);
+      if (!frames.length) continue;
+      const [one, two] = way === "+" ? [imps.get(a), imps.get(b)] : [imps.get(b), imps.get(a)];
+      const far = Math.hypot(two.x - one.x, two.y - one.y), ux = (two.x - one.x) / far, uy = (two.y - one.y) / far;
+      const most = Math.max(1, Math.floor((far - 90) / 13)), shown = frames.slice(0, most);
+      shown.forEach((it, at) => {
+        const along = far / 2 + (shown.length / 2 - at - 0.5) * 13;
+        frameSign(group, one.x + ux * along - uy * 10, one.y + uy * along + ux * 10, it, Math.atan2(uy, ux));
+      });
+    }
+  });
+}
+
+function frameSign(group, x, y, frame, turn) {
+  const degrees = (turn * 180) / Math.PI;
+  const it = draw(group, "path", { class: `frame ${FRAME[frame[0]]}`, d: "M-5 -4h6l4 4l-4 4h-6z", transform: `translate(${x.toFixed(1)} ${y.toFixed(1)}) rotate(${degrees.toFixed(0)})` });
+  draw(it, "title", {}, frameInWords(frame));
+}
+
+function frameInWords(frame) {
+  return { r: "a table of distances", a: "an acknowledgement" }[frame] || frame.slice(1);
+}
+
+/** Equal words once each, with how often they stand there. */
+function counted(list) {
+  const found = new Map();
+  for (const it of list) found.set(it, (found.get(it) || 0) + 1);
+  return [...found].map(([it, count]) => (count > 1 ? `${it} (${count} times)` : it));
+}
+
+/** The table of what is inside. */
+function makeInside(data, place) {
+  const table = makeTable(place, "Inside the network", ["where", "what is there"]);
+  const title = (number) => data.map.imps.find((it) => it[0] === number)[5] || `IMP ${number}`;
+  return {
+    show(state, marks) {
+      const rows = [];
+      for (const [number] of data.map.imps) {
+        const held = state.get(`i ${number}`);
+        rows.push([`i ${number}`, "", [title(number), held ? parts(counted(held.split("|")), "held") : el("span", "none", state.get(`p ${number}`) ? "down" : "holds nothing")]]);
+      }
+      data.map.lines.forEach(([a, b], line) => {
+        for (const way of "+-") {
+          const frames = state.get(`l ${line} ${way}`);
+          if (!frames) continue;
+          const [one, two] = way === "+" ? [a, b] : [b, a];
+          rows.push([`l ${line} ${way}`, "", [`line ${line}: ${title(one)} → ${title(two)}`, parts(counted(frames.split("|").map(frameInWords)), "frame-words")]]);
+        }
+      });
+      table.show(rows, marks);
+    },
+  };
+}
+
+function parts(texts, cls) {
+  return texts.map((text) => el("div", cls, text));
+}
+
 // ---- the tables
 
 /** A table whose cells are made anew for each step; what changed is marked. */

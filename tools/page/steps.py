@@ -24,7 +24,9 @@ class Step:
     printed: str
     is_first: bool  # of its event's steps
     row: int = 0
-    deed: tuple = None  # what happens within a round, where that is known
+    deed: list = None  # within a round: the event that it is, where that is known
+    told: list = None  # sentences of what happens inside
+    inside: dict = None  # what is inside then
 
     def is_refused(self):
         return self.printed is not None and self.printed.startswith("refused ")
@@ -89,6 +91,24 @@ def whole(explain, given, program):
 # ---- steps and rows
 
 
+def steps_within(events, within):
+    """The steps with what is inside: of a round each line that is printed and each packet that arrives is one."""
+    steps, seen = [], None
+    for number, place, words, printed in events:
+        deeds = within.event(number, words, printed)
+        for deed in deeds:
+            last = steps[-1] if steps else None
+            is_silent = place and deed.printed is None and deed.words[0] == "calm"
+            if is_silent and last and last.number == number and last.deed is None and last.inside == deed.state and last.printed is None:
+                last.rounds = (last.rounds[0], place)
+                continue
+            part = deed.words if place and deed.words[0] != "calm" else None
+            words = ["calm", "1"] if place else words
+            steps.append(Step(number, words, (place, place), deed.printed, number != seen, 0, part, deed.told, deed.state))
+            seen = number
+    return steps
+
+
 def steps_of(events):
     """The steps of what `replayed` gives."""
     steps, seen = [], None
@@ -121,13 +141,18 @@ def rows_of(explain, given, steps, is_long):
             if step.is_first:
                 rows.append(Row("event", number, explain.shown(line), step.printed or ""))
             elif step.rounds != place and step.rounds[0]:
-                rows.append(Row("round", 0, round_in_words(step.rounds), step.printed or ""))
+                rows.append(Row("round", 0, f"{round_in_words(step.rounds)}{part_in_words(step)}", step.printed or ""))
             else:
-                rows.append(Row("more", 0, "", step.printed or ""))
+                rows.append(Row("more", 0, part_in_words(step), step.printed or ""))
             place = step.rounds
     if not is_long:
         rows.append(Row("end", 0, "", "end"))
     return rows
+
+
+def part_in_words(step):
+    """What stands in the script's column for a packet that arrives within a round."""
+    return f" · line {step.deed[1]} {step.deed[2]}" if step.deed and step.deed[0] == "deliver" else ""
 
 
 def round_in_words(rounds):
