@@ -2,6 +2,9 @@
 
 A step is a printed line, or an event that prints nothing. `calm N` is cut into its rounds: the input is replayed with N
 times `calm 1` in its place, and the output has to stay the same. Rounds in a row that print nothing are one step.
+
+Which event printed what is seen from a run with a mark behind each event. Where an event's own line looks like a mark, the
+program is run once for each event instead, as `explain` does.
 """
 
 from dataclasses import dataclass
@@ -70,22 +73,48 @@ def replayed(explain, given, program):
     events = cut(given)
     is_long = len(events) > MOST_STEPS
     events = events[:MOST_STEPS]
-    head = given.topology() + b"\n%\n" if given.marker else b"%\n"
-    status, said, told = explain.replay(explain.Input(head + b"\n".join(line for *_, line in events) + b"\n"), program)
-    whole_status, whole_said, whole_told = whole(explain, given, program)
-    if whole_status != 0:
-        return whole_status, whole_said, [], False
-    output = [line for _, _, printed in told for line in printed]
-    if status != 0 or whole_told[: len(output)] != output or not is_long and len(whole_told) != len(output):
+    head = given.topology() + b"\n%\n" if given.marker is not None else b"%\n"
+    lines = [line for *_, line in events]
+    inputs = [given.octets, *(head + b"".join(it + b"\n" for it in some) for some in (lines, marked(lines)))]
+    run = explain.answers(program, inputs) if program else explain.answers_without_proofs(inputs)
+    (status, whole, said), (_, parts, _), (_, apart, _) = run
+    if status != 0:
+        return status, said, [], False
+    whole, parts, apart = ([line.decode() for line in it.splitlines()] for it in (whole, parts, apart))
+    if whole != parts if not is_long else whole[: len(parts) - 1] != parts[:-1]:
         raise Differs("with each calm cut into its rounds the script does not print the same")
-    return 0, said, [(number, place, words, printed) for (number, place, _), (_, words, printed) in zip(events, told)], is_long
+    printed = tied(apart, parts) or tied_by_runs(explain, inputs[1], program)
+    return 0, said, [(number, place, line.decode().split(" "), it) for (number, place, line), it in zip(events, printed)], is_long
 
 
-def whole(explain, given, program):
-    """How the program ends on the whole input, what it says, and the lines that it prints before the last."""
-    run = explain.answers(program, [given.octets]) if program else explain.answers_without_proofs([given.octets])
-    ((status, output, said),) = run
-    return status, said, output.decode().splitlines()[:-1]
+def marked(lines):
+    """The events, each with an event behind it that is refused in every network, and so prints `MARK` and changes nothing."""
+    return [it for line in lines for it in (line, b"hostdown 3/63")]
+
+
+MARK = "refused NoSuch"  # there is no IMP 63
+
+
+def tied(apart, parts):
+    """What each event printed, by the output with marks; None where an event itself prints what marks print, or none can be told."""
+    if MARK in parts or apart[-1:] != ["end"]:
+        return None
+    printed = [[]]
+    for line in apart[:-1]:
+        if line == MARK:
+            printed.append([])
+        else:
+            printed[-1].append(line)
+    is_whole = printed.pop() == [] and [line for it in printed for line in it] == parts[:-1]
+    return printed if is_whole else None
+
+
+def tied_by_runs(explain, octets, program):
+    """The same by one run of the program for each event."""
+    status, _, told = explain.replay(explain.Input(octets), program)
+    if status != 0:
+        raise Differs("with each calm cut into its rounds the script does not run")
+    return [printed for _, _, printed in told]
 
 
 # ---- steps and rows

@@ -46,9 +46,9 @@ class Within:
         if words[0] == "calm":
             deeds = [deed for _ in range(int(words[1])) for deed in self.round()]
         else:
-            lines, told = self.model.happen(asked)
+            told = self.model.happen(asked)
             state = self.state()
-            deeds = [Deed(words, line, told if at == 0 else [], state) for at, line in enumerate(lines or [None])]
+            deeds = [Deed(words, line, told.sentences if at == 0 else [], state) for at, line in enumerate(told.printed or [None])]
         if self.place.printed[before:] != printed:
             raise Differs(f"at line {number} the independent model prints {self.place.printed[before:]}, and the program {printed}")
         return deeds
