@@ -5,7 +5,9 @@ from. Each arrow is `[kind, row, lane, row, lane]`: a message, or an answer. A m
 one that found its host dead or was given up in a cross.
 """
 
-MOST_WORDS = 30  # so many characters stand at a lane
+import re
+
+MOST_WORDS = 34  # so many characters stand at a lane
 
 SAYS = {
     "ready": "ready with {0}", "contactfailed": "contact with {0} failed", "pairreset": "reset with {0}",
@@ -69,7 +71,7 @@ class Chart:
                 self.arrows.append(arrow)
                 self.sent[source, destination, link] = [arrow, None]
             case "in", [source, destination, link, bits]:
-                self.mark(row, lane, "i", f"takes {self.says(step, text)}", self.place.get(source))
+                self.mark(row, lane, "i", f"takes {shortened(self.says(step, text))}", self.place.get(source))
                 if sent := self.sent.get((source, destination, link)):
                     sent[0][3], sent[1] = row, (row, lane)
             case "answer", [answer, source, destination, link]:
@@ -120,6 +122,12 @@ class Chart:
     def finish(self, rows):
         """Hosts that are still down stay so to the last row."""
         self.down += [[self.place[host], row, rows] for host, row in self.is_down.items()]
+
+
+def shortened(told):
+    """What a message says, where it stands in full at the other end of its arrow: the commands' names, or how much data."""
+    names = re.findall(r"\b[A-Z]{3}\b", told)
+    return ", ".join(names) if names else told.split(" of ")[0].split(":")[0].split(", link")[0]
 
 
 def notice(kind, words):

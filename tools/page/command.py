@@ -15,11 +15,23 @@ def main(explain, words):
     if words.count("--page") > 1 or words.count("--inside") > 1 or len(others) > 1 or any(it.startswith("-") for it in others):
         print(USAGE, file=sys.stderr)
         return 1
-    given, program = explain.Input(sys.stdin.buffer.read()), explain.kept_program()
+    inputs = [(explain.Input(sys.stdin.buffer.read()), name_of_input())]
+    for path in others:
+        try:
+            with open(path, "rb") as file:
+                inputs.insert(0, (explain.Input(file.read()), os.path.basename(path)))
+        except OSError as fault:
+            print(f"explain: {path}: {fault.strerror}", file=sys.stderr)
+            return 1
+    return written(explain, inputs, with_inside)
+
+
+def written(explain, inputs, with_inside):
+    """Writes the page of these inputs. The exit status."""
     try:
-        text = make.page(explain, given, program, name_of_input(), with_inside)
+        text = make.page(explain, inputs, explain.kept_program(), with_inside)
     except make.Refused as refused:
-        status, said = refused.args
+        given, status, said = refused.args
         print(f"explain: the program says: {said.strip()} (status {status}).\n{explain.diagnose(given, said)}", file=sys.stderr)
         return status
     except (explain.CannotTell, steps.Differs, topology.Unreadable) as why:

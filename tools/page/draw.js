@@ -20,8 +20,8 @@ function draw(parent, tag, attributes, text) {
   return it;
 }
 
-const ROW = { comment: 0, blank: 1, event: 2, round: 3, more: 4, end: 5 };
-const ROW_CLASS = ["comment", "blank", "event", "round", "more", "end"];
+const ROW = { comment: 0, blank: 1, event: 2, round: 3, more: 4, end: 5, gap: 6 };
+const ROW_CLASS = Object.keys(ROW);
 const LEAST_GAP = 112; // between lanes; with more than fit so, the chart follows the step
 
 /** The sheet of a replay in a place of the page. */
@@ -37,6 +37,7 @@ function makeSheet(data, place, goTo) {
   const band = el("div", "band");
   const veil = el("div", "veil");
   scroll.tabIndex = -1;
+  sheet.scroll = scroll;
   for (const [cls, text] of [["n", "line"], ["s", "script"], ["p", "printed"]]) heads.append(el("span", cls, text));
   heads.append(laneHeads);
   place.append(heads, scroll);
@@ -94,8 +95,8 @@ function makeSheet(data, place, goTo) {
   };
 
   function rowElement(row, paper) {
-    const [kind, number, script, printed] = data.rows[row];
-    const it = el("div", `row ${ROW_CLASS[kind]}`);
+    const [kind, number, script, printed, changed] = data.rows[row];
+    const it = el("div", `row ${ROW_CLASS[kind]}${changed ? " changed" : ""}`);
     const step = stepOfRow.get(row);
     if (step) it.dataset.step = step;
     it.append(el("span", "n", number || ""), el("span", "s", words[script]));

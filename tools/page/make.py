@@ -2,20 +2,20 @@
 
 import re
 
-from page import axis, book, chart, document, fold, layout, sentences, steps, texts, topology, within
+from page import axis, book, chart, document, fold, layout, pairs, sentences, steps, texts, topology, within
 
 INTRO_SHOWN = 400  # so many characters of the script's first comment stand below the title
 
 
 class Refused(Exception):
-    """The program refuses the input: its status and its words."""
+    """The program refuses an input: the input, the status and its words."""
 
 
 def data_of(explain, given, program, name="", with_inside=False):
     """What the browser needs of one replay, as lists and texts."""
     status, said, events, is_long = steps.replayed(explain, given, program)
     if status != 0:
-        raise Refused(status, said)
+        raise Refused(given, status, said)
     network = topology.read(given.topology())
     with_inside = with_inside and not network.is_plain()
     told = steps.steps_within(events, within.Within(network)) if with_inside else steps.steps_of(events)
@@ -160,12 +160,15 @@ def notes(network, source, is_long, count, with_inside):
 def map_of(network):
     """The map: its size, IMPs with place, size and title, hosts with place, and lines."""
     places = layout.placed(network)
-    imps = [[number, box.x, box.y, box.half_width, box.half_height, network.names.get(number, "")] for number, box in places.imps.items()]
+    imps = [[number, box.x, box.y, box.half_width, box.half_height, network.names.get(number, "")] for number, box in sorted(places.imps.items())]
     hosts = [[name, box.x, box.y, box.half_width] for name, box in places.hosts.items()]
     lines = [] if network.is_plain() else network.lines
     return {"w": places.width, "h": places.height, "imps": imps, "hosts": hosts, "lines": lines, "dots": places.has_dots}
 
 
-def page(explain, given, program, name="", with_inside=False):
-    """The whole text of the page."""
-    return document.text([data_of(explain, given, program, name, with_inside)])
+def page(explain, inputs, program, with_inside=False):
+    """The whole text of the page of one input, or of two beside each other: each is an input and its file's name."""
+    replays = [data_of(explain, given, program, name, with_inside) for given, name in inputs]
+    if len(replays) == 1:
+        return document.text(replays)
+    return document.text(*pairs.beside(*replays))

@@ -227,6 +227,11 @@ function start(replays, pairs) {
     button("M12 0v12L4 6z", "step before", "ArrowLeft"), play, button("M4 0v12L12 6z", "next step", "ArrowRight"),
     button("M0 0v12L8 6zM8 0v12L16 6z", "next script line", "ArrowDown"), button("M2 0v12L11 6zM12 0h2v12h-2z", "to the end", "End"), count);
 
+  if (isPair) {
+    const [one, two] = views.map((view) => view.sheet.scroll);
+    one.addEventListener("scroll", () => { two.scrollTop = one.scrollTop; });
+    two.addEventListener("scroll", () => { one.scrollTop = two.scrollTop; });
+  }
   const layOut = () => { views.forEach((view) => view.layOut()); axis.layOut(); };
   const again = () => { const step = player.step; player.step = -1; player.go(step); };
   layOut();

@@ -170,9 +170,9 @@ def rows_of(explain, given, steps, is_long):
             if step.is_first:
                 rows.append(Row("event", number, explain.shown(line), step.printed or ""))
             elif step.rounds != place and step.rounds[0]:
-                rows.append(Row("round", 0, f"{round_in_words(step.rounds)}{part_in_words(step)}", step.printed or ""))
+                rows.append(Row("round", 0, ", ".join(filter(None, [round_in_words(step.rounds), part_in_words(step)])), step.printed or ""))
             else:
-                rows.append(Row("more", 0, part_in_words(step), step.printed or ""))
+                rows.append(Row("more", 0, f"  {part_in_words(step)}".rstrip(), step.printed or ""))
             place = step.rounds
     if not is_long:
         rows.append(Row("end", 0, "", "end"))
@@ -181,7 +181,7 @@ def rows_of(explain, given, steps, is_long):
 
 def part_in_words(step):
     """What stands in the script's column for a packet that arrives within a round."""
-    return f" · line {step.deed[1]} {step.deed[2]}" if step.deed and step.deed[0] == "deliver" else ""
+    return step.deed[4] if step.deed and step.deed[0] == "deliver" else ""
 
 
 def round_in_words(rounds):

@@ -22,7 +22,8 @@ PLACES = {"store": "in the store", "channel": "in a channel of line {}", "slot":
 
 @dataclass
 class Deed:
-    """A part of an event: a line that it prints, or a packet that arrives; with its words, sentences, and what is inside then."""
+    """A part of an event: a line that it prints, or a packet that arrives (`words` end with what stands in its row); with
+    sentences, and what is inside then."""
 
     words: list
     printed: str
@@ -80,10 +81,12 @@ class Within:
         content = self.subnet.live[line][way][0][1]
         has_packet = content is not None and content[0] == "packet"
         look = self.model.see_deliver(line, way, 0) if has_packet else None
+        a, b = self.subnet.ends[line][:: 1 if way == "+" else -1]
         self.subnet.deliver(line, way, 0)
         told = [it for it in look() if it][:-1] if look else []
         self.subnet.drop(line, way, 0)
-        return [Deed(["deliver", str(line), way, "0"], None, told, self.state())] if has_packet else []
+        words = ["deliver", str(line), way, "0", f"line {line}: {a} → {b}"]
+        return [Deed(words, None, told, self.state())] if has_packet else []
 
     def hosts(self):
         """The hosts that are up, in order."""
