@@ -78,7 +78,7 @@ class Fold:
         """What an event that was not refused changes beside what it prints."""
         match words:
             case ["giveup", source, destination, link]:
-                self.give_up(f"{source} {destination} {link}")
+                self.give_up(place, f"{source} {destination} {link}")
             case ["grant", host, socket, messages, bits]:
                 if it := self.open_at(host, socket):
                     it.granted = [it.granted[0] + int(messages), it.granted[1] + int(bits)]
@@ -96,9 +96,11 @@ class Fold:
                 for name in [it for it in self.flows if it.split(" ")[0].endswith(f"/{imp}")]:
                     self.free(place, name)
 
-    def give_up(self, name):
+    def give_up(self, place, name):
         """A message is given up: its source is told, if it is up."""
-        if flow := self.flows.get(name):
+        if not self.is_up.get(name.split(" ")[0]):
+            self.free(place, name)
+        elif flow := self.flows.get(name):
             flow.state = GIVEN_UP
 
     # ---- crossings

@@ -8,9 +8,11 @@ program is run once for each event instead, as `explain` does.
 """
 
 from dataclasses import dataclass
+from textwrap import wrap
 
 MOST_ROUNDS = 400  # so many rounds of an input are cut
 MOST_STEPS = 5000  # so many steps are shown
+COMMENT = 84  # so many characters of a comment stand in a row
 
 
 class Differs(Exception):
@@ -162,7 +164,7 @@ def rows_of(explain, given, steps, is_long):
     for number, line in shown:
         text = explain.shown(line, None)
         if number not in of_line:
-            rows.append(Row("comment" if line else "blank", number, text.lstrip("# ") if line else ""))
+            rows += comment_rows(number, text)
             continue
         place = None
         for step in of_line[number]:
@@ -177,6 +179,13 @@ def rows_of(explain, given, steps, is_long):
     if not is_long:
         rows.append(Row("end", 0, "", "end"))
     return rows
+
+
+def comment_rows(number, text):
+    """The rows of a comment, or of an empty line."""
+    parts = wrap(text.lstrip("# "), COMMENT) or [""]
+    kind = "comment" if text else "blank"
+    return [Row(kind, number if at == 0 else 0, part) for at, part in enumerate(parts)]
 
 
 def part_in_words(step):
