@@ -191,7 +191,7 @@ class Fold:
     def shown(self):
         """The state as names and values, all of them text: what the browser keeps and changes."""
         state = {f"u {host}": "up" if is_up else "down" for host, is_up in self.is_up.items()}
-        state |= {f"r {host}": ", ".join(peers) for host, peers in self.ready.items()}
+        state |= {f"r {host}": ", ".join(peers) for host, peers in self.ready.items() if peers}
         state |= {f"f {name}": f"{flow.state}|{flow.bits}" for name, flow in self.flows.items()}
         for it in self.stopped:
             state[f"e {it[0]} {it[1]}" if isinstance(it, tuple) else f"p {it}"] = "down"

@@ -110,7 +110,7 @@
       overlapping([...sheet.querySelectorAll(".chart .word")]);
       overlapping([...sheet.querySelectorAll(".lane-heads b")]);
     });
-    overlapping([...document.querySelectorAll(".bar-label, .track-label")]);
+    overlapping([...document.querySelectorAll(".bar-label")]);
     overlapping([...document.querySelectorAll("h1, .top .facts, nav, .intro, .said")]);
     const requests = performance.getEntriesByType("resource").length;
     if (requests) say(`the page makes ${requests} further requests`);
