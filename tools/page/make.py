@@ -18,11 +18,12 @@ def data_of(explain, given, program, name="", with_inside=False):
         raise Refused(given, status, said)
     network = topology.read(given.topology())
     with_inside = with_inside and not network.is_plain()
-    told = steps.steps_within(events, within.Within(network)) if with_inside else steps.steps_of(events)
+    along = texts.along(network, events)
+    told = steps.steps_within(events, within.Within(network)) if with_inside else steps.steps_of(events, along)
     is_long = is_long or len(told) > steps.MOST_STEPS
     told = told[: steps.MOST_STEPS]
     printed = [step.printed for step in told if step.printed is not None]
-    found, source = texts.texts_of(explain, given, network, program, printed)
+    found, source = texts.texts_of(explain, given, program, printed, along)
     rows = steps.rows_of(explain, given, told, is_long)
     lives = lives_of(explain, given, network, program, told, is_long)
     return Data(explain, given, network, told, rows, found, lives).whole(name, notes(network, source, is_long, len(told), with_inside))

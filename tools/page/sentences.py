@@ -22,11 +22,12 @@ class Teller:
         """The sentence of a step whose message has this text (None where it has none, or where it isn't known)."""
         sentence = self.sentence(step)
         self.past.see(step.number, step.words, step.printed)
-        return f"{sentence} {self.says(step, text)}".rstrip()
+        told = step.told if step.inside is not None and step.printed is not None and not step.is_refused() else []
+        return " ".join(filter(None, [sentence, self.says(step, text), *told]))
 
     def sentence(self, step):
         if step.printed is None:
-            return " ".join(step.told) if step.told else self.silent(step)
+            return self.silent(step)
         kind, *words = step.printed.split(" ")
         if kind == "refused":
             return f"Refused: {' '.join(step.told) if step.told else self.past.refusal(words[0], step.words)}"
@@ -34,9 +35,12 @@ class Teller:
 
     def silent(self, step):
         first, last = step.rounds
-        if first:
+        told = " ".join(step.told or [])
+        if first and not step.deed:
             passes = f"Round {first} passes" if first == last else f"Rounds {first} to {last} pass"
-            return f"{passes}, and nothing is printed: no host takes anything, and none is told anything."
+            return f"{passes}, and no host takes anything. {told}".rstrip()
+        if told:
+            return told
         return inner(step.words, self.network) or self.explain.silence(step.words)
 
     def says(self, step, text):

@@ -49,7 +49,7 @@ const touch = (a, b) => Math.abs(a.x - b.x) < a.w + b.w && Math.abs(a.y - b.y) <
 
 function makeMap(data, place) {
   const map = data.map;
-  const svg = draw(place, "svg", { class: "map", viewBox: `0 0 ${map.w} ${map.h}`, role: "img", "aria-label": "map of the network" });
+  const svg = draw(place, "svg", { class: map.lines.length > 20 ? "map many" : "map", viewBox: `0 0 ${map.w} ${map.h}`, role: "img", "aria-label": "map of the network" });
   svg.style.maxHeight = `${Math.min(map.h * 1.25, 460)}px`;
   const imps = new Map(map.imps.map(([number, x, y, w, h, name]) => [number, { x, y, w, h, name }]));
   const hosts = new Map(map.hosts.map(([name, x, y, r]) => [name, { x, y, w: r, h: r }]));
@@ -67,6 +67,7 @@ function makeMap(data, place) {
   map.lines.forEach(([a, b], line) => {
     const at = freePlace(imps.get(a), imps.get(b), fixed, String(line).length * 3.6 + 3, 7);
     fixed.push(at);
+    if (at.crowded && map.lines.length > 20) return;
     draw(svg, "text", { class: "line-number", x: at.x, y: at.y + 3.5, "text-anchor": "middle" }, line);
   });
   const arcs = draw(svg, "g", { class: "arcs" });
@@ -92,7 +93,7 @@ function makeMap(data, place) {
 /** A place on the way from one box to another that touches nothing; the middle where there is none. */
 function freePlace(one, two, fixed, w, h) {
   const at = (part) => ({ x: one.x + (two.x - one.x) * part, y: one.y + (two.y - one.y) * part, w, h });
-  return [0.5, 0.42, 0.58, 0.35, 0.65, 0.28, 0.72].map(at).find((it) => !fixed.some((other) => touch(it, other))) || at(0.5);
+  return [0.5, 0.42, 0.58, 0.35, 0.65, 0.28, 0.72].map(at).find((it) => !fixed.some((other) => touch(it, other))) || { ...at(0.5), crowded: true };
 }
 
 function impSign(svg, number, at) {
@@ -151,11 +152,13 @@ function roomFor(a, b, nx, ny, size) {
   return Math.max(16, Math.min(across, down));
 }
 
+const ALONG = [0.5, 0.44, 0.56, 0.38, 0.62, 0.32, 0.68, 0.26, 0.74, 0.2, 0.8, 0.15, 0.85];
+
 function arcLabel(labels, a, b, c, text, how, taken) {
   const w = text.length * 3.8 + 5, h = 8;
   const at = (t) => a === b ? { x: a.x, y: a.y - 50, w, h } : {
     x: (1 - t) ** 2 * a.x + 2 * t * (1 - t) * c.x + t * t * b.x, y: (1 - t) ** 2 * a.y + 2 * t * (1 - t) * c.y + t * t * b.y, w, h };
-  const box = [0.5, 0.42, 0.58, 0.34, 0.66, 0.26, 0.74, 0.2, 0.8].map(at).find((it) => !taken.some((other) => touch(it, other))) || at(0.5);
+  const box = ALONG.map(at).find((it) => !taken.some((other) => touch(it, other))) || at(0.5);
   taken.push(box);
   draw(labels, "rect", { class: how, x: box.x - w, y: box.y - h, width: 2 * w, height: 2 * h, rx: 3 });
   draw(labels, "text", { class: how, x: box.x, y: box.y + 4, "text-anchor": "middle" }, text);

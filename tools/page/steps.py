@@ -140,18 +140,20 @@ def steps_within(events, within):
     return steps
 
 
-def steps_of(events):
-    """The steps of what `replayed` gives."""
+def steps_of(events, along=None):
+    """The steps of what `replayed` gives, with what the model told of each event, if it did."""
     steps, seen = [], None
-    for number, place, words, printed in events:
+    for (number, place, words, printed), it in zip(events, along or [None] * len(events)):
+        told = it.sentences if it else []
         last = steps[-1] if steps else None
         words = ["calm", "1"] if place else words
         if place and not printed and last and last.number == number and last.printed is None:
             last.rounds = (last.rounds[0], place)
+            last.told = last.told[:-1] + told  # the last sentence is of the frames that are live then
             continue
         for line in printed or [None]:
-            steps.append(Step(number, words, (place, place), line, number != seen))
-            seen = number
+            steps.append(Step(number, words, (place, place), line, number != seen, told=told))
+            seen, told = number, []
     return steps
 
 

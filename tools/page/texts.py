@@ -1,20 +1,34 @@
-"""What the texts of messages hold: the octets behind each `out` and `in` that is printed.
+"""What goes along with the printed lines: the texts of messages, and sentences about the inside of the network.
 
-They come from the program's own option `--texts` where it has that, else from the independent model in Python, which is
-taken only if every line that it prints is the program's own.
+Texts come from the program's own option `--texts` where it has that. All else comes from the independent model in Python,
+which is heard only if every line that it prints for every event is the program's own.
 """
 
 import script_rules
+from inside import Inside, TooLong
 
 FROM_PROGRAM, FROM_MODEL, UNKNOWN = "program", "model", "unknown"
 
 
-def texts_of(explain, given, network, program, printed):
+def along(network, events):
+    """What the model tells of each event, with the lines, their texts and sentences; None where it can't go along."""
+    model, told = Inside(network.as_model()), []
+    try:
+        for _, _, words, printed in events:
+            told.append(model.happen(script_rules.read_line(" ".join(words), network.raw)))
+            if told[-1].printed != printed:
+                return None
+    except TooLong:
+        return None
+    return told
+
+
+def texts_of(explain, given, program, printed, told):
     """For each printed line its text, as octets (None where it has none or where that isn't known); and where they are from."""
     if found := by_program(explain, given, program, printed):
         return found, FROM_PROGRAM
-    if found := by_model(given, network, printed):
-        return found, FROM_MODEL
+    if told:
+        return [text[0] if text else None for it in told for text in it.texts], FROM_MODEL
     return [None] * len(printed), UNKNOWN
 
 
@@ -34,27 +48,3 @@ def by_program(explain, given, program, printed):
         has_text = words[0] in ("out", "in") and len(words) == 6
         found.append(bytes.fromhex(words[5].replace("-", "")) if has_text else None)
     return found
-
-
-def by_model(given, network, printed):
-    """The texts by the independent model; None where it prints other lines."""
-    place, texts = script_rules.opened(network.as_model()), []
-    carrier = place if network.raw else place.carrier
-    for _, line in given.script:
-        event = script_rules.read_line(line.decode("latin-1"), network.raw)
-        if event:
-            place.happen(*event)
-        if len(place.printed) >= len(printed):
-            break
-    if place.printed[: len(printed)] != printed:
-        return None
-    log = iter(carrier.log)
-    for line in printed:
-        kind = line.split(" ")[0]
-        crossing = next(log) if kind in ("out", "in", "answer", "down", "up") else (None,)
-        texts.append(octets(crossing[2]) if crossing[0] in ("out", "in") else None)
-    return texts
-
-
-def octets(bits):
-    return bytes(int(bits[at : at + 8].ljust(8, "0"), 2) for at in range(0, len(bits), 8))
