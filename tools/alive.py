@@ -34,7 +34,8 @@ def packet_in_words(packet):
         return f"the {NAMES[kind]} for message {number} of flow {spell_flow(flow)}"
     if place == 0 and last:
         return f"message {number} of flow {spell_flow(flow)}"
-    return f"piece {place} of message {number} of flow {spell_flow(flow)}{', the last' if last else ''}"
+    which = f"the last piece ({place})" if last else f"piece {place}"
+    return f"{which} of message {number} of flow {spell_flow(flow)}"
 
 
 def frame_in_words(content):

@@ -54,6 +54,7 @@ function makeView(data, place, sentencePlace, goTo) {
     book.show(connectionRows(data, state), near);
     what.replaceChildren(...(step ? whatOf(data, step) : [data.facts]));
     sentence.textContent = step ? data.words[data.steps[step - 1][1]] : data.intro || "The network as it begins: all IMPs and hosts are up, and nothing was sent.";
+    sentence.classList.toggle("long", sentence.textContent.length > 190);
     sentence.classList.toggle("refusal", step > 0 && data.steps[step - 1][2] >= 2);
     view.step = step;
     view.state = state;

@@ -1,14 +1,10 @@
 """The sentence of each step: what the line asks for and what came of it, in the words of `explain`.
 
-What a message says is told by `decode`, and what happens inside the network by `inside`, where these are there.
+What a message says is told by `decode`, and what happens inside the network by the independent model that goes along
+(`inside`). Where the model can't go along, a sentence tells what kind of event it is.
 """
 
-import host_rules
-
-try:
-    import decode
-except ImportError:
-    decode = None
+from decode import raw_text_in_words, text_in_words
 
 
 class Teller:
@@ -45,26 +41,18 @@ class Teller:
 
     def says(self, step, text):
         """What a message says, as a sentence of its own."""
-        told = self.message(step, text)
+        if text is None:
+            return ""
+        bits = int(step.printed.split(" ")[4])
+        told = (raw_text_in_words(text, bits) if bits else "") if self.network.raw else self.message(step, text)
         return f"It says: {told}." if told else ""
 
     def message(self, step, text):
-        """What the message of a step says, in words; nothing where that isn't known."""
+        """What the message of a host's program says, in words; nothing in a raw network, or where that isn't known."""
         if text is None or self.network.raw:
             return ""
         words = step.printed.split(" ")
-        return message_in_words(int(words[3]), text, int(words[4]))
-
-
-def message_in_words(link, text, bits):
-    """What a text of so many bits on a link says: its commands, or how much data it carries."""
-    if decode:
-        return decode.text_in_words(link, text, bits)
-    names = {getattr(host_rules, name): name for name in ("RST", "RRP", "RTS", "STR", "CLS", "ALL", "GVB", "RET")}
-    parts = host_rules.split(host_rules.bits_of(text)[:bits])
-    if parts is None or link != 0:
-        return f"{parts[1]} bytes of data" if parts else "malformed"
-    return names.get(text[5], "commands") if len(text) > 5 else "no commands"
+        return text_in_words(int(words[3]), text, int(words[4]))
 
 
 def inner(words, network):

@@ -99,23 +99,23 @@ function freePlace(one, two, fixed, w, h) {
 function impSign(svg, number, at) {
   const group = draw(svg, "g", { class: "imp" });
   draw(group, "rect", { x: at.x - at.w, y: at.y - at.h, width: 2 * at.w, height: 2 * at.h, rx: 6 });
+  draw(group, "path", { class: "out", d: `M${at.x - at.w} ${at.y - at.h}l${2 * at.w} ${2 * at.h}m0 ${-2 * at.h}l${-2 * at.w} ${2 * at.h}` });
   if (at.name) {
     draw(group, "text", { class: "site", x: at.x, y: at.y - 1, "text-anchor": "middle" }, at.name);
     draw(group, "text", { class: "under", x: at.x, y: at.y + 12, "text-anchor": "middle" }, `IMP ${number}`);
   } else {
     draw(group, "text", { class: "site", x: at.x, y: at.y + 4.5, "text-anchor": "middle" }, at.w < 20 ? number : `IMP ${number}`);
   }
-  draw(group, "path", { class: "out", d: `M${at.x - at.w} ${at.y - at.h}l${2 * at.w} ${2 * at.h}m0 ${-2 * at.h}l${-2 * at.w} ${2 * at.h}` });
   return group;
 }
 
 function hostSign(svg, name, at, isDot) {
   const group = draw(svg, "g", { class: isDot ? "host small" : "host" });
   draw(group, "circle", { cx: at.x, cy: at.y, r: at.w });
-  if (!isDot) draw(group, "text", { x: at.x, y: at.y + 4, "text-anchor": "middle" }, name);
-  draw(group, "title", {}, `host ${name}`);
   const r = at.w * 0.75;
   draw(group, "path", { class: "out", d: `M${at.x - r} ${at.y - r}l${2 * r} ${2 * r}m0 ${-2 * r}l${-2 * r} ${2 * r}` });
+  if (!isDot) draw(group, "text", { x: at.x, y: at.y + 4, "text-anchor": "middle" }, name);
+  draw(group, "title", {}, `host ${name}`);
   return group;
 }
 

@@ -163,7 +163,7 @@ def rows_of(explain, given, steps, is_long):
     for step in steps:
         of_line.setdefault(step.number, []).append(step)
     shown = [it for it in given.script if not is_long or it[0] <= steps[-1].number]
-    for number, line in shown:
+    for number, line in joined(shown):
         text = explain.shown(line, None)
         if number not in of_line:
             rows += comment_rows(number, text)
@@ -181,6 +181,18 @@ def rows_of(explain, given, steps, is_long):
     if not is_long:
         rows.append(Row("end", 0, "", "end"))
     return rows
+
+
+def joined(lines):
+    """The lines of a script, where a comment that goes on in the next line is one."""
+    found = []
+    for number, line in lines:
+        before = found[-1][1] if found else b""
+        if line.startswith(b"# ") and before.startswith(b"#") and len(before) > 60 and before[-1:] not in b".:!?":
+            found[-1] = (found[-1][0], before + line[1:])
+        else:
+            found.append((number, line))
+    return found
 
 
 def comment_rows(number, text):
