@@ -68,6 +68,8 @@ function makeSheet(data, place, goTo) {
     data.lanes.forEach((host, at) => {
       const head = el("b", "", host);
       head.style.left = `${sheet.xs[at]}px`;
+      const site = data.sites[host.split("/")[1]];
+      if (site) head.prepend(el("small", "", site));
       inner.append(head);
     });
     laneHeads.append(inner);

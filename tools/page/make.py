@@ -4,7 +4,8 @@ import re
 
 from page import axis, book, chart, document, fold, layout, pairs, sentences, steps, texts, topology, within
 
-INTRO_SHOWN = 400  # so many characters of the script's first comment stand below the title
+INTRO_SHOWN = 280  # so many characters of the script's first comment stand below the title
+WORD = re.compile(r"[A-Za-z]+")
 
 
 class Refused(Exception):
@@ -70,9 +71,12 @@ class Data:
         if self.lives:
             book.check(self.lives, self.fold.connections)
         title, intro = heading(self.given, name)
+        short = intro if len(intro) <= INTRO_SHOWN else intro[: INTRO_SHOWN + 1].rpartition(". ")[0] + "."
         return {
             "title": title,
-            "intro": intro,
+            "intro": short,
+            "begins": intro,
+            "sites": {str(number): name for number, name in self.network.names.items()},
             "facts": facts(self.network, len({step.number for step in self.told})),
             "notes": told,
             "inside": any(step.inside is not None for step in self.told),
@@ -122,9 +126,21 @@ def heading(given, name):
             if not line.startswith(b"#"):
                 break
             intro.append(line.decode("utf-8", "replace").lstrip("# "))
-    title = re.sub(r"[-_]+", " ", name).strip()
-    title = title[:1].upper() + title[1:] if title else "A replay"
-    return title, " ".join(intro)[:INTRO_SHOWN]
+    return title_of(name, " ".join(lines)), " ".join(intro)[:1200]
+
+
+def title_of(name, comments):
+    """A title from a file's name. A word that the comments write with capitals alone has them in the title too."""
+    said = {}
+    for word in WORD.findall(comments):
+        said.setdefault(word.lower(), set()).add(word)
+
+    def spelled(word):
+        ways = said.get(word.lower(), set())
+        return min(ways) if len(ways) == 1 and not min(ways).islower() and len(word) > 3 else word
+
+    title = WORD.sub(lambda it: spelled(it[0]), re.sub(r"[-_]+", " ", name).strip())
+    return title[:1].upper() + title[1:] if title else "A replay"
 
 
 def counted(number, noun):

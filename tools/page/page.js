@@ -53,7 +53,7 @@ function makeView(data, place, sentencePlace, goTo) {
     if (inside) inside.show(state, near);
     book.show(connectionRows(data, state), near);
     what.replaceChildren(...(step ? whatOf(data, step) : [data.facts]));
-    sentence.textContent = step ? data.words[data.steps[step - 1][1]] : data.intro || "The network as it begins: all IMPs and hosts are up, and nothing was sent.";
+    sentence.textContent = step ? data.words[data.steps[step - 1][1]] : data.begins || "The network as it begins: all IMPs and hosts are up, and nothing was sent.";
     sentence.classList.toggle("long", sentence.textContent.length > 190);
     sentence.classList.toggle("refusal", step > 0 && data.steps[step - 1][2] >= 2);
     view.step = step;

@@ -4,7 +4,12 @@ What a message says is told by `decode`, and what happens inside the network by 
 (`inside`). Where the model can't go along, a sentence tells what kind of event it is.
 """
 
+import re
+
 from decode import raw_text_in_words, text_in_words
+
+
+PLACE = re.compile(r"(\bIMP |\b[Hh]ost [0-3]/)([0-9]+)(?![0-9])")
 
 
 class Teller:
@@ -19,7 +24,20 @@ class Teller:
         sentence = self.sentence(step)
         self.past.see(step.number, step.words, step.printed)
         told = step.told if step.inside is not None and step.printed is not None and not step.is_refused() else []
-        return " ".join(filter(None, [sentence, self.says(step, text), *told]))
+        return self.with_sites(" ".join(filter(None, [sentence, self.says(step, text), *told])))
+
+    def with_sites(self, sentence):
+        """A sentence in which the name of each site stands behind the first word for one of its hosts or its IMP."""
+        named = set()
+
+        def name(found):
+            number = int(found[2])
+            if number in named or number not in self.network.names:
+                return found[0]
+            named.add(number)
+            return f"{found[0]} ({self.network.names[number]})"
+
+        return PLACE.sub(name, sentence) if self.network.names else sentence
 
     def sentence(self, step):
         if step.printed is None:
@@ -58,13 +76,13 @@ class Teller:
 def inner(words, network):
     """What an event inside the network does, where it prints nothing and is not refused."""
 
-    def line(number, at=None):
+    def line(number):
         a, b = network.lines[int(number)]
-        return f"line {number}, between {network.title_of(a)} and {network.title_of(b)}"
+        return f"line {number}, between IMP {a} and IMP {b}"
 
     def way(number, direction):
         a, b = network.lines[int(number)][:: 1 if direction == "+" else -1]
-        return network.title_of(a), network.title_of(b)
+        return f"IMP {a}", f"IMP {b}"
 
     match words:
         case ["deliver", number, direction, place]:
@@ -76,19 +94,19 @@ def inner(words, network):
             which = "The oldest frame" if place == "0" else f"The frame at place {place}"
             return f"{which} on line {number} from {a} to {b} is gone: it can arrive no more."
         case ["resend", imp]:
-            return f"{network.title_of(int(imp))} sends again every packet that its neighbours have not acknowledged."
+            return f"IMP {imp} sends again every packet that its neighbours have not acknowledged."
         case ["route", imp]:
-            return f"{network.title_of(int(imp))} tells its neighbours its distances to all IMPs."
+            return f"IMP {imp} tells its neighbours its distances to all IMPs."
         case ["enddown", imp, number]:
-            return f"At {network.title_of(int(imp))} the end of {line(number)}, stops. What that IMP still held for it goes back to its store and looks for another way."
+            return f"At IMP {imp} the end of {line(number)}, stops. What that IMP still held for it goes back to its store and looks for another way."
         case ["endup", imp, number]:
-            return f"At {network.title_of(int(imp))} the end of {line(number)}, starts."
+            return f"At IMP {imp} the end of {line(number)}, starts."
         case ["impup", imp]:
-            return f"{network.title_of(int(imp))} starts again, with empty tables. Its hosts are down until they start."
+            return f"IMP {imp} starts again, with empty tables. Its hosts are down until they start."
         case ["impdown", imp]:
-            return f"{network.title_of(int(imp))} stops, and forgets all that it held."
+            return f"IMP {imp} stops, and forgets all that it held."
         case ["forget", at, other]:
-            return f"{network.title_of(int(at))} drops the last message numbers of flows from {network.title_of(int(other))}."
+            return f"IMP {at} drops the last message numbers of flows from IMP {other}."
         case ["abandon", source, destination, link]:
             return f"The pieces of the message from {source} to {destination} on link {link} are thrown away, and their slot is free."
     return ""

@@ -284,7 +284,8 @@ function hostRows(data, state, hosts) {
     const how = isUp ? (ready ? `ready with ${ready}` : "up") : "down";
     const none = (text) => el("span", "none", text);
     const cls = isUp ? (ready ? "ready" : "up") : "down";
-    return [host, "", [host, el("span", `state ${cls}`, how), sent.length ? sent : none("all links free"), waits.length ? waits : none("nothing")]];
+    const site = data.sites[host.split("/")[1]];
+    return [host, "", [site ? [host, el("small", "site", ` ${site}`)] : host, el("span", `state ${cls}`, how), sent.length ? sent : none("all links free"), waits.length ? waits : none("nothing")]];
   });
 }
 

@@ -85,8 +85,10 @@ class Within:
         self.subnet.deliver(line, way, 0)
         told = [it for it in look() if it][:-1] if look else []
         self.subnet.drop(line, way, 0)
-        words = ["deliver", str(line), way, "0", f"line {line}: {a} → {b}"]
-        return [Deed(words, None, told, self.state())] if has_packet else []
+        if not has_packet:
+            return []
+        what = ("packet", "RFNM", "Dead")[content[3][0]]
+        return [Deed(["deliver", str(line), way, "0", f"line {line}, {a}→{b} {what}"], None, told, self.state())]
 
     def hosts(self):
         """The hosts that are up, in order."""
