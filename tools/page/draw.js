@@ -24,6 +24,8 @@ const ROW = { comment: 0, blank: 1, event: 2, round: 3, more: 4, end: 5, gap: 6 
 const ROW_CLASS = Object.keys(ROW);
 const LEAST_GAP = 112; // between lanes; with more than fit so, the chart follows the step
 
+const LEAST_ON_PAPER = 26;
+
 /** The sheet of a replay in a place of the page. */
 function makeSheet(data, place, goTo) {
   const words = data.words;
@@ -50,16 +52,18 @@ function makeSheet(data, place, goTo) {
   body.addEventListener("wheel", (event) => { if (event.deltaX) sheet.moveBy(event.deltaX); }, { passive: true });
 
   /** The room that words need on the left of the first lane, or on the right of the last one. */
-  function margin(lane, isLeft) {
+  function margin(lane, isLeft, letter) {
     const here = data.marks.filter((mark) => mark[1] === lane && isLeftOf(data, mark) === isLeft);
-    return here.reduce((most, mark) => Math.max(most, 22 + 6.3 * words[mark[3]].length), 24);
+    return here.reduce((most, mark) => Math.max(most, 22 + letter * words[mark[3]].length), 30);
   }
-  const first = margin(0, true), last = margin(data.lanes.length - 1, false);
+  let first = 0, last = 0;
 
   /** Where the lanes stand in a chart of this room. */
-  function layLanes(room) {
+  function layLanes(room, least, letter) {
     const count = data.lanes.length;
-    const gap = count > 1 ? Math.min(280, Math.max(LEAST_GAP, (room - first - last) / (count - 1))) : 0;
+    first = margin(0, true, letter);
+    last = margin(count - 1, false, letter);
+    const gap = count > 1 ? Math.min(280, Math.max(least, (room - first - last) / (count - 1))) : 0;
     sheet.width = Math.max(first + last + gap * (count - 1), Math.min(room, 300));
     sheet.xs = data.lanes.map((_, at) => first + gap * at);
     sheet.room = room;
@@ -75,22 +79,31 @@ function makeSheet(data, place, goTo) {
     laneHeads.append(inner);
   }
 
-  /** Draws all rows, so many in each piece; on paper with the sentence of each step. */
-  sheet.redraw = function (size, height, paper, room) {
-    sheet.height = height;
-    layLanes(room);
+  /** The sentence that stands in a row on paper. */
+  function saidIn(row) {
+    const step = stepOfRow.get(row);
+    return step ? words[data.steps[step - 1][1]] : "";
+  }
+
+  /** Draws all rows, so much height in each piece; on paper with the sentence of each step, and as high as it needs. */
+  sheet.redraw = function (most, paper, room) {
+    layLanes(room, paper ? LEAST_ON_PAPER : LEAST_GAP, paper ? 5.7 : 6.3);
     sheet.arrows = new Map();
-    body.style.setProperty("--row", `${height}px`);
+    sheet.tops = [0];
+    data.rows.forEach((_, row) => sheet.tops.push(sheet.tops[row] + (paper ? Math.max(24, 8 + 13 * Math.ceil(saidIn(row).length / 55)) : sheet.height)));
     body.replaceChildren(...(paper ? [] : [band]));
     sheet.rowElements = [];
-    for (let from = 0; from < data.rows.length; from += size) {
-      const to = Math.min(from + size, data.rows.length);
+    for (let from = 0, to = 0; from < data.rows.length; from = to) {
+      to = from + 1;
+      while (to < data.rows.length && sheet.tops[to + 1] - sheet.tops[from] <= most) to++;
       const piece = el("div", "piece");
       const left = el("div", "left");
       for (let row = from; row < to; row++) left.append(rowElement(row, paper));
       piece.append(left, chartPiece(data, sheet, from, to));
-      piece.style.setProperty("--rows", to - from);
-      body.append(piece);
+      piece.style.height = `${sheet.tops[to] - sheet.tops[from]}px`;
+      const sheetOfPaper = el("div", "paper");
+      if (paper) sheetOfPaper.append(heads.cloneNode(true), piece);
+      body.append(paper ? sheetOfPaper : piece);
     }
     if (!paper) body.append(veil);
     sheet.moveTo(sheet.shift);
@@ -102,8 +115,8 @@ function makeSheet(data, place, goTo) {
     const step = stepOfRow.get(row);
     if (step) it.dataset.step = step;
     it.append(el("span", "n", number || ""), el("span", "s", words[script]));
-    const said = paper && step ? words[data.steps[step - 1][1]] : "";
-    const second = el("span", paper ? "t" : "p", paper ? said : words[printed]);
+    if (paper) it.style.height = it.style.lineHeight = `${sheet.tops[row + 1] - sheet.tops[row]}px`;
+    const second = el("span", paper ? "t" : "p", paper ? saidIn(row) : words[printed]);
     if (!paper && words[printed].startsWith("refused ")) second.classList.add("refusal");
     if (kind !== ROW.comment || paper) it.append(second);
     sheet.rowElements[row] = it;
@@ -157,11 +170,11 @@ function makeSheet(data, place, goTo) {
 /** The chart beside the rows from one to another. */
 function chartPiece(data, sheet, from, to) {
   const box = el("div", "chart");
-  const height = (to - from) * sheet.height;
-  const svg = draw(box, "svg", { width: sheet.width, height, viewBox: `0 ${from * sheet.height} ${sheet.width} ${height}` });
-  const middle = (row) => (row + 0.5) * sheet.height;
+  const top = sheet.tops[from], bottom = sheet.tops[to];
+  const svg = draw(box, "svg", { width: sheet.width, height: bottom - top, viewBox: `0 ${top} ${sheet.width} ${bottom - top}` });
+  const middle = (row) => (row < data.rows.length ? (sheet.tops[row] + sheet.tops[row + 1]) / 2 : sheet.tops[row]);
   sheet.xs.forEach((x, lane) => {
-    draw(svg, "line", { class: "lane", x1: x, x2: x, y1: from * sheet.height, y2: to * sheet.height });
+    draw(svg, "line", { class: "lane", x1: x, x2: x, y1: top, y2: bottom });
     for (const [which, row0, row1] of data.down) {
       if (which !== lane || row1 < from || row0 >= to) continue;
       draw(svg, "line", { class: "gap", x1: x, x2: x, y1: middle(row0), y2: middle(row1) });

@@ -37,12 +37,13 @@ function makeView(data, place, sentencePlace, goTo) {
   for (const note of data.notes) side.append(el("p", "note", note));
   const what = el("p", "what"), sentence = el("p", "sentence");
   sentencePlace.append(what, sentence);
-  const view = { data, sheet, step: -1 };
+  const view = { data, sheet, step: -1, moment: el("p", "moment") };
+  side.prepend(view.moment);
 
   view.layOut = function () {
     const columns = ["n", "s", "p"].map((cls) => sheetPlace.querySelector(`.heads .${cls}`).getBoundingClientRect().width);
     const room = sheetPlace.clientWidth - columns.reduce((a, b) => a + b, 0) - 12;
-    sheet.redraw(40, 22, false, Math.max(260, room));
+    sheet.redraw(880, false, Math.max(260, room));
   };
   view.show = function (step) {
     const near = Math.abs(step - view.step) === 1;
@@ -181,6 +182,7 @@ function start(replays, pairs) {
     player.step = step;
     views.forEach((view, at) => view.show(shownStep(at, step)));
     axis.show(step);
+    views.forEach((view) => { view.moment.textContent = `Map and tables show what holds after step ${step} of ${last}.`; });
     count.textContent = step ? `step ${step} of ${last}` : `before step 1 of ${last}`;
     clearTimeout(saved);
     saved = setTimeout(() => history.replaceState(null, "", `#step-${step}`), 150);
@@ -240,7 +242,10 @@ function start(replays, pairs) {
   let resized = 0;
   window.addEventListener("resize", () => { clearTimeout(resized); resized = setTimeout(() => { layOut(); again(); }, 120); });
   window.addEventListener("hashchange", () => player.go(asked()));
-  window.addEventListener("beforeprint", () => views.forEach((view) => view.sheet.redraw(22, 31, true, isPair ? 340 : 470)));
+  window.addEventListener("beforeprint", () => {
+    if (player.step === 0) player.go(last);
+    views.forEach((view) => view.sheet.redraw(635, true, 515));
+  });
   window.addEventListener("afterprint", () => { layOut(); again(); });
   window.page = { player, views, last };
 }
