@@ -32,9 +32,15 @@ def texts_of(explain, given, program, printed, told):
     return [None] * len(printed), UNKNOWN
 
 
+def knows_texts(explain, program):
+    """Whether the program has the option `--texts`: otherwise it ends before it reads."""
+    ((_, _, said),) = explain.answers(program, [b""], ["--texts"])
+    return "bad arguments" not in said
+
+
 def by_program(explain, given, program, printed):
     """The texts by `arpasim --texts`; None where it has no such option."""
-    if program is None:
+    if program is None or not knows_texts(explain, program):
         return None
     ((status, output, _),) = explain.answers(program, [given.octets], ["--texts"])
     lines = output.decode().splitlines()
