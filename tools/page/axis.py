@@ -1,4 +1,4 @@
-"""The bars of the time axis: how long each message was under way and then taken without answer, how long each end of a
+"""The bars of the time axis: how long each message was in transit and then taken without answer, how long each end of a
 connection was open, and signs for refusals, stops and starts.
 
 A bar is `[label, kind, parts, signs]`: each part is `[from, to, how]` and each sign `[step, what]`, by numbers of steps. `to` is

@@ -1,8 +1,8 @@
 """What holds after each step, folded from the printed lines and the events that were not refused.
 
-Of each flow: whether its message is under way or waits, was taken, or an answer waits for its source. Of each host: whether
+Of each flow: whether its message is in transit or waits, was taken, or an answer waits for its source. Of each host: whether
 it is up, which peers are ready, and what is open. The rules are those of docs/mailboxes.md. Over a subnet the lines alone
-don't tell where a message is, so it is `under way` until its answer comes.
+don't tell where a message is, so it is `in transit` until its answer comes.
 """
 
 from dataclasses import dataclass, field

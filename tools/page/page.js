@@ -31,9 +31,9 @@ function makeView(data, place, sentencePlace, goTo) {
   const map = makeMap(data, mapPlace);
   mapPlace.append(legend(data));
   const hosts = data.map.hosts.map((it) => it[0]).filter((it) => !data.map.dots || data.lanes.includes(it));
-  const hostTable = makeTable(side, "Hosts and their mailboxes", ["host", "state", "sent, no answer yet", data.plain ? "waits for it" : "under way to it"]);
+  const hostTable = makeTable(side, "Hosts and their mailboxes", ["host", "state", "sent, no answer yet", data.plain ? "waits for it" : "in transit to it"]);
   const inside = data.inside ? makeInside(data, side) : null;
-  const book = makeTable(side, "Connections", ["sender ▸ receiver", "now", "granted in all", "bits sent", "bits taken"]);
+  const book = makeTable(side, "Connections", ["sender ▸ receiver", "state", "granted in total", "bits sent", "bits taken"]);
   for (const note of data.notes) side.append(el("p", "note", note));
   const what = el("p", "what"), sentence = el("p", "sentence");
   sentencePlace.append(what, sentence);
@@ -66,7 +66,7 @@ function makeView(data, place, sentencePlace, goTo) {
 function legend(data) {
   const it = el("p", "legend");
   const entry = (cls, text) => { const part = el("span", "", text); part.prepend(el("i", cls)); it.append(part); };
-  entry("way", data.plain ? "message waits" : "message under way");
+  entry("way", data.plain ? "message waits" : "message in transit");
   entry("answer", "taken or given up, answer not yet here");
   entry("down", "down");
   return it;

@@ -132,7 +132,7 @@ function drawArcs(arcs, labels, state, hosts, taken, size) {
     const a = hosts.get(source), b = hosts.get(destination) || a;
     if (!a) continue;
     const far = Math.hypot(b.x - a.x, b.y - a.y) || 1;
-    const bend = how === "way" ? 0.24 : 0.15;
+    const bend = how === "way" ? 0.27 : 0.2;
     const nx = (b.y - a.y) / far, ny = -(b.x - a.x) / far;
     const lift = a === b ? 46 : Math.min(90, far * bend + 14, roomFor(a, b, nx, ny, size));
     const c = { x: (a.x + b.x) / 2 + nx * lift * 2, y: (a.y + b.y) / 2 + (a === b ? -2 * lift : ny * lift * 2) };
@@ -290,7 +290,7 @@ function hostRows(data, state, hosts) {
 }
 
 function became(data, flow) {
-  if (flow.what === "waits") return data.plain ? "waits" : "under way";
+  if (flow.what === "waits") return data.plain ? "waits" : "in transit";
   if (flow.what === "taken") return "taken";
   return flow.what === "dead" ? "host is down" : "given up";
 }
