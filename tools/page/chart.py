@@ -7,7 +7,7 @@ one that found its host dead or was given up in a cross.
 
 import re
 
-MOST_WORDS = 34  # so many characters stand at a lane
+MOST_WORDS = 30  # so many characters stand at a lane
 
 SAYS = {
     "ready": "ready with {0}", "contactfailed": "contact with {0} failed", "pairreset": "reset with {0}",
@@ -117,11 +117,21 @@ class Chart:
         """What stands at an end of a message's arrow."""
         words = step.printed.split(" ")
         told = self.teller.message(step, text)
-        return told or f"{words[4]} bits, link {words[3]}"
+        return brief(told) if told else f"{words[4]} bits, link {words[3]}"
 
     def finish(self, rows):
         """Hosts that are still down stay so to the last row."""
         self.down += [[self.place[host], row, rows] for host, row in self.is_down.items()]
+
+
+BRIEF = [(r"\bmessages?\b", "msg"), (r" on link ", ", link "), (r", bytes of (\d+) bits?", r", size \1"), (r"(bytes?) of \d+ bits?", r"\1")]
+
+
+def brief(told):
+    """What a message says, in fewer words."""
+    for long, short in BRIEF:
+        told = re.sub(long, short, told)
+    return told
 
 
 def shortened(told):

@@ -22,7 +22,7 @@ function draw(parent, tag, attributes, text) {
 
 const ROW = { comment: 0, blank: 1, event: 2, round: 3, more: 4, end: 5, gap: 6 };
 const ROW_CLASS = Object.keys(ROW);
-const LEAST_GAP = 112; // between lanes; with more than fit so, the chart follows the step
+const LEAST_GAP = 84; // between lanes; with more than fit so, the chart follows the step
 
 const LEAST_ON_PAPER = 26;
 
@@ -111,7 +111,7 @@ function makeSheet(data, place, goTo) {
 
   function rowElement(row, paper) {
     const [kind, number, script, printed, changed] = data.rows[row];
-    const it = el("div", `row ${ROW_CLASS[kind]}${changed ? " changed" : ""}`);
+    const it = el("div", `row ${ROW_CLASS[kind]}${changed ? " changed" : ""}${words[printed] ? "" : " silent"}`);
     const step = stepOfRow.get(row);
     if (step) it.dataset.step = step;
     it.append(el("span", "n", number || ""), el("span", "s", words[script]));

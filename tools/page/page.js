@@ -8,9 +8,10 @@ function whatOf(data, step) {
   const script = data.rows.find((it) => it[1] === number && it[0] === ROW.event);
   const printed = data.words[data.rows[row][3]];
   const parts = [`line ${number} `, el("b", "", data.words[script[2]])];
-  const place = data.words[data.rows[row][2]];
-  if (round) parts.push(`, ${place.startsWith("round") ? place : `round ${round}${data.rows[row][0] === ROW.more ? place : ""}`}`);
-  return [...parts, printed ? " prints " : " prints nothing", printed ? el("b", "", printed) : ""];
+  const place = data.words[data.rows[row][2]].trim(), isRow = data.rows[row][0] !== ROW.event && place;
+  if (round) parts.push(`, ${place.startsWith("round") ? place : `round ${round}${isRow ? `, ${place}` : ""}`}`);
+  if (printed) return [...parts, " prints ", el("b", "", printed)];
+  return place.includes("→") ? parts : [...parts, " prints nothing"];
 }
 
 /** The host that acts in a step: the first that its line names. */
@@ -150,52 +151,81 @@ function makeHead(replays) {
   return { head, nav, now };
 }
 
+/** The page of one replay, or of two with the pairs of steps that belong together. */
 function start(replays, pairs) {
   const isPair = replays.length > 1;
   document.body.className = isPair ? "two" : "one";
   const { head, nav, now } = makeHead(replays);
-  const main = el("main"), foot = el("footer"), axisPlace = el("div", "axis"), keys = el("p", "keys");
+  const main = el("main"), foot = el("footer"), axisPlace = el("div", "axis");
   document.body.append(head, main, foot);
-  foot.append(axisPlace, keys);
-  for (const [key, text] of KEYS) {
-    for (const part of key.split(" ")) keys.append(el("kbd", "", part));
-    keys.append(` ${text} `);
-  }
+  foot.append(axisPlace, keysInWords());
   const last = isPair ? pairs.length : replays[0].steps.length;
-  const player = { step: -1, timer: 0 };
-  const views = replays.map((data, at) => {
+  // a step of the page as a step of a replay, and back
+  const ownStep = (at, step) => (isPair ? (step ? pairs[step - 1][at] : 0) : step);
+  const pageStep = (at, step) => (isPair ? pairs.findIndex((it) => it[at] >= step) + 1 : step);
+  const player = { step: -1, timer: 0, last, ownStep };
+  player.views = replays.map((data, at) => {
     const place = el("section", "view"), sentencePlace = el("div", "said");
     if (isPair) place.append(el("h2", "which", `${at ? "after" : "before"}: ${data.title}`));
     main.append(place);
     now.append(sentencePlace);
-    return makeView(data, place, sentencePlace, (step) => player.go(isPair ? pairs.findIndex((it) => it[at] >= step) + 1 : step));
+    return makeView(data, place, sentencePlace, (step) => player.go(pageStep(at, step)));
   });
-  const shownStep = (at, step) => (isPair ? (step ? pairs[step - 1][at] : 0) : step);
-  const stepsOf = (at) => (step) => (isPair ? pairs.findIndex((it) => it[at] >= step) + 1 : step);
-  const axis = makeAxis(views, axisPlace, last, stepsOf, (step) => player.go(step));
-  const count = el("span", "count"), play = el("button", "play", "play");
-  let saved = 0;
+  player.axis = makeAxis(player.views, axisPlace, last, (at) => (step) => pageStep(at, step), (step) => player.go(step));
+  makePlayer(player, el("span", "count"), el("button", "play", "play"));
+  makeNav(player, nav);
+  if (isPair) scrollTogether(...player.views.map((view) => view.sheet.scroll));
+  listen(player);
+  window.page = { player, views: player.views, last };
+}
 
+function keysInWords() {
+  const keys = el("p", "keys");
+  for (const [key, text] of KEYS) {
+    for (const part of key.split(" ")) keys.append(el("kbd", "", part));
+    keys.append(` ${text} `);
+  }
+  return keys;
+}
+
+function scrollTogether(one, two) {
+  one.addEventListener("scroll", () => { two.scrollTop = one.scrollTop; });
+  two.addEventListener("scroll", () => { one.scrollTop = two.scrollTop; });
+}
+
+/** What moves the page: to a step, by lines, to a refusal, and on its own. */
+function makePlayer(player, count, play) {
+  const { last, views } = player;
+  let saved = 0;
+  player.count = count;
+  player.button = play;
   player.go = function (step) {
     step = Math.max(0, Math.min(last, step));
     if (step === player.step) return;
     player.step = step;
-    views.forEach((view, at) => view.show(shownStep(at, step)));
-    axis.show(step);
+    views.forEach((view, at) => view.show(player.ownStep(at, step)));
+    player.axis.show(step);
     views.forEach((view) => { view.moment.textContent = `Map and tables show what holds after step ${step} of ${last}.`; });
     count.textContent = step ? `step ${step} of ${last}` : `before step 1 of ${last}`;
     clearTimeout(saved);
     saved = setTimeout(() => history.replaceState(null, "", `#step-${step}`), 150);
     if (step === last) player.stop();
   };
-  const flag = (step, which) => views.some((view, at) => {
-    const now = shownStep(at, step), before = shownStep(at, step - 1);
-    return now !== before && view.data.steps[now - 1][2] & which;
+  /** Whether a step is the first of its line (1), or refused (2), in a replay that it moves. */
+  const is = (step, which) => views.some((view, at) => {
+    const now = player.ownStep(at, step);
+    return now !== player.ownStep(at, step - 1) && view.data.steps[now - 1][2] & which;
   });
   const seek = (from, by, which) => {
-    for (let step = from + by; step > 0 && step <= last; step += by) if (flag(step, which)) return step;
+    for (let step = from + by; step > 0 && step <= last; step += by) if (is(step, which)) return step;
     return by < 0 ? 0 : which === 1 ? last : player.step;
   };
+  player.line = function (by) {
+    let at = player.step;
+    if (by < 0) while (at > 0 && !is(at, 1)) at--;
+    player.go(seek(at, by, 1));
+  };
+  player.refusal = () => player.go(seek(player.step, 1, 2));
   player.stop = function () { clearInterval(player.timer); player.timer = 0; play.textContent = "play"; };
   player.play = function () {
     if (player.timer) return player.stop();
@@ -203,51 +233,48 @@ function start(replays, pairs) {
     play.textContent = "pause";
     player.timer = setInterval(() => player.go(player.step + 1), 900);
   };
-  const line = (by) => {
-    let at = player.step;
-    if (by < 0) while (at > 0 && !flag(at, 1)) at--;
-    player.go(seek(at, by, 1));
-  };
-  const deeds = {
+  player.deeds = {
     ArrowRight: () => player.go(player.step + 1), ArrowLeft: () => player.go(player.step - 1),
-    ArrowDown: () => line(1), ArrowUp: () => line(-1), Home: () => player.go(0), End: () => player.go(last),
-    r: () => player.go(seek(player.step, 1, 2)), " ": () => player.play(),
+    ArrowDown: () => player.line(1), ArrowUp: () => player.line(-1), Home: () => player.go(0), End: () => player.go(last),
+    r: () => player.refusal(), " ": () => player.play(),
   };
-  document.addEventListener("keydown", (event) => {
-    if (event.ctrlKey || event.altKey || event.metaKey || !deeds[event.key]) return;
-    event.preventDefault();
-    deeds[event.key]();
-  });
+}
+
+/** The buttons. */
+function makeNav(player, nav) {
   const button = (shape, name, key) => {
     const it = el("button");
     draw(draw(it, "svg", { width: 16, height: 12, viewBox: "0 0 16 12", "aria-hidden": "true" }), "path", { d: shape });
     it.title = it.ariaLabel = name;
-    it.addEventListener("click", () => { deeds[key](); it.blur(); });
+    it.addEventListener("click", () => { player.deeds[key](); it.blur(); });
     return it;
   };
-  play.addEventListener("click", () => { player.play(); play.blur(); });
+  player.button.addEventListener("click", () => { player.play(); player.button.blur(); });
   nav.append(button("M2 0h2v12h-2zM14 0v12L5 6z", "to the beginning", "Home"), button("M8 0v12L0 6zM16 0v12L8 6z", "script line before", "ArrowUp"),
-    button("M12 0v12L4 6z", "step before", "ArrowLeft"), play, button("M4 0v12L12 6z", "next step", "ArrowRight"),
-    button("M0 0v12L8 6zM8 0v12L16 6z", "next script line", "ArrowDown"), button("M2 0v12L11 6zM12 0h2v12h-2z", "to the end", "End"), count);
+    button("M12 0v12L4 6z", "step before", "ArrowLeft"), player.button, button("M4 0v12L12 6z", "next step", "ArrowRight"),
+    button("M0 0v12L8 6zM8 0v12L16 6z", "next script line", "ArrowDown"), button("M2 0v12L11 6zM12 0h2v12h-2z", "to the end", "End"), player.count);
+}
 
-  if (isPair) {
-    const [one, two] = views.map((view) => view.sheet.scroll);
-    one.addEventListener("scroll", () => { two.scrollTop = one.scrollTop; });
-    two.addEventListener("scroll", () => { one.scrollTop = two.scrollTop; });
-  }
-  const layOut = () => { views.forEach((view) => view.layOut()); axis.layOut(); };
-  const again = () => { const step = player.step; player.step = -1; player.go(step); };
+/** Draws the page at the step of the address; then hears keys, the window's size, and printing. */
+function listen(player) {
+  const { views } = player;
+  const layOut = () => { views.forEach((view) => view.layOut()); player.axis.layOut(); };
+  const again = () => { const step = player.step; layOut(); player.step = -1; player.go(step); };
+  let resized = 0;
   layOut();
   player.go(asked());
-  let resized = 0;
-  window.addEventListener("resize", () => { clearTimeout(resized); resized = setTimeout(() => { layOut(); again(); }, 120); });
+  document.addEventListener("keydown", (event) => {
+    if (event.ctrlKey || event.altKey || event.metaKey || !player.deeds[event.key]) return;
+    event.preventDefault();
+    player.deeds[event.key]();
+  });
+  window.addEventListener("resize", () => { clearTimeout(resized); resized = setTimeout(again, 120); });
   window.addEventListener("hashchange", () => player.go(asked()));
   window.addEventListener("beforeprint", () => {
-    if (player.step === 0) player.go(last);
+    if (player.step === 0) player.go(player.last);
     views.forEach((view) => view.sheet.redraw(635, true, 515));
   });
-  window.addEventListener("afterprint", () => { layOut(); again(); });
-  window.page = { player, views, last };
+  window.addEventListener("afterprint", again);
 }
 
 /** The step that the address names. */

@@ -7,12 +7,16 @@ Which event printed what is seen from a run with a mark behind each event. Where
 program is run once for each event instead, as `explain` does.
 """
 
+import re
 from dataclasses import dataclass
 from textwrap import wrap
 
 MOST_ROUNDS = 400  # so many rounds of an input are cut
 MOST_STEPS = 5000  # so many steps are shown
 COMMENT = 84  # so many characters of a comment stand in a row
+
+
+CALM = re.compile(rb"calm ([0-9]{1,10})")
 
 
 class Differs(Exception):
@@ -59,7 +63,7 @@ def cut(given):
     for number, line in given.script:
         if line == b"" or line.startswith(b"#"):
             continue
-        rounds = int(line[5:]) if line.startswith(b"calm ") else 0
+        rounds = int(found[1]) if (found := CALM.fullmatch(line)) else 0
         if 1 < rounds <= left:
             left -= rounds
             events += [(number, place, b"calm 1") for place in range(1, rounds + 1)]

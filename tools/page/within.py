@@ -45,7 +45,7 @@ class Within:
         before = len(self.place.printed)
         asked = script_rules.read_line(" ".join(words), self.network.raw)
         if words[0] == "calm":
-            deeds = [deed for _ in range(int(words[1])) for deed in self.round()]
+            deeds = self.rounds_of(int(words[1]), words)
         else:
             told = self.model.happen(asked)
             state = self.state()
@@ -55,6 +55,13 @@ class Within:
         return deeds
 
     # ---- a round of a calm
+
+    def rounds_of(self, count, words):
+        """The deeds of a calm: of one that is not cut into its rounds the printed lines alone, or that it has passed."""
+        deeds = [deed for _ in range(count) for deed in self.round()]
+        if count == 1:
+            return deeds
+        return [deed for deed in deeds if deed.printed] or [Deed(words, None, [], self.state())]
 
     def round(self):
         """The deeds of a round: what prints a line, and each packet that arrives. Where there is none, the round itself."""
