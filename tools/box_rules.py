@@ -1,6 +1,6 @@
 """Plain mailboxes: their rules, read a second time.
 
-They were written from docs/mailboxes.md, in another language and another form than the definitions. `check-model` compares
+They were written from docs/mailboxes.md, in another language and another form than the definitions. `check model` compares
 the program with them.
 """
 

@@ -1,4 +1,4 @@
-"""Drivers that are built without proof, in a folder of their own, to compare code with a second reading of its rules."""
+"""Drivers that are built without proof, in a folder of their own, to compare code with an independent model of its rules."""
 
 import os
 import shutil

@@ -1,4 +1,4 @@
-/* check-failures loads this before the C library of a program (LD_PRELOAD). It reads these environment variables:
+/* check failures loads this before the C library of a program (LD_PRELOAD). It reads these environment variables:
    FAIL_ALLOCATION=N, FAIL_READ=N, FAIL_WRITE=N: the Nth allocation, the Nth read of standard input or the Nth
    write of standard output fails, and the file that FIRED names is made.
    SHORT=1: each such read and write moves one octet. */

@@ -3,7 +3,7 @@
 //! The first line has the hosts, as `HOST/IMP`. Every other line has the place of a host in it and a call with its arguments,
 //! as `0 listen 33 8`; with `ask` before it the call is made as a request. What comes in is written `accept STAMP message FLOW BITS OCTETS` or `accept STAMP rfnm FLOW`. Octets are
 //! in upper case hexadecimal, `-` for none. Printed are `ok` or `refused NAME`, each notice, and what `next_out` gives then.
-//! `check-hosts` compares all this with a second reading of the rules.
+//! `check hosts` compares all this with an independent model of the rules.
 #![tactic(auto)]
 
 use bit_messages::Bits;

@@ -2,7 +2,7 @@
 
 It was written from the rules that docs/hosts.md retells and from NIC 8246, in another language and another form than the
 definitions: what a host keeps is changed in place, and messages and commands are octets spelled from the formats.
-`check-hosts` compares the code with it.
+`check hosts` compares the code with it.
 """
 
 from imp_rules import Refused, address, octets, spell_host

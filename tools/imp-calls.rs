@@ -3,7 +3,7 @@
 //! The first line is `new IMP HOSTS PORTS`. Calls are written with their arguments, as `from_line PORT OCTETS`; a flow is
 //! `SOURCE DESTINATION LINK`, a host `HOST/IMP`, and octets are in upper case hexadecimal, `-` for none. Printed are `ok`, what
 //! a host took or `refused NAME`, and then each frame with its port. `ask FLOW NUMBER` prints what the queries tell.
-//! `check-imp` compares all this with a second reading of the rules.
+//! `check imp` compares all this with an independent model of the rules.
 #![tactic(auto)]
 
 use bit_messages::Bits;

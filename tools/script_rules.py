@@ -1,6 +1,6 @@
 """Topologies, script lines and whole inputs: the rules, read a second time.
 
-They were written from docs/program.md. `check-model` and `check-explain` stand on them.
+They were written from docs/program.md. `check model` and `check explain` stand on them.
 """
 
 import re

@@ -4,7 +4,7 @@
 //! The first line has the machine: `server LISTEN BASE`, `user PEER LISTEN OWN`, `echo RECEIVE SEND` or `terminal RECEIVE SEND`.
 //! Every other line is a notice of its host's program, as `opened 7 0/1 16 3 4`, or `refused`, which tells it that a request of
 //! it was refused. Printed is one line for each: the requests, then the outcome or the lines that have ended, parted by `;`.
-//! Octets are in upper case hexadecimal, `-` for none. `check-services` compares all this with a second reading of the rules.
+//! Octets are in upper case hexadecimal, `-` for none. `check services` compares all this with an independent model of the rules.
 #![tactic(auto)]
 
 use bit_messages::Bits;

@@ -2,7 +2,7 @@
 //!
 //! The first line has the IMPs, as `IMP:HOSTS` by rising number, and the second the lines, as `IMP-IMP`. What happens is
 //! written as in a script, and `alive FLOW NUMBER` asks whether that message or a packet of it is alive. Each crossing is printed as the simulator prints it, and a refusal as `refused NAME`; within
-//! `calm` refusals are not printed. `check-subnet` compares all this with a second reading of the rules.
+//! `calm` refusals are not printed. `check subnet` compares all this with an independent model of the rules.
 #![tactic(auto)]
 
 use bit_messages::Bits;

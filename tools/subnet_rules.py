@@ -1,7 +1,7 @@
 """The subnet: its rules, read a second time.
 
-It was written from docs/subnet.md over the second reading of one IMP, in another language and another form than the
-definitions. `check-model` compares the program with it. Each event prints what crosses, or why it is refused.
+It was written from docs/subnet.md over the independent model of one IMP, in another language and another form than the
+definitions. `check model` compares the program with it. Each event prints what crosses, or why it is refused.
 """
 
 from crossings import Crossed

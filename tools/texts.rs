@@ -1,7 +1,7 @@
 //! Makes one public call on a body of 8,064 bits over and over: `texts CALL COUNT`.
 //!
 //! CALL is `pad16` or `strip` (a body from its text of 8,063 bits, and back), `cut` (that text into eight packets), `write`
-//! or `read` (the eight packets into octets, and back). `measure-texts` proves and builds this program in a folder of its
+//! or `read` (the eight packets into octets, and back). `measure texts` proves and builds this program in a folder of its
 //! own, for each of the two states of the repository that it compares.
 #![tactic(auto)]
 

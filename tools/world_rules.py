@@ -1,8 +1,8 @@
 """Hosts that run their programs over a carrier, and the book of their connections: the rules, read a second time.
 
-It stands on the second readings of a carrier (`box_rules`, `subnet_rules`), of one host's program (`host_rules`) and of what
+It stands on the independent models of a carrier (`box_rules`, `subnet_rules`), of one host's program (`host_rules`) and of what
 runs on a host (`service_rules`), and was written from the rules that docs/world.md and docs/program.md retell, in another
-language and another form than the definitions. `check-model` compares the program with it. Each event prints what crosses,
+language and another form than the definitions. `check model` compares the program with it. Each event prints what crosses,
 what users are told, what their programs report, or why the event is refused.
 """
 

@@ -2,3 +2,4 @@ pub mod BodyLemmas
 pub mod OctetLemmas
 pub mod PackedLemmas
 pub mod ShiftLemmas
+pub mod lemmas

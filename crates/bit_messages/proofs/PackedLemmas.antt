@@ -6,7 +6,7 @@ use Rattle.std.proofs.lemmas.Nat.Bits.{bit_at-trailing_zeros}
 use Rattle.std.proofs.Math.Nat.{zero-div}
 use Rattle.std.specs.Bool.{beq}
 use Rattle.std.specs.Cmp.Lexicographic.{pointwise, same_text, other_text}
-use Rattle.std.proofs.lemmas.List.{take_at, take_all, nil_from_length, drop_at, drop_all, length-append, length-replicate, length-take-le, take-replicate, length-drop, get_or-append-add, take-take, drop-take, drop-drop, drop-append-le, take-append-le, append_assoc, append-nil, take-append-drop, set_split, replicate-append-replicate}
+use Rattle.std.proofs.lemmas.List.{take_at, take_all, drop_at, drop_all, length-append, length-replicate, length-take-le, take-replicate, length-drop, get_or-append-add, take-take, drop-take, drop-drop, drop-append-le, take-append-le, append_assoc, append-nil, take-append-drop, set_split, replicate-append-replicate}
 use Rattle.std.proofs.Math.ListN.{get_or-append}
 use Rattle.std.proofs.Math.Seq.{drop-append-add, drop-nil, take-append-add, take-length}
 use Rattle.std.proofs.lemmas.Bool.{cases_lt}
@@ -42,7 +42,7 @@ pub record Keeps (octets : List ℕ) (count : ℕ) (bits : List Bool) : Type 0 w
   pub packs : Packs octets bits
 
 -- behind whole octets
-pub bits_of-drop : (q : ℕ) (octets : List ℕ) → bits_of (drop q octets) ≡ drop (8 * q) (bits_of octets)
+bits_of-drop : (q : ℕ) (octets : List ℕ) → bits_of (drop q octets) ≡ drop (8 * q) (bits_of octets)
 bits_of-drop zero octets = refl
 bits_of-drop (suc q) [] = sym (drop-nil (8 * suc q))
 bits_of-drop (suc q) (n ∷ ns) =
@@ -52,14 +52,14 @@ bits_of-drop (suc q) (n ∷ ns) =
 pub bits_of-append : (front back : List ℕ) → bits_of (front ++ back) ≡ bits_of front ++ bits_of back
 bits_of-append front back = flat_map-append octet_bits front back
 
-pub bits_of-take : (q : ℕ) (octets : List ℕ) → q ≤ length octets → bits_of (take q octets) ≡ take (8 * q) (bits_of octets)
+bits_of-take : (q : ℕ) (octets : List ℕ) → q ≤ length octets → bits_of (take q octets) ≡ take (8 * q) (bits_of octets)
 bits_of-take q octets within =
     let size : length (bits_of (take q octets)) ≡ 8 * q = length-bits_of (take q octets) ∙ ap (λ (n : ℕ). 8 * n) (length-take-le q octets within) in
     let joined : bits_of octets ≡ bits_of (take q octets) ++ bits_of (drop q octets) = ap bits_of (sym (take-append-drop q octets)) ∙ bits_of-append (take q octets) (drop q octets) in
     sym (ap (λ (b : List Bool). take (8 * q) b) joined ∙ take_at (bits_of (take q octets)) (bits_of (drop q octets)) (8 * q) size)
 
 -- the bits behind which the zeros stand
-pub packs_view : (octets : List ℕ) (bits : List Bool) → Packs octets bits → take (length bits) (bits_of octets) ≡ bits
+packs_view : (octets : List ℕ) (bits : List Bool) → Packs octets bits → take (length bits) (bits_of octets) ≡ bits
 packs_view octets bits p = ap (λ (b : List Bool). take (length bits) b) p.same ∙ take_at bits (replicate p.zeros false) (length bits) refl
 
 pub packs_size : (octets : List ℕ) (bits : List Bool) (p : Packs octets bits) → 8 * length octets ≡ length bits + p.zeros
@@ -93,7 +93,7 @@ keeps octets count bits h view =
       packs = subst P view h.packs;
     }
 
-pub length-kept : (octets : List ℕ) (count : ℕ) → IsPacked octets count → length (take count (bits_of octets)) ≡ count
+length-kept : (octets : List ℕ) (count : ℕ) → IsPacked octets count → length (take count (bits_of octets)) ≡ count
 length-kept octets count h = length-take-le count (bits_of octets) (omega (arith, length-bits_of octets, h.within))
 
 -- a part of a list that is kept
@@ -334,10 +334,6 @@ pub if_ok : {T E : Type 0} (P Q : T → Type 0) (r : Result T E) → IfOk r P �
 if_ok P Q (Ok v) h f = f v h
 if_ok P Q (Err e) h f = tt
 
--- an octet with one bit
-pub one_bit : (octet : ℕ) (bit : Bool) → octet_bits octet ≡ bit ∷ replicate 7 false → Keeps (octet ∷ []) 1 (bit ∷ [])
-one_bit octet bit is = record { size = refl; packs = record { zeros = 7; same = append-nil (octet_bits octet) ∙ is; few = omega arith } }
-
 pub keeps_packed : (octets : List ℕ) (count : ℕ) (bits : List Bool) → Keeps octets count bits → IsPacked octets count
 keeps_packed octets count bits k = packed octets count bits k.size k.packs
 
@@ -373,13 +369,6 @@ part_keeps octets part count from to size bits k sum within p =
       size = (let whole : length bits ≡ count = sym k.size in sym (length-drop from (take to bits) ∙ ap (λ (n : ℕ). n - from) (length-take-le to bits (omega (arith, whole, within))) ∙ (let e : to - from ≡ size = omega (arith, sum) in e)));
       packs = packs;
     }
-
--- nothing put behind a list that is kept
-pub put_nothing : (octets more : List ℕ) (count size : ℕ) → IsPacked octets count → length more ≡ 0 → Packs octets (take count (bits_of octets) ++ take size (bits_of more))
-put_nothing octets more count size h none =
-    let empty : take size (bits_of more) ≡ [] = ap (λ (ns : List ℕ). take size (bits_of ns)) (nil_from_length more none) ∙ take_all size [] (omega arith) in
-    let P : List Bool → Type 0 = λ v. Packs octets v in
-    subst P (sym (append-nil (take count (bits_of octets))) ∙ ap (λ (b : List Bool). take count (bits_of octets) ++ b) (sym empty)) h.packs
 
 -- the octets of a part
 pub part_octets : (octets part : List ℕ) (count from size : ℕ) (bits : List Bool) → Keeps octets count bits → from + size ≤ count → All (λ n. n < 256) part

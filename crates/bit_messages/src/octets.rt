@@ -163,7 +163,8 @@ fn octet_with(bit: bool) -> u8
     if bit { 128 } else { 0 }
 }
 
-/// Octets are below 256. The function does nothing: its clause is what the type says of the octets.
+/// Octets are below 256. The function is there for the proof alone, and does nothing: its clause is what the type says of
+/// the octets.
 pub(crate) fn are_octets(octets: &[u8])
     ensures { All (λ n. n < 256) octets.now }
 {

@@ -21,7 +21,7 @@ network_fault octets document script fault.BadOptions parted known refused = abs
 network_fault octets document script (fault.BadLine number) parted known refused = absurd known
 
 -- once octets are an input, nothing but memory and a write can fail
-pub after_reading : (octets : List ℕ) (r : Result (Unit {0}) ScriptFault) → IsSomeInput octets → IfErr r IsReplayFault → MatchResult r (λ done. IsSomeInput octets) (IsInputFault octets)
+after_reading : (octets : List ℕ) (r : Result (Unit {0}) ScriptFault) → IsSomeInput octets → IfErr r IsReplayFault → MatchResult r (λ done. IsSomeInput octets) (IsInputFault octets)
 after_reading octets (Ok done) read known = read
 after_reading octets (Err fault.OutOfMemory) read known = tt
 after_reading octets (Err fault.CannotWrite) read known = read
@@ -42,7 +42,7 @@ write_fault (Err f) h = subst IsReplayFault (sym h) tt
 abbrev ends_with : ScriptFault → Result (Unit {0}) ScriptFault
 ends_with f = Err f
 
--- only want of memory is told as want of memory
+-- only running out of memory is told as running out of memory
 pub told_memory : (f : ReplayFault) (g : ScriptFault) → g ≡ told_as f → ends_with g ≡ ends_with fault.OutOfMemory → f ≡ replay.OutOfMemory
 told_memory replay.OutOfMemory g told is = refl
 told_memory replay.CannotWrite g told is = cc

@@ -11,22 +11,21 @@ use Rattle.topology.specs.Topology.{TopologyFields}
 use Rattle.topology.specs.declared.network.CarrierKind.{CarrierKind}
 use Rattle.topology.specs.declared.network.CarrierKind.TheVariants as kind
 use Rattle.world_replay.specs.Output as lines
-use Rattle.world_replay.proofs.News as lines_of
-use Rattle.world_replay.proofs.Replays as worlds
+use Rattle.world_replay.proofs.lemmas.News as lines_of
+use Rattle.world_replay.proofs.lemmas.Replays as worlds
 use Rattle.world_script.specs.declared.event.WorldEvent.{WorldEvent}
 use Rattle.command_line.specs.Carriers.{hosting, plain_calls, plain_of, subnet_calls, subnet_of}
 use Rattle.command_line.specs.Events.{Asked, Raw, World}
 use Rattle.command_line.specs.Replayed.{EndsFrom, EndsOn, EndsOver, ReplaysFrom, ReplaysInput, ReplaysOn, ReplaysOver, ShowsFrom, StopsFrom, StopsInput, WorldShowsFrom, WorldStopsFrom, book_text}
-use Rattle.script.specs.declared.event.Event.{Event}
+use Rattle.script.specs.declared.event.RawEvent.{RawEvent}
 use Rattle.command_line.proofs.OneInput.{OneInput, input_once}
 use Rattle.command_line.proofs.Settled.{plain_settled, subnet_settled}
-use Rattle.replay.proofs.Settled.{OneReplay, StartsWith, replays_once}
-use Rattle.replay.proofs.Settled as replay
-use Rattle.replay.proofs.Shown.{output-append}
+use Rattle.replay.proofs.lemmas.{OneReplay, StartsWith, output-append, replays_once}
+use Rattle.replay.proofs.lemmas.Settled as replay
 
 -- ---- a whole replay
 
-raw_once : {C : Type 0} (calls : Calls C) → AreSettled calls → (opening : C) (events : List Event) (shown more : List Shown) → ShowsFrom calls opening events shown → ShowsFrom calls opening events more → shown ≡ more
+raw_once : {C : Type 0} (calls : Calls C) → AreSettled calls → (opening : C) (events : List RawEvent) (shown more : List Shown) → ShowsFrom calls opening events shown → ShowsFrom calls opening events more → shown ≡ more
 raw_once calls settled opening events shown more h k =
     let one : OneReplay h.last k.last shown more = replays_once calls settled opening events h.last k.last shown more h.replayed k.replayed in
     one.lines
@@ -60,7 +59,7 @@ one_output book input before after other h k =
 
 -- ---- the first part of a replay
 
-raw_front : {C : Type 0} (calls : Calls C) → AreSettled calls → (opening : C) (events : List Event) (part whole : List Shown) → StopsFrom calls opening events part → ShowsFrom calls opening events whole → StartsWith whole part
+raw_front : {C : Type 0} (calls : Calls C) → AreSettled calls → (opening : C) (events : List RawEvent) (part whole : List Shown) → StopsFrom calls opening events part → ShowsFrom calls opening events whole → StartsWith whole part
 raw_front calls settled opening events part whole h k = replay.first_part calls settled opening events h.last k.last part whole h.stopped k.replayed
 
 world_front : {C : Type 0} (calls : Calls C) → AreSettled calls → (opening : C) (events : List WorldEvent) (part : List lines.Shown) (lives : List Life) (whole : List lines.Shown) → WorldStopsFrom (hosting calls) opening events part

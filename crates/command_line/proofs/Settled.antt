@@ -1,7 +1,7 @@
 -- The calls of both carriers leave a replay no choice.
 use Rattle.std.proofs.Common.{◌≡◌, ◌||◌, Bool, true, false, [], ◌∷◌, Option, Some, None, Result, Ok, Err, refl, sym, ap, subst, ◌∙◌}
 use Rattle.std.proofs.lemmas.Bool.{false≢true}
-use Rattle.leader1822.specs.Boxes.{Boxes, BoxesDecided, BoxesRound, BoxesTake, host_refusal, next_for, offer_refusal, offered, step_grows, step_refusal, stepped, take_grows, taken}
+use Rattle.leader1822.specs.Boxes.{Boxes, BoxesDecided, BoxesRound, BoxesTake, host_refusal, next_for, offer_refusal, offered, step_grows, step_refusal, stepped, take_grows, inbound_taken}
 use Rattle.leader1822.specs.Calls.{is_halt, is_memory}
 use Rattle.leader1822.specs.Host.{Host}
 use Rattle.leader1822.specs.declared.carrier.CarrierFault.{CarrierFault}
@@ -15,7 +15,7 @@ use Rattle.subnet.specs.Calls.{Decided, Fails, Kept, refusal_of, running}
 use Rattle.subnet.specs.Calls as subnet
 use Rattle.subnet.specs.Events as events
 use Rattle.subnet.specs.Working.{SubnetRound, SubnetTake}
-use Rattle.subnet.proofs.Showing.{round_log, take_log}
+use Rattle.subnet.proofs.lemmas.{round_log, take_log}
 use Rattle.command_line.specs.Carriers.{plain_calls, subnet_calls}
 
 -- ---- one call
@@ -77,10 +77,10 @@ one_step refusal grows left old r q new other h goes k on =
 
 one_taking : (old : Boxes) (g : Host) (r q : Result (Option Inbound) CarrierFault) (new other : Boxes) → BoxesTake old g r new → GoesOn (outcome_of r) → BoxesTake old g q other → GoesOn (outcome_of q) → SameEnd r q new other
 one_taking old g r q new other h goes k on =
-    let P : Option Inbound → Type 0 = λ o. (o ≡ next_for old g) × (new ≡ taken old g o) in
-    let Q : Option Inbound → Type 0 = λ o. (o ≡ next_for old g) × (other ≡ taken old g o) in
+    let P : Option Inbound → Type 0 = λ o. (o ≡ next_for old g) × (new ≡ inbound_taken old g o) in
+    let Q : Option Inbound → Type 0 = λ o. (o ≡ next_for old g) × (other ≡ inbound_taken old g o) in
     same_answer (host_refusal old g) P Q old r q new other
-    (λ x y a b. (a.0 ∙ sym b.0, a.1 ∙ ap (taken old g) (a.0 ∙ sym b.0) ∙ sym b.1))
+    (λ x y a b. (a.0 ∙ sym b.0, a.1 ∙ ap (inbound_taken old g) (a.0 ∙ sym b.0) ∙ sym b.1))
     (settled (host_refusal old g) (take_grows old g) P old r new h (goes_back r goes))
     (settled (host_refusal old g) (take_grows old g) Q old q other k (goes_back q on))
 
@@ -102,7 +102,7 @@ refused_log old g fault.NoRoom new h = ap (λ (b : Boxes). b.log) h.1
 refused_log old g fault.Stopped new h = ap (λ (b : Boxes). b.log) h.1
 refused_log old g fault.OutOfMemory new h = h.2.log
 
-given_log : (old : Boxes) (g : Host) (o : Option Inbound) (new : Boxes) → new ≡ taken old g o → Grows plain_calls old new
+given_log : (old : Boxes) (g : Host) (o : Option Inbound) (new : Boxes) → new ≡ inbound_taken old g o → Grows plain_calls old new
 given_log old g None new h = record { crossings = []; grown = ap (λ (b : Boxes). b.log) h }
 given_log old g (Some (inbound.Answer kind f)) new h = record { crossings = crossing.Answer kind f ∷ []; grown = ap (λ (b : Boxes). b.log) h }
 given_log old g (Some (inbound.Message m)) new h = record { crossings = crossing.In m ∷ []; grown = ap (λ (b : Boxes). b.log) h }
@@ -144,8 +144,8 @@ one_call refusal grows left old r q new other h goes k on =
 
 one_take : (old : Kept) (g : Host) (r q : Result (Option Inbound) CarrierFault) (new other : Kept) → SubnetTake old g r new → GoesOn (outcome_of r) → SubnetTake old g q other → GoesOn (outcome_of q) → SameEnd r q new other
 one_take old g r q new other h goes k on =
-    let P : Option Inbound → Type 0 = λ o. (o ≡ events.taken old.net g) × (new ≡ running (events.take_in old.net g)) in
-    let Q : Option Inbound → Type 0 = λ o. (o ≡ events.taken old.net g) × (other ≡ running (events.take_in old.net g)) in
+    let P : Option Inbound → Type 0 = λ o. (o ≡ events.taken_by_host old.net g) × (new ≡ running (events.take_in old.net g)) in
+    let Q : Option Inbound → Type 0 = λ o. (o ≡ events.taken_by_host old.net g) × (other ≡ running (events.take_in old.net g)) in
     let refusal : Option CarrierFault = refusal_of old (λ n. events.take_refusal n g) in
     same_answer refusal P Q old r q new other
     (λ x y a b. (a.0 ∙ sym b.0, a.1 ∙ sym b.1))
@@ -160,7 +160,7 @@ refused_take : (old : Kept) (g : Host) (f : CarrierFault) (new : Kept) → Subne
 refused_take old g f new h = failed_log (refusal_of old (λ n. events.take_refusal n g)) (subnet.take_grows old.net g) (is_memory f) f old new h
 
 take_grew : (old : Kept) (g : Host) (r : Result (Option Inbound) CarrierFault) (new : Kept) → SubnetTake old g r new → Grows subnet_calls old new
-take_grew old g (Ok o) new h = record { crossings = events.crossings_of (events.taken old.net g); grown = ap (λ (k : Kept). k.net.log) h.1.1 ∙ take_log old.net g }
+take_grew old g (Ok o) new h = record { crossings = events.crossings_of (events.taken_by_host old.net g); grown = ap (λ (k : Kept). k.net.log) h.1.1 ∙ take_log old.net g }
 take_grew old g (Err f) new h = record { crossings = []; grown = refused_take old g f new h }
 
 round_logs : (old : Kept) (r : Result (Unit {0}) CarrierFault) (new : Kept) → SubnetRound old r new → new.net.log ≡ old.net.log

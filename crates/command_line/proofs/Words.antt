@@ -305,7 +305,7 @@ pub flag_is : (r b : Bool) (text : Option Text) → text ≡ Some (flag_text b) 
 flag_is r true text e if_true if_false = if_true e
 flag_is r false text e if_true if_false = if_false e
 
--- an error that is no want of memory comes of words that ask for nothing
+-- an error that is no running out of memory comes of words that ask for nothing
 pub refused : (words : List Text) (e : Error) → Verdict words → HasKind (fault_of command_line words) e → kind_of e ≢ kind.OutOfMemory → options_of words ≡ None
 refused words e (inl p) has other = absurd (elim (subst (λ kinds. HasKind kinds e) p.1 has) [ inl memory ↦ other memory | inr among ↦ among ])
 refused words e (inr s) has other = s.0

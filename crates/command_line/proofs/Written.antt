@@ -3,23 +3,22 @@ use Rattle.std.proofs.Common.{◌≡◌, ◌⊎◌, inl, inr, ℕ, Bool, true, f
 use Rattle.std.proofs.lemmas.List.{append-nil}
 use Rattle.std.specs.Io.KnownBytes.{Appends, Keeps}
 use Rattle.leader1822.specs.Messages.{SafeMessages}
-use Rattle.leader1822.proofs.MessageLaw.{safe_messages}
+use Rattle.leader1822.proofs.lemmas.{safe_messages}
 use Rattle.net_sim.specs.Carriers.{shown}
 use Rattle.net_sim.specs.World.{WorldState, opening_world}
 use Rattle.net_sim.specs.declared.event.WorldFault.TheVariants.{Carrier}
 use Rattle.replay.specs.Output.{Shown, Writes, crossings_of, output}
 use Rattle.replay.specs.Output as raw
 use Rattle.replay.specs.Replay.{Calls, EndsIn, Replays, StopsIn}
-use Rattle.replay.proofs.Replays.{replays_show, stops_show}
-use Rattle.replay.proofs.Shown.{appends_more, appends_none, on_ok}
-use Rattle.script.specs.Input.{ended}
-use Rattle.script.specs.declared.event.Event.{Event}
+use Rattle.replay.proofs.lemmas.{appends_more, appends_none, on_ok, replays_show, stops_show}
+use Rattle.script.specs.Input.{ended_line}
+use Rattle.script.specs.declared.event.RawEvent.{RawEvent}
 use Rattle.topology.specs.Topology.{TopologyFields}
 use Rattle.topology.specs.declared.network.CarrierKind.{CarrierKind}
 use Rattle.topology.specs.declared.network.CarrierKind.TheVariants as kind
 use Rattle.world_replay.specs.Output as lines
 use Rattle.world_replay.specs.Replay as worlds
-use Rattle.world_replay.proofs.Replays as world
+use Rattle.world_replay.proofs.lemmas.Replays as world
 use Rattle.world_script.specs.declared.event.WorldEvent.{WorldEvent}
 use Rattle.command_line.specs.Carriers.{hosting, plain_calls, plain_of, subnet_calls, subnet_of}
 use Rattle.command_line.specs.Events.{Asked, Raw, World}
@@ -30,7 +29,7 @@ use Rattle.command_line.specs.declared.fault.ScriptFault.{ScriptFault}
 -- ---- without host programs
 
 -- from an opening, at which nothing has crossed: a whole replay, and the last line
-pub writes_all : {C : Type 0} (calls : Calls C) (opening last : C) (events : List Event) (a b c : Option (List ℕ)) → (calls.seen opening).log ≡ [] → Writes (Replays calls opening events last) a b
+pub writes_all : {C : Type 0} (calls : Calls C) (opening last : C) (events : List RawEvent) (a b c : Option (List ℕ)) → (calls.seen opening).log ≡ [] → Writes (Replays calls opening events last) a b
     → SafeMessages (calls.seen last).log → Appends b c (codes "end\n") → WritesAll (ShowsFrom calls opening events) a c
 writes_all calls opening last events a b c empty h safe end = record {
   shown = h.shown;
@@ -43,8 +42,8 @@ writes_all calls opening last events a b c empty h safe end = record {
   written = appends_more a b c (output h.shown) (codes "end\n") h.written end;
 }
 
--- a replay that ends for want of memory
-pub writes_part : {C : Type 0} (calls : Calls C) (opening last : C) (events : List Event) (a b : Option (List ℕ)) → (calls.seen opening).log ≡ [] → Writes (EndsIn calls StopsIn opening events last) a b
+-- a replay that runs out of memory
+pub writes_part : {C : Type 0} (calls : Calls C) (opening last : C) (events : List RawEvent) (a b : Option (List ℕ)) → (calls.seen opening).log ≡ [] → Writes (EndsIn calls StopsIn opening events last) a b
     → SafeMessages (calls.seen last).log → Writes (StopsFrom calls opening events) a b
 writes_part calls opening last events a b empty h safe = record {
   shown = h.shown;
@@ -97,9 +96,6 @@ world_writes_part {C} calls carrier opening last events a b is h safe =
 
 -- ---- over the carrier that a topology names
 
-pub over_all : (carrier : CarrierKind) (network : TopologyFields) (book : Bool) (events : Asked) (a b : Option (List ℕ)) → network.carrier ≡ carrier → ReplaysOver carrier network book events a b → ReplaysOn network book events a b
-over_all carrier network book events a b is h = subst (λ (k : CarrierKind). ReplaysOver k network book events a b) (sym is) h
-
 pub over_part : (carrier : CarrierKind) (network : TopologyFields) (events : Asked) (a b : Option (List ℕ)) → network.carrier ≡ carrier → (Keeps a b ⊎ EndsOver carrier network events a b) → Keeps a b ⊎ EndsOn network events a b
 over_part carrier network events a b is (inl kept) = inl kept
 over_part carrier network events a b is (inr h) = inr (subst (λ (k : CarrierKind). EndsOver k network events a b) (sym is) h)
@@ -132,8 +128,8 @@ as_world (raw.Refused f ∷ shown) = lines.Refused (Carrier f) ∷ as_world show
 same_output : (shown : List Shown) → output shown ≡ lines.output (as_world shown)
 unfolding as_world
 same_output [] = refl
-same_output (raw.Crossed c ∷ shown) = ap (λ xs. ended (raw.shown_text (raw.Crossed c)) ++ xs) (same_output shown)
-same_output (raw.Refused f ∷ shown) = ap (λ xs. ended (raw.shown_text (raw.Refused f)) ++ xs) (same_output shown)
+same_output (raw.Crossed c ∷ shown) = ap (λ xs. ended_line (raw.shown_text (raw.Crossed c)) ++ xs) (same_output shown)
+same_output (raw.Refused f ∷ shown) = ap (λ xs. ended_line (raw.shown_text (raw.Refused f)) ++ xs) (same_output shown)
 
 same_crossings : (shown : List Shown) → crossings_of shown ≡ lines.crossings_of (as_world shown)
 unfolding as_world

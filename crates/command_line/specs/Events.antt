@@ -1,7 +1,7 @@
 -- What scripts ask for.
 use Rattle.std.specs.Prelude.{ℕ, Bool, true, false, List}
 use Rattle.script.specs.Script.{AskFor, IsFirstBad, IsFirstBadAs}
-use Rattle.script.specs.declared.event.Event.{Event}
+use Rattle.script.specs.declared.event.RawEvent.{RawEvent}
 use Rattle.world_script.specs.WorldScript as world
 use Rattle.world_script.specs.WorldSpelling.{IsWorldEvent, world_spelling}
 use Rattle.world_script.specs.declared.event.WorldEvent.{WorldEvent}
@@ -10,7 +10,7 @@ use Rattle.command_line.specs.declared.input.Events.TheVariants as given
 
 -- events of a network without host programs, or of one whose hosts have programs
 pub data Asked : Type 0 where
-  Raw : List Event → Asked
+  Raw : List RawEvent → Asked
   World : List WorldEvent → Asked
 
 abbrev pub asked_of : Events → Asked

@@ -21,7 +21,7 @@ options_after options (word ∷ words) = option_and_then (λ more. options_after
 abbrev pub options_of : List (List ℕ) → Option Options
 options_of words = options_after (record { book = false; check = false }) words
 
--- the options that the words ask for are given, or it is told that they ask for none; want of memory may come at any words
+-- the options that the words ask for are given, or it is told that they ask for none; memory may run out at any words
 abbrev pub Asked : Option Options → Result Options OptionsFault → Type 0
 Asked asked (Ok options) = asked ≡ Some options
 Asked asked (Err fault.BadOptions) = asked ≡ None

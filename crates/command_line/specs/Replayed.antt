@@ -8,7 +8,7 @@ use Rattle.net_sim.specs.World as world
 use Rattle.net_sim.specs.declared.life.Life.{Life}
 use Rattle.replay.specs.Output.{Shown, Writes, crossings_of, output}
 use Rattle.replay.specs.Replay.{Calls, EndsIn, Replays, StopsIn}
-use Rattle.script.specs.declared.event.Event.{Event}
+use Rattle.script.specs.declared.event.RawEvent.{RawEvent}
 use Rattle.topology.specs.Topology.{TopologyFields}
 use Rattle.topology.specs.declared.network.CarrierKind.{CarrierKind}
 use Rattle.topology.specs.declared.network.CarrierKind.TheVariants as kind
@@ -24,14 +24,14 @@ use Rattle.command_line.specs.Input.{IsInput}
 
 -- events are replayed over a carrier with such calls, which shows these lines; the lines have all that crossed since its
 -- opening, and that is a log that every host may rely on
-pub record ShowsFrom {C : Type 0} (calls : Calls C) (opening : C) (events : List Event) (shown : List Shown) : Type 0 where
+pub record ShowsFrom {C : Type 0} (calls : Calls C) (opening : C) (events : List RawEvent) (shown : List Shown) : Type 0 where
   pub last : C
   pub replayed : Replays calls opening events last shown
   pub crossed : (calls.seen last).log ≡ reverse (crossings_of shown)
   pub messages : SafeMessages (calls.seen last).log
 
 -- memory ran out in one of the events: what was shown by then, and all that crossed
-pub record StopsFrom {C : Type 0} (calls : Calls C) (opening : C) (events : List Event) (shown : List Shown) : Type 0 where
+pub record StopsFrom {C : Type 0} (calls : Calls C) (opening : C) (events : List RawEvent) (shown : List Shown) : Type 0 where
   pub last : C
   pub stopped : EndsIn calls StopsIn opening events last shown
   pub crossed : (calls.seen last).log ≡ reverse (crossings_of shown)

@@ -14,11 +14,11 @@ use crate::input::Events;
 use headline::book_of;
 use leader1822::{Carrier, PlainBoxes};
 use net_sim::World;
-use script::Event;
+use script::RawEvent;
 use std::alloc::{AllocError, Global};
 use std::io::Write;
 use subnet::Subnet;
-use topology::{CarrierKind, Ends, Topology};
+use topology::{CarrierKind, LineEnds, Topology};
 use world_replay::print_lives;
 use world_script::WorldEvent;
 
@@ -75,7 +75,7 @@ fn replay_over<C: Carrier, W: Write>(
 /// Errors: `CannotWrite`; `OutOfMemory`, after which what the first of the events show is written.
 fn replay_raw<C: Carrier, W: Write>(
     mut carrier: C,
-    events: &[Event],
+    events: &[RawEvent],
     writer: &mut W,
 ) -> Result<(), ScriptFault>
     requires { (C.seen carrier).log ≡ [] }
@@ -144,7 +144,7 @@ fn subnet_of(alloc: Global, network: &Topology) -> Result<Subnet, AllocError>
 /// The ends of lines, as a subnet takes them.
 ///
 /// Errors: `AllocError`.
-fn ends_of(alloc: Global, lines: &[Ends]) -> Result<Vec<subnet::Ends>, AllocError>
+fn ends_of(alloc: Global, lines: &[LineEnds]) -> Result<Vec<subnet::Ends>, AllocError>
     ensures { IfOk result (λ ends. ends.items ≡ ends_of lines.now) }
 {
     let mut ends = Vec::new(alloc);

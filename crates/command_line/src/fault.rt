@@ -36,8 +36,8 @@ pub enum ScriptFault {
 }
 
 impl ScriptFault {
-    /// The exit status: 1 for options, reading and topology, 2 for a line of the script, 3 for want of memory
-    /// and a write that failed.
+    /// The exit status: 1 for options, reading and topology, 2 for a line of the script, 3 when memory runs out
+    /// or a write fails.
     pub fn status(&self) -> u8
         ensures { result ≡ status_of self.now }
     {

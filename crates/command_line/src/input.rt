@@ -9,7 +9,7 @@ ghost use Rattle.command_line.specs.Steps.{IsEventsFault, IsNetworkFault, IsRead
 ghost use Rattle.topology.specs.Topology.{TopologyFields};
 
 use crate::fault::ScriptFault;
-use script::{Event, LineFault, MAX_INPUT, read_script, split_input};
+use script::{LineFault, MAX_INPUT, RawEvent, read_script, split_input};
 use std::alloc::Global;
 use std::io::{ErrorKind, Read};
 use std::str;
@@ -20,7 +20,7 @@ use world_script::{WorldEvent, read_world_script};
 #[derive(Drop)]
 pub(crate) enum Events {
     /// Events of a network without host programs.
-    Raw(Vec<Event>),
+    Raw(Vec<RawEvent>),
     /// Events of a network whose hosts have programs.
     World(Vec<WorldEvent>),
 }

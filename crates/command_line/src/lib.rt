@@ -6,7 +6,7 @@
 //!
 //! An input is a topology, the marker line `%` and a script. A caller may rely on three things. Every input is
 //! replayed or refused by name, with the first fault of the list. What is written is what the replay shows.
-//! After want of memory the output is the first part of that.
+//! After memory has run out the output is a prefix of that.
 //!
 //! Nothing here knows where words and octets come from, nor what becomes of a fault.
 #![tactic(auto)]

@@ -45,7 +45,7 @@ pub fn run<R: Read, W: Write>(
     // a fault that is found before the replay leaves nothing written
     ensures untouched { IfErr result (λ f. f ≢ ScriptFault.CannotWrite → f ≢ ScriptFault.OutOfMemory → writer.new ≡ writer.old) }
 
-    // after want of memory the output is the first part of what the replay would write
+    // after memory has run out the output is a prefix of what the replay would write
     ensures ran_in_part { result ≡ Err ScriptFault.OutOfMemory → RanInPart (W.contents writer.old) (W.contents writer.new) }
     ensures first_part { result ≡ Err ScriptFault.OutOfMemory → IfSome (R.remaining reader.old) (λ octets. Keeps (W.contents writer.old) (W.contents writer.new) ⊎ StopsInput octets (W.contents writer.old) (W.contents writer.new)) }
 {
@@ -92,11 +92,11 @@ pub fn run_script<R: Read, W: Write>(
     // a fault that is found before the replay leaves nothing written
     ensures untouched { IfErr result (λ f. f ≢ ScriptFault.CannotWrite → f ≢ ScriptFault.OutOfMemory → writer.new ≡ writer.old) }
 
-    // after want of memory the output is the first part of what the replay would write
+    // after memory has run out the output is a prefix of what the replay would write
     ensures ran_in_part { result ≡ Err ScriptFault.OutOfMemory → RanInPart (W.contents writer.old) (W.contents writer.new) }
     ensures first_part { result ≡ Err ScriptFault.OutOfMemory → IfSome (R.remaining reader.old) (λ octets. Keeps (W.contents writer.old) (W.contents writer.new) ⊎ StopsInput octets (W.contents writer.old) (W.contents writer.new)) }
 
-    // with `check` want of memory leaves nothing written
+    // with `check` nothing is written when memory runs out
     ensures check_memory { check ≡ true → result ≡ Err ScriptFault.OutOfMemory → writer.new ≡ writer.old }
 {
     let octets = read_octets(alloc, reader)?;

@@ -2,7 +2,7 @@
 use Rattle.std.proofs.Common.{◌≡◌, Bool, true, false, List, [], ◌∷◌, ◌++◌, None, inl, inr, refl, ap, sym, ◌∙◌, subst, append_assoc, if◌then◌else◌}
 use Rattle.leader1822.specs.Mailboxes.{Box, Mail, Passing, WaitsWith, MailNeeds, mail_after, mail_of, IsFlowRun}
 use Rattle.flow_law.specs.View.{View, Packet, Queued, mail_now}
-use Rattle.flow_law.specs.Moves.{Move, Needs, Makes, Either, CanOffer, CanTakeMessage, NeedsAll, Grown, queued, after, after_all, shows, shown_by}
+use Rattle.flow_law.specs.Moves.{Move, Needs, Makes, Either, CanOffer, CanTakeMessage, NeedsAll, Grown, queued_text, view_moved, after_all, shows, shown_by}
 use Rattle.flow_law.specs.Invariant.{Invariant, Held}
 use Rattle.flow_law.specs.Follows.{Sound}
 use Rattle.flow_law.proofs.Clauses.{invariant_less}
@@ -18,7 +18,7 @@ none_made v t made none h = invariant_less v t (Either t made) (λ x there. elim
 ]) h
 
 -- each move keeps the clauses
-pub invariant_after : {Piece : List Bool → Packet → Type 0} (m : Move) (v : View) (t : Packet → Type 0) → Needs Piece m v t → Invariant Piece v t → Invariant Piece (after m v) (Either t (Makes Piece m v))
+pub invariant_after : {Piece : List Bool → Packet → Type 0} (m : Move) (v : View) (t : Packet → Type 0) → Needs Piece m v t → Invariant Piece v t → Invariant Piece (view_moved m v) (Either t (Makes Piece m v))
 invariant_after Move.Quiet v t needs h = none_made v t _ (λ x none. none) h
 invariant_after (Move.DeadNow place text) v t needs h = none_made _ t _ (λ x none. none) (dead_now v t place text needs h)
 invariant_after (Move.Begin place text) v t needs h = begin_sent v t place text needs h
@@ -65,12 +65,12 @@ taken_holds : {Piece : List Bool → Packet → Type 0} (v : View) (t : Packet �
 taken_holds v t oldest others can h =
     let held : Held v.from_up v.outstanding v.queue v.box = held_there v t oldest others can h in
     let waits : v.queue ≡ oldest ∷ others = can.waits in
-    let one : v.queue ≡ queued held.number held.text ∷ [] = held.one in
-    let same : queued held.number held.text ≡ oldest = cc in
+    let one : v.queue ≡ queued_text held.number held.text ∷ [] = held.one in
+    let same : queued_text held.number held.text ≡ oldest = cc in
     subst (λ (b : Box). WaitsWith b oldest.text) (sym held.waits) (ap (λ (q : Queued). q.text) same)
 
 -- what a move shows is what the mailbox allows
-pub shows_run : {Piece : List Bool → Packet → Type 0} (m : Move) (v : View) (t : Packet → Type 0) → Needs Piece m v t → Invariant Piece v t → (start : Mail) (seen : List Passing)
+shows_run : {Piece : List Bool → Packet → Type 0} (m : Move) (v : View) (t : Packet → Type 0) → Needs Piece m v t → Invariant Piece v t → (start : Mail) (seen : List Passing)
     → mail_of start seen ≡ mail_now v → IsFlowRun start seen → IsFlowRun start (shows m v ++ seen)
 shows_run Move.Quiet v t needs h start seen at run = run
 shows_run (Move.DeadNow place text) v t needs h start seen at run = one_seen (Passing.Put place text) start (mail_now v) seen at (needs.source, offered_empty v t needs h) run
@@ -98,7 +98,7 @@ stop_mail : (p : Passing) (up : Bool) (start now later : Mail) (seen : List Pass
 stop_mail p true start now later seen at goes stays = ap (mail_after p) at ∙ goes refl
 stop_mail p false start now later seen at goes stays = at ∙ stays refl
 
-pub shows_mail : (m : Move) (v : View) (start : Mail) (seen : List Passing) → mail_of start seen ≡ mail_now v → mail_of start (shows m v ++ seen) ≡ mail_now (after m v)
+shows_mail : (m : Move) (v : View) (start : Mail) (seen : List Passing) → mail_of start seen ≡ mail_now v → mail_of start (shows m v ++ seen) ≡ mail_now (view_moved m v)
 shows_mail Move.Quiet v start seen at = at
 shows_mail (Move.DeadNow place text) v start seen at = ap (mail_after (Passing.Put place text)) at
 shows_mail (Move.Begin place text) v start seen at = ap (mail_after (Passing.Put place text)) at
@@ -112,10 +112,10 @@ shows_mail Move.StopSource v start seen at = ap (mail_after Passing.SourceDown) 
 shows_mail Move.StartSource v start seen at = ap (mail_after Passing.SourceUp) at
 shows_mail Move.StopDestination v start seen at = ap (mail_after Passing.DestinationDown) at
 shows_mail Move.StartDestination v start seen at = ap (mail_after Passing.DestinationUp) at
-shows_mail Move.StopFrom v start seen at = stop_mail Passing.SourceDown v.source start (mail_now v) (mail_now (after Move.StopFrom v)) seen at (λ up. refl)
+shows_mail Move.StopFrom v start seen at = stop_mail Passing.SourceDown v.source start (mail_now v) (mail_now (view_moved Move.StopFrom v)) seen at (λ up. refl)
     (λ down. ap (λ (s : Bool). let m : Mail = record { source = s; destination = v.destination; box = v.box } in m) down)
 shows_mail Move.StartFrom v start seen at = at
-shows_mail Move.StopTo v start seen at = stop_mail Passing.DestinationDown v.destination start (mail_now v) (mail_now (after Move.StopTo v)) seen at (λ up. refl)
+shows_mail Move.StopTo v start seen at = stop_mail Passing.DestinationDown v.destination start (mail_now v) (mail_now (view_moved Move.StopTo v)) seen at (λ up. refl)
     (λ down. ap (λ (d : Bool). let m : Mail = record { source = v.source; destination = d; box = v.box } in m) down)
 shows_mail Move.StartTo v start seen at = at
 shows_mail (Move.GiveUp number) v start seen at = at
@@ -128,7 +128,7 @@ pub sound_less : {Piece : List Bool → Packet → Type 0} (start : Mail) (seen 
 sound_less start seen v t s less h = record { clauses = invariant_less v t s less h.clauses; run = h.run; mail = h.mail }
 
 pub sound_after : {Piece : List Bool → Packet → Type 0} (m : Move) (start : Mail) (seen : List Passing) (v : View) (t : Packet → Type 0) → Needs Piece m v t
-    → Sound Piece start seen v t → Sound Piece start (shows m v ++ seen) (after m v) (Either t (Makes Piece m v))
+    → Sound Piece start seen v t → Sound Piece start (shows m v ++ seen) (view_moved m v) (Either t (Makes Piece m v))
 sound_after m start seen v t needs h = record {
   clauses = invariant_after m v t needs h.clauses;
   run = shows_run m v t needs h.clauses start seen h.mail h.run;

@@ -5,12 +5,12 @@ use Rattle.leader1822.specs.declared.crossing.Answer.{Answer}
 use Rattle.leader1822.specs.declared.crossing.Answer.TheVariants as answer
 use Rattle.leader1822.specs.Mailboxes.{Box, Fits, fetched}
 use Rattle.flow_law.specs.View.{View, Packet, Queued, Kind}
-use Rattle.flow_law.specs.Moves.{Move, New, CanNote, CanQueue, CanFree, CanTakeMessage, CanGiveUp, Brings, IsTold, Either, with_answer, queued, after}
+use Rattle.flow_law.specs.Moves.{Move, New, CanNote, CanQueue, CanFree, CanTakeMessage, CanGiveUp, Brings, IsTold, Either, with_answer, queued_text, view_moved}
 use Rattle.flow_law.specs.Invariant.{Invariant, Begun, Carried, Held, Gone, Busy}
 use Rattle.flow_law.proofs.Clauses.{idle_new, idle_queue, dead_fits, shut_new, shut_queue, noted, begun_itself, new_too, one_there}
 
 pub note_gone : {Piece : List Bool → Packet → Type 0} (v : View) (t : Packet → Type 0) (x : Packet) → CanNote v t x → Invariant Piece v t
-    → Invariant Piece (after (Move.NoteGone x) v) (Either t (IsTold Kind.Dead x.number))
+    → Invariant Piece (view_moved (Move.NoteGone x) v) (Either t (IsTold Kind.Dead x.number))
 note_gone {Piece} v t x can h =
     let c : Carried Piece v.box v.queue x = h.carried x can.there can.new in
     let old : (y : Packet) → Either t (IsTold Kind.Dead x.number) y → New v.to_up (Some x.number) y → ⊥ = λ y there new. elim there [
@@ -50,7 +50,7 @@ same_text {Piece} v t x text can h c = can.joined c.text (λ y ty kind number.
     subst P same d.piece)
 
 pub whole : {Piece : List Bool → Packet → Type 0} (v : View) (t : Packet → Type 0) (x : Packet) (text : List Bool) → CanQueue Piece v t x text → Invariant Piece v t
-    → Invariant Piece (after (Move.Whole x text) v) t
+    → Invariant Piece (view_moved (Move.Whole x text) v) t
 whole {Piece} v t x text can h =
     let c : Carried Piece v.box v.queue x = h.carried x can.note.there can.note.new in
     let old : (y : Packet) → t y → New v.to_up (Some x.number) y → ⊥ = noted v t h x can.note.there can.note.new in
@@ -68,7 +68,7 @@ whole {Piece} v t x text can h =
         number = x.number;
         place = c.place;
         text = text;
-        one = ap (λ (q : List Queued). q ++ queued x.number text ∷ []) c.unread;
+        one = ap (λ (q : List Queued). q ++ queued_text x.number text ∷ []) c.unread;
         waits = c.waits ∙ ap (λ (u : List Bool). Box.Waiting c.place u) (sym (same_text v t x text can h c));
         awaited = λ up. h.expected up x can.note.there can.note.new;
       });
@@ -80,7 +80,7 @@ whole {Piece} v t x text can h =
 
 -- ---- the outstanding message is settled by an answer
 
--- an answer that fits the box, while nothing is on its way to the destination
+-- an answer that fits the box, while nothing is in transit to the destination
 pub record Ends (v : View) (t : Packet → Type 0) (kind : Answer) : Type 0 where
   pub fits : Fits kind v.box
   pub unread : v.queue ≡ []
@@ -132,11 +132,11 @@ brought v t x Kind.Dead answer.Rfnm is brings tx awaited h = absurd brings
 brought v t x Kind.Dead answer.Incomplete is brings tx awaited h = absurd brings
 
 pub freed : {Piece : List Bool → Packet → Type 0} (v : View) (t : Packet → Type 0) (x : Packet) (kind : Answer) → CanFree v t x kind → Invariant Piece v t
-    → Invariant Piece (after (Move.Freed x kind) v) t
+    → Invariant Piece (view_moved (Move.Freed x kind) v) t
 freed v t x kind can h = ended v t kind x.number can.awaited (brought v t x x.kind kind refl can.brings can.there can.awaited h) h
 
 pub given_up : {Piece : List Bool → Packet → Type 0} (v : View) (t : Packet → Type 0) (number : ℕ) → CanGiveUp v t number → Invariant Piece v t
-    → Invariant Piece (after (Move.GiveUp number) v) t
+    → Invariant Piece (view_moved (Move.GiveUp number) v) t
 given_up v t number can h =
     let awaited : v.outstanding ≡ Some number = can.awaited in
     let up : v.from_up ≡ true = h.sender number awaited in
@@ -147,7 +147,7 @@ given_up v t number can h =
         | inl unread ↦ unread
         | inr held ↦ (let same : v.outstanding ≡ Some held.number = held.awaited up in
             let number : held.number ≡ number = cc in
-            absurd (can.unread (queued held.number held.text) (one_there v.queue (queued held.number held.text) held.one) number))
+            absurd (can.unread (queued_text held.number held.text) (one_there v.queue (queued_text held.number held.text) held.one) number))
       ];
       none = λ x tx new. (let same : v.outstanding ≡ Some x.number = h.expected up x tx new in can.no_piece x tx new.data_packet (cc));
     }) h
@@ -155,11 +155,11 @@ given_up v t number can h =
 -- ---- hosts take what waits for them
 
 pub take_message : {Piece : List Bool → Packet → Type 0} (v : View) (t : Packet → Type 0) (oldest : Queued) (others : List Queued) → CanTakeMessage v oldest others → Invariant Piece v t
-    → Held v.from_up v.outstanding v.queue v.box → Invariant Piece (after (Move.TakeMessage oldest others) v) (Either t (IsTold Kind.Rfnm oldest.number))
+    → Held v.from_up v.outstanding v.queue v.box → Invariant Piece (view_moved (Move.TakeMessage oldest others) v) (Either t (IsTold Kind.Rfnm oldest.number))
 take_message {Piece} v t oldest others can h held =
     let waits : v.queue ≡ oldest ∷ others = can.waits in
-    let one : v.queue ≡ queued held.number held.text ∷ [] = held.one in
-    let same : oldest ≡ queued held.number held.text = cc in
+    let one : v.queue ≡ queued_text held.number held.text ∷ [] = held.one in
+    let same : oldest ≡ queued_text held.number held.text = cc in
     let rest : others ≡ [] = cc in
     let number : oldest.number ≡ held.number = ap (λ (q : Queued). q.number) same in
     let box : fetched v.box ≡ Box.Taken held.place held.text = ap fetched held.waits in
@@ -231,7 +231,7 @@ told v t oldest others waits h =
     ]
 
 pub take_answer : {Piece : List Bool → Packet → Type 0} (v : View) (t : Packet → Type 0) (oldest : Answer) (others : List Answer) → v.answers ≡ oldest ∷ others → Invariant Piece v t
-    → Invariant Piece (after (Move.TakeAnswer oldest others) v) t
+    → Invariant Piece (view_moved (Move.TakeAnswer oldest others) v) t
 take_answer v t oldest others can h =
     let w : Told v oldest others = told v t oldest others can h in
     let idle : v.outstanding ≡ None = w.idle in

@@ -2,13 +2,13 @@
 use Rattle.std.proofs.Common.{◌≡◌, ℕ, ◌<◌, Bool, true, List, [], ◌∷◌, ◌++◌, Some, None, inl, inr, refl, ap, sym, subst}
 use Rattle.leader1822.specs.declared.crossing.Answer.TheVariants as answer
 use Rattle.link_table.specs.Numbers.{modulus, Near}
-use Rattle.link_table.proofs.NumberLemmas.{near_same}
+use Rattle.link_table.proofs.lemmas.{near_same}
 use Rattle.flow_law.specs.View.{View, Packet, Queued, Kind}
-use Rattle.flow_law.specs.Moves.{Move, New, CanOffer, CanBegin, IsPieceOf, Either, queued, next_number, after}
+use Rattle.flow_law.specs.Moves.{Move, New, CanOffer, CanBegin, IsPieceOf, Either, queued_text, next_number, view_moved}
 use Rattle.flow_law.specs.Invariant.{Invariant}
 use Rattle.flow_law.proofs.Clauses.{idle_new, idle_queue, near_not_new, next_number_in, fresh, still_near}
 
-pub dead_now : {Piece : List Bool → Packet → Type 0} (v : View) (t : Packet → Type 0) (place : ℕ) (text : List Bool) → CanOffer v → Invariant Piece v t → Invariant Piece (after (Move.DeadNow place text) v) t
+pub dead_now : {Piece : List Bool → Packet → Type 0} (v : View) (t : Packet → Type 0) (place : ℕ) (text : List Bool) → CanOffer v → Invariant Piece v t → Invariant Piece (view_moved (Move.DeadNow place text) v) t
 dead_now v t place text can h =
     let up : v.from_up ≡ true = h.home can.source in
     record {
@@ -29,7 +29,7 @@ dead_now v t place text can h =
     }
 
 pub begin_sent : {Piece : List Bool → Packet → Type 0} (v : View) (t : Packet → Type 0) (place : ℕ) (text : List Bool) → CanBegin v t → Invariant Piece v t
-    → Invariant Piece (after (Move.Begin place text) v) (Either t (IsPieceOf Piece (next_number v.last) text))
+    → Invariant Piece (view_moved (Move.Begin place text) v) (Either t (IsPieceOf Piece (next_number v.last) text))
 begin_sent {Piece} v t place text can h =
     let up : v.from_up ≡ true = h.home can.offer.source in
     let n : ℕ = next_number v.last in
@@ -68,7 +68,7 @@ begin_sent {Piece} v t place text can h =
     }
 
 pub begin_local : {Piece : List Bool → Packet → Type 0} (v : View) (t : Packet → Type 0) (place : ℕ) (text : List Bool) → CanBegin v t → Invariant Piece v t
-    → Invariant Piece (after (Move.BeginLocal place text) v) t
+    → Invariant Piece (view_moved (Move.BeginLocal place text) v) t
 begin_local {Piece} v t place text can h =
     let up : v.from_up ≡ true = h.home can.offer.source in
     let n : ℕ = next_number v.last in
@@ -88,7 +88,7 @@ begin_local {Piece} v t place text can h =
         number = n;
         place = place;
         text = text;
-        one = ap (λ (q : List Queued). q ++ queued n text ∷ []) (idle_queue v t h up can.offer.idle);
+        one = ap (λ (q : List Queued). q ++ queued_text n text ∷ []) (idle_queue v t h up can.offer.idle);
         waits = refl;
         awaited = λ from. refl;
       });

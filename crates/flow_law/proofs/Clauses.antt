@@ -6,9 +6,9 @@ use Rattle.std.proofs.lemmas.List.Elements.{Contains-push_cases}
 use Rattle.leader1822.specs.declared.crossing.Answer.TheVariants as answer
 use Rattle.leader1822.specs.Mailboxes.{Box, Fits}
 use Rattle.link_table.specs.Numbers.{modulus, next, is_new, Near}
-use Rattle.link_table.proofs.NumberLemmas.{next_in, near_same, near_old, near_next, not_next, two}
+use Rattle.link_table.proofs.lemmas.{near_next, near_old, near_same, next_in, not_next, two}
 use Rattle.flow_law.specs.View.{View, Packet, Queued, Kind}
-use Rattle.flow_law.specs.Moves.{New, CanBegin, queued, next_number}
+use Rattle.flow_law.specs.Moves.{New, CanBegin, queued_text, next_number}
 use Rattle.flow_law.specs.Invariant.{Invariant, Begun, Carried, Gone}
 
 pub invariant_less : {Piece : List Bool → Packet → Type 0} (v : View) (t s : Packet → Type 0) → ((x : Packet) → s x → t x) → Invariant Piece v t → Invariant Piece v s
@@ -49,7 +49,7 @@ idle_queue v t h up idle = elim h.waiting [
 
 -- ---- the box
 
-pub taken_not_waiting : (box : Box) (place : ℕ) (text : List Bool) → Fits answer.Rfnm box → box ≡ Box.Waiting place text → ⊥
+taken_not_waiting : (box : Box) (place : ℕ) (text : List Bool) → Fits answer.Rfnm box → box ≡ Box.Waiting place text → ⊥
 taken_not_waiting Box.Empty place text fits is = absurd fits
 taken_not_waiting (Box.Waiting p t) place text fits is = absurd fits
 taken_not_waiting (Box.Taken p t) place text fits is = absurd (cc)
@@ -144,10 +144,10 @@ none_in {X} xs x none there =
     absurd (omega (arith, here.1))
 
 -- the message of a queue of one
-pub number_of : (queue : List Queued) (number : ℕ) (text : List Bool) (q : Queued) → queue ≡ queued number text ∷ [] → Contains queue q → q.number ≡ number
+pub number_of : (queue : List Queued) (number : ℕ) (text : List Bool) (q : Queued) → queue ≡ queued_text number text ∷ [] → Contains queue q → q.number ≡ number
 number_of queue number text q one there =
     let C : List Queued → Type 0 = λ l. Contains l q in
-    ap (λ (m : Queued). m.number) (sym (only_one (queued number text) q (subst C one there)))
+    ap (λ (m : Queued). m.number) (sym (only_one (queued_text number text) q (subst C one there)))
 
 pub none_there : {X : Type 0} (x : X) → Contains [] x → ⊥
 none_there x there = none_in [] x refl there

@@ -1,19 +1,19 @@
 -- The interface: what the layer above cites.
-use Rattle.std.proofs.Common.{◌≡◌, Bool, List, [], ◌∷◌, ◌++◌, length, refl, ap, sym, ◌∙◌, subst, append_assoc, append-nil}
+use Rattle.std.proofs.Common.{◌≡◌, Bool, List, [], ◌∷◌, ◌++◌, length, refl, ap, sym, ◌∙◌, subst, append_assoc}
 use Rattle.leader1822.specs.declared.address.Flow.{Flow}
 use Rattle.leader1822.specs.declared.crossing.Crossing.{Crossing}
 use Rattle.leader1822.specs.declared.crossing.Crossing.TheVariants as crossing
 use Rattle.leader1822.specs.Host.{Host}
 use Rattle.leader1822.specs.Mailboxes.{Mail, Passing, passings, passed, opening_mail, UpsAreHosts, IsRun, EachIsRun}
-use Rattle.leader1822.proofs.FlowByFlow.{each_is_run}
+use Rattle.leader1822.proofs.lemmas.{each_is_run}
 use Rattle.flow_law.specs.View.{View, Packet}
-use Rattle.flow_law.specs.Moves.{Move, Needs, Makes, Either, Grown, after, after_all, shown_by}
+use Rattle.flow_law.specs.Moves.{Move, Needs, Makes, Either, Grown, view_moved, after_all, shown_by}
 use Rattle.flow_law.specs.Follows.{Follows, Sound, AllSound, AllFollow, AllOpen, passed_over}
 use Rattle.flow_law.proofs.AllMoves.{sound_less, sound_after_all}
 use Rattle.flow_law.proofs.RunLemmas.{opening_sound}
 
 -- one flow that makes a list of moves
-pub follow_sound : {Piece : List Bool → Packet → Type 0} (ms : List Move) (start : Mail) (seen : List Passing) (old new : View) (before later : Packet → Type 0)
+follow_sound : {Piece : List Bool → Packet → Type 0} (ms : List Move) (start : Mail) (seen : List Passing) (old new : View) (before later : Packet → Type 0)
     → Follows Piece ms old new before later → Sound Piece start seen old before → Sound Piece start (shown_by ms old ++ seen) new later
 follow_sound {Piece} ms start seen old new before later f h =
     let V : View → Type 0 = λ v. Sound Piece start (shown_by ms old ++ seen) v later in
@@ -25,13 +25,9 @@ pub stays : {Piece : List Bool → Packet → Type 0} (old new : View) (before l
 stays old new before later same less = record { needs = tt; view = same; packets = less }
 
 -- a flow that makes one move
-pub makes_one : {Piece : List Bool → Packet → Type 0} (m : Move) (old new : View) (before later : Packet → Type 0) → Needs Piece m old before → new ≡ after m old
+pub makes_one : {Piece : List Bool → Packet → Type 0} (m : Move) (old new : View) (before later : Packet → Type 0) → Needs Piece m old before → new ≡ view_moved m old
     → ((x : Packet) → later x → Either before (Makes Piece m old) x) → Follows Piece (m ∷ []) old new before later
 makes_one m old new before later needs same from = record { needs = (needs, tt); view = same; packets = from }
-
--- what a flow sees of one crossing
-pub passed_over-one : (f : Flow) (c : Crossing) (log : List Crossing) → passed_over f (c ∷ []) log ≡ passings (length log) f c
-passed_over-one f c log = append-nil (passings (length log) f c)
 
 -- what a flow sees of two lists of crossings, one upon the other
 pub passed_over-append : (f : Flow) (entries others log : List Crossing) → passed_over f (entries ++ others) log ≡ passed_over f entries (others ++ log) ++ passed_over f others log

@@ -11,7 +11,7 @@ pub only : {X : Type 0} (P : X → Type 0) (x z : X) → P x → Contains (x ∷
 only P x z px there = subst P (only_one x z there) px
 
 -- each element of a list of two
-pub each_of_two : {X : Type 0} (P : X → Type 0) (x y z : X) → P x → P y → Contains (x ∷ y ∷ []) z → P z
+each_of_two : {X : Type 0} (P : X → Type 0) (x y z : X) → P x → P y → Contains (x ∷ y ∷ []) z → P z
 each_of_two P x y z px py there = elim (Contains-push_cases (x ∷ []) y z there) [
   | inl first ↦ only P x z px first
   | inr second ↦ subst P second py

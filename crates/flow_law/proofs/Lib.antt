@@ -11,3 +11,4 @@ pub mod ExampleLemmas
 pub mod CounterexampleLemmas
 pub mod RoundLemmas
 pub mod StepLemmas
+pub mod lemmas

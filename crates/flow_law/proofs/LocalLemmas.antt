@@ -2,7 +2,7 @@
 use Rattle.std.proofs.Common.{◌≡◌, Bool, true, false, List, [], ◌∷◌, Some, inl, inr, refl, ap}
 use Rattle.std.specs.List.{Contains}
 use Rattle.flow_law.specs.View.{View, Packet, Queued}
-use Rattle.flow_law.specs.Moves.{CanTakeMessage, CanStartSource, queued}
+use Rattle.flow_law.specs.Moves.{CanTakeMessage, CanStartSource, queued_text}
 use Rattle.flow_law.specs.Invariant.{Invariant}
 use Rattle.flow_law.specs.Follows.{Follows}
 use Rattle.flow_law.specs.Local.{taken_here, view_taken_here, stopped_host, started_host, stopped_host_queued, view_stopped_here, view_stopped_itself, view_stopped_unread, view_started_itself}
@@ -12,9 +12,9 @@ pub queued_awaited : {Piece : List Bool → Packet → Type 0} (v : View) (t : P
     → v.outstanding ≡ Some oldest.number
 queued_awaited v t oldest others h up waits = elim h.waiting [
   | inl none ↦ absurd (cc)
-  | inr held ↦ (let one : v.queue ≡ queued held.number held.text ∷ [] = held.one in
+  | inr held ↦ (let one : v.queue ≡ queued_text held.number held.text ∷ [] = held.one in
       let awaited : v.outstanding ≡ Some held.number = held.awaited up in
-      let same : queued held.number held.text ≡ oldest = cc in
+      let same : queued_text held.number held.text ≡ oldest = cc in
       let number : held.number ≡ oldest.number = ap (λ (q : Queued). q.number) same in
       cc)
 ]
@@ -24,7 +24,7 @@ pub queued_alone : {Piece : List Bool → Packet → Type 0} (v : View) (t : Pac
     → others ≡ []
 queued_alone v t oldest others h waits = elim h.waiting [
   | inl none ↦ absurd (cc)
-  | inr held ↦ (let one : v.queue ≡ queued held.number held.text ∷ [] = held.one in cc)
+  | inr held ↦ (let one : v.queue ≡ queued_text held.number held.text ∷ [] = held.one in cc)
 ]
 
 pub take_here : {Piece : List Bool → Packet → Type 0} (v : View) (t : Packet → Type 0) (oldest : Queued) (others : List Queued) → CanTakeMessage v oldest others

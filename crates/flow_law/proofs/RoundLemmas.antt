@@ -4,9 +4,9 @@ use Rattle.std.proofs.Common.{◌≡◌, ℕ, zero, suc, ◌-◌, ◌<◌, true,
 use Rattle.std.specs.List.{Contains}
 use Rattle.leader1822.specs.declared.crossing.Answer.TheVariants as answer
 use Rattle.link_table.specs.Numbers.{modulus, window, next, is_new}
-use Rattle.link_table.proofs.NumberLemmas.{wide, some_ahead, next_below, next_new, new_again}
+use Rattle.link_table.proofs.lemmas.{new_again, next_below, next_new, some_ahead, wide}
 use Rattle.flow_law.specs.View.{View, Packet, Kind}
-use Rattle.flow_law.specs.Moves.{Move, Either, IsTold, queued, after}
+use Rattle.flow_law.specs.Moves.{Move, Either, IsTold, queued_text, view_moved}
 use Rattle.flow_law.specs.Runs.{IsTurn, IsHistoryBy, view_after, left_by}
 use Rattle.flow_law.specs.Example.{at_first, first_text, InOnePacket}
 use Rattle.flow_law.specs.Counterexamples.{Breaks, AnyNumber, any_number, outlived, rounds, turn, second_text, data_of, dead_of}
@@ -37,7 +37,7 @@ unfolding rounds
 view_rounds zero small = refl
 view_rounds (suc n) small =
     let below : suc n < modulus = omega (arith, small) in
-    let F : View → View = λ v. after (Move.TakeAnswer answer.Dead []) (after (Move.Freed (dead_of (suc n)) answer.Dead) (after (note_next n) (after begin_next v))) in
+    let F : View → View = λ v. view_moved (Move.TakeAnswer answer.Dead []) (view_moved (Move.Freed (dead_of (suc n)) answer.Dead) (view_moved (note_next n) (view_moved begin_next v))) in
     let G : ℕ → View = λ last. record at_first { last = Some last; kept = Some (suc n) } in
     ap F (view_rounds n below) ∙ ap G (next_is n below)
 
@@ -59,9 +59,9 @@ begins n small v alive at left =
 
 notes : (n : ℕ) → suc n < modulus → (v : View) → v ≡ settled_at n → (left : List Packet)
     → ((x : Packet) → Contains left x → Either (Contains (data_of (suc n) second_text ∷ copy ∷ [])) (IsTold Kind.Dead (suc n)) x)
-    → IsTurn AnyNumber InOnePacket (after begin_next v) (data_of (suc n) second_text ∷ copy ∷ []) (turn (note_next n) left)
+    → IsTurn AnyNumber InOnePacket (view_moved begin_next v) (data_of (suc n) second_text ∷ copy ∷ []) (turn (note_next n) left)
 notes n small v at left from =
-    let V : View → Type 0 = λ w. IsTurn AnyNumber InOnePacket (after begin_next w) (data_of (suc n) second_text ∷ copy ∷ []) (turn (note_next n) left) in
+    let V : View → Type 0 = λ w. IsTurn AnyNumber InOnePacket (view_moved begin_next w) (data_of (suc n) second_text ∷ copy ∷ []) (turn (note_next n) left) in
     subst V (sym at) (record {
       needs = record {
         there = first_there (data_of (suc n) second_text) (copy ∷ []);
@@ -71,18 +71,18 @@ notes n small v at left from =
     })
 
 frees : (n : ℕ) → suc n < modulus → (v : View) → v ≡ settled_at n
-    → IsTurn AnyNumber InOnePacket (after (note_next n) (after begin_next v)) (dead_of (suc n) ∷ copy ∷ []) (turn (Move.Freed (dead_of (suc n)) answer.Dead) (copy ∷ []))
+    → IsTurn AnyNumber InOnePacket (view_moved (note_next n) (view_moved begin_next v)) (dead_of (suc n) ∷ copy ∷ []) (turn (Move.Freed (dead_of (suc n)) answer.Dead) (copy ∷ []))
 frees n small v at =
-    let V : View → Type 0 = λ w. IsTurn AnyNumber InOnePacket (after (note_next n) (after begin_next w)) (dead_of (suc n) ∷ copy ∷ []) (turn (Move.Freed (dead_of (suc n)) answer.Dead) (copy ∷ [])) in
+    let V : View → Type 0 = λ w. IsTurn AnyNumber InOnePacket (view_moved (note_next n) (view_moved begin_next w)) (dead_of (suc n) ∷ copy ∷ []) (turn (Move.Freed (dead_of (suc n)) answer.Dead) (copy ∷ [])) in
     subst V (sym at) (record {
       needs = record { there = first_there (dead_of (suc n)) (copy ∷ []); brings = tt; awaited = ap (λ (k : ℕ). Some k) (next_is n small) };
       left = left_old _ _ copy (second_there (dead_of (suc n)) copy []);
     })
 
 answers : (n : ℕ) → (v : View) → v ≡ settled_at n
-    → IsTurn AnyNumber InOnePacket (after (Move.Freed (dead_of (suc n)) answer.Dead) (after (note_next n) (after begin_next v))) (copy ∷ []) (turn (Move.TakeAnswer answer.Dead []) (copy ∷ []))
+    → IsTurn AnyNumber InOnePacket (view_moved (Move.Freed (dead_of (suc n)) answer.Dead) (view_moved (note_next n) (view_moved begin_next v))) (copy ∷ []) (turn (Move.TakeAnswer answer.Dead []) (copy ∷ []))
 answers n v at =
-    let V : View → Type 0 = λ w. IsTurn AnyNumber InOnePacket (after (Move.Freed (dead_of (suc n)) answer.Dead) (after (note_next n) (after begin_next w))) (copy ∷ []) (turn (Move.TakeAnswer answer.Dead []) (copy ∷ [])) in
+    let V : View → Type 0 = λ w. IsTurn AnyNumber InOnePacket (view_moved (Move.Freed (dead_of (suc n)) answer.Dead) (view_moved (note_next n) (view_moved begin_next w))) (copy ∷ []) (turn (Move.TakeAnswer answer.Dead []) (copy ∷ [])) in
     subst V (sym at) (record { needs = refl; left = λ x there. inl there })
 
 history_rounds : (n : ℕ) → suc n < modulus → IsHistoryBy AnyNumber InOnePacket at_first (rounds n)
@@ -128,9 +128,9 @@ history_rounds (suc n) small =
 
 -- the copy is made whole, and taken
 queues : (n : ℕ) → is_new (Some (suc n)) 0 ≡ true → (v : View) → v ≡ settled_at n
-    → IsTurn AnyNumber InOnePacket (after (note_next n) (after begin_next v)) (copy ∷ []) (turn (Move.Whole copy first_text) [])
+    → IsTurn AnyNumber InOnePacket (view_moved (note_next n) (view_moved begin_next v)) (copy ∷ []) (turn (Move.Whole copy first_text) [])
 queues n again v at =
-    let V : View → Type 0 = λ w. IsTurn AnyNumber InOnePacket (after (note_next n) (after begin_next w)) (copy ∷ []) (turn (Move.Whole copy first_text) []) in
+    let V : View → Type 0 = λ w. IsTurn AnyNumber InOnePacket (view_moved (note_next n) (view_moved begin_next w)) (copy ∷ []) (turn (Move.Whole copy first_text) []) in
     subst V (sym at) (record {
       needs = record {
         note = record { there = first_there copy []; new = record { up = refl; data_packet = refl; new = again } };
@@ -140,9 +140,9 @@ queues n again v at =
     })
 
 takes : (n : ℕ) (v : View) → v ≡ settled_at n
-    → IsTurn AnyNumber InOnePacket (after (Move.Whole copy first_text) (after (note_next n) (after begin_next v))) [] (turn (Move.TakeMessage (queued 0 first_text) []) [])
+    → IsTurn AnyNumber InOnePacket (view_moved (Move.Whole copy first_text) (view_moved (note_next n) (view_moved begin_next v))) [] (turn (Move.TakeMessage (queued_text 0 first_text) []) [])
 takes n v at =
-    let V : View → Type 0 = λ w. IsTurn AnyNumber InOnePacket (after (Move.Whole copy first_text) (after (note_next n) (after begin_next w))) [] (turn (Move.TakeMessage (queued 0 first_text) []) []) in
+    let V : View → Type 0 = λ w. IsTurn AnyNumber InOnePacket (view_moved (Move.Whole copy first_text) (view_moved (note_next n) (view_moved begin_next w))) [] (turn (Move.TakeMessage (queued_text 0 first_text) []) []) in
     subst V (sym at) (record { needs = record { destination = refl; waits = refl }; left = left_none _ _ })
 
 -- whatever the modulus and the window: once the copy is new against a number, it is taken

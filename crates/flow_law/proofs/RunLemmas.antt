@@ -5,7 +5,7 @@ use Rattle.flow_law.specs.View.{View, Packet, mail_now}
 use Rattle.flow_law.specs.Moves.{Makes, Either}
 use Rattle.flow_law.specs.Invariant.{Invariant}
 use Rattle.flow_law.specs.Follows.{Sound}
-use Rattle.flow_law.specs.Runs.{Turn, IsOpening, IsHistory, left_by, view_after, seen_in}
+use Rattle.flow_law.specs.Runs.{FlowTurn, IsOpening, IsHistory, left_by, view_after, seen_in}
 use Rattle.flow_law.proofs.Clauses.{none_there}
 use Rattle.flow_law.proofs.AllMoves.{sound_less, sound_after}
 
@@ -34,7 +34,7 @@ opening_invariant v t o nothing =
 pub opening_sound : {Piece : List Bool → Packet → Type 0} (v : View) (t : Packet → Type 0) → IsOpening v → ((x : Packet) → t x → ⊥) → Sound Piece (mail_now v) [] v t
 opening_sound v t o nothing = record { clauses = opening_invariant v t o nothing; run = tt; mail = refl }
 
-pub history_sound : {Piece : List Bool → Packet → Type 0} (v : View) (turns : List Turn) → IsOpening v → IsHistory Piece v turns
+pub history_sound : {Piece : List Bool → Packet → Type 0} (v : View) (turns : List FlowTurn) → IsOpening v → IsHistory Piece v turns
     → Sound Piece (mail_now v) (seen_in turns v) (view_after turns v) (Contains (left_by turns))
 history_sound v [] o h = opening_sound v (Contains []) o (λ x there. none_there x there)
 history_sound {Piece} v (turn ∷ turns) o h =

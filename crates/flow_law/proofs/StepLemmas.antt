@@ -7,7 +7,7 @@ use Rattle.leader1822.specs.declared.crossing.Crossing.TheVariants as crossing
 use Rattle.leader1822.specs.declared.message.HostMessage.{HostMessage}
 use Rattle.leader1822.specs.Host.{Host, same_host}
 use Rattle.leader1822.specs.Mailboxes.{Passing, first_if, same_flow, UpsAreHosts}
-use Rattle.leader1822.proofs.Lists.{same_flow-true, same_flow-refl}
+use Rattle.leader1822.proofs.lemmas.{same_flow-refl, same_flow-true}
 use Rattle.flow_law.specs.View.{View, Packet}
 use Rattle.flow_law.specs.Moves.{Move, shown_by}
 use Rattle.flow_law.specs.Follows.{Follows, AllSound, AllFollow, OneFollows, passed_over}

@@ -3,11 +3,11 @@ use Rattle.std.proofs.Common.{◌≡◌, ℕ, Bool, true, false, List, [], ◌�
 use Rattle.std.proofs.lemmas.Bool.{cases_Bool}
 use Rattle.link_table.specs.Numbers.{Near}
 use Rattle.flow_law.specs.View.{View, Packet, Kind}
-use Rattle.flow_law.specs.Moves.{Move, New, CanStartSource, CanStartFrom, NoData, IsDeadOf, Either, queued, after}
+use Rattle.flow_law.specs.Moves.{Move, New, CanStartSource, CanStartFrom, NoData, IsDeadOf, Either, queued_text, view_moved}
 use Rattle.flow_law.specs.Invariant.{Invariant, Begun, Carried, Held, Gone}
 use Rattle.flow_law.proofs.Clauses.{invariant_less, idle_new, idle_queue, dead_fits, begun_itself, number_of, none_in}
 
-pub stop_source : {Piece : List Bool → Packet → Type 0} (v : View) (t : Packet → Type 0) → Invariant Piece v t → Invariant Piece (after Move.StopSource v) t
+pub stop_source : {Piece : List Bool → Packet → Type 0} (v : View) (t : Packet → Type 0) → Invariant Piece v t → Invariant Piece (view_moved Move.StopSource v) t
 stop_source v t h = record {
   range = h.range;
   begun = h.begun;
@@ -25,7 +25,7 @@ stop_source v t h = record {
   settled = λ up idle. absurd (cc);
 }
 
-pub start_source : {Piece : List Bool → Packet → Type 0} (v : View) (t : Packet → Type 0) → CanStartSource v → Invariant Piece v t → Invariant Piece (after Move.StartSource v) t
+pub start_source : {Piece : List Bool → Packet → Type 0} (v : View) (t : Packet → Type 0) → CanStartSource v → Invariant Piece v t → Invariant Piece (view_moved Move.StartSource v) t
 start_source v t can h =
     let idle : v.outstanding ≡ None = can.idle in
     record {
@@ -47,7 +47,7 @@ start_source v t can h =
 
 -- the destination goes down while no message is queued
 stop_unread : {Piece : List Bool → Packet → Type 0} (v : View) (t : Packet → Type 0) → v.queue ≡ [] → Invariant Piece v t
-    → Invariant Piece (after Move.StopDestination v) t
+    → Invariant Piece (view_moved Move.StopDestination v) t
 stop_unread {Piece} v t none h = record {
   range = h.range;
   begun = h.begun;
@@ -69,9 +69,9 @@ stop_unread {Piece} v t none h = record {
 
 -- the destination goes down while a message is queued
 stop_held : {Piece : List Bool → Packet → Type 0} (v : View) (t : Packet → Type 0) → Held v.from_up v.outstanding v.queue v.box → Invariant Piece v t
-    → Invariant Piece (after Move.StopDestination v) (Either t (IsDeadOf v.queue))
+    → Invariant Piece (view_moved Move.StopDestination v) (Either t (IsDeadOf v.queue))
 stop_held {Piece} v t held h =
-    let one : v.queue ≡ queued held.number held.text ∷ [] = held.one in
+    let one : v.queue ≡ queued_text held.number held.text ∷ [] = held.one in
     let old : (y : Packet) → Either t (IsDeadOf v.queue) y → New v.to_up v.kept y → ⊥ = λ y there new. elim there [
       | inl ty ↦ (let c : Carried Piece v.box v.queue y = h.carried y ty new in let unread : v.queue ≡ [] = c.unread in absurd (cc))
       | inr made ↦ (let told : y.kind ≡ Kind.Dead = made.kind in let data_packet : y.kind ≡ Kind.Data = new.data_packet in absurd (cc))
@@ -100,16 +100,16 @@ stop_held {Piece} v t held h =
     }
 
 pub stop_destination : {Piece : List Bool → Packet → Type 0} (v : View) (t : Packet → Type 0) → Invariant Piece v t
-    → Invariant Piece (after Move.StopDestination v) (Either t (IsDeadOf v.queue))
+    → Invariant Piece (view_moved Move.StopDestination v) (Either t (IsDeadOf v.queue))
 stop_destination {Piece} v t h = elim h.waiting [
-  | inl none ↦ invariant_less (after Move.StopDestination v) t (Either t (IsDeadOf v.queue)) (λ y there. elim there [
+  | inl none ↦ invariant_less (view_moved Move.StopDestination v) t (Either t (IsDeadOf v.queue)) (λ y there. elim there [
     | inl ty ↦ ty
     | inr made ↦ absurd (none_in v.queue made.message none made.waited)
   ]) (stop_unread v t none h)
   | inr held ↦ stop_held v t held h
 ]
 
-pub start_destination : {Piece : List Bool → Packet → Type 0} (v : View) (t : Packet → Type 0) → Invariant Piece v t → Invariant Piece (after Move.StartDestination v) t
+pub start_destination : {Piece : List Bool → Packet → Type 0} (v : View) (t : Packet → Type 0) → Invariant Piece v t → Invariant Piece (view_moved Move.StartDestination v) t
 start_destination v t h = record {
   range = h.range;
   begun = h.begun;
@@ -142,7 +142,7 @@ lost v t h x y tx new ty kind = elim (cases_Bool v.from_up) [
   | inr down ↦ h.orphaned down x y tx new ty kind
 ]
 
-pub stop_from : {Piece : List Bool → Packet → Type 0} (v : View) (t : Packet → Type 0) → Invariant Piece v t → Invariant Piece (after Move.StopFrom v) t
+pub stop_from : {Piece : List Bool → Packet → Type 0} (v : View) (t : Packet → Type 0) → Invariant Piece v t → Invariant Piece (view_moved Move.StopFrom v) t
 stop_from v t h = record {
   range = λ last none. absurd (cc);
   begun = λ n none. absurd (cc);
@@ -163,7 +163,7 @@ stop_from v t h = record {
   settled = λ up idle. absurd (cc);
 }
 
-pub start_from : {Piece : List Bool → Packet → Type 0} (v : View) (t : Packet → Type 0) → CanStartFrom v t → Invariant Piece v t → Invariant Piece (after Move.StartFrom v) t
+pub start_from : {Piece : List Bool → Packet → Type 0} (v : View) (t : Packet → Type 0) → CanStartFrom v t → Invariant Piece v t → Invariant Piece (view_moved Move.StartFrom v) t
 start_from v t can h = record {
   range = h.range;
   begun = h.begun;
@@ -181,7 +181,7 @@ start_from v t can h = record {
   settled = h.settled;
 }
 
-pub stop_to : {Piece : List Bool → Packet → Type 0} (v : View) (t : Packet → Type 0) → Invariant Piece v t → Invariant Piece (after Move.StopTo v) t
+pub stop_to : {Piece : List Bool → Packet → Type 0} (v : View) (t : Packet → Type 0) → Invariant Piece v t → Invariant Piece (view_moved Move.StopTo v) t
 stop_to v t h =
     let old : (x : Packet) → New false None x → ⊥ = λ x new. (let up : false ≡ true = new.up in absurd (cc)) in
     record {

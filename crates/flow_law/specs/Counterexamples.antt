@@ -1,13 +1,13 @@
 -- Counterexamples: machines that lack one need of one move each, and for each a history that is no run of the mailbox.
--- The law of a flow does not rest on them. They show that it asks for no more than it wants.
+-- The law of a flow does not rest on them. They show that it asks for no more than it needs.
 use Rattle.std.specs.Prelude.{◌≡◌, ℕ, zero, suc, ◌-◌, Bool, true, false, List, [], ◌∷◌, Some, None}
 use Rattle.std.specs.List.{Contains}
 use Rattle.leader1822.specs.declared.crossing.Answer.TheVariants as answer
 use Rattle.leader1822.specs.Mailboxes.{IsFlowRun}
 use Rattle.link_table.specs.Numbers.{modulus, window, is_new}
 use Rattle.flow_law.specs.View.{View, Packet, Queued, Kind, mail_now}
-use Rattle.flow_law.specs.Moves.{Move, Needs, New, CanOffer, CanNote, Brings, NumberFree, Joined, queued}
-use Rattle.flow_law.specs.Runs.{Turn, IsHistoryBy, seen_in}
+use Rattle.flow_law.specs.Moves.{Move, Needs, New, CanOffer, CanNote, Brings, NumberFree, Joined, queued_text}
+use Rattle.flow_law.specs.Runs.{FlowTurn, IsHistoryBy, seen_in}
 use Rattle.flow_law.specs.Local.{answer_packet}
 use Rattle.flow_law.specs.Example.{at_first, first_text, InOnePacket}
 
@@ -16,11 +16,11 @@ abbrev pub Machine : Type 1
 Machine = Move → View → (Packet → Type 0) → Type 0
 
 -- a machine has a history whose last crossing its mailbox doesn't allow
-pub record Breaks (Asks : Machine) (turns : List Turn) : Type 0 where
+pub record Breaks (Asks : Machine) (turns : List FlowTurn) : Type 0 where
   pub history : IsHistoryBy Asks InOnePacket at_first turns
   pub broken : IsFlowRun (mail_now at_first) (seen_in turns at_first) → ⊥
 
-abbrev pub turn : Move → List Packet → Turn
+abbrev pub turn : Move → List Packet → FlowTurn
 turn move left = record { move = move; left = left }
 
 -- another text
@@ -38,19 +38,19 @@ abbrev pub dead_of : ℕ → Packet
 dead_of = answer_packet Kind.Dead
 
 -- the first message, and its packet
-abbrev pub begun : Turn
+abbrev pub begun : FlowTurn
 begun = turn (Move.Begin 0 first_text) (data_of 0 first_text ∷ [])
 
-abbrev pub begun_local : Turn
+abbrev pub begun_local : FlowTurn
 begun_local = turn (Move.BeginLocal 0 first_text) []
 
 -- made whole, and a copy of its packet stays
-abbrev pub made_whole : Turn
+abbrev pub made_whole : FlowTurn
 made_whole = turn (Move.Whole (data_of 0 first_text) first_text) (data_of 0 first_text ∷ [])
 
 -- taken, with these packets left
-abbrev pub taken : List Packet → Turn
-taken left = turn (Move.TakeMessage (queued 0 first_text) []) left
+abbrev pub taken_turn : List Packet → FlowTurn
+taken_turn left = turn (Move.TakeMessage (queued_text 0 first_text) []) left
 
 -- ---- offers
 
@@ -59,7 +59,7 @@ abbrev pub OffersDown : Machine
 OffersDown (Move.DeadNow place text) v alive = (v.outstanding ≡ None) × (v.answers ≡ [])
 OffersDown m v alive = Needs InOnePacket m v alive
 
-abbrev pub offers_down : List Turn
+abbrev pub offers_down : List FlowTurn
 offers_down = turn (Move.DeadNow 0 first_text) [] ∷ turn Move.StopSource [] ∷ []
 
 -- a message is begun while another is outstanding
@@ -67,7 +67,7 @@ abbrev pub NotIdle : Machine
 NotIdle (Move.Begin place text) v alive = (v.source ≡ true) × (v.answers ≡ []) × NumberFree v alive
 NotIdle m v alive = Needs InOnePacket m v alive
 
-abbrev pub not_idle : List Turn
+abbrev pub not_idle : List FlowTurn
 not_idle = turn (Move.Begin 1 first_text) [] ∷ begun ∷ []
 
 -- a message is offered while an answer waits
@@ -75,7 +75,7 @@ abbrev pub NotAnswered : Machine
 NotAnswered (Move.DeadNow place text) v alive = (v.source ≡ true) × (v.outstanding ≡ None)
 NotAnswered m v alive = Needs InOnePacket m v alive
 
-abbrev pub not_answered : List Turn
+abbrev pub not_answered : List FlowTurn
 not_answered = turn (Move.DeadNow 1 first_text) [] ∷ turn (Move.DeadNow 0 first_text) [] ∷ []
 
 -- a number is begun without looking at what is alive
@@ -84,7 +84,7 @@ AnyNumber (Move.Begin place text) v alive = CanOffer v
 AnyNumber m v alive = Needs InOnePacket m v alive
 
 -- each message from 0 to n is noted without being taken and answered by Dead, while a copy of the first one's packet stays
-unfoldable pub rounds : ℕ → List Turn
+unfoldable pub rounds : ℕ → List FlowTurn
 rounds zero =
     turn (Move.TakeAnswer answer.Dead []) (data_of 0 first_text ∷ [])
     ∷ turn (Move.Freed (dead_of 0) answer.Dead) (data_of 0 first_text ∷ [])
@@ -99,9 +99,9 @@ rounds (suc n) =
     ∷ rounds n
 
 -- when the number after n was noted the copy is made whole, and its text is taken in the place of the new one
-abbrev pub outlived : ℕ → List Turn
+abbrev pub outlived : ℕ → List FlowTurn
 outlived n =
-    taken []
+    taken_turn []
     ∷ turn (Move.Whole (data_of 0 first_text) first_text) []
     ∷ turn (Move.NoteGone (data_of (suc n) second_text)) (data_of 0 first_text ∷ [])
     ∷ turn (Move.Begin 0 second_text) (data_of (suc n) second_text ∷ data_of 0 first_text ∷ [])
@@ -111,7 +111,7 @@ outlived n =
 abbrev pub before_new_again : ℕ
 before_new_again = modulus - window - 1
 
-abbrev pub any_number : List Turn
+abbrev pub any_number : List FlowTurn
 any_number = outlived before_new_again
 
 -- ---- arrivals
@@ -121,10 +121,10 @@ abbrev pub NotesNothing : Machine
 NotesNothing (Move.NoteGone x) v alive = New v.to_up v.kept x
 NotesNothing m v alive = Needs InOnePacket m v alive
 
-abbrev pub notes_nothing : List Turn
+abbrev pub notes_nothing : List FlowTurn
 notes_nothing =
     turn (Move.TakeAnswer answer.Dead []) []
-    ∷ taken []
+    ∷ taken_turn []
     ∷ turn (Move.Freed (dead_of 0) answer.Dead) []
     ∷ turn (Move.BeginLocal 0 first_text) (dead_of 0 ∷ [])
     ∷ turn (Move.NoteGone (data_of 0 first_text)) (dead_of 0 ∷ [])
@@ -135,13 +135,13 @@ abbrev pub NotesAway : Machine
 NotesAway (Move.NoteGone x) v alive = alive x × (x.kind ≡ Kind.Data) × (is_new v.kept x.number ≡ true)
 NotesAway m v alive = Needs InOnePacket m v alive
 
-abbrev pub notes_away : List Turn
+abbrev pub notes_away : List FlowTurn
 notes_away =
     turn (Move.TakeAnswer answer.Dead []) []
     ∷ turn (Move.Freed (dead_of 0) answer.Dead) []
     ∷ turn (Move.NoteGone (data_of 0 first_text)) (dead_of 0 ∷ [])
     ∷ turn Move.StopTo (data_of 0 first_text ∷ [])
-    ∷ taken (data_of 0 first_text ∷ [])
+    ∷ taken_turn (data_of 0 first_text ∷ [])
     ∷ made_whole
     ∷ begun
     ∷ []
@@ -151,13 +151,13 @@ abbrev pub NotesAnswers : Machine
 NotesAnswers (Move.NoteGone x) v alive = alive x × (v.to_up ≡ true) × (is_new v.kept x.number ≡ true)
 NotesAnswers m v alive = Needs InOnePacket m v alive
 
-abbrev pub notes_answers : List Turn
+abbrev pub notes_answers : List FlowTurn
 notes_answers =
     turn (Move.TakeAnswer answer.Dead []) []
     ∷ turn (Move.Freed (dead_of 0) answer.Dead) []
     ∷ turn (Move.NoteGone (rfnm_of 0)) (dead_of 0 ∷ [])
     ∷ turn Move.Forget (rfnm_of 0 ∷ [])
-    ∷ taken (rfnm_of 0 ∷ [])
+    ∷ taken_turn (rfnm_of 0 ∷ [])
     ∷ begun_local
     ∷ []
 
@@ -166,10 +166,10 @@ abbrev pub NotesOld : Machine
 NotesOld (Move.NoteGone x) v alive = alive x × (v.to_up ≡ true) × (x.kind ≡ Kind.Data)
 NotesOld m v alive = Needs InOnePacket m v alive
 
-abbrev pub notes_old : List Turn
+abbrev pub notes_old : List FlowTurn
 notes_old =
     turn (Move.TakeAnswer answer.Dead []) []
-    ∷ taken []
+    ∷ taken_turn []
     ∷ turn (Move.Freed (dead_of 0) answer.Dead) []
     ∷ turn (Move.NoteGone (data_of 0 first_text)) (dead_of 0 ∷ [])
     ∷ made_whole
@@ -181,23 +181,23 @@ abbrev pub QueuesOld : Machine
 QueuesOld (Move.Whole x text) v alive = alive x × (v.to_up ≡ true) × (x.kind ≡ Kind.Data) × Joined InOnePacket alive x text
 QueuesOld m v alive = Needs InOnePacket m v alive
 
-abbrev pub queues_old : List Turn
-queues_old = taken [] ∷ turn (Move.TakeMessage (queued 0 first_text) (queued 0 first_text ∷ [])) [] ∷ made_whole ∷ made_whole ∷ begun ∷ []
+abbrev pub queues_old : List FlowTurn
+queues_old = taken_turn [] ∷ turn (Move.TakeMessage (queued_text 0 first_text) (queued_text 0 first_text ∷ [])) [] ∷ made_whole ∷ made_whole ∷ begun ∷ []
 
 -- a text is queued that the packets don't make
 abbrev pub JoinsAny : Machine
 JoinsAny (Move.Whole x text) v alive = CanNote v alive x
 JoinsAny m v alive = Needs InOnePacket m v alive
 
-abbrev pub joins_any : List Turn
-joins_any = turn (Move.TakeMessage (queued 0 second_text) []) [] ∷ turn (Move.Whole (data_of 0 first_text) second_text) [] ∷ begun ∷ []
+abbrev pub joins_any : List FlowTurn
+joins_any = turn (Move.TakeMessage (queued_text 0 second_text) []) [] ∷ turn (Move.Whole (data_of 0 first_text) second_text) [] ∷ begun ∷ []
 
 -- an answer frees the outstanding message that isn't there
 abbrev pub FreedByNothing : Machine
 FreedByNothing (Move.Freed x kind) v alive = Brings x.kind kind × (v.outstanding ≡ Some x.number)
 FreedByNothing m v alive = Needs InOnePacket m v alive
 
-abbrev pub freed_by_nothing : List Turn
+abbrev pub freed_by_nothing : List FlowTurn
 freed_by_nothing = turn (Move.TakeAnswer answer.Rfnm []) [] ∷ turn (Move.Freed (rfnm_of 0) answer.Rfnm) [] ∷ begun ∷ []
 
 -- an answer with another number frees the outstanding message
@@ -205,14 +205,14 @@ abbrev pub FreedByAny : Machine
 FreedByAny (Move.Freed x kind) v alive = (number : ℕ) × alive x × Brings x.kind kind × (v.outstanding ≡ Some number)
 FreedByAny m v alive = Needs InOnePacket m v alive
 
-abbrev pub freed_by_any : List Turn
+abbrev pub freed_by_any : List FlowTurn
 freed_by_any =
     turn (Move.TakeAnswer answer.Rfnm []) []
     ∷ turn (Move.Freed (rfnm_of 0) answer.Rfnm) []
     ∷ turn (Move.Begin 2 first_text) (rfnm_of 0 ∷ [])
     ∷ turn (Move.TakeAnswer answer.Rfnm []) (rfnm_of 0 ∷ [])
     ∷ turn (Move.Freed (rfnm_of 0) answer.Rfnm) (rfnm_of 0 ∷ [])
-    ∷ taken (rfnm_of 0 ∷ [])
+    ∷ taken_turn (rfnm_of 0 ∷ [])
     ∷ begun_local
     ∷ []
 
@@ -221,7 +221,7 @@ abbrev pub FreedByData : Machine
 FreedByData (Move.Freed x kind) v alive = alive x × (v.outstanding ≡ Some x.number)
 FreedByData m v alive = Needs InOnePacket m v alive
 
-abbrev pub freed_by_data : List Turn
+abbrev pub freed_by_data : List FlowTurn
 freed_by_data = turn (Move.TakeAnswer answer.Rfnm []) [] ∷ turn (Move.Freed (data_of 0 first_text) answer.Rfnm) [] ∷ begun ∷ []
 
 -- a host takes a message that isn't queued
@@ -229,15 +229,15 @@ abbrev pub TakesNothing : Machine
 TakesNothing (Move.TakeMessage oldest others) v alive = v.destination ≡ true
 TakesNothing m v alive = Needs InOnePacket m v alive
 
-abbrev pub takes_nothing : List Turn
-takes_nothing = taken [] ∷ []
+abbrev pub takes_nothing : List FlowTurn
+takes_nothing = taken_turn [] ∷ []
 
 -- a host takes an answer that doesn't wait
 abbrev pub ToldNothing : Machine
 ToldNothing (Move.TakeAnswer oldest others) v alive = Unit {0}
 ToldNothing m v alive = Needs InOnePacket m v alive
 
-abbrev pub told_nothing : List Turn
+abbrev pub told_nothing : List FlowTurn
 told_nothing = turn (Move.TakeAnswer answer.Rfnm []) [] ∷ []
 
 -- a host takes a message while it is down
@@ -245,8 +245,8 @@ abbrev pub TakesDown : Machine
 TakesDown (Move.TakeMessage oldest others) v alive = v.queue ≡ oldest ∷ others
 TakesDown m v alive = Needs InOnePacket m v alive
 
-abbrev pub takes_down : List Turn
-takes_down = taken [] ∷ begun_local ∷ turn Move.StopDestination [] ∷ []
+abbrev pub takes_down : List FlowTurn
+takes_down = taken_turn [] ∷ begun_local ∷ turn Move.StopDestination [] ∷ []
 
 -- ---- hosts and IMPs
 
@@ -255,28 +255,28 @@ abbrev pub SourceStopsTwice : Machine
 SourceStopsTwice Move.StopSource v alive = Unit {0}
 SourceStopsTwice m v alive = Needs InOnePacket m v alive
 
-abbrev pub source_stops_twice : List Turn
+abbrev pub source_stops_twice : List FlowTurn
 source_stops_twice = turn Move.StopSource [] ∷ turn Move.StopSource [] ∷ []
 
 abbrev pub DestinationStopsTwice : Machine
 DestinationStopsTwice Move.StopDestination v alive = Unit {0}
 DestinationStopsTwice m v alive = Needs InOnePacket m v alive
 
-abbrev pub destination_stops_twice : List Turn
+abbrev pub destination_stops_twice : List FlowTurn
 destination_stops_twice = turn Move.StopDestination [] ∷ turn Move.StopDestination [] ∷ []
 
 abbrev pub SourceStartsTwice : Machine
 SourceStartsTwice Move.StartSource v alive = (v.from_up ≡ true) × (v.outstanding ≡ None)
 SourceStartsTwice m v alive = Needs InOnePacket m v alive
 
-abbrev pub source_starts_twice : List Turn
+abbrev pub source_starts_twice : List FlowTurn
 source_starts_twice = turn Move.StartSource [] ∷ []
 
 abbrev pub DestinationStartsTwice : Machine
 DestinationStartsTwice Move.StartDestination v alive = Unit {0}
 DestinationStartsTwice m v alive = Needs InOnePacket m v alive
 
-abbrev pub destination_starts_twice : List Turn
+abbrev pub destination_starts_twice : List FlowTurn
 destination_starts_twice = turn Move.StartDestination [] ∷ []
 
 -- a host comes up at an IMP that is down: its message is taken though its box is empty
@@ -284,25 +284,25 @@ abbrev pub StartsAway : Machine
 StartsAway Move.StartSource v alive = (v.source ≡ false) × (v.outstanding ≡ None)
 StartsAway m v alive = Needs InOnePacket m v alive
 
-abbrev pub starts_away : List Turn
-starts_away = taken [] ∷ turn Move.StartSource [] ∷ turn Move.StopFrom [] ∷ begun_local ∷ []
+abbrev pub starts_away : List FlowTurn
+starts_away = taken_turn [] ∷ turn Move.StartSource [] ∷ turn Move.StopFrom [] ∷ begun_local ∷ []
 
 -- a host comes up while its message is outstanding: it is taken though its box is empty
 abbrev pub StartsUnsettled : Machine
 StartsUnsettled Move.StartSource v alive = (v.from_up ≡ true) × (v.source ≡ false)
 StartsUnsettled m v alive = Needs InOnePacket m v alive
 
-abbrev pub starts_unsettled : List Turn
-starts_unsettled = taken [] ∷ turn Move.StartSource [] ∷ turn Move.StopSource [] ∷ begun_local ∷ []
+abbrev pub starts_unsettled : List FlowTurn
+starts_unsettled = taken_turn [] ∷ turn Move.StartSource [] ∷ turn Move.StopSource [] ∷ begun_local ∷ []
 
 -- the source's IMP comes up while a packet is alive: a message of its life before is taken though the box is empty
 abbrev pub StartsAlive : Machine
 StartsAlive Move.StartFrom v alive = v.queue ≡ []
 StartsAlive m v alive = Needs InOnePacket m v alive
 
-abbrev pub starts_alive : List Turn
+abbrev pub starts_alive : List FlowTurn
 starts_alive =
-    taken []
+    taken_turn []
     ∷ turn Move.StartSource []
     ∷ turn (Move.Whole (data_of 0 first_text) first_text) []
     ∷ turn Move.StartFrom (data_of 0 first_text ∷ [])
@@ -315,22 +315,22 @@ abbrev pub StartsQueued : Machine
 StartsQueued Move.StartFrom v alive = (x : Packet) → alive x → ⊥
 StartsQueued m v alive = Needs InOnePacket m v alive
 
-abbrev pub starts_queued : List Turn
-starts_queued = taken [] ∷ turn Move.StartSource [] ∷ turn Move.StartFrom [] ∷ turn Move.StopFrom [] ∷ begun_local ∷ []
+abbrev pub starts_queued : List FlowTurn
+starts_queued = taken_turn [] ∷ turn Move.StartSource [] ∷ turn Move.StartFrom [] ∷ turn Move.StopFrom [] ∷ begun_local ∷ []
 
 -- the destination's IMP comes up while data is alive, and has forgotten what it noted: the message is taken twice
 abbrev pub ReturnsAlive : Machine
 ReturnsAlive Move.StartTo v alive = Unit {0}
 ReturnsAlive m v alive = Needs InOnePacket m v alive
 
-abbrev pub returns_alive : List Turn
+abbrev pub returns_alive : List FlowTurn
 returns_alive =
-    taken []
+    taken_turn []
     ∷ turn (Move.Whole (data_of 0 first_text) first_text) []
     ∷ turn Move.StartTo (data_of 0 first_text ∷ [])
     ∷ turn Move.StartDestination (data_of 0 first_text ∷ [])
     ∷ turn Move.StopTo (data_of 0 first_text ∷ [])
-    ∷ taken (data_of 0 first_text ∷ [])
+    ∷ taken_turn (data_of 0 first_text ∷ [])
     ∷ made_whole
     ∷ begun
     ∷ []
@@ -340,12 +340,12 @@ abbrev pub ForgetsAlive : Machine
 ForgetsAlive Move.Forget v alive = Unit {0}
 ForgetsAlive m v alive = Needs InOnePacket m v alive
 
-abbrev pub forgets_alive : List Turn
+abbrev pub forgets_alive : List FlowTurn
 forgets_alive =
-    taken []
+    taken_turn []
     ∷ turn (Move.Whole (data_of 0 first_text) first_text) []
     ∷ turn Move.Forget (data_of 0 first_text ∷ [])
-    ∷ taken (data_of 0 first_text ∷ [])
+    ∷ taken_turn (data_of 0 first_text ∷ [])
     ∷ made_whole
     ∷ begun
     ∷ []
@@ -357,7 +357,7 @@ abbrev pub GivesUpNothing : Machine
 GivesUpNothing (Move.GiveUp number) v alive = ((x : Packet) → alive x → (x.kind ≡ Kind.Data) → (x.number ≡ number) → ⊥) × ((q : Queued) → Contains v.queue q → (q.number ≡ number) → ⊥)
 GivesUpNothing m v alive = Needs InOnePacket m v alive
 
-abbrev pub gives_up_nothing : List Turn
+abbrev pub gives_up_nothing : List FlowTurn
 gives_up_nothing = turn (Move.TakeAnswer answer.Incomplete []) [] ∷ turn (Move.GiveUp 0) [] ∷ []
 
 -- a message is given up of which a piece is alive: it is taken after Incomplete was
@@ -365,9 +365,9 @@ abbrev pub GivesUpAlive : Machine
 GivesUpAlive (Move.GiveUp number) v alive = (v.outstanding ≡ Some number) × ((q : Queued) → Contains v.queue q → (q.number ≡ number) → ⊥)
 GivesUpAlive m v alive = Needs InOnePacket m v alive
 
-abbrev pub gives_up_alive : List Turn
+abbrev pub gives_up_alive : List FlowTurn
 gives_up_alive =
-    taken []
+    taken_turn []
     ∷ turn (Move.TakeAnswer answer.Incomplete []) []
     ∷ turn (Move.Whole (data_of 0 first_text) first_text) []
     ∷ turn (Move.GiveUp 0) (data_of 0 first_text ∷ [])
@@ -379,5 +379,5 @@ abbrev pub GivesUpQueued : Machine
 GivesUpQueued (Move.GiveUp number) v alive = (v.outstanding ≡ Some number) × ((x : Packet) → alive x → (x.kind ≡ Kind.Data) → (x.number ≡ number) → ⊥)
 GivesUpQueued m v alive = Needs InOnePacket m v alive
 
-abbrev pub gives_up_queued : List Turn
-gives_up_queued = taken [] ∷ turn (Move.TakeAnswer answer.Incomplete []) [] ∷ turn (Move.GiveUp 0) [] ∷ begun_local ∷ []
+abbrev pub gives_up_queued : List FlowTurn
+gives_up_queued = taken_turn [] ∷ turn (Move.TakeAnswer answer.Incomplete []) [] ∷ turn (Move.GiveUp 0) [] ∷ begun_local ∷ []

@@ -3,8 +3,8 @@ use Rattle.std.specs.Prelude.{◌≡◌, Bool, true, false, List, [], ◌∷◌,
 use Rattle.leader1822.specs.declared.crossing.Answer.TheVariants as answer
 use Rattle.leader1822.specs.Mailboxes.{Box, Passing}
 use Rattle.flow_law.specs.View.{View, Packet, Kind}
-use Rattle.flow_law.specs.Moves.{Move, queued}
-use Rattle.flow_law.specs.Runs.{Turn}
+use Rattle.flow_law.specs.Moves.{Move, queued_text}
+use Rattle.flow_law.specs.Runs.{FlowTurn}
 use Rattle.flow_law.specs.Local.{answer_packet}
 
 -- both IMPs and both hosts up, and nothing sent
@@ -36,11 +36,11 @@ abbrev pub rfnm : Packet
 rfnm = answer_packet Kind.Rfnm 0
 
 -- newest first: begun, made whole, taken, heard of, and the answer taken. A copy of the data stays alive until the end
-abbrev pub worked : List Turn
+abbrev pub worked : List FlowTurn
 worked =
     record { move = Move.TakeAnswer answer.Rfnm []; left = data_packet ∷ [] }
     ∷ record { move = Move.Freed rfnm answer.Rfnm; left = data_packet ∷ [] }
-    ∷ record { move = Move.TakeMessage (queued 0 first_text) []; left = rfnm ∷ data_packet ∷ [] }
+    ∷ record { move = Move.TakeMessage (queued_text 0 first_text) []; left = rfnm ∷ data_packet ∷ [] }
     ∷ record { move = Move.Whole data_packet first_text; left = data_packet ∷ [] }
     ∷ record { move = Move.Begin 0 first_text; left = data_packet ∷ [] }
     ∷ []

@@ -8,7 +8,7 @@ use Rattle.leader1822.specs.declared.crossing.Answer.TheVariants as answer
 use Rattle.leader1822.specs.Mailboxes.{Box, Fits}
 use Rattle.link_table.specs.Numbers.{modulus, Near}
 use Rattle.flow_law.specs.View.{View, Packet, Queued, Kind}
-use Rattle.flow_law.specs.Moves.{New, queued}
+use Rattle.flow_law.specs.Moves.{New, queued_text}
 
 -- the number was begun, and lies at most a window behind the last one
 pub record Begun (last : Option ℕ) (number : ℕ) : Type 0 where
@@ -29,7 +29,7 @@ pub record Held (from_up : Bool) (outstanding : Option ℕ) (queue : List Queued
   pub number : ℕ
   pub place : ℕ
   pub text : List Bool
-  pub one : queue ≡ queued number text ∷ []
+  pub one : queue ≡ queued_text number text ∷ []
   pub waits : box ≡ Box.Waiting place text
   pub awaited : from_up ≡ true → outstanding ≡ Some number
 

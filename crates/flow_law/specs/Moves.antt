@@ -56,7 +56,7 @@ abbrev pub next_number : Option ℕ → ℕ
 next_number None = 0
 next_number (Some last) = next last
 
--- the destination would take this packet's message for new
+-- the destination would take this packet's message as new
 pub record New (to_up : Bool) (kept : Option ℕ) (x : Packet) : Type 0 where
   pub up : to_up ≡ true
   pub data_packet : x.kind ≡ Kind.Data
@@ -73,8 +73,8 @@ abbrev pub with_answer : Bool → Answer → List Answer → List Answer
 with_answer source kind answers = if source then answers ++ kind ∷ [] else answers
 
 -- a message from its number and its text
-abbrev pub queued : ℕ → List Bool → Queued
-queued number text = record { number = number; text = text }
+abbrev pub queued_text : ℕ → List Bool → Queued
+queued_text number text = record { number = number; text = text }
 
 -- ---- what a move needs
 
@@ -161,32 +161,32 @@ Needs Piece Forget v alive = NoData alive
 
 -- ---- what it changes
 
-abbrev pub after : Move → View → View
-after Quiet v = v
-after (DeadNow place text) v = record v { answers = answer.Dead ∷ []; box = Box.Waiting place text }
-after (Begin place text) v = record v { last = Some (next_number v.last); outstanding = Some (next_number v.last); box = Box.Waiting place text }
-after (BeginLocal place text) v = record v {
+abbrev pub view_moved : Move → View → View
+view_moved Quiet v = v
+view_moved (DeadNow place text) v = record v { answers = answer.Dead ∷ []; box = Box.Waiting place text }
+view_moved (Begin place text) v = record v { last = Some (next_number v.last); outstanding = Some (next_number v.last); box = Box.Waiting place text }
+view_moved (BeginLocal place text) v = record v {
   last = Some (next_number v.last);
   outstanding = Some (next_number v.last);
   kept = Some (next_number v.last);
-  queue = v.queue ++ queued (next_number v.last) text ∷ [];
+  queue = v.queue ++ queued_text (next_number v.last) text ∷ [];
   box = Box.Waiting place text;
 }
-after (NoteGone x) v = record v { kept = Some x.number }
-after (Whole x text) v = record v { kept = Some x.number; queue = v.queue ++ queued x.number text ∷ [] }
-after (Freed x kind) v = record v { outstanding = None; answers = with_answer v.source kind v.answers }
-after (TakeMessage oldest others) v = record v { queue = others; box = fetched v.box }
-after (TakeAnswer oldest others) v = record v { answers = others; box = Box.Empty }
-after StopSource v = record v { source = false; answers = [] }
-after StartSource v = record v { source = true; box = Box.Empty }
-after StopDestination v = record v { destination = false; queue = [] }
-after StartDestination v = record v { destination = true }
-after StopFrom v = record v { from_up = false; source = false; last = None; outstanding = None; answers = [] }
-after StartFrom v = record v { from_up = true }
-after StopTo v = record v { to_up = false; destination = false; kept = None; queue = [] }
-after StartTo v = record v { to_up = true }
-after (GiveUp number) v = record v { outstanding = None; answers = with_answer v.source answer.Incomplete v.answers }
-after Forget v = record v { kept = None }
+view_moved (NoteGone x) v = record v { kept = Some x.number }
+view_moved (Whole x text) v = record v { kept = Some x.number; queue = v.queue ++ queued_text x.number text ∷ [] }
+view_moved (Freed x kind) v = record v { outstanding = None; answers = with_answer v.source kind v.answers }
+view_moved (TakeMessage oldest others) v = record v { queue = others; box = fetched v.box }
+view_moved (TakeAnswer oldest others) v = record v { answers = others; box = Box.Empty }
+view_moved StopSource v = record v { source = false; answers = [] }
+view_moved StartSource v = record v { source = true; box = Box.Empty }
+view_moved StopDestination v = record v { destination = false; queue = [] }
+view_moved StartDestination v = record v { destination = true }
+view_moved StopFrom v = record v { from_up = false; source = false; last = None; outstanding = None; answers = [] }
+view_moved StartFrom v = record v { from_up = true }
+view_moved StopTo v = record v { to_up = false; destination = false; kept = None; queue = [] }
+view_moved StartTo v = record v { to_up = true }
+view_moved (GiveUp number) v = record v { outstanding = None; answers = with_answer v.source answer.Incomplete v.answers }
+view_moved Forget v = record v { kept = None }
 
 -- ---- which packets it may make (it may make fewer)
 
@@ -235,7 +235,7 @@ shows m v = []
 
 abbrev pub after_all : List Move → View → View
 after_all [] v = v
-after_all (m ∷ ms) v = after m (after_all ms v)
+after_all (m ∷ ms) v = view_moved m (after_all ms v)
 
 abbrev pub shown_by : List Move → View → List Passing
 shown_by [] v = []

@@ -3,10 +3,10 @@ use Rattle.std.specs.Prelude.{◌≡◌, Bool, true, List, [], ◌∷◌, ◌++�
 use Rattle.std.specs.List.{Contains}
 use Rattle.leader1822.specs.Mailboxes.{Box, Passing}
 use Rattle.flow_law.specs.View.{View, Packet}
-use Rattle.flow_law.specs.Moves.{Move, Needs, Makes, Either, after, shows}
+use Rattle.flow_law.specs.Moves.{Move, Needs, Makes, Either, view_moved, shows}
 
 -- a move, and the packets that are alive after it
-pub record Turn : Type 0 where
+pub record FlowTurn : Type 0 where
   pub move : Move
   pub left : List Packet
 
@@ -21,30 +21,30 @@ pub record IsOpening (v : View) : Type 0 where
 
 -- ---- a history: turns, newest first, from a view with no packet alive
 
-abbrev pub left_by : List Turn → List Packet
+abbrev pub left_by : List FlowTurn → List Packet
 left_by [] = []
 left_by (turn ∷ turns) = turn.left
 
-abbrev pub view_after : List Turn → View → View
+abbrev pub view_after : List FlowTurn → View → View
 view_after [] v = v
-view_after (turn ∷ turns) v = after turn.move (view_after turns v)
+view_after (turn ∷ turns) v = view_moved turn.move (view_after turns v)
 
-abbrev pub seen_in : List Turn → View → List Passing
+abbrev pub seen_in : List FlowTurn → View → List Passing
 seen_in [] v = []
 seen_in (turn ∷ turns) v = shows turn.move (view_after turns v) ++ seen_in turns v
 
 -- the move finds what it needs, and leaves nothing alive but what was and what it made
-pub record IsTurn (Asks : Move → View → (Packet → Type 0) → Type 0) (Piece : List Bool → Packet → Type 0) (v : View) (alive : List Packet) (turn : Turn) : Type 0 where
+pub record IsTurn (Asks : Move → View → (Packet → Type 0) → Type 0) (Piece : List Bool → Packet → Type 0) (v : View) (alive : List Packet) (turn : FlowTurn) : Type 0 where
   pub needs : Asks turn.move v (Contains alive)
   pub left : (x : Packet) → Contains turn.left x → Either (Contains alive) (Makes Piece turn.move v) x
 
 -- a history of a machine whose moves have these needs
-abbrev pub IsHistoryBy : (Move → View → (Packet → Type 0) → Type 0) → (List Bool → Packet → Type 0) → View → List Turn → Type 0
+abbrev pub IsHistoryBy : (Move → View → (Packet → Type 0) → Type 0) → (List Bool → Packet → Type 0) → View → List FlowTurn → Type 0
 IsHistoryBy needs Piece v [] = Unit {0}
 IsHistoryBy needs Piece v (turn ∷ turns) = IsTurn needs Piece (view_after turns v) (left_by turns) turn × IsHistoryBy needs Piece v turns
 
 -- a history
-abbrev pub IsHistory : (List Bool → Packet → Type 0) → View → List Turn → Type 0
+abbrev pub IsHistory : (List Bool → Packet → Type 0) → View → List FlowTurn → Type 0
 IsHistory Piece = IsHistoryBy (Needs Piece) Piece
 
 -- pieces by a test: whether a packet carries a piece of a text

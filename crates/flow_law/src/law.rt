@@ -9,9 +9,9 @@ ghost use Rattle.leader1822.specs.declared.address.Flow.{Flow};
 ghost use Rattle.leader1822.specs.declared.crossing.Crossing.{Crossing};
 ghost use Rattle.leader1822.specs.declared.crossing.Crossing.TheVariants as crossing;
 ghost use Rattle.flow_law.specs.View.{View, Packet, Queued, mail_now};
-ghost use Rattle.flow_law.specs.Moves.{Move, Needs, CanTakeMessage, CanStartSource, after, shown_by};
+ghost use Rattle.flow_law.specs.Moves.{Move, Needs, CanTakeMessage, CanStartSource, view_moved, shown_by};
 ghost use Rattle.flow_law.specs.Invariant.{Invariant};
-ghost use Rattle.flow_law.specs.Runs.{Turn, IsOpening, IsTurn, IsHistory, ByTest, left_by, view_after, seen_in};
+ghost use Rattle.flow_law.specs.Runs.{FlowTurn, IsOpening, IsTurn, IsHistory, ByTest, left_by, view_after, seen_in};
 ghost use Rattle.flow_law.specs.Follows.{Follows, AllFollow, OneFollows, AllOpen, AllSound, passed_over};
 ghost use Rattle.flow_law.specs.Local.{taken_here, view_taken_here, stopped_host, started_host, stopped_host_queued, view_stopped_here, view_stopped_itself, view_stopped_unread, view_started_itself};
 ghost use Rattle.flow_law.specs.Example.{at_first, worked, worked_seen, InOnePacket};
@@ -21,29 +21,29 @@ ghost use Rattle.flow_law.specs.Example.{at_first, worked, worked_seen, InOnePac
 /// flow's mailbox.
 pub fn mailbox()
     // what was seen is a run of the mailbox
-    ensures flow { (test : List Bool → Packet → Bool) (start : View) (turns : List Turn)
+    ensures flow { (test : List Bool → Packet → Bool) (start : View) (turns : List FlowTurn)
         → IsOpening start
         → IsHistory (ByTest test) start turns
         → IsFlowRun (mail_now start) (seen_in turns start) }
 
     // and leads to the hosts and the box of the view
-    ensures mail { (test : List Bool → Packet → Bool) (start : View) (turns : List Turn)
+    ensures mail { (test : List Bool → Packet → Bool) (start : View) (turns : List FlowTurn)
         → IsOpening start
         → IsHistory (ByTest test) start turns
         → mail_of (mail_now start) (seen_in turns start) ≡ mail_now (view_after turns start) }
 
     // the clauses of the invariant hold after each history
-    ensures clauses { (test : List Bool → Packet → Bool) (start : View) (turns : List Turn)
+    ensures clauses { (test : List Bool → Packet → Bool) (start : View) (turns : List FlowTurn)
         → IsOpening start
         → IsHistory (ByTest test) start turns
         → Invariant (ByTest test) (view_after turns start) (Contains (left_by turns)) }
 
     // they hold at the start, and each turn keeps them
     ensures opening { (test : List Bool → Packet → Bool) (start : View) → IsOpening start → Invariant (ByTest test) start (Contains []) }
-    ensures kept { (test : List Bool → Packet → Bool) (v : View) (alive : List Packet) (turn : Turn)
+    ensures kept { (test : List Bool → Packet → Bool) (v : View) (alive : List Packet) (turn : FlowTurn)
         → Invariant (ByTest test) v (Contains alive)
         → IsTurn (Needs (ByTest test)) (ByTest test) v alive turn
-        → Invariant (ByTest test) (after turn.move v) (Contains turn.left) }
+        → Invariant (ByTest test) (view_moved turn.move v) (Contains turn.left) }
 {}
 
 /// What a network shows and gets: where each flow makes a list of moves at each step, and these show what

@@ -6,9 +6,9 @@ use Rattle.leader1822.specs.Messages.{SafeMessages}
 use Rattle.net_sim.specs.Clean.{IsLawful}
 use Rattle.net_sim.specs.Safe.{SafeBook}
 use Rattle.net_sim.specs.World.{WorldState}
-use Rattle.world_lives.proofs.Laws.{world_handed, world_taken}
-use Rattle.world_pairing.proofs.Worlds.{world_alone, world_partners}
-use Rattle.world_streams.proofs.FinalAll.{world_sent, world_source}
+use Rattle.world_keeps_lives.proofs.lemmas.{world_handed, world_taken}
+use Rattle.world_keeps_pairing.proofs.lemmas.{world_alone, world_partners}
+use Rattle.world_keeps_streams.proofs.lemmas.{world_sent, world_source}
 
 pub promise : {C : Type 0} (seen : C → Seen) (hosts : List Host) (w : WorldState C) → IsLawful seen hosts w → SafeMessages w.kept.book.crossings → SafeBook w.kept.book.crossings w.kept.book.lives w.kept.handed
 promise seen hosts w lawful messages = record {

@@ -1,7 +1,7 @@
 //! The promise of the book of a world: the headline.
 //!
-//! Each part is proved in a crate of its own: the messages in `net_sim`, the partners in `world_pairing`, what is about one host alone
-//! in `world_lives`, and what is about two programs together in `world_streams`. Here they stand as one statement, on the call by which
+//! Each part is proved in a crate of its own: the messages in `net_sim`, the partners in `world_keeps_pairing`, what is about one host alone
+//! in `world_keeps_lives`, and what is about two programs together in `world_keeps_streams`. Here they stand as one statement, on the call by which
 //! a program gets the book. It asks for nothing: a carrier's law and the programs of all hosts are part of what a `World` is.
 #![tactic(auto)]
 

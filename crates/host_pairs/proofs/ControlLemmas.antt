@@ -7,7 +7,7 @@ use Rattle.bit_messages.specs.Octets.{octet, octets_of}
 use Rattle.leader1822.specs.Host.{Host}
 use Rattle.ncp_control.specs.DataHeader.{data_bits, fields_of, header_of}
 use Rattle.ncp_control.specs.declared.data_header.DataHeader.{DataHeader}
-use Rattle.ncp_control.proofs.Headers.{octets_enough}
+use Rattle.ncp_control.proofs.lemmas.{octets_enough}
 use Rattle.host_pairs.specs.Turn.{TurnState, orders_taken}
 use Rattle.host_pairs.specs.Said.{said_by}
 use Rattle.host_pairs.specs.Control.{is_control, orders_by, orders_in, orders_of, orders_within}
@@ -26,7 +26,7 @@ drop_octet (a ∷ b ∷ c ∷ d ∷ e ∷ f ∷ []) = refl
 drop_octet (a ∷ b ∷ c ∷ d ∷ e ∷ f ∷ g ∷ []) = refl
 drop_octet (a ∷ b ∷ c ∷ d ∷ e ∷ f ∷ g ∷ h ∷ rest) = refl
 
-pub octets_of-drop : (n : ℕ) (bits : List Bool) → octets_of (drop (8 * n) bits) ≡ drop n (octets_of bits)
+octets_of-drop : (n : ℕ) (bits : List Bool) → octets_of (drop (8 * n) bits) ≡ drop n (octets_of bits)
 octets_of-drop zero bits = refl
 octets_of-drop (suc n) bits =
     let count : 8 * suc n ≡ 8 + 8 * n = omega arith in
@@ -55,7 +55,7 @@ take_octet n (a ∷ b ∷ c ∷ d ∷ e ∷ f ∷ []) more = last (octet a b c d
 take_octet n (a ∷ b ∷ c ∷ d ∷ e ∷ f ∷ g ∷ []) more = last (octet a b c d e f g false) n
 take_octet n (a ∷ b ∷ c ∷ d ∷ e ∷ f ∷ g ∷ h ∷ rest) more = ap (λ (octets : List ℕ). octet a b c d e f g h ∷ octets) (more rest)
 
-pub octets_of-take : (n : ℕ) (bits : List Bool) → octets_of (take (8 * n) bits) ≡ take n (octets_of bits)
+octets_of-take : (n : ℕ) (bits : List Bool) → octets_of (take (8 * n) bits) ≡ take n (octets_of bits)
 unfolding octets_of
 octets_of-take zero bits = refl
 octets_of-take (suc n) bits =
@@ -63,7 +63,7 @@ octets_of-take (suc n) bits =
     ap (λ (k : ℕ). octets_of (take k bits)) count ∙ take_octet n bits (octets_of-take n)
 
 -- the octets of a part of a text
-pub octets_within : (from count : ℕ) (bits : List Bool) → octets_of (take (8 * count) (drop (8 * from) bits)) ≡ take count (drop from (octets_of bits))
+octets_within : (from count : ℕ) (bits : List Bool) → octets_of (take (8 * count) (drop (8 * from) bits)) ≡ take count (drop from (octets_of bits))
 octets_within from count bits =
     octets_of-take count (drop (8 * from) bits) ∙ ap (λ (octets : List ℕ). take count octets) (octets_of-drop from bits)
 
@@ -121,10 +121,6 @@ pub record IsLeft (peer : Host) (stamp : ℕ) (octets : List ℕ) (now end : Tur
   pub same : orders_taken peer stamp (orders_within most octets) now ≡ end
   pub said : said_by peer stamp (orders_within most octets) now ≤ total
 
-pub left_all : (peer : Host) (stamp : ℕ) (octets : List ℕ) (now : TurnState)
-    → IsLeft peer stamp octets now (orders_taken peer stamp (orders_in octets) now) (said_by peer stamp (orders_in octets) now)
-left_all peer stamp octets now = record { most = length octets; enough = omega arith; same = refl; said = omega arith }
-
 left_none_of : (peer : Host) (stamp most : ℕ) (now end : TurnState) → orders_taken peer stamp (orders_within most []) now ≡ end → now ≡ end
 left_none_of peer stamp zero now end same = same
 left_none_of peer stamp (suc most) now end same = same
@@ -175,7 +171,7 @@ wanted_of peer stamp (suc most) octets now total enough said some wants =
     let here : 0 < said_by peer stamp (orders_within (1 + most) octets) now = wants most in
     omega (arith, here, before, said)
 
--- where the next order wants memory, the octets want it
+-- where the next order needs memory, the octets need it
 pub left_wanted : (peer : Host) (stamp : ℕ) (octets : List ℕ) (now end : TurnState) (total : ℕ) → IsLeft peer stamp octets now end total → 0 < length octets
     → ((more : ℕ) → 0 < said_by peer stamp (orders_within (1 + more) octets) now) → 0 < total
 left_wanted peer stamp octets now end total left some wants = wanted_of peer stamp left.most octets now total left.enough left.said some wants

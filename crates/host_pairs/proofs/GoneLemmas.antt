@@ -1,4 +1,4 @@
--- The front of a list, and what is behind it.
+-- A prefix of a list, and what follows it.
 use Rattle.std.proofs.Common.{◌≡◌, ℕ, List, [], ◌∷◌, length, take, drop, min, refl, ap, sym, ◌∙◌}
 use Rattle.std.proofs.lemmas.List.{length-take}
 

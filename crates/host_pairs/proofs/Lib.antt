@@ -8,3 +8,4 @@ pub mod ParcelLemmas
 pub mod QueueLemmas
 pub mod ReadLemmas
 pub mod SendingLemmas
+pub mod lemmas

@@ -9,12 +9,12 @@ use Rattle.ncp_control.specs.declared.command.Command.{Command}
 use Rattle.ncp_control.specs.declared.command.Command.TheVariants as command
 use Rattle.ncp_control.specs.declared.data_header.DataHeader.{DataHeader}
 use Rattle.host_pairs.specs.Turn.{TurnState, with_desk, if_ready, reset_notices, reply_notices, command_taken, order_taken, orders_taken, message_taken, settled_turn, closed, failed_by, is_gone, failed, answer_taken}
-use Rattle.host_pairs.specs.Commands.{faulted, changed, asked_on_link, asked_with_size, matched, matched_once, rts_heard, rts_taken_by, rts_taken, str_linked, str_heard, str_taken_by, closed_once, cls_taken_by, Found, Unconnected, Ending, Open, sender_on, receiver_on, at_end, all_taken, gvb_taken, ret_taken, interrupted, returned, taken}
+use Rattle.host_pairs.specs.Commands.{faulted, changed, asked_on_link, asked_with_size, matched, matched_once, rts_heard, rts_taken_by, rts_taken, str_linked, str_heard, str_taken_by, closed_once, cls_taken_by, Found, Unconnected, Ending, Open, sender_on, receiver_on, at_end, all_taken, gvb_taken, ret_taken, interrupted, returned, desk_taken}
 use Rattle.host_pairs.specs.Control.{Order, Legal, Wrong, orders_of, error, ERRONEOUS}
 use Rattle.host_pairs.specs.Data.{is_acceptable, arrived, arrived_if, text_faulted, data_of, data_found, data_taken}
-use Rattle.host_pairs.specs.Entries.{is_at, entry_at, changed_at, sends_on, receives_on, is_ending, is_over, opening_by, opening, ending, closed_by_partner, free_link}
+use Rattle.host_pairs.specs.Entries.{is_at, entry_at, changed_at, sends_on, receives_on, is_ending, is_over, opening_by, opening_notices, ending, closed_by_partner, free_link}
 use Rattle.host_pairs.specs.About.{AreAbout}
-use Rattle.host_pairs.specs.Desk.{DeskState, queued, told, settled, swept, desk_of, listener_on}
+use Rattle.host_pairs.specs.Desk.{DeskState, command_queued, desk_told, settled, swept, desk_of, listener_on}
 use Rattle.host_pairs.specs.Phases.{is_ready}
 use Rattle.host_pairs.specs.Parcels.{Parcel, Reset, Reply, Commands, Bytes, request_gone, command_gone, commands_gone, parcel_gone, asked_at, cls_sent}
 use Rattle.host_pairs.specs.declared.entry.Entry.{Entry}
@@ -46,7 +46,7 @@ opening_about_by peer e (Some a) (Some p) = about_if peer (is_ending e) [] (noti
 opening_about_by peer e None partner = tt
 opening_about_by peer e (Some a) None = tt
 
-opening_about : (peer : Host) (o : Option Entry) → AreAbout peer (opening peer o)
+opening_about : (peer : Host) (o : Option Entry) → AreAbout peer (opening_notices peer o)
 opening_about peer None = tt
 opening_about peer (Some e) = opening_about_by peer e e.asked e.partner
 
@@ -59,7 +59,7 @@ if_kept : (peer : Host) (b : Bool) (x y : DeskState) → Kept peer x → Kept pe
 if_kept peer true x y a b = a
 if_kept peer false x y a b = b
 
-told_kept : (peer : Host) (ns : List Notice) (d : DeskState) → Kept peer d → AreAbout peer ns → Kept peer (told ns d)
+told_kept : (peer : Host) (ns : List Notice) (d : DeskState) → Kept peer d → AreAbout peer ns → Kept peer (desk_told ns d)
 told_kept peer ns d h a = about_both peer d.notices ns h a
 
 swept_kept : (peer : Host) (d : DeskState) → Kept peer d → Kept peer (swept peer d)
@@ -67,7 +67,7 @@ swept_kept peer d h = about_both peer d.notices (flat_map (ending peer) (filter 
 
 matched_kept : (peer : Host) (own foreign : ℕ) (change : Entry → Entry) (d : DeskState) → Kept peer d → Kept peer (matched peer own foreign change d)
 matched_kept peer own foreign change d h =
-    told_kept peer (opening peer (entry_at own foreign (changed_at own foreign change d.entries))) (changed (is_at own foreign) change d) h
+    told_kept peer (opening_notices peer (entry_at own foreign (changed_at own foreign change d.entries))) (changed (is_at own foreign) change d) h
     (opening_about peer (entry_at own foreign (changed_at own foreign change d.entries)))
 
 once_kept : (peer : Host) (own foreign : ℕ) (c : Command) (e : Entry) (change : Entry → Entry) (d : DeskState) → Kept peer d → Kept peer (matched_once peer own foreign c e change d)
@@ -114,13 +114,13 @@ end_kept peer c change (Open e) d k h = k e
 ret_kept : (peer : Host) (link messages bits : ℕ) (d : DeskState) → Kept peer d → (e : Entry) → Kept peer (ret_taken link messages bits e d)
 ret_kept peer link messages bits d h e =
     if_kept peer (nat_le messages e.allocation.messages && nat_le bits e.allocation.bits)
-    (told (notice.Returned e.own messages bits ∷ []) (changed (receives_on link) (returned messages bits) d)) (faulted ERRONEOUS (command.Ret link messages bits) d)
+    (desk_told (notice.Returned e.own messages bits ∷ []) (changed (receives_on link) (returned messages bits) d)) (faulted ERRONEOUS (command.Ret link messages bits) d)
     (told_kept peer (notice.Returned e.own messages bits ∷ []) (changed (receives_on link) (returned messages bits) d) h (tt, tt)) h
 
 interrupted_kept : (peer : Host) (d : DeskState) → Kept peer d → (e : Entry) → Kept peer (interrupted e d)
 interrupted_kept peer d h e = told_kept peer (notice.Interrupt e.own ∷ []) d h (tt, tt)
 
-taken_kept : (peer : Host) (busy : List ℕ) (stamp : ℕ) (c : Command) (d : DeskState) → Kept peer d → Kept peer (taken peer busy stamp c d)
+taken_kept : (peer : Host) (busy : List ℕ) (stamp : ℕ) (c : Command) (d : DeskState) → Kept peer d → Kept peer (desk_taken peer busy stamp c d)
 taken_kept peer busy stamp command.Nop d h = h
 taken_kept peer busy stamp (command.Rts receive send link) d h = rts_kept peer send receive link stamp d h
 taken_kept peer busy stamp (command.Str send receive size) d h = str_by_kept peer receive send size stamp (entry_at receive send d.entries) d h
@@ -178,22 +178,22 @@ reply_about peer phase.Ready = tt
 command_told : (peer : Host) (stamp : ℕ) (c : Command) (t : TurnState) → Told peer t → Told peer (command_taken peer stamp c t)
 command_told peer stamp command.Rst t h = about_both peer t.notices (reset_notices peer t.pair.phase) h (reset_about peer t.pair.phase)
 command_told peer stamp command.Rrp t h = about_both peer t.notices (reply_notices peer t.pair.phase) h (reply_about peer t.pair.phase)
-command_told peer stamp command.Nop t h = ready_told peer (taken peer t.pair.busy stamp command.Nop) t (taken_kept peer t.pair.busy stamp command.Nop) h
-command_told peer stamp (command.Rts a b c) t h = ready_told peer (taken peer t.pair.busy stamp (command.Rts a b c)) t (taken_kept peer t.pair.busy stamp (command.Rts a b c)) h
-command_told peer stamp (command.Str a b c) t h = ready_told peer (taken peer t.pair.busy stamp (command.Str a b c)) t (taken_kept peer t.pair.busy stamp (command.Str a b c)) h
-command_told peer stamp (command.Cls a b) t h = ready_told peer (taken peer t.pair.busy stamp (command.Cls a b)) t (taken_kept peer t.pair.busy stamp (command.Cls a b)) h
-command_told peer stamp (command.All a b c) t h = ready_told peer (taken peer t.pair.busy stamp (command.All a b c)) t (taken_kept peer t.pair.busy stamp (command.All a b c)) h
-command_told peer stamp (command.Gvb a b c) t h = ready_told peer (taken peer t.pair.busy stamp (command.Gvb a b c)) t (taken_kept peer t.pair.busy stamp (command.Gvb a b c)) h
-command_told peer stamp (command.Ret a b c) t h = ready_told peer (taken peer t.pair.busy stamp (command.Ret a b c)) t (taken_kept peer t.pair.busy stamp (command.Ret a b c)) h
-command_told peer stamp (command.Inr a) t h = ready_told peer (taken peer t.pair.busy stamp (command.Inr a)) t (taken_kept peer t.pair.busy stamp (command.Inr a)) h
-command_told peer stamp (command.Ins a) t h = ready_told peer (taken peer t.pair.busy stamp (command.Ins a)) t (taken_kept peer t.pair.busy stamp (command.Ins a)) h
-command_told peer stamp (command.Eco a) t h = ready_told peer (taken peer t.pair.busy stamp (command.Eco a)) t (taken_kept peer t.pair.busy stamp (command.Eco a)) h
-command_told peer stamp (command.Erp a) t h = ready_told peer (taken peer t.pair.busy stamp (command.Erp a)) t (taken_kept peer t.pair.busy stamp (command.Erp a)) h
-command_told peer stamp (command.Err a b) t h = ready_told peer (taken peer t.pair.busy stamp (command.Err a b)) t (taken_kept peer t.pair.busy stamp (command.Err a b)) h
+command_told peer stamp command.Nop t h = ready_told peer (desk_taken peer t.pair.busy stamp command.Nop) t (taken_kept peer t.pair.busy stamp command.Nop) h
+command_told peer stamp (command.Rts a b c) t h = ready_told peer (desk_taken peer t.pair.busy stamp (command.Rts a b c)) t (taken_kept peer t.pair.busy stamp (command.Rts a b c)) h
+command_told peer stamp (command.Str a b c) t h = ready_told peer (desk_taken peer t.pair.busy stamp (command.Str a b c)) t (taken_kept peer t.pair.busy stamp (command.Str a b c)) h
+command_told peer stamp (command.Cls a b) t h = ready_told peer (desk_taken peer t.pair.busy stamp (command.Cls a b)) t (taken_kept peer t.pair.busy stamp (command.Cls a b)) h
+command_told peer stamp (command.All a b c) t h = ready_told peer (desk_taken peer t.pair.busy stamp (command.All a b c)) t (taken_kept peer t.pair.busy stamp (command.All a b c)) h
+command_told peer stamp (command.Gvb a b c) t h = ready_told peer (desk_taken peer t.pair.busy stamp (command.Gvb a b c)) t (taken_kept peer t.pair.busy stamp (command.Gvb a b c)) h
+command_told peer stamp (command.Ret a b c) t h = ready_told peer (desk_taken peer t.pair.busy stamp (command.Ret a b c)) t (taken_kept peer t.pair.busy stamp (command.Ret a b c)) h
+command_told peer stamp (command.Inr a) t h = ready_told peer (desk_taken peer t.pair.busy stamp (command.Inr a)) t (taken_kept peer t.pair.busy stamp (command.Inr a)) h
+command_told peer stamp (command.Ins a) t h = ready_told peer (desk_taken peer t.pair.busy stamp (command.Ins a)) t (taken_kept peer t.pair.busy stamp (command.Ins a)) h
+command_told peer stamp (command.Eco a) t h = ready_told peer (desk_taken peer t.pair.busy stamp (command.Eco a)) t (taken_kept peer t.pair.busy stamp (command.Eco a)) h
+command_told peer stamp (command.Erp a) t h = ready_told peer (desk_taken peer t.pair.busy stamp (command.Erp a)) t (taken_kept peer t.pair.busy stamp (command.Erp a)) h
+command_told peer stamp (command.Err a b) t h = ready_told peer (desk_taken peer t.pair.busy stamp (command.Err a b)) t (taken_kept peer t.pair.busy stamp (command.Err a b)) h
 
 order_told : (peer : Host) (stamp : ℕ) (o : Order) (t : TurnState) → Told peer t → Told peer (order_taken peer stamp o t)
 order_told peer stamp (Legal c) t h = command_told peer stamp c t h
-order_told peer stamp (Wrong code octets) t h = ready_told peer (queued (error code octets)) t (λ d k. k) h
+order_told peer stamp (Wrong code octets) t h = ready_told peer (command_queued (error code octets)) t (λ d k. k) h
 
 orders_told : (peer : Host) (stamp : ℕ) (os : List Order) (t : TurnState) → Told peer t → Told peer (orders_taken peer stamp os t)
 orders_told peer stamp [] t h = h
@@ -230,7 +230,7 @@ answer_told peer answer.Dead link t h = failed_told peer t h
 
 request_kept : (peer : Host) (stamp own foreign : ℕ) (d : DeskState) → Kept peer d → Kept peer (request_gone peer stamp own foreign d)
 request_kept peer stamp own foreign d h =
-    told_kept peer (opening peer (entry_at own foreign (changed_at own foreign (asked_at stamp) d.entries))) (changed (is_at own foreign) (asked_at stamp) d) h
+    told_kept peer (opening_notices peer (entry_at own foreign (changed_at own foreign (asked_at stamp) d.entries))) (changed (is_at own foreign) (asked_at stamp) d) h
     (opening_about peer (entry_at own foreign (changed_at own foreign (asked_at stamp) d.entries)))
 
 gone_kept : (peer : Host) (stamp : ℕ) (c : Command) (d : DeskState) → Kept peer d → Kept peer (command_gone peer stamp c d)

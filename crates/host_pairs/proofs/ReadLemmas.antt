@@ -6,7 +6,7 @@ use Rattle.std.specs.Prelude.{All}
 use Rattle.std.specs.declared.alloc.AllocError.{AllocError}
 use Rattle.std.specs.Int.{w16, to_be_bytes}
 use Rattle.bit_messages.specs.Octets.{bits_of, octets_of}
-use Rattle.bit_messages.proofs.OctetLemmas.{length-bits_of, octets_again, octets_of-append}
+use Rattle.bit_messages.proofs.lemmas.{length-bits_of, octets_again, octets_of-append}
 use Rattle.ncp_control.specs.Command.{is_alone, spelling}
 use Rattle.ncp_control.specs.DataHeader.{header_of}
 use Rattle.ncp_control.specs.Packing.{AreRead, packed_count}
@@ -15,7 +15,7 @@ use Rattle.ncp_control.specs.declared.command.Command.{Command}
 use Rattle.ncp_control.specs.declared.command.Command.TheVariants as command
 use Rattle.ncp_control.specs.declared.data_header.DataHeader.{DataHeader}
 use Rattle.ncp_control.specs.declared.fault.ControlFault.{ControlFault}
-use Rattle.ncp_control.proofs.Headers.{header_again}
+use Rattle.ncp_control.proofs.lemmas.{header_again}
 use Rattle.host_pairs.specs.Control.{Order, Legal, control_text, is_control, orders_of, orders_within, then_orders}
 use Rattle.host_pairs.specs.Allowed.{IsReadAs}
 use Rattle.host_pairs.specs.Outgoing.{HasRoom, parcel_of}

@@ -4,9 +4,9 @@ use Rattle.ncp_control.specs.Command.{is_alone, spelling}
 use Rattle.ncp_control.specs.Packing.{packed_count, spellings}
 use Rattle.ncp_control.specs.declared.command.Command.{Command}
 use Rattle.ncp_control.specs.declared.command.Command.TheVariants as command
-use Rattle.ncp_control.proofs.Fronts.{longest_front}
+use Rattle.ncp_control.proofs.lemmas.{longest_front}
 use Rattle.bit_messages.specs.Octets.{bits_of, octet_bits}
-use Rattle.bit_messages.proofs.OctetLemmas.{length-bits_of}
+use Rattle.bit_messages.proofs.lemmas.{length-bits_of}
 use Rattle.std.proofs.lemmas.List.{length-take}
 use Rattle.host_pairs.specs.Control.{control_text}
 use Rattle.host_pairs.specs.Data.{data_text}
@@ -42,7 +42,7 @@ whole_octets octets n is = rw is (whole octets)
 
 -- ---- commands
 
--- a front of whole commands has room in one control message
+-- a prefix of whole commands has room in one control message
 pub packed_room : (commands : List Command) → length (spellings (take (packed_count commands) commands)) ≤ 120
 packed_room commands = (longest_front commands).fits
 

@@ -7,8 +7,8 @@ use Rattle.ncp_control.specs.Command.{spelling}
 use Rattle.ncp_control.specs.declared.command.Command.{Command}
 use Rattle.ncp_control.specs.declared.command.Command.TheVariants as command
 use Rattle.host_pairs.specs.Control.{error, ERRONEOUS, NO_SOCKET, NOT_CONNECTED}
-use Rattle.host_pairs.specs.Entries.{is_at, entry_at, changed_first, changed_at, sends_on, receives_on, sending_end, receiving_end, refused_end, is_open, is_ending, opening, free_link, cls_of, closed_by_partner}
-use Rattle.host_pairs.specs.Desk.{DeskState, queued, told, settled, swept, listener_on, without_listener}
+use Rattle.host_pairs.specs.Entries.{is_at, entry_at, changed_first, changed_at, sends_on, receives_on, sending_end, receiving_end, refused_end, is_open, is_ending, opening_notices, free_link, cls_of, closed_by_partner}
+use Rattle.host_pairs.specs.Desk.{DeskState, command_queued, desk_told, settled, swept, listener_on, without_listener}
 use Rattle.host_pairs.specs.declared.listener.Listener.{Listener}
 use Rattle.host_pairs.specs.declared.entry.Entry.{Entry}
 use Rattle.host_pairs.specs.declared.notice.Notice.TheVariants as notice
@@ -17,7 +17,7 @@ use Rattle.host_pairs.specs.declared.notice.Notice.TheVariants as notice
 
 -- an ERR about a command, of this kind
 abbrev pub faulted : ℕ → Command → DeskState → DeskState
-faulted code c d = queued (error code (spelling c)) d
+faulted code c d = command_queued (error code (spelling c)) d
 
 -- ---- ends
 
@@ -34,9 +34,9 @@ asked_on_link stamp link e = record e { partner = Some stamp; link = Some link }
 abbrev pub asked_with_size : ℕ → ℕ → Entry → Entry
 asked_with_size stamp size e = record e { partner = Some stamp; size = Some size }
 
--- a new end
-abbrev pub joined : Entry → DeskState → DeskState
-joined e d = record d { entries = d.entries ++ e ∷ [] }
+-- a new end stands behind the others
+abbrev pub entry_joined : Entry → DeskState → DeskState
+entry_joined e d = record d { entries = d.entries ++ e ∷ [] }
 
 -- the socket no longer listens
 abbrev pub answered_on : ℕ → DeskState → DeskState
@@ -44,11 +44,11 @@ answered_on socket d = record d { listening = without_listener socket d.listenin
 
 -- nobody waits for the request: it is refused by a CLS
 abbrev pub refused : ℕ → ℕ → ℕ → DeskState → DeskState
-refused own foreign stamp d = queued (cls_of (refused_end own foreign stamp)) (joined (refused_end own foreign stamp) d)
+refused own foreign stamp d = command_queued (cls_of (refused_end own foreign stamp)) (entry_joined (refused_end own foreign stamp) d)
 
 -- an end that waits for the request has it now, and may be open by it
 abbrev pub matched : Host → ℕ → ℕ → (Entry → Entry) → DeskState → DeskState
-matched peer own foreign change d = told (opening peer (entry_at own foreign (changed_at own foreign change d.entries))) (changed (is_at own foreign) change d)
+matched peer own foreign change d = desk_told (opening_notices peer (entry_at own foreign (changed_at own foreign change d.entries))) (changed (is_at own foreign) change d)
 
 -- an end that already had a request of the peer gets no second one
 abbrev pub matched_once : Host → ℕ → ℕ → Command → Entry → (Entry → Entry) → DeskState → DeskState
@@ -58,7 +58,7 @@ matched_once peer own foreign c e change d = if is_some e.partner then faulted E
 abbrev pub rts_heard : ℕ → ℕ → ℕ → ℕ → Option Listener → DeskState → DeskState
 rts_heard own foreign link stamp None d = refused own foreign stamp d
 rts_heard own foreign link stamp (Some l) d =
-    queued (command.Str own foreign l.size) (joined (asked_on_link stamp link (sending_end own foreign l.size)) (answered_on own d))
+    command_queued (command.Str own foreign l.size) (entry_joined (asked_on_link stamp link (sending_end own foreign l.size)) (answered_on own d))
 
 abbrev pub rts_taken_by : Host → ℕ → ℕ → ℕ → ℕ → Option Entry → DeskState → DeskState
 rts_taken_by peer own foreign link stamp (Some e) d = matched_once peer own foreign (command.Rts foreign own link) e (asked_on_link stamp link) d
@@ -75,7 +75,7 @@ rts_taken peer own foreign link stamp d =
 abbrev pub str_linked : ℕ → ℕ → ℕ → ℕ → Option ℕ → DeskState → DeskState
 str_linked own foreign size stamp None d = refused own foreign stamp d
 str_linked own foreign size stamp (Some link) d =
-    queued (command.Rts own foreign link) (joined (asked_with_size stamp size (receiving_end own foreign link)) (answered_on own d))
+    command_queued (command.Rts own foreign link) (entry_joined (asked_with_size stamp size (receiving_end own foreign link)) (answered_on own d))
 
 abbrev pub str_heard : ℕ → ℕ → ℕ → ℕ → Option Listener → DeskState → DeskState
 str_heard own foreign size stamp None d = refused own foreign stamp d
@@ -138,7 +138,7 @@ given_back messages bits e = record e { allocation = counters.given_back e.alloc
 
 abbrev pub gvb_taken : ℕ → ℕ → ℕ → Entry → DeskState → DeskState
 gvb_taken link messages bits e d =
-    queued (command.Ret link (counters.share e.allocation.messages messages) (counters.share e.allocation.bits bits)) (changed (sends_on link) (given_back messages bits) d)
+    command_queued (command.Ret link (counters.share e.allocation.messages messages) (counters.share e.allocation.bits bits)) (changed (sends_on link) (given_back messages bits) d)
 
 -- RET: the sender returns a part; more than there is would be an error
 abbrev pub returned : ℕ → ℕ → Entry → Entry
@@ -147,27 +147,27 @@ returned messages bits e = record e { allocation = record { messages = e.allocat
 abbrev pub ret_taken : ℕ → ℕ → ℕ → Entry → DeskState → DeskState
 ret_taken link messages bits e d =
     if nat_le messages e.allocation.messages && nat_le bits e.allocation.bits
-    then told (notice.Returned e.own messages bits ∷ []) (changed (receives_on link) (returned messages bits) d)
+    then desk_told (notice.Returned e.own messages bits ∷ []) (changed (receives_on link) (returned messages bits) d)
     else faulted ERRONEOUS (command.Ret link messages bits) d
 
 -- INR and INS: the other end interrupts
 abbrev pub interrupted : Entry → DeskState → DeskState
-interrupted e d = told (notice.Interrupt e.own ∷ []) d
+interrupted e d = desk_told (notice.Interrupt e.own ∷ []) d
 
 -- ---- all commands. RST and RRP are no matter of connections
 
-abbrev pub taken : Host → List ℕ → ℕ → Command → DeskState → DeskState
-taken peer busy stamp command.Nop d = d
-taken peer busy stamp (command.Rts receive send link) d = rts_taken peer send receive link stamp d
-taken peer busy stamp (command.Str send receive size) d = str_taken peer receive send size stamp d
-taken peer busy stamp (command.Cls own foreign) d = cls_taken peer busy foreign own d
-taken peer busy stamp (command.All link messages bits) d = at_end (command.All link messages bits) (all_taken link messages bits) (sender_on link d) d
-taken peer busy stamp (command.Gvb link messages bits) d = at_end (command.Gvb link messages bits) (gvb_taken link messages bits) (sender_on link d) d
-taken peer busy stamp (command.Ret link messages bits) d = at_end (command.Ret link messages bits) (ret_taken link messages bits) (receiver_on link d) d
-taken peer busy stamp (command.Inr link) d = at_end (command.Inr link) interrupted (sender_on link d) d
-taken peer busy stamp (command.Ins link) d = at_end (command.Ins link) interrupted (receiver_on link d) d
-taken peer busy stamp (command.Eco octet) d = queued (command.Erp octet) d
-taken peer busy stamp (command.Erp octet) d = told (notice.Echoed peer octet ∷ []) d
-taken peer busy stamp (command.Err code detail) d = told (notice.RemoteError peer code detail ∷ []) d
-taken peer busy stamp command.Rst d = d
-taken peer busy stamp command.Rrp d = d
+abbrev pub desk_taken : Host → List ℕ → ℕ → Command → DeskState → DeskState
+desk_taken peer busy stamp command.Nop d = d
+desk_taken peer busy stamp (command.Rts receive send link) d = rts_taken peer send receive link stamp d
+desk_taken peer busy stamp (command.Str send receive size) d = str_taken peer receive send size stamp d
+desk_taken peer busy stamp (command.Cls own foreign) d = cls_taken peer busy foreign own d
+desk_taken peer busy stamp (command.All link messages bits) d = at_end (command.All link messages bits) (all_taken link messages bits) (sender_on link d) d
+desk_taken peer busy stamp (command.Gvb link messages bits) d = at_end (command.Gvb link messages bits) (gvb_taken link messages bits) (sender_on link d) d
+desk_taken peer busy stamp (command.Ret link messages bits) d = at_end (command.Ret link messages bits) (ret_taken link messages bits) (receiver_on link d) d
+desk_taken peer busy stamp (command.Inr link) d = at_end (command.Inr link) interrupted (sender_on link d) d
+desk_taken peer busy stamp (command.Ins link) d = at_end (command.Ins link) interrupted (receiver_on link d) d
+desk_taken peer busy stamp (command.Eco octet) d = command_queued (command.Erp octet) d
+desk_taken peer busy stamp (command.Erp octet) d = desk_told (notice.Echoed peer octet ∷ []) d
+desk_taken peer busy stamp (command.Err code detail) d = desk_told (notice.RemoteError peer code detail ∷ []) d
+desk_taken peer busy stamp command.Rst d = d
+desk_taken peer busy stamp command.Rrp d = d

@@ -39,7 +39,7 @@ error code octets = command.Err code (detail_of octets)
 -- ---- reading
 
 -- one command read, and the rest with it: an illegal code or missing octets end the reading, a command with a field outside its
--- range is passed over
+-- range is skipped
 abbrev pub then_orders : List ℕ → Result (Command × ℕ) ControlFault → (List ℕ → List Order) → List Order
 then_orders octets (Ok (c, used)) rest = Legal c ∷ rest (drop used octets)
 then_orders octets (Err (fault.IllegalCode quoted)) rest = Wrong ILLEGAL_CODE (take quoted octets) ∷ []

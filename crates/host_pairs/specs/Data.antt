@@ -8,7 +8,7 @@ use Rattle.ncp_control.specs.declared.data_header.DataHeader.{DataHeader}
 use Rattle.host_pairs.specs.Commands.{Found, Unconnected, Ending, Open, receiver_on, changed}
 use Rattle.host_pairs.specs.Control.{error, ERRONEOUS, NOT_CONNECTED}
 use Rattle.host_pairs.specs.Entries.{is_size, receives_on}
-use Rattle.host_pairs.specs.Desk.{DeskState, queued, told}
+use Rattle.host_pairs.specs.Desk.{DeskState, command_queued, desk_told}
 use Rattle.host_pairs.specs.declared.entry.Entry.{Entry}
 use Rattle.host_pairs.specs.declared.notice.Notice.TheVariants as notice
 
@@ -31,11 +31,11 @@ abbrev pub is_acceptable : Entry → DataHeader → Bool
 is_acceptable e h = is_size h.size e.size && is_covered (data_bits h) e.allocation
 
 abbrev pub arrived : ℕ → Entry → ℕ → List Bool → DeskState → DeskState
-arrived link e bits text d = told (notice.Arrived e.own (data_of bits text) ∷ []) (changed (receives_on link) (spent bits) d)
+arrived link e bits text d = desk_told (notice.Arrived e.own (data_of bits text) ∷ []) (changed (receives_on link) (spent bits) d)
 
 -- an ERR about a whole message quotes its text
 abbrev pub text_faulted : ℕ → List Bool → DeskState → DeskState
-text_faulted code text d = queued (error code (octets_of text)) d
+text_faulted code text d = command_queued (error code (octets_of text)) d
 
 abbrev pub arrived_if : ℕ → Entry → List Bool → Option DataHeader → DeskState → DeskState
 arrived_if link e text None d = text_faulted ERRONEOUS text d

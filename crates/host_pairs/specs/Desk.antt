@@ -32,11 +32,11 @@ pub record DeskState : Type 0 where
 abbrev pub desk_of : PairState → List Listener → DeskState
 desk_of q listening = record { entries = q.entries; queue = q.queue; listening = listening; notices = [] }
 
-abbrev pub queued : Command → DeskState → DeskState
-queued c d = record d { queue = d.queue ++ c ∷ [] }
+abbrev pub command_queued : Command → DeskState → DeskState
+command_queued c d = record d { queue = d.queue ++ c ∷ [] }
 
-abbrev pub told : List Notice → DeskState → DeskState
-told notices d = record d { notices = d.notices ++ notices }
+abbrev pub desk_told : List Notice → DeskState → DeskState
+desk_told notices d = record d { notices = d.notices ++ notices }
 
 -- each end that has to close now queues its CLS
 abbrev pub settled : List ℕ → DeskState → DeskState

@@ -130,9 +130,9 @@ opening_by peer e (Some asked) (Some partner) =
 opening_by peer e None partner = []
 opening_by peer e (Some asked) None = []
 
-abbrev pub opening : Host → Option Entry → List Notice
-opening peer None = []
-opening peer (Some e) = opening_by peer e e.asked e.partner
+abbrev pub opening_notices : Host → Option Entry → List Notice
+opening_notices peer None = []
+opening_notices peer (Some e) = opening_by peer e e.asked e.partner
 
 -- the links of connections, 2 to 31
 abbrev pub connection_links : List ℕ

@@ -13,6 +13,6 @@ desk_after peer stamp parcel t = parcel_gone peer stamp t.pair.busy parcel (desk
 abbrev pub left_with : Parcel → TurnState → DeskState → TurnState
 left_with parcel t d = record t { pair = with_connections (signal_gone parcel t.pair) d; notices = t.notices ++ d.notices }
 
--- all of it
+-- the reset, the connections and the link
 abbrev pub gone_with : Parcel → TurnState → DeskState → TurnState
 gone_with parcel t d = record t { pair = pair_after parcel t.pair d; notices = t.notices ++ d.notices }

@@ -9,9 +9,9 @@ use Rattle.ncp_control.specs.declared.command.Command.TheVariants as command
 use Rattle.host_pairs.specs.Commands.{changed}
 use Rattle.host_pairs.specs.Control.{control_text}
 use Rattle.host_pairs.specs.Data.{data_text}
-use Rattle.host_pairs.specs.Entries.{is_at, is_receiving, is_open, is_answered, is_busy, entry_at, changed_at, opening}
+use Rattle.host_pairs.specs.Entries.{is_at, is_receiving, is_open, is_answered, is_busy, entry_at, changed_at, opening_notices}
 use Rattle.host_pairs.specs.Pair.{PairState}
-use Rattle.host_pairs.specs.Desk.{DeskState, told, swept}
+use Rattle.host_pairs.specs.Desk.{DeskState, desk_told, swept}
 use Rattle.host_pairs.specs.Phases.{is_want, is_ready}
 use Rattle.host_pairs.specs.declared.entry.Closing.TheVariants as closing
 use Rattle.host_pairs.specs.declared.entry.Entry.{Entry}
@@ -113,7 +113,7 @@ cls_sent e = record e { closing = closing.Sent }
 -- a request of this host has gone out, and the connection may be open by it
 abbrev pub request_gone : Host → ℕ → ℕ → ℕ → DeskState → DeskState
 request_gone peer stamp own foreign d =
-    told (opening peer (entry_at own foreign (changed_at own foreign (asked_at stamp) d.entries))) (changed (is_at own foreign) (asked_at stamp) d)
+    desk_told (opening_notices peer (entry_at own foreign (changed_at own foreign (asked_at stamp) d.entries))) (changed (is_at own foreign) (asked_at stamp) d)
 
 abbrev pub command_gone : Host → ℕ → Command → DeskState → DeskState
 command_gone peer stamp (command.Rts receive send link) d = request_gone peer stamp receive send d
@@ -145,7 +145,7 @@ unqueued count d = record d { queue = drop count d.queue }
 abbrev pub parcel_gone : Host → ℕ → List ℕ → Parcel → DeskState → DeskState
 parcel_gone peer stamp busy (Commands count) d = unqueued count (commands_gone peer stamp (take count d.queue) d)
 parcel_gone peer stamp busy (Bytes e size count) d =
-    told (notice.Sent e.own (take (size * count) e.bits) ∷ []) (changed (may_send_on busy (link_of e.link)) (bits_gone (size * count)) d)
+    desk_told (notice.Sent e.own (take (size * count) e.bits) ∷ []) (changed (may_send_on busy (link_of e.link)) (bits_gone (size * count)) d)
 parcel_gone peer stamp busy parcel d = d
 
 -- the reset after a parcel with an RST or an RRP

@@ -1,4 +1,4 @@
--- How much a pair has newly to say, to the peer or to the user: only then it wants memory.
+-- How much more a pair has to say than before, to the peer or to the user: only then it needs memory.
 use Rattle.std.specs.Prelude.{ℕ, ◌+◌, ◌-◌, ◌==◌, Bool, if◌then◌else◌, List, [], ◌∷◌, length}
 use Rattle.leader1822.specs.Host.{Host}
 use Rattle.leader1822.specs.declared.crossing.Answer.{Answer}

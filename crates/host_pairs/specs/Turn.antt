@@ -5,11 +5,11 @@ use Rattle.leader1822.specs.declared.crossing.Answer.{Answer}
 use Rattle.leader1822.specs.declared.crossing.Answer.TheVariants as answer
 use Rattle.ncp_control.specs.declared.command.Command.{Command}
 use Rattle.ncp_control.specs.declared.command.Command.TheVariants as command
-use Rattle.host_pairs.specs.Commands.{taken}
+use Rattle.host_pairs.specs.Commands.{desk_taken}
 use Rattle.host_pairs.specs.Control.{Order, Legal, Wrong, orders_of, error}
 use Rattle.host_pairs.specs.Data.{data_taken}
 use Rattle.host_pairs.specs.Pair.{PairState}
-use Rattle.host_pairs.specs.Desk.{DeskState, desk_of, queued, settled}
+use Rattle.host_pairs.specs.Desk.{DeskState, desk_of, command_queued, settled}
 use Rattle.host_pairs.specs.declared.listener.Listener.{Listener}
 use Rattle.host_pairs.specs.Phases.{is_ready, reset_phase, reply_phase, rfnm_phase}
 use Rattle.host_pairs.specs.declared.notice.Notice.{Notice}
@@ -63,11 +63,11 @@ reply_taken peer t = record t {
 abbrev pub command_taken : Host → ℕ → Command → TurnState → TurnState
 command_taken peer stamp command.Rst t = reset_taken peer t
 command_taken peer stamp command.Rrp t = reply_taken peer t
-command_taken peer stamp c t = if_ready (taken peer t.pair.busy stamp c) t
+command_taken peer stamp c t = if_ready (desk_taken peer t.pair.busy stamp c) t
 
 abbrev pub order_taken : Host → ℕ → Order → TurnState → TurnState
 order_taken peer stamp (Legal c) t = command_taken peer stamp c t
-order_taken peer stamp (Wrong code octets) t = if_ready (queued (error code octets)) t
+order_taken peer stamp (Wrong code octets) t = if_ready (command_queued (error code octets)) t
 
 -- one order after another
 abbrev pub orders_taken : Host → ℕ → List Order → TurnState → TurnState
@@ -100,7 +100,7 @@ closed notices t = record t {
   notices = t.notices ++ notices;
 }
 
--- a message was lost, or the peer is dead. While a reset is under way anyway nothing more comes of it
+-- a message was lost, or the peer is dead. While the pair is closed, or an RST waits to go out, nothing more comes of it
 abbrev pub failed_by : Host → Phase → TurnState → TurnState
 failed_by peer phase.Closed t = t
 failed_by peer phase.Want t = t
@@ -112,7 +112,7 @@ abbrev pub is_gone : Phase → Bool
 is_gone (phase.Gone early) = true
 is_gone p = false
 
--- an RST that failed ends the contact in any case; any other message's failure is passed over while an RRP is owed
+-- an RST that failed ends the contact in any case; any other message's failure is ignored while an RRP is owed
 abbrev pub failed : Host → TurnState → TurnState
 failed peer t = if is_gone t.pair.phase || not t.pair.owed then failed_by peer t.pair.phase t else settled_turn t
 

@@ -4,7 +4,7 @@ ghost use Rattle.std.specs.Prelude.{◌≡◌, ◌<◌, ◌≤◌, ◌∷◌, []
 ghost use Rattle.host_pairs.specs.Commands.{changed};
 ghost use Rattle.host_pairs.specs.Entries.{changed_first};
 ghost use Rattle.host_pairs.specs.Outgoing.{end_at};
-ghost use Rattle.host_pairs.specs.Desk.{told};
+ghost use Rattle.host_pairs.specs.Desk.{desk_told};
 ghost use Rattle.host_pairs.specs.Parcels as parcels;
 ghost use Rattle.host_pairs.specs.declared.notice.Notice.TheVariants as notice;
 
@@ -29,7 +29,7 @@ pub(crate) fn part(alloc: Global, bits: &Bits, from: usize, to: usize) -> Result
     }
 }
 
-/// So many bits from the front.
+/// The first so many of these bits.
 pub(crate) fn front(alloc: Global, bits: &Bits, count: usize) -> Result<Bits, AllocError>
     ensures { IfOk result (λ front. front ≡ take count bits.now) }
 {
@@ -81,7 +81,7 @@ impl Desk {
         bits: u32,
     ) -> Result<(), AllocError>
         requires { at < length self.old.entries }
-        ensures { OnOk result (self.new ≡ told (notice.Sent (end_at self.old.entries at).own (take bits (end_at self.old.entries at).bits) ∷ []) (changed (parcels.may_send_on busy.now (parcels.link_of (end_at self.old.entries at).link)) (parcels.bits_gone bits) self.old)) }
+        ensures { OnOk result (self.new ≡ desk_told (notice.Sent (end_at self.old.entries at).own (take bits (end_at self.old.entries at).bits) ∷ []) (changed (parcels.may_send_on busy.now (parcels.link_of (end_at self.old.entries at).link)) (parcels.bits_gone bits) self.old)) }
     {
         let entry = &self.entries[at];
         let socket = entry.own;

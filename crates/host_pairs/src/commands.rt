@@ -3,9 +3,9 @@
 ghost use Rattle.std.specs.Prelude.{◌≡◌, OnOk, ◌<◌, OnErr};
 ghost use Rattle.host_pairs.specs.Said.{said};
 ghost use Rattle.host_pairs.specs.Commands as commands;
-ghost use Rattle.host_pairs.specs.Entries.{entry_at, opening, sends_on};
+ghost use Rattle.host_pairs.specs.Entries.{entry_at, opening_notices, sends_on};
 ghost use Rattle.ncp_control.specs.declared.command.Command.TheVariants as command;
-ghost use Rattle.host_pairs.specs.Desk.{listener_on, told, settled, swept};
+ghost use Rattle.host_pairs.specs.Desk.{listener_on, desk_told, settled, swept};
 ghost use Rattle.std.specs.List.{list_any};
 
 use crate::Notice;
@@ -55,8 +55,8 @@ impl Desk {
         own: u32,
         foreign: u32,
     ) -> Result<(), AllocError>
-        ensures state { OnOk result (self.new ≡ told (opening peer (entry_at own foreign self.old.entries)) self.old) }
-        ensures memory { OnErr result (said self.old < said (told (opening peer (entry_at own foreign self.old.entries)) self.old)) }
+        ensures state { OnOk result (self.new ≡ desk_told (opening_notices peer (entry_at own foreign self.old.entries)) self.old) }
+        ensures memory { OnErr result (said self.old < said (desk_told (opening_notices peer (entry_at own foreign self.old.entries)) self.old)) }
     {
         let Some(at) = place(&self.entries, own, foreign) else {
             return Ok(());
@@ -422,8 +422,8 @@ impl Desk {
         stamp: usize,
         command: Command,
     ) -> Result<(), AllocError>
-        ensures state { OnOk result (self.new ≡ commands.taken peer busy.now stamp command self.old) }
-        ensures memory { OnErr result (said self.old < said (commands.taken peer busy.now stamp command self.old)) }
+        ensures state { OnOk result (self.new ≡ commands.desk_taken peer busy.now stamp command self.old) }
+        ensures memory { OnErr result (said self.old < said (commands.desk_taken peer busy.now stamp command self.old)) }
     {
         match command {
             Command::Nop | Command::Rst | Command::Rrp => Ok(()),

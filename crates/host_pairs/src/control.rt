@@ -6,7 +6,7 @@ ghost use Rattle.bit_messages.specs.Octets.{octets_of};
 ghost use Rattle.host_pairs.specs.Turn as turns;
 ghost use Rattle.host_pairs.specs.Control.{Wrong, error, orders_in, orders_of, orders_within};
 ghost use Rattle.host_pairs.specs.Control as errors;
-ghost use Rattle.host_pairs.specs.Desk.{queued};
+ghost use Rattle.host_pairs.specs.Desk.{command_queued};
 
 use crate::commands::ERRONEOUS;
 use crate::turn::Turn;
@@ -42,8 +42,8 @@ fn control_octets(text: &Bits) -> Option<&[u8]>
 impl Turn {
     /// What can't be read is answered by an ERR that quotes it, while the pair is opened.
     fn answer_wrong(&mut self, code: u8, octets: &[u8]) -> Result<(), AllocError>
-        ensures state { OnOk result (self.new ≡ turns.if_ready (queued (error code octets.now)) self.old) }
-        ensures memory { OnErr result (0 < newly_said self.old (turns.if_ready (queued (error code octets.now)) self.old)) }
+        ensures state { OnOk result (self.new ≡ turns.if_ready (command_queued (error code octets.now)) self.old) }
+        ensures memory { OnErr result (0 < newly_said self.old (turns.if_ready (command_queued (error code octets.now)) self.old)) }
     {
         if self.pair.phase.is_ready() {
             self.pair.queue.push(Command::error(code, octets))?;

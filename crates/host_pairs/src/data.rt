@@ -5,7 +5,7 @@ ghost use Rattle.host_pairs.specs.Said.{said};
 ghost use Rattle.host_pairs.specs.Commands.{changed};
 ghost use Rattle.host_pairs.specs.Data as texts;
 ghost use Rattle.host_pairs.specs.Entries.{receives_on};
-ghost use Rattle.host_pairs.specs.Desk.{told};
+ghost use Rattle.host_pairs.specs.Desk.{desk_told};
 ghost use Rattle.host_pairs.specs.declared.notice.Notice.TheVariants as notice;
 
 use crate::Notice;
@@ -74,8 +74,8 @@ impl Desk {
         bits: u32,
     ) -> Result<(), AllocError>
         requires { 40 + bits ≤ length text.now }
-        ensures state { OnOk result (self.new ≡ told (notice.Arrived socket (texts.data_of bits text.now) ∷ []) (changed (receives_on link) (texts.spent bits) self.old)) }
-        ensures memory { OnErr result (said self.old < said (told (notice.Arrived socket (texts.data_of bits text.now) ∷ []) (changed (receives_on link) (texts.spent bits) self.old))) }
+        ensures state { OnOk result (self.new ≡ desk_told (notice.Arrived socket (texts.data_of bits text.now) ∷ []) (changed (receives_on link) (texts.spent bits) self.old)) }
+        ensures memory { OnErr result (said self.old < said (desk_told (notice.Arrived socket (texts.data_of bits text.now) ∷ []) (changed (receives_on link) (texts.spent bits) self.old))) }
     {
         let arrived = part(alloc, text, HEADER_BITS, HEADER_BITS + bits as usize)?;
         spend(&mut self.entries, link, bits);

@@ -4,8 +4,8 @@ ghost use Rattle.std.specs.Prelude.{◌≡◌, ◌++◌, ◌∷◌, [], OnOk, �
 ghost use Rattle.host_pairs.specs.Said.{said};
 ghost use Rattle.ncp_control.specs.Command.{is_alone, spelling};
 ghost use Rattle.host_pairs.specs.Control.{error};
-ghost use Rattle.host_pairs.specs.Commands.{faulted, joined};
-ghost use Rattle.host_pairs.specs.Desk.{queued, told};
+ghost use Rattle.host_pairs.specs.Commands.{faulted, entry_joined};
+ghost use Rattle.host_pairs.specs.Desk.{command_queued, desk_told};
 
 use crate::Notice;
 use crate::entry::Entry;
@@ -37,24 +37,24 @@ impl Desk {
     /// Puts a command behind those that wait.
     pub(crate) fn queue(&mut self, command: Command) -> Result<(), AllocError>
         requires joint { is_alone command ≡ false }
-        ensures state { OnOk result (self.new ≡ queued command self.old) }
-        ensures memory { OnErr result (said self.old < said (queued command self.old)) }
+        ensures state { OnOk result (self.new ≡ command_queued command self.old) }
+        ensures memory { OnErr result (said self.old < said (command_queued command self.old)) }
     {
         self.queue.push(command)
     }
 
     /// Tells the user something.
     pub(crate) fn tell(&mut self, notice: Notice) -> Result<(), AllocError>
-        ensures state { OnOk result (self.new ≡ told (notice ∷ []) self.old) }
-        ensures memory { OnErr result (said self.old < said (told (notice ∷ []) self.old)) }
+        ensures state { OnOk result (self.new ≡ desk_told (notice ∷ []) self.old) }
+        ensures memory { OnErr result (said self.old < said (desk_told (notice ∷ []) self.old)) }
     {
         self.notices.push(notice)?;
         Ok(())
     }
 
-    /// Adds an end.
+    /// Adds an end behind the others.
     pub(crate) fn join(&mut self, entry: Entry) -> Result<(), AllocError>
-        ensures { OnOk result (self.new ≡ joined entry self.old) }
+        ensures { OnOk result (self.new ≡ entry_joined entry self.old) }
     {
         self.entries.push(entry)?;
         Ok(())

@@ -25,7 +25,7 @@ pub(crate) fn place(entries: &[Entry], own: u32, foreign: u32) -> Option<usize>
     first_place(entries, own, foreign)
 }
 
-/// The same place.
+/// The same place, without what is found there.
 fn first_place(entries: &[Entry], own: u32, foreign: u32) -> Option<usize>
     ensures { result ≡ position (is_at own foreign) entries.now }
 {
@@ -42,7 +42,7 @@ pub(crate) fn sender_place(entries: &[Entry], link: u8) -> Option<usize>
     first_sender(entries, link)
 }
 
-/// The same place.
+/// The same place, without what is found there.
 fn first_sender(entries: &[Entry], link: u8) -> Option<usize>
     ensures { result ≡ position (sends_on link) entries.now }
 {
@@ -57,7 +57,7 @@ pub(crate) fn receiver_place(entries: &[Entry], link: u8) -> Option<usize>
     first_receiver(entries, link)
 }
 
-/// The same place.
+/// The same place, without what is found there.
 fn first_receiver(entries: &[Entry], link: u8) -> Option<usize>
     ensures { result ≡ position (receives_on link) entries.now }
 {
@@ -72,7 +72,7 @@ pub fn own_place(entries: &[Entry], socket: u32) -> Option<usize>
     first_own(entries, socket)
 }
 
-/// The same place.
+/// The same place, without what is found there.
 fn first_own(entries: &[Entry], socket: u32) -> Option<usize>
     ensures { result ≡ position (is_mine_on socket) entries.now }
 {

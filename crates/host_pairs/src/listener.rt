@@ -1,4 +1,4 @@
-//! Sockets that listen.
+//! Sockets that listen: each waits for anybody's request.
 
 ghost use Rattle.std.specs.Prelude.{◌≡◌};
 ghost use Rattle.host_pairs.specs.Desk.{listener_on, listens_on, without_listener};
@@ -8,7 +8,7 @@ use ncp_control::ByteSize;
 /// A socket that waits for any host's request.
 #[derive(Clone, Copy, Debug, PartialEq, Eq)]
 pub struct Listener {
-    /// The socket.
+    /// The socket that listens.
     pub socket: u32,
     /// The byte size with which it would send.
     pub size: ByteSize,

@@ -15,9 +15,9 @@ use ncp_control::{ByteSize, packed_count};
 /// What goes out in one message to a peer.
 #[derive(Clone, Copy, Debug)]
 pub enum Outgoing {
-    /// The RST.
+    /// An RST, alone in its message.
     Reset,
-    /// The RRP.
+    /// An RRP, alone in its message.
     Reply,
     /// So many of the commands that wait.
     Commands {
@@ -96,7 +96,7 @@ pub(crate) fn sending_place(entries: &[Entry], busy: &[u8], link: u8) -> Option<
     first_sending(entries, busy, link)
 }
 
-/// The same place.
+/// The same place, without what is found there.
 fn first_sending(entries: &[Entry], busy: &[u8], link: u8) -> Option<usize>
     ensures { result ≡ position (may_send_on busy.now link) entries.now }
 {

@@ -10,7 +10,7 @@ pub enum Phase {
     Closed,
     /// A contact is asked for, and its RST hasn't gone out.
     Want,
-    /// The RST is on its way, and what became of it isn't known.
+    /// The RST is in transit, and what became of it isn't known.
     Gone {
         /// Whether an RRP came in the meantime. It may belong to an older RST.
         early: bool,

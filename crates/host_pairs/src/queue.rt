@@ -29,7 +29,7 @@ impl Model for Queue {
 }
 
 impl Queue {
-    /// No commands.
+    /// A queue in which no command waits.
     pub(crate) fn new(alloc: Global) -> Queue
         ensures { result ≡ [] }
     {
@@ -70,7 +70,7 @@ impl Queue {
         Ok(())
     }
 
-    /// So many commands from the front, or all of them, wait no longer.
+    /// The first so many commands, or all of them, no longer wait.
     #[tactic(auto, using(crate::proofs::QueueLemmas::joint_behind))]
     pub(crate) fn drop_front(&mut self, count: usize)
         ensures { self.new ≡ drop count self.old }
@@ -79,7 +79,7 @@ impl Queue {
     }
 }
 
-/// So many commands from the front, or all of them, wait no longer.
+/// The first so many commands, or all of them, no longer wait.
 #[tactic(auto, using(std::proofs::lemmas::List::drop_min))]
 fn drop_front(queue: &mut Vec<Command>, count: usize)
     ensures { queue.new.items ≡ drop count queue.old.items }

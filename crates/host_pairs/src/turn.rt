@@ -3,7 +3,7 @@
 ghost use Rattle.host_pairs.specs.Said.{newly_said, said_by_answer};
 ghost use Rattle.std.specs.Prelude.{◌≡◌, ◌<◌, OnErr, length, ◌++◌, ◌∷◌, [], OnOk, not, ◌==◌, filter};
 ghost use Rattle.host_pairs.specs.Turn as turns;
-ghost use Rattle.host_pairs.specs.Commands.{taken};
+ghost use Rattle.host_pairs.specs.Commands.{desk_taken};
 ghost use Rattle.host_pairs.specs.Data.{data_taken};
 ghost use Rattle.host_pairs.specs.Desk.{desk_of};
 
@@ -23,7 +23,7 @@ use std::mem;
 /// A pair, what listens, and what the user is told.
 #[derive(Drop)]
 pub struct Turn {
-    /// The pair.
+    /// The pair that is worked on.
     pub pair: Pair,
     /// The host's sockets that listen.
     pub listening: Vec<Listener>,
@@ -88,8 +88,8 @@ impl Turn {
         stamp: usize,
         command: Command,
     ) -> Result<(), AllocError>
-        ensures state { OnOk result (self.new ≡ turns.if_ready (taken peer self.old.pair.busy stamp command) self.old) }
-        ensures memory { OnErr result (0 < newly_said self.old (turns.if_ready (taken peer self.old.pair.busy stamp command) self.old)) }
+        ensures state { OnOk result (self.new ≡ turns.if_ready (desk_taken peer self.old.pair.busy stamp command) self.old) }
+        ensures memory { OnErr result (0 < newly_said self.old (turns.if_ready (desk_taken peer self.old.pair.busy stamp command) self.old)) }
     {
         if !self.pair.phase.is_ready() {
             return Ok(());
@@ -220,7 +220,7 @@ impl Turn {
     }
 
     /// A message was lost, or the peer is dead. An RST that failed ends the contact in any case; any other
-    /// message's failure is passed over while an RRP is owed.
+    /// message's failure is ignored while an RRP is owed.
     fn fail(&mut self, alloc: Global, peer: HostAddr) -> Result<(), AllocError>
         ensures state { OnOk result (self.new ≡ turns.failed peer self.old) }
         ensures memory { OnErr result (0 < newly_said self.old (turns.failed peer self.old)) }

@@ -45,7 +45,7 @@ impl Turn {
         self.restore(desk)
     }
 
-    /// What goes out has gone out, but for its link.
+    /// What goes out has gone out, except for its link.
     fn leave(
         &mut self,
         alloc: Global,

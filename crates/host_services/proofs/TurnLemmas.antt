@@ -1,25 +1,25 @@
 -- The turns of services, one by one.
 use Rattle.std.proofs.Common.{◌≡◌, ℕ, zero, suc, ◌+◌, ◌<◌, List, [], ◌∷◌, ◌++◌, length, take, drop, slice_set, slice_index_or, ap, ◌∙◌, arith}
 use Rattle.host_pairs.specs.declared.notice.Notice.{Notice}
-use Rattle.host_services.specs.Services.{Service, DeskState}
-use Rattle.host_services.specs.Turns.{Turned, heard_by, heard}
+use Rattle.host_services.specs.Services.{Service, ServiceDeskState}
+use Rattle.host_services.specs.Turns.{Turned, heard_by, notice_heard}
 
 -- these come before the others
-abbrev pub behind : List Service → List Service × DeskState → List Service × DeskState
+abbrev pub behind : List Service → List Service × ServiceDeskState → List Service × ServiceDeskState
 behind front t = (front ++ t.0, t.1)
 
-next_heard : (n : Notice) (x : Service) (xs : List Service) (d : DeskState) (t : Turned) → heard_by n x d ≡ t → heard n (x ∷ xs) d ≡ behind (t.0 ∷ []) (heard n xs t.1)
-next_heard n x xs d t is = ap (λ (u : Turned). behind (u.0 ∷ []) (heard n xs u.1)) is
+next_heard : (n : Notice) (x : Service) (xs : List Service) (d : ServiceDeskState) (t : Turned) → heard_by n x d ≡ t → notice_heard n (x ∷ xs) d ≡ behind (t.0 ∷ []) (notice_heard n xs t.1)
+next_heard n x xs d t is = ap (λ (u : Turned). behind (u.0 ∷ []) (notice_heard n xs u.1)) is
 
 -- one service more has had its turn
-one_heard : (n : Notice) (xs : List Service) (i : ℕ) (o y : Service) (d e : DeskState) → i < length xs → heard_by n (slice_index_or xs i o) d ≡ (y, e)
-    → behind (take i xs) (heard n (drop i xs) d) ≡ behind (take (suc i) (slice_set xs i y)) (heard n (drop (suc i) (slice_set xs i y)) e)
+one_heard : (n : Notice) (xs : List Service) (i : ℕ) (o y : Service) (d e : ServiceDeskState) → i < length xs → heard_by n (slice_index_or xs i o) d ≡ (y, e)
+    → behind (take i xs) (notice_heard n (drop i xs) d) ≡ behind (take (suc i) (slice_set xs i y)) (notice_heard n (drop (suc i) (slice_set xs i y)) e)
 one_heard n [] i o y d e lt is = absurd (omega (arith, lt))
 one_heard n (x ∷ xs) zero o y d e lt is = next_heard n x xs d (y, e) is
-one_heard n (x ∷ xs) (suc i) o y d e lt is = ap (λ (t : List Service × DeskState). behind (x ∷ []) t) (one_heard n xs i o y d e (omega (arith, lt)) is)
+one_heard n (x ∷ xs) (suc i) o y d e lt is = ap (λ (t : List Service × ServiceDeskState). behind (x ∷ []) t) (one_heard n xs i o y d e (omega (arith, lt)) is)
 
-pub more_heard : (n : Notice) (xs : List Service) (i : ℕ) (o y : Service) (d e : DeskState) → i < length xs → heard_by n (slice_index_or xs i o) d ≡ (y, e)
-    → behind (take i xs) (heard n (drop i xs) d) ≡ behind (take (i + 1) (slice_set xs i y)) (heard n (drop (i + 1) (slice_set xs i y)) e)
+pub more_heard : (n : Notice) (xs : List Service) (i : ℕ) (o y : Service) (d e : ServiceDeskState) → i < length xs → heard_by n (slice_index_or xs i o) d ≡ (y, e)
+    → behind (take i xs) (notice_heard n (drop i xs) d) ≡ behind (take (i + 1) (slice_set xs i y)) (notice_heard n (drop (i + 1) (slice_set xs i y)) e)
 more_heard n xs i o y d e lt is =
     let next : suc i ≡ i + 1 = omega arith in
-    one_heard n xs i o y d e lt is ∙ ap (λ (k : ℕ). behind (take k (slice_set xs i y)) (heard n (drop k (slice_set xs i y)) e)) next
+    one_heard n xs i o y d e lt is ∙ ap (λ (k : ℕ). behind (take k (slice_set xs i y)) (notice_heard n (drop k (slice_set xs i y)) e)) next

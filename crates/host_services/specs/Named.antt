@@ -8,8 +8,8 @@ use Rattle.sockets.specs.Requests.{refusal, served}
 use Rattle.sockets.specs.declared.request.Request.{Request}
 use Rattle.sockets.specs.declared.request.Request.TheVariants as request
 use Rattle.icp.specs.User.{UserState}
-pub use Rattle.host_ranges.specs.Ranges.{IsAsked}
-use Rattle.host_services.specs.Services.{Service, ServicesState, DeskState}
+pub use Rattle.host_keeps_ranges.specs.Ranges.{IsAsked}
+use Rattle.host_services.specs.Services.{Service, ServicesState, ServiceDeskState}
 use Rattle.host_services.specs.declared.service.Service.TheVariants as service
 
 -- a request names its peer by an address
@@ -53,7 +53,7 @@ NoneRefused s [] = Unit {0}
 NoneRefused s (r ∷ requests) = (refusal s r ≡ None) × NoneRefused (served s r) requests
 
 -- services have asked for more: the program has served that in its order
-pub record HasAsked (before after : DeskState) : Type 0 where
+pub record HasAsked (before after : ServiceDeskState) : Type 0 where
   pub more : List Request
   pub asked : after.asked ≡ before.asked ++ more
   pub program : after.program ≡ fold served before.program more

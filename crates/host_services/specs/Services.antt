@@ -18,7 +18,7 @@ no_services = record { running = []; typing = None }
 
 -- a host while its services have their turns: how many notices stand in the book, the one that they are told of among them; its
 -- control program; where what is typed goes; which of their requests were served; and what they have reported
-pub record DeskState : Type 0 where
+pub record ServiceDeskState : Type 0 where
   pub host : Host
   pub notices : ℕ
   pub program : NcpState
@@ -27,21 +27,21 @@ pub record DeskState : Type 0 where
   pub reports : List Reported
 
 -- nothing was asked and reported yet
-abbrev pub opening_desk : Host → ℕ → NcpState → DeskState
+abbrev pub opening_desk : Host → ℕ → NcpState → ServiceDeskState
 opening_desk host notices program = record { host = host; notices = notices; program = program; typing = None; asked = []; reports = [] }
 
 -- what is typed goes there
-abbrev pub typing_on : Option ℕ → DeskState → DeskState
+abbrev pub typing_on : Option ℕ → ServiceDeskState → ServiceDeskState
 typing_on typing d = record d { typing = typing }
 
 -- they are told of one notice more
-abbrev pub noticing : DeskState → DeskState
+abbrev pub noticing : ServiceDeskState → ServiceDeskState
 noticing d = record d { notices = d.notices + 1 }
 
 -- a request is served
-abbrev pub serving : Request → DeskState → DeskState
+abbrev pub serving : Request → ServiceDeskState → ServiceDeskState
 serving r d = record d { program = served d.program r; asked = d.asked ++ r ∷ [] }
 
 -- something is reported
-abbrev pub reporting : Report → DeskState → DeskState
+abbrev pub reporting : Report → ServiceDeskState → ServiceDeskState
 reporting report d = record d { reports = d.reports ++ record { host = d.host; notices = d.notices; report = report } ∷ [] }

@@ -2,7 +2,7 @@
 use Rattle.std.specs.Prelude.{ℕ}
 use Rattle.leader1822.specs.Host.{Host}
 use Rattle.sockets.specs.Pairs.{opening_state}
-use Rattle.host_services.specs.Services.{DeskState, opening_desk}
+use Rattle.host_services.specs.Services.{ServiceDeskState, opening_desk}
 use Rattle.host_services.specs.declared.report.Report.{Report}
 use Rattle.host_services.specs.declared.report.Reported.{Reported}
 
@@ -13,7 +13,7 @@ abbrev pub second : Host
 second = record { imp = 2; host = 0 }
 
 -- the second host, with six notices in its book
-abbrev pub fresh : DeskState
+abbrev pub fresh : ServiceDeskState
 fresh = opening_desk second 6 (opening_state second)
 
 -- a report of the second host, with so many notices before it

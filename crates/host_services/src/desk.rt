@@ -19,7 +19,7 @@ use terminal::Line;
 ///
 /// A call that runs out of memory leaves it of no use.
 #[derive(Drop)]
-pub struct Desk {
+pub struct ServiceDesk {
     host: HostAddr,
     notices: usize,
     program: Ncp,
@@ -28,10 +28,10 @@ pub struct Desk {
     reports: Vec<Reported>,
 }
 
-impl Model for Desk {
-    ghost use Rattle.host_services.specs.Services.{DeskState};
+impl Model for ServiceDesk {
+    ghost use Rattle.host_services.specs.Services.{ServiceDeskState};
 
-    ghost Value = { DeskState };
+    ghost Value = { ServiceDeskState };
 
     ghost view = { λ d. record { host = d.host; notices = d.notices; program = d.program; typing = d.typing; asked = d.asked.items; reports = d.reports.items } };
 }
@@ -49,7 +49,7 @@ pub struct Deeds {
 
 /// A copy of a request.
 ///
-/// Errors: `AllocError` where memory is wanted for its bits.
+/// Errors: `AllocError` when there is no memory for its bits.
 pub fn copy_of(request: &Request) -> Result<Request, AllocError>
     ensures copy { IfOk result (λ copy. copy ≡ request.now) }
     ensures memory { OnErr result (HasBits request.now) }
@@ -108,12 +108,12 @@ pub fn copy_of(request: &Request) -> Result<Request, AllocError>
     Ok(copy)
 }
 
-impl Desk {
+impl ServiceDesk {
     /// Nothing was asked and reported yet. So many notices stand in the book before those that the services will be told of.
-    pub fn new(alloc: Global, host: HostAddr, notices: usize, program: Ncp) -> Desk
+    pub fn new(alloc: Global, host: HostAddr, notices: usize, program: Ncp) -> ServiceDesk
         ensures { result ≡ services.opening_desk host notices program }
     {
-        Desk {
+        ServiceDesk {
             host,
             notices,
             program,

@@ -18,7 +18,7 @@ mod services;
 mod typed_line;
 pub mod worked;
 
-pub use desk::{Deeds, Desk, copy_of};
+pub use desk::{Deeds, ServiceDesk, copy_of};
 pub use report::{Report, Reported};
 pub use service::Service;
 pub use services::Services;

@@ -8,7 +8,7 @@ ghost use Rattle.icp.specs.User.{user_turn};
 ghost use Rattle.terminal.specs.Machines.{echo_turn, terminal_turn};
 
 use crate::Report;
-use crate::desk::Desk;
+use crate::desk::ServiceDesk;
 use icp::{Outcome, Said, Server, User};
 use sockets::Notice;
 use std::alloc::{AllocError, Global};
@@ -27,7 +27,7 @@ pub enum Service {
     Terminal(LineTerminal),
 }
 
-impl Desk {
+impl ServiceDesk {
     /// A server comes to its outcome, if it does. Returns what follows it.
     fn end_server(
         &mut self,

@@ -6,7 +6,7 @@ ghost use Rattle.host_services.specs.Turns as turns;
 ghost use Rattle.icp.specs.declared.outcome.Failure.TheVariants as failure;
 ghost use Rattle.icp.specs.declared.outcome.Outcome.TheVariants as outcome;
 
-use crate::desk::Desk;
+use crate::desk::ServiceDesk;
 use crate::{Report, Service};
 use icp::{Failure, Outcome, Said, Server, StartFault, User};
 use leader1822::HostAddr;
@@ -35,10 +35,10 @@ impl Model for Services {
 fn tell_each(
     alloc: Global,
     services: &mut [Service],
-    desk: &mut Desk,
+    desk: &mut ServiceDesk,
     notice: &Notice,
 ) -> Result<(), AllocError>
-    ensures { IfOk result (λ _. turns.heard notice.now services.old desk.old ≡ (services.new, desk.new)) }
+    ensures { IfOk result (λ _. turns.notice_heard notice.now services.old desk.old ≡ (services.new, desk.new)) }
 {
     for at in 0..services.len() {
         desk.tell(alloc, &mut services[at], notice)?;
@@ -50,7 +50,7 @@ fn tell_each(
 fn tell_all(
     alloc: Global,
     services: &mut [Service],
-    desk: &mut Desk,
+    desk: &mut ServiceDesk,
     notices: &[Notice],
 ) -> Result<(), AllocError>
     ensures heard { IfOk result (λ _. turns.all_heard notices.now services.old desk.old ≡ (services.new, desk.new)) }
@@ -91,11 +91,11 @@ impl Services {
 
     /// They are told of these notices of their host, one after another. What they ask for is asked at once.
     ///
-    /// Errors: `AllocError` where memory is wanted for what they do, only where there is a notice.
-    #[tactic(auto, unfolding(crate::specs::Turns::told))]
-    pub fn tell(&mut self, desk: &mut Desk, notices: &[Notice]) -> Result<(), AllocError>
+    /// Errors: `AllocError` when memory runs out, only where there is a notice.
+    #[tactic(auto, unfolding(crate::specs::Turns::services_told))]
+    pub fn tell(&mut self, desk: &mut ServiceDesk, notices: &[Notice]) -> Result<(), AllocError>
         ensures memory { OnErr result (0 < length notices.now) }
-        ensures told { IfOk result (λ _. turns.told notices.now self.old desk.old ≡ (self.new, desk.new)) }
+        ensures told { IfOk result (λ _. turns.services_told notices.now self.old desk.old ≡ (self.new, desk.new)) }
     {
         desk.typing = self.typing;
         tell_all(self.alloc, &mut self.running, desk, notices)?;
@@ -106,9 +106,14 @@ impl Services {
     /// A server of an initial connection begins, on the odd socket `listen` and with an even base. One that can't begin, or whose
     /// first requests are refused, is reported to have failed.
     ///
-    /// Errors: `AllocError` where memory is wanted.
+    /// Errors: `AllocError` when memory runs out.
     #[tactic(auto, unfolding(crate::specs::Turns::server_begun))]
-    pub fn serve(&mut self, desk: &mut Desk, listen: u32, base: u32) -> Result<(), AllocError>
+    pub fn serve(
+        &mut self,
+        desk: &mut ServiceDesk,
+        listen: u32,
+        base: u32,
+    ) -> Result<(), AllocError>
         ensures { IfOk result (λ _. turns.server_begun listen base self.old desk.old ≡ (self.new, desk.new)) }
     {
         desk.typing = self.typing;
@@ -130,11 +135,11 @@ impl Services {
     /// A user of an initial connection begins, from the even socket `own` to the odd socket `listen` of a peer. One that can't
     /// begin, or whose first request is refused, is reported to have failed.
     ///
-    /// Errors: `AllocError` where memory is wanted.
+    /// Errors: `AllocError` when memory runs out.
     #[tactic(auto, unfolding(crate::specs::Turns::user_begun))]
     pub fn connect(
         &mut self,
-        desk: &mut Desk,
+        desk: &mut ServiceDesk,
         peer: HostAddr,
         listen: u32,
         own: u32,

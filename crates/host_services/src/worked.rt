@@ -6,7 +6,7 @@ ghost use Rattle.bit_messages.specs.Octets.{bits_of};
 ghost use Rattle.host_pairs.specs.declared.notice.Notice.TheVariants as notice;
 ghost use Rattle.host_services.specs.Named.{MayAsk, NoneRefused};
 ghost use Rattle.host_services.specs.Services.{no_services};
-ghost use Rattle.host_services.specs.Turns.{server_begun, told, user_begun};
+ghost use Rattle.host_services.specs.Turns.{server_begun, services_told, user_begun};
 ghost use Rattle.host_services.specs.Worked.{first, fresh, of_second};
 ghost use Rattle.host_services.specs.declared.report.Report.TheVariants as report;
 ghost use Rattle.host_services.specs.declared.service.Service.TheVariants as service;
@@ -37,14 +37,14 @@ pub fn worked_beginnings()
 {}
 
 /// What services do at notices.
-#[tactic(auto, unfolding(crate::specs::Turns::server_begun, crate::specs::Turns::told, icp::specs::Server::server_turn, terminal::specs::Machines::terminal_turn, terminal::specs::Machines::terminal_heard, bit_messages::specs::Octets::octets_of, sockets::specs::Requests::refusal, sockets::specs::Requests::served))]
+#[tactic(auto, unfolding(crate::specs::Turns::server_begun, crate::specs::Turns::services_told, icp::specs::Server::server_turn, terminal::specs::Machines::terminal_turn, terminal::specs::Machines::terminal_heard, bit_messages::specs::Octets::octets_of, sockets::specs::Requests::refusal, sockets::specs::Requests::served))]
 pub fn worked_notices()
     // an end that is refused fails the server: its report counts the notices up to and with that one
-    ensures refused { (told (notice.Ready first ∷ notice.Ended 100 first 19 ∷ notice.Ready first ∷ []) (server_begun 7 100 no_services fresh).0 fresh).1.reports ≡ of_second 8 (report.Server (outcome.Failed failure.Refused)) ∷ [] }
+    ensures refused { (services_told (notice.Ready first ∷ notice.Ended 100 first 19 ∷ notice.Ready first ∷ []) (server_begun 7 100 no_services fresh).0 fresh).1.reports ≡ of_second 8 (report.Server (outcome.Failed failure.Refused)) ∷ [] }
 
-    // a line is reported with the notice that brings its end, and the grant that is asked for is passed over where it is refused
-    ensures line { (told (notice.Arrived 18 (bits_of (72 ∷ 73 ∷ 13 ∷ [])) ∷ notice.Arrived 18 (bits_of (10 ∷ [])) ∷ []) (record { running = service.Terminal (opening_terminal 18 19) ∷ []; typing = Some 19 }) fresh).1.reports ≡ of_second 8 (report.Line (72 ∷ 73 ∷ [])) ∷ [] }
-    ensures grant { (told (notice.Arrived 18 (bits_of (72 ∷ [])) ∷ []) (record { running = service.Terminal (opening_terminal 18 19) ∷ []; typing = Some 19 }) fresh).1.asked ≡ [] }
+    // a line is reported with the notice that brings its end, and the grant that is asked for is ignored where it is refused
+    ensures line { (services_told (notice.Arrived 18 (bits_of (72 ∷ 73 ∷ 13 ∷ [])) ∷ notice.Arrived 18 (bits_of (10 ∷ [])) ∷ []) (record { running = service.Terminal (opening_terminal 18 19) ∷ []; typing = Some 19 }) fresh).1.reports ≡ of_second 8 (report.Line (72 ∷ 73 ∷ [])) ∷ [] }
+    ensures grant { (services_told (notice.Arrived 18 (bits_of (72 ∷ [])) ∷ []) (record { running = service.Terminal (opening_terminal 18 19) ∷ []; typing = Some 19 }) fresh).1.asked ≡ [] }
 {}
 
 /// What services may ask for, and what a program refuses.

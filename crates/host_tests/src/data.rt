@@ -76,7 +76,7 @@ const DATA_COME_IN_WITHIN_WHAT_WAS_GRANTED: [Row; 12] = [
     ),
     (Act::Offered, &[], "", ""),
     (Act::Answered(Answer::Rfnm, 2, 0), &[], "", ""),
-    // twelve octets, and seven bits behind them that are passed over
+    // twelve octets, and seven bits after them that are ignored
     (
         Act::Hear(2, 2, 143),
         &[0, 8, 0, 12, 0, 1, 2, 3, 4, 5, 6, 7, 8, 9, 10, 11, 12, 0xFE],

@@ -3,9 +3,9 @@ use Rattle.std.proofs.Common.{◌≡◌, ℕ, ◌+◌, ◌≤◌, ◌==◌, ◌&
 use Rattle.std.proofs.lemmas.Bool.Decides.{nat_tests}
 use Rattle.std.specs.Option.{option_or}
 use Rattle.leader1822.specs.Host.{Host, same_host}
-use Rattle.leader1822.proofs.Lists.{same_host-true}
+use Rattle.leader1822.proofs.lemmas.{same_host-true}
 use Rattle.icp.specs.Notices.{is_partner, opened_on}
-use Rattle.icp.specs.Outcomes.{Turn, passed}
+use Rattle.icp.specs.Outcomes.{IcpTurn, passed}
 use Rattle.icp.specs.Played.{IsServed, above, before, opened_in, outcomes_of, server_played}
 use Rattle.icp.specs.Server.{ServerState, are_of, opening_server, server_by, server_failure, server_met, server_turn, server_verdict}
 use Rattle.icp.specs.declared.notices.Partner.{Partner}
@@ -60,7 +60,7 @@ turn_on s n o = rw o refl
 
 pub silent : (s : ServerState) (ns : List Notice) → s.over ≡ true → (server_played s ns).2 ≡ []
 silent s [] o = refl
-silent s (n ∷ ns) o = ap (λ (t : Turn ServerState). (before t (server_played t.0 ns)).2) (turn_over s n o) ∙ silent s ns o
+silent s (n ∷ ns) o = ap (λ (t : IcpTurn ServerState). (before t (server_played t.0 ns)).2) (turn_over s n o) ∙ silent s ns o
 
 -- ---- the verdict
 
@@ -168,7 +168,7 @@ by_over : (s : ServerState) (n : Notice) (ns : List Notice) (r t : ℕ) → ((m 
     → (over : Bool) → s.over ≡ over → (server_played s (n ∷ ns)).2 ≡ outcome.Done r t ∷ [] → IsDone s (n ∷ ns) r t
 by_over s n ns r t again true o e = absurd (is_not (ap is_done (sym (silent s (n ∷ ns) o) ∙ e)))
 by_over s n ns r t again false o e =
-    by_failure s n ns r t again (server_failure s n) (sym (ap (λ (u : Turn ServerState). (before u (server_played u.0 ns)).2) (turn_on s n o)) ∙ e)
+    by_failure s n ns r t again (server_failure s n) (sym (ap (λ (u : IcpTurn ServerState). (before u (server_played u.0 ns)).2) (turn_on s n o)) ∙ e)
 
 pub done : (ns : List Notice) (s : ServerState) (r t : ℕ) → (server_played s ns).2 ≡ outcome.Done r t ∷ [] → IsDone s ns r t
 done [] s r t e = absurd (is_not (ap is_done e))
@@ -191,10 +191,10 @@ ends_by s n (Some f) o e = refl
 ends_by s n None o e = ap is_some e
 
 ends_at : (s : ServerState) (n : Notice) (o : Outcome) (over : Bool) → s.over ≡ over → (server_turn s n).2 ≡ Some o → (server_turn s n).0.over ≡ true
-ends_at s n o true is e = ap (λ (t : Turn ServerState). t.0.over) (turn_over s n is) ∙ is
+ends_at s n o true is e = ap (λ (t : IcpTurn ServerState). t.0.over) (turn_over s n is) ∙ is
 ends_at s n o false is e =
-    ap (λ (t : Turn ServerState). t.0.over) (turn_on s n is)
-    ∙ ends_by s n (server_failure s n) o (sym (ap (λ (t : Turn ServerState). t.2) (turn_on s n is)) ∙ e)
+    ap (λ (t : IcpTurn ServerState). t.0.over) (turn_on s n is)
+    ∙ ends_by s n (server_failure s n) o (sym (ap (λ (t : IcpTurn ServerState). t.2) (turn_on s n is)) ∙ e)
 
 one_by : (s : ServerState) (n : Notice) (ns : List Notice) (o : Option Outcome) → (server_turn s n).2 ≡ o → length (server_played (server_turn s n).0 ns).2 ≤ 1
     → length (outcomes_of o ++ (server_played (server_turn s n).0 ns).2) ≤ 1

@@ -2,7 +2,7 @@
 use Rattle.std.proofs.Common.{rules, ◌≡◌, ℕ, ◌<◌, ◌^◌, ◌*◌, ◌≤◌, Bool, false, List, ◌++◌, length, take, replicate, ap, sym, ◌∙◌, arith}
 use Rattle.std.proofs.lemmas.List.{length-append, length-take-le}
 use Rattle.bit_messages.specs.Octets.{octets_of, spare_bits}
-use Rattle.bit_messages.proofs.OctetLemmas.{bits_again, length-bits_of, octets_again}
+use Rattle.bit_messages.proofs.lemmas.{bits_again, length-bits_of, octets_again}
 use Rattle.std.specs.Int.{w32, to_be_bytes}
 use Rattle.std.proofs.lemmas.Nat.{from_be_bytes-to_be_bytes_4}
 use Rattle.ncp_control.specs.Reading.{number_at}

@@ -6,7 +6,7 @@ use Rattle.std.proofs.lemmas.List.{take-append-le}
 use Rattle.leader1822.specs.Host.{Host}
 use Rattle.ncp_control.specs.Numbers.{is_receive_socket}
 use Rattle.icp.specs.Notices.{arrived_on, is_opened}
-use Rattle.icp.specs.Outcomes.{Turn, passed}
+use Rattle.icp.specs.Outcomes.{IcpTurn, passed}
 use Rattle.icp.specs.Played.{IsConnected, arrived_in, before, bits_in, outcomes_of, said_to, since_opened, user_played}
 use Rattle.icp.specs.Sockets.{socket_of}
 use Rattle.icp.specs.User.{UserState, opening_user, user_by, user_failure, user_heard, user_joined, user_judged, user_met, user_opened, user_stage, user_told, user_turn}
@@ -28,11 +28,11 @@ turn_on s n o = rw o refl
 
 pub silent : (s : UserState) (ns : List Notice) → s.over ≡ true → (user_played s ns).2 ≡ []
 silent s [] o = refl
-silent s (n ∷ ns) o = ap (λ (t : Turn UserState). (before t (user_played t.0 ns)).2) (turn_over s n o) ∙ silent s ns o
+silent s (n ∷ ns) o = ap (λ (t : IcpTurn UserState). (before t (user_played t.0 ns)).2) (turn_over s n o) ∙ silent s ns o
 
 -- ---- what a turn keeps while the base isn't known
 
-pub record Keeps (s : UserState) (t : Turn UserState) : Type 0 where
+pub record Keeps (s : UserState) (t : IcpTurn UserState) : Type 0 where
   pub outcome : ended_by t.2 ≡ false
   pub peer : t.0.peer ≡ s.peer
   pub receive : t.0.receive ≡ s.receive
@@ -60,7 +60,7 @@ opened_keeps : (s : UserState) (n : Notice) (there : Bool) → is_opened s.own s
 opened_keeps s n true is = rw is (record { outcome = refl; peer = refl; receive = refl; send = refl; receiving = refl; sending = refl; over = λ e. absurd (is_not e) })
 opened_keeps s n false is = rw is (record { outcome = refl; peer = refl; receive = refl; send = refl; receiving = refl; sending = refl; over = λ e. absurd (is_not e) })
 
-either : (s : UserState) (b : Bool) (t u : Turn UserState) → Keeps s t → Keeps s u → Keeps s (if b then t else u)
+either : (s : UserState) (b : Bool) (t u : IcpTurn UserState) → Keeps s t → Keeps s u → Keeps s (if b then t else u)
 either s true t u k l = k
 either s false t u k l = l
 
@@ -90,7 +90,7 @@ same_base : (o : Option ℕ) (b c : ℕ) → o ≡ Some b → base_in o c → b 
 same_base None b c e k = absurd (is_not (ap is_some e))
 same_base (Some x) b c e k = ap number_in (sym e) ∙ k
 
-abbrev judged_if : UserState → Bool → Turn UserState
+abbrev judged_if : UserState → Bool → IcpTurn UserState
 judged_if m both = if both then (record m { over = true }, [], Some (outcome.Done m.receive m.send)) else passed m
 
 -- whether an end is open, or these notices tell of its opening
@@ -112,7 +112,7 @@ pub record Says (bits : List Bool) (base : ℕ) : Type 0 where
   pub even : is_receive_socket base ≡ true
 
 -- a turn of a user who doesn't know the base takes in what a notice says
-abbrev Step : UserState → Turn UserState → Notice → List Notice → Type 0
+abbrev Step : UserState → IcpTurn UserState → Notice → List Notice → Type 0
 Step s u n ns = (b : ℕ) → u.2 ≡ None → base_in u.0.base b → (u.0.base ≡ None → Says (heard_from u.0 ns) b) → Says (heard_from s (n ∷ ns)) b
 
 enough : (xs ys : List Bool) → nat_lt (length xs) 32 ≡ false → 32 ≤ length xs
@@ -200,7 +200,7 @@ here_or false false rest e = absurd (is_not e)
 abbrev Again : List Notice → ℕ → ℕ → Type 0
 Again ns r t = (m : UserState) → (user_played m ns).2 ≡ outcome.Done r t ∷ [] → IsUsed m ns r t
 
-by_first : (s : UserState) (n : Notice) (ns : List Notice) (r t : ℕ) → Again ns r t → (u : Turn UserState) → Keeps s u → Step s u n ns → s.base ≡ None → (o : Option Outcome) → u.2 ≡ o
+by_first : (s : UserState) (n : Notice) (ns : List Notice) (r t : ℕ) → Again ns r t → (u : IcpTurn UserState) → Keeps s u → Step s u n ns → s.base ≡ None → (o : Option Outcome) → u.2 ≡ o
     → outcomes_of o ++ (user_played u.0 ns).2 ≡ outcome.Done r t ∷ [] → IsUsed s (n ∷ ns) r t
 by_first s n ns r t again u k step none None is e =
     let d : IsUsed u.0 ns r t = again u.0 e in
@@ -272,7 +272,7 @@ by_over : (s : UserState) (n : Notice) (ns : List Notice) (r t : ℕ) → Again 
     → (user_played s (n ∷ ns)).2 ≡ outcome.Done r t ∷ [] → IsUsed s (n ∷ ns) r t
 by_over s n ns r t again true o e = absurd (is_not (ap is_done (sym (silent s (n ∷ ns) o) ∙ e)))
 by_over s n ns r t again false o e =
-    by_failure s n ns r t again (user_failure s n) (sym (ap (λ (u : Turn UserState). (before u (user_played u.0 ns)).2) (turn_on s n o)) ∙ e)
+    by_failure s n ns r t again (user_failure s n) (sym (ap (λ (u : IcpTurn UserState). (before u (user_played u.0 ns)).2) (turn_on s n o)) ∙ e)
 
 pub done : (ns : List Notice) (s : UserState) (r t : ℕ) → (user_played s ns).2 ≡ outcome.Done r t ∷ [] → IsUsed s ns r t
 done [] s r t e = absurd (is_not (ap is_done e))
@@ -308,10 +308,10 @@ ends_by s n (Some f) e = refl
 ends_by s n None e = stage_ends s n s.base e
 
 ends_at : (s : UserState) (n : Notice) (over : Bool) → s.over ≡ over → is_some (user_turn s n).2 ≡ true → (user_turn s n).0.over ≡ true
-ends_at s n true is e = ap (λ (t : Turn UserState). t.0.over) (turn_over s n is) ∙ is
+ends_at s n true is e = ap (λ (t : IcpTurn UserState). t.0.over) (turn_over s n is) ∙ is
 ends_at s n false is e =
-    ap (λ (t : Turn UserState). t.0.over) (turn_on s n is)
-    ∙ ends_by s n (user_failure s n) (sym (ap (λ (t : Turn UserState). is_some t.2) (turn_on s n is)) ∙ e)
+    ap (λ (t : IcpTurn UserState). t.0.over) (turn_on s n is)
+    ∙ ends_by s n (user_failure s n) (sym (ap (λ (t : IcpTurn UserState). is_some t.2) (turn_on s n is)) ∙ e)
 
 one_by : (s : UserState) (n : Notice) (ns : List Notice) (o : Option Outcome) → (user_turn s n).2 ≡ o → length (user_played (user_turn s n).0 ns).2 ≤ 1
     → length (outcomes_of o ++ (user_played (user_turn s n).0 ns).2) ≤ 1

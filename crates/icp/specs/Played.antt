@@ -5,7 +5,7 @@ use Rattle.leader1822.specs.Host.{Host}
 use Rattle.std.specs.Option.{option_or}
 use Rattle.ncp_control.specs.Numbers.{is_receive_socket}
 use Rattle.icp.specs.Notices.{arrived_on, is_opened, opened_on}
-use Rattle.icp.specs.Outcomes.{Turn}
+use Rattle.icp.specs.Outcomes.{IcpTurn}
 use Rattle.icp.specs.Server.{ServerState, server_turn}
 use Rattle.icp.specs.Sockets.{socket_of}
 use Rattle.icp.specs.User.{UserState, user_turn}
@@ -23,7 +23,7 @@ outcomes_of None = []
 outcomes_of (Some o) = o ∷ []
 
 -- a turn, and what came after it
-abbrev pub before : {S : Type 0} → Turn S → Played S → Played S
+abbrev pub before : {S : Type 0} → IcpTurn S → Played S → Played S
 before t rest = (rest.0, t.1 ++ rest.1, outcomes_of t.2 ++ rest.2)
 
 abbrev pub server_played : ServerState → List Notice → Played ServerState

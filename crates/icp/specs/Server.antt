@@ -2,7 +2,7 @@
 use Rattle.std.specs.Prelude.{ℕ, ◌+◌, Bool, true, false, ◌&&◌, ◌||◌, is_none, is_some, if◌then◌else◌, List, [], ◌∷◌, Option, Some, None}
 use Rattle.std.specs.Option.{option_or}
 use Rattle.icp.specs.Notices.{opened_on, is_partner, has_ended, is_reset_of}
-use Rattle.icp.specs.Outcomes.{Turn, passed, failed, local_outcome}
+use Rattle.icp.specs.Outcomes.{IcpTurn, passed, failed, local_outcome}
 use Rattle.icp.specs.Sockets.{socket_bits}
 use Rattle.icp.specs.declared.notices.Partner.{Partner}
 use Rattle.icp.specs.declared.outcome.Failure.{Failure}
@@ -15,7 +15,7 @@ use Rattle.sockets.specs.declared.request.Request.{Request}
 use Rattle.sockets.specs.declared.request.Request.TheVariants as request
 
 -- the socket on which users ask, the two on which one is served, the partner of each once it was opened, whether there is
--- an outcome, and whether want of memory has made it useless
+-- an outcome, and whether running out of memory has made it useless
 pub record ServerState : Type 0 where
   pub listen : ℕ
   pub receive : ℕ
@@ -71,17 +71,17 @@ server_verdict s (Some r) (Some t) = Some (if are_of s.user r t then outcome.Don
 server_verdict s (Some r) None = None
 server_verdict s None t = None
 
-abbrev pub server_judged : ServerState → List Request → Turn ServerState
+abbrev pub server_judged : ServerState → List Request → IcpTurn ServerState
 server_judged s requests =
     let o : Option Outcome = server_verdict s s.receiving s.sending in
     (record s { over = is_some o }, requests, o)
 
-abbrev pub server_by : ServerState → Notice → Option Failure → Turn ServerState
+abbrev pub server_by : ServerState → Notice → Option Failure → IcpTurn ServerState
 server_by s n (Some f) = failed (record s { over = true }) f
 server_by s n None = server_judged (server_met s n) (server_says s n)
 
 -- its turn at a notice; with its outcome it has ended
-unfoldable pub server_turn : ServerState → Notice → Turn ServerState
+unfoldable pub server_turn : ServerState → Notice → IcpTurn ServerState
 server_turn s n = if s.over then passed s else server_by s n (server_failure s n)
 
 -- a request of it was refused: it has its outcome then, whether before or now

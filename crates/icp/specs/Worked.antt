@@ -19,8 +19,8 @@ abbrev pub third : Host
 third = record { imp = 3; host = 0 }
 
 -- a connection was opened; the stamps don't matter
-abbrev pub opened : ℕ → Host → ℕ → Notice
-opened own peer foreign = notice.Opened own peer foreign 6 8
+abbrev pub opened_notice : ℕ → Host → ℕ → Notice
+opened_notice own peer foreign = notice.Opened own peer foreign 6 8
 
 -- what the server says of these notices
 abbrev pub server_asks : List Notice → List Request

@@ -10,9 +10,9 @@ use sockets::Notice;
 /// The far end of a connection: a socket at a host.
 #[derive(Clone, Copy, Debug, PartialEq, Eq)]
 pub struct Partner {
-    /// The host.
+    /// The host at the far end.
     pub peer: HostAddr,
-    /// Its socket.
+    /// The socket at that host.
     pub socket: u32,
 }
 

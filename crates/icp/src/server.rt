@@ -144,7 +144,7 @@ impl Server {
         self.over
     }
 
-    /// Whether want of memory has made it useless.
+    /// Whether running out of memory has made it useless.
     pub fn is_spent(&self) -> bool
         ensures { result ≡ self.now.spent }
     {
@@ -246,7 +246,7 @@ impl Server {
     /// Tells it of something that happened to its host. Returns what it asks for, in order, and its outcome
     /// where it has come to its end; after that it asks for nothing more.
     ///
-    /// Errors: `AllocError` where memory is wanted, only where it asks for something, and then it is spent.
+    /// Errors: `AllocError` when memory runs out, only where it asks for something, and then it is spent.
     pub fn notice(&mut self, notice: &Notice) -> Result<Said, AllocError>
         requires live { self.old.spent ≡ false }
         ensures turn { MatchResult result (λ said. servers.server_turn self.old notice.now ≡ (self.new, said.requests.items, said.outcome)) (λ _. self.new.spent ≡ true) }

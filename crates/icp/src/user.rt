@@ -106,7 +106,7 @@ impl User {
         self.over
     }
 
-    /// Whether want of memory has made it useless.
+    /// Whether running out of memory has made it useless.
     pub fn is_spent(&self) -> bool
         ensures { result ≡ self.now.spent }
     {
@@ -280,7 +280,7 @@ impl User {
     /// Tells it of something that happened to its host. Returns what it asks for, in order, and its outcome
     /// where it has come to its end; after that it asks for nothing more.
     ///
-    /// Errors: `AllocError` where memory is wanted, and then it is spent.
+    /// Errors: `AllocError` when memory runs out, and then it is spent.
     pub fn notice(&mut self, notice: &Notice) -> Result<Said, AllocError>
         requires live { self.old.spent ≡ false }
         ensures turn { MatchResult result (λ said. users.user_turn self.old notice.now ≡ (self.new, said.requests.items, said.outcome)) (λ _. self.new.spent ≡ true) }

@@ -73,7 +73,7 @@ abbrev pub Kept : Channel → Bool → List Passing → List Bool → List Packe
 Kept ch expects way acks put given freed =
     IsIdle ch expects way acks put given freed ⊎ (IsWaiting ch expects way acks put given freed ⊎ IsTaken ch expects way acks put given freed)
 
--- Whatever is passed over on the way leaves these as they are.
+-- Whatever is skipped leaves these as they are.
 
 AllHave-drop : (n : ℕ) (b : Bool) (way : List Passing) → AllHave b way → AllHave b (drop n way)
 AllHave-drop zero b way h = h
@@ -118,7 +118,7 @@ Turns-drop (suc n) b [] h = tt
 Turns-drop (suc n) b (a ∷ acks) (inl h) = Turns-drop n b acks h.1
 Turns-drop (suc n) b (a ∷ acks) (inr h) = Turns-from_AllAre b (drop n acks) (AllAre-drop n (not b) acks h.1)
 
--- frames may be passed over both ways
+-- frames may be skipped both ways
 pub kept_drop : (n m : ℕ) (ch : Channel) (expects : Bool) (way : List Passing) (acks : List Bool) (put given freed : List PacketFields)
     → Kept ch expects way acks put given freed → Kept ch expects (drop n way) (drop m acks) put given freed
 kept_drop n m ch expects way acks put given freed (inl k) =
@@ -260,7 +260,7 @@ AllHave-from_AllThis b p (None ∷ way) h = AllHave-from_AllThis b p way h
 AllHave-from_AllThis b p (Some m ∷ way) h = (h.0, AllHave-from_AllThis b p way h.2)
 
 -- a busy channel and what its acknowledgement makes of it, by whether the bits differ
-abbrev pub acked_on : Bool → Bool → PacketFields → Channel
+abbrev acked_on : Bool → Bool → PacketFields → Channel
 acked_on d b p = cond d (record { bit = not b; packet = None }) (record { bit = b; packet = Some p })
 
 -- the bit that comes back is the packet's: nothing changes

@@ -6,7 +6,7 @@ use Rattle.std.proofs.lemmas.List.Sorted.{IsPermutation-refl, IsPermutation-tran
 use Rattle.packetiser.specs.PacketFields.{PacketFields}
 use Rattle.packetiser.specs.Rejoining.{AreAmong}
 use Rattle.imp_channel.specs.Holding.{packet_of, packets_in, carried_by, carried_by_all}
-use Rattle.imp_channel.specs.Line.{End, opening, opening_channel, is_free, submitted, submitted_on, frames_of, frames_from, resent, differs, acknowledged, all_acknowledged, is_foreign, has_expected_bit, expected_after, brought, answer_to, state_after}
+use Rattle.imp_channel.specs.Line.{End, opening_end, opening_channel, is_free, submitted, submitted_on, frames_of, frames_from, resent, differs, acknowledged, all_acknowledged, is_foreign, has_expected_bit, expected_after, brought, answer_to, state_after}
 use Rattle.imp_channel.proofs.Calls.{none_from}
 use Rattle.imp_channel.specs.declared.channel.Channel.{Channel}
 use Rattle.imp_channel.specs.declared.channel.TheConstants.{CHANNELS}
@@ -32,7 +32,7 @@ ContentHas P (content.Routes distances) = Unit {0}
 
 -- ---- the property, over each call
 
-pub opening_has : (P : PacketFields → Type 0) → LineHas P opening
+pub opening_has : (P : PacketFields → Type 0) → LineHas P opening_end
 opening_has P = All-replicate (ChannelHas P) CHANNELS opening_channel tt
 
 -- an end and its frame after a packet was put in
@@ -86,14 +86,6 @@ fresh_carried e f p is = at f.content is
     at content.Nothing is = cc
     at (content.Routes distances) is = cc
 
-pub fresh_has : (P : PacketFields → Type 0) (e : End) (f : Frame) (p : PacketFields) → answer_to e f ≡ Ok (received.Fresh p) → ContentHas P f.content → P p
-fresh_has P e f p is has = at f.content (fresh_carried e f p is) has
-  where
-    at : (brings : Content) → carried_by brings ≡ p ∷ [] → ContentHas P brings → P p
-    at (content.Packet carried) same has = let equal : carried.packet ≡ p = cc in subst P equal has
-    at content.Nothing same has = cc
-    at (content.Routes distances) same has = cc
-
 frames_has : (P : PacketFields → Type 0) (e : End) (n : ℕ) (chs : List Channel) → All (ChannelHas P) chs → All (λ f. ContentHas P f.content) (frames_from e n chs)
 frames_has P e n [] has = All-nil (λ f. ContentHas P f.content)
 frames_has P e n (ch ∷ chs) has =
@@ -133,7 +125,7 @@ free_packets : (n : ℕ) → packets_in (replicate n opening_channel) ≡ []
 free_packets zero = refl
 free_packets (suc n) = free_packets n
 
-pub opening_packets : packets_in opening.sending ≡ []
+pub opening_packets : packets_in opening_end.sending ≡ []
 opening_packets = free_packets CHANNELS
 
 -- a channel that was free holds one packet more

@@ -4,3 +4,4 @@ pub mod FrameLemmas
 pub mod Holding
 pub mod OneChannel
 pub mod Runs
+pub mod lemmas

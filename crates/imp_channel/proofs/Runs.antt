@@ -11,8 +11,8 @@ use Rattle.imp_channel.specs.declared.channel.TheConstants.{CHANNELS}
 use Rattle.imp_channel.specs.declared.fault.ChannelFault.TheVariants as fault
 use Rattle.imp_channel.specs.declared.frame.Frame.{Frame}
 use Rattle.imp_channel.specs.declared.frame.TheConstants.{ACKS}
-use Rattle.imp_channel.specs.Line.{End, opening, opening_channel, channel_at, expected_at, is_free, holding, frame_on, submitted, submitted_on, resent, acknowledgement, routes_frame, acknowledged, all_acknowledged, is_foreign, expected_after, brought}
-use Rattle.imp_channel.specs.Schedule.{Side, opening_side, Act, Submit, Resend, Acknowledge, Tell, Take, on_channel, given_on, freed_by, writes, puts_in, takes, takes_at, acted, Event, Left, Right, Sides, opening_sides, after, run, InOrder}
+use Rattle.imp_channel.specs.Line.{End, opening_end, opening_channel, channel_at, expected_at, is_free, holding, frame_on, submitted, submitted_on, resent, acknowledgement, routes_frame, acknowledged, all_acknowledged, is_foreign, expected_after, brought}
+use Rattle.imp_channel.specs.Schedule.{Side, opening_side, Act, Submit, Resend, Acknowledge, Tell, Take, on_channel, given_on, freed_by, writes, puts_in, takes, takes_at, acted, Event, Left, Right, Sides, opening_sides, sides_after, run, InOrder}
 use Rattle.imp_channel.proofs.Calls.{none_from}
 use Rattle.imp_channel.proofs.Alternating.{Passing, Kept, Carries, AllAre, expected_by, given_by, kept_drop, kept_wrote, kept_told, kept_submit, kept_acked, kept_came, kept_given, kept_freed}
 use Rattle.imp_channel.proofs.OneChannel.{way_in, ack_in, AllAre-frames, Carries-frames, Carries-frame_on, get_or-all_acknowledged, length-expected_after, IsOnChannel, tells_channel}
@@ -131,7 +131,7 @@ later f frames from to le =
     drop-map f (to - from) (drop from frames)
     ∙ ap (λ (l : List Frame). map f l) (drop-drop (to - from) from frames ∙ ap (λ (n : ℕ). drop n frames) (let e : from + (to - from) ≡ to = omega arith in e))
 
--- frames may be passed over
+-- frames may be skipped
 kept_reach : (c : ℕ) (me you : Side) (place : ℕ) → you.reached ≤ place → place ≤ length you.written
     → BothKept c me you → BothKept c me (record you { reached = place })
 kept_reach c me you place from to k = record {
@@ -154,7 +154,7 @@ drop_at (g ∷ fs) zero f at = (fs, (let same : g ≡ f = cc in ap (λ (h : Fram
 drop_at (g ∷ fs) (suc place) f at = drop_at fs place f at
 
 -- a frame that is refused, or isn't
-abbrev pub takes_when : Bool → Frame → Side → Side
+abbrev takes_when : Bool → Frame → Side → Side
 takes_when refused f s =
     let state : End = cond refused s.state (record { sending = all_acknowledged f.acks s.state.sending; expected = expected_after s.state.expected f.content }) in
     record s {
@@ -243,13 +243,13 @@ kept_acted c (Take place) me you k =
 turned : (c : ℕ) (me you : Side) → BothKept c me you → BothKept c you me
 turned c me you k = record { forth = k.back; back = k.forth; mine = k.yours; yours = k.mine }
 
-kept_after : (c : ℕ) (event : Event) (s : Sides) → BothKept c s.left s.right → BothKept c (after event s).left (after event s).right
+kept_after : (c : ℕ) (event : Event) (s : Sides) → BothKept c s.left s.right → BothKept c (sides_after event s).left (sides_after event s).right
 kept_after c (Left act) s k = kept_acted c act s.left s.right k
 kept_after c (Right act) s k = turned c (acted act s.right s.left).0 (acted act s.right s.left).1 (kept_acted c act s.right s.left (turned c s.left s.right k))
 
 kept_run : (c : ℕ) (events : List Event) (s : Sides) → BothKept c s.left s.right → BothKept c (run events s).left (run events s).right
 kept_run c [] s k = k
-kept_run c (event ∷ rest) s k = kept_run c rest (after event s) (kept_after c event s k)
+kept_run c (event ∷ rest) s k = kept_run c rest (sides_after event s) (kept_after c event s k)
 
 get_or-opening : {X : Type 0} (n c : ℕ) (x : X) → get_or (replicate n x) c x ≡ x
 get_or-opening zero c x = refl
@@ -258,7 +258,7 @@ get_or-opening (suc n) (suc c) x = get_or-opening n c x
 
 kept_opening_from : (c : ℕ) → KeptFrom c opening_side opening_side
 kept_opening_from c =
-    let P : Channel → Type 0 = λ ch. Kept ch (expected_at opening c) [] [] [] [] [] in
+    let P : Channel → Type 0 = λ ch. Kept ch (expected_at opening_end c) [] [] [] [] [] in
     let Q : Bool → Type 0 = λ v. Kept opening_channel v [] [] [] [] [] in
     subst P (sym (get_or-opening CHANNELS c opening_channel))
     (subst Q (sym (get_or-opening ACKS c false)) (inl record { packet = refl; expected = refl; passing = tt; returning = tt; all_given = refl; all_freed = refl }))

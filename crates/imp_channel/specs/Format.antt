@@ -100,14 +100,14 @@ read_of (kind ∷ []) = Err fault.Short
 read_of (kind ∷ acks ∷ rest) = framed (bits_of 8 acks) (content_of kind rest)
 
 -- how many bits the packet of a packet frame says that it has; any other frame has none
-abbrev pub bits_in : ℕ → List ℕ → ℕ
-bits_in kind [] = 0
-bits_in kind (octet ∷ body) = if kind == 0 then packets.bit_count body else 0
+abbrev pub packet_bits_in : ℕ → List ℕ → ℕ
+packet_bits_in kind [] = 0
+packet_bits_in kind (octet ∷ body) = if kind == 0 then packets.bit_count body else 0
 
 abbrev pub packet_bits : List ℕ → ℕ
 packet_bits [] = 0
 packet_bits (kind ∷ []) = 0
-packet_bits (kind ∷ acks ∷ rest) = bits_in kind rest
+packet_bits (kind ∷ acks ∷ rest) = packet_bits_in kind rest
 
 -- a call that answers `said`; it can find no memory only where nothing else refuses it
 abbrev pub Gives : {T : Type 0} → Result T ChannelFault → Result T ChannelFault → Type 0

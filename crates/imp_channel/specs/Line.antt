@@ -25,8 +25,8 @@ abbrev pub opening_channel : Channel
 opening_channel = record { bit = false; packet = None }
 
 -- an end that was just reset
-abbrev pub opening : End
-opening = record { sending = replicate CHANNELS opening_channel; expected = replicate ACKS false }
+abbrev pub opening_end : End
+opening_end = record { sending = replicate CHANNELS opening_channel; expected = replicate ACKS false }
 
 abbrev pub channel_at : End → ℕ → Channel
 channel_at e c = slice_index_or e.sending c opening_channel
@@ -34,7 +34,7 @@ channel_at e c = slice_index_or e.sending c opening_channel
 abbrev pub expected_at : End → ℕ → Bool
 expected_at e c = slice_index_or e.expected c false
 
--- two bits differ
+-- whether two bits differ
 abbrev pub differs : Bool → Bool → Bool
 differs true y = not y
 differs false y = y

@@ -7,7 +7,7 @@ use Rattle.imp_channel.specs.declared.frame.Content.TheVariants as content
 use Rattle.imp_channel.specs.declared.frame.Frame.{Frame}
 use Rattle.imp_channel.specs.declared.line.Received.{Received}
 use Rattle.imp_channel.specs.declared.line.Received.TheVariants as received
-use Rattle.imp_channel.specs.Line.{End, opening, channel_at, submitted, resent, acknowledgement, routes_frame, answer_to, state_after}
+use Rattle.imp_channel.specs.Line.{End, opening_end, channel_at, submitted, resent, acknowledgement, routes_frame, answer_to, state_after}
 
 -- one end over a whole run
 pub record Side : Type 0 where
@@ -26,7 +26,7 @@ pub record Side : Type 0 where
 
 -- a side that was just reset
 abbrev pub opening_side : Side
-opening_side = record { state = opening; written = []; reached = 0; put = λ _. []; given = λ _. []; freed = λ _. [] }
+opening_side = record { state = opening_end; written = []; reached = 0; put = λ _. []; given = λ _. []; freed = λ _. [] }
 
 -- what an end can do: a packet or a vector comes from above, and a frame is taken from its place in the list
 -- that the other end wrote
@@ -103,14 +103,14 @@ pub record Sides : Type 0 where
 abbrev pub opening_sides : Sides
 opening_sides = record { left = opening_side; right = opening_side }
 
-abbrev pub after : Event → Sides → Sides
-after (Left act) s = let both = acted act s.left s.right in record { left = both.0; right = both.1 }
-after (Right act) s = let both = acted act s.right s.left in record { left = both.1; right = both.0 }
+abbrev pub sides_after : Event → Sides → Sides
+sides_after (Left act) s = let both = acted act s.left s.right in record { left = both.0; right = both.1 }
+sides_after (Right act) s = let both = acted act s.right s.left in record { left = both.1; right = both.0 }
 
 -- a schedule, its first event first
 abbrev pub run : List Event → Sides → Sides
 run [] s = s
-run (event ∷ rest) s = run rest (after event s)
+run (event ∷ rest) s = run rest (sides_after event s)
 
 -- one packet: it is put in, its frame is taken twice, and the acknowledgement is taken
 abbrev pub one_packet : PacketFields → List Event

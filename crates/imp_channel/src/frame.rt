@@ -2,7 +2,7 @@
 
 ghost use Rattle.std.specs.Prelude.{◌≡◌, ◌<◌, ◌++◌, [], Ok, IfOk, IfErr, OnOk};
 ghost use Rattle.imp_channel.specs.Holding.{bits_carried};
-ghost use Rattle.imp_channel.specs.Format.{Gives, read_of, packet_bits, bits_in, spelling, content_of, kind_octet, rest_of, packet_in, routes_in, channel_octet, octet_of, bits_of, bit_value};
+ghost use Rattle.imp_channel.specs.Format.{Gives, read_of, packet_bits, packet_bits_in, spelling, content_of, kind_octet, rest_of, packet_in, routes_in, channel_octet, octet_of, bits_of, bit_value};
 
 use crate::ChannelFault;
 use packetiser::Packet;
@@ -86,7 +86,7 @@ impl Carried {
         self.bit
     }
 
-    /// The packet.
+    /// The packet that the frame carries.
     pub fn packet(&self) -> &Packet
         ensures { result.now ≡ self.now.packet }
     {
@@ -194,7 +194,7 @@ fn read_content(alloc: Global, kind: u8, rest: &[u8]) -> Result<Content, Channel
     ensures exact { Gives (content_of kind rest.now) result }
     ensures kind { IfOk result (λ content. kind ≡ kind_octet content) }
     ensures rest { IfOk result (λ content. rest.now ≡ rest_of content) }
-    ensures memory { IfErr result (λ fault. fault ≡ ChannelFault.OutOfMemory → 0 < bits_in kind rest.now) }
+    ensures memory { IfErr result (λ fault. fault ≡ ChannelFault.OutOfMemory → 0 < packet_bits_in kind rest.now) }
 {
     match kind {
         0 => read_packet(alloc, rest),
@@ -207,7 +207,7 @@ fn read_content(alloc: Global, kind: u8, rest: &[u8]) -> Result<Content, Channel
 /// Reads a packet, with its channel and bit before it.
 fn read_packet(alloc: Global, rest: &[u8]) -> Result<Content, ChannelFault>
     ensures exact { Gives (packet_in rest.now) result }
-    ensures memory { IfErr result (λ fault. fault ≡ ChannelFault.OutOfMemory → 0 < bits_in 0 rest.now) }
+    ensures memory { IfErr result (λ fault. fault ≡ ChannelFault.OutOfMemory → 0 < packet_bits_in 0 rest.now) }
     ensures kind { IfOk result (λ content. kind_octet content ≡ 0) }
     ensures rest { IfOk result (λ content. rest.now ≡ rest_of content) }
 {
@@ -225,7 +225,7 @@ fn read_packet(alloc: Global, rest: &[u8]) -> Result<Content, ChannelFault>
     }))
 }
 
-/// Reads distances.
+/// Reads the sixteen distances of a routes frame.
 fn read_routes(rest: &[u8]) -> Result<Content, ChannelFault>
     ensures exact { result ≡ routes_in rest.now }
     ensures kind { IfOk result (λ content. kind_octet content ≡ 2) }

@@ -5,7 +5,7 @@ ghost use Rattle.std.specs.Prelude.{◌≡◌, ℕ, List, [], ◌∷◌, ◌++�
 ghost use Rattle.packetiser.specs.PacketFields.{PacketFields};
 ghost use Rattle.packetiser.specs.Rejoining.{AreAmong};
 ghost use Rattle.imp_channel.specs.Holding.{packets_in, carried_by, carried_by_all};
-ghost use Rattle.imp_channel.specs.Line.{End, opening, submitted, resent, acknowledgement, routes_frame, answer_to, state_after};
+ghost use Rattle.imp_channel.specs.Line.{End, opening_end, submitted, resent, acknowledgement, routes_frame, answer_to, state_after};
 ghost use Rattle.imp_channel.specs.Schedule.{Event, InOrder, run, opening_sides, one_packet};
 ghost use Rattle.imp_channel.specs.declared.frame.Frame.{Frame};
 ghost use Rattle.imp_channel.specs.declared.line.Received.TheVariants as received;
@@ -15,7 +15,7 @@ ghost use Rattle.imp_channel.specs.declared.line.Received.TheVariants as receive
 /// Both ends begin just reset, and each acts as often and in whatever order the schedule says: it puts
 /// packets in, sends the frames of its busy channels again, acknowledges, tells its distances, and takes
 /// frames that the other end wrote. The frames taken never go back in the list of those written: one may be
-/// passed over, as lost, and one may be taken again before a later one. Then on every channel, in both
+/// skipped, as lost, and one may be taken again before a later one. Then on every channel, in both
 /// directions, the packets that `receive` answered as `Fresh` are the first of those that were handed to
 /// `submit`, in their order and each once, and every packet whose channel became free was given.
 pub fn in_order()
@@ -35,7 +35,7 @@ pub fn one_packet()
 /// What an end holds, sends and gives are packets that were put in.
 pub fn holding()
     // an end that was just reset holds no packet
-    ensures opening { packets_in opening.sending ≡ [] }
+    ensures opening { packets_in opening_end.sending ≡ [] }
 
     // after a packet was put in, the end holds what it held and that packet, and its frame carries that packet
     ensures submitted { (e end : End) (packet : PacketFields) (frame : Frame) → submitted e packet ≡ Some (end, frame) → IsPermutation (packets_in end.sending) (packet ∷ packets_in e.sending) }

@@ -3,7 +3,7 @@
 ghost use Rattle.std.specs.Prelude.{◌≡◌, ◌<◌, ◌≤◌, ◌++◌, length, IfOk, IfErr, IsSome, OnOk, OnErr, Ok, Some, None, false, position};
 ghost use Rattle.std.specs.Option.{option_copied};
 ghost use Rattle.imp_channel.specs.Holding.{packets_in};
-ghost use Rattle.imp_channel.specs.Line.{IsRefusal, is_free, frames_of, opening, frame_of, submitted, resent, acknowledgement, routes_frame, channel_at, is_foreign, has_expected_bit, expected_after, brought, state_after, answer_to, is_fresh_answer};
+ghost use Rattle.imp_channel.specs.Line.{IsRefusal, is_free, frames_of, opening_end, frame_of, submitted, resent, acknowledgement, routes_frame, channel_at, is_foreign, has_expected_bit, expected_after, brought, state_after, answer_to, is_fresh_answer};
 
 use crate::channel::{acknowledge_all, count_packets, reset_all};
 use crate::{ACKS, CHANNELS, Carried, Channel, Content, Frame, SubmitFault};
@@ -17,9 +17,9 @@ use std::marker::Model;
 pub enum Received {
     /// A packet that wasn't given before.
     Fresh(Packet),
-    /// Acknowledgements alone.
+    /// An acknowledgement frame: it brought nothing else.
     AckOnly,
-    /// The neighbour's distances.
+    /// The distances of the neighbour.
     Routes(Vector),
     /// A packet that was given before.
     Repeat,
@@ -48,7 +48,7 @@ impl Model for Line {
 impl Line {
     /// An end that was just reset: all channels are free, and bit 0 comes first both ways.
     pub fn new(alloc: Global) -> Result<Self, AllocError>
-        ensures { IfOk result (λ line. line ≡ opening) }
+        ensures { IfOk result (λ line. line ≡ opening_end) }
     {
         let mut channels = Vec::with_capacity(alloc, CHANNELS)?;
         for _ in 0..CHANNELS {
@@ -125,7 +125,7 @@ impl Line {
     #[tactic(auto, using(crate::proofs::Calls::packets_counted))]
     pub fn reset(&mut self, alloc: Global) -> Result<Vec<Packet>, AllocError>
         ensures packets { IfOk result (λ packets. packets.items ≡ packets_in self.old.sending) }
-        ensures state { IfOk result (λ _. self.new ≡ opening) }
+        ensures state { IfOk result (λ _. self.new ≡ opening_end) }
         ensures err { OnErr result (self.new ≡ self.old) }
         ensures memory { OnErr result (0 < length (packets_in self.old.sending)) }
     {
@@ -209,6 +209,8 @@ fn lowest_free(channels: &[Channel]) -> Option<usize>
 }
 
 /// A frame's packet is on a channel that is in use.
+///
+/// It is there for the proof alone, and does nothing: `Carried::channel` tells that the channel is one of the eight.
 fn channel_in_use(content: &Content)
     ensures { is_foreign content.now ≡ false }
 {

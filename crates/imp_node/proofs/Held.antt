@@ -9,20 +9,20 @@ use Rattle.link_table.specs.declared.source.Release.TheVariants as release
 use Rattle.packetiser.specs.PacketFields.{PacketFields}
 use Rattle.packetiser.specs.Slots as slots
 use Rattle.packetiser.specs.Rejoining.{AreAmong}
-use Rattle.packetiser.proofs.Holding.{added_only, discarded_only}
+use Rattle.packetiser.proofs.lemmas.{added_only, discarded_only}
 use Rattle.imp_channel.specs.Holding as channels
 use Rattle.imp_channel.specs.Line.{End, submitted}
 use Rattle.imp_channel.specs.declared.frame.Content.{Content}
 use Rattle.imp_channel.specs.declared.frame.Content.TheVariants as content
 use Rattle.imp_channel.specs.declared.frame.Frame.{Frame}
-use Rattle.imp_channel.proofs.Holding.{LineHas, ContentHas, PutHas, opening_has, submitted_has, packets_have, have_packets}
+use Rattle.imp_channel.proofs.lemmas.{ContentHas, LineHas, PutHas, have_packets, opening_has, packets_have, submitted_has}
 use Rattle.routing.specs.RouteTable.{Table, next_of}
 use Rattle.imp_node.specs.declared.outgoing.Outgoing.{Outgoing}
 use Rattle.imp_node.specs.declared.port.Port.{Port}
-use Rattle.imp_node.specs.State.{State, Turn, port_at}
+use Rattle.imp_node.specs.State.{State, ImpTurn, port_at}
 use Rattle.imp_node.specs.Room.{has_route}
-use Rattle.imp_node.specs.Pump.{Pumped, target, stored, sent_on, sent, pumped, pump}
-use Rattle.imp_node.specs.Flows.{told, answered_by}
+use Rattle.imp_node.specs.Pump.{Pumped, target, stored, sent_on, packet_sent, pumped, pump}
+use Rattle.imp_node.specs.Flows.{answered_by}
 use Rattle.imp_node.specs.Contents.{packets_in_channels, packets, packets_on, turn_packets}
 
 -- ---- the property
@@ -40,7 +40,7 @@ pub record Has (P : PacketFields → Type 0) (s : State) : Type 0 where
   pub slots : All P (slots.packets_in s.slots)
 
 -- every packet in an IMP and in its frames after a call
-pub record TurnHas (P : PacketFields → Type 0) (turn : Turn) : Type 0 where
+pub record TurnHas (P : PacketFields → Type 0) (turn : ImpTurn) : Type 0 where
   pub state : Has P turn.state
   pub frames : All (OutgoingHas P) turn.frames
 
@@ -89,7 +89,7 @@ frames_has P [] has = All-nil P
 frames_has P (out ∷ frames) has =
     All-append P (channels.carried_by out.frame.content) (packets_on frames) (content_has P out.frame.content (All-head (OutgoingHas P) out frames has)) (frames_has P frames (All-tail (OutgoingHas P) out frames has))
 
-pub turn_has : (P : PacketFields → Type 0) (turn : Turn) → TurnHas P turn → All P (turn_packets turn)
+pub turn_has : (P : PacketFields → Type 0) (turn : ImpTurn) → TurnHas P turn → All P (turn_packets turn)
 turn_has P turn h = All-append P (packets turn.state) (packets_on turn.frames) (packets_has P turn.state h.state) (frames_has P turn.frames h.frames)
 
 -- ---- the pump
@@ -112,7 +112,7 @@ sent_on_has P ports k p (Some (end, frame)) has here put = record {
   frames = All-cons (OutgoingHas P) (record { port = k; frame = frame }) [] put.1 (All-nil (OutgoingHas P));
 }
 
-sent_has : (P : PacketFields → Type 0) (ports : List Port) (p : PacketFields) (next : Option ℕ) → All (PortHas P) ports → P p → PumpedHas P (sent ports p next)
+sent_has : (P : PacketFields → Type 0) (ports : List Port) (p : PacketFields) (next : Option ℕ) → All (PortHas P) ports → P p → PumpedHas P (packet_sent ports p next)
 sent_has P ports p None has here = record { ports = has; waits = All-nil P; frames = All-nil (OutgoingHas P) }
 sent_has P ports p (Some k) has here =
     sent_on_has P ports k p (submitted (port_at ports k).line p) has here (submitted_has P (port_at ports k).line p (port_has P ports k has) here)
@@ -120,7 +120,7 @@ sent_has P ports p (Some k) has here =
 pumped_has : (P : PacketFields → Type 0) (routes : Table) (ports : List Port) (ps : List PacketFields) → All (PortHas P) ports → All P ps → PumpedHas P (pumped routes ports ps)
 pumped_has P routes ports [] has all = record { ports = has; waits = All-nil P; frames = All-nil (OutgoingHas P) }
 pumped_has P routes ports (p ∷ ps) has all =
-    let one : Pumped = sent ports p (next_of routes (target p)) in
+    let one : Pumped = packet_sent ports p (next_of routes (target p)) in
     let here : PumpedHas P one = sent_has P ports p (next_of routes (target p)) has (All-head P p ps all) in
     let rest : PumpedHas P (pumped routes one.ports ps) = pumped_has P routes one.ports ps here.ports (All-tail P p ps all) in
     record {
@@ -149,15 +149,12 @@ stored_has P p s here h = record { store = All-append P s.store _ h.store (at (h
   at true = All-cons P p [] here (All-nil P)
   at false = All-nil P
 
-pub told_has : (P : PacketFields → Type 0) (kind : Answer) (f : Flow) (s : State) → Has P s → Has P (told kind f s)
-told_has P kind f s h = record { store = h.store; lines = h.lines; slots = h.slots }
-
 pub answered_has : (P : PacketFields → Type 0) (r : Release) (kind : Answer) (f : Flow) (n : ℕ) (s : State) → Has P s → Has P (answered_by r kind f n s)
 answered_has P release.Freed kind f n s h = record { store = h.store; lines = h.lines; slots = h.slots }
 answered_has P release.Stale kind f n s h = h
 
 -- of packets that are among others
-pub among_have : (P : PacketFields → Type 0) (ps qs : List PacketFields) → AreAmong ps qs → All P qs → All P ps
+among_have : (P : PacketFields → Type 0) (ps qs : List PacketFields) → AreAmong ps qs → All P qs → All P ps
 among_have P ps qs among all = All-weaker (Contains qs) P (λ p there. All-contains P qs p all there) ps among
 
 pub added_has : (P : PacketFields → Type 0) (p : PacketFields) (held : List slots.SlotState) → P p → All P (slots.packets_in held) → All P (slots.packets_in (slots.added held p))

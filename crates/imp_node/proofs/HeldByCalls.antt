@@ -21,19 +21,19 @@ use Rattle.imp_channel.specs.declared.fault.ChannelFault.{ChannelFault}
 use Rattle.imp_channel.specs.declared.frame.Frame.{Frame}
 use Rattle.imp_channel.specs.declared.line.Received.{Received}
 use Rattle.imp_channel.specs.declared.line.Received.TheVariants as received
-use Rattle.imp_channel.proofs.Holding.{ContentHas, opening_has, received_has, fresh_carried, opening_packets, resent_has, packets_have}
+use Rattle.imp_channel.proofs.lemmas.{ContentHas, fresh_carried, opening_has, opening_packets, packets_have, received_has, resent_has}
 use Rattle.routing.specs.RouteTable.{vector_of}
 use Rattle.imp_node.specs.declared.port.Port.{Port}
 use Rattle.imp_node.specs.declared.waiting.Message.{Message}
 use Rattle.imp_node.specs.declared.waiting.Told.{Told}
-use Rattle.imp_node.specs.State.{State, Turn, opening, up_port, host_at, port_at, with_host, number}
+use Rattle.imp_node.specs.State.{State, ImpTurn, opening_node, up_port, host_at, port_at, with_host, number}
 use Rattle.imp_node.specs.Pump.{pump, stored}
-use Rattle.imp_node.specs.Flows.{freed, answered_by, told, answer_packet, next_number}
+use Rattle.imp_node.specs.Flows.{freed, answered_by, answer_queued, answer_packet, next_number}
 use Rattle.imp_node.specs.Offering.{Way, Nowhere, Here, Away, way_of, offered, from_host}
-use Rattle.imp_node.specs.Arrival.{Arrival, Passing, Old, Undeliverable, Piece, NoSlot, Whole, Unmarked, Answering, arrival, arrival_has_room, arrived, taken, acknowledged, heard, ignored, fresh, taken_frame, from_line}
+use Rattle.imp_node.specs.Arrival.{Arrival, Passing, Old, Undeliverable, Piece, NoSlot, Whole, Unmarked, Answering, arrival, arrival_has_room, arrived, frame_taken, acknowledged, vector_heard, ignored, fresh, taken_frame, from_line}
 use Rattle.imp_node.specs.Taking.{is_from_here, reply_has_room, replied, taken_by, to_host}
 use Rattle.imp_node.specs.Lines.{resent_by, resent_from, resend, told_by, told_from, route, end_down, end_up, on_port}
-use Rattle.imp_node.specs.Stopping.{give_up, forget, abandon, returned, all_returned, stopped, host_down, host_up}
+use Rattle.imp_node.specs.Stopping.{give_up, forget, abandon, message_returned, all_returned, stopped, host_down, host_up}
 use Rattle.imp_node.specs.Contents.{packets_in_channels, packets}
 use Rattle.imp_node.specs.Making.{Leaves, cut_for, from_host_makes, dead_for, from_line_makes, reply_for, rfnm_for, to_host_makes, host_down_makes}
 use Rattle.imp_node.proofs.Held.{PortHas, OutgoingHas, Has, TurnHas, All_left, All_right, has_packets, turn_has, port_has, pump_has, quiet_has, stored_has, answered_has, added_has, without_has}
@@ -50,7 +50,7 @@ from_host_has P s m h made = quiet_has P (offered (way_of s m.flow) m s) (offere
 
 -- ---- from_line
 
-taken_has : (P : PacketFields → Type 0) (k : ℕ) (f : Frame) (s : State) → Has P s → Has P (taken k f s)
+taken_has : (P : PacketFields → Type 0) (k : ℕ) (f : Frame) (s : State) → Has P s → Has P (frame_taken k f s)
 taken_has P k f s h = record {
   store = h.store;
   lines = All-set (PortHas P) s.ports k _ (received_has P (port_at s.ports k).line f (port_has P s.ports k h.lines)) h.lines;
@@ -77,18 +77,18 @@ ignored_has P s h = record { state = h; frames = All-nil (OutgoingHas P) }
 
 fresh_turn_has : (P : PacketFields → Type 0) (k : ℕ) (f : Frame) (p : PacketFields) (s : State) → Has P s → P p → All P (dead_for (arrival s p) p) → TurnHas P (fresh k f p s)
 fresh_turn_has P k f p s h here dead = at (arrival_has_room (arrival s p) s p) where
-  at : (room : Bool) → TurnHas P (cond room (pump (acknowledged k (taken k f s)) (arrived (arrival s p) p (taken k f s))) (ignored s))
-  at true = pump_has P (acknowledged k (taken k f s)) (arrived (arrival s p) p (taken k f s)) (acknowledged_has P k (taken k f s)) (arrived_has P (arrival s p) p (taken k f s) (taken_has P k f s h) here dead)
+  at : (room : Bool) → TurnHas P (cond room (pump (acknowledged k (frame_taken k f s)) (arrived (arrival s p) p (frame_taken k f s))) (ignored s))
+  at true = pump_has P (acknowledged k (frame_taken k f s)) (arrived (arrival s p) p (frame_taken k f s)) (acknowledged_has P k (frame_taken k f s)) (arrived_has P (arrival s p) p (frame_taken k f s) (taken_has P k f s h) here dead)
   at false = ignored_has P s h
 
 taken_frame_has : (P : PacketFields → Type 0) (answer : Result Received ChannelFault) (k : ℕ) (f : Frame) (s : State) → Has P s
     → ((p : PacketFields) → answer ≡ Ok (received.Fresh p) → P p × All P (dead_for (arrival s p) p)) → TurnHas P (taken_frame answer k f s)
 taken_frame_has P (Ok (received.Fresh p)) k f s h brings = fresh_turn_has P k f p s h (brings p refl).0 (brings p refl).1
-taken_frame_has P (Ok received.Repeat) k f s h brings = pump_has P (acknowledged k (taken k f s)) (taken k f s) (acknowledged_has P k (taken k f s)) (taken_has P k f s h)
-taken_frame_has P (Ok received.AckOnly) k f s h brings = quiet_has P (taken k f s) (taken_has P k f s h)
+taken_frame_has P (Ok received.Repeat) k f s h brings = pump_has P (acknowledged k (frame_taken k f s)) (frame_taken k f s) (acknowledged_has P k (frame_taken k f s)) (taken_has P k f s h)
+taken_frame_has P (Ok received.AckOnly) k f s h brings = quiet_has P (frame_taken k f s) (taken_has P k f s h)
 taken_frame_has P (Ok (received.Routes distances)) k f s h brings =
-    let got : Has P (taken k f s) = taken_has P k f s h in
-    quiet_has P (heard k distances (taken k f s)) (record { store = got.store; lines = got.lines; slots = got.slots })
+    let got : Has P (frame_taken k f s) = taken_has P k f s h in
+    quiet_has P (vector_heard k distances (frame_taken k f s)) (record { store = got.store; lines = got.lines; slots = got.slots })
 taken_frame_has P (Err fault) k f s h brings = ignored_has P s h
 
 -- what a frame brings has it: its packet, and what that makes
@@ -124,14 +124,14 @@ taken_by_has P h [] [] s has made = has
 pub to_host_has : (P : PacketFields → Type 0) (s : State) (h : ℕ) → Has P s → All P (to_host_makes s h) → TurnHas P (to_host s h)
 to_host_has P s h has made = quiet_has P _ (taken_by_has P h (host_at s h).answers (host_at s h).queue s has made)
 
-returned_has : (P : PacketFields → Type 0) (m : Message) (s : State) → Has P s → All P (reply_for kind.Dead s m) → Has P (returned m s)
+returned_has : (P : PacketFields → Type 0) (m : Message) (s : State) → Has P s → All P (reply_for kind.Dead s m) → Has P (message_returned m s)
 returned_has P m s h made = at (reply_has_room s m) where
   at : (room : Bool) → Has P (cond room (replied answer.Dead kind.Dead m s) s)
   at true = replied_has P answer.Dead kind.Dead m s h made
   at false = h
 
 -- a reply doesn't change the IMP's number, so what the next ones make stays the same
-returned_number : (m : Message) (s : State) → number (returned m s) ≡ number s
+returned_number : (m : Message) (s : State) → number (message_returned m s) ≡ number s
 returned_number m s = at (reply_has_room s m) (is_from_here s m) (release_in m.number (finite.get s.sources m.flow)) where
   at : (room here : Bool) (r : Release) → number (cond room (cond here (answered_by r answer.Dead m.flow m.number s) (stored (answer_packet kind.Dead m.flow m.number) s)) s) ≡ number s
   at true true release.Freed = refl
@@ -142,9 +142,9 @@ returned_number m s = at (reply_has_room s m) (is_from_here s m) (release_in m.n
 all_returned_has : (P : PacketFields → Type 0) (ms : List Message) (s : State) → Has P s → All P (flat_map (reply_for kind.Dead s) ms) → Has P (all_returned ms s)
 all_returned_has P [] s h made = h
 all_returned_has P (m ∷ ms) s h made =
-    let first : Has P (returned m s) = returned_has P m s h (All_left P (reply_for kind.Dead s m) (flat_map (reply_for kind.Dead s) ms) made) in
+    let first : Has P (message_returned m s) = returned_has P m s h (All_left P (reply_for kind.Dead s m) (flat_map (reply_for kind.Dead s) ms) made) in
     let rest : All P (flat_map (reply_for kind.Dead s) ms) = All_right P (reply_for kind.Dead s m) (flat_map (reply_for kind.Dead s) ms) made in
-    all_returned_has P ms (returned m s) first (subst (λ (own : ℕ). All P (flat_map (λ (q : Message). cond (q.flow.source.imp == own) [] (answer_packet kind.Dead q.flow q.number ∷ [])) ms)) (sym (returned_number m s)) rest)
+    all_returned_has P ms (message_returned m s) first (subst (λ (own : ℕ). All P (flat_map (λ (q : Message). cond (q.flow.source.imp == own) [] (answer_packet kind.Dead q.flow q.number ∷ [])) ms)) (sym (returned_number m s)) rest)
 
 pub host_down_has : (P : PacketFields → Type 0) (s : State) (h : ℕ) → Has P s → All P (host_down_makes s h) → TurnHas P (host_down s h)
 host_down_has P s h has made =
@@ -213,13 +213,13 @@ host_up_has P s h has = quiet_has P _ (record { store = has.store; lines = has.l
 
 -- ---- at the opening
 
-pub start_has : (P : PacketFields → Type 0) (own hosts ports : ℕ) → Has P (opening own hosts ports)
+pub start_has : (P : PacketFields → Type 0) (own hosts ports : ℕ) → Has P (opening_node own hosts ports)
 start_has P own hosts ports = record { store = All-nil P; lines = All-replicate (PortHas P) ports up_port (opening_has P); slots = All-nil P }
 
 -- ---- the packets as lists
 
 -- a call that keeps every property of all packets leaves nothing new
-leaves : (s : State) (made : List PacketFields) (turn : Turn) → (Has (Contains (packets s ++ made)) s → All (Contains (packets s ++ made)) made → TurnHas (Contains (packets s ++ made)) turn) → Leaves s made turn
+leaves : (s : State) (made : List PacketFields) (turn : ImpTurn) → (Has (Contains (packets s ++ made)) s → All (Contains (packets s ++ made)) made → TurnHas (Contains (packets s ++ made)) turn) → Leaves s made turn
 leaves s made turn has =
     let P : PacketFields → Type 0 = Contains (packets s ++ made) in
     let old : All P (packets s) = All-weaker (Contains (packets s)) P (λ p there. Contains-append_left (packets s) made p there) (packets s) (All-contains_itself (packets s)) in
@@ -266,5 +266,5 @@ no_channels : (count : ℕ) → packets_in_channels (replicate count up_port) �
 no_channels zero = refl
 no_channels (suc count) = rw opening_packets (no_channels count)
 
-pub start_packets : (own hosts ports : ℕ) → packets (opening own hosts ports) ≡ []
+pub start_packets : (own hosts ports : ℕ) → packets (opening_node own hosts ports) ≡ []
 start_packets own hosts ports = rw (no_channels ports) refl

@@ -12,3 +12,4 @@ pub mod Stops
 pub mod Arrivals
 pub mod Searching
 pub mod Spending
+pub mod lemmas

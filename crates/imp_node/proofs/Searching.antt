@@ -9,7 +9,7 @@ use Rattle.packetiser.specs.PacketFields.{PacketFields, flow_of}
 use Rattle.packetiser.specs.Slots as slots
 use Rattle.packetiser.specs.Slots.{SlotState, IsSlot, IsTable, IsPieceFor, in_some_order}
 use Rattle.packetiser.specs.declared.reassembly.Held.{Held}
-use Rattle.packetiser.proofs.Holding.{named_once}
+use Rattle.packetiser.proofs.lemmas.{named_once}
 use Rattle.imp_channel.specs.declared.channel.Channel.{Channel}
 use Rattle.imp_channel.specs.Holding as channels
 use Rattle.imp_node.specs.declared.port.Port.{Port}

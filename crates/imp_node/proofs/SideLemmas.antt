@@ -5,20 +5,19 @@ use Rattle.std.specs.FinMap as finite
 use Rattle.leader1822.specs.Flow.{same_flow}
 use Rattle.leader1822.specs.declared.address.Flow.{Flow}
 use Rattle.leader1822.specs.declared.crossing.Answer.{Answer}
-use Rattle.leader1822.proofs.Lists.{same_flow-refl}
-use Rattle.link_table.specs.Flows.{Sources, last_in, outstanding_in, release_in, begun, answered, given_up, handed}
+use Rattle.leader1822.proofs.lemmas.{same_flow-refl}
+use Rattle.link_table.specs.Flows.{Sources, last_in, outstanding_in, release_in, begun, flow_answered, given_up, handed}
 use Rattle.link_table.specs.declared.source.Release.{Release}
 use Rattle.link_table.specs.declared.source.Release.TheVariants as release
 use Rattle.link_table.specs.declared.source.Standing.TheVariants as standing
 use Rattle.link_table.specs.declared.source.Standing.{Standing}
-use Rattle.link_table.proofs.FlowLemmas.{get_put, get_begun, get_answered, get_given_up}
-use Rattle.link_table.proofs.AnswerLemmas.{answered_last, answered_frees, given_up_last, given_up_frees, handed_last, handed_outstanding}
+use Rattle.link_table.proofs.lemmas.{answered_frees, answered_last, get_answered, get_begun, get_given_up, get_put, given_up_frees, given_up_last, handed_last, handed_outstanding}
 use Rattle.imp_node.specs.declared.waiting.Message.{Message}
 use Rattle.imp_node.specs.declared.waiting.Told.{Told}
 use Rattle.imp_node.specs.State.{State, HostState, no_host, host_at, is_up, with_host}
 use Rattle.imp_node.specs.Queries.{last, outstanding}
-use Rattle.imp_node.specs.Flows.{given, told, answered_by, freed, noted, queued, next_number, with_begun}
-use Rattle.imp_node.specs.Sides.{answers_of, messages_of, Sender, Receiver, sender, receiver, begun_with, told_with, ended_with, noted_with, queued_with, Unmoved, AllUnmoved, Moved}
+use Rattle.imp_node.specs.Flows.{given, answer_queued, answered_by, freed, noted, message_queued, next_number, with_begun}
+use Rattle.imp_node.specs.Sides.{answers_of, messages_of, Sender, Receiver, sender, receiver, begun_with, told_with, ended_with, noted_with, queued_with, AllUnmoved, Moved}
 
 -- ---- lists
 
@@ -37,7 +36,7 @@ set_there (y ∷ ys) zero x up = refl
 set_there (y ∷ ys) (suc h) x up = set_there ys h x up
 
 -- an answer of the flow comes behind the others
-pub answers_push : (f : Flow) (xs : List Told) (t : Told) → same_flow f t.flow ≡ true → answers_of f (xs ++ t ∷ []) ≡ answers_of f xs ++ t.kind ∷ []
+answers_push : (f : Flow) (xs : List Told) (t : Told) → same_flow f t.flow ≡ true → answers_of f (xs ++ t ∷ []) ≡ answers_of f xs ++ t.kind ∷ []
 answers_push f [] t same = rw same refl
 answers_push f (x ∷ xs) t same = at (same_flow f x.flow) (answers_push f xs t same) where
   at : (b : Bool) → answers_of f (xs ++ t ∷ []) ≡ answers_of f xs ++ t.kind ∷ [] → cond b (x.kind ∷ answers_of f (xs ++ t ∷ [])) (answers_of f (xs ++ t ∷ [])) ≡ cond b (x.kind ∷ answers_of f xs) (answers_of f xs) ++ t.kind ∷ []
@@ -45,21 +44,21 @@ answers_push f (x ∷ xs) t same = at (same_flow f x.flow) (answers_push f xs t 
   at false rest = rest
 
 -- an answer of another flow doesn't count
-pub answers_beside : (f : Flow) (xs : List Told) (t : Told) → same_flow f t.flow ≡ false → answers_of f (xs ++ t ∷ []) ≡ answers_of f xs
+answers_beside : (f : Flow) (xs : List Told) (t : Told) → same_flow f t.flow ≡ false → answers_of f (xs ++ t ∷ []) ≡ answers_of f xs
 answers_beside f [] t other = rw other refl
 answers_beside f (x ∷ xs) t other = at (same_flow f x.flow) (answers_beside f xs t other) where
   at : (b : Bool) → answers_of f (xs ++ t ∷ []) ≡ answers_of f xs → cond b (x.kind ∷ answers_of f (xs ++ t ∷ [])) (answers_of f (xs ++ t ∷ [])) ≡ cond b (x.kind ∷ answers_of f xs) (answers_of f xs)
   at true rest = ap (λ (ys : List Answer). x.kind ∷ ys) rest
   at false rest = rest
 
-pub messages_push : (f : Flow) (xs : List Message) (m : Message) → same_flow f m.flow ≡ true → messages_of f (xs ++ m ∷ []) ≡ messages_of f xs ++ m ∷ []
+messages_push : (f : Flow) (xs : List Message) (m : Message) → same_flow f m.flow ≡ true → messages_of f (xs ++ m ∷ []) ≡ messages_of f xs ++ m ∷ []
 messages_push f [] m same = rw same refl
 messages_push f (x ∷ xs) m same = at (same_flow f x.flow) (messages_push f xs m same) where
   at : (b : Bool) → messages_of f (xs ++ m ∷ []) ≡ messages_of f xs ++ m ∷ [] → cond b (x ∷ messages_of f (xs ++ m ∷ [])) (messages_of f (xs ++ m ∷ [])) ≡ cond b (x ∷ messages_of f xs) (messages_of f xs) ++ m ∷ []
   at true rest = ap (λ (ys : List Message). x ∷ ys) rest
   at false rest = rest
 
-pub messages_beside : (f : Flow) (xs : List Message) (m : Message) → same_flow f m.flow ≡ false → messages_of f (xs ++ m ∷ []) ≡ messages_of f xs
+messages_beside : (f : Flow) (xs : List Message) (m : Message) → same_flow f m.flow ≡ false → messages_of f (xs ++ m ∷ []) ≡ messages_of f xs
 messages_beside f [] m other = rw other refl
 messages_beside f (x ∷ xs) m other = at (same_flow f x.flow) (messages_beside f xs m other) where
   at : (b : Bool) → messages_of f (xs ++ m ∷ []) ≡ messages_of f xs → cond b (x ∷ messages_of f (xs ++ m ∷ [])) (messages_of f (xs ++ m ∷ [])) ≡ cond b (x ∷ messages_of f xs) (messages_of f xs)
@@ -78,13 +77,6 @@ same_receiver a b k l ms ns e f g = rw (e, f, g) refl
 
 -- ---- one step after another
 
-pub unmoved_then : (s t u : State) (f : Flow) → Unmoved s t f → Unmoved t u f → Unmoved s u f
-unmoved_then s t u f first second = record { sender = second.sender ∙ first.sender; receiver = second.receiver ∙ first.receiver }
-
-pub moved_then : (s t u : State) (g : Flow) (from a : Sender) (to b : Receiver) → Moved s t g from to → Moved t u g a b → Moved s u g a b
-moved_then s t u g from a to b first second =
-    record { sender = second.sender; receiver = second.receiver; others = λ f other. unmoved_then s t u f (first.others f other) (second.others f other) }
-
 -- ---- an answer waits, or its host is down
 
 -- an answer is given to a host: of the host's fields only the answers change
@@ -102,9 +94,9 @@ told_outstanding : (b : Bool) (m : Sources) (f g : Flow) → outstanding_in (fin
 told_outstanding true m f g = refl
 told_outstanding false m f g = handed_outstanding m f g
 
-told_answers : (kind : Answer) (f : Flow) (s : State) → answers_of f (host_at (told kind f s) f.source.host).answers ≡ (told_with kind (sender s f)).answers
+told_answers : (kind : Answer) (f : Flow) (s : State) → answers_of f (host_at (answer_queued kind f s) f.source.host).answers ≡ (told_with kind (sender s f)).answers
 told_answers kind f s = by (is_up s f.source.host) refl where
-  by : (b : Bool) → is_up s f.source.host ≡ b → answers_of f (host_at (told kind f s) f.source.host).answers ≡ (told_with kind (sender s f)).answers
+  by : (b : Bool) → is_up s f.source.host ≡ b → answers_of f (host_at (answer_queued kind f s) f.source.host).answers ≡ (told_with kind (sender s f)).answers
   by true up =
       ap (λ (h : HostState). answers_of f h.answers) (set_there s.hosts f.source.host (given (host_at s f.source.host) (record { kind = kind; flow = f })) up)
       ∙ (rw up (answers_push f (host_at s f.source.host).answers (record { kind = kind; flow = f }) (same_flow-refl f)))
@@ -112,33 +104,33 @@ told_answers kind f s = by (is_up s f.source.host) refl where
       same_at (λ (h : HostState). answers_of f h.answers) s.hosts f.source.host f.source.host (given (host_at s f.source.host) (record { kind = kind; flow = f })) no_host (rw down refl)
       ∙ (rw down refl)
 
-pub told_here : (kind : Answer) (f : Flow) (s : State) → sender (told kind f s) f ≡ told_with kind (sender s f)
+pub told_here : (kind : Answer) (f : Flow) (s : State) → sender (answer_queued kind f s) f ≡ told_with kind (sender s f)
 told_here kind f s =
-    same_sender (is_up (told kind f s) f.source.host) (is_up s f.source.host) (last (told kind f s) f) (last s f) (outstanding (told kind f s) f) (outstanding s f)
-    (answers_of f (host_at (told kind f s) f.source.host).answers) (told_with kind (sender s f)).answers
+    same_sender (is_up (answer_queued kind f s) f.source.host) (is_up s f.source.host) (last (answer_queued kind f s) f) (last s f) (outstanding (answer_queued kind f s) f) (outstanding s f)
+    (answers_of f (host_at (answer_queued kind f s) f.source.host).answers) (told_with kind (sender s f)).answers
     (same_at (λ (h : HostState). h.up) s.hosts f.source.host f.source.host (given (host_at s f.source.host) (record { kind = kind; flow = f })) no_host refl)
     (told_last (is_up s f.source.host) s.sources f f)
     (told_outstanding (is_up s f.source.host) s.sources f f)
     (told_answers kind f s)
 
-pub told_elsewhere : (kind : Answer) (f g : Flow) (s : State) → same_flow g f ≡ false → sender (told kind f s) g ≡ sender s g
+told_elsewhere : (kind : Answer) (f g : Flow) (s : State) → same_flow g f ≡ false → sender (answer_queued kind f s) g ≡ sender s g
 told_elsewhere kind f g s other =
-    same_sender (is_up (told kind f s) g.source.host) (is_up s g.source.host) (last (told kind f s) g) (last s g) (outstanding (told kind f s) g) (outstanding s g)
-    (answers_of g (host_at (told kind f s) g.source.host).answers) (answers_of g (host_at s g.source.host).answers)
+    same_sender (is_up (answer_queued kind f s) g.source.host) (is_up s g.source.host) (last (answer_queued kind f s) g) (last s g) (outstanding (answer_queued kind f s) g) (outstanding s g)
+    (answers_of g (host_at (answer_queued kind f s) g.source.host).answers) (answers_of g (host_at s g.source.host).answers)
     (same_at (λ (h : HostState). h.up) s.hosts f.source.host g.source.host (given (host_at s f.source.host) (record { kind = kind; flow = f })) no_host refl)
     (told_last (is_up s f.source.host) s.sources f g)
     (told_outstanding (is_up s f.source.host) s.sources f g)
     (same_at (λ (h : HostState). answers_of g h.answers) s.hosts f.source.host g.source.host (given (host_at s f.source.host) (record { kind = kind; flow = f })) no_host
     (given_answers g (host_at s f.source.host) (record { kind = kind; flow = f }) other))
 
-pub told_receiver : (kind : Answer) (f g : Flow) (s : State) → receiver (told kind f s) g ≡ receiver s g
+told_receiver : (kind : Answer) (f g : Flow) (s : State) → receiver (answer_queued kind f s) g ≡ receiver s g
 told_receiver kind f g s =
-    same_receiver (is_up (told kind f s) g.destination.host) (is_up s g.destination.host) (finite.get s.kept g) (finite.get s.kept g)
-    (messages_of g (host_at (told kind f s) g.destination.host).queue) (messages_of g (host_at s g.destination.host).queue)
+    same_receiver (is_up (answer_queued kind f s) g.destination.host) (is_up s g.destination.host) (finite.get s.kept g) (finite.get s.kept g)
+    (messages_of g (host_at (answer_queued kind f s) g.destination.host).queue) (messages_of g (host_at s g.destination.host).queue)
     (same_at (λ (h : HostState). h.up) s.hosts f.source.host g.destination.host (given (host_at s f.source.host) (record { kind = kind; flow = f })) no_host refl) refl
     (same_at (λ (h : HostState). messages_of g h.queue) s.hosts f.source.host g.destination.host (given (host_at s f.source.host) (record { kind = kind; flow = f })) no_host refl)
 
-pub told_moved : (kind : Answer) (f : Flow) (s : State) → Moved s (told kind f s) f (told_with kind (sender s f)) (receiver s f)
+pub told_moved : (kind : Answer) (f : Flow) (s : State) → Moved s (answer_queued kind f s) f (told_with kind (sender s f)) (receiver s f)
 told_moved kind f s = record {
   sender = told_here kind f s;
   receiver = told_receiver kind f f s;
@@ -170,9 +162,9 @@ begun_moved f s =
     numbered_moved s (begun s.sources f) f (Some (next_number s f)) (Some (next_number s f)) (ap last_in here) (ap outstanding_in here)
     (λ g other. get_begun s.sources f g ∙ elsewhere (same_flow g f) _ _ other)
 
-answered_moved : (f : Flow) (n : ℕ) (s : State) → outstanding s f ≡ Some n → Moved s (record s { sources = answered s.sources f n }) f (record (sender s f) { outstanding = None }) (receiver s f)
+answered_moved : (f : Flow) (n : ℕ) (s : State) → outstanding s f ≡ Some n → Moved s (record s { sources = flow_answered s.sources f n }) f (record (sender s f) { outstanding = None }) (receiver s f)
 answered_moved f n s is =
-    numbered_moved s (answered s.sources f n) f (last s f) None (answered_last s.sources f f n) (answered_frees s.sources f n is)
+    numbered_moved s (flow_answered s.sources f n) f (last s f) None (answered_last s.sources f f n) (answered_frees s.sources f n is)
     (λ g other. get_answered s.sources f g n ∙ elsewhere (same_flow g f) _ _ other)
 
 pub given_up_moved : (f : Flow) (s : State) → Moved s (record s { sources = given_up s.sources f }) f (record (sender s f) { outstanding = None }) (receiver s f)
@@ -181,7 +173,7 @@ given_up_moved f s =
     (λ g other. get_given_up s.sources f g ∙ elsewhere (same_flow g f) _ _ other)
 
 -- an answer waits after the flow's message was ended
-pub ended_moved : (kind : Answer) (f : Flow) (s t : State) → Moved s t f (record (sender s f) { outstanding = None }) (receiver s f) → Moved s (told kind f t) f (ended_with kind (sender s f)) (receiver s f)
+pub ended_moved : (kind : Answer) (f : Flow) (s t : State) → Moved s t f (record (sender s f) { outstanding = None }) (receiver s f) → Moved s (answer_queued kind f t) f (ended_with kind (sender s f)) (receiver s f)
 ended_moved kind f s t ended = record {
   sender = told_here kind f t ∙ ap (told_with kind) ended.sender;
   receiver = told_receiver kind f f t ∙ ended.receiver;
@@ -202,9 +194,9 @@ released n (Some (standing.Outstanding l)) is = by (cases_Bool (l == n)) where
 pub freed_moved : (kind : Answer) (f : Flow) (n : ℕ) (s : State) → release_in n (finite.get s.sources f) ≡ release.Freed → Moved s (freed kind f n s) f (ended_with kind (sender s f)) (receiver s f)
 freed_moved kind f n s is =
     subst (λ (r : Release). Moved s (answered_by r kind f n s) f (ended_with kind (sender s f)) (receiver s f)) (sym is)
-    (ended_moved kind f s (record s { sources = answered s.sources f n }) (answered_moved f n s (released n (finite.get s.sources f) is)))
+    (ended_moved kind f s (record s { sources = flow_answered s.sources f n }) (answered_moved f n s (released n (finite.get s.sources f) is)))
 
-pub unmoved_itself : (s : State) → AllUnmoved s s
+unmoved_itself : (s : State) → AllUnmoved s s
 unmoved_itself s f = record { sender = refl; receiver = refl }
 
 pub stale_unmoved : (kind : Answer) (f : Flow) (n : ℕ) (s : State) → release_in n (finite.get s.sources f) ≡ release.Stale → AllUnmoved s (freed kind f n s)
@@ -250,7 +242,7 @@ queue_here s h queue g at up =
     (same_at (λ (x : HostState). x.up) s.hosts h g.destination.host host no_host refl) refl
     (ap (λ (x : HostState). messages_of g x.queue) set)
 
-pub queued_moved : (m : Message) (s : State) → is_up s m.flow.destination.host ≡ true → Moved s (queued m s) m.flow (sender s m.flow) (queued_with m (receiver s m.flow))
+pub queued_moved : (m : Message) (s : State) → is_up s m.flow.destination.host ≡ true → Moved s (message_queued m s) m.flow (sender s m.flow) (queued_with m (receiver s m.flow))
 queued_moved m s up =
     let h : ℕ = m.flow.destination.host in
     let old : List Message = (host_at s m.flow.destination.host).queue in

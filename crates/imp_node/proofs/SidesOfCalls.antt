@@ -13,8 +13,7 @@ use Rattle.link_table.specs.Keys.{is_from, drop_from}
 use Rattle.link_table.specs.Numbers.{is_new}
 use Rattle.link_table.specs.declared.source.Release.{Release}
 use Rattle.link_table.specs.declared.source.Release.TheVariants as release
-use Rattle.link_table.proofs.AnswerLemmas.{handed_last, handed_outstanding}
-use Rattle.link_table.proofs.FlowLemmas.{get_dropped}
+use Rattle.link_table.proofs.lemmas.{get_dropped, handed_last, handed_outstanding}
 use Rattle.packetiser.specs.PacketFields.{PacketFields, flow_of}
 use Rattle.packetiser.specs.Slots.{answer_of}
 use Rattle.packetiser.specs.declared.packet.PacketKind.{PacketKind}
@@ -27,19 +26,19 @@ use Rattle.imp_channel.specs.declared.fault.ChannelFault.{ChannelFault}
 use Rattle.imp_channel.specs.declared.frame.Frame.{Frame}
 use Rattle.imp_channel.specs.declared.line.Received.{Received}
 use Rattle.imp_channel.specs.declared.line.Received.TheVariants as received
-use Rattle.imp_channel.proofs.Holding.{fresh_carried}
+use Rattle.imp_channel.proofs.lemmas.{fresh_carried}
 use Rattle.imp_node.specs.declared.waiting.Message.{Message}
 use Rattle.imp_node.specs.declared.waiting.Told.{Told}
 use Rattle.imp_node.specs.State.{State, HostState, no_host, host_at, port_at, with_host, number, is_up}
 use Rattle.imp_node.specs.Room.{has_route}
 use Rattle.imp_node.specs.Pump.{pump, target, stored}
-use Rattle.imp_node.specs.Flows.{freed, told, next_number, with_begun, noted, queued, answer_packet}
+use Rattle.imp_node.specs.Flows.{freed, answer_queued, next_number, with_begun, noted, message_queued, answer_packet}
 use Rattle.imp_node.specs.Queries.{last, outstanding}
 use Rattle.imp_node.specs.Offering.{Way, Nowhere, Here, Away, way_of, offered, from_host}
-use Rattle.imp_node.specs.Arrival.{Arrival, Passing, Old, Undeliverable, Piece, NoSlot, Whole, Unmarked, Answering, piece_arrival, arrival_by, arrival, arrival_has_room, arrived, taken, acknowledged, ignored, fresh, taken_frame, from_line}
+use Rattle.imp_node.specs.Arrival.{Arrival, Passing, Old, Undeliverable, Piece, NoSlot, Whole, Unmarked, Answering, piece_arrival, arrival_by, arrival, arrival_has_room, arrived, frame_taken, acknowledged, ignored, fresh, taken_frame, from_line}
 use Rattle.imp_node.specs.Taking.{is_from_here, reply_has_room, replied, taken_by, to_host}
 use Rattle.imp_node.specs.Lines.{resend, route, end_down, end_up}
-use Rattle.imp_node.specs.Stopping.{give_up, forget, abandon, all_handed, returned, stopped, host_up}
+use Rattle.imp_node.specs.Stopping.{give_up, forget, abandon, all_handed, message_returned, stopped, host_up}
 use Rattle.imp_node.specs.Sides.{answers_of, messages_of, Sender, Receiver, sender, receiver, begun_with, ended_with, noted_with, queued_with, Unmoved, AllUnmoved, Moved}
 use Rattle.imp_node.specs.Moves.{OfferMoves, AnswerMoves, MakesWhole, Tells, ArrivalSays, ArrivalMoves, FrameMoves, without_first, sender_told, TellingMoves, source_down, destination_down, source_up, destination_up, Becomes}
 use Rattle.imp_node.proofs.SideLemmas.{same_at, set_there, same_sender, same_receiver, told_moved, begun_moved, given_up_moved, ended_moved, freed_moved, stale_unmoved, noted_moved, queued_moved, queue_sender, queue_elsewhere, queue_here}
@@ -78,13 +77,13 @@ here_up s f is = by (cases_Bool (f.destination.imp == number s)) (cases_Bool (is
   ]
 
 offered_moved : (way : Way) (m : HostMessage) (s : State) → (way ≡ Here → is_up s m.flow.destination.host ≡ true) → OfferMoves way m s (pump [] (offered way m s)).state
-offered_moved Nowhere m s up = pumped_moved s (told answer.Dead m.flow s) m.flow _ _ (told_moved answer.Dead m.flow s)
+offered_moved Nowhere m s up = pumped_moved s (answer_queued answer.Dead m.flow s) m.flow _ _ (told_moved answer.Dead m.flow s)
 offered_moved Here m s up =
     let n : ℕ = next_number s m.flow in
     let begun : State = with_begun m.flow s in
     let first : Moved s begun m.flow (begun_with n (sender s m.flow)) (receiver s m.flow) = begun_moved m.flow s in
     let second : Moved begun (noted m.flow n begun) m.flow (sender begun m.flow) (noted_with n (receiver begun m.flow)) = noted_moved m.flow n begun in
-    let third : Moved (noted m.flow n begun) (queued (record { flow = m.flow; number = n; text = m.text }) (noted m.flow n begun)) m.flow (sender (noted m.flow n begun) m.flow) (queued_with (record { flow = m.flow; number = n; text = m.text }) (receiver (noted m.flow n begun) m.flow)) =
+    let third : Moved (noted m.flow n begun) (message_queued (record { flow = m.flow; number = n; text = m.text }) (noted m.flow n begun)) m.flow (sender (noted m.flow n begun) m.flow) (queued_with (record { flow = m.flow; number = n; text = m.text }) (receiver (noted m.flow n begun) m.flow)) =
     queued_moved (record { flow = m.flow; number = n; text = m.text }) (noted m.flow n begun) (up refl) in
     record {
       sender = third.sender ∙ second.sender ∙ first.sender;
@@ -106,7 +105,7 @@ from_host_moves s m = offered_moved (way_of s m.flow) m s (here_up s m.flow)
 -- ---- give_up
 
 pub give_up_moves : (s : State) (f : Flow) → Moved s (give_up s f).state f (ended_with answer.Incomplete (sender s f)) (receiver s f)
-give_up_moves s f = pumped_moved s (told answer.Incomplete f (record s { sources = given_up s.sources f })) f _ _ (ended_moved answer.Incomplete f s (record s { sources = given_up s.sources f }) (given_up_moved f s))
+give_up_moves s f = pumped_moved s (answer_queued answer.Incomplete f (record s { sources = given_up s.sources f })) f _ _ (ended_moved answer.Incomplete f s (record s { sources = given_up s.sources f }) (given_up_moved f s))
 
 -- ---- what arrivals say
 
@@ -143,7 +142,7 @@ arrival_says s p = by (cases_Bool (target p == number s)) where
 -- ---- from_line
 
 -- the packet's line and the frames that were put on it move no flow: what an arrival moved stays so
-taken_moves : (a : Arrival) (k : ℕ) (f : Frame) (p : PacketFields) (s : State) → ArrivalSays a s p → ArrivalMoves a p s (pump (acknowledged k (taken k f s)) (arrived a p (taken k f s))).state
+taken_moves : (a : Arrival) (k : ℕ) (f : Frame) (p : PacketFields) (s : State) → ArrivalSays a s p → ArrivalMoves a p s (pump (acknowledged k (frame_taken k f s)) (arrived a p (frame_taken k f s))).state
 taken_moves Passing k f p s says = λ g. record { sender = refl; receiver = refl }
 taken_moves Old k f p s says = λ g. record { sender = refl; receiver = refl }
 taken_moves Undeliverable k f p s says = record {
@@ -156,7 +155,7 @@ taken_moves NoSlot k f p s says = λ g. record { sender = refl; receiver = refl 
 taken_moves (Whole text) k f p s says =
     let m : Message = record { flow = flow_of p; number = p.number; text = text } in
     let first : Moved s (noted (flow_of p) p.number s) (flow_of p) (sender s (flow_of p)) (noted_with p.number (receiver s (flow_of p))) = noted_moved (flow_of p) p.number s in
-    let second : Moved (noted (flow_of p) p.number s) (queued m (noted (flow_of p) p.number s)) (flow_of p) (sender (noted (flow_of p) p.number s) (flow_of p)) (queued_with m (receiver (noted (flow_of p) p.number s) (flow_of p))) =
+    let second : Moved (noted (flow_of p) p.number s) (message_queued m (noted (flow_of p) p.number s)) (flow_of p) (sender (noted (flow_of p) p.number s) (flow_of p)) (queued_with m (receiver (noted (flow_of p) p.number s) (flow_of p))) =
     queued_moved m (noted (flow_of p) p.number s) says.1.up in
     record {
       sender = second.sender;
@@ -170,14 +169,14 @@ taken_moves Unmarked k f p s says = record {
 }
 taken_moves (Answering answer) k f p s says = by (release_in p.number (finite.get s.sources (flow_of p))) refl where
   t : State
-  t = (pump (acknowledged k (taken k f s)) (arrived (Answering answer) p (taken k f s))).state
+  t = (pump (acknowledged k (frame_taken k f s)) (arrived (Answering answer) p (frame_taken k f s))).state
 
   by : (r : Release) → release_in p.number (finite.get s.sources (flow_of p)) ≡ r → AnswerMoves r answer (flow_of p) s t
   by release.Freed is =
-      let m : Moved (taken k f s) (freed answer (flow_of p) p.number (taken k f s)) (flow_of p) (ended_with answer (sender s (flow_of p))) (receiver s (flow_of p)) = freed_moved answer (flow_of p) p.number (taken k f s) is in
+      let m : Moved (frame_taken k f s) (freed answer (flow_of p) p.number (frame_taken k f s)) (flow_of p) (ended_with answer (sender s (flow_of p))) (receiver s (flow_of p)) = freed_moved answer (flow_of p) p.number (frame_taken k f s) is in
       record { sender = m.sender; receiver = m.receiver; others = λ g other. record { sender = (m.others g other).sender; receiver = (m.others g other).receiver } }
   by release.Stale is = λ g.
-      let m : Unmoved (taken k f s) (freed answer (flow_of p) p.number (taken k f s)) g = stale_unmoved answer (flow_of p) p.number (taken k f s) is g in
+      let m : Unmoved (frame_taken k f s) (freed answer (flow_of p) p.number (frame_taken k f s)) g = stale_unmoved answer (flow_of p) p.number (frame_taken k f s) is g in
       record { sender = m.sender; receiver = m.receiver }
 
 ignored_moves : (f : Frame) (s : State) → FrameMoves f s (ignored s).state
@@ -185,7 +184,7 @@ ignored_moves f s = inl (λ g. record { sender = refl; receiver = refl })
 
 fresh_moves : (k : ℕ) (f : Frame) (p : PacketFields) (s : State) → carried_by f.content ≡ p ∷ [] → FrameMoves f s (fresh k f p s).state
 fresh_moves k f p s is = at (arrival_has_room (arrival s p) s p) where
-  at : (room : Bool) → FrameMoves f s (cond room (pump (acknowledged k (taken k f s)) (arrived (arrival s p) p (taken k f s))) (ignored s)).state
+  at : (room : Bool) → FrameMoves f s (cond room (pump (acknowledged k (frame_taken k f s)) (arrived (arrival s p) p (frame_taken k f s))) (ignored s)).state
   at true = inr (p, is, taken_moves (arrival s p) k f p s (arrival_says s p))
   at false = ignored_moves f s
 
@@ -335,9 +334,9 @@ stopped_becomes s h f =
           (field_set (λ (x : HostState). messages_of f x.queue) s.hosts h f.destination.host no_host there);
     }
 
-pub returned_moves : (m : Message) (s : State) → TellingMoves answer.Dead m s (returned m s)
+pub returned_moves : (m : Message) (s : State) → TellingMoves answer.Dead m s (message_returned m s)
 returned_moves m s = by (is_from_here s m) refl (replied_moves answer.Dead kind.Dead m s) where
-  by : (here : Bool) → is_from_here s m ≡ here → TellingMoves answer.Dead m s (replied answer.Dead kind.Dead m s) → TellingMoves answer.Dead m s (returned m s)
+  by : (here : Bool) → is_from_here s m ≡ here → TellingMoves answer.Dead m s (replied answer.Dead kind.Dead m s) → TellingMoves answer.Dead m s (message_returned m s)
   by true is moves = let all : reply_has_room s m ≡ true = rw is refl in subst (λ (room : Bool). TellingMoves answer.Dead m s (cond room (replied answer.Dead kind.Dead m s) s)) (sym all) moves
   by false is moves = at (reply_has_room s m) where
     still : TellingMoves answer.Dead m s s

@@ -16,27 +16,26 @@ use Rattle.packetiser.specs.PacketFields.{PacketFields, IsPacket, flow_of}
 use Rattle.packetiser.specs.Slots.{added}
 use Rattle.packetiser.specs.declared.packet.PacketKind.{PacketKind}
 use Rattle.packetiser.specs.declared.packet.PacketKind.TheVariants as kind
-use Rattle.packetiser.proofs.Holding.{added_table}
-use Rattle.packetiser.proofs.Slots.{without_table}
+use Rattle.packetiser.proofs.lemmas.{added_table, without_table}
 use Rattle.imp_channel.specs.Holding.{carried_by}
 use Rattle.imp_channel.specs.Line.{answer_to}
 use Rattle.imp_channel.specs.declared.fault.ChannelFault.{ChannelFault}
 use Rattle.imp_channel.specs.declared.frame.Frame.{Frame}
 use Rattle.imp_channel.specs.declared.line.Received.{Received}
 use Rattle.imp_channel.specs.declared.line.Received.TheVariants as received
-use Rattle.imp_channel.proofs.Holding.{fresh_carried}
+use Rattle.imp_channel.proofs.lemmas.{fresh_carried}
 use Rattle.imp_node.specs.declared.outgoing.Outgoing.{Outgoing}
 use Rattle.imp_node.specs.declared.waiting.Message.{Message}
 use Rattle.imp_node.specs.declared.waiting.Told.{Told}
-use Rattle.imp_node.specs.State.{State, HostState, opening, up_host, no_host, host_at, port_at, with_host, number, is_up}
+use Rattle.imp_node.specs.State.{State, HostState, opening_node, up_host, no_host, host_at, port_at, with_host, number, is_up}
 use Rattle.imp_node.specs.Room.{has_route}
 use Rattle.imp_node.specs.Pump.{pump}
-use Rattle.imp_node.specs.Flows.{given, told, answered_by, noted, queued, next_number, with_begun}
+use Rattle.imp_node.specs.Flows.{given, answer_queued, answered_by, noted, message_queued, next_number, with_begun}
 use Rattle.imp_node.specs.Offering.{Way, Nowhere, Here, Away, way_of, is_own, offered, from_host, from_host_refusal}
-use Rattle.imp_node.specs.Arrival.{Arrival, Passing, Old, Undeliverable, Piece, NoSlot, Whole, Unmarked, Answering, arrival, arrival_has_room, arrived, taken, acknowledged, ignored, fresh, taken_frame, from_line}
+use Rattle.imp_node.specs.Arrival.{Arrival, Passing, Old, Undeliverable, Piece, NoSlot, Whole, Unmarked, Answering, arrival, arrival_has_room, arrived, frame_taken, acknowledged, ignored, fresh, taken_frame, from_line}
 use Rattle.imp_node.specs.Taking.{is_from_here, reply_has_room, replied, taken_by, to_host}
 use Rattle.imp_node.specs.Lines.{resend, route, end_down, end_up}
-use Rattle.imp_node.specs.Stopping.{give_up, give_up_refusal, forget, abandon, returned, all_returned, stopped, host_down, host_up}
+use Rattle.imp_node.specs.Stopping.{give_up, give_up_refusal, forget, abandon, message_returned, all_returned, stopped, host_down, host_up}
 use Rattle.imp_node.specs.Moves.{ArrivalSays}
 use Rattle.imp_node.specs.Sides.{IsImp}
 use Rattle.imp_node.proofs.SidesOfCalls.{arrival_says}
@@ -51,10 +50,10 @@ at_set P (y ∷ ys) zero (suc h) x d old new = old
 at_set P (y ∷ ys) (suc k) zero x d old new = old
 at_set P (y ∷ ys) (suc k) (suc h) x d old new = at_set (λ (n : ℕ). P (suc n)) ys k h x d old new
 
-abbrev pub AnswersAt : ℕ → ℕ → HostState → Type 0
+abbrev AnswersAt : ℕ → ℕ → HostState → Type 0
 AnswersAt imp h host = All (λ told. told.flow.source ≡ record { imp = imp; host = h }) host.answers
 
-abbrev pub QueueAt : ℕ → ℕ → HostState → Type 0
+abbrev QueueAt : ℕ → ℕ → HostState → Type 0
 QueueAt imp h host = All (λ m. m.flow.destination ≡ record { imp = imp; host = h }) host.queue
 
 -- an IMP that has another host in one's place
@@ -79,7 +78,7 @@ same_imp imp s t is own live hosts slots = record {
 
 -- ---- steps
 
-told_imp : (imp : ℕ) (kind : Answer) (f : Flow) (s : State) → f.source.imp ≡ imp → IsImp imp s → IsImp imp (told kind f s)
+told_imp : (imp : ℕ) (kind : Answer) (f : Flow) (s : State) → f.source.imp ≡ imp → IsImp imp s → IsImp imp (answer_queued kind f s)
 told_imp imp kind f s here is =
     let host : HostState = given (host_at s f.source.host) (record { kind = kind; flow = f }) in
     let at : IsImp imp (with_host s f.source.host host) = with_host_imp imp s f.source.host host is (by (is_up s f.source.host)) (is.queues f.source.host) in
@@ -93,7 +92,7 @@ answered_imp : (imp : ℕ) (r : Release) (kind : Answer) (f : Flow) (n : ℕ) (s
 answered_imp imp release.Freed kind f n s here is = told_imp imp kind f _ here (record { own = is.own; live = is.live; answers = is.answers; queues = is.queues; slots = is.slots })
 answered_imp imp release.Stale kind f n s here is = is
 
-queued_imp : (imp : ℕ) (m : Message) (s : State) → m.flow.destination.imp ≡ imp → IsImp imp s → IsImp imp (queued m s)
+queued_imp : (imp : ℕ) (m : Message) (s : State) → m.flow.destination.imp ≡ imp → IsImp imp s → IsImp imp (message_queued m s)
 queued_imp imp m s here is =
     let k : ℕ = m.flow.destination.host in
     with_host_imp imp s k (record (host_at s k) { queue = (host_at s k).queue ++ m ∷ [] }) is (is.answers k)
@@ -154,7 +153,7 @@ from_host_imp imp s m accepted is =
 
 pub give_up_imp : (imp : ℕ) (s : State) (f : Flow) → give_up_refusal s f ≡ None → IsImp imp s → IsImp imp (give_up s f).state
 give_up_imp imp s f accepted is =
-    pumped_imp imp [] (told answer.Incomplete f (record s { sources = given_up s.sources f }))
+    pumped_imp imp [] (answer_queued answer.Incomplete f (record s { sources = given_up s.sources f }))
     (told_imp imp answer.Incomplete f (record s { sources = given_up s.sources f }) (own_source s f _ accepted ∙ is.own) (record { own = is.own; live = is.live; answers = is.answers; queues = is.queues; slots = is.slots }))
 
 -- ---- from_line
@@ -171,13 +170,13 @@ arrived_imp imp (Whole text) p s t says own format is =
 arrived_imp imp Unmarked p s t says own format is = record { own = is.own; live = is.live; answers = is.answers; queues = is.queues; slots = added_table t.slots p is.slots format says.1.new.data_kind }
 arrived_imp imp (Answering kind) p s t says own format is = answered_imp imp (release_in p.number (finite.get t.sources (flow_of p))) kind (flow_of p) p.number t (says.0 ∙ own) is
 
-taken_imp : (imp : ℕ) (k : ℕ) (f : Frame) (s : State) → IsImp imp s → IsImp imp (taken k f s)
+taken_imp : (imp : ℕ) (k : ℕ) (f : Frame) (s : State) → IsImp imp s → IsImp imp (frame_taken k f s)
 taken_imp imp k f s is = record { own = is.own; live = is.live; answers = is.answers; queues = is.queues; slots = is.slots }
 
 fresh_imp : (imp : ℕ) (k : ℕ) (f : Frame) (p : PacketFields) (s : State) → IsPacket p → IsImp imp s → IsImp imp (fresh k f p s).state
 fresh_imp imp k f p s format is = at (arrival_has_room (arrival s p) s p) where
-  at : (room : Bool) → IsImp imp (cond room (pump (acknowledged k (taken k f s)) (arrived (arrival s p) p (taken k f s))) (ignored s)).state
-  at true = pumped_imp imp (acknowledged k (taken k f s)) (arrived (arrival s p) p (taken k f s)) (arrived_imp imp (arrival s p) p s (taken k f s) (arrival_says s p) is.own format (taken_imp imp k f s is))
+  at : (room : Bool) → IsImp imp (cond room (pump (acknowledged k (frame_taken k f s)) (arrived (arrival s p) p (frame_taken k f s))) (ignored s)).state
+  at true = pumped_imp imp (acknowledged k (frame_taken k f s)) (arrived (arrival s p) p (frame_taken k f s)) (arrived_imp imp (arrival s p) p s (frame_taken k f s) (arrival_says s p) is.own format (taken_imp imp k f s is))
   at false = is
 
 frame_imp : (imp : ℕ) (got : Result Received ChannelFault) (k : ℕ) (f : Frame) (s : State) → ((p : PacketFields) → got ≡ Ok (received.Fresh p) → IsPacket p) → IsImp imp s → IsImp imp (taken_frame got k f s).state
@@ -219,7 +218,7 @@ taken_by_imp imp h [] [] s answers queues is = is
 pub to_host_imp : (imp : ℕ) (s : State) (h : ℕ) → IsImp imp s → IsImp imp (to_host s h).state
 to_host_imp imp s h is = pumped_imp imp [] _ (taken_by_imp imp h (host_at s h).answers (host_at s h).queue s refl refl is)
 
-returned_imp : (imp : ℕ) (m : Message) (s : State) → IsImp imp s → IsImp imp (returned m s)
+returned_imp : (imp : ℕ) (m : Message) (s : State) → IsImp imp s → IsImp imp (message_returned m s)
 returned_imp imp m s is = at (reply_has_room s m) where
   at : (room : Bool) → IsImp imp (cond room (replied answer.Dead kind.Dead m s) s)
   at true = replied_imp imp answer.Dead kind.Dead m s is
@@ -227,7 +226,7 @@ returned_imp imp m s is = at (reply_has_room s m) where
 
 all_returned_imp : (imp : ℕ) (ms : List Message) (s : State) → IsImp imp s → IsImp imp (all_returned ms s)
 all_returned_imp imp [] s is = is
-all_returned_imp imp (m ∷ ms) s is = all_returned_imp imp ms (returned m s) (returned_imp imp m s is)
+all_returned_imp imp (m ∷ ms) s is = all_returned_imp imp ms (message_returned m s) (returned_imp imp m s is)
 
 pub host_down_imp : (imp : ℕ) (s : State) (h : ℕ) → IsImp imp s → IsImp imp (host_down s h).state
 host_down_imp imp s h is =
@@ -249,7 +248,7 @@ opening_queue zero h = refl
 opening_queue (suc count) zero = refl
 opening_queue (suc count) (suc h) = opening_queue count h
 
-pub opening_imp : (own hosts ports : ℕ) → IsImp own (opening own hosts ports)
+pub opening_imp : (own hosts ports : ℕ) → IsImp own (opening_node own hosts ports)
 opening_imp own hosts ports = record {
   own = refl;
   live = refl;

@@ -1,4 +1,4 @@
--- No call spends an IMP, save by want of memory.
+-- No call spends an IMP, save by running out of memory.
 use Rattle.std.proofs.Common.{◌≡◌, ℕ, Bool, true, false, List, [], ◌∷◌, Result, Ok, Err, refl, ◌∙◌}
 use Rattle.std.specs.Prelude.{if◌then◌else◌}
 use Rattle.leader1822.specs.declared.address.Flow.{Flow}
@@ -17,11 +17,11 @@ use Rattle.link_table.specs.declared.source.Release.{Release}
 use Rattle.link_table.specs.declared.source.Release.TheVariants as release
 use Rattle.imp_node.specs.declared.waiting.Message.{Message}
 use Rattle.imp_node.specs.declared.waiting.Told.{Told}
-use Rattle.imp_node.specs.State.{State, Turn, host_at, with_host, port_at}
+use Rattle.imp_node.specs.State.{State, ImpTurn, host_at, with_host, port_at}
 use Rattle.imp_node.specs.Flows.{answered_by}
-use Rattle.imp_node.specs.Arrival.{Arrival, Passing, Old, Undeliverable, Piece, NoSlot, Whole, Unmarked, Answering, arrival, arrived, arrival_has_room, taken, taken_frame, from_line}
+use Rattle.imp_node.specs.Arrival.{Arrival, Passing, Old, Undeliverable, Piece, NoSlot, Whole, Unmarked, Answering, arrival, arrived, arrival_has_room, frame_taken, taken_frame, from_line}
 use Rattle.imp_node.specs.Offering.{Way, Nowhere, Here, Away, way_of, offered, from_host}
-use Rattle.imp_node.specs.Stopping.{returned, all_returned, stopped, host_down}
+use Rattle.imp_node.specs.Stopping.{message_returned, all_returned, stopped, host_down}
 use Rattle.imp_node.specs.Taking.{is_from_here, replied, reply_has_room, taken_by, to_host}
 
 answered_spent : (r : Release) (kind : Answer) (f : Flow) (n : ℕ) (s : State) → (answered_by r kind f n s).spent ≡ s.spent
@@ -45,12 +45,12 @@ arrived_spent (Whole text) p s = refl
 arrived_spent Unmarked p s = refl
 arrived_spent (Answering kind) p s = answered_spent _ kind _ p.number s
 
-turn_spent : (b : Bool) (s : State) (t u : Turn) → t.state.spent ≡ s.spent → u.state.spent ≡ s.spent → (if b then t else u).state.spent ≡ s.spent
+turn_spent : (b : Bool) (s : State) (t u : ImpTurn) → t.state.spent ≡ s.spent → u.state.spent ≡ s.spent → (if b then t else u).state.spent ≡ s.spent
 turn_spent true s t u e h = e
 turn_spent false s t u e h = h
 
 taken_spent : (r : Result Received ChannelFault) (k : ℕ) (f : Frame) (s : State) → (taken_frame r k f s).state.spent ≡ s.spent
-taken_spent (Ok (received.Fresh p)) k f s = turn_spent (arrival_has_room (arrival s p) s p) s _ _ (arrived_spent (arrival s p) p (taken k f s)) refl
+taken_spent (Ok (received.Fresh p)) k f s = turn_spent (arrival_has_room (arrival s p) s p) s _ _ (arrived_spent (arrival s p) p (frame_taken k f s)) refl
 taken_spent (Ok received.Repeat) k f s = refl
 taken_spent (Ok received.AckOnly) k f s = refl
 taken_spent (Ok (received.Routes distances)) k f s = refl
@@ -75,12 +75,12 @@ taken_by_spent h [] [] s = refl
 pub to_host_spent : (s : State) (h : ℕ) → (to_host s h).state.spent ≡ s.spent
 to_host_spent s h = taken_by_spent h (host_at s h).answers (host_at s h).queue s
 
-returned_spent : (m : Message) (s : State) → (returned m s).spent ≡ s.spent
+returned_spent : (m : Message) (s : State) → (message_returned m s).spent ≡ s.spent
 returned_spent m s = either_spent (reply_has_room s m) s (replied answer.Dead kind.Dead m s) s (replied_spent answer.Dead kind.Dead m s) refl
 
 all_returned_spent : (ms : List Message) (s : State) → (all_returned ms s).spent ≡ s.spent
 all_returned_spent [] s = refl
-all_returned_spent (m ∷ others) s = all_returned_spent others (returned m s) ∙ returned_spent m s
+all_returned_spent (m ∷ others) s = all_returned_spent others (message_returned m s) ∙ returned_spent m s
 
 pub host_down_spent : (s : State) (h : ℕ) → (host_down s h).state.spent ≡ s.spent
 host_down_spent s h = all_returned_spent (host_at s h).queue (stopped s h)

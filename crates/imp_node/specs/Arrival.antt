@@ -20,9 +20,9 @@ use Rattle.imp_channel.specs.declared.line.Received.{Received}
 use Rattle.imp_channel.specs.declared.line.Received.TheVariants as received
 use Rattle.routing.specs.RouteTable.{hears}
 use Rattle.imp_node.specs.declared.outgoing.Outgoing.{Outgoing}
-use Rattle.imp_node.specs.State.{State, Turn, number, is_up, port_at, with_port}
+use Rattle.imp_node.specs.State.{State, ImpTurn, number, is_up, port_at, with_port}
 use Rattle.imp_node.specs.Room.{has_room_to, queue_has_room}
-use Rattle.imp_node.specs.Flows.{freed, noted, queued, answer_packet}
+use Rattle.imp_node.specs.Flows.{freed, noted, message_queued, answer_packet}
 use Rattle.imp_node.specs.Pump.{target, stored, pump}
 
 -- ---- what a fresh packet is to the IMP
@@ -99,46 +99,46 @@ arrived Old p s = s
 arrived Undeliverable p s = stored (answer_packet kind.Dead (flow_of p) p.number) (with_number p (without_slot p s))
 arrived Piece p s = with_piece p s
 arrived NoSlot p s = s
-arrived (Whole text) p s = queued (record { flow = flow_of p; number = p.number; text = text }) (with_number p (with_piece p s))
+arrived (Whole text) p s = message_queued (record { flow = flow_of p; number = p.number; text = text }) (with_number p (with_piece p s))
 arrived Unmarked p s = with_number p (with_piece p s)
 arrived (Answering kind) p s = freed kind (flow_of p) p.number s
 
 -- ---- a frame
 
 -- the line's end took the frame: acknowledgement bits freed channels, and the next bit is expected
-abbrev pub taken : ℕ → Frame → State → State
-taken k f s = with_port s k (record (port_at s.ports k) { line = state_after (port_at s.ports k).line f })
+abbrev pub frame_taken : ℕ → Frame → State → State
+frame_taken k f s = with_port s k (record (port_at s.ports k) { line = state_after (port_at s.ports k).line f })
 
 -- the acknowledgement that goes back at once, before the pump
 abbrev pub acknowledged : ℕ → State → List Outgoing
 acknowledged k s = record { port = k; frame = acknowledgement (port_at s.ports k).line } ∷ []
 
 -- the neighbour's distances stand in place of those heard before
-abbrev pub heard : ℕ → List ℕ → State → State
-heard k distances s = record s { routes = hears s.routes k distances }
+abbrev pub vector_heard : ℕ → List ℕ → State → State
+vector_heard k distances s = record s { routes = hears s.routes k distances }
 
 -- nothing changes: the end of the line is down, or the frame counts as lost
-abbrev pub ignored : State → Turn
+abbrev pub ignored : State → ImpTurn
 ignored s = record { state = s; frames = [] }
 
 -- Room is asked for before the frame's acknowledgement bits are taken. Without room the frame counts as lost: it will come again
-abbrev pub fresh : ℕ → Frame → PacketFields → State → Turn
+abbrev pub fresh : ℕ → Frame → PacketFields → State → ImpTurn
 fresh k f p s =
     if arrival_has_room (arrival s p) s p
-    then pump (acknowledged k (taken k f s)) (arrived (arrival s p) p (taken k f s))
+    then pump (acknowledged k (frame_taken k f s)) (arrived (arrival s p) p (frame_taken k f s))
     else ignored s
 
 -- a repeat is acknowledged again; other frames are not acknowledged. (No frame is refused: each channel that it can name is in use)
-abbrev pub taken_frame : Result Received ChannelFault → ℕ → Frame → State → Turn
+abbrev pub taken_frame : Result Received ChannelFault → ℕ → Frame → State → ImpTurn
 taken_frame (Ok (received.Fresh p)) k f s = fresh k f p s
-taken_frame (Ok received.Repeat) k f s = pump (acknowledged k (taken k f s)) (taken k f s)
-taken_frame (Ok received.AckOnly) k f s = pump [] (taken k f s)
-taken_frame (Ok (received.Routes distances)) k f s = pump [] (heard k distances (taken k f s))
+taken_frame (Ok received.Repeat) k f s = pump (acknowledged k (frame_taken k f s)) (frame_taken k f s)
+taken_frame (Ok received.AckOnly) k f s = pump [] (frame_taken k f s)
+taken_frame (Ok (received.Routes distances)) k f s = pump [] (vector_heard k distances (frame_taken k f s))
 taken_frame (Err fault) k f s = ignored s
 
 abbrev pub from_line_refusal : State → ℕ → Option CarrierFault
 from_line_refusal s k = if nat_lt k (length s.ports) then None else Some fault.NoSuch
 
 -- a frame at an end that is down is ignored
-abbrev pub from_line : State → ℕ → Frame → Turn
+abbrev pub from_line : State → ℕ → Frame → ImpTurn
 from_line s k f = if (port_at s.ports k).up then taken_frame (answer_to (port_at s.ports k).line f) k f s else ignored s

@@ -7,7 +7,7 @@ use Rattle.imp_channel.specs.Holding as channels
 use Rattle.imp_node.specs.declared.outgoing.Outgoing.{Outgoing}
 use Rattle.imp_node.specs.declared.port.Port.{Port}
 use Rattle.imp_node.specs.declared.waiting.Message.{Message}
-use Rattle.imp_node.specs.State.{State, Turn}
+use Rattle.imp_node.specs.State.{State, ImpTurn}
 
 -- ---- as lists
 
@@ -28,5 +28,5 @@ abbrev pub packets_on : List Outgoing → List PacketFields
 packets_on frames = flat_map (λ out. channels.carried_by out.frame.content) frames
 
 -- all packets after a turn: in the IMP and on lines
-abbrev pub turn_packets : Turn → List PacketFields
+abbrev pub turn_packets : ImpTurn → List PacketFields
 turn_packets turn = packets turn.state ++ packets_on turn.frames

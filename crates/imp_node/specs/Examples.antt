@@ -11,7 +11,7 @@ use Rattle.packetiser.specs.declared.packet.PacketKind.TheVariants as kind
 use Rattle.imp_channel.specs.declared.frame.Content.TheVariants as content
 use Rattle.imp_channel.specs.declared.frame.Frame.{Frame}
 use Rattle.imp_node.specs.declared.waiting.Message.{Message}
-use Rattle.imp_node.specs.State.{State, Turn, opening, up_host}
+use Rattle.imp_node.specs.State.{State, ImpTurn, opening_node, up_host}
 use Rattle.imp_node.specs.Flows.{answer_packet}
 use Rattle.imp_node.specs.Offering.{from_host}
 use Rattle.imp_node.specs.Arrival.{from_line}
@@ -80,7 +80,7 @@ from_3_near_2 = 16 ∷ 1 ∷ 0 ∷ replicate 13 16
 
 -- an IMP with two hosts, which heard this on its ports, and with these waiting packets
 abbrev pub imp : ℕ → List (Option (List ℕ)) → List PacketFields → State
-imp own heard store = record (opening own 2 (length heard)) { routes = record { own = own; heard = heard }; store = store }
+imp own heard store = record (opening_node own 2 (length heard)) { routes = record { own = own; heard = heard }; store = store }
 
 -- IMP 1 with port 0 to IMP 2 and port 1 to IMP 3, each heard, after it has stored this many packets for IMP 2
 abbrev pub busy : ℕ → State
@@ -92,11 +92,11 @@ messages_between from to count = map (λ link. record { flow = flow from to link
 
 -- IMP 1 with its two hosts and no line, where these messages wait for host 1
 abbrev pub queueing : List Message → State
-queueing queue = record (opening 1 2 0) { hosts = up_host ∷ record up_host { queue = queue } ∷ [] }
+queueing queue = record (opening_node 1 2 0) { hosts = up_host ∷ record up_host { queue = queue } ∷ [] }
 
 -- IMP 1 with port 0 to IMP 2, which it has heard, and two hosts; these messages wait for host 0
 abbrev pub serving : List Message → State
-serving queue = record (opening 1 2 1) { hosts = record up_host { queue = queue } ∷ up_host ∷ []; routes = record { own = 1; heard = Some from_2 ∷ [] } }
+serving queue = record (opening_node 1 2 1) { hosts = record up_host { queue = queue } ∷ up_host ∷ []; routes = record { own = 1; heard = Some from_2 ∷ [] } }
 
 -- slots of so many flows, each with the first packet of a longer message
 abbrev pub slots_of : ℕ → List SlotState
@@ -110,9 +110,9 @@ abbrev pub empty_message : Flow → HostMessage
 empty_message f = record { flow = f; text = [] }
 
 -- IMP 1 with port 0 to IMP 2, after its host 0 has sent an empty message to host 0 at IMP 2 on link 7
-abbrev pub sent : State
-sent = (from_host (imp 1 (Some from_2 ∷ []) []) (empty_message (flow (host 0 1) (host 0 2) 7))).state
+abbrev pub sent_imp : State
+sent_imp = (from_host (imp 1 (Some from_2 ∷ []) []) (empty_message (flow (host 0 1) (host 0 2) 7))).state
 
 -- and after an RFNM to that message, with this number
-abbrev pub answered : ℕ → Turn
-answered n = from_line sent 0 (packet_frame 0 (answer_packet kind.Rfnm (flow (host 0 1) (host 0 2) 7) n))
+abbrev pub sent_answered : ℕ → ImpTurn
+sent_answered n = from_line sent_imp 0 (packet_frame 0 (answer_packet kind.Rfnm (flow (host 0 1) (host 0 2) 7) n))

@@ -8,7 +8,7 @@ use Rattle.std.specs.List.{list_any}
 use Rattle.leader1822.specs.Flow.{same_flow}
 use Rattle.leader1822.specs.declared.address.Flow.{Flow}
 use Rattle.leader1822.specs.declared.crossing.Answer.{Answer}
-use Rattle.link_table.specs.Flows.{is_idle_in, number_in, release_in, begun, answered, handed}
+use Rattle.link_table.specs.Flows.{is_idle_in, number_in, release_in, begun, flow_answered, handed}
 use Rattle.link_table.specs.declared.source.Release.{Release}
 use Rattle.link_table.specs.declared.source.Release.TheVariants as release
 use Rattle.packetiser.specs.PacketFields.{PacketFields}
@@ -39,8 +39,8 @@ abbrev pub given : HostState → Told → HostState
 given h told = record h { answers = if h.up then h.answers ++ told ∷ [] else h.answers }
 
 -- An answer waits for the source of its flow. Where the source is down, the flow is idle at once
-abbrev pub told : Answer → Flow → State → State
-told kind f s = record s {
+abbrev pub answer_queued : Answer → Flow → State → State
+answer_queued kind f s = record s {
   hosts = slice_set s.hosts f.source.host (given (host_at s f.source.host) (record { kind = kind; flow = f }));
   sources = if is_up s f.source.host then s.sources else handed s.sources f;
 }
@@ -48,7 +48,7 @@ told kind f s = record s {
 -- An answer to the message of this number comes to its flow: with the outstanding number it frees the flow, with any other it
 -- is stale
 abbrev pub answered_by : Release → Answer → Flow → ℕ → State → State
-answered_by release.Freed kind f n s = told kind f (record s { sources = answered s.sources f n })
+answered_by release.Freed kind f n s = answer_queued kind f (record s { sources = flow_answered s.sources f n })
 answered_by release.Stale kind f n s = s
 
 abbrev pub freed : Answer → Flow → ℕ → State → State
@@ -61,8 +61,8 @@ abbrev pub noted : Flow → ℕ → State → State
 noted f n s = record s { kept = map.insert s.kept f n }
 
 -- a whole message waits for its host behind the others
-abbrev pub queued : Message → State → State
-queued m s = record s {
+abbrev pub message_queued : Message → State → State
+message_queued m s = record s {
   hosts = slice_set s.hosts m.flow.destination.host (record (host_at s m.flow.destination.host) { queue = (host_at s m.flow.destination.host).queue ++ m ∷ [] });
 }
 

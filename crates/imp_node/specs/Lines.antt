@@ -8,7 +8,7 @@ use Rattle.imp_channel.specs.declared.frame.Frame.{Frame}
 use Rattle.routing.specs.RouteTable.{vector_of, loses}
 use Rattle.imp_node.specs.declared.outgoing.Outgoing.{Outgoing}
 use Rattle.imp_node.specs.declared.port.Port.{Port}
-use Rattle.imp_node.specs.State.{State, Turn, port_at, down_port, with_port}
+use Rattle.imp_node.specs.State.{State, ImpTurn, port_at, down_port, with_port}
 use Rattle.imp_node.specs.Pump.{pump}
 
 abbrev pub on_port : ℕ → Frame → Outgoing
@@ -24,7 +24,7 @@ abbrev pub resent_from : ℕ → List Port → List Outgoing
 resent_from k [] = []
 resent_from k (port ∷ ports) = resent_by k port ++ resent_from (k + 1) ports
 
-abbrev pub resend : State → Turn
+abbrev pub resend : State → ImpTurn
 resend s = pump (resent_from 0 s.ports) s
 
 -- ---- route: the IMP's distances on each line that is live here
@@ -37,7 +37,7 @@ abbrev pub told_from : List ℕ → ℕ → List Port → List Outgoing
 told_from distances k [] = []
 told_from distances k (port ∷ ports) = told_by distances k port ++ told_from distances (k + 1) ports
 
-abbrev pub route : State → Turn
+abbrev pub route : State → ImpTurn
 route s = pump (told_from (vector_of s.routes) 0 s.ports) s
 
 -- ---- an end goes down or up
@@ -53,12 +53,12 @@ end_up_refusal s k = end_refusal s k (if (port_at s.ports k).up then Some fault.
 
 -- The packets of its channels wait behind those that wait already, for other routes. The end is as just reset, and the
 -- distances that were heard on it are forgotten
-abbrev pub end_down : State → ℕ → Turn
+abbrev pub end_down : State → ℕ → ImpTurn
 end_down s k = pump [] (record s {
   ports = slice_set s.ports k down_port;
   routes = loses s.routes k;
   store = s.store ++ packets_in (port_at s.ports k).line.sending;
 })
 
-abbrev pub end_up : State → ℕ → Turn
+abbrev pub end_up : State → ℕ → ImpTurn
 end_up s k = pump [] (with_port s k (record (port_at s.ports k) { up = true }))

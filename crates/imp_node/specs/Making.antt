@@ -12,7 +12,7 @@ use Rattle.imp_channel.specs.Holding.{carried_by}
 use Rattle.imp_channel.specs.declared.frame.Frame.{Frame}
 use Rattle.imp_node.specs.declared.waiting.Message.{Message}
 use Rattle.imp_node.specs.declared.waiting.Told.{Told}
-use Rattle.imp_node.specs.State.{State, Turn, host_at}
+use Rattle.imp_node.specs.State.{State, ImpTurn, host_at}
 use Rattle.imp_node.specs.Flows.{answer_packet, next_number}
 use Rattle.imp_node.specs.Offering.{Way, Nowhere, Here, Away, way_of}
 use Rattle.imp_node.specs.Arrival.{Arrival, Passing, Old, Undeliverable, Piece, NoSlot, Whole, Unmarked, Answering, arrival}
@@ -20,7 +20,7 @@ use Rattle.imp_node.specs.Taking.{is_from_here}
 use Rattle.imp_node.specs.Contents.{packets, turn_packets}
 
 -- after this turn of an IMP nothing is in it and in its frames but what was in it and these packets
-abbrev pub Leaves : State → List PacketFields → Turn → Type 0
+abbrev pub Leaves : State → List PacketFields → ImpTurn → Type 0
 Leaves s made turn = AreAmong (turn_packets turn) (packets s ++ made)
 
 -- a message that goes over lines is cut into its packets

@@ -8,9 +8,9 @@ use Rattle.leader1822.specs.declared.carrier.CarrierFault.TheVariants as fault
 use Rattle.leader1822.specs.declared.crossing.Answer.TheVariants as answer
 use Rattle.leader1822.specs.declared.message.HostMessage.{HostMessage}
 use Rattle.packetiser.specs.Pieces.{piece_count, packets_of}
-use Rattle.imp_node.specs.State.{State, Turn, number, is_there, is_up}
+use Rattle.imp_node.specs.State.{State, ImpTurn, number, is_there, is_up}
 use Rattle.imp_node.specs.Room.{has_room, has_route, queue_has_room}
-use Rattle.imp_node.specs.Flows.{is_idle, next_number, with_begun, told, noted, queued}
+use Rattle.imp_node.specs.Flows.{is_idle, next_number, with_begun, answer_queued, noted, message_queued}
 use Rattle.imp_node.specs.Pump.{pump}
 
 -- ---- where a message goes
@@ -20,7 +20,7 @@ pub data Way : Type 0 where
   Nowhere : Way
   -- to a host of this IMP
   Here : Way
-  -- over lines
+  -- to another IMP, over lines
   Away : Way
 
 abbrev pub way_of : State → Flow → Way
@@ -54,12 +54,12 @@ from_host_refusal s m =
 -- To nowhere: no number is begun, and Dead waits for the source at once. To a host of this IMP: the number is begun and noted, and
 -- the message waits for the host. Over lines: the number is begun, and all packets of the message go into the store
 abbrev pub offered : Way → HostMessage → State → State
-offered Nowhere m s = told answer.Dead m.flow s
+offered Nowhere m s = answer_queued answer.Dead m.flow s
 offered Here m s =
-    queued (record { flow = m.flow; number = next_number s m.flow; text = m.text }) (noted m.flow (next_number s m.flow) (with_begun m.flow s))
+    message_queued (record { flow = m.flow; number = next_number s m.flow; text = m.text }) (noted m.flow (next_number s m.flow) (with_begun m.flow s))
 offered Away m s = record (with_begun m.flow s) { store = s.store ++ packets_of m.flow (next_number s m.flow) (body m.text) }
 
-abbrev pub from_host : State → HostMessage → Turn
+abbrev pub from_host : State → HostMessage → ImpTurn
 from_host s m = pump [] (offered (way_of s m.flow) m s)
 
 -- a message, or the Dead in its place, is always put somewhere

@@ -9,7 +9,7 @@ use Rattle.routing.specs.RouteTable.{Table, next_of}
 use Rattle.imp_node.specs.declared.outgoing.Outgoing.{Outgoing}
 use Rattle.imp_node.specs.declared.port.Port.{Port}
 use Rattle.imp_node.specs.Room.{has_route}
-use Rattle.imp_node.specs.State.{State, Turn, port_at}
+use Rattle.imp_node.specs.State.{State, ImpTurn, port_at}
 
 -- the IMP that a packet is for: a piece travels to its message's destination, an answer back to the source
 abbrev pub target_by : PacketKind → PacketFields → ℕ
@@ -42,9 +42,9 @@ sent_on ports k p (Some (end, frame)) = record {
 }
 
 -- without a live route it is dropped
-abbrev pub sent : List Port → PacketFields → Option ℕ → Pumped
-sent ports p None = record { ports = ports; waits = []; frames = [] }
-sent ports p (Some k) = sent_on ports k p (submitted (port_at ports k).line p)
+abbrev pub packet_sent : List Port → PacketFields → Option ℕ → Pumped
+packet_sent ports p None = record { ports = ports; waits = []; frames = [] }
+packet_sent ports p (Some k) = sent_on ports k p (submitted (port_at ports k).line p)
 
 abbrev pub and_then : Pumped → Pumped → Pumped
 and_then first rest = record { ports = rest.ports; waits = first.waits ++ rest.waits; frames = first.frames ++ rest.frames }
@@ -53,10 +53,10 @@ and_then first rest = record { ports = rest.ports; waits = first.waits ++ rest.w
 abbrev pub pumped : Table → List Port → List PacketFields → Pumped
 pumped routes ports [] = record { ports = ports; waits = []; frames = [] }
 pumped routes ports (p ∷ ps) =
-    and_then (sent ports p (next_of routes (target p))) (pumped routes (sent ports p (next_of routes (target p))).ports ps)
+    and_then (packet_sent ports p (next_of routes (target p))) (pumped routes (packet_sent ports p (next_of routes (target p))).ports ps)
 
 -- every call of an IMP ends so. The frames that the call itself puts on lines go first
-abbrev pub pump : List Outgoing → State → Turn
+abbrev pub pump : List Outgoing → State → ImpTurn
 pump frames s = record {
   state = record s { ports = (pumped s.routes s.ports s.store).ports; store = (pumped s.routes s.ports s.store).waits };
   frames = frames ++ (pumped s.routes s.ports s.store).frames;

@@ -67,7 +67,7 @@ ended_with kind s = told_with kind (record s { outstanding = None })
 abbrev pub noted_with : ℕ → Receiver → Receiver
 noted_with n r = record r { kept = Some n }
 
--- a message waits
+-- a message waits behind the others
 abbrev pub queued_with : Message → Receiver → Receiver
 queued_with m r = record r { queue = r.queue ++ m ∷ [] }
 
@@ -78,7 +78,7 @@ pub record Unmoved (s t : State) (f : Flow) : Type 0 where
   pub sender : sender t f ≡ sender s f
   pub receiver : receiver t f ≡ receiver s f
 
--- all flows do
+-- all flows stay as they were
 abbrev pub AllUnmoved : State → State → Type 0
 AllUnmoved s t = (f : Flow) → Unmoved s t f
 

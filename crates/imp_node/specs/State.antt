@@ -21,7 +21,7 @@ pub record HostState : Type 0 where
   pub queue : List Message
 
 pub record State : Type 0 where
-  -- want of memory came in some call before: nothing is said of what the IMP keeps, and it is not to be used again
+  -- memory ran out in an earlier call: nothing is said of what the IMP keeps, and it is not to be used again
   pub spent : Bool
   -- its hosts: 0, 1 and so on
   pub hosts : List HostState
@@ -39,13 +39,13 @@ pub record State : Type 0 where
   pub kept : Destinations
 
 -- an IMP after a call, and the frames that the call puts on lines, in their order
-pub record Turn : Type 0 where
+pub record ImpTurn : Type 0 where
   pub state : State
   pub frames : List Outgoing
 
 -- ---- reading it
 
--- its number
+-- the IMP's own number
 abbrev pub number : State → ℕ
 number s = s.routes.own
 
@@ -68,7 +68,7 @@ with_host s h host = record s { hosts = slice_set s.hosts h host }
 
 -- an end that is down: its line was just reset
 abbrev pub down_port : Port
-down_port = record { up = false; line = line.opening }
+down_port = record { up = false; line = line.opening_end }
 
 abbrev pub port_at : List Port → ℕ → Port
 port_at ports k = slice_index_or ports k down_port
@@ -82,15 +82,15 @@ abbrev pub up_host : HostState
 up_host = record { up = true; answers = []; queue = [] }
 
 abbrev pub up_port : Port
-up_port = record { up = true; line = line.opening }
+up_port = record { up = true; line = line.opening_end }
 
 -- IMP `own` with so many hosts and ports: all hosts and ends of lines are up, and nothing was heard, begun or taken
-abbrev pub opening : ℕ → ℕ → ℕ → State
-opening own hosts ports = record {
+abbrev pub opening_node : ℕ → ℕ → ℕ → State
+opening_node own hosts ports = record {
   spent = false;
   hosts = replicate hosts up_host;
   ports = replicate ports up_port;
-  routes = table.opening own ports;
+  routes = table.opening_table own ports;
   store = [];
   slots = [];
   sources = map.empty;

@@ -12,8 +12,8 @@ use Rattle.packetiser.specs.Slots.{slot_of, without}
 use Rattle.packetiser.specs.declared.packet.PacketKind.TheVariants as kind
 use Rattle.imp_node.specs.declared.waiting.Message.{Message}
 use Rattle.imp_node.specs.declared.waiting.Told.{Told}
-use Rattle.imp_node.specs.State.{State, Turn, number, no_host, host_at, is_there, is_up, with_host}
-use Rattle.imp_node.specs.Flows.{told}
+use Rattle.imp_node.specs.State.{State, ImpTurn, number, no_host, host_at, is_there, is_up, with_host}
+use Rattle.imp_node.specs.Flows.{answer_queued}
 use Rattle.imp_node.specs.Offering.{is_own}
 use Rattle.imp_node.specs.Pump.{pump}
 use Rattle.imp_node.specs.Taking.{host_refusal, replied, reply_has_room}
@@ -27,8 +27,8 @@ give_up_refusal s f =
     else None)
 
 -- the outstanding message is given up: Incomplete waits for its source, if that is up
-abbrev pub give_up : State → Flow → Turn
-give_up s f = pump [] (told answer.Incomplete f (record s { sources = given_up s.sources f }))
+abbrev pub give_up : State → Flow → ImpTurn
+give_up s f = pump [] (answer_queued answer.Incomplete f (record s { sources = given_up s.sources f }))
 
 -- ---- forget and abandon, at the destination
 
@@ -36,14 +36,14 @@ abbrev pub forget_refusal : State → ℕ → Option CarrierFault
 forget_refusal s imp = if imp == number s then Some fault.NoSuch else None
 
 -- the last numbers of flows from another IMP are dropped
-abbrev pub forget : State → ℕ → Turn
+abbrev pub forget : State → ℕ → ImpTurn
 forget s imp = pump [] (record s { kept = drop_from imp s.kept })
 
 abbrev pub abandon_refusal : State → Flow → Option CarrierFault
 abandon_refusal s f = if is_some (slot_of s.slots f) then None else Some fault.NoSuch
 
 -- the flow's slot is thrown away
-abbrev pub abandon : State → Flow → Turn
+abbrev pub abandon : State → Flow → ImpTurn
 abandon s f = pump [] (record s { slots = without s.slots f })
 
 -- ---- a host goes down
@@ -57,18 +57,18 @@ all_handed [] sources = sources
 all_handed (told ∷ others) sources = all_handed others (handed sources told.flow)
 
 -- each message that nobody will take gives its source Dead, where there is room for that, one after another
-abbrev pub returned : Message → State → State
-returned m s = if reply_has_room s m then replied answer.Dead kind.Dead m s else s
+abbrev pub message_returned : Message → State → State
+message_returned m s = if reply_has_room s m then replied answer.Dead kind.Dead m s else s
 
 abbrev pub all_returned : List Message → State → State
 all_returned [] s = s
-all_returned (m ∷ others) s = all_returned others (returned m s)
+all_returned (m ∷ others) s = all_returned others (message_returned m s)
 
 -- Its answers and messages are cleared, and the host counts as down before its messages give Dead
 abbrev pub stopped : State → ℕ → State
 stopped s h = record (with_host s h no_host) { sources = all_handed (host_at s h).answers s.sources }
 
-abbrev pub host_down : State → ℕ → Turn
+abbrev pub host_down : State → ℕ → ImpTurn
 host_down s h = pump [] (all_returned (host_at s h).queue (stopped s h))
 
 -- ---- a host comes up
@@ -77,7 +77,7 @@ host_down s h = pump [] (all_returned (host_at s h).queue (stopped s h))
 abbrev pub own_host : State → ℕ → Host
 own_host s h = record { imp = number s; host = h }
 
--- it is unsettled while a message of it is outstanding
+-- it comes up only when none of its messages is outstanding
 abbrev pub host_up_refusal : State → ℕ → Option CarrierFault
 host_up_refusal s h =
     if not (is_there s h) then Some fault.NoSuch
@@ -85,5 +85,5 @@ host_up_refusal s h =
     else (if has_outstanding (own_host s h) s.sources then Some fault.Unsettled
     else None))
 
-abbrev pub host_up : State → ℕ → Turn
+abbrev pub host_up : State → ℕ → ImpTurn
 host_up s h = pump [] (with_host s h (record (host_at s h) { up = true }))

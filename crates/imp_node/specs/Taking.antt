@@ -11,7 +11,7 @@ use Rattle.packetiser.specs.declared.packet.PacketKind.{PacketKind}
 use Rattle.packetiser.specs.declared.packet.PacketKind.TheVariants as kind
 use Rattle.imp_node.specs.declared.waiting.Message.{Message}
 use Rattle.imp_node.specs.declared.waiting.Told.{Told}
-use Rattle.imp_node.specs.State.{State, Turn, number, host_at, is_there, is_up, with_host}
+use Rattle.imp_node.specs.State.{State, ImpTurn, number, host_at, is_there, is_up, with_host}
 use Rattle.imp_node.specs.Room.{has_room_to}
 use Rattle.imp_node.specs.Flows.{freed, answer_packet}
 use Rattle.imp_node.specs.Pump.{stored, pump}
@@ -64,5 +64,5 @@ taken_by h (told ∷ others) queue s = record (with_host s h (record (host_at s 
 taken_by h [] (m ∷ others) s = replied answer.Rfnm kind.Rfnm m (with_host s h (record (host_at s h) { queue = others }))
 taken_by h [] [] s = s
 
-abbrev pub to_host : State → ℕ → Turn
+abbrev pub to_host : State → ℕ → ImpTurn
 to_host s h = pump [] (taken_by h (host_at s h).answers (host_at s h).queue s)

@@ -1,4 +1,4 @@
--- How a call of an IMP ends, and which calls may want memory.
+-- How a call of an IMP ends, and which calls may run out of memory.
 use Rattle.std.specs.Prelude.{◌≡◌, ℕ, Bool, true, false, List, [], ◌∷◌, length, Option, Some, None, Result, Ok, Err, nat_lt, ◌||◌}
 use Rattle.leader1822.specs.declared.address.Flow.{Flow}
 use Rattle.leader1822.specs.declared.carrier.CarrierFault.{CarrierFault}
@@ -8,14 +8,14 @@ use Rattle.imp_channel.specs.declared.frame.Frame.{Frame}
 use Rattle.imp_node.specs.declared.outgoing.Outgoing.{Outgoing}
 use Rattle.imp_node.specs.declared.waiting.Message.{Message}
 use Rattle.imp_node.specs.declared.waiting.Told.{Told}
-use Rattle.imp_node.specs.State.{State, Turn, host_at, is_up, port_at}
+use Rattle.imp_node.specs.State.{State, ImpTurn, host_at, is_up, port_at}
 use Rattle.imp_node.specs.Arrival.{from_line}
 use Rattle.imp_node.specs.Taking.{to_host}
 use Rattle.imp_node.specs.Lines.{resend, route, end_down, end_up}
 use Rattle.imp_node.specs.Stopping.{give_up, forget, abandon, host_down, host_up}
 
 -- A call that is refused for `refusal`, and else gives a value with this property. The first refusal of the list is given, and
--- leaves the IMP as it was. Want of memory comes last, only where something grows, and leaves the IMP spent: nothing else is
+-- leaves the IMP as it was. Running out of memory comes last, only where something grows, and leaves the IMP spent: nothing else is
 -- said of it then
 abbrev pub Turned : {T : Type 0} → Option CarrierFault → Bool → (T → Type 0) → State → State → Result T CarrierFault → Type 0
 Turned refusal grows Gives old new (Ok x) = (refusal ≡ None) × Gives x
@@ -23,13 +23,13 @@ Turned refusal grows Gives old new (Err fault.OutOfMemory) = (refusal ≡ None) 
 Turned refusal grows Gives old new (Err e) = (refusal ≡ Some e) × (new ≡ old)
 
 -- the IMP and the frames are those of this turn
-abbrev pub Takes : Turn → State → List Outgoing → Type 0
+abbrev pub Takes : ImpTurn → State → List Outgoing → Type 0
 Takes turn new frames = (new ≡ turn.state) × (frames ≡ turn.frames)
 
 -- ---- memory
 
 -- a turn puts a frame on some line: this alone may take memory in any call
-abbrev pub sends : Turn → Bool
+abbrev pub sends : ImpTurn → Bool
 sends turn = nat_lt 0 (length turn.frames)
 
 -- a message that is taken makes an RFNM

@@ -8,10 +8,10 @@ ghost use Rattle.packetiser.specs.Slots.{answer_of};
 ghost use Rattle.packetiser.specs.declared.packet.PacketKind.TheVariants as kind;
 ghost use Rattle.imp_channel.specs.Line.{answer_to, acknowledgement};
 ghost use Rattle.imp_node.specs.State.{is_up, port_at};
-ghost use Rattle.imp_node.specs.Flows.{noted, queued};
+ghost use Rattle.imp_node.specs.Flows.{noted, message_queued};
 ghost use Rattle.imp_node.specs.Room.{queue_has_room};
 ghost use Rattle.imp_node.specs.Arrival as arrivals;
-ghost use Rattle.imp_node.specs.Arrival.{arrival, arrived, data_arrival, piece_arrival, arrival_has_room, acknowledged, taken};
+ghost use Rattle.imp_node.specs.Arrival.{arrival, arrived, data_arrival, piece_arrival, arrival_has_room, acknowledged, frame_taken};
 ghost use Rattle.imp_node.specs.Turns.{Turned, Takes, from_line_grows};
 ghost use Rattle.imp_node.specs.Inside.Parts.{IsPacketFlow};
 ghost use Rattle.imp_node.specs.Inside.Arriving.{lost_by, has_place, turned_away, completed};
@@ -133,7 +133,7 @@ impl Imp {
     /// The line's end at a port takes a frame.
     fn receive(&mut self, port: u8, frame: Frame) -> Received
         requires { port < length self.old.ports }
-        ensures state { self.new ≡ taken port frame self.old }
+        ensures state { self.new ≡ frame_taken port frame self.old }
         ensures answer { answer_to (port_at self.old.ports port).line frame ≡ Ok result }
     {
         self.ports[port as usize].line.receive(frame)

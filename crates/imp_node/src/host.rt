@@ -164,7 +164,7 @@ impl Host {
         mem::replace(&mut self.answers, VecDeque::new(alloc))
     }
 
-    /// Takes all messages.
+    /// Takes all messages that wait for the host.
     pub(crate) fn take_queue(
         &mut self,
         alloc: Global,

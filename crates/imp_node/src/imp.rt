@@ -59,11 +59,11 @@ impl Imp {
     /// The IMP with this number, 1 to 16, with so many hosts, at most four, and so many ports. All hosts and
     /// ends of lines are up, and nothing was heard, begun or taken.
     ///
-    /// Errors: want of memory alone.
+    /// Errors: memory runs out, and nothing else.
     pub fn new(alloc: Global, own: ImpNumber, hosts: u8, ports: u8) -> Result<Imp, AllocError>
         requires imp { own ≤ greatest_imp }
         requires hosts { hosts ≤ 4 }
-        ensures { IfOk result (λ imp. imp ≡ states.opening own hosts ports) }
+        ensures { IfOk result (λ imp. imp ≡ states.opening_node own hosts ports) }
     {
         Ok(Imp {
             hosts: up_hosts(alloc, hosts)?,
@@ -78,7 +78,7 @@ impl Imp {
         })
     }
 
-    /// Its number.
+    /// The IMP's own number, 1 to 16.
     pub(crate) fn number(&self) -> u8
         ensures number { result ≡ states.number self.now }
         ensures within { (1 ≤ result) × (result ≤ greatest_imp) }

@@ -15,7 +15,7 @@ ghost use Rattle.leader1822.specs.declared.crossing.Inbound.TheVariants as inbou
 ghost use Rattle.packetiser.specs.declared.packet.PacketKind.TheVariants as kind;
 ghost use Rattle.imp_channel.specs.declared.frame.Content.TheVariants as content;
 ghost use Rattle.imp_node.specs.Arrival.{arrival, from_line, from_line_refusal, ignored};
-ghost use Rattle.imp_node.specs.Examples.{host, flow, only_packet, first_packet, unmarked_packet, packets_to, packet_frame, ack_frame, from_1, from_2, from_3, from_3_near_2, imp, busy, messages_between, queueing, serving, slots_of, empty_message, sent, answered};
+ghost use Rattle.imp_node.specs.Examples.{host, flow, only_packet, first_packet, unmarked_packet, packets_to, packet_frame, ack_frame, from_1, from_2, from_3, from_3_near_2, imp, busy, messages_between, queueing, serving, slots_of, empty_message, sent_imp, sent_answered};
 ghost use Rattle.imp_node.specs.Flows.{answer_packet, is_idle, next_number};
 ghost use Rattle.imp_node.specs.Lines.{on_port, route, resend, end_down, end_up, end_down_refusal, end_up_refusal};
 ghost use Rattle.imp_node.specs.Contents.{packets, messages};
@@ -24,8 +24,8 @@ ghost use Rattle.imp_node.specs.Offering.{begins, way_of, way_has_room, from_hos
 ghost use Rattle.imp_node.specs.Pump.{pump};
 ghost use Rattle.imp_node.specs.Queries.{outstanding, last, packet_has, message_has, holds, is_data_between, is_message_between, holds_data, packet_touches, message_touches, touches};
 ghost use Rattle.imp_node.specs.Room.{stored_count};
-ghost use Rattle.imp_node.specs.State.{State, host_at, is_up, opening};
-ghost use Rattle.imp_node.specs.Stopping.{give_up, give_up_refusal, forget_refusal, abandon_refusal, host_down_refusal, host_up_refusal, forget, abandon, stopped, returned, host_down, host_up};
+ghost use Rattle.imp_node.specs.State.{State, host_at, is_up, opening_node};
+ghost use Rattle.imp_node.specs.Stopping.{give_up, give_up_refusal, forget_refusal, abandon_refusal, host_down_refusal, host_up_refusal, forget, abandon, stopped, message_returned, host_down, host_up};
 ghost use Rattle.imp_node.specs.Sides.{IsImp, sender, receiver, answers_of, ended_with, AllUnmoved, Moved};
 ghost use Rattle.imp_node.specs.Moves.{OfferMoves, ArrivalSays, FrameMoves, TellingMoves, Becomes, without_first, sender_told, source_down, destination_down, source_up, destination_up};
 ghost use Rattle.imp_node.specs.declared.waiting.Message.{Message};
@@ -61,7 +61,7 @@ pub fn holding()
     ensures host_up { (s : State) (h : ℕ) → Leaves s [] (host_up s h) }
 
     // an IMP begins without any
-    ensures opening { (own hosts ports : ℕ) → packets (opening own hosts ports) ≡ [] }
+    ensures opening { (own hosts ports : ℕ) → packets (opening_node own hosts ports) ≡ [] }
 {}
 
 /// How each call moves the flows of an IMP: what becomes of the named flow at its source and at its
@@ -80,7 +80,7 @@ pub fn moving()
     // else the oldest message: its flow has one message less, and its source is told where it is at this IMP
     ensures message_taken { (s : State) (h : ℕ) (m : Message) (others : List Message) → is_up s h ≡ true → (host_at s h).answers ≡ [] → (host_at s h).queue ≡ m ∷ others → m.flow.destination.host ≡ h → Moved s (to_host s h).state m.flow (sender_told (is_from_here s m) (release_in m.number (map.get s.sources m.flow)) answer.Rfnm (sender s m.flow)) (without_first others m.flow (receiver s m.flow)) }
 
-    // else nothing
+    // if neither waits, nothing changes
     ensures nothing_taken { (s : State) (h : ℕ) → (host_at s h).answers ≡ [] → (host_at s h).queue ≡ [] → AllUnmoved s (to_host s h).state }
 
     // the outstanding message of a flow is given up, or last numbers are forgotten
@@ -89,7 +89,7 @@ pub fn moving()
 
     // a host goes down by these two steps: it stops, and then the source of each message that waited for it is told
     ensures stopped { (s : State) (h : ℕ) (f : Flow) → Becomes s (stopped s h) f (source_down (f.source.host == h) (sender s f)) (destination_down (f.destination.host == h) (receiver s f)) }
-    ensures returned { (m : Message) (s : State) → TellingMoves answer.Dead m s (returned m s) }
+    ensures returned { (m : Message) (s : State) → TellingMoves answer.Dead m s (message_returned m s) }
 
     // a host comes up
     ensures host_up { (s : State) (h : ℕ) (f : Flow) → h < length s.hosts → Becomes s (host_up s h).state f (source_up (f.source.host == h) (sender s f)) (destination_up (f.destination.host == h) (receiver s f)) }
@@ -106,7 +106,7 @@ pub fn moving()
 /// each answer waits for the source of its flow and each message for its destination, and its slots hold
 /// pieces of one message each.
 pub fn sound()
-    ensures opening { (own hosts ports : ℕ) → IsImp own (opening own hosts ports) }
+    ensures opening { (own hosts ports : ℕ) → IsImp own (opening_node own hosts ports) }
 
     // from a host of the IMP
     ensures from_host { (imp : ℕ) (s : State) (m : HostMessage) → from_host_refusal s m ≡ None → IsImp imp s → IsImp imp (from_host s m).state }
@@ -137,7 +137,7 @@ pub fn asking()
     ensures touched { (s : State) (imp : ℕ) → touches s imp ≡ true → Any (λ p. packet_touches imp p ≡ true) (packets s) ⊎ Any (λ m. message_touches imp m ≡ true) (messages s) }
     ensures untouched { (s : State) (imp : ℕ) → touches s imp ≡ false → All (λ p. packet_touches imp p ≡ false) (packets s) × All (λ m. message_touches imp m ≡ false) (messages s) }
 
-    // a message of a flow that begins is refused for want of room alone, and else begins the next number
+    // a message of a flow that begins is refused only if there is no room, and else begins the next number
     ensures begins { (s : State) (m : HostMessage) → begins s m.flow ≡ true → from_host_refusal s m ≡ (if way_has_room (way_of s m.flow) s m then None else Some fault.NoRoom) }
     ensures number { (s : State) (m : HostMessage) → begins s m.flow ≡ true → last (from_host s m).state m.flow ≡ Some (next_number s m.flow) }
 
@@ -193,7 +193,7 @@ pub fn worked_routes()
     // the middle one of three IMPs in a row
     ensures told { (route (imp 2 (Some from_1 ∷ Some from_3 ∷ []) [])).frames ≡ map (λ k. on_port k (record { acks = replicate 8 false; content = content.Routes (1 ∷ 0 ∷ 1 ∷ replicate 13 16) })) (0 ∷ 1 ∷ []) }
 
-    // a packet in a channel of a line that goes down takes the line of another neighbour that knows the way
+    // a packet in a channel of a line that goes down takes the line of another neighbour that knows a route
     ensures rerouted { (end_down (pump [] (imp 1 (Some from_2 ∷ Some from_3_near_2 ∷ []) (packets_to 2 1))).state 0).frames ≡ on_port 1 (packet_frame 0 (only_packet (flow (host 0 1) (host 0 2) 0) 0)) ∷ [] }
 
     // and is dropped where none does
@@ -269,27 +269,27 @@ pub fn worked_hosts()
 /// message to host 0 at IMP 2 on link 7.
 pub fn worked_flows()
     // it is outstanding with number 0, and the next one is blocked
-    ensures begun { outstanding sent (flow (host 0 1) (host 0 2) 7) ≡ Some 0 }
-    ensures blocked { from_host_refusal sent (empty_message (flow (host 0 1) (host 0 2) 7)) ≡ Some fault.Blocked }
+    ensures begun { outstanding sent_imp (flow (host 0 1) (host 0 2) 7) ≡ Some 0 }
+    ensures blocked { from_host_refusal sent_imp (empty_message (flow (host 0 1) (host 0 2) 7)) ≡ Some fault.Blocked }
 
     // an RFNM with its number waits for the host, and ends it; the next message is blocked until the host took it
-    ensures rfnm { (host_at (answered 0).state 0).answers ≡ record { kind = answer.Rfnm; flow = flow (host 0 1) (host 0 2) 7 } ∷ [] }
-    ensures ended { outstanding (answered 0).state (flow (host 0 1) (host 0 2) 7) ≡ None }
-    ensures waits { begins (answered 0).state (flow (host 0 1) (host 0 2) 7) ≡ false }
-    ensures again { begins (to_host (answered 0).state 0).state (flow (host 0 1) (host 0 2) 7) ≡ true }
+    ensures rfnm { (host_at (sent_answered 0).state 0).answers ≡ record { kind = answer.Rfnm; flow = flow (host 0 1) (host 0 2) 7 } ∷ [] }
+    ensures ended { outstanding (sent_answered 0).state (flow (host 0 1) (host 0 2) 7) ≡ None }
+    ensures waits { begins (sent_answered 0).state (flow (host 0 1) (host 0 2) 7) ≡ false }
+    ensures again { begins (to_host (sent_answered 0).state 0).state (flow (host 0 1) (host 0 2) 7) ≡ true }
 
     // an RFNM with another number is acknowledged, and changes nothing of the flow
-    ensures stale { (host_at (answered 1).state 0).answers ≡ [] }
-    ensures still { outstanding (answered 1).state (flow (host 0 1) (host 0 2) 7) ≡ Some 0 }
+    ensures stale { (host_at (sent_answered 1).state 0).answers ≡ [] }
+    ensures still { outstanding (sent_answered 1).state (flow (host 0 1) (host 0 2) 7) ≡ Some 0 }
 
     // given up, it gives Incomplete, once
-    ensures given_up { (host_at (give_up sent (flow (host 0 1) (host 0 2) 7)).state 0).answers ≡ record { kind = answer.Incomplete; flow = flow (host 0 1) (host 0 2) 7 } ∷ [] }
-    ensures once { give_up_refusal (give_up sent (flow (host 0 1) (host 0 2) 7)).state (flow (host 0 1) (host 0 2) 7) ≡ Some fault.NotOutstanding }
-    ensures elsewhere { give_up_refusal sent (flow (host 0 2) (host 0 1) 7) ≡ Some fault.NoSuch }
+    ensures given_up { (host_at (give_up sent_imp (flow (host 0 1) (host 0 2) 7)).state 0).answers ≡ record { kind = answer.Incomplete; flow = flow (host 0 1) (host 0 2) 7 } ∷ [] }
+    ensures once { give_up_refusal (give_up sent_imp (flow (host 0 1) (host 0 2) 7)).state (flow (host 0 1) (host 0 2) 7) ≡ Some fault.NotOutstanding }
+    ensures elsewhere { give_up_refusal sent_imp (flow (host 0 2) (host 0 1) 7) ≡ Some fault.NoSuch }
 
     // a host that is down gets no answer, and its flow is idle at once
-    ensures nobody { (host_at (give_up (host_down sent 0).state (flow (host 0 1) (host 0 2) 7)).state 0).answers ≡ [] }
-    ensures idle { is_idle (give_up (host_down sent 0).state (flow (host 0 1) (host 0 2) 7)).state (flow (host 0 1) (host 0 2) 7) ≡ true }
+    ensures nobody { (host_at (give_up (host_down sent_imp 0).state (flow (host 0 1) (host 0 2) 7)).state 0).answers ≡ [] }
+    ensures idle { is_idle (give_up (host_down sent_imp 0).state (flow (host 0 1) (host 0 2) 7)).state (flow (host 0 1) (host 0 2) 7) ≡ true }
 {}
 
 /// The refusals of the other calls, and what an IMP says that it holds.

@@ -2,7 +2,7 @@
 
 ghost use Rattle.std.specs.Prelude.{◌≡◌, ◌<◌, ◌++◌, ◌∷◌, [], true, false, length, map, nat_lt, slice_set, IfOk, OnOk, OnErr};
 ghost use Rattle.imp_channel.specs.Holding.{packets_in};
-ghost use Rattle.imp_channel.specs.Line.{resent, opening};
+ghost use Rattle.imp_channel.specs.Line.{resent, opening_end};
 ghost use Rattle.routing.specs.RouteTable.{vector_of, loses};
 ghost use Rattle.imp_node.specs.State.{port_at, down_port, with_port};
 ghost use Rattle.imp_node.specs.Lines as lines;

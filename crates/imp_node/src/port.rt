@@ -7,6 +7,6 @@ use imp_channel::Line;
 pub struct Port {
     /// Whether it is up.
     pub up: bool,
-    /// Its channels.
+    /// The eight channels of its line.
     pub line: Line,
 }

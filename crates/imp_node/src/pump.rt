@@ -5,7 +5,7 @@ ghost use Rattle.std.specs.Option.{option_to_list};
 ghost use Rattle.imp_channel.specs.Line.{submitted};
 ghost use Rattle.routing.specs.RouteTable.{next_of};
 ghost use Rattle.imp_node.specs.State.{port_at};
-ghost use Rattle.imp_node.specs.Pump.{target, sent_on, sent, pumped};
+ghost use Rattle.imp_node.specs.Pump.{target, sent_on, packet_sent, pumped};
 
 use crate::Outgoing;
 use crate::port::Port;
@@ -64,10 +64,10 @@ fn send(
 ) -> Result<Option<Packet>, AllocError>
     requires routed { length routes.now.heard ≡ length ports.old }
     requires few { length ports.old < 256 }
-    ensures ports { OnOk result (ports.new ≡ (sent ports.old packet (next_of routes.now (target packet))).ports) }
-    ensures waits { IfOk result (λ back. option_to_list back ≡ (sent ports.old packet (next_of routes.now (target packet))).waits) }
-    ensures frames { OnOk result (frames.new.items ≡ frames.old.items ++ (sent ports.old packet (next_of routes.now (target packet))).frames) }
-    ensures memory { OnErr result (0 < length (sent ports.old packet (next_of routes.now (target packet))).frames) }
+    ensures ports { OnOk result (ports.new ≡ (packet_sent ports.old packet (next_of routes.now (target packet))).ports) }
+    ensures waits { IfOk result (λ back. option_to_list back ≡ (packet_sent ports.old packet (next_of routes.now (target packet))).waits) }
+    ensures frames { OnOk result (frames.new.items ≡ frames.old.items ++ (packet_sent ports.old packet (next_of routes.now (target packet))).frames) }
+    ensures memory { OnErr result (0 < length (packet_sent ports.old packet (next_of routes.now (target packet))).frames) }
 {
     match routes.next(target(&packet)) {
         Some(at) => send_on(ports, at, packet, frames),

@@ -4,7 +4,7 @@ ghost use Rattle.std.specs.Prelude.{◌≡◌, ◌<◌, ◌++◌, ◌∷◌, [],
 ghost use Rattle.packetiser.specs.PacketFields.{Carries};
 ghost use Rattle.imp_node.specs.State as states;
 ghost use Rattle.imp_node.specs.Room as room;
-ghost use Rattle.imp_node.specs.Flows.{answer_packet, told, freed, noted, queued};
+ghost use Rattle.imp_node.specs.Flows.{answer_packet, answer_queued, freed, noted, message_queued};
 ghost use Rattle.imp_node.specs.Pump as pumps;
 ghost use Rattle.imp_node.specs.Taking.{replied, reply_has_room};
 ghost use Rattle.imp_node.specs.Turns.{Takes, sends};
@@ -30,7 +30,7 @@ impl Imp {
         Ok(frames)
     }
 
-    /// Want of memory came: it is not to be used again.
+    /// Memory ran out: it is not to be used again.
     pub(crate) fn exhaust(&mut self) -> CarrierFault
         ensures state { self.new ≡ record self.old { spent = true } }
         ensures fault { result ≡ fault.OutOfMemory }
@@ -42,7 +42,7 @@ impl Imp {
     /// An answer waits for the source of its flow. Where the source is down, the flow is idle at once.
     #[tactic(auto, using(crate::proofs::Reading::set_same))]
     pub(crate) fn tell(&mut self, kind: Answer, flow: Flow) -> Result<(), AllocError>
-        ensures ok { OnOk result (self.new ≡ told kind flow self.old) }
+        ensures ok { OnOk result (self.new ≡ answer_queued kind flow self.old) }
         ensures memory { OnErr result (states.is_up self.old flow.source.host ≡ true) }
     {
         let source = flow.source;
@@ -85,7 +85,7 @@ impl Imp {
         requires there { message.flow.destination.host < length self.old.hosts }
         requires room { room.queue_has_room self.old message.flow.destination.host ≡ true }
         requires flow { IsPacketFlow message.flow }
-        ensures { self.new ≡ queued message self.old }
+        ensures { self.new ≡ message_queued message self.old }
     {
         let host = message.flow.destination.host();
         self.hosts[host as usize].enqueue(message);

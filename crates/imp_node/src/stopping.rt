@@ -4,7 +4,7 @@ ghost use Rattle.std.specs.Prelude.{◌≡◌, ◌<◌, ◌++◌, ◌∷◌, [],
 ghost use Rattle.link_table.specs.Flows.{has_outstanding};
 ghost use Rattle.imp_node.specs.State.{host_at, with_host};
 ghost use Rattle.imp_node.specs.Stopping as stopping;
-ghost use Rattle.imp_node.specs.Stopping.{all_handed, all_returned, returned, stopped};
+ghost use Rattle.imp_node.specs.Stopping.{all_handed, all_returned, message_returned, stopped};
 ghost use Rattle.imp_node.specs.Turns.{Turned, Takes, host_down_grows, host_up_grows};
 ghost use Rattle.imp_node.specs.Inside.Parts.{IsPacketFlow, AreOfPackets};
 
@@ -101,7 +101,7 @@ impl Imp {
     /// A message that nobody will take gives its source Dead, if there is room for that.
     fn return_one(&mut self, message: Message) -> Result<(), AllocError>
         requires { IsPacketFlow message.flow }
-        ensures { OnOk result (self.new ≡ returned message self.old) }
+        ensures { OnOk result (self.new ≡ message_returned message self.old) }
     {
         let Message { flow, number, .. } = message;
         if self.reply_has_room(&flow) {

@@ -7,17 +7,17 @@ use leader1822::{Answer, Flow, Text};
 pub struct Told {
     /// What became of the message.
     pub kind: Answer,
-    /// Its flow.
+    /// The flow that it belongs to.
     pub flow: Flow,
 }
 
 /// A whole message that waits for its destination.
 #[derive(Debug, Drop)]
 pub struct Message {
-    /// Its flow.
+    /// The flow that it belongs to.
     pub flow: Flow,
-    /// Its number.
+    /// Its message number.
     pub number: u8,
-    /// What it says.
+    /// The bits that it says.
     pub text: Text,
 }

@@ -48,11 +48,11 @@ for_with_here {A} q h xs = for_with q h xs h ∙ ap (λ (b : Bool). if b then xs
 pub for_with_other : {A : Type 0} (q : Queues A) (h : Host) (xs : List A) (g : Host) → same_host g h ≡ false → for_host (with_queue q h xs) g ≡ for_host q g
 for_with_other {A} q h xs g e = for_with q h xs g ∙ ap (λ (b : Bool). if b then xs else for_host q g) e
 
-pub for_queued_here : {A : Type 0} (t : Bool) (q : Queues A) (h : Host) (x : A) → for_host (queued_if t q h x) h ≡ for_host q h ++ one_if t x
+for_queued_here : {A : Type 0} (t : Bool) (q : Queues A) (h : Host) (x : A) → for_host (queued_if t q h x) h ≡ for_host q h ++ one_if t x
 for_queued_here true q h x = for_with_here q h (for_host q h ++ x ∷ [])
 for_queued_here false q h x = sym (append-nil (for_host q h))
 
-pub for_queued_other : {A : Type 0} (t : Bool) (q : Queues A) (h : Host) (x : A) (g : Host) → same_host g h ≡ false → for_host (queued_if t q h x) g ≡ for_host q g
+for_queued_other : {A : Type 0} (t : Bool) (q : Queues A) (h : Host) (x : A) (g : Host) → same_host g h ≡ false → for_host (queued_if t q h x) g ≡ for_host q g
 for_queued_other true q h x g e = for_with_other q h (for_host q h ++ x ∷ []) g e
 for_queued_other false q h x g e = refl
 
@@ -97,7 +97,7 @@ kinds_queued_other t q k f g e = by (same_host g.source f.source) refl where
 
 -- ---- what waits for a host is for it
 
-pub AreTo-append : (h : Host) (xs ys : List HostMessage) → AreTo h xs → AreTo h ys → AreTo h (xs ++ ys)
+AreTo-append : (h : Host) (xs ys : List HostMessage) → AreTo h xs → AreTo h ys → AreTo h (xs ++ ys)
 AreTo-append h [] ys p q = q
 AreTo-append h (m ∷ xs) ys p q = (p.0, AreTo-append h xs ys p.1 q)
 

@@ -4,7 +4,7 @@ use Rattle.std.proofs.lemmas.Bool.{false≢true}
 use Rattle.std.specs.List.{list_any}
 use Rattle.std.specs.FinMap.{get}
 use Rattle.leader1822.specs.Host.{Host, is_host}
-use Rattle.leader1822.specs.Boxes.{Boxes, WaitingAnswer, for_host, with_queue, queued_if, first, rest, is_of, is_about, is_rfnm, is_rfnm_about, is_running, give_up_refusal, next_for, answer_first}
+use Rattle.leader1822.specs.Boxes.{Boxes, WaitingAnswer, for_host, with_queue, queued_if, first_of_list, rest, is_of, is_about, is_rfnm, is_rfnm_about, is_running, give_up_refusal, next_for, answer_first}
 use Rattle.leader1822.specs.Inside.Held.{Held, pending_of, is_message, IsIndexed, put, answer_if, held_taken}
 use Rattle.leader1822.specs.Inside.Soundness.{texts_of, kinds_of, texts_for, kinds_for, Matches, IsSound}
 use Rattle.leader1822.specs.declared.address.Flow.{Flow}
@@ -123,16 +123,16 @@ by_rfnm c f i s none told =
 
 -- ---- taking
 
-next_message : (b : Boxes) (h : Host) (m : HostMessage) → first (for_host b.answers h) ≡ None → first (for_host b.messages h) ≡ Some m → next_for b h ≡ Some (inbound.Message m)
-next_message b h m e f = ap (λ (x : Option WaitingAnswer). answer_first x (first (for_host b.messages h))) e ∙ ap (λ (x : Option HostMessage). answer_first None x) f
+next_message : (b : Boxes) (h : Host) (m : HostMessage) → first_of_list (for_host b.answers h) ≡ None → first_of_list (for_host b.messages h) ≡ Some m → next_for b h ≡ Some (inbound.Message m)
+next_message b h m e f = ap (λ (x : Option WaitingAnswer). answer_first x (first_of_list (for_host b.messages h))) e ∙ ap (λ (x : Option HostMessage). answer_first None x) f
 
-next_nothing : (b : Boxes) (h : Host) → first (for_host b.answers h) ≡ None → first (for_host b.messages h) ≡ None → next_for b h ≡ None
-next_nothing b h e f = ap (λ (x : Option WaitingAnswer). answer_first x (first (for_host b.messages h))) e ∙ ap (λ (x : Option HostMessage). answer_first None x) f
+next_nothing : (b : Boxes) (h : Host) → first_of_list (for_host b.answers h) ≡ None → first_of_list (for_host b.messages h) ≡ None → next_for b h ≡ None
+next_nothing b h e f = ap (λ (x : Option WaitingAnswer). answer_first x (first_of_list (for_host b.messages h))) e ∙ ap (λ (x : Option HostMessage). answer_first None x) f
 
 -- a host for which nothing waits takes nothing
-pub nothing_taken : (c a last : Held) (h : Host) → a ≡ c → last ≡ a → first (for_host c.boxes.answers h) ≡ None → first (for_host a.boxes.messages h) ≡ None → last ≡ held_taken c h (next_for c.boxes h)
+pub nothing_taken : (c a last : Held) (h : Host) → a ≡ c → last ≡ a → first_of_list (for_host c.boxes.answers h) ≡ None → first_of_list (for_host a.boxes.messages h) ≡ None → last ≡ held_taken c h (next_for c.boxes h)
 nothing_taken c a last h same left untold unsent =
-    let none : first (for_host c.boxes.messages h) ≡ None = ap (λ (x : Held). first (for_host x.boxes.messages h)) (sym same) ∙ unsent in
+    let none : first_of_list (for_host c.boxes.messages h) ≡ None = ap (λ (x : Held). first_of_list (for_host x.boxes.messages h)) (sym same) ∙ unsent in
     left ∙ same ∙ ap (held_taken c h) (sym (next_nothing c.boxes h untold none))
 
 abbrev without_message : Held → Host → Held
@@ -149,8 +149,8 @@ crossed a m = record a { boxes = record a.boxes { log = crossing.In m ∷ a.boxe
 
 -- a host for which a message waits, and no answer, takes the message
 pub message_taken : (c a left told last : Held) (h : Host) (m : HostMessage) → a ≡ c → left ≡ without_message a h → told ≡ acknowledged left m.flow → last ≡ crossed told m
-    → first (for_host c.boxes.answers h) ≡ None → first (for_host a.boxes.messages h) ≡ Some m → last ≡ held_taken c h (next_for c.boxes h)
+    → first_of_list (for_host c.boxes.answers h) ≡ None → first_of_list (for_host a.boxes.messages h) ≡ Some m → last ≡ held_taken c h (next_for c.boxes h)
 message_taken c a left told last h m same out rfnm logged untold found =
-    let sent : first (for_host c.boxes.messages h) ≡ Some m = ap (λ (x : Held). first (for_host x.boxes.messages h)) (sym same) ∙ found in
+    let sent : first_of_list (for_host c.boxes.messages h) ≡ Some m = ap (λ (x : Held). first_of_list (for_host x.boxes.messages h)) (sym same) ∙ found in
     logged ∙ ap (λ (x : Held). crossed x m) (rfnm ∙ ap (λ (x : Held). acknowledged x m.flow) (out ∙ ap (λ (x : Held). without_message x h) same))
     ∙ ap (held_taken c h) (sym (next_message c.boxes h m untold sent))

@@ -7,8 +7,8 @@ use Rattle.std.specs.FinMap.{empty, get, get-empty, get-insert, get-remove}
 use Rattle.leader1822.specs.Host.{Host, same_host, is_host, InOrder}
 use Rattle.leader1822.specs.Flow.{flow_cmp}
 use Rattle.leader1822.specs.Mailboxes.{Box, same_flow}
-use Rattle.leader1822.specs.Boxes.{Boxes, WaitingAnswer, for_host, first, rest, is_of, is_about, is_rfnm, is_from, is_running, is_busy, is_outstanding, is_unsettled, one_if, offer_refusal, host_refusal, give_up_refusal, next_for, answer_first, inbound_of, taken, given_up, opening_boxes}
-use Rattle.leader1822.specs.Inside.Held.{Flows, Held, pending_of, IsIndexed, IsKept, is_unanswered, put, answer_if, cleared, turned, held_offered, held_taken, held_given_up, held_stopped, held_started}
+use Rattle.leader1822.specs.Boxes.{Boxes, WaitingAnswer, for_host, first_of_list, rest, is_of, is_about, is_rfnm, is_from, is_running, is_busy, is_outstanding, is_unsettled, one_if, offer_refusal, host_refusal, give_up_refusal, next_for, answer_first, inbound_of, inbound_taken, given_up, opening_boxes}
+use Rattle.leader1822.specs.Inside.Held.{Flows, Held, pending_of, IsIndexed, IsKept, is_unanswered, put, answer_if, cleared, flows_dead, held_offered, held_taken, held_given_up, held_stopped, held_started}
 use Rattle.leader1822.specs.Inside.Named.{IsNamed}
 use Rattle.leader1822.specs.Inside.Soundness.{texts_of, kinds_of, texts_for, kinds_for, FitsBox, AreTo, AreToldTo, Matches, IsSound}
 use Rattle.leader1822.specs.declared.address.Flow.{Flow}
@@ -198,14 +198,14 @@ some_waits : (c : Held) (f : Flow) → IsIndexed c → (has_any (texts_for c.box
 some_waits c f i e = i.named f (ap is_some (i.each f) ∙ some_pending (texts_for c.boxes f) (kinds_for c.boxes f) ∙ e)
 
 taken_by : (c : Held) (h : Host) → IsIndexed c → Matches c.boxes → Runs c.boxes h → (told : Option WaitingAnswer) (sent : Option HostMessage)
-    → first (for_host c.boxes.answers h) ≡ told → first (for_host c.boxes.messages h) ≡ sent → IsIndexed (held_taken c h (answer_first told sent))
+    → first_of_list (for_host c.boxes.answers h) ≡ told → first_of_list (for_host c.boxes.messages h) ≡ sent → IsIndexed (held_taken c h (answer_first told sent))
 taken_by c h i k r (Some a) sent e f =
     let b = c.boxes in
     let left = rest (for_host b.answers h) in
     let whole : for_host b.answers h ≡ a ∷ left = first_is (for_host b.answers h) a e in
     let t : TakesAnswer b h a left = takes_answer b h a left k r.host whole in
     let w = answered_here b h a left whole t in
-    let new : Boxes = taken b h (Some (inbound_of a)) in
+    let new : Boxes = inbound_taken b h (Some (inbound_of a)) in
     changed c new a.1 None i (λ some. absurd (false≢true some))
     (ap (λ (ts : List (List Bool)). pending_of ts (kinds_for new a.1)) w.texts ∙ ap (pending_of []) w.kinds)
     (λ g o. answered_there b h a left whole g o)
@@ -216,16 +216,16 @@ taken_by c h i k r None (Some m) e f =
     let t : TakesMessage b h m left = takes_message b h m left k whole in
     let w = fetched_here b h m left whole t in
     let s = is_running b.hosts b.down m.flow.source in
-    let new : Boxes = taken b h (Some (inbound.Message m)) in
+    let new : Boxes = inbound_taken b h (Some (inbound.Message m)) in
     changed c new m.flow (answer_if s answer.Rfnm) i (λ some. some_waits c m.flow i (ap (λ (ts : List (List Bool)). has_any ts || has_any (kinds_for b m.flow)) t.all))
     (ap (λ (ts : List (List Bool)). pending_of ts (kinds_for new m.flow)) w.texts ∙ ap (pending_of []) w.kinds ∙ put_answer s answer.Rfnm)
     (λ g o. fetched_there b h m left whole g o)
 taken_by c h i k r None None e f = i
 
-pub taken_indexed : (c : Held) (h : Host) → IsIndexed c → IsSound c.boxes → host_refusal c.boxes h ≡ None → IsIndexed (held_taken c h (next_for c.boxes h))
+taken_indexed : (c : Held) (h : Host) → IsIndexed c → IsSound c.boxes → host_refusal c.boxes h ≡ None → IsIndexed (held_taken c h (next_for c.boxes h))
 taken_indexed c h i s none =
     let r : Runs c.boxes h = runs_here c.boxes h none in
-    taken_by c h i (s.matches r.running) r (first (for_host c.boxes.answers h)) (first (for_host c.boxes.messages h)) refl refl
+    taken_by c h i (s.matches r.running) r (first_of_list (for_host c.boxes.answers h)) (first_of_list (for_host c.boxes.messages h)) refl refl
 
 any_kind : (ks : List Answer) → list_any is_rfnm ks ≡ true → has_any ks ≡ true
 any_kind [] e = e
@@ -262,7 +262,7 @@ get_cleared m (a ∷ xs) g =
       by false e = rw e refl
 
 get_turned : (hosts down : List Host) (m : Flows) (ms : List HostMessage) (g : Flow)
-    → get (turned hosts down m ms) g ≡ (if has_any (texts_of g ms) then answer_if (is_running hosts down g.source) answer.Dead else get m g)
+    → get (flows_dead hosts down m ms) g ≡ (if has_any (texts_of g ms) then answer_if (is_running hosts down g.source) answer.Dead else get m g)
 get_turned hosts down m [] g = refl
 get_turned hosts down m (x ∷ ms) g =
     let o = answer_if (is_running hosts down x.flow.source) answer.Dead in
@@ -357,14 +357,14 @@ started_indexed c h i = record { each = i.each; named = i.named }
 
 -- ---- the boxes themselves
 
-pub same_boxes : (c : Held) (h : Host) (o : Option Inbound) → (held_taken c h o).boxes ≡ taken c.boxes h o
+pub same_boxes : (c : Held) (h : Host) (o : Option Inbound) → (held_taken c h o).boxes ≡ inbound_taken c.boxes h o
 same_boxes c h None = refl
 same_boxes c h (Some (inbound.Answer kind f)) = refl
 same_boxes c h (Some (inbound.Message m)) = refl
 
 pub taken_kept : (c : Held) (h : Host) → IsKept c → host_refusal c.boxes h ≡ None → IsKept (held_taken c h (next_for c.boxes h))
 taken_kept c h k none =
-    let same : (held_taken c h (next_for c.boxes h)).boxes ≡ taken c.boxes h (next_for c.boxes h) = same_boxes c h (next_for c.boxes h) in
+    let same : (held_taken c h (next_for c.boxes h)).boxes ≡ inbound_taken c.boxes h (next_for c.boxes h) = same_boxes c h (next_for c.boxes h) in
     record {
       sound = subst IsSound (sym same) (taken_sound c.boxes h k.sound none);
       indexed = λ running. taken_indexed c h (k.indexed (runs_here c.boxes h none).running) k.sound none;
@@ -374,7 +374,7 @@ both_up : (v : Bool) → v ≡ (v && true)
 both_up true = refl
 both_up false = refl
 
--- boxes between hosts that are all up, with nothing on its way
+-- boxes between hosts that are all up, with nothing in transit
 pub opening_kept : (hosts : List Host) → InOrder hosts → IsKept (record { boxes = opening_boxes hosts; flows = empty })
 opening_kept hosts order =
     let b : Boxes = opening_boxes hosts in

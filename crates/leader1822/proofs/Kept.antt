@@ -8,7 +8,7 @@ use Rattle.std.specs.Cmp.{eq_by_cmp_equiv}
 use Rattle.std.specs.Ordering.{eq_by_cmp}
 use Rattle.std.specs.FinMap.{get, get-empty, get-insert, get-remove, same_map}
 use Rattle.leader1822.specs.Host.{Host, host_cmp}
-use Rattle.leader1822.specs.Boxes.{Queues, for_host, with_queue, first, rest}
+use Rattle.leader1822.specs.Boxes.{Queues, for_host, with_queue, first_of_list, rest}
 use Rattle.leader1822.specs.Inside.Shown.{shown, waiting_in}
 use Rattle.leader1822.proofs.Lists.{same_host-true}
 use Rattle.leader1822.proofs.Order.{hosts_total, exact_hosts}
@@ -66,7 +66,7 @@ shown_same {A} {Z} es h xs items = shown_with es es h (queue_in es h) xs (λ g. 
 
 -- what is taken off the front is the first, and leaves the rest
 pub record Popped {A : Type 0} (r : Option A) (old new : List A) : Type 0 where
-  pub oldest : r ≡ first old
+  pub oldest : r ≡ first_of_list old
   pub left : new ≡ rest old
 
 pub popped : {A : Type 0} (r : Option A) (old new : List A) → old ≡ option_to_list r ++ new → new ≡ drop 1 old → Popped r old new

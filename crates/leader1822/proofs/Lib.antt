@@ -16,3 +16,4 @@ pub mod Giving
 pub mod ToldDead
 pub mod WorkedBoxes
 pub mod UnsafeLogs
+pub mod lemmas

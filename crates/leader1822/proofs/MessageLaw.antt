@@ -39,7 +39,7 @@ quiet_out : (b : Bool) (place : ℕ) (text : List Bool) (box : Box) → b ≡ fa
 quiet_out true place text box n e = absurd (cc)
 quiet_out false place text box n e = e
 
-pub quiet_run : (hosts : List Host) (f : Flow) (log : List Crossing) → IsRun hosts log → went_out f log ≡ false → Quiet (box_of f log) (taken_in f log)
+quiet_run : (hosts : List Host) (f : Flow) (log : List Crossing) → IsRun hosts log → went_out f log ≡ false → Quiet (box_of f log) (taken_in f log)
 quiet_run hosts f [] r n = record { empty = refl; none = refl }
 quiet_run hosts f (crossing.Out m ∷ log) r n =
     let t = or_false (same_flow f m.flow) (went_out f log) n in
@@ -87,7 +87,7 @@ tells_more_out : (f : Flow) (m : HostMessage) (log since : List Crossing) (text 
     → Tells (box_of f (crossing.Out m ∷ log)) text (taken_in f since)
 tells_more_out f m log since text e h = rw e h
 
-pub tells_run : (hosts : List Host) (f : Flow) (since : List Crossing) (m : HostMessage) (before : List Crossing) → m.flow ≡ f
+tells_run : (hosts : List Host) (f : Flow) (since : List Crossing) (m : HostMessage) (before : List Crossing) → m.flow ≡ f
     → IsRun hosts (since ++ crossing.Out m ∷ before) → went_out f since ≡ false → Tells (box_of f (since ++ crossing.Out m ∷ before)) m.text (taken_in f since)
 tells_run hosts f [] m before e r n =
     let same : same_flow f m.flow ≡ true = ap (λ (g : Flow). same_flow f g) e ∙ same_flow-refl f in rw same (refl, refl)

@@ -7,7 +7,7 @@ some_same : {A : Type 0} {x y : A} → Some x ≡ Some y → x ≡ y
 some_same e = cc
 
 -- where no element passes
-pub none_count : {A : Type 0} (test : A → Bool) (xs : List A) → list_any test xs ≡ false → length (filter test xs) ≡ 0
+none_count : {A : Type 0} (test : A → Bool) (xs : List A) → list_any test xs ≡ false → length (filter test xs) ≡ 0
 none_count test [] e = refl
 none_count test (x ∷ xs) e = let t = or_false (test x) (list_any test xs) e in rw (t.0) (none_count test xs t.1)
 

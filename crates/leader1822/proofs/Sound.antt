@@ -3,7 +3,7 @@ use Rattle.std.proofs.Common.{◌≡◌, ℕ, Bool, true, false, not, List, [], 
 use Rattle.std.specs.List.{list_any}
 use Rattle.leader1822.specs.Host.{Host, is_host, same_host}
 use Rattle.leader1822.specs.Mailboxes.{Box, Empty, Waiting, Taken, WaitsWith, Fits, fetched, same_flow, box_of}
-use Rattle.leader1822.specs.Boxes.{Boxes, WaitingAnswer, for_host, with_queue, rest, is_of, is_about, is_running, is_busy, one_if, offer_refusal, offered, host_refusal, taken, inbound_of}
+use Rattle.leader1822.specs.Boxes.{Boxes, WaitingAnswer, for_host, with_queue, rest, is_of, is_about, is_running, is_busy, one_if, offer_refusal, offered, host_refusal, inbound_taken, inbound_of}
 use Rattle.leader1822.specs.Inside.Soundness.{texts_of, kinds_of, texts_for, kinds_for, FitsBox, FlowFits, AreTo, AreToldTo, Matches, IsSound}
 use Rattle.leader1822.specs.declared.address.Flow.{Flow}
 use Rattle.leader1822.specs.declared.carrier.CarrierFault.TheVariants as fault
@@ -168,7 +168,7 @@ takes_answer b h a left k up whole =
 
 -- the boxes after a host took this answer
 abbrev pub answered : Boxes → Host → WaitingAnswer → Boxes
-answered b h a = taken b h (Some (inbound_of a))
+answered b h a = inbound_taken b h (Some (inbound_of a))
 
 pub answered_here : (b : Boxes) (h : Host) (a : WaitingAnswer) (left : List WaitingAnswer) → for_host b.answers h ≡ a ∷ left → TakesAnswer b h a left → Waits (answered b h a) a.1 [] []
 answered_here b h a left whole t = record {
@@ -251,7 +251,7 @@ takes_message b h m left k whole =
 
 -- the boxes after a host took this message
 abbrev pub fetches : Boxes → Host → HostMessage → Boxes
-fetches b h m = taken b h (Some (inbound.Message m))
+fetches b h m = inbound_taken b h (Some (inbound.Message m))
 
 pub fetched_here : (b : Boxes) (h : Host) (m : HostMessage) (left : List HostMessage) → for_host b.messages h ≡ m ∷ left → TakesMessage b h m left
     → Waits (fetches b h m) m.flow [] (one_if (is_running b.hosts b.down m.flow.source) answer.Rfnm)

@@ -363,7 +363,7 @@ none_of test (g ∷ hosts) x none there = by (same_host x g) refl there (none_of
   by false e h others = others (rw e at h)
 
 -- no flow from the host has a message that waits
-pub settled_flow : (b : Boxes) (g : Flow) → Matches b → is_unsettled b g.source ≡ false → texts_for b g ≡ []
+settled_flow : (b : Boxes) (g : Flow) → Matches b → is_unsettled b g.source ≡ false → texts_for b g ≡ []
 settled_flow b g k settled = elim ((k.flows g).queued) [
   | inl none ↦ none
   | inr (t, one, holds, none, there) ↦

@@ -28,7 +28,7 @@ abbrev pub Queues : Type 0 → Type 0
 Queues A = map.FinMap host_cmp (List A)
 
 -- the hosts, those of them that are down, the messages and the answers that wait for each, the log (newest first), and
--- whether want of memory has stopped it all
+-- whether running out of memory has stopped it all
 pub record Boxes : Type 0 where
   pub hosts : List Host
   pub down : List Host
@@ -37,7 +37,7 @@ pub record Boxes : Type 0 where
   pub log : List Crossing
   pub stopped : Bool
 
--- between hosts that are all up, with nothing on its way
+-- between hosts that are all up, with nothing in transit
 abbrev pub opening_boxes : List Host → Boxes
 opening_boxes hosts = record { hosts = hosts; down = []; messages = map.empty; answers = map.empty; log = []; stopped = false }
 
@@ -56,15 +56,15 @@ with_queue queues h [] = map.remove queues h
 with_queue queues h (x ∷ xs) = map.insert queues h (x ∷ xs)
 
 -- one more, behind what waits for the host
-abbrev pub queued : {A : Type 0} → Queues A → Host → A → Queues A
-queued queues h x = with_queue queues h (for_host queues h ++ x ∷ [])
+abbrev pub queued_for : {A : Type 0} → Queues A → Host → A → Queues A
+queued_for queues h x = with_queue queues h (for_host queues h ++ x ∷ [])
 
 abbrev pub queued_if : {A : Type 0} → Bool → Queues A → Host → A → Queues A
-queued_if test queues h x = if test then queued queues h x else queues
+queued_if test queues h x = if test then queued_for queues h x else queues
 
-abbrev pub first : {A : Type 0} → List A → Option A
-first [] = None
-first (x ∷ xs) = Some x
+abbrev pub first_of_list : {A : Type 0} → List A → Option A
+first_of_list [] = None
+first_of_list (x ∷ xs) = Some x
 
 abbrev pub rest : {A : Type 0} → List A → List A
 rest [] = []
@@ -148,16 +148,16 @@ answer_first None (Some m) = Some (inbound.Message m)
 answer_first None None = None
 
 abbrev pub next_for : Boxes → Host → Option Inbound
-next_for b h = answer_first (first (for_host b.answers h)) (first (for_host b.messages h))
+next_for b h = answer_first (first_of_list (for_host b.answers h)) (first_of_list (for_host b.messages h))
 
 -- what is left after a host took this. After a message, an RFNM waits for its source, if that is up
-abbrev pub taken : Boxes → Host → Option Inbound → Boxes
-taken b h None = b
-taken b h (Some (inbound.Answer kind f)) = record b {
+abbrev pub inbound_taken : Boxes → Host → Option Inbound → Boxes
+inbound_taken b h None = b
+inbound_taken b h (Some (inbound.Answer kind f)) = record b {
   answers = with_queue b.answers h (rest (for_host b.answers h));
   log = crossing.Answer kind f ∷ b.log;
 }
-taken b h (Some (inbound.Message m)) = record b {
+inbound_taken b h (Some (inbound.Message m)) = record b {
   messages = with_queue b.messages h (rest (for_host b.messages h));
   answers = queued_if (is_running b.hosts b.down m.flow.source) b.answers m.flow.source (answer.Rfnm, m.flow);
   log = crossing.In m ∷ b.log;
@@ -278,13 +278,13 @@ step_grows b (event.Abandon f) = false
 
 -- ---- the calls
 
--- After want of memory hosts and log are as before. Nothing is said of what waits, since nothing is ever taken again
+-- After memory has run out hosts and log are as before. Nothing is said of what waits, since nothing is ever taken again
 pub record HasHalted (old new : Boxes) : Type 0 where
   pub hosts : new.hosts ≡ old.hosts
   pub log : new.log ≡ old.log
   pub stopped : new.stopped ≡ true
 
--- a call that is refused for `refusal`, and else gives a value with this property; it may want memory only where it is not
+-- a call that is refused for `refusal`, and else gives a value with this property; it may run out of memory only if it is not
 -- refused and `grows` is true
 abbrev pub BoxesDecided : {T : Type 0} → Option CarrierFault → Bool → (T → Type 0) → Boxes → Result T CarrierFault → Boxes → Type 0
 BoxesDecided refusal grows Gives old (Ok x) new = (refusal ≡ None) × Gives x
@@ -296,12 +296,12 @@ abbrev pub BoxesOffer : Boxes → HostMessage → Result (Unit {0}) CarrierFault
 BoxesOffer old m r new = BoxesDecided (offer_refusal old m.flow) true (λ done. new ≡ offered old m) old r new
 
 abbrev pub BoxesTake : Boxes → Host → Result (Option Inbound) CarrierFault → Boxes → Type 0
-BoxesTake old h r new = BoxesDecided (host_refusal old h) (take_grows old h) (λ o. (o ≡ next_for old h) × (new ≡ taken old h o)) old r new
+BoxesTake old h r new = BoxesDecided (host_refusal old h) (take_grows old h) (λ o. (o ≡ next_for old h) × (new ≡ inbound_taken old h o)) old r new
 
 abbrev pub BoxesStep : Boxes → NetEvent → Result (Unit {0}) CarrierFault → Boxes → Type 0
 BoxesStep old e r new = BoxesDecided (step_refusal old e) (step_grows old e) (λ done. new ≡ stepped old e) old r new
 
--- nothing is on its way, so a quiet round changes nothing
+-- nothing is in transit, so a quiet round changes nothing
 abbrev pub BoxesRound : Boxes → Result (Unit {0}) CarrierFault → Boxes → Type 0
 BoxesRound old (Ok done) new = (old.stopped ≡ false) × (new ≡ old)
 BoxesRound old (Err e) new = (old.stopped ≡ true) × (e ≡ fault.Stopped) × (new ≡ old)

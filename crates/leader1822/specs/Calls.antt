@@ -13,7 +13,7 @@ use Rattle.leader1822.specs.declared.event.NetEvent.{NetEvent}
 use Rattle.leader1822.specs.declared.event.NetEvent.TheVariants as event
 use Rattle.leader1822.specs.declared.message.HostMessage.{HostMessage}
 
--- the hosts of the network, all crossings so far (newest first), and whether want of memory has stopped the carrier
+-- the hosts of the network, all crossings so far (newest first), and whether running out of memory has stopped the carrier
 pub record Seen : Type 0 where
   pub hosts : List Host
   pub log : List Crossing
@@ -50,7 +50,7 @@ is_halt fault.Blocked = false
 is_halt fault.NoRoom = false
 is_halt fault.OutOfMemory = false
 
--- a refusal shows nothing new, save that want of memory stops the carrier; Stopped is given exactly where it has stopped
+-- a refusal shows nothing new, except that running out of memory stops the carrier; Stopped is given exactly if it has stopped
 pub record ShowsRefusal (old : Seen) (e : CarrierFault) (new : Seen) : Type 0 where
   pub when_stopped : old.stopped ≡ is_halt e
   pub shown : new ≡ (if is_memory e then halted old else old)

@@ -1,4 +1,4 @@
--- Hosts, flows, messages and answers as numbers and lists, which a model wants whose value is a map of them.
+-- Hosts, flows, messages and answers as numbers and lists, which a model needs whose value is a map of them.
 use Rattle.std.specs.Prelude.{◌≡◌, ℕ, zero, suc, refl, Bool, List}
 use Rattle.std.specs.Coded.{Coded, code_by, coded×, coded_ℕ, coded_bool, coded_list}
 use Rattle.std.specs.FinMap as map

@@ -60,17 +60,17 @@ box_of f [] = Empty
 box_of f (c ∷ log) = touched (length log) f c (box_of f log)
 
 -- whether a host is up after one more crossing
-abbrev pub turned : Host → Crossing → Bool → Bool
-turned h (crossing.Out m) up = up
-turned h (crossing.In m) up = up
-turned h (crossing.Answer kind g) up = up
-turned h (crossing.Down g) up = if same_host h g then false else up
-turned h (crossing.Up g) up = if same_host h g then true else up
+abbrev pub up_after_crossing : Host → Crossing → Bool → Bool
+up_after_crossing h (crossing.Out m) up = up
+up_after_crossing h (crossing.In m) up = up
+up_after_crossing h (crossing.Answer kind g) up = up
+up_after_crossing h (crossing.Down g) up = if same_host h g then false else up
+up_after_crossing h (crossing.Up g) up = if same_host h g then true else up
 
 -- whether a host is up: at first, every host of the network is
 abbrev pub is_up : List Host → Host → List Crossing → Bool
 is_up hosts h [] = is_host hosts h
-is_up hosts h (c ∷ log) = turned h c (is_up hosts h log)
+is_up hosts h (c ∷ log) = up_after_crossing h c (is_up hosts h log)
 
 -- ---- runs
 
@@ -99,7 +99,7 @@ pub data Passing : Type 0 where
   DestinationDown : Passing
   DestinationUp : Passing
 
--- the list with this passing in front, if the test holds
+-- the list with this passing at its head, if the test holds
 abbrev pub first_if : Bool → Passing → List Passing → List Passing
 first_if test p ps = if test then p ∷ ps else ps
 

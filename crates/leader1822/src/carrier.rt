@@ -19,7 +19,7 @@ pub enum CarrierFault {
     /// There is no such host, IMP, line or frame, or the carrier has no such event.
     #[error("NoSuch")]
     NoSuch,
-    /// Something that must be gone first is still on its way.
+    /// Something that must be gone first is still alive.
     #[error("StillAlive")]
     StillAlive,
     /// The host, IMP or end of a line is down.
@@ -40,7 +40,7 @@ pub enum CarrierFault {
     /// No place is left where it would have to go.
     #[error("NoRoom")]
     NoRoom,
-    /// Want of memory came before, and nothing is done any more.
+    /// Memory ran out in an earlier call, so nothing more is done.
     #[error("Stopped")]
     Stopped,
     /// No memory was left. Every later call is `Stopped`.
@@ -51,7 +51,7 @@ pub enum CarrierFault {
 /// A network as its hosts see it: it takes their messages, gives them what came for them, and keeps the
 /// log of all crossings, which is a run of the mailboxes.
 ///
-/// A carrier has hosts, a log, and whether want of memory has stopped it. A call that succeeds comes
+/// A carrier has hosts, a log, and whether running out of memory has stopped it. A call that succeeds comes
 /// before a stop, and adds the crossings named at the call and no others. An error adds none. `OutOfMemory`
 /// stops the carrier, and any other error leaves hosts, log and stop as they were. Where the carrier has
 /// stopped, a call that can fail answers `Stopped`, and nowhere else.

@@ -5,7 +5,7 @@ ghost use Rattle.std.specs.FinMap as map;
 ghost use Rattle.leader1822.specs.Host.{InOrder, is_host, same_host};
 ghost use Rattle.leader1822.specs.Boxes as boxes;
 ghost use Rattle.leader1822.specs.Boxes.{queued_if, told_dead};
-ghost use Rattle.leader1822.specs.Inside.Held.{IsIndexed, IsKept, is_message, is_unanswered, put, answer_if, cleared, turned, held_admitted, held_offered, held_taken, held_given_up, held_stopped, held_started};
+ghost use Rattle.leader1822.specs.Inside.Held.{IsIndexed, IsKept, is_message, is_unanswered, put, answer_if, cleared, flows_dead, held_admitted, held_offered, held_taken, held_given_up, held_stopped, held_started};
 ghost use Rattle.leader1822.specs.Inside.Named.{IsNamed};
 ghost use Rattle.leader1822.specs.Inside.Shown.{waiting_in};
 ghost use Rattle.leader1822.specs.Inside.Soundness.{KeepsLog};
@@ -53,7 +53,7 @@ impl Model for Contents {
 }
 
 impl Contents {
-    /// These hosts, all up, with nothing on its way.
+    /// These hosts, all up, with nothing in transit.
     pub(crate) fn new(alloc: Global, hosts: Vec<HostAddr>) -> Contents
         ensures { result ≡ record { boxes = boxes.opening_boxes hosts.items; flows = map.empty } }
     {
@@ -70,7 +70,7 @@ impl Contents {
 
     // ---- looking
 
-    /// The hosts.
+    /// The hosts of the network, in order.
     pub(crate) fn hosts(&self) -> &[HostAddr]
         ensures { result.now ≡ self.now.boxes.hosts }
     {
@@ -84,7 +84,7 @@ impl Contents {
         &self.log
     }
 
-    /// Whether want of memory has stopped them.
+    /// Whether running out of memory has stopped them.
     pub(crate) fn has_stopped(&self) -> bool
         ensures { result ≡ self.now.boxes.stopped }
     {
@@ -228,7 +228,7 @@ impl Contents {
 
     /// Puts a message behind those that wait for its destination.
     fn enqueue(&mut self, message: HostMessage) -> Result<(), AllocError>
-        ensures ok { OnOk result (self.new ≡ record { boxes = record self.old.boxes { messages = boxes.queued self.old.boxes.messages message.flow.destination message }; flows = map.insert self.old.flows message.flow pending.Message }) }
+        ensures ok { OnOk result (self.new ≡ record { boxes = record self.old.boxes { messages = boxes.queued_for self.old.boxes.messages message.flow.destination message }; flows = map.insert self.old.flows message.flow pending.Message }) }
         ensures err { OnErr result (KeepsLog self.old.boxes self.new.boxes) }
     {
         let flow = message.flow;
@@ -239,7 +239,7 @@ impl Contents {
 
     /// Puts an answer behind those that wait for the source of its flow.
     fn answer(&mut self, kind: Answer, flow: &Flow) -> Result<(), AllocError>
-        ensures ok { OnOk result (self.new ≡ record { boxes = record self.old.boxes { answers = boxes.queued self.old.boxes.answers flow.now.source (kind, flow.now) }; flows = map.insert self.old.flows flow.now (pending.Answer kind) }) }
+        ensures ok { OnOk result (self.new ≡ record { boxes = record self.old.boxes { answers = boxes.queued_for self.old.boxes.answers flow.now.source (kind, flow.now) }; flows = map.insert self.old.flows flow.now (pending.Answer kind) }) }
         ensures err { OnErr result (KeepsLog self.old.boxes self.new.boxes) }
     {
         self.flows.set(*flow, Pending::Answer(kind))?;
@@ -258,7 +258,7 @@ impl Contents {
         Ok(())
     }
 
-    /// Stops them for want of memory.
+    /// Stops them, since memory has run out.
     pub(crate) fn halt(&mut self) -> CarrierFault
         ensures state { self.new ≡ record self.old { boxes = record self.old.boxes { stopped = true } } }
         ensures fault { result ≡ OutOfMemory }
@@ -292,7 +292,7 @@ impl Contents {
 
     /// Takes the oldest answer that waits for the host.
     fn take_answer(&mut self, host: &HostAddr) -> Option<(Answer, Flow)>
-        ensures found { result ≡ boxes.first (boxes.for_host self.old.boxes.answers host.now) }
+        ensures found { result ≡ boxes.first_of_list (boxes.for_host self.old.boxes.answers host.now) }
         ensures left { self.new ≡ record self.old { boxes = record self.old.boxes { answers = boxes.with_queue self.old.boxes.answers host.now (boxes.rest (boxes.for_host self.old.boxes.answers host.now)) } } }
         ensures unchanged { result ≡ None → self.new ≡ self.old }
     {
@@ -301,7 +301,7 @@ impl Contents {
 
     /// Takes the oldest message that waits for the host.
     fn take_message(&mut self, host: &HostAddr) -> Option<HostMessage>
-        ensures found { result ≡ boxes.first (boxes.for_host self.old.boxes.messages host.now) }
+        ensures found { result ≡ boxes.first_of_list (boxes.for_host self.old.boxes.messages host.now) }
         ensures left { self.new ≡ record self.old { boxes = record self.old.boxes { messages = boxes.with_queue self.old.boxes.messages host.now (boxes.rest (boxes.for_host self.old.boxes.messages host.now)) } } }
         ensures unchanged { result ≡ None → self.new ≡ self.old }
     {
@@ -428,7 +428,7 @@ impl Contents {
 
     /// Gives the sources of these messages Dead, if they are up.
     fn tell_dead(&mut self, messages: VecDeque<HostMessage>) -> Result<(), AllocError>
-        ensures ok { OnOk result (self.new ≡ record { boxes = record self.old.boxes { answers = told_dead self.old.boxes.hosts self.old.boxes.down self.old.boxes.answers messages.items }; flows = turned self.old.boxes.hosts self.old.boxes.down self.old.flows messages.items }) }
+        ensures ok { OnOk result (self.new ≡ record { boxes = record self.old.boxes { answers = told_dead self.old.boxes.hosts self.old.boxes.down self.old.boxes.answers messages.items }; flows = flows_dead self.old.boxes.hosts self.old.boxes.down self.old.flows messages.items }) }
         ensures err { OnErr result (KeepsLog self.old.boxes self.new.boxes) }
     {
         let mut messages = messages;

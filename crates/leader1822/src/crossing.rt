@@ -10,7 +10,7 @@ use std::fmt;
 pub enum Answer {
     /// Ready for next message: the destination took the whole message.
     Rfnm,
-    /// The message or its answer was lost on the way.
+    /// The network gave the message up; it may have been taken all the same.
     Incomplete,
     /// The destination is down or not there, and did not get the message.
     Dead,

@@ -20,7 +20,7 @@ pub enum NetEvent {
         line: u32,
         /// Which way the frame goes.
         direction: Direction,
-        /// The frame's place.
+        /// The frame's place on the line, 0 being the oldest.
         frame: u32,
     },
     /// The frame at a place of a directed line is lost.
@@ -29,7 +29,7 @@ pub enum NetEvent {
         line: u32,
         /// Which way the frame goes.
         direction: Direction,
-        /// The frame's place.
+        /// The frame's place on the line, 0 being the oldest.
         frame: u32,
     },
     /// An IMP sends again what is not acknowledged.
@@ -38,14 +38,14 @@ pub enum NetEvent {
     Route(ImpNumber),
     /// An IMP's end of a line stops.
     EndDown {
-        /// The IMP.
+        /// The IMP whose end it is.
         imp: ImpNumber,
         /// The line's number, from 0.
         line: u32,
     },
     /// An IMP's end of a line starts.
     EndUp {
-        /// The IMP.
+        /// The IMP whose end it is.
         imp: ImpNumber,
         /// The line's number, from 0.
         line: u32,
@@ -54,9 +54,9 @@ pub enum NetEvent {
     ImpDown(ImpNumber),
     /// An IMP starts, empty and with all its hosts down.
     ImpUp(ImpNumber),
-    /// A host stops.
+    /// A host stops, and nothing waits for it any more.
     HostDown(HostAddr),
-    /// A host starts.
+    /// A host that was down starts.
     HostUp(HostAddr),
     /// The source's IMP gives up the outstanding message of a flow.
     GiveUp(Flow),

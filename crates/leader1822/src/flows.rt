@@ -13,7 +13,7 @@ use std::marker::Model;
 /// What waits of a flow.
 #[derive(Clone, Copy, Drop)]
 pub(crate) enum Pending {
-    /// Its message.
+    /// Its message waits to be taken.
     Message,
     /// The answer to its message.
     Answer(Answer),
@@ -55,7 +55,7 @@ impl Flows {
         self.flows.get(flow).copied()
     }
 
-    /// From now on this waits of a flow. Memory is wanted only where nothing waited of it.
+    /// From now on this waits of a flow. It needs memory only if nothing of the flow waited before.
     pub(crate) fn set(&mut self, flow: Flow, pending: Pending) -> Result<(), AllocError>
         ensures ok { OnOk result (self.new ≡ map.insert self.old flow pending) }
         ensures fresh { OnErr result (map.get self.old flow ≡ None) }

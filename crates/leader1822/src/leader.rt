@@ -1,4 +1,4 @@
-//! The leader: the 32 bits in front of what crosses the interface (BBN Report 1822, message leaders).
+//! The leader: the first 32 bits of what crosses the interface (BBN Report 1822, message leaders).
 
 ghost use Rattle.std.specs.Prelude.{◌≡◌, ℕ, List, ◌∷◌, [], ◌++◌, ◌<◌, ◌*◌, ◌+◌, Ok, Err};
 ghost use Rattle.leader1822.specs.Leader.{read_from_host, read_from_imp, spelling, answer_type, regular_leader, answer_leader};
@@ -16,7 +16,7 @@ pub enum Leader {
     Nop,
     /// A message follows. From a host the address is the destination's, from an IMP the source's.
     Regular {
-        /// The other host.
+        /// The destination from a host, the source from an IMP.
         address: HostAddr,
         /// The message's link.
         link: Link,
@@ -41,7 +41,7 @@ pub enum LeaderFault {
     /// A type of message that isn't in use in this direction.
     #[error("unknown type {0}")]
     UnknownType(u8),
-    /// IMP number 0.
+    /// The IMP's number is 0.
     #[error("bad IMP number")]
     BadImp,
 }

@@ -66,7 +66,7 @@ impl Clone for Text {
 pub struct HostMessage {
     /// Who sends it to whom, and on which link.
     pub flow: Flow,
-    /// What it says.
+    /// The bits that the message says.
     pub text: Text,
 }
 

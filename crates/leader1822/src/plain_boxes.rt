@@ -33,7 +33,7 @@ impl Model for PlainBoxes {
 }
 
 impl PlainBoxes {
-    /// A network of these hosts, all up, with nothing on its way.
+    /// A network of these hosts, all up, with nothing in transit.
     pub fn new(alloc: Global, hosts: Vec<HostAddr>) -> PlainBoxes
         requires { InOrder hosts.items }
         ensures { result ≡ opening_boxes hosts.items }
@@ -112,7 +112,7 @@ impl Carrier for PlainBoxes {
     /// The host gets the oldest answer that waits for it, else the oldest message, else `None`. With a
     /// message, RFNM waits for its source, if that is up.
     ///
-    /// Errors: `NoSuch` where it isn't a host of the network, `IsDown` where it is down. Memory is wanted
+    /// Errors: `NoSuch` where it isn't a host of the network, `IsDown` where it is down. It needs memory
     /// only where something waits.
     fn take_in(&mut self, host: HostAddr) -> Result<Option<Inbound>, CarrierFault> {
         if let Some(fault) = self.contents.host_refusal(&host) {
@@ -131,7 +131,7 @@ impl Carrier for PlainBoxes {
     /// Errors: of `GiveUp` `NoSuch` where the source isn't a host of the network, `NotOutstanding` where
     /// neither a message of the flow nor its RFNM waits; of `HostDown` `NoSuch` and `IsDown`; of `HostUp`
     /// `NoSuch`, `IsUp`, and `Unsettled` while a message of the host's own waits; of every other event
-    /// `NoSuch`. Memory is wanted only by `HostDown`, `HostUp`, and a `GiveUp` whose source is up and
+    /// `NoSuch`. Memory is needed only by `HostDown`, `HostUp`, and a `GiveUp` whose source is up and
     /// whose RFNM doesn't wait.
     fn step(&mut self, event: NetEvent) -> Result<(), CarrierFault> {
         match event {
@@ -143,7 +143,7 @@ impl Carrier for PlainBoxes {
         }
     }
 
-    /// Nothing is on its way here, so nothing changes, and memory is never wanted.
+    /// Nothing is in transit here, so nothing changes, and no memory is needed.
     fn quiet_round(&mut self) -> Result<(), CarrierFault> {
         if self.contents.has_stopped() {
             return Err(CarrierFault::Stopped);

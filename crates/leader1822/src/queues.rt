@@ -3,7 +3,7 @@
 ghost use Rattle.std.specs.Prelude.{◌≡◌, ◌<◌, ◌++◌, List, [], ◌∷◌, None, OnOk, length, filter, not};
 ghost use Rattle.std.specs.FinMap as map;
 ghost use Rattle.std.specs.VecDeque.{deque_len, deque_capacity};
-ghost use Rattle.leader1822.specs.Boxes.{for_host, with_queue, queued, first, rest, is_of, is_rfnm_about};
+ghost use Rattle.leader1822.specs.Boxes.{for_host, with_queue, queued_for, first_of_list, rest, is_of, is_rfnm_about};
 ghost use Rattle.leader1822.specs.declared.crossing.Answer.TheVariants as answer;
 ghost use Rattle.leader1822.specs.Inside.Shown.{waiting_in};
 
@@ -46,6 +46,8 @@ impl<T: Drop> Queues<T> {
     }
 
     /// Nothing changes where what waits for a host is put in its own place.
+    ///
+    /// It is there for the proof alone, and does nothing: a caller that changes no queue learns this equation.
     pub(crate) fn stays(&self, host: &HostAddr)
         ensures { with_queue self.now host.now (for_host self.now host.now) ≡ self.now }
     {
@@ -55,7 +57,7 @@ impl<T: Drop> Queues<T> {
 
     /// Puts one more behind what waits for a host.
     pub(crate) fn push(&mut self, host: HostAddr, item: T) -> Result<(), AllocError>
-        ensures { OnOk result (self.new ≡ queued self.old host item) }
+        ensures { OnOk result (self.new ≡ queued_for self.old host item) }
     {
         if let Some(queue) = self.queues.get_mut(&host) {
             queue.push_back(item)?;
@@ -69,7 +71,7 @@ impl<T: Drop> Queues<T> {
 
     /// Takes the oldest of what waits for a host.
     pub(crate) fn pop(&mut self, host: &HostAddr) -> Option<T>
-        ensures oldest { result ≡ first (for_host self.old host.now) }
+        ensures oldest { result ≡ first_of_list (for_host self.old host.now) }
         ensures left { self.new ≡ with_queue self.old host.now (rest (for_host self.old host.now)) }
         ensures unchanged { result ≡ None → self.new ≡ self.old }
     {
@@ -104,7 +106,7 @@ impl Queues<HostMessage> {
 impl Queues<(Answer, Flow)> {
     /// Puts an answer behind those that wait for the source of its flow.
     pub(crate) fn push_answer(&mut self, kind: Answer, flow: &Flow) -> Result<(), AllocError>
-        ensures { OnOk result (self.new ≡ queued self.old flow.now.source (kind, flow.now)) }
+        ensures { OnOk result (self.new ≡ queued_for self.old flow.now.source (kind, flow.now)) }
     {
         self.push(flow.source, (kind, *flow))
     }

@@ -4,8 +4,8 @@ use Rattle.std.specs.Option.{option_map}
 use Rattle.std.specs.FinMap.{get}
 use Rattle.leader1822.specs.Flow.{same_flow}
 use Rattle.leader1822.specs.declared.address.Flow.{Flow}
-use Rattle.leader1822.proofs.Lists.{same_flow-refl}
-use Rattle.link_table.specs.Flows.{Sources, changed, answered, given_up, handed, last_in, outstanding_in, is_idle_in, answered_in, given_up_in, handed_in, release_in}
+use Rattle.leader1822.proofs.lemmas.{same_flow-refl}
+use Rattle.link_table.specs.Flows.{Sources, changed, flow_answered, given_up, handed, last_in, outstanding_in, is_idle_in, answered_in, given_up_in, handed_in, release_in}
 use Rattle.link_table.specs.declared.source.Standing.{Standing}
 use Rattle.link_table.specs.declared.source.Standing.TheVariants as standing
 use Rattle.link_table.specs.declared.source.Release.TheVariants as release
@@ -52,8 +52,8 @@ handed_keeps F alike (Some (standing.Answered l)) = alike l
 
 -- ---- the number begun last stays
 
-pub answered_last : (m : Sources) (f g : Flow) (n : ℕ) → last_in (get (answered m f n) g) ≡ last_in (get m g)
-unfolding answered
+pub answered_last : (m : Sources) (f g : Flow) (n : ℕ) → last_in (get (flow_answered m f n) g) ≡ last_in (get m g)
+unfolding flow_answered
 answered_last m f g n = same_after last_in (answered_in n) (answered_keeps last_in (λ l. refl) n) m f g
 
 pub given_up_last : (m : Sources) (f g : Flow) → last_in (get (given_up m f) g) ≡ last_in (get m g)
@@ -78,8 +78,8 @@ freed n (Some (standing.Outstanding l)) e =
     ap (λ (b : Bool). outstanding_in (Some (if b then standing.Answered l else standing.Outstanding l))) (eq-eqb l n same)
 freed n (Some (standing.Answered l)) e = refl
 
-pub answered_frees : (m : Sources) (f : Flow) (n : ℕ) → outstanding_in (get m f) ≡ Some n → outstanding_in (get (answered m f n) f) ≡ None
-unfolding answered
+pub answered_frees : (m : Sources) (f : Flow) (n : ℕ) → outstanding_in (get m f) ≡ Some n → outstanding_in (get (flow_answered m f n) f) ≡ None
+unfolding flow_answered
 answered_frees m f n e = ap outstanding_in (at_named (answered_in n) m f) ∙ freed n (get m f) e
 
 stale : (n : ℕ) (o : Option Standing) → release_in n o ≡ release.Stale → option_map (answered_in n) o ≡ o
@@ -91,8 +91,8 @@ stale n (Some (standing.Outstanding l)) e = by (l == n) e where
   by false h = refl
 stale n (Some (standing.Answered l)) e = refl
 
-pub answered_stale : (m : Sources) (f g : Flow) (n : ℕ) → release_in n (get m f) ≡ release.Stale → get (answered m f n) g ≡ get m g
-unfolding answered
+pub answered_stale : (m : Sources) (f g : Flow) (n : ℕ) → release_in n (get m f) ≡ release.Stale → get (flow_answered m f n) g ≡ get m g
+unfolding flow_answered
 answered_stale m f g n e = get_changed (answered_in n) m f g ∙ by (same_flow g f) refl where
   by : (b : Bool) → same_flow g f ≡ b → (if b then option_map (answered_in n) (get m f) else get m g) ≡ get m g
   by true same = stale n (get m f) e ∙ sym (get_same m f g same)
@@ -110,8 +110,8 @@ given_up_frees m f = ap outstanding_in (at_named given_up_in m f) ∙ none_left 
 
 -- ---- the host may send only after it took the answer
 
-pub answered_idle : (m : Sources) (f g : Flow) (n : ℕ) → is_idle_in (get (answered m f n) g) ≡ is_idle_in (get m g)
-unfolding answered
+pub answered_idle : (m : Sources) (f g : Flow) (n : ℕ) → is_idle_in (get (flow_answered m f n) g) ≡ is_idle_in (get m g)
+unfolding flow_answered
 answered_idle m f g n = same_after is_idle_in (answered_in n) (answered_keeps is_idle_in (λ l. refl) n) m f g
 
 pub given_up_idle : (m : Sources) (f g : Flow) → is_idle_in (get (given_up m f) g) ≡ is_idle_in (get m g)

@@ -14,7 +14,7 @@ use Rattle.leader1822.specs.declared.address.Flow.{Flow}
 use Rattle.link_table.specs.Keys.{flow_cmp}
 use Rattle.link_table.specs.Flows.{Sources, outstanding_in, is_outstanding_from, has_outstanding}
 use Rattle.link_table.specs.declared.source.Standing.{Standing}
-use Rattle.leader1822.proofs.Order.{flows_total, exact_flows}
+use Rattle.leader1822.proofs.lemmas.{exact_flows, flows_total}
 
 both : (a b : Bool) → a ≡ true → b ≡ true → (a && b) ≡ true
 both true b e f = f
@@ -34,7 +34,7 @@ rises : {V : Type 0} (f : Flow) (es : List (Flow × V)) → AllByRecursion (λ g
 rises f [] h = refl
 rises f (e ∷ es) h = both (is_lt (flow_cmp f e.0)) (below_all flow_cmp f es) (ap is_lt h.0) (rises f es h.1)
 
-pub sorted_from : {V : Type 0} (es : List (Flow × V)) → IsStrictlySortedBy flow_cmp (keys_of es) → is_sorted flow_cmp es ≡ true
+sorted_from : {V : Type 0} (es : List (Flow × V)) → IsStrictlySortedBy flow_cmp (keys_of es) → is_sorted flow_cmp es ≡ true
 unfolding IsStrictlySortedBy
 sorted_from [] h = refl
 sorted_from (e ∷ es) h = both (below_all flow_cmp e.0 es) (is_sorted flow_cmp es) (rises e.0 es h.0) (sorted_from es h.1)

@@ -10,11 +10,11 @@ use Rattle.std.specs.FinMap.{FinMap, get, insert, keys, get-insert, get-retain_k
 use Rattle.leader1822.specs.Host.{Host, same_host, host_cmp}
 use Rattle.leader1822.specs.Mailboxes.{same_flow}
 use Rattle.leader1822.specs.declared.address.Flow.{Flow}
-use Rattle.link_table.specs.Flows.{Sources, changed, changed_from, begun, answered, given_up, handed, number_in, answered_in, given_up_in, handed_in}
+use Rattle.link_table.specs.Flows.{Sources, changed, changed_from, begun, flow_answered, given_up, handed, number_in, answered_in, given_up_in, handed_in}
 use Rattle.link_table.specs.Keys.{flow_cmp, is_from, drop_from, has_from}
 use Rattle.link_table.specs.declared.source.Standing.{Standing}
 use Rattle.link_table.specs.declared.source.Standing.TheVariants as standing
-use Rattle.leader1822.proofs.Order.{flows_total, exact_flows}
+use Rattle.leader1822.proofs.lemmas.{exact_flows, flows_total}
 use Rattle.link_table.specs.Flows.{last_of}
 use Rattle.link_table.specs.Numbers.{modulus}
 use Rattle.link_table.proofs.NumberLemmas.{next_in, some_number}
@@ -47,7 +47,7 @@ tied_hosts g h =
     ∙ both_same (is_eq (nat_cmp g.imp h.imp)) (g.imp == h.imp) (is_eq (nat_cmp g.host h.host)) (g.host == h.host) (tied_numbers g.imp h.imp) (tied_numbers g.host h.host)
 
 -- flows that compare alike are the same flow
-pub tied_flows : (f g : Flow) → eq_by_cmp flow_cmp f g ≡ same_flow f g
+tied_flows : (f g : Flow) → eq_by_cmp flow_cmp f g ≡ same_flow f g
 tied_flows f g =
     let source : Bool = is_eq (host_cmp f.source g.source) in
     let destination : Bool = is_eq (host_cmp f.destination g.destination) in
@@ -87,8 +87,8 @@ pub get_begun : (m : Sources) (f g : Flow) → get (begun m f) g ≡ (if same_fl
 unfolding begun
 get_begun m f g = get_put m f g (standing.Outstanding (number_in (get m f)))
 
-pub get_answered : (m : Sources) (f g : Flow) (n : ℕ) → get (answered m f n) g ≡ (if same_flow g f then option_map (answered_in n) (get m f) else get m g)
-unfolding answered
+pub get_answered : (m : Sources) (f g : Flow) (n : ℕ) → get (flow_answered m f n) g ≡ (if same_flow g f then option_map (answered_in n) (get m f) else get m g)
+unfolding flow_answered
 get_answered m f g n = get_changed (answered_in n) m f g
 
 pub get_given_up : (m : Sources) (f g : Flow) → get (given_up m f) g ≡ (if same_flow g f then option_map given_up_in (get m f) else get m g)

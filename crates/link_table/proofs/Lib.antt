@@ -4,3 +4,4 @@ pub mod KeyLemmas
 pub mod EntryLemmas
 pub mod WindowLemmas
 pub mod NumberLemmas
+pub mod lemmas

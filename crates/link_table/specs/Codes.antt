@@ -1,4 +1,4 @@
--- The codes of the two tables. A model whose value is a record that holds them wants these: its `coded` is
+-- The codes of the two tables. A model whose value is a record that holds them needs these: its `coded` is
 -- `Prim.hlevel (codes, coded_sources, coded_destinations)`, with `codes` of std.
 use Rattle.std.specs.Prelude.{◌≡◌, ℕ, zero, suc, refl}
 use Rattle.std.specs.Coded.{Coded, code_by, coded×, coded_ℕ}

@@ -85,8 +85,8 @@ unfoldable pub begun : Sources → Flow → Sources
 begun m f = map.insert m f (standing.Outstanding (number_in (map.get m f)))
 
 -- an answer came for a flow, to the message of this number
-unfoldable pub answered : Sources → Flow → ℕ → Sources
-answered m f n = changed (answered_in n) m f
+unfoldable pub flow_answered : Sources → Flow → ℕ → Sources
+flow_answered m f n = changed (answered_in n) m f
 
 -- a flow's outstanding message was given up
 unfoldable pub given_up : Sources → Flow → Sources
@@ -115,7 +115,7 @@ age_of kept n = if is_new kept n then age.New else age.Old
 
 -- ---- refusals
 
--- a call that is refused for `refusal`, and else gives a value with this property: want of memory comes last
+-- a call that is refused for `refusal`, and else gives a value with this property: running out of memory comes last
 abbrev pub FlowDecided : {T : Type 0} → Option FlowFault → (T → Type 0) → Result T FlowFault → Type 0
 FlowDecided refusal Gives (Ok x) = (refusal ≡ None) × Gives x
 FlowDecided refusal Gives (Err fault.OutOfMemory) = refusal ≡ None

@@ -23,7 +23,7 @@ ahead l n = ahead_of modulus l n
 unfoldable pub oldest : ℕ → ℕ
 oldest l = oldest_of modulus window l
 
--- whether a destination that kept this last number, or none, takes n for new
+-- whether a destination that kept this last number, or none, takes n as new
 unfoldable pub is_new : Option ℕ → ℕ → Bool
 is_new kept n = is_new_of modulus window kept n
 

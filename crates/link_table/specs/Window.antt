@@ -1,4 +1,4 @@
--- Numbers that go round, and a window over them: `m` numbers, and a window of `w` ahead of the last one.
+-- Numbers that wrap around, and a window over them: `m` numbers, and a window of `w` ahead of the last one.
 use Rattle.std.specs.Prelude.{ℕ, ◌+◌, ◌-◌, ◌%◌, ◌≤◌, ◌<◌, Bool, true, Option, Some, None, nat_le, ◌&&◌}
 
 -- the number after n

@@ -61,7 +61,7 @@ impl DestFlows {
 
     /// Keeps this number as the flow's last.
     ///
-    /// Errors: memory is wanted only for a flow of which no number is kept. Without memory nothing changes.
+    /// Errors: memory can run out only for a flow of which no number is kept. Then nothing changes.
     pub fn note(&mut self, flow: &Flow, number: Number) -> Result<(), AllocError>
         ensures ok { OnOk result (self.new ≡ map.insert self.old flow.now number) }
         ensures err { OnErr result (self.new ≡ self.old) }

@@ -52,7 +52,7 @@ impl<V: Copy> FlowMap<V> {
     }
 
     /// Puts a flow's value in the place of what was known of it. Without memory nothing changes; memory is
-    /// wanted only for a flow of which nothing was known.
+    /// needed only for a flow of which nothing was known.
     pub fn set(&mut self, flow: Flow, value: V) -> Result<(), AllocError>
         ensures ok { OnOk result (self.new ≡ map.insert self.old flow value) }
         ensures err { OnErr result (self.new ≡ self.old) }

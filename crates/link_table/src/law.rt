@@ -7,7 +7,7 @@ ghost use Rattle.std.specs.FinMap as map;
 ghost use Rattle.leader1822.specs.Host.{Host, same_host};
 ghost use Rattle.leader1822.specs.Mailboxes.{same_flow};
 ghost use Rattle.leader1822.specs.declared.address.Flow.{Flow};
-ghost use Rattle.link_table.specs.Flows.{Sources, Destinations, begun, answered, given_up, handed, number_in, last_in, outstanding_in, is_idle_in, answered_in, given_up_in, handed_in, release_in, has_outstanding};
+ghost use Rattle.link_table.specs.Flows.{Sources, Destinations, begun, flow_answered, given_up, handed, number_in, last_in, outstanding_in, is_idle_in, answered_in, given_up_in, handed_in, release_in, has_outstanding};
 ghost use Rattle.link_table.specs.Keys.{is_from, drop_from, has_from};
 ghost use Rattle.link_table.specs.declared.source.Standing.{Standing};
 ghost use Rattle.link_table.specs.declared.source.Standing.TheVariants as standing;
@@ -15,7 +15,7 @@ ghost use Rattle.link_table.specs.declared.source.Release.TheVariants as release
 ghost use Rattle.link_table.specs.Window.{next_of, oldest_of, is_new_of, NearOf};
 ghost use Rattle.link_table.specs.Numbers.{modulus, window, next, oldest, is_new, Near};
 
-/// Any window over numbers that go round, where there are more than twice as many numbers as the window
+/// Any window over numbers that wrap around, where there are more than twice as many numbers as the window
 /// is wide: what lies behind the last number and what lies ahead of it never meet.
 pub fn any_window()
     // the next number is a number
@@ -71,7 +71,7 @@ pub fn source_flows()
     ensures begun { (m : Sources) (f g : Flow) → map.get (begun m f) g ≡ (if same_flow g f then Some (standing.Outstanding (number_in (map.get m f))) else map.get m g) }
 
     // answer
-    ensures answered { (m : Sources) (f g : Flow) (n : ℕ) → map.get (answered m f n) g ≡ (if same_flow g f then option_map (answered_in n) (map.get m f) else map.get m g) }
+    ensures answered { (m : Sources) (f g : Flow) (n : ℕ) → map.get (flow_answered m f n) g ≡ (if same_flow g f then option_map (answered_in n) (map.get m f) else map.get m g) }
 
     // give_up
     ensures given_up { (m : Sources) (f g : Flow) → map.get (given_up m f) g ≡ (if same_flow g f then option_map given_up_in (map.get m f) else map.get m g) }
@@ -96,19 +96,19 @@ pub fn source_flows()
 /// What an answer, a giving up and a taking leave of the numbers of each flow.
 pub fn numbers_of_sources()
     // none of them changes the number that was begun last
-    ensures answered_last { (m : Sources) (f g : Flow) (n : ℕ) → last_in (map.get (answered m f n) g) ≡ last_in (map.get m g) }
+    ensures answered_last { (m : Sources) (f g : Flow) (n : ℕ) → last_in (map.get (flow_answered m f n) g) ≡ last_in (map.get m g) }
     ensures given_up_last { (m : Sources) (f g : Flow) → last_in (map.get (given_up m f) g) ≡ last_in (map.get m g) }
     ensures handed_last { (m : Sources) (f g : Flow) → last_in (map.get (handed m f) g) ≡ last_in (map.get m g) }
 
     // an answer to the outstanding message ends it, and every other answer changes nothing
-    ensures answered_frees { (m : Sources) (f : Flow) (n : ℕ) → outstanding_in (map.get m f) ≡ Some n → outstanding_in (map.get (answered m f n) f) ≡ None }
-    ensures answered_stale { (m : Sources) (f g : Flow) (n : ℕ) → release_in n (map.get m f) ≡ release.Stale → map.get (answered m f n) g ≡ map.get m g }
+    ensures answered_frees { (m : Sources) (f : Flow) (n : ℕ) → outstanding_in (map.get m f) ≡ Some n → outstanding_in (map.get (flow_answered m f n) f) ≡ None }
+    ensures answered_stale { (m : Sources) (f g : Flow) (n : ℕ) → release_in n (map.get m f) ≡ release.Stale → map.get (flow_answered m f n) g ≡ map.get m g }
 
     // nothing of a flow is outstanding after its message was given up
     ensures given_up_frees { (m : Sources) (f : Flow) → outstanding_in (map.get (given_up m f) f) ≡ None }
 
     // the host may send no sooner for an answer or for a giving up
-    ensures answered_idle { (m : Sources) (f g : Flow) (n : ℕ) → is_idle_in (map.get (answered m f n) g) ≡ is_idle_in (map.get m g) }
+    ensures answered_idle { (m : Sources) (f g : Flow) (n : ℕ) → is_idle_in (map.get (flow_answered m f n) g) ≡ is_idle_in (map.get m g) }
     ensures given_up_idle { (m : Sources) (f g : Flow) → is_idle_in (map.get (given_up m f) g) ≡ is_idle_in (map.get m g) }
 
     // it may when it took the answer, and a message that is outstanding stays so

@@ -1,13 +1,13 @@
 //! The numbers of a flow's messages, at its source and at its destination.
 //!
 //! A flow's source numbers its messages, and sends the next one only when the host has taken the answer
-//! to the last one. Its destination keeps the number that it took last, and takes for new only what lies
+//! to the last one. Its destination keeps the number that it took last, and takes as new only what lies
 //! within a window ahead of it. Here live both tables, one entry for each flow, and the arithmetic of
-//! numbers that go round.
+//! numbers that wrap around.
 //!
 //! The layers above rely on each call changing the flow that it names and no other, on an answer freeing
 //! a flow only with the outstanding number, and on the laws of the window. Nothing here knows of packets
-//! or queues, or of what is on its way in the network.
+//! or queues, or of what is in transit in the network.
 #![tactic(auto)]
 
 mod destination;

@@ -1,4 +1,4 @@
-//! How message numbers go round.
+//! Message numbers, which wrap around after 255.
 
 ghost use Rattle.std.specs.Prelude.{◌≡◌};
 ghost use Rattle.link_table.specs.Numbers.{next, oldest, is_new};
@@ -28,7 +28,7 @@ pub fn oldest(number: Number) -> Number
     ((number as u32 + MESSAGE_NUMBERS - WINDOW) % MESSAGE_NUMBERS) as Number
 }
 
-/// Whether a destination that keeps this last number, or none, takes `number` for new: it does if it keeps
+/// Whether a destination that keeps this last number, or none, takes `number` as new: it does if it keeps
 /// none, or if `number` lies 1 to `WINDOW` steps ahead of the kept one.
 #[tactic(auto, unfolding(crate::specs::Numbers::is_new, crate::specs::Numbers::modulus, crate::specs::Numbers::window))]
 pub fn is_new(kept: Option<Number>, number: Number) -> bool

@@ -2,7 +2,7 @@
 
 ghost use Rattle.std.specs.Prelude.{◌≡◌, OnErr, Err, None, Some, is_some};
 ghost use Rattle.std.specs.FinMap as map;
-ghost use Rattle.link_table.specs.Flows.{FlowDecided, begin_fault, begun, answered, given_up, handed, number_in, last_of, last_in, outstanding_in, is_idle_in, answered_in, given_up_in, handed_in, release_in, has_outstanding};
+ghost use Rattle.link_table.specs.Flows.{FlowDecided, begin_fault, begun, flow_answered, given_up, handed, number_in, last_of, last_in, outstanding_in, is_idle_in, answered_in, given_up_in, handed_in, release_in, has_outstanding};
 
 use crate::FlowFault;
 use crate::flow_map::FlowMap;
@@ -111,7 +111,7 @@ impl SourceFlows {
     }
 
     /// Begins a message of an idle flow and answers its number: 0 for the flow's first message, and then
-    /// one after the other, going round. The flow is then outstanding with it. A refusal changes nothing.
+    /// one after the other, wrapping around. The flow is then outstanding with it. A refusal changes nothing.
     ///
     /// Errors: `Blocked` if the flow isn't idle. `OutOfMemory` only for a flow of which no message was
     /// begun before, since only then the table grows.
@@ -132,9 +132,9 @@ impl SourceFlows {
 
     /// Takes the answer to the message of this number. If that message is the outstanding one, the flow is
     /// answered; otherwise nothing changes.
-    #[tactic(auto, unfolding(crate::specs::Flows::answered))]
+    #[tactic(auto, unfolding(crate::specs::Flows::flow_answered))]
     pub fn answer(&mut self, flow: &Flow, number: Number) -> Release
-        ensures state { self.new ≡ answered self.old flow.now number }
+        ensures state { self.new ≡ flow_answered self.old flow.now number }
         ensures release { result ≡ release_in number (map.get self.old flow.now) }
     {
         let Some(standing) = self.flows.get(flow) else {

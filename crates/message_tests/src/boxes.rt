@@ -103,10 +103,16 @@ fn imp_number(number: u8) -> Option<u8> {
 #[test]
 fn addresses_have_their_ranges(rt: HostRuntime) {
     let numbers = [imp_number(0), imp_number(63), imp_number(64)];
-    assert_eq!(rt; numbers, [None, Some(63), None]);
     let octets = [octet(4, 1), octet(3, 64), octet(3, 63)];
-    assert_eq!(rt; octets, [None, None, Some(0xFF)]);
-    assert_eq!(rt; [parts(0xFF), parts(0xC0)], [Some((3, 63)), None]);
+    let named = [parts(0xFF), parts(0xC0)];
+    assert_eq!(rt;
+        (numbers, octets, named),
+        (
+            [None, Some(63), None],
+            [None, None, Some(0xFF)],
+            [Some((3, 63)), None]
+        )
+    );
 }
 
 /// The flows of the rows.

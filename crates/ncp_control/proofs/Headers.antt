@@ -8,7 +8,7 @@ use Rattle.std.proofs.lemmas.List.{get_or-append-add}
 use Rattle.std.proofs.lemmas.Bool.{or_parts}
 use Rattle.bit_messages.specs.Octets.{octet, octet_bits, octets_of, spare_bits}
 use Rattle.std.specs.Int.{w16, from_be_bytes}
-use Rattle.bit_messages.proofs.OctetLemmas.{octet_again, octet_bits_again, octet_below, length-bits_of, bits_again}
+use Rattle.bit_messages.proofs.lemmas.{bits_again, length-bits_of, octet_again, octet_below, octet_bits_again}
 use Rattle.ncp_control.specs.declared.data_header.DataHeader.{DataHeader}
 use Rattle.ncp_control.specs.DataHeader.{octet_at, fields_of, data_bits, header_of, header_bits, IsHeader}
 
@@ -127,7 +127,7 @@ octet_behind front rest k eight =
     (bit_behind front rest (8 * k + 6) (8 * suc k + 6) (omega (arith, eight))) (bit_behind front rest (8 * k + 7) (8 * suc k + 7) (omega (arith, eight)))
 
 -- each octet of a text has its eight bits
-pub octet_of_text : (text : List Bool) (k : ℕ) → 8 * k + 8 ≤ length text → get_or (octets_of text) k 0 ≡ octet_at text (8 * k)
+octet_of_text : (text : List Bool) (k : ℕ) → 8 * k + 8 ≤ length text → get_or (octets_of text) k 0 ≡ octet_at text (8 * k)
 unfolding octets_of
 octet_of_text [] k there = absurd (omega arith)
 octet_of_text (a ∷ []) k there = absurd (omega arith)

@@ -4,3 +4,4 @@ pub mod Readings
 pub mod Headers
 pub mod Details
 pub mod PackedLemmas
+pub mod lemmas

@@ -193,7 +193,7 @@ coded c h code fields e = let
     P : List ℕ → Type 0 = λ octets. IsCoded (get_or octets 0 0) octets
     in subst P e (spelling_coded c h)
 
--- no front of a spelling but the whole is a command
+-- no prefix of a spelling but the whole is a command
 pub short : (c : Command) (front rest : List ℕ) → IsCommand c → spelling c ≡ front ++ rest → 0 < length rest → read_of front ≡ Err (fault.Short (quoted_of front))
 unfolding read_of
 short c [] rest h e some = refl

@@ -2,7 +2,7 @@
 use Rattle.std.specs.Prelude.{ℕ, ◌+◌, ◌-◌, ◌*◌, ◌/◌, ◌<◌, ◌≤◌, ◌==◌, min, if◌then◌else◌, List, [], ◌∷◌}
 use Rattle.ncp_control.specs.declared.allocation.Allocation.{Allocation}
 
--- the opening
+-- at first nothing is granted
 abbrev pub nothing : Allocation
 nothing = record { messages = 0; bits = 0 }
 
@@ -35,15 +35,15 @@ pub data Act : Type 0 where
   GiveBack : (message_fraction : ℕ) → (bit_fraction : ℕ) → Act
 
 -- the counters after an act
-abbrev pub after : Allocation → Act → Allocation
-after a (Grant messages bits) = granted a messages bits
-after a (Spend bits) = spent a bits
-after a (GiveBack message_fraction bit_fraction) = given_back a message_fraction bit_fraction
+abbrev pub allocation_after : Allocation → Act → Allocation
+allocation_after a (Grant messages bits) = granted a messages bits
+allocation_after a (Spend bits) = spent a bits
+allocation_after a (GiveBack message_fraction bit_fraction) = given_back a message_fraction bit_fraction
 
 -- the counters after these acts, the newest first
 abbrev pub counters : List Act → Allocation
 counters [] = nothing
-counters (act ∷ earlier) = after (counters earlier) act
+counters (act ∷ earlier) = allocation_after (counters earlier) act
 
 -- a spend takes no more than there is
 abbrev pub CanBe : Allocation → Act → Type 0

@@ -1,4 +1,4 @@
--- The 40 bits in front of a message's data (NIC 8246, message format).
+-- The 40 bits that precede a message's data (NIC 8246, message format).
 use Rattle.std.specs.Prelude.{ℕ, ◌+◌, ◌*◌, ◌<◌, ◌^◌, Bool, false, ◌||◌, nat_lt, if◌then◌else◌, List, [], ◌∷◌, ◌++◌, length, slice_index_or, Option, Some, None}
 use Rattle.std.specs.Int.{w16, to_be_bytes, from_be_bytes}
 use Rattle.bit_messages.specs.Octets.{bits_of, octet}

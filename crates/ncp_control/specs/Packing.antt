@@ -14,16 +14,16 @@ abbrev pub AreRead : List ℕ → List Command → Type 0
 AreRead octets [] = octets ≡ []
 AreRead octets (c ∷ cs) = (read_of octets ≡ Ok (c, length (spelling c))) × AreRead (drop (length (spelling c)) octets) cs
 
--- how many commands from the front have room in this many octets
+-- how many commands from the first on have room in this many octets
 abbrev pub count_within : ℕ → List Command → ℕ
 count_within room [] = 0
 count_within room (c ∷ cs) = if nat_le (length (spelling c)) room then count_within (room - length (spelling c)) cs + 1 else 0
 
--- how many commands from the front go into one control message, which has room for 120 octets of them
+-- how many commands from the first on go into one control message, which has room for 120 octets of them
 unfoldable pub packed_count : List Command → ℕ
 packed_count commands = count_within 120 commands
 
--- this many commands from the front go into one message, and one command more doesn't
+-- this many of the first commands go into one message, and one command more doesn't
 pub record IsLongestFront (commands : List Command) (count : ℕ) : Type 0 where
   pub there : count ≤ length commands
   pub fits : length (spellings (take count commands)) ≤ 120

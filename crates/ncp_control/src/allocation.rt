@@ -3,7 +3,7 @@
 ghost use Rattle.std.specs.Prelude.{◌≡◌, ◌<◌, ◌≤◌};
 ghost use Rattle.ncp_control.specs.Allocation.{nothing, granted, spent, share, may_send, given_back};
 
-/// The most bits that a message carries: a text of 8063 bits without the 40 in front of the data.
+/// The most bits that a message carries: a text of 8063 bits without the 40 that precede the data.
 pub const MAX_DATA_BITS: u32 = 8023;
 
 /// The fraction of a GVB that asks for a whole counter, in 128ths.

@@ -14,7 +14,7 @@ pub const MAX_QUOTED: usize = 10;
 /// sender. Its type keeps the ranges of the format, so what reading calls erroneous is no `Command`.
 #[derive(Clone, Copy, Debug, PartialEq, Eq)]
 pub enum Command {
-    /// No operation.
+    /// No operation: to be ignored.
     Nop,
     /// The receiving end asks for a connection, and names the link.
     Rts {
@@ -100,7 +100,7 @@ impl Command {
         Command::Err { code, detail }
     }
 
-    /// Its octets.
+    /// The octets that spell it.
     #[tactic(auto, using(crate::proofs::Readings::again))]
     pub fn write(&self, alloc: Global) -> Result<Vec<u8>, ControlFault>
         ensures spelled { MatchResult result (λ octets. octets.items ≡ spelling self.now) (λ fault. fault ≡ OutOfMemory) }

@@ -34,7 +34,7 @@ impl ConnectionLink {
         }
     }
 
-    /// Its number.
+    /// The link's number, 2 to 31.
     pub fn number(self) -> u8
         ensures value { result ≡ self }
         ensures range { IsTrue (is_connection_link result) }

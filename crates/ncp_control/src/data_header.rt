@@ -1,4 +1,4 @@
-//! What stands in front of a message's data.
+//! The header of a host message, which precedes its data.
 
 ghost use Rattle.std.specs.Prelude.{◌≡◌, ◌*◌, ◌≤◌, MatchResult, length};
 ghost use Rattle.bit_messages.specs.declared.fault.BitFault.TheVariants.{OutOfMemory};
@@ -7,10 +7,10 @@ ghost use Rattle.ncp_control.specs.DataHeader.{fields_of, header_of, header_bits
 use bit_messages::{BitFault, Bits};
 use std::alloc::Global;
 
-/// How many bits stand in front of the data.
+/// How many bits precede the data.
 pub const HEADER_BITS: usize = 40;
 
-/// The byte size and the byte count in front of a message's data (NIC 8246, message format). Of the 40
+/// The byte size and the byte count that precede a message's data (NIC 8246, message format). Of the 40
 /// bits the first eight and the last eight are zeros; they are ignored when read.
 #[derive(Clone, Copy, Debug, PartialEq, Eq)]
 pub struct DataHeader {
@@ -36,7 +36,7 @@ impl DataHeader {
         Some(header)
     }
 
-    /// Its 40 bits.
+    /// The 40 bits that spell it.
     pub fn write(&self, alloc: Global) -> Result<Bits, BitFault>
         ensures { MatchResult result (λ bits. bits ≡ header_bits self.now) (λ fault. fault ≡ OutOfMemory) }
     {

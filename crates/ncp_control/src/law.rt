@@ -20,7 +20,7 @@ pub fn commands()
     ensures some { (c : Command) → 0 < length (spelling c) }
     ensures octets { (c : Command) → IsCommand c → All (λ n. n < 2 ^ 8) (spelling c) }
 
-    // every shorter front of a spelling is too short
+    // every shorter prefix of a spelling is too short
     ensures short { (c : Command) (front rest : List ℕ) → IsCommand c → spelling c ≡ front ++ rest → 0 < length rest → read_of front ≡ Err (fault.Short (min (length front) 10)) }
 
     // what was read is a command, and the octets used are its own
@@ -28,18 +28,18 @@ pub fn commands()
     ensures command { (octets : List ℕ) (c : Command) (used : ℕ) → All (λ n. n < 2 ^ 8) octets → read_of octets ≡ Ok (c, used) → IsCommand c }
 {}
 
-/// A control message takes the longest front of whole commands.
+/// A control message takes the longest prefix of whole commands.
 pub fn packing()
     ensures front { (commands : List Command) → IsLongestFront commands (packed_count commands) }
 
     // what is packed is read again as these commands
     ensures again { (commands : List Command) → All IsCommand commands → AreRead (spellings commands) commands }
 
-    // and there is no other such front
+    // and there is no other such prefix
     ensures only { (commands : List Command) (count : ℕ) → IsLongestFront commands count → count ≡ packed_count commands }
 {}
 
-/// A header is read as it was written, in front of the data that it announces.
+/// A header that is followed by the data which it announces is read as it was written.
 pub fn headers()
     ensures again { (h : DataHeader) (behind : List Bool) → IsHeader h → data_bits h ≤ length behind → header_of (header_bits h ++ behind) ≡ Some h }
 

@@ -2,7 +2,7 @@
 //!
 //! Two hosts open, feed and close their connections by fourteen commands that they send each other on
 //! link 0 (NIC 8246, Host/Host Protocol for the ARPA Network). Here live the commands as values and as
-//! octets, the packing of commands into one control message, the 40 bits in front of every message's
+//! octets, the packing of commands into one control message, the 40 bits that precede every message's
 //! data, and the two counters by which a receiver grants and a sender spends.
 //!
 //! The layer above relies on each command having one spelling and one reading, on faults that say what

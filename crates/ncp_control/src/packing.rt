@@ -12,7 +12,7 @@ use std::alloc::Global;
 /// The most octets of commands that one control message has (NIC 8246, the control link).
 pub const MAX_CONTROL_OCTETS: usize = 120;
 
-/// How many commands from the front have room in one control message.
+/// How many commands, from the first on, have room in one control message.
 #[tactic(auto, unfolding(crate::specs::Packing::packed_count))]
 pub fn packed_count(commands: &[Command]) -> usize
     ensures count { result ≡ packed_count commands.now }
@@ -29,7 +29,7 @@ pub fn packed_count(commands: &[Command]) -> usize
     commands.len()
 }
 
-/// Packs the longest front of whole commands that has room in one control message. Returns the octets,
+/// Packs the longest prefix of whole commands that has room in one control message. Returns the octets,
 /// and how many commands they spell.
 ///
 /// RST and RRP are never packed: each is a message of its own.

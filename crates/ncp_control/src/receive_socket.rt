@@ -33,7 +33,7 @@ impl ReceiveSocket {
         }
     }
 
-    /// Its number.
+    /// The socket's number, which is even.
     pub fn number(self) -> u32
         ensures value { result ≡ self }
         ensures even { IsTrue (is_receive_socket result) }

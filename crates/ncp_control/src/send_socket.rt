@@ -33,7 +33,7 @@ impl SendSocket {
         }
     }
 
-    /// Its number.
+    /// The socket's number, which is odd.
     pub fn number(self) -> u32
         ensures value { result ≡ self }
         ensures odd { IsTrue (is_send_socket result) }

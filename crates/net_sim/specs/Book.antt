@@ -47,8 +47,8 @@ granted messages bits x = record x { granted = more messages bits x.granted }
 abbrev pub returned : ℕ → ℕ → Life → Life
 returned messages bits x = record x { returned = more messages bits x.returned }
 
-abbrev pub ended : Life → Life
-ended x = record x { ended = true }
+abbrev pub life_ended : Life → Life
+life_ended x = record x { ended = true }
 
 -- the life of a host's socket: the one there that hasn't ended
 abbrev pub lives_at : Host → ℕ → Life → Bool
@@ -76,8 +76,8 @@ where_it test change lives = map (λ x. changed_when (test x) change x) lives
 -- connections with its peer are gone
 abbrev pub lives_told : Host → Notice → List Life → List Life
 lives_told h (notice.Opened socket peer foreign own partner) lives = lives ++ new_life h socket peer foreign own partner ∷ []
-lives_told h (notice.Ended socket peer foreign) lives = where_it (lives_between h socket peer foreign) ended lives
-lives_told h (notice.PairReset peer) lives = where_it (lives_with h peer) ended lives
+lives_told h (notice.Ended socket peer foreign) lives = where_it (lives_between h socket peer foreign) life_ended lives
+lives_told h (notice.PairReset peer) lives = where_it (lives_with h peer) life_ended lives
 lives_told h (notice.Sent socket bits) lives = where_it (lives_at h socket) (carried bits) lives
 lives_told h (notice.Arrived socket bits) lives = where_it (lives_at h socket) (carried bits) lives
 lives_told h (notice.Returned socket messages bits) lives = where_it (lives_at h socket) (returned messages bits) lives
@@ -94,7 +94,7 @@ lives_asked h r lives = lives
 
 -- a host that stops ends its lives
 abbrev pub lives_crossed : Crossing → List Life → List Life
-lives_crossed (crossing.Down h) lives = where_it (lives_on h) ended lives
+lives_crossed (crossing.Down h) lives = where_it (lives_on h) life_ended lives
 lives_crossed c lives = lives
 
 -- ---- what was handed over to be sent, a list of bits for each life
@@ -134,7 +134,7 @@ pub record Kept : Type 0 where
 abbrev pub opening_kept : Kept
 opening_kept = record { book = opening_book; handed = [] }
 
--- something crossed
+-- the crossing stands in the log, and a host that stops ends its lives
 abbrev pub crossed : Crossing → Kept → Kept
 crossed c k = record k { book = record k.book { crossings = c ∷ k.book.crossings; lives = lives_crossed c k.book.lives } }
 
@@ -144,15 +144,15 @@ all_crossed [] k = k
 all_crossed (c ∷ cs) k = crossed c (all_crossed cs k)
 
 -- a host was told something
-abbrev pub told : Host → Notice → Kept → Kept
-told h n k = record {
+abbrev pub book_told : Host → Notice → Kept → Kept
+book_told h n k = record {
   book = record k.book { notices = k.book.notices ++ record { host = h; place = length k.book.crossings; notice = n } ∷ []; lives = lives_told h n k.book.lives };
   handed = handed_told n k.handed;
 }
 
 abbrev pub all_told : Host → List Notice → Kept → Kept
 all_told h [] k = k
-all_told h (n ∷ ns) k = all_told h ns (told h n k)
+all_told h (n ∷ ns) k = all_told h ns (book_told h n k)
 
 abbrev pub contacts_asked : Host → ℕ → Request → List Called
 contacts_asked h place (request.Contact peer) = record { host = h; place = place; peer = peer } ∷ []

@@ -14,7 +14,7 @@ shown calls = record {
   rounds = λ old r new. calls.rounds old r new × ShowsRound (calls.seen old) r (calls.seen new);
 }
 
--- the book has the carrier's log, but for what crossed in the event in which memory ran out
+-- the book has the carrier's log, except for what crossed in the event in which memory ran out
 pub record IsBooked {C : Type 0} (seen : C → Seen) (w : WorldState C) : Type 0 where
   pub unbooked : List Crossing
   pub book : (seen w.carrier).log ≡ unbooked ++ w.kept.book.crossings

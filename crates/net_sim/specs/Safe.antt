@@ -75,7 +75,7 @@ pub record Match (log : List Crossing) (receiver sender : Life) : Type 0 where
   pub asked : partner_request log receiver ≡ Some (own_request sender)
   pub answered : partner_request log sender ≡ Some (own_request receiver)
 
--- a list is the front of another
+-- a list is a prefix of another
 abbrev pub IsFront : List Bool → List Bool → Type 0
 IsFront xs ys = (rest : List Bool) × (xs ++ rest ≡ ys)
 
@@ -86,14 +86,14 @@ pub record Source (log : List Crossing) (lives : List Life) (receiver : Life) : 
   pub matches : Match log receiver sender
   pub front : IsFront receiver.bits sender.bits
 
--- what each sending life sent is a front of what was handed over in it
+-- what each sending life sent is a prefix of what was handed over in it
 abbrev pub AreHanded : List Life → List (List Bool) → Type 0
 AreHanded [] handed = handed ≡ []
 AreHanded (x ∷ lives) [] = ⊥
 AreHanded (x ∷ lives) (h ∷ handed) = (sends x ≡ true → IsFront x.bits h) × AreHanded lives handed
 
--- a receiving life matches at most one sending one; where it took any bit there is one, and what it took is a front of what
--- that one sent. What each sending life sent is a front of what was handed over in it
+-- a receiving life matches at most one sending one; where it took any bit there is one, and what it took is a prefix of what
+-- that one sent. What each sending life sent is a prefix of what was handed over in it
 pub record SafeStreams (log : List Crossing) (lives : List Life) (handed : List (List Bool)) : Type 0 where
   pub one : (receiver x y : Life) → Contains lives receiver → AreTwo lives x y → Match log receiver x → Match log receiver y → ⊥
   pub source : (receiver : Life) → Contains lives receiver → receives receiver ≡ true → (receiver.bits ≡ [] → ⊥) → Source log lives receiver
@@ -114,7 +114,7 @@ pub record SafeGrants (log : List Crossing) (lives : List Life) : Type 0 where
 -- ---- the safe book
 
 -- a message answered by RFNM was taken exactly once and none is taken twice; no two ends hold one opening with different partners;
--- what was taken is a front of what its one partner sent; and what was taken, and what was sent, is granted
+-- what was taken is a prefix of what its one partner sent; and what was taken, and what was sent, is granted
 pub record SafeBook (log : List Crossing) (lives : List Life) (handed : List (List Bool)) : Type 0 where
   pub messages : SafeMessages log
   pub partners : SafePartners log lives

@@ -38,17 +38,17 @@ abbrev pub events_of : List Moment → List Event
 events_of moments = map event_in moments
 
 -- a host's program after one moment more
-abbrev pub after : Host → ℕ → Moment → NcpState → NcpState
-after a here (Crossed (crossing.Out m)) s = if same_host a m.flow.source then (offered s here).0 else s
-after a here (Crossed (crossing.In m)) s = if same_host a m.flow.destination then (accepted s (inbound.Message m) here).0 else s
-after a here (Crossed (crossing.Answer kind f)) s = if same_host a f.source then (accepted s (inbound.Answer kind f) here).0 else s
-after a here (Crossed (crossing.Down h)) s = if same_host a h then opening_state a else s
-after a here (Crossed (crossing.Up h)) s = if same_host a h then opening_state a else s
-after a here (Asked h r) s = if same_host a h then served s r else s
+abbrev pub program_after : Host → ℕ → Moment → NcpState → NcpState
+program_after a here (Crossed (crossing.Out m)) s = if same_host a m.flow.source then (offered s here).0 else s
+program_after a here (Crossed (crossing.In m)) s = if same_host a m.flow.destination then (accepted s (inbound.Message m) here).0 else s
+program_after a here (Crossed (crossing.Answer kind f)) s = if same_host a f.source then (accepted s (inbound.Answer kind f) here).0 else s
+program_after a here (Crossed (crossing.Down h)) s = if same_host a h then opening_state a else s
+program_after a here (Crossed (crossing.Up h)) s = if same_host a h then opening_state a else s
+program_after a here (Asked h r) s = if same_host a h then served s r else s
 
 abbrev pub program : Host → List Moment → NcpState
 program a [] = opening_state a
-program a (x ∷ moments) = after a (places moments) x (program a moments)
+program a (x ∷ moments) = program_after a (places moments) x (program a moments)
 
 -- what goes out is what its host's program says next
 pub record IsNext (s : NcpState) (m : HostMessage) : Type 0 where

@@ -34,11 +34,11 @@ abbrev pub kept_by : Moment → Kept → Kept
 kept_by (Crossed c) k = crossed c k
 kept_by (Asked h r) k = asked h r k
 
--- all that is kept of these moments, but for what services report
+-- all that is kept of these moments, except for what services report
 abbrev pub kept_in : List Moment → Kept
 kept_in [] = opening_kept
 kept_in (x ∷ moments) = all_told (host_in x) (notices_by x moments) (kept_by x (kept_in moments))
 
--- what is kept, but for what services reported
+-- what is kept, except for what services reported
 abbrev pub without_reports : Kept → Kept
 without_reports k = record k { book = record k.book { reports = [] } }

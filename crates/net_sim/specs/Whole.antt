@@ -8,19 +8,19 @@ use Rattle.net_sim.specs.Story.{Moment, program}
 use Rattle.net_sim.specs.Timeline.{IsAddressed, IsAsked, IsTimeline, crossings_of, contacts_of}
 use Rattle.net_sim.specs.Told.{kept_in, without_reports}
 use Rattle.host_services.specs.Named.{NamePeers}
-use Rattle.net_sim.specs.World.{Event, Net, Quiet, Offer, Take, Ask, Server, User, Typed, Seat, HostServices, WorldState}
+use Rattle.net_sim.specs.World.{Event, Net, Quiet, Offer, Take, Ask, Server, User, Typed, Seat, ServiceSeat, WorldState}
 
 -- a host's seat after these moments
 abbrev pub seat_in : List Host → List Moment → Host → Seat
 seat_in hosts moments h = record { host = h; program = if is_up hosts h (crossings_of moments) then Some (program h moments) else None }
 
--- until want of memory each host has its services, in the hosts' order, and they name their peers by addresses
-pub record AreServed (hosts : List Host) (all : List HostServices) : Type 0 where
+-- until memory runs out each host has its services, in the hosts' order, and they name their peers by addresses
+pub record AreServed (hosts : List Host) (all : List ServiceSeat) : Type 0 where
   pub order : map (λ s. s.host) all ≡ hosts
   pub named : All (λ s. NamePeers s.services) all
 
--- the book has the crossings and the contacts of these moments, and all else that is kept, but for what services report, is what
--- they tell. Until want of memory each host that is up has the program that comes of them
+-- the book has the crossings and the contacts of these moments, and all else that is kept, except for what services report, is what
+-- they tell. Until memory runs out each host that is up has the program that comes of them
 pub record IsWhole {C : Type 0} (seen : C → Seen) (hosts : List Host) (w : WorldState C) : Type 0 where
   pub moments : List Moment
   pub timeline : IsTimeline hosts moments

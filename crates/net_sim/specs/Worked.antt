@@ -10,7 +10,7 @@ use Rattle.sockets.specs.Pairs.{opening_state}
 use Rattle.host_pairs.specs.declared.notice.Notice.TheVariants as notice
 use Rattle.sockets.specs.declared.request.Request.TheVariants as request
 use Rattle.sockets.specs.Worked.{first, second, third, on_link}
-use Rattle.net_sim.specs.Book.{Life, Kept, Told, opening_kept, all_crossed, told, asked}
+use Rattle.net_sim.specs.Book.{Life, Kept, Told, opening_kept, all_crossed, book_told, asked}
 use Rattle.net_sim.specs.World.{Calls, WorldState, opening_world, changed, served_at}
 
 -- ---- books
@@ -32,15 +32,15 @@ crossings =
     ∷ crossing.Out (message second first 0) ∷ crossing.In (message first second 0) ∷ crossing.Out (message first second 0) ∷ []
 
 -- after them a connection is open from the second's socket 33 to the first's socket 16
-abbrev pub opened : Kept
-opened =
-    told first (notice.Opened 16 second 33 0 4) (told second (notice.Opened 33 first 16 2 1) (all_crossed crossings opening_kept))
+abbrev pub opened_kept : Kept
+opened_kept =
+    book_told first (notice.Opened 16 second 33 0 4) (book_told second (notice.Opened 33 first 16 2 1) (all_crossed crossings opening_kept))
 
 -- and two messages and 100 bits are granted, eight bits are handed over, sent and taken, and one message and 4 bits are returned
 abbrev pub used : Kept
 used =
-    told first (notice.Returned 16 1 4) (told first (notice.Arrived 16 eight) (told second (notice.Sent 33 eight)
-    (asked second (request.Send 33 eight) (asked first (request.Grant 16 2 100) opened))))
+    book_told first (notice.Returned 16 1 4) (book_told first (notice.Arrived 16 eight) (book_told second (notice.Sent 33 eight)
+    (asked second (request.Send 33 eight) (asked first (request.Grant 16 2 100) opened_kept))))
 
 -- the lives that begin so
 abbrev pub receiver : Life

@@ -28,25 +28,25 @@ abbrev pub eight_sent : HostMessage
 eight_sent = sockets.message second first 2 (0 ∷ 8 ∷ 0 ∷ 1 ∷ 0 ∷ 255 ∷ [])
 
 -- a message on link 0 is answered
-abbrev pub answered : Host → Host → Moment
-answered from to = Crossed (crossing.Answer answer.Rfnm (on_link from to 0))
+abbrev pub answered_moment : Host → Host → Moment
+answered_moment from to = Crossed (crossing.Answer answer.Rfnm (on_link from to 0))
 
 -- the first host contacts the second
 abbrev pub contacted : List Moment
 contacted =
-    answered second first ∷ Crossed (crossing.In (rrp second first)) ∷ Crossed (crossing.Out (rrp second first)) ∷ answered first second
+    answered_moment second first ∷ Crossed (crossing.In (rrp second first)) ∷ Crossed (crossing.Out (rrp second first)) ∷ answered_moment first second
     ∷ Crossed (crossing.In (rst first second)) ∷ Crossed (crossing.Out (rst first second)) ∷ Asked first (request.Contact second) ∷ []
 
 -- then it asks for a connection to its socket 16, and the second's socket 33 was listening
 abbrev pub connected : List Moment
 connected =
-    answered second first ∷ Crossed (crossing.In str) ∷ answered first second ∷ Crossed (crossing.Out str) ∷ Crossed (crossing.In rts)
+    answered_moment second first ∷ Crossed (crossing.In str) ∷ answered_moment first second ∷ Crossed (crossing.Out str) ∷ Crossed (crossing.In rts)
     ∷ Crossed (crossing.Out rts) ∷ Asked first (request.OpenReceive second 16 33) ∷ Asked second (request.Listen 33 8) ∷ contacted
 
 -- and eight bits are sent on it
-abbrev pub sent : List Moment
-sent =
-    Crossed (crossing.In eight_sent) ∷ Crossed (crossing.Out eight_sent) ∷ answered first second ∷ Crossed (crossing.In all_given)
+abbrev pub sent_moments : List Moment
+sent_moments =
+    Crossed (crossing.In eight_sent) ∷ Crossed (crossing.Out eight_sent) ∷ answered_moment first second ∷ Crossed (crossing.In all_given)
     ∷ Crossed (crossing.Out all_given) ∷ Asked second (request.Send 33 eight) ∷ Asked first (request.Grant 16 2 100) ∷ connected
 
 -- who was told what, without the places

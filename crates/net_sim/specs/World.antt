@@ -15,8 +15,8 @@ pub use Rattle.net_sim.specs.declared.event.Event.TheVariants.{Net, Quiet, Offer
 pub use Rattle.net_sim.specs.declared.event.WorldFault.{WorldFault}
 pub use Rattle.net_sim.specs.declared.event.WorldFault.TheVariants.{Carrier, Program}
 pub use Rattle.net_sim.specs.declared.seat.Seat.{Seat}
-pub use Rattle.net_sim.specs.declared.seat.HostServices.{HostServices}
-use Rattle.host_services.specs.Services.{ServicesState, DeskState, no_services, opening_desk}
+pub use Rattle.net_sim.specs.declared.seat.ServiceSeat.{ServiceSeat}
+use Rattle.host_services.specs.Services.{ServicesState, ServiceDeskState, no_services, opening_desk}
 use Rattle.host_services.specs.Turns as services
 use Rattle.host_services.specs.TypedLines.{line_bits}
 use Rattle.sockets.specs.Accepting.{accepted}
@@ -54,54 +54,54 @@ abbrev pub seated : Host → Option NcpState → List Seat → List Seat
 seated h program seats = map (λ s. with_program (same_host h s.host) program s) seats
 
 -- a host that stops loses its program, and one that starts has a new one
-abbrev pub turned : Crossing → List Seat → List Seat
-turned (crossing.Down h) seats = seated h None seats
-turned (crossing.Up h) seats = seated h (Some (opening_state h)) seats
-turned c seats = seats
+abbrev pub seats_turned : Crossing → List Seat → List Seat
+seats_turned (crossing.Down h) seats = seated h None seats
+seats_turned (crossing.Up h) seats = seated h (Some (opening_state h)) seats
+seats_turned c seats = seats
 
 -- several crossings, newest first
 abbrev pub all_turned : List Crossing → List Seat → List Seat
 all_turned [] seats = seats
-all_turned (c ∷ cs) seats = turned c (all_turned cs seats)
+all_turned (c ∷ cs) seats = seats_turned c (all_turned cs seats)
 
 -- ---- what runs on the hosts
 
--- nothing
-abbrev pub opening_services : List Host → List HostServices
+-- at first no services run
+abbrev pub opening_services : List Host → List ServiceSeat
 opening_services hosts = map (λ h. record { host = h; services = no_services }) hosts
 
-abbrev pub services_in : Option HostServices → ServicesState
+abbrev pub services_in : Option ServiceSeat → ServicesState
 services_in None = no_services
 services_in (Some s) = s.services
 
-abbrev pub services_of : Host → List HostServices → ServicesState
+abbrev pub services_of : Host → List ServiceSeat → ServicesState
 services_of h all = services_in (find (λ s. same_host h s.host) all)
 
-abbrev pub with_services : Bool → ServicesState → HostServices → HostServices
+abbrev pub with_services : Bool → ServicesState → ServiceSeat → ServiceSeat
 with_services here services s = if here then record { host = s.host; services = services } else s
 
 -- a host's services are now these
-abbrev pub serviced : Host → ServicesState → List HostServices → List HostServices
+abbrev pub serviced : Host → ServicesState → List ServiceSeat → List ServiceSeat
 serviced h services all = map (λ s. with_services (same_host h s.host) services s) all
 
 -- a host that stops loses its services
-abbrev pub emptied : Crossing → List HostServices → List HostServices
+abbrev pub emptied : Crossing → List ServiceSeat → List ServiceSeat
 emptied (crossing.Down h) all = serviced h no_services all
 emptied c all = all
 
 -- several crossings, newest first
-abbrev pub all_emptied : List Crossing → List HostServices → List HostServices
+abbrev pub all_emptied : List Crossing → List ServiceSeat → List ServiceSeat
 all_emptied [] all = all
 all_emptied (c ∷ cs) all = emptied c (all_emptied cs all)
 
 -- ---- the world
 
--- the carrier, the hosts in the carrier's order, what runs on them, what is kept of them, and whether want of memory has stopped
--- all
+-- the carrier, the hosts in the carrier's order, what runs on them, what is kept of them, and whether running out of memory has
+-- stopped all
 pub record WorldState (C : Type 0) : Type 0 where
   pub carrier : C
   pub seats : List Seat
-  pub services : List HostServices
+  pub services : List ServiceSeat
   pub kept : Kept
   pub stopped : Bool
 
@@ -135,15 +135,15 @@ abbrev pub noticed : {C : Type 0} → WorldState C → ℕ
 noticed w = length w.kept.book.notices
 
 -- what they asked for was served, and they reported this
-abbrev pub done_by : Host → DeskState → Kept → Kept
+abbrev pub done_by : Host → ServiceDeskState → Kept → Kept
 done_by h d k = all_reported d.reports (all_asked h d.asked k)
 
 -- the services of a host are told this of its program, notice by notice, where so many notices stood in the book before
-abbrev pub turn_of : Host → ℕ → ServicesState → NcpState × List Notice → ServicesState × DeskState
-turn_of h before s turn = services.told turn.1 s (opening_desk h before turn.0)
+abbrev pub turn_of : Host → ℕ → ServicesState → NcpState × List Notice → ServicesState × ServiceDeskState
+turn_of h before s turn = services.services_told turn.1 s (opening_desk h before turn.0)
 
 -- after the services of a host had their turns: they, the host's program, what they asked for, and what they reported
-abbrev pub tended : {C : Type 0} → Host → ServicesState × DeskState → WorldState C → WorldState C
+abbrev pub tended : {C : Type 0} → Host → ServicesState × ServiceDeskState → WorldState C → WorldState C
 tended h t w = record w {
   seats = seated h (Some t.1.program) w.seats;
   services = serviced h t.0 w.services;
@@ -152,16 +152,16 @@ tended h t w = record w {
 
 -- a host's program is this now, and told this: that goes into the book, and then to the host's services, notice by notice. What
 -- they ask for is asked at once
-abbrev pub heard : {C : Type 0} → Host → NcpState × List Notice → WorldState C → WorldState C
-heard h turn w = tended h (turn_of h (noticed w) (services_of h w.services) turn) (record w { kept = all_told h turn.1 w.kept })
+abbrev pub world_heard : {C : Type 0} → Host → NcpState × List Notice → WorldState C → WorldState C
+world_heard h turn w = tended h (turn_of h (noticed w) (services_of h w.services) turn) (record w { kept = all_told h turn.1 w.kept })
 
 -- this crossed, and the host's program told that of it, at a world whose carrier is now this one
-abbrev pub moved : {C : Type 0} → C → Host → Crossing → NcpState × List Notice → WorldState C → WorldState C
-moved c h x turn w = heard h turn (record w { carrier = c; kept = crossed x w.kept })
+abbrev pub world_moved : {C : Type 0} → C → Host → Crossing → NcpState × List Notice → WorldState C → WorldState C
+world_moved c h x turn w = world_heard h turn (record w { carrier = c; kept = crossed x w.kept })
 
 -- after something that a user asked for
 abbrev pub served_at : {C : Type 0} → Host → Request → NcpState → WorldState C → WorldState C
-served_at h r s w = heard h (served s r, served_notices s r) (record w { kept = asked h r w.kept })
+served_at h r s w = world_heard h (served s r, served_notices s r) (record w { kept = asked h r w.kept })
 
 -- a server and a user begin on a host
 abbrev pub with_server : {C : Type 0} → Host → ℕ → ℕ → NcpState → WorldState C → WorldState C
@@ -181,11 +181,11 @@ wants_memory (Program f) = false
 abbrev pub Refuses : {C : Type 0} → WorldFault → WorldState C → Result (Unit {0}) WorldFault → WorldState C → Type 0
 Refuses f old r new = (r ≡ Err f) × (new ≡ old)
 
--- it is done
+-- the call succeeds, and this is the world after it
 abbrev pub Does : {C : Type 0} → WorldState C → Result (Unit {0}) WorldFault → WorldState C → Type 0
 Does done r new = (r ≡ Ok tt) × (new ≡ done)
 
--- want of memory stops the world, with its carrier as its last call left it. What is kept stands as it was
+-- running out of memory stops the world, with its carrier as its last call left it. What is kept stays as it was
 pub record Halts {C : Type 0} (c : C) (old : WorldState C) (r : Result (Unit {0}) WorldFault) (new : WorldState C) : Type 0 where
   pub fault : WorldFault
   pub answer : r ≡ Err fault
@@ -194,7 +194,7 @@ pub record Halts {C : Type 0} (c : C) (old : WorldState C) (r : Result (Unit {0}
   pub kept : new.kept ≡ old.kept
   pub stopped : new.stopped ≡ true
 
--- the carrier refused: so does the world, and want of memory stops both
+-- the carrier refused: so does the world, and running out of memory stops both
 abbrev pub Passes : {C : Type 0} → CarrierFault → C → WorldState C → Result (Unit {0}) WorldFault → WorldState C → Type 0
 Passes e c old r new = (r ≡ Err (Carrier e)) × (new ≡ record old { carrier = c; stopped = is_memory e })
 
@@ -202,7 +202,7 @@ Passes e c old r new = (r ≡ Err (Carrier e)) × (new ≡ record old { carrier 
 
 -- the carrier took the message, or not
 abbrev pub OfferEnds : {C : Type 0} → Host → NcpState → HostMessage → Result (Unit {0}) CarrierFault → C → WorldState C → Result (Unit {0}) WorldFault → WorldState C → Type 0
-OfferEnds h s m (Ok done) c old r new = Does (moved c h (crossing.Out m) (offered s (length old.kept.book.crossings)) old) r new ⊎ Halts c old r new
+OfferEnds h s m (Ok done) c old r new = Does (world_moved c h (crossing.Out m) (offered s (length old.kept.book.crossings)) old) r new ⊎ Halts c old r new
 OfferEnds h s m (Err e) c old r new = Passes e c old r new
 
 -- a host's next message goes out, if it has one. Memory may run out before the carrier is asked
@@ -214,7 +214,7 @@ OfferGives {C} calls h s (Some m) old r new =
 -- the carrier gave something, nothing, or refused
 abbrev pub TakeEnds : {C : Type 0} → Host → NcpState → Result (Option Inbound) CarrierFault → C → WorldState C → Result (Unit {0}) WorldFault → WorldState C → Type 0
 TakeEnds h s (Ok None) c old r new = Does (with_carrier c old) r new
-TakeEnds h s (Ok (Some i)) c old r new = Does (moved c h (crossing_of i) (accepted s i (length old.kept.book.crossings)) old) r new ⊎ Halts c old r new
+TakeEnds h s (Ok (Some i)) c old r new = Does (world_moved c h (crossing_of i) (accepted s i (length old.kept.book.crossings)) old) r new ⊎ Halts c old r new
 TakeEnds h s (Err e) c old r new = Passes e c old r new
 
 abbrev pub TakeGives : {C : Type 0} → Calls C → Host → NcpState → WorldState C → Result (Unit {0}) WorldFault → WorldState C → Type 0
@@ -262,7 +262,7 @@ EventGives calls old (Server h listen base) r new = AtSeat (λ s. DoesOrHalts (w
 EventGives calls old (User h peer listen own) r new = AtSeat (λ s. DoesOrHalts (with_user h peer listen own s old) old r new) (seat_of h old.seats) old r new
 EventGives calls old (Typed h line) r new = AtSeat (λ s. TypeGives h line s (services_of h old.services).typing old r new) (seat_of h old.seats) old r new
 
--- after want of memory nothing is done any more
+-- after memory has run out every event is refused as `Stopped`
 abbrev pub StepGives : {C : Type 0} → Calls C → WorldState C → Event → Result (Unit {0}) WorldFault → WorldState C → Type 0
 StepGives calls old e r new = MatchBool old.stopped (Refuses (Carrier fault.Stopped) old r new) (EventGives calls old e r new)
 
@@ -273,7 +273,7 @@ stops (Ok done) = false
 stops (Err (Carrier f)) = is_memory f || is_halt f
 stops (Err (Program f)) = wants_memory (Program f)
 
--- one event after the other: a refused one is passed over, and want of memory ends it
+-- one event after the other: it continues after a refusal, and ends when memory runs out
 abbrev pub Runs : {C : Type 0} → Calls C → WorldState C → List Event → Result (Unit {0}) WorldFault → WorldState C → Type 0
 Runs calls old [] r new = Does old r new
 Runs {C} calls old (e ∷ events) r new =

@@ -12,13 +12,16 @@ ghost use Rattle.sockets.specs.Requests.{refusal, served, served_notices};
 
 use crate::book::{Book, Called, Page};
 use crate::hosting::{tend, told_by, write_crossing};
-use crate::seat::HostServices;
-use host_services::{Deeds, Desk, copy_of};
+use crate::seat::ServiceSeat;
+use host_services::{Deeds, ServiceDesk, copy_of};
 use leader1822::HostAddr;
 use sockets::{Ncp, Notice, Request};
 use std::alloc::{AllocError, Global};
 
 /// A request names its peer by an address, and has numbers in their ranges, as the types of both have it.
+///
+/// It is there for the proof alone, and does nothing: it looks at the address and at the numbers, and the prover then knows
+/// their ranges, which it does not take from a type by itself.
 pub(crate) fn is_addressed(request: &Request)
     ensures addressed { IsAddressed request.now }
     ensures ranged { IsAsked request.now }
@@ -138,7 +141,7 @@ fn write_deeds(
     write_crossing(alloc, book, host, Vec::new(alloc), Vec::new(alloc), deeds)
 }
 
-impl HostServices {
+impl ServiceSeat {
     /// The user of the host asks for something that isn't refused. Returns the program.
     pub(crate) fn serve(
         &mut self,
@@ -183,7 +186,7 @@ impl HostServices {
         ensures done { IfOk result (λ after. IsDone self.old.host (server_begun listen base self.old.services (opening_desk self.old.host (length book.old.book.notices) program)) book.old after self.new.services book.new) }
         ensures kept { OnErr result (book.new ≡ book.old) }
     {
-        let mut desk = Desk::new(alloc, self.host, book.notices().len(), program);
+        let mut desk = ServiceDesk::new(alloc, self.host, book.notices().len(), program);
         self.services.serve(&mut desk, listen, base)?;
         let (program, deeds) = desk.into_parts();
         write_deeds(alloc, book, self.host, deeds)?;
@@ -204,7 +207,7 @@ impl HostServices {
         ensures done { IfOk result (λ after. IsDone self.old.host (user_begun peer listen own self.old.services (opening_desk self.old.host (length book.old.book.notices) program)) book.old after self.new.services book.new) }
         ensures kept { OnErr result (book.new ≡ book.old) }
     {
-        let mut desk = Desk::new(alloc, self.host, book.notices().len(), program);
+        let mut desk = ServiceDesk::new(alloc, self.host, book.notices().len(), program);
         self.services.connect(&mut desk, peer, listen, own)?;
         let (program, deeds) = desk.into_parts();
         write_deeds(alloc, book, self.host, deeds)?;

@@ -17,7 +17,7 @@ use std::mem;
 /// Something that the user of a host was told.
 #[derive(Debug, Drop)]
 pub struct Told {
-    /// The host.
+    /// The host whose user it was.
     pub host: HostAddr,
     /// How many crossings there were.
     pub place: usize,
@@ -28,18 +28,18 @@ pub struct Told {
 /// A contact that the user of a host asked for.
 #[derive(Clone, Copy, Debug, PartialEq, Eq)]
 pub struct Called {
-    /// The host.
+    /// The host whose user it was.
     pub host: HostAddr,
     /// How many crossings there were.
     pub place: usize,
-    /// With whom.
+    /// The peer that is contacted.
     pub peer: HostAddr,
 }
 
 /// What happened in one step, in this order.
 #[derive(Drop)]
 pub(crate) struct Page {
-    /// What crossed.
+    /// What crossed in it.
     pub(crate) crossings: Vec<Crossing>,
     /// What a user asked for.
     pub(crate) asked: Option<(HostAddr, Request)>,
@@ -51,7 +51,7 @@ pub(crate) struct Page {
     pub(crate) by: Option<HostAddr>,
     /// What they asked for.
     pub(crate) ran: Vec<Request>,
-    /// What they reported.
+    /// What these services reported.
     pub(crate) reports: Vec<Reported>,
 }
 
@@ -84,7 +84,7 @@ impl Model for Book {
 }
 
 impl Book {
-    /// Nothing has happened.
+    /// A book in which nothing has happened.
     pub(crate) fn new(alloc: Global) -> Book
         ensures { result ≡ opening_kept }
     {
@@ -99,7 +99,7 @@ impl Book {
         }
     }
 
-    /// All that crossed.
+    /// All that crossed, the oldest first.
     pub fn crossings(&self) -> &[Crossing]
         ensures { result.now ≡ reverse self.now.book.crossings }
     {

@@ -2,7 +2,7 @@
 
 ghost use Rattle.std.specs.Prelude.{◌≡◌, ◌<◌, length, if◌then◌else◌, is_some, slice_get, None, Some};
 ghost use Rattle.net_sim.specs.Carriers.{shown};
-ghost use Rattle.net_sim.specs.Inside.Calm.{Turn, Round};
+ghost use Rattle.net_sim.specs.Inside.Calm.{CalmTurn, Round};
 ghost use Rattle.net_sim.specs.World as world;
 ghost use Rattle.net_sim.specs.World.{CalmGives, Repeats, Offer, Take};
 
@@ -32,9 +32,9 @@ fn up_here(seats: &[Seat], at: usize) -> Option<HostAddr>
 impl<C: Carrier> World<C> {
     /// So many times: a quiet round of the network, and then each host that is up has its turn, in order of IMP and host. It
     /// takes until nothing waits for it, or 16 times; then it offers until it has nothing to say or is refused, or 32 times.
-    /// Refusals are passed over. Memory is wanted as [`World::step`] wants it.
+    /// It continues after refusals. It needs memory where [`World::step`] does.
     ///
-    /// Errors: want of memory, which ends the calm, and `Stopped` after it.
+    /// Errors: memory runs out, which ends the calm, and `Stopped` after that.
     pub fn calm(&mut self, rounds: u32) -> Result<(), WorldFault>
         ensures { CalmGives (shown (record { seen = C.seen; offers = C.offers; takes = C.takes; steps = C.steps; rounds = C.rounds })) rounds self.old result self.new }
     {
@@ -72,7 +72,7 @@ impl<C: Carrier> World<C> {
 
     /// A host takes what came for it, and then says what it has to say.
     fn take_turn(&mut self, host: HostAddr) -> Result<(), WorldFault>
-        ensures { Turn (shown (record { seen = C.seen; offers = C.offers; takes = C.takes; steps = C.steps; rounds = C.rounds })) host self.old result self.new }
+        ensures { CalmTurn (shown (record { seen = C.seen; offers = C.offers; takes = C.takes; steps = C.steps; rounds = C.rounds })) host self.old result self.new }
     {
         let answer = self.take_all(host);
         if stops(&answer) {

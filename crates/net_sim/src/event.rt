@@ -5,7 +5,7 @@ use leader1822::{CarrierFault, HostAddr, NetEvent};
 use sockets::{NcpFault, Request};
 use thiserror::Error;
 
-/// What may happen.
+/// What may happen in a world.
 #[derive(Debug, Drop)]
 pub enum Event {
     /// Something inside the network, or to a host. One that stops loses its program, and one that starts has a new
@@ -22,7 +22,7 @@ pub enum Event {
     /// The server of an initial connection begins on a host. Users ask it on the odd socket `listen`, and it serves the first on the
     /// even socket `base` and the one above it; the echo service follows it.
     Server {
-        /// The host.
+        /// The host where it begins or is typed.
         host: HostAddr,
         /// The socket on which users ask.
         listen: u32,
@@ -32,7 +32,7 @@ pub enum Event {
     /// The user of an initial connection begins on a host. It asks the socket `listen` of a peer from its own even socket; a line
     /// terminal follows it.
     User {
-        /// The host.
+        /// The host where it begins or is typed.
         host: HostAddr,
         /// The server's host.
         peer: HostAddr,
@@ -43,9 +43,9 @@ pub enum Event {
     },
     /// A line is typed at a host, at the terminal that came last.
     Typed {
-        /// The host.
+        /// The host where it begins or is typed.
         host: HostAddr,
-        /// The line.
+        /// The line that is typed.
         line: TypedLine,
     },
 }

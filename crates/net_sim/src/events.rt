@@ -2,14 +2,14 @@
 
 ghost use Rattle.std.specs.Prelude.{◌≡◌};
 ghost use Rattle.net_sim.specs.Carriers.{shown};
-ghost use Rattle.net_sim.specs.Inside.Parts.{IsOnce, AreLive, hosts_of, hosts_served, running, ended};
+ghost use Rattle.net_sim.specs.Inside.Parts.{IsOnce, AreLive, hosts_of, hosts_served, running, world_ended};
 ghost use Rattle.net_sim.specs.Whole.{IsNamed};
 ghost use Rattle.net_sim.specs.World.{EventGives, Net, Quiet, Offer, Take, Ask, Server, User, Typed};
 
 use crate::asking::is_addressed;
 use crate::book::Book;
 use crate::parts::{ask_at, change, go_out, hear, next_out, server_at, type_at, up_at, user_at};
-use crate::seat::{HostServices, Seat};
+use crate::seat::{Seat, ServiceSeat};
 use crate::{Event, WorldFault};
 use host_services::TypedLine;
 use leader1822::{Carrier, HostAddr, NetEvent};
@@ -21,11 +21,11 @@ pub(crate) fn happen<C: Carrier>(
     alloc: Global,
     carrier: &mut C,
     seats: &mut [Seat],
-    services: &mut [HostServices],
+    services: &mut [ServiceSeat],
     book: &mut Book,
     event: NetEvent,
 ) -> Result<(), WorldFault>
-    ensures { EventGives (shown (record { seen = C.seen; offers = C.offers; takes = C.takes; steps = C.steps; rounds = C.rounds })) (running carrier.old seats.old services.old book.old) (Net event) result (ended carrier.new seats.new services.new book.new result) }
+    ensures { EventGives (shown (record { seen = C.seen; offers = C.offers; takes = C.takes; steps = C.steps; rounds = C.rounds })) (running carrier.old seats.old services.old book.old) (Net event) result (world_ended carrier.new seats.new services.new book.new result) }
 {
     let before = carrier.log().len();
     if let Err(fault) = carrier.step(event) {
@@ -42,10 +42,10 @@ pub(crate) fn happen<C: Carrier>(
 pub(crate) fn pass<C: Carrier>(
     carrier: &mut C,
     seats: &mut [Seat],
-    services: &mut [HostServices],
+    services: &mut [ServiceSeat],
     book: &mut Book,
 ) -> Result<(), WorldFault>
-    ensures { EventGives (shown (record { seen = C.seen; offers = C.offers; takes = C.takes; steps = C.steps; rounds = C.rounds })) (running carrier.old seats.old services.old book.old) Quiet result (ended carrier.new seats.new services.new book.new result) }
+    ensures { EventGives (shown (record { seen = C.seen; offers = C.offers; takes = C.takes; steps = C.steps; rounds = C.rounds })) (running carrier.old seats.old services.old book.old) Quiet result (world_ended carrier.new seats.new services.new book.new result) }
 {
     if let Err(fault) = carrier.quiet_round() {
         return Err(WorldFault::Carrier(fault));
@@ -58,14 +58,14 @@ pub(crate) fn offer<C: Carrier>(
     alloc: Global,
     carrier: &mut C,
     seats: &mut [Seat],
-    services: &mut [HostServices],
+    services: &mut [ServiceSeat],
     book: &mut Book,
     host: HostAddr,
 ) -> Result<(), WorldFault>
     requires once { IsOnce (hosts_of seats.old) }
     requires live { AreLive seats.old }
     requires order { hosts_served services.old ≡ hosts_of seats.old }
-    ensures { EventGives (shown (record { seen = C.seen; offers = C.offers; takes = C.takes; steps = C.steps; rounds = C.rounds })) (running carrier.old seats.old services.old book.old) (Offer host) result (ended carrier.new seats.new services.new book.new result) }
+    ensures { EventGives (shown (record { seen = C.seen; offers = C.offers; takes = C.takes; steps = C.steps; rounds = C.rounds })) (running carrier.old seats.old services.old book.old) (Offer host) result (world_ended carrier.new seats.new services.new book.new result) }
 {
     let at = up_at(seats, host)?;
     let Some(message) = next_out(seats, at)? else {
@@ -83,14 +83,14 @@ pub(crate) fn take<C: Carrier>(
     alloc: Global,
     carrier: &mut C,
     seats: &mut [Seat],
-    services: &mut [HostServices],
+    services: &mut [ServiceSeat],
     book: &mut Book,
     host: HostAddr,
 ) -> Result<(), WorldFault>
     requires once { IsOnce (hosts_of seats.old) }
     requires live { AreLive seats.old }
     requires order { hosts_served services.old ≡ hosts_of seats.old }
-    ensures { EventGives (shown (record { seen = C.seen; offers = C.offers; takes = C.takes; steps = C.steps; rounds = C.rounds })) (running carrier.old seats.old services.old book.old) (Take host) result (ended carrier.new seats.new services.new book.new result) }
+    ensures { EventGives (shown (record { seen = C.seen; offers = C.offers; takes = C.takes; steps = C.steps; rounds = C.rounds })) (running carrier.old seats.old services.old book.old) (Take host) result (world_ended carrier.new seats.new services.new book.new result) }
 {
     let at = up_at(seats, host)?;
     let before = carrier.log().len();
@@ -114,7 +114,7 @@ pub(crate) fn ask<C: Carrier>(
     alloc: Global,
     carrier: &mut C,
     seats: &mut [Seat],
-    services: &mut [HostServices],
+    services: &mut [ServiceSeat],
     book: &mut Book,
     host: HostAddr,
     request: &Request,
@@ -122,8 +122,9 @@ pub(crate) fn ask<C: Carrier>(
     requires once { IsOnce (hosts_of seats.old) }
     requires live { AreLive seats.old }
     requires order { hosts_served services.old ≡ hosts_of seats.old }
-    ensures { EventGives (shown (record { seen = C.seen; offers = C.offers; takes = C.takes; steps = C.steps; rounds = C.rounds })) (running carrier.old seats.old services.old book.old) (Ask host request.now) result (ended carrier.new seats.new services.new book.new result) }
+    ensures { EventGives (shown (record { seen = C.seen; offers = C.offers; takes = C.takes; steps = C.steps; rounds = C.rounds })) (running carrier.old seats.old services.old book.old) (Ask host request.now) result (world_ended carrier.new seats.new services.new book.new result) }
 {
+    // for the proof alone: the carrier is asked nothing else here, and `log` tells what it shows, which stays the same
     let _ = carrier.log();
     let at = up_at(seats, host)?;
     ask_at(alloc, seats, services, at, book, request)
@@ -134,7 +135,7 @@ pub(crate) fn begin_server<C: Carrier>(
     alloc: Global,
     carrier: &mut C,
     seats: &mut [Seat],
-    services: &mut [HostServices],
+    services: &mut [ServiceSeat],
     book: &mut Book,
     host: HostAddr,
     listen: u32,
@@ -143,8 +144,9 @@ pub(crate) fn begin_server<C: Carrier>(
     requires once { IsOnce (hosts_of seats.old) }
     requires live { AreLive seats.old }
     requires order { hosts_served services.old ≡ hosts_of seats.old }
-    ensures { EventGives (shown (record { seen = C.seen; offers = C.offers; takes = C.takes; steps = C.steps; rounds = C.rounds })) (running carrier.old seats.old services.old book.old) (Server host listen base) result (ended carrier.new seats.new services.new book.new result) }
+    ensures { EventGives (shown (record { seen = C.seen; offers = C.offers; takes = C.takes; steps = C.steps; rounds = C.rounds })) (running carrier.old seats.old services.old book.old) (Server host listen base) result (world_ended carrier.new seats.new services.new book.new result) }
 {
+    // for the proof alone, as in `ask`
     let _ = carrier.log();
     let at = up_at(seats, host)?;
     server_at(alloc, seats, services, at, book, listen, base)
@@ -155,7 +157,7 @@ pub(crate) fn begin_user<C: Carrier>(
     alloc: Global,
     carrier: &mut C,
     seats: &mut [Seat],
-    services: &mut [HostServices],
+    services: &mut [ServiceSeat],
     book: &mut Book,
     host: HostAddr,
     peer: HostAddr,
@@ -165,8 +167,9 @@ pub(crate) fn begin_user<C: Carrier>(
     requires once { IsOnce (hosts_of seats.old) }
     requires live { AreLive seats.old }
     requires order { hosts_served services.old ≡ hosts_of seats.old }
-    ensures { EventGives (shown (record { seen = C.seen; offers = C.offers; takes = C.takes; steps = C.steps; rounds = C.rounds })) (running carrier.old seats.old services.old book.old) (User host peer listen own) result (ended carrier.new seats.new services.new book.new result) }
+    ensures { EventGives (shown (record { seen = C.seen; offers = C.offers; takes = C.takes; steps = C.steps; rounds = C.rounds })) (running carrier.old seats.old services.old book.old) (User host peer listen own) result (world_ended carrier.new seats.new services.new book.new result) }
 {
+    // for the proof alone, as in `ask`
     let _ = carrier.log();
     let at = up_at(seats, host)?;
     user_at(alloc, seats, services, at, book, peer, listen, own)
@@ -177,7 +180,7 @@ pub(crate) fn type_line<C: Carrier>(
     alloc: Global,
     carrier: &mut C,
     seats: &mut [Seat],
-    services: &mut [HostServices],
+    services: &mut [ServiceSeat],
     book: &mut Book,
     host: HostAddr,
     line: &TypedLine,
@@ -185,26 +188,27 @@ pub(crate) fn type_line<C: Carrier>(
     requires once { IsOnce (hosts_of seats.old) }
     requires live { AreLive seats.old }
     requires order { hosts_served services.old ≡ hosts_of seats.old }
-    ensures { EventGives (shown (record { seen = C.seen; offers = C.offers; takes = C.takes; steps = C.steps; rounds = C.rounds })) (running carrier.old seats.old services.old book.old) (Typed host line.now) result (ended carrier.new seats.new services.new book.new result) }
+    ensures { EventGives (shown (record { seen = C.seen; offers = C.offers; takes = C.takes; steps = C.steps; rounds = C.rounds })) (running carrier.old seats.old services.old book.old) (Typed host line.now) result (world_ended carrier.new seats.new services.new book.new result) }
 {
+    // for the proof alone, as in `ask`
     let _ = carrier.log();
     let at = up_at(seats, host)?;
     type_at(alloc, seats, services, at, book, line)
 }
 
-/// Any of these.
+/// Any of the eight events.
 pub(crate) fn follow<C: Carrier>(
     alloc: Global,
     carrier: &mut C,
     seats: &mut [Seat],
-    services: &mut [HostServices],
+    services: &mut [ServiceSeat],
     book: &mut Book,
     event: &Event,
 ) -> Result<(), WorldFault>
     requires once { IsOnce (hosts_of seats.old) }
     requires live { AreLive seats.old }
     requires order { hosts_served services.old ≡ hosts_of seats.old }
-    ensures { EventGives (shown (record { seen = C.seen; offers = C.offers; takes = C.takes; steps = C.steps; rounds = C.rounds })) (running carrier.old seats.old services.old book.old) event.now result (ended carrier.new seats.new services.new book.new result) }
+    ensures { EventGives (shown (record { seen = C.seen; offers = C.offers; takes = C.takes; steps = C.steps; rounds = C.rounds })) (running carrier.old seats.old services.old book.old) event.now result (world_ended carrier.new seats.new services.new book.new result) }
 {
     match event {
         Event::Net(event) => happen(alloc, carrier, seats, services, book, *event),
@@ -230,6 +234,8 @@ pub(crate) fn follow<C: Carrier>(
 }
 
 /// A user names its peer by an address, in numbers of their ranges, as the types of both have it.
+///
+/// It is there for the proof alone, as `is_addressed` is.
 pub(crate) fn is_named(event: &Event)
     ensures { IsNamed event.now }
 {

@@ -12,8 +12,8 @@ ghost use Rattle.sockets.specs.Sending.{offered};
 
 use crate::asking::called_in;
 use crate::book::{Book, Page, Told};
-use crate::seat::{HostServices, Seat};
-use host_services::{Deeds, Desk, Services};
+use crate::seat::{Seat, ServiceSeat};
+use host_services::{Deeds, ServiceDesk, Services};
 use leader1822::{Crossing, HostAddr, Inbound};
 use sockets::{Ncp, Notice};
 use std::alloc::{AllocError, Global};
@@ -78,16 +78,16 @@ pub(crate) fn tend(
     before: usize,
     program: Ncp,
     notices: &[Notice],
-) -> Result<Desk, AllocError>
+) -> Result<ServiceDesk, AllocError>
     ensures { IfOk result (λ desk. world.turn_of host before services.old (program, notices.now) ≡ (services.new, desk)) }
 {
-    let mut desk = Desk::new(alloc, host, before, program);
+    let mut desk = ServiceDesk::new(alloc, host, before, program);
     services.tell(&mut desk, notices)?;
     Ok(desk)
 }
 
 /// Writes down what crossed at a host, what its user was told of it, and what its services did then.
-#[tactic(auto, using(crate::proofs::InOrder::written_both))]
+#[tactic(auto, using(crate::proofs::Books::InOrder::written_both))]
 pub(crate) fn write_crossing(
     alloc: Global,
     book: &mut Book,
@@ -116,7 +116,7 @@ pub(crate) fn write_crossing(
 }
 
 /// Writes down what crossed, of which no user was told.
-#[tactic(auto, using(crate::proofs::InOrder::written_alone))]
+#[tactic(auto, using(crate::proofs::Books::InOrder::written_alone))]
 pub(crate) fn write_changes(
     alloc: Global,
     book: &mut Book,
@@ -136,7 +136,7 @@ pub(crate) fn write_changes(
     })
 }
 
-impl HostServices {
+impl ServiceSeat {
     /// The program of the host has told this of what crossed: the services have their turns, and all is written down. Returns
     /// the program.
     fn settle(

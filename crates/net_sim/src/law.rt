@@ -22,9 +22,9 @@ ghost use Rattle.reset_law.specs.Boxes.{boxes};
 ghost use Rattle.reset_law.specs.Events as events;
 ghost use Rattle.reset_law.specs.Events.{part_of};
 ghost use Rattle.reset_law.specs.Pairs as pairs;
-ghost use Rattle.reset_law.specs.Pairs.{Pair, MaySend, moved};
+ghost use Rattle.reset_law.specs.Pairs.{Pair, MaySend, pair_moved};
 ghost use Rattle.reset_law.specs.Runs as runs;
-ghost use Rattle.reset_law.specs.Stays.{IsFront, heard, said};
+ghost use Rattle.reset_law.specs.Stays.{IsFront, heard_in_stay, said_in_stay};
 ghost use Rattle.sockets.specs.Accepting.{accepted};
 ghost use Rattle.sockets.specs.Pairs.{NcpState, opening_state, pair_with};
 ghost use Rattle.sockets.specs.Peers.{AreInOrder};
@@ -44,21 +44,21 @@ pub fn resets()
     ensures opening { (own h : Host) → Agrees (pair_with h (opening_state own).peers) pairs.opening_pair }
 
     // of what a user asks a contact is a step, and all else none
-    ensures request { (s : NcpState) (r : Request) (h : Host) (p : Pair) → Agrees (pair_with h s.peers) p → Agrees (pair_with h (served s r).peers) (moved (part_of s.own h (event_by s.own r)) p) }
+    ensures request { (s : NcpState) (r : Request) (h : Host) (p : Pair) → Agrees (pair_with h s.peers) p → Agrees (pair_with h (served s r).peers) (pair_moved (part_of s.own h (event_by s.own r)) p) }
 
     // a message that has RST and RRP alone, or neither, is what the law says of an RST, of an RRP or of any other text
-    ensures message { (s : NcpState) (m : HostMessage) (stamp : ℕ) (h : Host) (p : Pair) → IsApart m.flow.link.0 m.text (message_on m.flow.link.0 m.text) → Agrees (pair_with h s.peers) p → Agrees (pair_with h (accepted s (inbound.Message m) stamp).0.peers) (moved (part_of s.own h (event_of (crossing.In m))) p) }
+    ensures message { (s : NcpState) (m : HostMessage) (stamp : ℕ) (h : Host) (p : Pair) → IsApart m.flow.link.0 m.text (message_on m.flow.link.0 m.text) → Agrees (pair_with h s.peers) p → Agrees (pair_with h (accepted s (inbound.Message m) stamp).0.peers) (pair_moved (part_of s.own h (event_of (crossing.In m))) p) }
 
     // where the pair isn't through a reset, any other text does nothing
     ensures unheard { (s : NcpState) (m : HostMessage) (stamp : ℕ) → IsApart m.flow.link.0 m.text (message_on m.flow.link.0 m.text) → IsText m → is_ready (pair_with m.flow.source s.peers).phase ≡ false → IsUnheard s (accepted s (inbound.Message m) stamp) }
 
     // an answer about a message that is outstanding
-    ensures answer { (s : NcpState) (kind : Answer) (f : Flow) (stamp : ℕ) (h : Host) (p : Pair) → (same_host s.own f.source ≡ true → same_host h f.destination ≡ true → is_some (p.out f.link.0) ≡ true) → Agrees (pair_with h s.peers) p → Agrees (pair_with h (accepted s (inbound.Answer kind f) stamp).0.peers) (moved (part_of s.own h (event_of (crossing.Answer kind f))) p) }
+    ensures answer { (s : NcpState) (kind : Answer) (f : Flow) (stamp : ℕ) (h : Host) (p : Pair) → (same_host s.own f.source ≡ true → same_host h f.destination ≡ true → is_some (p.out f.link.0) ≡ true) → Agrees (pair_with h s.peers) p → Agrees (pair_with h (accepted s (inbound.Answer kind f) stamp).0.peers) (pair_moved (part_of s.own h (event_of (crossing.Answer kind f))) p) }
 
     // what goes out may go by the law, has RST and RRP alone or neither, and the pair is then where the law has it
     ensures may { (s : NcpState) (g : Peer) (x : Parcel) (p : Pair) → AreInOrder s.peers → next_in s.peers ≡ Some (g, x) → Agrees (pair_with g.host s.peers) p → MaySend p (link_for x) (message_on (link_for x) (text_for g.pair x)) }
     ensures apart { (s : NcpState) (g : Peer) (x : Parcel) (p : Pair) → AreInOrder s.peers → next_in s.peers ≡ Some (g, x) → Agrees (pair_with g.host s.peers) p → IsApart (link_for x) (text_for g.pair x) (message_on (link_for x) (text_for g.pair x)) }
-    ensures offer { (s : NcpState) (stamp : ℕ) (g : Peer) (x : Parcel) (h : Host) (p : Pair) → AreInOrder s.peers → next_in s.peers ≡ Some (g, x) → Agrees (pair_with h s.peers) p → Agrees (pair_with h (offered s stamp).0.peers) (moved (part_of s.own h (event_of (crossing.Out (message_for s.own g x)))) p) }
+    ensures offer { (s : NcpState) (stamp : ℕ) (g : Peer) (x : Parcel) (h : Host) (p : Pair) → AreInOrder s.peers → next_in s.peers ≡ Some (g, x) → Agrees (pair_with h s.peers) p → Agrees (pair_with h (offered s stamp).0.peers) (pair_moved (part_of s.own h (event_of (crossing.Out (message_for s.own g x)))) p) }
 {}
 
 /// What becomes of all programs, moment by moment: crossings, and what users ask for.
@@ -70,7 +70,7 @@ pub fn stories()
     ensures own { (moments : List Moment) (a : Host) → (program a moments).own ≡ a }
 {}
 
-/// What stands in the book of a world, whatever its carrier is made of: all that crossed, but for the event in which memory ran
+/// What stands in the book of a world, whatever its carrier is made of: all that crossed, except for the event in which memory ran
 /// out, after every list of events.
 pub fn books<C: Carrier>()
     // over a carrier that hasn't been used
@@ -110,8 +110,8 @@ pub fn mailboxes()
 {}
 
 /// The book of a world tells one list of moments, the crossings and what users asked for and weren't refused, whatever the carrier is
-/// made of. All that is kept, but for what services report, is theirs, and until want of memory each host has the program that comes
-/// of them.
+/// made of. All that is kept, except for what services report, is theirs, and until memory runs out each host has the program that
+/// comes of them.
 pub fn worlds<C: Carrier>()
     // over a carrier that hasn't been used
     ensures opening { (c : C) → (C.seen c).log ≡ [] → IsWhole C.seen (C.seen c).hosts (opening_world (shown (record { seen = C.seen; offers = C.offers; takes = C.takes; steps = C.steps; rounds = C.rounds })) c) }
@@ -129,8 +129,8 @@ pub fn clean_resets<C: Carrier>()
     // a host that is through a reset with a peer takes of it only what went out after its last clean point
     ensures clean { (hosts : List Host) (w : WorldState C) → IsLawful C.seen hosts w → (newer older : List Crossing) (m : HostMessage) → w.kept.book.crossings ≡ newer ++ crossing.In m ∷ older → IsText m → is_through m.flow.destination m.flow.source w.kept.book.contacts older ≡ true → IsFresh m w.kept.book.contacts older }
 
-    // link by link, what a host heard of its peer in its last stay is a front of what the peer said in its own
-    ensures stays { (hosts : List Host) (w : WorldState C) → IsLawful C.seen hosts w → (a b : Host) (link : ℕ) → IsFront (heard a b link (events_in w.kept.book.contacts w.kept.book.crossings)) (said a b link (events_in w.kept.book.contacts w.kept.book.crossings)) }
+    // link by link, what a host heard of its peer in its last stay is a prefix of what the peer said in its own
+    ensures stays { (hosts : List Host) (w : WorldState C) → IsLawful C.seen hosts w → (a b : Host) (link : ℕ) → IsFront (heard_in_stay a b link (events_in w.kept.book.contacts w.kept.book.crossings)) (said_in_stay a b link (events_in w.kept.book.contacts w.kept.book.crossings)) }
 
     // for the book is a run of the law of resets, and each program in a seat is, for each peer, where that law has it
     ensures run { (hosts : List Host) (w : WorldState C) → IsLawful C.seen hosts w → runs.IsRun hosts (events_in w.kept.book.contacts w.kept.book.crossings) }

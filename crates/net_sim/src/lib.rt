@@ -30,5 +30,5 @@ pub use book::{Book, Called, Told};
 pub use event::{Event, WorldFault};
 pub use host_services::{Report, Reported, TypedLine};
 pub use life::{Amount, Life};
-pub use seat::{HostServices, Seat};
+pub use seat::{Seat, ServiceSeat};
 pub use world::World;

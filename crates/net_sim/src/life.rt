@@ -19,7 +19,7 @@ pub struct Amount {
 }
 
 impl Amount {
-    /// Nothing.
+    /// An amount of no messages and no bits.
     pub(crate) fn nothing() -> Amount
         ensures { result ≡ book.nothing }
     {
@@ -29,7 +29,7 @@ impl Amount {
         }
     }
 
-    /// So much more. A count that can't be held is want of memory.
+    /// So much more. A count that can't be held counts as running out of memory.
     fn add(&mut self, messages: u16, bits: u32) -> Result<(), AllocError>
         ensures { OnOk result (self.new ≡ book.more messages bits self.old) }
     {
@@ -79,9 +79,9 @@ pub struct Life {
 pub(crate) enum Ending {
     /// That of an end.
     Between {
-        /// The host.
+        /// The host whose lives they are.
         host: HostAddr,
-        /// Its socket.
+        /// The host's own socket.
         socket: u32,
         /// The host of its partner.
         peer: HostAddr,
@@ -90,14 +90,14 @@ pub(crate) enum Ending {
     },
     /// Those with a peer.
     With {
-        /// The host.
+        /// The host whose lives they are.
         host: HostAddr,
-        /// The peer.
+        /// The peer that they are with.
         peer: HostAddr,
     },
-    /// All.
+    /// All lives of a host.
     On {
-        /// The host.
+        /// The host whose lives they are.
         host: HostAddr,
     },
 }
@@ -149,7 +149,7 @@ impl Life {
 
     /// It ends, where it is one of those that do.
     pub(crate) fn end(&mut self, ending: &Ending)
-        ensures { self.new ≡ changed_when (ends ending.now self.old) book.ended self.old }
+        ensures { self.new ≡ changed_when (ends ending.now self.old) book.life_ended self.old }
     {
         if self.is_of(ending) {
             self.ended = true;

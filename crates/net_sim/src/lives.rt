@@ -39,7 +39,7 @@ impl Model for Lives {
 /// Lives end. These are the places of the open ones.
 fn end(lives: &mut [Life], open_at: &[usize], ending: &Ending)
     requires { open_at.now ≡ places lives.old }
-    ensures { lives.new ≡ where_it (ends ending.now) book.ended lives.old }
+    ensures { lives.new ≡ where_it (ends ending.now) book.life_ended lives.old }
 {
     for at in open_at {
         lives[*at].end(ending);
@@ -140,7 +140,7 @@ fn forget_ended(open_at: &mut Vec<usize>, lives: &[Life])
 }
 
 impl Lives {
-    /// None.
+    /// No lives.
     pub(crate) fn new(alloc: Global) -> Lives
         ensures { result ≡ all.none }
     {
@@ -152,15 +152,15 @@ impl Lives {
         }
     }
 
-    /// Lives end.
+    /// The lives that end are marked as ended.
     fn end(&mut self, ending: &Ending)
-        ensures { self.new ≡ all.ended ending.now self.old }
+        ensures { self.new ≡ all.lives_state_ended ending.now self.old }
     {
         end(&mut self.lives, &self.open_at, ending);
         forget_ended(&mut self.open_at, &self.lives);
     }
 
-    /// A life begins.
+    /// A life begins, with nothing handed over yet.
     fn begin(&mut self, life: Life) -> Result<(), AllocError>
         requires begins { life.ended ≡ false }
         ensures { OnOk result (self.new ≡ all.begun life self.old) }
@@ -173,7 +173,7 @@ impl Lives {
         Ok(())
     }
 
-    /// Something crossed.
+    /// Something crossed: a host that stops ends its lives.
     fn cross(&mut self, crossing: &Crossing)
         ensures { self.new ≡ all.crossed crossing.now self.old }
     {
@@ -185,7 +185,7 @@ impl Lives {
 
     /// The user of a host was told something.
     fn tell(&mut self, host: HostAddr, notice: &Notice) -> Result<(), AllocError>
-        ensures { OnOk result (self.new ≡ all.told host notice.now self.old) }
+        ensures { OnOk result (self.new ≡ all.lives_state_told host notice.now self.old) }
     {
         match notice {
             Notice::Opened {
@@ -330,7 +330,7 @@ impl Lives {
         }
     }
 
-    /// The lives.
+    /// The lives, in the order of opening.
     pub(crate) fn lives(&self) -> &[Life]
         ensures { result.now ≡ self.now.lives }
     {

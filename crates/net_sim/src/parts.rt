@@ -20,7 +20,7 @@ ghost use Rattle.sockets.specs.declared.request.Request.TheVariants as requests;
 use crate::WorldFault;
 use crate::book::Book;
 use crate::hosting::{copies, place, write_changes};
-use crate::seat::{HostServices, Seat, empty_all, turn_all};
+use crate::seat::{Seat, ServiceSeat, empty_all, turn_all};
 use host_services::TypedLine;
 use leader1822::{CarrierFault, Crossing, HostAddr, HostMessage, Inbound};
 use sockets::{NcpFault, Request};
@@ -44,7 +44,7 @@ pub(crate) fn up_at(seats: &[Seat], host: HostAddr) -> Result<usize, WorldFault>
 pub(crate) fn hear(
     alloc: Global,
     seats: &mut [Seat],
-    services: &mut [HostServices],
+    services: &mut [ServiceSeat],
     at: usize,
     book: &mut Book,
     news: &[Crossing],
@@ -69,7 +69,7 @@ pub(crate) fn hear(
     Ok(())
 }
 
-/// What a host's program says next. Memory is wanted only where it says something.
+/// What a host's program says next. It needs memory only if it says something.
 #[tactic(auto, unfolding(sockets::specs::Sending::next_out))]
 pub(crate) fn next_out(seats: &[Seat], at: usize) -> Result<Option<HostMessage>, WorldFault>
     requires within { at < length seats.now }
@@ -88,7 +88,7 @@ pub(crate) fn next_out(seats: &[Seat], at: usize) -> Result<Option<HostMessage>,
 pub(crate) fn go_out(
     alloc: Global,
     seats: &mut [Seat],
-    services: &mut [HostServices],
+    services: &mut [ServiceSeat],
     at: usize,
     book: &mut Book,
     news: &[Crossing],
@@ -113,11 +113,11 @@ pub(crate) fn go_out(
 }
 
 /// Hosts stop and start. The last of the log, from a place on, has just crossed.
-#[tactic(auto, using(crate::proofs::InOrder::turned_reversed, crate::proofs::InOrder::emptied_reversed, crate::proofs::InOrder::written_alone))]
+#[tactic(auto, using(crate::proofs::Books::InOrder::turned_reversed, crate::proofs::Books::InOrder::emptied_reversed, crate::proofs::Books::InOrder::written_alone))]
 pub(crate) fn change(
     alloc: Global,
     seats: &mut [Seat],
-    services: &mut [HostServices],
+    services: &mut [ServiceSeat],
     book: &mut Book,
     news: &[Crossing],
 ) -> Result<(), WorldFault>
@@ -141,7 +141,7 @@ pub(crate) fn change(
 pub(crate) fn ask_at(
     alloc: Global,
     seats: &mut [Seat],
-    services: &mut [HostServices],
+    services: &mut [ServiceSeat],
     at: usize,
     book: &mut Book,
     request: &Request,
@@ -183,7 +183,7 @@ fn line_refusal(seat: &Seat, socket: u32, line: &TypedLine) -> Option<NcpFault>
 pub(crate) fn type_at(
     alloc: Global,
     seats: &mut [Seat],
-    services: &mut [HostServices],
+    services: &mut [ServiceSeat],
     at: usize,
     book: &mut Book,
     line: &TypedLine,
@@ -209,7 +209,7 @@ pub(crate) fn type_at(
 pub(crate) fn server_at(
     alloc: Global,
     seats: &mut [Seat],
-    services: &mut [HostServices],
+    services: &mut [ServiceSeat],
     at: usize,
     book: &mut Book,
     listen: u32,
@@ -234,7 +234,7 @@ pub(crate) fn server_at(
 pub(crate) fn user_at(
     alloc: Global,
     seats: &mut [Seat],
-    services: &mut [HostServices],
+    services: &mut [ServiceSeat],
     at: usize,
     book: &mut Book,
     peer: HostAddr,

@@ -15,7 +15,7 @@ use std::alloc::{AllocError, Global};
 /// A host of the network, and its program while it is up.
 #[derive(Drop)]
 pub struct Seat {
-    /// The host.
+    /// The host's address.
     pub host: HostAddr,
     /// Its network control program; none while it is down.
     pub program: Option<Ncp>,
@@ -43,14 +43,14 @@ impl Seat {
 
 /// A host of the network, and what runs there beside its network control program.
 #[derive(Drop)]
-pub struct HostServices {
-    /// The host.
+pub struct ServiceSeat {
+    /// The host's address.
     pub host: HostAddr,
     /// Its services; none while it is down.
     pub services: Services,
 }
 
-impl HostServices {
+impl ServiceSeat {
     /// Its host stops, where this is the host: it loses its services.
     fn stop(&mut self, alloc: Global, host: HostAddr)
         ensures { self.new ≡ world.with_services (same_host host self.old.host) no_services self.old }
@@ -65,12 +65,12 @@ impl HostServices {
 pub(crate) fn opening_services(
     alloc: Global,
     hosts: &[HostAddr],
-) -> Result<Vec<HostServices>, AllocError>
+) -> Result<Vec<ServiceSeat>, AllocError>
     ensures { IfOk result (λ all. all.items ≡ world.opening_services hosts.now) }
 {
     let mut all = Vec::new(alloc);
     for host in hosts {
-        all.push(HostServices {
+        all.push(ServiceSeat {
             host: *host,
             services: Services::new(alloc),
         })?;
@@ -79,7 +79,7 @@ pub(crate) fn opening_services(
 }
 
 /// A host loses its services.
-fn empty(alloc: Global, all: &mut [HostServices], host: HostAddr)
+fn empty(alloc: Global, all: &mut [ServiceSeat], host: HostAddr)
     ensures { all.new ≡ world.serviced host no_services all.old }
 {
     for services in all.iter_mut() {
@@ -88,7 +88,7 @@ fn empty(alloc: Global, all: &mut [HostServices], host: HostAddr)
 }
 
 /// Hosts that stop lose their services, crossing by crossing.
-pub(crate) fn empty_all(alloc: Global, all: &mut [HostServices], crossings: &[Crossing])
+pub(crate) fn empty_all(alloc: Global, all: &mut [ServiceSeat], crossings: &[Crossing])
     ensures { all.new ≡ emptied_in_order crossings.now all.old }
 {
     for crossing in crossings {
@@ -113,7 +113,7 @@ pub(crate) fn opening_seats(alloc: Global, hosts: &[HostAddr]) -> Result<Vec<Sea
     Ok(seats)
 }
 
-/// A host stops.
+/// A host stops, and its program is gone.
 fn stop(seats: &mut [Seat], host: HostAddr)
     ensures { seats.new ≡ world.seated host None seats.old }
 {
@@ -122,7 +122,7 @@ fn stop(seats: &mut [Seat], host: HostAddr)
     }
 }
 
-/// A host starts.
+/// A host starts, with a new program.
 fn start(alloc: Global, seats: &mut [Seat], host: HostAddr)
     ensures { seats.new ≡ world.seated host (Some (opening_state host)) seats.old }
 {
@@ -133,7 +133,7 @@ fn start(alloc: Global, seats: &mut [Seat], host: HostAddr)
 
 /// A host that stops loses its program, and one that starts has a new one.
 fn turn(alloc: Global, seats: &mut [Seat], crossing: &Crossing)
-    ensures { seats.new ≡ world.turned crossing.now seats.old }
+    ensures { seats.new ≡ world.seats_turned crossing.now seats.old }
 {
     match crossing {
         Crossing::Down(host) => stop(seats, *host),

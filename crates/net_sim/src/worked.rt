@@ -7,9 +7,9 @@ ghost use Rattle.leader1822.specs.declared.carrier.CarrierFault.TheVariants as f
 ghost use Rattle.leader1822.specs.declared.crossing.Answer.TheVariants as answer;
 ghost use Rattle.leader1822.specs.declared.crossing.Crossing.TheVariants as crossing;
 ghost use Rattle.leader1822.specs.declared.event.NetEvent.TheVariants as event;
-ghost use Rattle.net_sim.specs.Book.{opening_kept, told, asked, crossed, all_crossed};
+ghost use Rattle.net_sim.specs.Book.{opening_kept, book_told, asked, crossed, all_crossed};
 ghost use Rattle.net_sim.specs.Safe.{SafeBook, SafePartners, SafeStreams, SafeGrants, Match, own_request, partner_request, last_out, before, control_flow};
-ghost use Rattle.net_sim.specs.Worked.{eight, four, crossings, message, opened, used, receiver, sender, taker, giver, elsewhere, asker, stranger, over, any_carrier, fresh, down, busy, halted, stamp_of};
+ghost use Rattle.net_sim.specs.Worked.{eight, four, crossings, message, opened_kept, used, receiver, sender, taker, giver, elsewhere, asker, stranger, over, any_carrier, fresh, down, busy, halted, stamp_of};
 ghost use Rattle.net_sim.specs.World.{WorldState, WorldFault, Carrier, Program, Net, Quiet, Offer, Take, Ask, StepGives, RunGives, all_turned, seat_of, up_in, served_at, changed};
 ghost use Rattle.sockets.specs.Pairs.{opening_state};
 ghost use Rattle.sockets.specs.Requests.{served};
@@ -21,35 +21,35 @@ ghost use Rattle.sockets.specs.declared.request.Request.TheVariants as request;
 /// What becomes of a life.
 pub fn worked_lives()
     // one begins at each host when its end is open, in the order in which they are told
-    ensures opened { opened.book.lives ≡ sender ∷ receiver ∷ [] }
+    ensures opened { opened_kept.book.lives ≡ sender ∷ receiver ∷ [] }
 
     // it has what was sent or taken, what was granted and what was returned
     ensures used { used.book.lives ≡ giver ∷ taker ∷ [] }
-    ensures more { (told first (notice.Arrived 16 four) (asked first (request.Grant 16 1 10) used)).book.lives ≡ giver ∷ record taker { bits = eight ++ four; messages = 2; granted = record { messages = 3; bits = 110 } } ∷ [] }
-    ensures returned_again { (told first (notice.Returned 16 1 6) used).book.lives ≡ giver ∷ record taker { returned = record { messages = 2; bits = 10 } } ∷ [] }
+    ensures more { (book_told first (notice.Arrived 16 four) (asked first (request.Grant 16 1 10) used)).book.lives ≡ giver ∷ record taker { bits = eight ++ four; messages = 2; granted = record { messages = 3; bits = 110 } } ∷ [] }
+    ensures returned_again { (book_told first (notice.Returned 16 1 6) used).book.lives ≡ giver ∷ record taker { returned = record { messages = 2; bits = 10 } } ∷ [] }
 
     // what is told to one host is about its own sockets
-    ensures own_socket { (told second (notice.Arrived 16 four) used).book.lives ≡ giver ∷ taker ∷ [] }
+    ensures own_socket { (book_told second (notice.Arrived 16 four) used).book.lives ≡ giver ∷ taker ∷ [] }
 
     // it ends with its end, and the partner's life goes on until it is told too
-    ensures ended { (told first (notice.Ended 16 second 33) used).book.lives ≡ giver ∷ over taker ∷ [] }
+    ensures ended { (book_told first (notice.Ended 16 second 33) used).book.lives ≡ giver ∷ over taker ∷ [] }
 
     // an end of the same socket with another partner isn't meant
-    ensures another_end { (told first (notice.Ended 16 second 35) used).book.lives ≡ giver ∷ taker ∷ [] }
-    ensures another_peer { (told first (notice.Ended 16 third 33) used).book.lives ≡ giver ∷ taker ∷ [] }
+    ensures another_end { (book_told first (notice.Ended 16 second 35) used).book.lives ≡ giver ∷ taker ∷ [] }
+    ensures another_peer { (book_told first (notice.Ended 16 third 33) used).book.lives ≡ giver ∷ taker ∷ [] }
 
     // it ends with a reset of its pair at its host, whichever of the two that is
-    ensures reset { (told second (notice.PairReset first) used).book.lives ≡ over giver ∷ taker ∷ [] }
-    ensures another_pair { (told second (notice.PairReset third) used).book.lives ≡ giver ∷ taker ∷ [] }
-    ensures contact_failed { (told second (notice.ContactFailed first) used).book.lives ≡ giver ∷ taker ∷ [] }
+    ensures reset { (book_told second (notice.PairReset first) used).book.lives ≡ over giver ∷ taker ∷ [] }
+    ensures another_pair { (book_told second (notice.PairReset third) used).book.lives ≡ giver ∷ taker ∷ [] }
+    ensures contact_failed { (book_told second (notice.ContactFailed first) used).book.lives ≡ giver ∷ taker ∷ [] }
 
     // it ends with its host, which ends no life of another
     ensures down { (crossed (crossing.Down first) used).book.lives ≡ giver ∷ over taker ∷ [] }
     ensures up { (crossed (crossing.Up first) used).book.lives ≡ giver ∷ taker ∷ [] }
 
     // what comes later belongs to a new life of the socket, and not to the one that has ended
-    ensures again { (told first (notice.Arrived 16 four) (told first (notice.Opened 16 second 33 7 8) (told first (notice.Ended 16 second 33) opened))).book.lives ≡ sender ∷ over receiver ∷ record receiver { own_stamp = 7; partner_stamp = 8; bits = four; messages = 1 } ∷ [] }
-    ensures granted_again { (asked first (request.Grant 16 2 100) (told first (notice.PairReset second) opened)).book.lives ≡ sender ∷ over receiver ∷ [] }
+    ensures again { (book_told first (notice.Arrived 16 four) (book_told first (notice.Opened 16 second 33 7 8) (book_told first (notice.Ended 16 second 33) opened_kept))).book.lives ≡ sender ∷ over receiver ∷ record receiver { own_stamp = 7; partner_stamp = 8; bits = four; messages = 1 } ∷ [] }
+    ensures granted_again { (asked first (request.Grant 16 2 100) (book_told first (notice.PairReset second) opened_kept)).book.lives ≡ sender ∷ over receiver ∷ [] }
 {}
 
 /// What else a book has, and what was handed over.
@@ -57,14 +57,14 @@ pub fn worked_books()
     // one list of bits for each life, in their order; nothing is handed over in a receiving life
     ensures handed { used.handed ≡ eight ∷ [] ∷ [] }
     ensures handed_more { (asked second (request.Send 33 four) used).handed ≡ (eight ++ four) ∷ [] ∷ [] }
-    ensures handed_anew { (asked second (request.Send 33 four) (told second (notice.Opened 33 first 16 7 8) (told second (notice.Ended 33 first 16) used))).handed ≡ eight ∷ [] ∷ four ∷ [] }
+    ensures handed_anew { (asked second (request.Send 33 four) (book_told second (notice.Opened 33 first 16 7 8) (book_told second (notice.Ended 33 first 16) used))).handed ≡ eight ∷ [] ∷ four ∷ [] }
 
     // bits that are handed over aren't sent yet
     ensures unsent { (asked second (request.Send 33 four) used).book.lives ≡ giver ∷ taker ∷ [] }
 
     // a notice stands behind the crossing that it comes of, in its order
     ensures notices { map stamp_of used.book.notices ≡ (second, 6) ∷ (first, 6) ∷ (second, 6) ∷ (first, 6) ∷ (first, 6) ∷ [] }
-    ensures placed { map (λ n. n.place) (told first (notice.Ready second) (crossed (crossing.Up first) used)).book.notices ≡ 6 ∷ 6 ∷ 6 ∷ 6 ∷ 6 ∷ 7 ∷ [] }
+    ensures placed { map (λ n. n.place) (book_told first (notice.Ready second) (crossed (crossing.Up first) used)).book.notices ≡ 6 ∷ 6 ∷ 6 ∷ 6 ∷ 6 ∷ 7 ∷ [] }
 
     // a contact stands in it with its host, its peer and its place, and no other request does
     ensures contact { (asked second (request.Contact first) used).book.contacts ≡ record { host = second; place = 6; peer = first } ∷ [] }
@@ -135,7 +135,7 @@ pub fn worked_worlds()
     ensures is_down { (r : Result (Unit {0}) WorldFault) (new : WorldState Seen) → StepGives any_carrier down (Ask second (request.Echo first 65)) r new → (r ≡ Err (Carrier fault.IsDown)) × (new ≡ down) }
     ensures refused { (r : Result (Unit {0}) WorldFault) (new : WorldState Seen) → StepGives any_carrier fresh (Ask second (request.Echo first 65)) r new → (r ≡ Err (Program problem.NotContacted)) × (new ≡ fresh) }
 
-    // after want of memory nothing comes before Stopped
+    // after memory has run out nothing comes before Stopped
     ensures stopped { (r : Result (Unit {0}) WorldFault) (new : WorldState Seen) → StepGives any_carrier halted (Ask third (request.Echo second 65)) r new → (r ≡ Err (Carrier fault.Stopped)) × (new ≡ halted) }
 
     // a host that has nothing to say offers nothing

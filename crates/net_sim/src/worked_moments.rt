@@ -3,12 +3,12 @@
 
 ghost use Rattle.std.specs.Prelude.{◌≡◌, [], ◌∷◌, map};
 ghost use Rattle.host_pairs.specs.declared.notice.Notice.TheVariants as notice;
-ghost use Rattle.net_sim.specs.Book.{asked, told};
+ghost use Rattle.net_sim.specs.Book.{asked, book_told};
 ghost use Rattle.net_sim.specs.Story.{Asked};
 ghost use Rattle.net_sim.specs.Timeline.{IsTimeline};
 ghost use Rattle.net_sim.specs.Told.{kept_in, notices_by};
 ghost use Rattle.net_sim.specs.Worked.{eight, four, receiver, sender, stamp_of};
-ghost use Rattle.net_sim.specs.WorkedMoments.{connected, contacted, notice_of, sent};
+ghost use Rattle.net_sim.specs.WorkedMoments.{connected, contacted, notice_of, sent_moments};
 ghost use Rattle.sockets.specs.Worked.{first, second, third};
 ghost use Rattle.sockets.specs.declared.request.Request.TheVariants as request;
 
@@ -25,14 +25,14 @@ pub fn worked_tellings()
     ensures opened { (kept_in connected).book.lives ≡ record sender { own_stamp = 8; partner_stamp = 7 } ∷ record receiver { own_stamp = 6; partner_stamp = 10 } ∷ [] }
 
     // what was handed over is sent and taken, within what was granted
-    ensures lives { (kept_in sent).book.lives ≡ record sender { own_stamp = 8; partner_stamp = 7; bits = eight; messages = 1 } ∷ record receiver { own_stamp = 6; partner_stamp = 10; bits = eight; messages = 1; granted = record { messages = 2; bits = 100 } } ∷ [] }
-    ensures handed { (kept_in sent).handed ≡ eight ∷ [] ∷ [] }
+    ensures lives { (kept_in sent_moments).book.lives ≡ record sender { own_stamp = 8; partner_stamp = 7; bits = eight; messages = 1 } ∷ record receiver { own_stamp = 6; partner_stamp = 10; bits = eight; messages = 1; granted = record { messages = 2; bits = 100 } } ∷ [] }
+    ensures handed { (kept_in sent_moments).handed ≡ eight ∷ [] ∷ [] }
 {}
 
 /// Which moments can be.
 pub fn worked_timelines()
     // all of this can
-    ensures may { IsTimeline (first ∷ second ∷ []) sent }
+    ensures may { IsTimeline (first ∷ second ∷ []) sent_moments }
 
     // a request that the program refuses is no moment, nor is one with a number past the range of its type
     ensures refused { IsTimeline (first ∷ second ∷ []) (Asked first (request.Echo second 65) ∷ []) → ⊥ }

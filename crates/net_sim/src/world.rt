@@ -13,7 +13,7 @@ ghost use Rattle.net_sim.specs.World.{opening_world, StepGives, RunGives};
 
 use crate::book::Book;
 use crate::events::{follow, is_named};
-use crate::seat::{HostServices, Seat, opening_seats, opening_services};
+use crate::seat::{Seat, ServiceSeat, opening_seats, opening_services};
 use crate::{Event, WorldFault};
 use leader1822::{Carrier, CarrierFault, HostAddr};
 use sockets::NcpFault;
@@ -23,13 +23,13 @@ use std::marker::Model;
 /// A carrier, the programs of its hosts, what else runs on them, and the book of all that happens to them.
 ///
 /// A world is seen as its carrier, a seat and the services of each host in the carrier's order, the book with what was handed
-/// over, and whether want of memory has stopped it. An event that is refused changes nothing. One in which memory runs out leaves
+/// over, and whether running out of memory has stopped it. An event that is refused changes nothing. One in which memory runs out leaves
 /// the book as it was, and after it every event is refused as `Stopped`.
 #[derive(Drop)]
 pub struct World<C: Carrier> {
     carrier: C,
     seats: Vec<Seat>,
-    services: Vec<HostServices>,
+    services: Vec<ServiceSeat>,
     book: Book,
     stopped: bool,
     alloc: Global,
@@ -86,19 +86,19 @@ impl<C: Carrier> World<C> {
         &self.seats
     }
 
-    /// Whether want of memory has stopped it.
+    /// Whether running out of memory has stopped it.
     pub(crate) fn is_stopped(&self) -> bool
         ensures { result ≡ self.now.stopped }
     {
         self.stopped
     }
 
-    /// One event.
+    /// One event happens, or is refused.
     ///
     /// Errors: `Carrier(NoSuch)` for an event at a host that the network doesn't have and `Carrier(IsDown)` at one that is
     /// down, before anything else; what the carrier refuses; what the host's program refuses, as `Program`, and so
     /// `NotOpen` for a line where no terminal came. What a server or a user asks for is never refused here: that is
-    /// reported. Want of memory comes only by the carrier, at an offer of something, at a taking of something, at an
+    /// reported. Memory can run out only in the carrier, at an offer of something, at a taking of something, at an
     /// event by which something crosses, at a request or a line that isn't refused, and where a server or a user
     /// begins.
     pub fn step(&mut self, event: Event) -> Result<(), WorldFault>
@@ -107,7 +107,7 @@ impl<C: Carrier> World<C> {
         self.follow(&event)
     }
 
-    /// One event after the other. A refused one is passed over, and want of memory ends it.
+    /// One event after the other. It continues after a refusal, and ends when memory runs out.
     pub fn run(&mut self, events: &[Event]) -> Result<(), WorldFault>
         ensures { RunGives (shown (record { seen = C.seen; offers = C.offers; takes = C.takes; steps = C.steps; rounds = C.rounds })) self.old events.now result self.new }
     {
@@ -123,7 +123,7 @@ impl<C: Carrier> World<C> {
         Ok(())
     }
 
-    /// One event.
+    /// One event happens, or is refused.
     fn follow(&mut self, event: &Event) -> Result<(), WorldFault>
         ensures { StepGives (shown (record { seen = C.seen; offers = C.offers; takes = C.takes; steps = C.steps; rounds = C.rounds })) self.old event.now result self.new }
     {
@@ -139,6 +139,7 @@ impl<C: Carrier> World<C> {
             &mut self.book,
             event,
         );
+        // for the proof alone: the log is a run of the mailboxes, which is a part of what a world keeps
         let _ = self.carrier.log();
         self.stopped = runs_out(&done);
         done
@@ -146,6 +147,8 @@ impl<C: Carrier> World<C> {
 }
 
 /// Each host has an address, as the type of an address has it.
+///
+/// It is there for the proof alone, and does nothing: of each host that it looks at the prover then knows the ranges.
 fn are_addresses(hosts: &[HostAddr])
     ensures { All (λ h. IsAddress h) hosts.now }
 {

@@ -397,6 +397,9 @@ fn values_of_flows_are_equal_to_their_copies_alone(rt: HostRuntime) {
 
 #[test]
 fn faults_of_flows_say_what_they_are(rt: HostRuntime) {
-    assert!(rt; is_told(rt.alloc(), FlowFault::Blocked, "blocked"));
-    assert!(rt; is_told(rt.alloc(), FlowFault::OutOfMemory, "out of memory"));
+    let are_told = [
+        is_told(rt.alloc(), FlowFault::Blocked, "blocked"),
+        is_told(rt.alloc(), FlowFault::OutOfMemory, "out of memory"),
+    ];
+    assert_eq!(rt; are_told, [true; 2]);
 }

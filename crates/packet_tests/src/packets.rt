@@ -265,7 +265,7 @@ fn changeable(alloc: Global, octets: &[u8], table: &Sweep) -> usize {
     octets.len()
 }
 
-/// Whether octets are a packet, each front of them is short, and each octet can be changed as the table
+/// Whether octets are a packet, each prefix of them is short, and each octet can be changed as the table
 /// says.
 fn swept(alloc: Global, octets: &[u8], table: &Sweep) -> [bool; 3] {
     [

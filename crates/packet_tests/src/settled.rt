@@ -1,4 +1,4 @@
-//! Networks whose tables have settled.
+//! Networks whose tables have converged.
 
 ghost use Rattle.std.specs.Prelude.{◌≡◌, ◌≤◌, length, IfOk};
 

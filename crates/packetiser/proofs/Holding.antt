@@ -9,12 +9,12 @@ use Rattle.std.proofs.lemmas.List.Elements.{All-cons, All-nil, All-head, All-tai
 use Rattle.std.proofs.lemmas.List.Sorted.{IsPermutation-refl}
 use Rattle.bit_messages.specs.Body.{is_one, has_mark, text_of, strip_fault}
 use Rattle.bit_messages.specs.declared.fault.BitFault.TheVariants as bit_fault
-use Rattle.bit_messages.proofs.BodyLemmas.{IsSplit, split_text}
+use Rattle.bit_messages.proofs.lemmas.{IsSplit, split_text}
 use Rattle.leader1822.specs.Flow.{same_flow, flow_before}
 use Rattle.leader1822.specs.declared.address.Flow.{Flow}
 use Rattle.packetiser.specs.PacketFields.{PacketFields, IsPacket, IsPiece, Carries, flow_of}
 use Rattle.packetiser.specs.Pieces.{IsBodySize}
-use Rattle.packetiser.specs.Slots.{SlotState, IsTable, IsPieceFor, slot_of, pieces_at, kept_for, gathered, with_piece, put, without, outcome_of, answer_of, answer_by, added, added_by, has_room, is_old, rules_out, is_whole_from, joined, packets_in, in_some_order}
+use Rattle.packetiser.specs.Slots.{SlotState, IsTable, IsPieceFor, slot_of, pieces_at, kept_for, gathered, with_piece, put, without, outcome_of, answer_of, answer_by, added, added_by, has_room, is_old, rules_out, is_whole_from, joined_pieces, packets_in, in_some_order}
 use Rattle.packetiser.specs.Rejoining.{AreAmong, IsGathered, IsRejoined, HasBodySize}
 use Rattle.packetiser.specs.declared.packet.PacketKind.{PacketKind}
 use Rattle.packetiser.specs.declared.packet.PacketKind.TheVariants as kind
@@ -102,7 +102,7 @@ places_of_whole place (q ∷ qs) whole =
     ap (λ (n : ℕ). n ∷ map (λ (r : PacketFields). r.place) qs) at ∙ ap (λ (ns : List ℕ). place ∷ ns) rest
 
 pub whole_gathered : (slots : List SlotState) (p : PacketFields) → IsTable slots → p.kind ≡ kind.Data → outcome_of slots p ≡ outcome.Whole
-    → IsGathered slots p (gathered slots p) × (answer_of slots p ≡ answer.Whole (joined (gathered slots p)))
+    → IsGathered slots p (gathered slots p) × (answer_of slots p ≡ answer.Whole (joined_pieces (gathered slots p)))
 whole_gathered slots p h piece out =
     let whole : is_whole_from 0 (gathered slots p) ≡ true = whole_from (is_old (kept_for slots p) p) (is_whole_from 0 (gathered slots p)) (has_room slots (flow_of p)) out in (
       record {
@@ -125,7 +125,7 @@ record FitsFrom (place size : ℕ) : Type 0 where
 piece_of : (q : PacketFields) → IsPacket q → q.kind ≡ kind.Data → IsPiece q.place q.last (length q.bits)
 piece_of q h piece = let P : PacketKind → Type 0 = λ k. Carries k q.place q.last (length q.bits) in subst P piece h.body
 
-size_from : (f : Flow) (number place : ℕ) (ps : List PacketFields) → All (IsPieceFor f number) ps → All IsPacket ps → is_whole_from place ps ≡ true → FitsFrom place (length (joined ps))
+size_from : (f : Flow) (number place : ℕ) (ps : List PacketFields) → All (IsPieceFor f number) ps → All IsPacket ps → is_whole_from place ps ≡ true → FitsFrom place (length (joined_pieces ps))
 size_from f number place [] pieces packets whole = absurd (cc)
 size_from f number place (q ∷ qs) pieces packets whole =
     let here : IsPieceFor f number q = All-head (IsPieceFor f number) q qs pieces in
@@ -134,14 +134,14 @@ size_from f number place (q ∷ qs) pieces packets whole =
     let low : q.place < 8 = packet.place in
     let at : q.place ≡ place = eqb-true q.place place (and_first (q.place == place) (if q.last then length qs == 0 else is_whole_from (place + 1) qs) whole) in
     let behind : (if q.last then length qs == 0 else is_whole_from (place + 1) qs) ≡ true = and_second (q.place == place) (if q.last then length qs == 0 else is_whole_from (place + 1) qs) whole in
-    let all : length (joined (q ∷ qs)) ≡ length q.bits + length (joined qs) = length-append q.bits (joined qs) in
+    let all : length (joined_pieces (q ∷ qs)) ≡ length q.bits + length (joined_pieces qs) = length-append q.bits (joined_pieces qs) in
     elim (cases_Bool q.last) [
       | inl e ↦ (
           let none : (length qs == 0) ≡ true = rw e at behind in
-          let rest : length (joined qs) ≡ 0 = ap (λ (rs : List PacketFields). length (joined rs)) (nil_from_length qs (eqb-true (length qs) 0 none)) in
+          let rest : length (joined_pieces qs) ≡ 0 = ap (λ (rs : List PacketFields). length (joined_pieces rs)) (nil_from_length qs (eqb-true (length qs) 0 none)) in
           record { some = omega (arith, all, piece.some); units = omega (arith, all, rest, piece.units); most = omega (arith, all, rest, piece.most) })
       | inr e ↦ (
-          let rest : FitsFrom (place + 1) (length (joined qs)) = size_from f number (place + 1) qs (All-tail (IsPieceFor f number) q qs pieces) (All-tail IsPacket q qs packets) (rw e at behind) in
+          let rest : FitsFrom (place + 1) (length (joined_pieces qs)) = size_from f number (place + 1) qs (All-tail (IsPieceFor f number) q qs pieces) (All-tail IsPacket q qs packets) (rw e at behind) in
           let full : length q.bits ≡ 1008 = piece.full e in
           record { some = omega (arith, all, full); units = omega (arith, all, full, rest.units); most = omega (arith, all, full, rest.most) })
     ]
@@ -159,11 +159,11 @@ same_body v w e = cc
 pub rejoined : (slots : List SlotState) (p : PacketFields) (w : List Bool) → IsTable slots → IsPacket p → p.kind ≡ kind.Data → answer_of slots p ≡ answer.Whole w → IsRejoined slots p w
 rejoined slots p w h format piece said =
     let out : outcome_of slots p ≡ outcome.Whole = outcome_from (outcome_of slots p) slots p w said in
-    let both : IsGathered slots p (gathered slots p) × (answer_of slots p ≡ answer.Whole (joined (gathered slots p))) = whole_gathered slots p h piece out in
-    let bits : joined (gathered slots p) ≡ w = same_body (joined (gathered slots p)) w (sym both.1 ∙ said) in
+    let both : IsGathered slots p (gathered slots p) × (answer_of slots p ≡ answer.Whole (joined_pieces (gathered slots p))) = whole_gathered slots p h piece out in
+    let bits : joined_pieces (gathered slots p) ≡ w = same_body (joined_pieces (gathered slots p)) w (sym both.1 ∙ said) in
     let packets : All IsPacket (gathered slots p) = All_with_piece IsPacket p (kept_for slots p) format (kept_packets slots (flow_of p) p.number h.sound) in
-    let fits : FitsFrom 0 (length (joined (gathered slots p))) = size_from (flow_of p) p.number 0 (gathered slots p) both.0.of_message packets both.0.whole in
-    let size : length w ≡ length (joined (gathered slots p)) = ap length (sym bits) in
+    let fits : FitsFrom 0 (length (joined_pieces (gathered slots p))) = size_from (flow_of p) p.number 0 (gathered slots p) both.0.of_message packets both.0.whole in
+    let size : length w ≡ length (joined_pieces (gathered slots p)) = ap length (sym bits) in
     record {
       one_message = both.0;
       bits = sym bits;
@@ -257,19 +257,19 @@ or_swap true false c = refl
 or_swap false b c = refl
 
 -- the pieces hold a mark where one of them does
-pub mark_joined : (p : PacketFields) (qs : List PacketFields) → has_mark (joined (with_piece p qs)) ≡ (has_mark p.bits || list_any (λ q. has_mark q.bits) qs)
+mark_joined : (p : PacketFields) (qs : List PacketFields) → has_mark (joined_pieces (with_piece p qs)) ≡ (has_mark p.bits || list_any (λ q. has_mark q.bits) qs)
 mark_joined p [] = any_append is_one p.bits []
 mark_joined p (q ∷ qs) = elim (cases_Bool (nat_lt q.place p.place)) [
-  | inl e ↦ rw e (any_append is_one q.bits (joined (with_piece p qs)) ∙ ap (λ (b : Bool). has_mark q.bits || b) (mark_joined p qs) ∙ or_swap (has_mark q.bits) (has_mark p.bits) (list_any (λ (r : PacketFields). has_mark r.bits) qs))
-  | inr e ↦ rw e (any_append is_one p.bits (joined (q ∷ qs)) ∙ ap (λ (b : Bool). has_mark p.bits || b) (mark_all (q ∷ qs)))
+  | inl e ↦ rw e (any_append is_one q.bits (joined_pieces (with_piece p qs)) ∙ ap (λ (b : Bool). has_mark q.bits || b) (mark_joined p qs) ∙ or_swap (has_mark q.bits) (has_mark p.bits) (list_any (λ (r : PacketFields). has_mark r.bits) qs))
+  | inr e ↦ rw e (any_append is_one p.bits (joined_pieces (q ∷ qs)) ∙ ap (λ (b : Bool). has_mark p.bits || b) (mark_all (q ∷ qs)))
 ]
   where
-    mark_all : (rs : List PacketFields) → has_mark (joined rs) ≡ list_any (λ r. has_mark r.bits) rs
+    mark_all : (rs : List PacketFields) → has_mark (joined_pieces rs) ≡ list_any (λ r. has_mark r.bits) rs
     mark_all [] = refl
-    mark_all (r ∷ rs) = any_append is_one r.bits (joined rs) ∙ ap (λ (b : Bool). has_mark r.bits || b) (mark_all rs)
+    mark_all (r ∷ rs) = any_append is_one r.bits (joined_pieces rs) ∙ ap (λ (b : Bool). has_mark r.bits || b) (mark_all rs)
 
-pub mark_first : (p : PacketFields) (qs : List PacketFields) → has_mark p.bits ≡ true → has_mark (joined (with_piece p qs)) ≡ true
+pub mark_first : (p : PacketFields) (qs : List PacketFields) → has_mark p.bits ≡ true → has_mark (joined_pieces (with_piece p qs)) ≡ true
 mark_first p qs here = mark_joined p qs ∙ ap (λ (b : Bool). b || list_any (λ (q : PacketFields). has_mark q.bits) qs) here
 
-pub mark_later : (p : PacketFields) (qs : List PacketFields) → has_mark p.bits ≡ false → has_mark (joined (with_piece p qs)) ≡ list_any (λ q. has_mark q.bits) qs
+pub mark_later : (p : PacketFields) (qs : List PacketFields) → has_mark p.bits ≡ false → has_mark (joined_pieces (with_piece p qs)) ≡ list_any (λ q. has_mark q.bits) qs
 mark_later p qs here = mark_joined p qs ∙ ap (λ (b : Bool). b || list_any (λ (q : PacketFields). has_mark q.bits) qs) here

@@ -18,7 +18,7 @@ module _ {Y : Type 0} (h : ℕ → Option Y) where
   pub first_there : (key : ℕ) (keys : List ℕ) → AreThere h (key ∷ keys) → (y : Y) × (h key ≡ Some y)
   first_there key keys all = some_of (h key) (All-head (λ k. IsSome (h k)) key keys all)
 
-  pub rest_there : (key : ℕ) (keys : List ℕ) → AreThere h (key ∷ keys) → AreThere h keys
+  rest_there : (key : ℕ) (keys : List ℕ) → AreThere h (key ∷ keys) → AreThere h keys
   rest_there key keys all = All-tail (λ k. IsSome (h k)) key keys all
 
   pub length-there : (keys : List ℕ) → AreThere h keys → length (filter_map h keys) ≡ length keys

@@ -6,3 +6,4 @@ pub mod Rejoining
 pub mod Holding
 pub mod Keys
 pub mod Table
+pub mod lemmas

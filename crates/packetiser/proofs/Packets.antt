@@ -7,7 +7,7 @@ use Rattle.std.proofs.lemmas.Bool.Decides.{nat_tests}
 use Rattle.std.proofs.lemmas.List.{length-take-le, take_all, get_or_past}
 use Rattle.std.proofs.Common.{length-drop}
 use Rattle.bit_messages.specs.Octets.{octets_of, bits_of, spare_bits}
-use Rattle.bit_messages.proofs.OctetLemmas.{length-bits_of, octets_again, bits_again}
+use Rattle.bit_messages.proofs.lemmas.{bits_again, length-bits_of, octets_again}
 use Rattle.leader1822.specs.Host.{Host, address_octet}
 use Rattle.packetiser.specs.PacketFields.{PacketFields, IsPacket, IsPacketHost, IsPiece, IsAnswer, Carries}
 use Rattle.packetiser.specs.Format.{spelling, read_of, kind_octet, kind_of, host_of, is_address, is_short, is_not_canonical, is_bad_length, bit_count, octet_count, is_data, is_last, place_of, place_octet, fields_of}
@@ -111,7 +111,7 @@ good_by false last count e = record {
   empty = λ _. eqb-true count 0 (not_false (count == 0) e);
 }
 
-pub good_from : (octets : List ℕ) → is_bad_length octets ≡ false → IsGoodCount (is_data octets) (is_last octets) (bit_count octets)
+good_from : (octets : List ℕ) → is_bad_length octets ≡ false → IsGoodCount (is_data octets) (is_last octets) (bit_count octets)
 unfolding is_bad_length
 good_from octets e =
     good_by (is_data octets) (is_last octets) (bit_count octets) e
@@ -127,7 +127,7 @@ packet_from octets long canonical good = record { long = long_from octets long; 
 
 -- ---- what is read is a packet
 
-pub address_is : (octet : ℕ) → octet < 256 → is_address octet ≡ true → IsPacketHost (host_of octet)
+address_is : (octet : ℕ) → octet < 256 → is_address octet ≡ true → IsPacketHost (host_of octet)
 address_is octet small e = record { some = grind (arith, nat_tests, e); imp = grind (arith, nat_tests, e); host = omega arith }
 
 carries_by : (a b : Bool) (place : ℕ) (last : Bool) (size : ℕ) → (a ≡ true → IsPiece place last size) → (a ≡ false → IsAnswer place last size)
@@ -246,7 +246,7 @@ none_of_seven a b c d e f g ea eb ec ed ee ef eg = rw (ea, eb, ec, ed, ee, ef, e
 none_of_four : (a b c d : Bool) → a ≡ false → b ≡ false → c ≡ false → d ≡ false → (a || b || c || d) ≡ false
 none_of_four a b c d ea eb ec ed = rw (ea, eb, ec, ed) refl
 
-pub long_again : (p : PacketFields) → IsPacket p → is_short (spelling p) ≡ false
+long_again : (p : PacketFields) → IsPacket p → is_short (spelling p) ≡ false
 unfolding is_short
 long_again p h =
     let size : (length p.bits % 8 ≡ 0) × (length p.bits ≤ 1008) = size_by p.kind p.place p.last (length p.bits) h.body in
@@ -276,7 +276,7 @@ answer_as kind.Data place last size h = refl
 answer_as kind.Rfnm place last size h = rw (h.first, h.only) refl
 answer_as kind.Dead place last size h = rw (h.first, h.only) refl
 
-pub canonical_again : (p : PacketFields) → IsPacket p → is_not_canonical (spelling p) ≡ false
+canonical_again : (p : PacketFields) → IsPacket p → is_not_canonical (spelling p) ≡ false
 unfolding is_not_canonical
 canonical_again p h =
     let size : (length p.bits % 8 ≡ 0) × (length p.bits ≤ 1008) = size_by p.kind p.place p.last (length p.bits) h.body in
@@ -301,7 +301,7 @@ good_as kind.Data place false size h = let full : size ≡ 1008 = h.full refl in
 good_as kind.Rfnm place last size h = let empty : size ≡ 0 = h.empty in rw empty refl
 good_as kind.Dead place last size h = let empty : size ≡ 0 = h.empty in rw empty refl
 
-pub good_again : (p : PacketFields) → IsPacket p → is_bad_length (spelling p) ≡ false
+good_again : (p : PacketFields) → IsPacket p → is_bad_length (spelling p) ≡ false
 unfolding is_bad_length
 good_again p h =
     let held : HoldsPlace p.place p.last = place_held p.place p.last h.place in
@@ -338,7 +338,7 @@ same_parts : {k k' : PacketKind} {s s' d d' : Host} {l l' n n' place place' : �
     → packet_of k s d l n place last bits ≡ packet_of k' s' d' l' n' place' last' bits'
 same_parts kinds sources destinations links numbers places lasts all_bits = cc
 
-pub same_fields : (p q : PacketFields) → p.kind ≡ q.kind → p.source ≡ q.source → p.destination ≡ q.destination → p.link ≡ q.link → p.number ≡ q.number
+same_fields : (p q : PacketFields) → p.kind ≡ q.kind → p.source ≡ q.source → p.destination ≡ q.destination → p.link ≡ q.link → p.number ≡ q.number
     → p.place ≡ q.place → p.last ≡ q.last → p.bits ≡ q.bits → p ≡ q
 unfolding packet_of
 same_fields p q kinds sources destinations links numbers places lasts all_bits = same_parts kinds sources destinations links numbers places lasts all_bits

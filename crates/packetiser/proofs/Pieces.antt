@@ -17,7 +17,7 @@ body_sized text short =
 pub few_pieces : (w : List Bool) → IsBodySize (length w) → piece_count w ≤ 8
 few_pieces w h = omega (arith, h.most)
 
-pub length-piece : (w : List Bool) (place : ℕ) → length (piece w place) ≡ min 1008 (length w - 1008 * place)
+length-piece : (w : List Bool) (place : ℕ) → length (piece w place) ≡ min 1008 (length w - 1008 * place)
 length-piece w place = length-take 1008 (drop (1008 * place) w) ∙ ap (λ (n : ℕ). min 1008 n) (length-drop (1008 * place) w)
 
 -- a piece is one by its size

@@ -7,12 +7,12 @@ use Rattle.std.proofs.lemmas.Bool.Decides.{nat_tests}
 use Rattle.std.proofs.lemmas.List.{take-append-drop, drop-drop, drop_all, length-map, nil_from_length}
 use Rattle.std.proofs.lemmas.List.Elements.{All-cons, All-nil, All-head, All-tail, All-weaker, All-filter, All-map}
 use Rattle.leader1822.specs.Flow.{same_flow, flow_before}
-use Rattle.leader1822.proofs.Lists.{same_flow-true, same_flow-refl}
+use Rattle.leader1822.proofs.lemmas.{same_flow-refl, same_flow-true}
 use Rattle.leader1822.specs.declared.address.Flow.{Flow}
 use Rattle.packetiser.specs.PacketFields.{PacketFields, flow_of}
 use Rattle.packetiser.specs.Pieces.{piece_count, piece, piece_packet, places, packets_of, CarriesPieceOf}
-use Rattle.packetiser.specs.Slots.{SlotState, IsPieceFor, slot_of, pieces_at, kept_for, gathered, with_piece, put, without, outcome_of, answer_of, answer_by, added, added_by, has_room, is_old, rules_out, is_whole_from, joined}
-use Rattle.packetiser.specs.Rejoining.{came, all_came, pieces_of, Holds, answer_to, after, Event, Piece, Other, Emptied, IsAmongOthers, places_in, after_events}
+use Rattle.packetiser.specs.Slots.{SlotState, IsPieceFor, slot_of, pieces_at, kept_for, gathered, with_piece, put, without, outcome_of, answer_of, answer_by, added, added_by, has_room, is_old, rules_out, is_whole_from, joined_pieces}
+use Rattle.packetiser.specs.Rejoining.{came, all_came, pieces_of, Holds, answer_to, slots_after, Event, Piece, Other, Emptied, IsAmongOthers, places_in, after_events}
 use Rattle.packetiser.specs.declared.reassembly.Outcome.{Outcome}
 use Rattle.packetiser.specs.declared.reassembly.Outcome.TheVariants as outcome
 use Rattle.packetiser.specs.declared.reassembly.Added.TheVariants as answer
@@ -34,39 +34,39 @@ piece_and_rest w place =
 nothing_behind : (w : List Bool) (place : ℕ) → place ≡ piece_count w → from_piece w place ≡ []
 nothing_behind w place end = drop_all (1008 * place) w (omega (arith, end))
 
-joined_from : (w : List Bool) (place : ℕ) (ps : List PacketFields) → All (CarriesPieceOf w) ps → is_whole_from place ps ≡ true → joined ps ≡ from_piece w place
+joined_from : (w : List Bool) (place : ℕ) (ps : List PacketFields) → All (CarriesPieceOf w) ps → is_whole_from place ps ≡ true → joined_pieces ps ≡ from_piece w place
 joined_from w place [] all whole = absurd (cc)
 joined_from w place (q ∷ qs) all whole =
     let here : CarriesPieceOf w q = All-head (CarriesPieceOf w) q qs all in
     let at : q.place ≡ place = eqb-true q.place place (and_first (q.place == place) (if q.last then length qs == 0 else is_whole_from (place + 1) qs) whole) in
     let behind : (if q.last then length qs == 0 else is_whole_from (place + 1) qs) ≡ true = and_second (q.place == place) (if q.last then length qs == 0 else is_whole_from (place + 1) qs) whole in
-    let rest : joined qs ≡ from_piece w (place + 1) = elim (cases_Bool q.last) [
+    let rest : joined_pieces qs ≡ from_piece w (place + 1) = elim (cases_Bool q.last) [
       | inl e ↦ (
           let none : (length qs == 0) ≡ true = rw e at behind in
           let last : q.place + 1 ≡ piece_count w = eqb-true (q.place + 1) (piece_count w) (sym here.flag ∙ e) in
-          ap joined (nil_from_length qs (eqb-true (length qs) 0 none)) ∙ sym (nothing_behind w (place + 1) (omega (arith, at, last))))
+          ap joined_pieces (nil_from_length qs (eqb-true (length qs) 0 none)) ∙ sym (nothing_behind w (place + 1) (omega (arith, at, last))))
       | inr e ↦ joined_from w (place + 1) qs (All-tail (CarriesPieceOf w) q qs all) (rw e at behind)
     ] in
-    ap (λ (b : List Bool). b ++ joined qs) (here.same ∙ ap (piece w) at) ∙ ap (λ (b : List Bool). piece w place ++ b) rest ∙ piece_and_rest w place
+    ap (λ (b : List Bool). b ++ joined_pieces qs) (here.same ∙ ap (piece w) at) ∙ ap (λ (b : List Bool). piece w place ++ b) rest ∙ piece_and_rest w place
 
-pub joined_whole : (w : List Bool) (ps : List PacketFields) → All (CarriesPieceOf w) ps → is_whole_from 0 ps ≡ true → joined ps ≡ w
+pub joined_whole : (w : List Bool) (ps : List PacketFields) → All (CarriesPieceOf w) ps → is_whole_from 0 ps ≡ true → joined_pieces ps ≡ w
 joined_whole w ps all whole = joined_from w 0 ps all whole
 
 -- pieces at all places from one on
 places_from : (w : List Bool) (place count : ℕ) (ps : List PacketFields) → All (CarriesPieceOf w) ps → map (λ q. q.place) ps ≡ range_with_len place count → place + count ≡ piece_count w
-    → joined ps ≡ from_piece w place
+    → joined_pieces ps ≡ from_piece w place
 places_from w place zero ps all same end =
     let none : length ps ≡ 0 = sym (length-map ps (λ q. q.place)) ∙ ap length same in
-    ap joined (nil_from_length ps none) ∙ sym (nothing_behind w place (omega (arith, end)))
+    ap joined_pieces (nil_from_length ps none) ∙ sym (nothing_behind w place (omega (arith, end)))
 places_from w place (suc count) [] all same end = absurd (cc)
 places_from w place (suc count) (q ∷ qs) all same end =
     let here : CarriesPieceOf w q = All-head (CarriesPieceOf w) q qs all in
     let at : q.place ≡ place = cc in
     let others : map (λ (r : PacketFields). r.place) qs ≡ range_with_len (place + 1) count = cc in
-    let rest : joined qs ≡ from_piece w (place + 1) = places_from w (place + 1) count qs (All-tail (CarriesPieceOf w) q qs all) others (omega (arith, end)) in
-    ap (λ (b : List Bool). b ++ joined qs) (here.same ∙ ap (piece w) at) ∙ ap (λ (b : List Bool). piece w place ++ b) rest ∙ piece_and_rest w place
+    let rest : joined_pieces qs ≡ from_piece w (place + 1) = places_from w (place + 1) count qs (All-tail (CarriesPieceOf w) q qs all) others (omega (arith, end)) in
+    ap (λ (b : List Bool). b ++ joined_pieces qs) (here.same ∙ ap (piece w) at) ∙ ap (λ (b : List Bool). piece w place ++ b) rest ∙ piece_and_rest w place
 
-pub joined_places : (w : List Bool) (ps : List PacketFields) → All (CarriesPieceOf w) ps → map (λ q. q.place) ps ≡ places (piece_count w) → joined ps ≡ w
+pub joined_places : (w : List Bool) (ps : List PacketFields) → All (CarriesPieceOf w) ps → map (λ q. q.place) ps ≡ places (piece_count w) → joined_pieces ps ≡ w
 joined_places w ps all same = places_from w 0 (piece_count w) ps all same (zero-add (piece_count w))
 
 -- ---- the packets of a body
@@ -103,7 +103,7 @@ map_places : (flow : Flow) (number : ℕ) (w : List Bool) (js : List ℕ) → ma
 map_places flow number w [] = refl
 map_places flow number w (j ∷ js) = ap (λ (is : List ℕ). j ∷ is) (map_places flow number w js)
 
-pub packets_joined : (flow : Flow) (number : ℕ) (w : List Bool) → joined (packets_of flow number w) ≡ w
+pub packets_joined : (flow : Flow) (number : ℕ) (w : List Bool) → joined_pieces (packets_of flow number w) ≡ w
 packets_joined flow number w = joined_places w (packets_of flow number w) (packets_are flow number w).1 (map_places flow number w (places (piece_count w)))
 
 -- ---- the pieces that came
@@ -357,7 +357,7 @@ answered flow number w slots ks k h lt =
       | inr e ↦ elim (cases_Bool (all_came w (k ∷ ks))) [
         | inl a ↦ (
             let out : outcome_of slots p ≡ outcome.Whole = if_whole (is_old (kept_for slots p) p) (is_whole_from 0 (gathered slots p)) (has_room slots flow) (known.old ∙ e) (known.whole e ∙ a) in
-            let bits : joined (gathered slots p) ≡ w = ap joined (known.together e) ∙ joined_whole w (pieces_of flow number w (k ∷ ks)) (pieces_are flow number w (k ∷ ks)) (ap (is_whole_from 0) (sym (known.together e)) ∙ known.whole e ∙ a) in
+            let bits : joined_pieces (gathered slots p) ≡ w = ap joined_pieces (known.together e) ∙ joined_whole w (pieces_of flow number w (k ∷ ks)) (pieces_are flow number w (k ∷ ks)) (ap (is_whole_from 0) (sym (known.together e)) ∙ known.whole e ∙ a) in
             ap (λ (o : Outcome). answer_by o slots p) out ∙ ap answer.Whole bits ∙ (let said : answer_to w ks k ≡ answer.Whole w = rw (e, a) refl in sym said))
         | inr a ↦ (
             let out : outcome_of slots p ≡ outcome.Kept = if_kept (is_old (kept_for slots p) p) (is_whole_from 0 (gathered slots p)) (has_room slots flow) (known.old ∙ e) (known.whole e ∙ a) h.room in
@@ -402,17 +402,17 @@ before_all w ks k missing = elim (cases_Bool (all_came w ks)) [
 ]
 
 held_after : (flow : Flow) (number : ℕ) (w : List Bool) (slots : List SlotState) (ks : List ℕ) → Holds flow number w [] slots → All (λ j. j < piece_count w) ks
-    → all_came w ks ≡ false → Holds flow number w ks (after flow number w slots ks)
+    → all_came w ks ≡ false → Holds flow number w ks (slots_after flow number w slots ks)
 held_after flow number w slots [] h all missing = h
 held_after flow number w slots (k ∷ ks) h all missing =
-    still_held flow number w (after flow number w slots ks) ks k
+    still_held flow number w (slots_after flow number w slots ks) ks k
     (held_after flow number w slots ks h (All-tail (λ j. j < piece_count w) k ks all) (before_all w ks k missing))
     (All-head (λ j. j < piece_count w) k ks all) missing
 
 pub any_order : (flow : Flow) (number : ℕ) (w : List Bool) (slots : List SlotState) (ks : List ℕ) (k : ℕ) → Holds flow number w [] slots → All (λ j. j < piece_count w) (k ∷ ks)
-    → all_came w ks ≡ false → answer_of (after flow number w slots ks) (piece_packet flow number w k) ≡ answer_to w ks k
+    → all_came w ks ≡ false → answer_of (slots_after flow number w slots ks) (piece_packet flow number w k) ≡ answer_to w ks k
 any_order flow number w slots ks k h all missing =
-    answered flow number w (after flow number w slots ks) ks k
+    answered flow number w (slots_after flow number w slots ks) ks k
     (held_after flow number w slots ks h (All-tail (λ j. j < piece_count w) k ks all) missing) (All-head (λ j. j < piece_count w) k ks all)
 
 -- ---- a message among others

@@ -13,11 +13,10 @@ use Rattle.std.proofs.lemmas.List.Sums.{passes_at_first}
 use Rattle.std.proofs.lemmas.Option.{slice_get_read, same_Some}
 use Rattle.std.specs.List.{slice_get}
 use Rattle.leader1822.specs.Flow.{same_flow, flow_before}
-use Rattle.leader1822.proofs.Lists.{same_flow-true}
-use Rattle.leader1822.proofs.Order.{flow_before_trans, flow_before_else}
+use Rattle.leader1822.proofs.lemmas.{flow_before_else, flow_before_trans, same_flow-true}
 use Rattle.leader1822.specs.declared.address.Flow.{Flow}
 use Rattle.packetiser.specs.PacketFields.{PacketFields, IsPacket, flow_of}
-use Rattle.packetiser.specs.Slots.{SlotState, IsSlot, IsInOrder, IsTable, IsPieceFor, PlacesRise, slot_of, pieces_at, kept_for, gathered, with_piece, put, without, kept, outcome_of, has_room, is_old, rules_out, is_whole_from, joined}
+use Rattle.packetiser.specs.Slots.{SlotState, IsSlot, IsInOrder, IsTable, IsPieceFor, PlacesRise, slot_of, pieces_at, kept_for, gathered, with_piece, put, without, kept, outcome_of, has_room, is_old, rules_out, is_whole_from, joined_pieces}
 use Rattle.packetiser.specs.declared.packet.PacketKind.TheVariants as kind
 use Rattle.packetiser.specs.declared.reassembly.Outcome.TheVariants as outcome
 
@@ -115,7 +114,7 @@ or_rest true b e = absurd (cc)
 or_rest false b e = e
 
 -- a piece that isn't old stands at a place of its own
-pub rise_with_piece : (p : PacketFields) (ps : List PacketFields) → is_old ps p ≡ false → PlacesRise ps → PlacesRise (with_piece p ps)
+rise_with_piece : (p : PacketFields) (ps : List PacketFields) → is_old ps p ≡ false → PlacesRise ps → PlacesRise (with_piece p ps)
 rise_with_piece p [] new rise = (All-nil (λ r. p.place < r.place), tt)
 rise_with_piece p (q ∷ qs) new rise =
     let apart : (q.place == p.place) ≡ false = or_first (q.place == p.place) (q.last && nat_lt q.place p.place)
@@ -130,7 +129,7 @@ rise_with_piece p (q ∷ qs) new rise =
           rw e (All-cons (λ r. p.place < r.place) q qs above behind, rise))
     ]
 
-pub length-with_piece : (p : PacketFields) (ps : List PacketFields) → length (with_piece p ps) ≡ length ps + 1
+length-with_piece : (p : PacketFields) (ps : List PacketFields) → length (with_piece p ps) ≡ length ps + 1
 length-with_piece p [] = refl
 length-with_piece p (q ∷ qs) = elim (cases_Bool (nat_lt q.place p.place)) [
   | inl e ↦ rw e (omega (arith, length-with_piece p qs))
@@ -157,7 +156,7 @@ All_put P s (t ∷ ts) here all = elim (cases_Bool (same_flow s.flow t.flow)) [
   ]
 ]
 
-pub put_new : (s : SlotState) (slots : List SlotState) → list_any (λ t. same_flow s.flow t.flow) slots ≡ false
+put_new : (s : SlotState) (slots : List SlotState) → list_any (λ t. same_flow s.flow t.flow) slots ≡ false
     → put s slots ≡ insert slots (position_or_len (λ t. not (flow_before t.flow s.flow)) slots) s
 put_new s [] none = refl
 put_new s (t ∷ ts) none = elim (cases_Bool (same_flow s.flow t.flow)) [
@@ -168,7 +167,7 @@ put_new s (t ∷ ts) none = elim (cases_Bool (same_flow s.flow t.flow)) [
   ]
 ]
 
-pub put_held : (s : SlotState) (slots : List SlotState) → IsInOrder slots → list_any (λ t. same_flow s.flow t.flow) slots ≡ true
+put_held : (s : SlotState) (slots : List SlotState) → IsInOrder slots → list_any (λ t. same_flow s.flow t.flow) slots ≡ true
     → put s slots ≡ set slots (position_or_len (λ t. same_flow s.flow t.flow) slots) s
 put_held s [] order any = absurd (cc)
 put_held s (t ∷ ts) order any = elim (cases_Bool (same_flow s.flow t.flow)) [
@@ -181,7 +180,7 @@ put_held s (t ∷ ts) order any = elim (cases_Bool (same_flow s.flow t.flow)) [
       rw (e, before) (ap (λ (us : List SlotState). t ∷ us) (put_held s ts order.1 later) ∙ sym (set_later t ts (position_or_len (λ (u : SlotState). same_flow s.flow u.flow) ts) s)))
 ]
 
-pub order_put : (s : SlotState) (slots : List SlotState) → IsInOrder slots → IsInOrder (put s slots)
+order_put : (s : SlotState) (slots : List SlotState) → IsInOrder slots → IsInOrder (put s slots)
 order_put s [] order = (All-nil (λ t. flow_before s.flow t.flow ≡ true), tt)
 order_put s (t ∷ ts) order = elim (cases_Bool (same_flow s.flow t.flow)) [
   | inl e ↦ (let P : Flow → Type 0 = λ f. All (λ u. flow_before f u.flow ≡ true) ts in rw e (subst P (sym (same_flow-true s.flow t.flow e)) order.0, order.1))
@@ -197,7 +196,7 @@ order_put s (t ∷ ts) order = elim (cases_Bool (same_flow s.flow t.flow)) [
   ]
 ]
 
-pub order_filter : (p : SlotState → Bool) (slots : List SlotState) → IsInOrder slots → IsInOrder (filter p slots)
+order_filter : (p : SlotState → Bool) (slots : List SlotState) → IsInOrder slots → IsInOrder (filter p slots)
 order_filter p [] order = tt
 order_filter p (t ∷ ts) order = elim (cases_Bool (p t)) [
   | inl e ↦ rw e (All-filter p (λ u. flow_before t.flow u.flow ≡ true) ts order.0, order_filter p ts order.1)
@@ -229,7 +228,7 @@ kept_sound (s ∷ slots) f number all = elim (cases_Bool (same_flow f s.flow)) [
 ]
 
 -- what is held of a message has what each slot's pieces have
-pub held_of : (P : List PacketFields → Type 0) (slots : List SlotState) (f : Flow) (number : ℕ) → P [] → All (λ s. P s.pieces) slots → P (pieces_at (slot_of slots f) number)
+held_of : (P : List PacketFields → Type 0) (slots : List SlotState) (f : Flow) (number : ℕ) → P [] → All (λ s. P s.pieces) slots → P (pieces_at (slot_of slots f) number)
 held_of P [] f number none all = none
 held_of P (s ∷ slots) f number none all = elim (cases_Bool (same_flow f s.flow)) [
   | inl e ↦ elim (cases_Bool (s.number == number)) [
@@ -251,7 +250,7 @@ new_from true whole room h = absurd (cc)
 new_from false whole room h = refl
 
 -- there is room where a packet is kept
-pub room_from : (old whole room : Bool) → (if old then outcome.Old else (if whole then outcome.Whole else (if room then outcome.Kept else outcome.Full))) ≡ outcome.Kept → room ≡ true
+room_from : (old whole room : Bool) → (if old then outcome.Old else (if whole then outcome.Whole else (if room then outcome.Kept else outcome.Full))) ≡ outcome.Kept → room ≡ true
 room_from true whole room h = absurd (cc)
 room_from false true room h = absurd (cc)
 room_from false false true h = refl
@@ -294,10 +293,10 @@ without_table slots f h =
 
 -- pieces and a packet, joined
 pub join_is : (p : PacketFields) (ps front back : List PacketFields) (n : ℕ) → n ≡ position_or_len (λ q. not (nat_lt q.place p.place)) ps → front ≡ take n ps → back ≡ drop n ps
-    → (joined front ++ p.bits) ++ joined back ≡ joined (with_piece p ps)
+    → (joined_pieces front ++ p.bits) ++ joined_pieces back ≡ joined_pieces (with_piece p ps)
 join_is p ps front back n at e f =
     let split : with_piece p ps ≡ front ++ p ∷ back = with_piece_is p ps ∙ ap (λ (k : ℕ). insert ps k p) (sym at) ∙ cc in
-    append_assoc (joined front) p.bits (joined back) ∙ sym (flat_map-append (λ (q : PacketFields). q.bits) front (p ∷ back)) ∙ ap joined (sym split)
+    append_assoc (joined_pieces front) p.bits (joined_pieces back) ∙ sym (flat_map-append (λ (q : PacketFields). q.bits) front (p ∷ back)) ∙ ap joined_pieces (sym split)
 
 -- ---- a packet that is kept
 

@@ -8,8 +8,7 @@ use Rattle.std.proofs.lemmas.List.Elements.{All-head, All-tail}
 use Rattle.std.proofs.lemmas.List.Folds.{find_at}
 use Rattle.std.proofs.lemmas.Option.{slice_get_past, get_or_from_slice_get}
 use Rattle.leader1822.specs.Flow.{same_flow, flow_before}
-use Rattle.leader1822.proofs.Lists.{same_flow-true}
-use Rattle.leader1822.proofs.Order.{flow_before_never}
+use Rattle.leader1822.proofs.lemmas.{flow_before_never, same_flow-true}
 use Rattle.leader1822.specs.declared.address.Flow.{Flow}
 use Rattle.slab.specs.Slab.{Slab, get, ContainsKey, slab_len, Updates, with_value}
 use Rattle.slab.proofs.SlabLemmas.{Updates-with_value}
@@ -133,7 +132,7 @@ slot_at_place slots f at place =
 pub no_slot : (slots : List SlotState) (f : Flow) → position (λ s. same_flow f s.flow) slots ≡ None → slot_of slots f ≡ None
 no_slot slots f none = find_none (λ (s : SlotState). same_flow f s.flow) slots (position_none (λ (s : SlotState). same_flow f s.flow) slots none)
 
-pub any_is_placed : (test : SlotState → Bool) (slots : List SlotState) → is_some (position test slots) ≡ list_any test slots
+any_is_placed : (test : SlotState → Bool) (slots : List SlotState) → is_some (position test slots) ≡ list_any test slots
 any_is_placed test slots = elim (cases_Bool (nat_lt (position_or_len test slots) (length slots))) [
   | inl e ↦ rw e (sym e ∙ sym (any_within test slots))
   | inr e ↦ rw e (sym e ∙ sym (any_within test slots))

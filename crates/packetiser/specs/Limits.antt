@@ -5,7 +5,7 @@ use Rattle.std.specs.Prelude.{ℕ}
 abbrev pub greatest_imp : ℕ
 greatest_imp = 16
 
--- so many octets stand in front of a packet's bits
+-- so many octets precede a packet's bits
 abbrev pub header_octets : ℕ
 header_octets = 8
 

@@ -5,7 +5,7 @@ use Rattle.leader1822.specs.Flow.{same_flow}
 use Rattle.leader1822.specs.declared.address.Flow.{Flow}
 use Rattle.packetiser.specs.PacketFields.{PacketFields, flow_of}
 use Rattle.packetiser.specs.Pieces.{IsBodySize, piece_count, piece_packet, places}
-use Rattle.packetiser.specs.Slots.{SlotState, IsPieceFor, slot_of, pieces_at, has_room, is_whole_from, gathered, joined, added, without, packets_in}
+use Rattle.packetiser.specs.Slots.{SlotState, IsPieceFor, slot_of, pieces_at, has_room, is_whole_from, gathered, joined_pieces, added, without, packets_in}
 use Rattle.packetiser.specs.declared.reassembly.Added.{Added}
 use Rattle.packetiser.specs.declared.reassembly.Added.TheVariants as answer
 
@@ -23,7 +23,7 @@ pub record IsGathered (slots : List SlotState) (p : PacketFields) (ps : List Pac
 -- a packet makes its message whole: the body is its pieces, one after another, and has a body's size
 pub record IsRejoined (slots : List SlotState) (p : PacketFields) (w : List Bool) : Type 0 where
   pub one_message : IsGathered slots p (gathered slots p)
-  pub bits : w ≡ joined (gathered slots p)
+  pub bits : w ≡ joined_pieces (gathered slots p)
   pub size : IsBodySize (length w)
 
 -- an answer that gives a body gives one of a body's size
@@ -60,9 +60,9 @@ answer_to w ks place =
     else answer.Kept)
 
 -- the slots after the pieces at these places, the newest first
-abbrev pub after : Flow → ℕ → List Bool → List SlotState → List ℕ → List SlotState
-after flow number w slots [] = slots
-after flow number w slots (k ∷ ks) = added (after flow number w slots ks) (piece_packet flow number w k)
+abbrev pub slots_after : Flow → ℕ → List Bool → List SlotState → List ℕ → List SlotState
+slots_after flow number w slots [] = slots
+slots_after flow number w slots (k ∷ ks) = added (slots_after flow number w slots ks) (piece_packet flow number w k)
 
 -- ---- a message among others
 

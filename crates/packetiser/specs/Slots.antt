@@ -91,8 +91,8 @@ is_whole_from place [] = false
 is_whole_from place (q ∷ qs) = q.place == place && (if q.last then length qs == 0 else is_whole_from (place + 1) qs)
 
 -- the bits of pieces, one after another
-abbrev pub joined : List PacketFields → List Bool
-joined pieces = flat_map (λ q. q.bits) pieces
+abbrev pub joined_pieces : List PacketFields → List Bool
+joined_pieces pieces = flat_map (λ q. q.bits) pieces
 
 -- the pieces of a packet's message, the packet among them
 abbrev pub gathered : List SlotState → PacketFields → List PacketFields
@@ -125,7 +125,7 @@ outcome_of slots p =
 
 abbrev pub answer_by : Outcome → List SlotState → PacketFields → Added
 answer_by outcome.Kept slots p = answer.Kept
-answer_by outcome.Whole slots p = answer.Whole (joined (gathered slots p))
+answer_by outcome.Whole slots p = answer.Whole (joined_pieces (gathered slots p))
 answer_by outcome.Old slots p = answer.Old
 answer_by outcome.Full slots p = answer.Full
 

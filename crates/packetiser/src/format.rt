@@ -3,7 +3,7 @@
 /// The greatest number of an IMP that a packet names.
 pub const MAX_IMP: u8 = 16;
 
-/// How many octets stand in front of a packet's bits.
+/// How many octets precede a packet's bits.
 pub const HEADER_OCTETS: usize = 8;
 
 /// The most bits in a packet (Heart et al., SJCC 1970: a packet is about a thousand bits).

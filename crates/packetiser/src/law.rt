@@ -10,9 +10,9 @@ ghost use Rattle.leader1822.specs.declared.address.Flow.{Flow};
 ghost use Rattle.packetiser.specs.PacketFields.{PacketFields, IsPacket, flow_of};
 ghost use Rattle.packetiser.specs.Format.{spelling, read_of};
 ghost use Rattle.packetiser.specs.Pieces.{piece_count, piece_packet, places, packets_of, IsBodySize, CarriesPieceOf};
-ghost use Rattle.packetiser.specs.Slots.{SlotState, IsTable, IsPieceFor, slot_of, kept_for, gathered, joined, is_whole_from};
+ghost use Rattle.packetiser.specs.Slots.{SlotState, IsTable, IsPieceFor, slot_of, kept_for, gathered, joined_pieces, is_whole_from};
 ghost use Rattle.packetiser.specs.Slots.{outcome_of, answer_of, added, without, packets_in, in_some_order, pieces_at, has_room};
-ghost use Rattle.packetiser.specs.Rejoining.{AreAmong, IsGathered, IsRejoined, Holds, answer_to, all_came, after};
+ghost use Rattle.packetiser.specs.Rejoining.{AreAmong, IsGathered, IsRejoined, Holds, answer_to, all_came, slots_after};
 ghost use Rattle.packetiser.specs.Rejoining.{Event, IsAmongOthers, places_in, after_events};
 ghost use Rattle.packetiser.specs.declared.packet.PacketKind.TheVariants as kind;
 ghost use Rattle.packetiser.specs.declared.reassembly.Outcome.TheVariants as outcome;
@@ -37,7 +37,7 @@ pub fn cutting()
 
     // they are the whole of it, in order
     ensures whole { (flow : Flow) (number : ℕ) (w : List Bool) → 0 < length w → is_whole_from 0 (packets_of flow number w) ≡ true }
-    ensures rejoined { (flow : Flow) (number : ℕ) (w : List Bool) → joined (packets_of flow number w) ≡ w }
+    ensures rejoined { (flow : Flow) (number : ℕ) (w : List Bool) → joined_pieces (packets_of flow number w) ≡ w }
 
     // a body has one to eight pieces
     ensures bodies { (text : List Bool) → length text ≤ most_text_bits → IsBodySize (length (body text)) }
@@ -47,17 +47,17 @@ pub fn cutting()
 /// Pieces of one body, one for each of its places, are the body, whatever packets they came in.
 pub fn joining()
     // pieces at the places from 0 on, one after another, up to a marked one
-    ensures up_to_last { (w : List Bool) (ps : List PacketFields) → All (CarriesPieceOf w) ps → is_whole_from 0 ps ≡ true → joined ps ≡ w }
+    ensures up_to_last { (w : List Bool) (ps : List PacketFields) → All (CarriesPieceOf w) ps → is_whole_from 0 ps ≡ true → joined_pieces ps ≡ w }
 
     // pieces at all places
-    ensures all_places { (w : List Bool) (ps : List PacketFields) → All (CarriesPieceOf w) ps → map (λ q. q.place) ps ≡ places (piece_count w) → joined ps ≡ w }
+    ensures all_places { (w : List Bool) (ps : List PacketFields) → All (CarriesPieceOf w) ps → map (λ q. q.place) ps ≡ places (piece_count w) → joined_pieces ps ≡ w }
 {}
 
 /// The pieces of one message rejoin to its body, in whatever order and however often they come.
 pub fn rejoining()
     // where nothing of the message is held and there is room for it, a piece that came already is Old, the last missing one
     // is Whole with the body, and any other is Kept
-    ensures any_order { (flow : Flow) (number : ℕ) (w : List Bool) (slots : List SlotState) (ks : List ℕ) (k : ℕ) → Holds flow number w [] slots → All (λ j. j < piece_count w) (k ∷ ks) → all_came w ks ≡ false → answer_of (after flow number w slots ks) (piece_packet flow number w k) ≡ answer_to w ks k }
+    ensures any_order { (flow : Flow) (number : ℕ) (w : List Bool) (slots : List SlotState) (ks : List ℕ) (k : ℕ) → Holds flow number w [] slots → All (λ j. j < piece_count w) (k ∷ ks) → all_came w ks ≡ false → answer_of (slots_after flow number w slots ks) (piece_packet flow number w k) ≡ answer_to w ks k }
 
     // the same one piece at a time: what the piece is answered, and what is held then
     ensures answered { (flow : Flow) (number : ℕ) (w : List Bool) (slots : List SlotState) (ks : List ℕ) (k : ℕ) → Holds flow number w ks slots → k < piece_count w → answer_of slots (piece_packet flow number w k) ≡ answer_to w ks k }
@@ -94,7 +94,7 @@ pub fn holding()
     ensures discarded_only { (slots : List SlotState) (f : Flow) → AreAmong (packets_in (without slots f)) (packets_in slots) }
 
     // a whole body is joined of pieces of one message
-    ensures whole { (slots : List SlotState) (p : PacketFields) → IsTable slots → p.kind ≡ kind.Data → outcome_of slots p ≡ outcome.Whole → IsGathered slots p (gathered slots p) × (answer_of slots p ≡ answer.Whole (joined (gathered slots p))) }
+    ensures whole { (slots : List SlotState) (p : PacketFields) → IsTable slots → p.kind ≡ kind.Data → outcome_of slots p ≡ outcome.Whole → IsGathered slots p (gathered slots p) × (answer_of slots p ≡ answer.Whole (joined_pieces (gathered slots p))) }
 
     // the same from the answer, and such a body has 16 to 8064 bits in units of sixteen
     ensures body { (slots : List SlotState) (p : PacketFields) (w : List Bool) → IsTable slots → IsPacket p → p.kind ≡ kind.Data → answer_of slots p ≡ answer.Whole w → IsRejoined slots p w }

@@ -131,14 +131,14 @@ impl Packet {
         self.last
     }
 
-    /// Its bits.
+    /// The bits of its piece; none of an answer.
     pub fn bits(&self) -> &Bits
         ensures { result.now ≡ self.now.bits }
     {
         &self.bits
     }
 
-    /// Its bits, where the packet isn't wanted any more.
+    /// Its bits, taken out of a packet that is no longer needed.
     pub fn into_bits(self) -> Bits
         ensures { result ≡ self.bits }
     {
@@ -180,7 +180,7 @@ impl Packet {
         })
     }
 
-    /// Its octets.
+    /// The octets that spell it.
     pub fn write(&self, alloc: Global) -> Result<Vec<u8>, PacketFault>
         ensures spelled { GivesIfMemory (λ octets. octets.items ≡ spelling self.now) result }
         ensures again { IfOk result (λ octets. read_of octets.items ≡ Ok self.now) }

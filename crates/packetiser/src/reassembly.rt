@@ -6,7 +6,7 @@ ghost use Rattle.std.specs.List.{list_any};
 ghost use Rattle.bit_messages.specs.Body.{has_mark};
 ghost use Rattle.packetiser.specs.Faults.{GivesIfMemory};
 ghost use Rattle.packetiser.specs.PacketFields.{IsPacket};
-ghost use Rattle.packetiser.specs.Slots.{SlotState, slot_of, is_old, with_piece, is_whole_from, gathered, joined};
+ghost use Rattle.packetiser.specs.Slots.{SlotState, slot_of, is_old, with_piece, is_whole_from, gathered, joined_pieces};
 ghost use Rattle.packetiser.specs.Slots.{without, outcome_of, answer_of, added, kept, grows, in_some_order, IsTable};
 ghost use Rattle.packetiser.specs.Rejoining.{HasBodySize};
 ghost use Rattle.packetiser.specs.declared.fault.PacketFault.TheVariants as fault;
@@ -76,7 +76,7 @@ impl Model for Reassembly {
 impl Reassembly {
     /// No message in reassembly. Room for eight is reserved, so that only their pieces take memory later.
     ///
-    /// Errors: want of memory.
+    /// Errors: memory runs out.
     pub fn new(alloc: Global) -> Result<Reassembly, AllocError>
         ensures { IfOk result (λ reassembly. reassembly ≡ []) }
     {
@@ -105,7 +105,7 @@ impl Reassembly {
     /// Whether a bit 1 stands in this piece or in those that are held of its message. If `outcome` is Whole,
     /// this is whether the body has a mark.
     pub fn is_marked(&self, packet: &Packet) -> bool
-        ensures { result ≡ has_mark (joined (gathered self.now packet.now)) }
+        ensures { result ≡ has_mark (joined_pieces (gathered self.now packet.now)) }
     {
         packet.bits().has_mark() || has_mark(self.slots.kept_for(packet))
     }
@@ -240,7 +240,7 @@ fn completes(place: usize, pieces: &[Packet], packet: &Packet) -> bool
 
 /// The bits of pieces and a packet, in order of their places. A packet alone gives its own bits.
 fn join(alloc: Global, pieces: &[Packet], packet: Packet) -> Result<Bits, PacketFault>
-    ensures joined { GivesIfMemory (λ bits. bits ≡ joined (with_piece packet pieces.now)) result }
+    ensures joined { GivesIfMemory (λ bits. bits ≡ joined_pieces (with_piece packet pieces.now)) result }
     ensures memory { result ≡ Err fault.OutOfMemory → 0 < length pieces.now }
 {
     if pieces.is_empty() {
@@ -256,7 +256,7 @@ fn join(alloc: Global, pieces: &[Packet], packet: Packet) -> Result<Bits, Packet
 
 /// Puts the bits of pieces at the end.
 fn append_pieces(bits: &mut Bits, pieces: &[Packet]) -> Result<(), PacketFault>
-    ensures { GivesIfMemory (λ _. bits.new ≡ bits.old ++ joined pieces.now) result }
+    ensures { GivesIfMemory (λ _. bits.new ≡ bits.old ++ joined_pieces pieces.now) result }
 {
     for piece in pieces {
         append_bits(bits, piece.bits())?;

@@ -2,7 +2,7 @@
 -- the end.
 use Rattle.std.proofs.Common.{◌≡◌, ◌⊎◌, ℕ, ◌+◌, ◌<◌, ◌≤◌, Bool, true, false, not, ◌&&◌, ◌||◌, List, [], ◌∷◌, Option, Some, None, is_some, refl, ap, sym, subst, ◌∙◌, inl, inr, if◌then◌else◌, eq-or-lt_of_le, arith}
 use Rattle.pairing_law.specs.Marks.{Mark, Ask, Close, closes, Asks, IsOlder}
-use Rattle.pairing_law.specs.Ends.{End, nothing, is_begun, MayGo, gone, fits, taken}
+use Rattle.pairing_law.specs.Ends.{End, nothing, is_begun, MayGo, gone, fits, mark_taken}
 use Rattle.pairing_law.proofs.Words.{asks_said, closes_said, asks_before, Grows, asks_apart}
 
 abbrev pub count : Bool → ℕ
@@ -238,7 +238,7 @@ not_some None e = refl
 pub fits_ask : (p : ℕ) (e : End) → fits (Ask p) e ≡ true → (e.partner ≡ None) × (e.taken ≡ false)
 fits_ask p e f = let h : (not (is_some e.partner) ≡ true) × (not e.taken ≡ true) = and_both (not (is_some e.partner)) (not e.taken) f in (not_some e.partner h.0, not_false e.taken h.1)
 
-pub balanced_hears : (m : Mark) (s t : List Mark) (e : End) → fits m e ≡ true → Balanced s t e → Balanced s (m ∷ t) (taken m e)
+pub balanced_hears : (m : Mark) (s t : List Mark) (e : End) → fits m e ≡ true → Balanced s t e → Balanced s (m ∷ t) (mark_taken m e)
 balanced_hears (Ask p) s t e f b = let h : (e.partner ≡ None) × (e.taken ≡ false) = fits_ask p e f in heard_ask p s t e b h.0 h.1
 balanced_hears Close s t e f b = by e.gone refl where
   quiet : e.taken ≡ false

@@ -7,16 +7,12 @@ use Rattle.leader1822.specs.declared.crossing.Answer.TheVariants as answer
 use Rattle.reset_law.specs.Phases.{Phase, Closed, Want, Gone, Heard, Ready, reset_phase, reply_phase, taken_phase, failed_phase}
 use Rattle.reset_law.specs.Events.{Message, Reset, Reply, Other, Event, Contact, Out, In, Told, Down, Up, Idle, Call, Send, Take, Hear, Begin, when, are, place, is_up}
 use Rattle.reset_law.specs.Boxes.{Box, Empty, Waiting, Taken, WaitsWith, Fits, Put, Fetch, Clear, ClearAll, fetched, posted, at_link, boxes}
-use Rattle.reset_law.specs.Pairs.{Rst, Rrp, Pair, MaySend, kind_of, moved, pair}
+use Rattle.reset_law.specs.Pairs.{Rst, Rrp, Pair, MaySend, kind_of, pair_moved, pair}
 use Rattle.reset_law.specs.Monitor.{monitor}
 use Rattle.reset_law.specs.Invariant.{kind_in, is_signal, InGone, InHeard, Shape, Sound}
 use Rattle.reset_law.specs.Runs.{IsRun}
 use Rattle.reset_law.specs.Stays.{is_ready, ready, joint, begins, takes_reset, stays}
-use Rattle.reset_law.proofs.Links.{at}
-use Rattle.reset_law.proofs.Runs.{carry, sound_run, down_pair, ready_up}
-use Rattle.reset_law.proofs.Fresh.{turned_about, still_ready, ready_taken}
-use Rattle.reset_law.proofs.Joint.{ready_phase, phase_ready, contradicts, reset_unready}
-use Rattle.reset_law.proofs.Stays.{stays_ready}
+use Rattle.reset_law.proofs.lemmas.{at, carry, contradicts, down_pair, phase_ready, ready_phase, ready_taken, ready_up, reset_unready, sound_run, stays_ready, still_ready, turned_about}
 
 -- ---- an RST that was taken
 
@@ -50,7 +46,7 @@ at_zero bs l x e = elim (at bs l x 0) [
   | inr t ↦ absurd (t.0 (sym e))
 ]
 
-sent_gone : (t : Bool) (l here : ℕ) (m : Message) (p : Pair) (bs : ℕ → Box) → (t ≡ true → MaySend p l m) → HasGone (moved (when t (Send l m)) p).phase (posted here (when t (Put l m)) bs 0) → HasGone p.phase (bs 0)
+sent_gone : (t : Bool) (l here : ℕ) (m : Message) (p : Pair) (bs : ℕ → Box) → (t ≡ true → MaySend p l m) → HasGone (pair_moved (when t (Send l m)) p).phase (posted here (when t (Put l m)) bs 0) → HasGone p.phase (bs 0)
 sent_gone true l here Reset p bs may h = absurd (subst (λ (z : Box). HasGone (Gone false) z) (at_zero bs l (Waiting here Reset) (may refl).0) h)
 sent_gone true l here Reply p bs may h = put_gone p.phase (bs 0) (at_link bs l (Waiting here Reply) 0) here Reply (at_zero bs l (Waiting here Reply) (may refl).0) h
 sent_gone true l here (Other text) p bs may h = absurd (subst (λ (ph : Phase). HasGone ph (at_link bs l (Waiting here (Other text)) 0)) (may refl).0 h)
@@ -75,7 +71,7 @@ reply_gone (Gone early) box h = early_gone true early box h
 reply_gone Heard box h = tt
 reply_gone Ready box h = h
 
-took_gone : (t : Bool) (m : Message) (p : Pair) (box : Box) → HasGone (moved (when t (Take m)) p).phase box → HasGone p.phase box
+took_gone : (t : Bool) (m : Message) (p : Pair) (box : Box) → HasGone (pair_moved (when t (Take m)) p).phase box → HasGone p.phase box
 took_gone true Reset p box h = reset_gone p.phase box h
 took_gone true Reply p box h = reply_gone p.phase box h
 took_gone true (Other text) p box h = h
@@ -122,7 +118,7 @@ failed_gone Heard owed x y h = tt
 failed_gone Ready true x y h = h
 failed_gone Ready false x y h = h
 
-told_gone : (t : Bool) (l here : ℕ) (k : Answer) (p : Pair) (bs : ℕ → Box) → (t ≡ true → Fits k (bs l)) → HasGone (moved (when t (Hear l k)) p).phase (posted here (when t (Clear l)) bs 0) → HasGone p.phase (bs 0)
+told_gone : (t : Bool) (l here : ℕ) (k : Answer) (p : Pair) (bs : ℕ → Box) → (t ≡ true → Fits k (bs l)) → HasGone (pair_moved (when t (Hear l k)) p).phase (posted here (when t (Clear l)) bs 0) → HasGone p.phase (bs 0)
 told_gone false l here k p bs f h = h
 told_gone true l here answer.Dead p bs f h = failed_gone p.phase p.owed (bs 0) (at_link bs l Empty 0) h
 told_gone true l here answer.Incomplete p bs f h = failed_gone p.phase p.owed (bs 0) (at_link bs l Empty 0) h
@@ -136,15 +132,15 @@ told_gone true l here answer.Rfnm p bs f h = by (l == 0) refl where
     | inr t ↦ subst (λ (z : Box). HasGone p.phase z) t.1 (subst (λ (v : Bool). HasGone (if v then taken_phase p.phase else p.phase) (at_link bs l Empty 0)) e h)
   ]
 
-call_gone : (t : Bool) (p : Pair) (box : Box) → HasGone (moved (when t Call) p).phase box → HasGone p.phase box
+call_gone : (t : Bool) (p : Pair) (box : Box) → HasGone (pair_moved (when t Call) p).phase box → HasGone p.phase box
 call_gone true p box h = absurd h
 call_gone false p box h = h
 
-down_gone : (t : Bool) (p : Pair) (box : Box) → HasGone (moved (when t Begin) p).phase box → HasGone p.phase box
+down_gone : (t : Bool) (p : Pair) (box : Box) → HasGone (pair_moved (when t Begin) p).phase box → HasGone p.phase box
 down_gone true p box h = absurd h
 down_gone false p box h = h
 
-up_gone : (t : Bool) (here : ℕ) (p : Pair) (bs : ℕ → Box) → HasGone (moved (when t Begin) p).phase (posted here (when t ClearAll) bs 0) → HasGone p.phase (bs 0)
+up_gone : (t : Bool) (here : ℕ) (p : Pair) (bs : ℕ → Box) → HasGone (pair_moved (when t Begin) p).phase (posted here (when t ClearAll) bs 0) → HasGone p.phase (bs 0)
 up_gone true here p bs h = absurd h
 up_gone false here p bs h = h
 
@@ -194,7 +190,7 @@ takes_it hosts events x y l m r v w same zero gone =
     subst (λ (n : Message). takes_reset w v (In x y l n) ≡ true) (sym rst) (turned_about w v y x same)
 
 -- a host whose RST was taken has a peer that left
-pub has_left : (hosts : List Host) (events : List Event) → IsRun hosts events → (v w : Host) → HasGone (pair v w events).phase (boxes v w events 0) → stays w v events ≡ false
+has_left : (hosts : List Host) (events : List Event) → IsRun hosts events → (v w : Host) → HasGone (pair v w events).phase (boxes v w events 0) → stays w v events ≡ false
 has_left hosts [] r v w h = refl
 has_left hosts (Contact x y ∷ events) r v w h = stays_left (Contact x y) events v w h (inr (has_left hosts events r.2 v w (call_gone (are v w x y) (pair v w events) (boxes v w events 0) h)))
 has_left hosts (Out x y l m ∷ events) r v w h =
@@ -214,7 +210,7 @@ has_left hosts (Idle ∷ events) r v w h = stays_left Idle events v w h (inr (ha
 
 -- ---- how a stay begins
 
-reply_from : (t : Bool) (p : Pair) → (moved (when t (Take Reply)) p).phase ≡ Ready → (p.phase ≡ Heard) ⊎ (p.phase ≡ Ready)
+reply_from : (t : Bool) (p : Pair) → (pair_moved (when t (Take Reply)) p).phase ≡ Ready → (p.phase ≡ Heard) ⊎ (p.phase ≡ Ready)
 reply_from true p e = by p.phase e where
   by : (ph : Phase) → reply_phase ph ≡ Ready → (ph ≡ Heard) ⊎ (ph ≡ Ready)
   by Closed e = absurd (cc)
@@ -224,7 +220,7 @@ reply_from true p e = by p.phase e where
   by Ready e = inr refl
 reply_from false p e = inr e
 
-reply_begun : (t : Bool) (p : Pair) → p.begun ≡ false → (moved (when t (Take Reply)) p).begun ≡ false
+reply_begun : (t : Bool) (p : Pair) → p.begun ≡ false → (pair_moved (when t (Take Reply)) p).begun ≡ false
 reply_begun true p e = e
 reply_begun false p e = e
 

@@ -2,7 +2,7 @@
 use Rattle.std.proofs.Common.{◌≡◌, ◌≢◌, ℕ, ◌+◌, ◌<◌, ◌≤◌, Bool, true, false, List, ◌∷◌, Option, Some, None, refl, ap, sym, subst, ◌∙◌, inl, inr, if◌then◌else◌, arith}
 use Rattle.pairing_law.specs.Marks.{Mark, Ask, Close, IsOlder}
 use Rattle.pairing_law.specs.Ends.{End, nothing, MayGo, gone}
-use Rattle.pairing_law.specs.Sides.{Life, Side, opened, lives_gone, above, says, IsLater, both}
+use Rattle.pairing_law.specs.Sides.{Life, Side, lives_opened, lives_gone, above, says, IsLater, both}
 use Rattle.pairing_law.specs.Partners.{AreBoth}
 use Rattle.pairing_law.proofs.Words.{Below, From, Grows, below_later}
 use Rattle.pairing_law.proofs.Balance.{Balanced, balanced_says, none_some, some_is}
@@ -86,7 +86,7 @@ said_stands floor other m a low below later x h =
 
 -- an end that opens by its own request
 said_opens : (floor other : ℕ) (p : ℕ) (a b : Side) (h : Half floor other a b) (g : Half other floor b a) → a.stays ≡ true → MayGo (Ask p) a.end → a.next ≤ p
-    → (o : Option ℕ) → a.end.partner ≡ o → Lived floor other (Ask p ∷ a.said) a.heard (record a.end { asked = Some p }) (opened (Some p) o a.lives) b.lives
+    → (o : Option ℕ) → a.end.partner ≡ o → Lived floor other (Ask p ∷ a.said) a.heard (record a.end { asked = Some p }) (lives_opened (Some p) o a.lives) b.lives
 said_opens floor other p a b h g stay may later o there =
     by o there where
       low : floor ≤ a.next
@@ -101,7 +101,7 @@ said_opens floor other p a b h g stay may later o there =
       now : Balanced (Ask p ∷ a.said) a.heard (record a.end { asked = Some p })
       now = balanced_says (Ask p) a.said a.heard a.end may (subst (λ (e : End). Balanced a.said a.heard e) (h.same stay) h.balanced)
 
-      by : (o : Option ℕ) → a.end.partner ≡ o → Lived floor other (Ask p ∷ a.said) a.heard (record a.end { asked = Some p }) (opened (Some p) o a.lives) b.lives
+      by : (o : Option ℕ) → a.end.partner ≡ o → Lived floor other (Ask p ∷ a.said) a.heard (record a.end { asked = Some p }) (lives_opened (Some p) o a.lives) b.lives
       by None there = old
       by (Some q) there =
           let new : IsNew (Ask p ∷ a.said) a.heard (record { own = p; partner = q }) = (now.now, now.asked_at p refl, now.partner_at q there) in

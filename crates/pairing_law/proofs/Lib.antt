@@ -9,3 +9,4 @@ pub mod Linked
 pub mod Resets
 pub mod Begins
 pub mod Placed
+pub mod lemmas

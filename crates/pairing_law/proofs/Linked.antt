@@ -4,7 +4,7 @@ use Rattle.std.proofs.lemmas.Bool.{eqb-true}
 use Rattle.pairing_law.specs.Marks.{Mark, Ask, Close, closes, Asks, IsOlder}
 use Rattle.pairing_law.specs.Ends.{End}
 use Rattle.pairing_law.specs.Sides.{Move, Say, Hear, May, Event, One, Two, both, IsRun}
-use Rattle.pairing_law.specs.Links.{Sockets, same, Word, Receiver, Sender, Step, Says, Hears, Leaves, Meets, when, with_event, events_at, receiver, sender, stays, said, heard, IsAmong, IsUnused, NamesFree, AreSteps}
+use Rattle.pairing_law.specs.Links.{Sockets, same, Word, Receiver, Sender, Step, Says, Hears, Leaves, Meets, when, with_event, events_at, receiver, sender, stays, said_words, heard_words, IsAmong, IsUnused, NamesFree, AreSteps}
 use Rattle.pairing_law.proofs.Words.{asks_said, closes_said, asks_once}
 use Rattle.pairing_law.proofs.Balance.{Balanced, count, and_both}
 use Rattle.pairing_law.proofs.Joint.{Joined}
@@ -45,13 +45,13 @@ run_at s (Hears Receiver w ∷ steps) r =
     let h : BothSeen s steps = seen s steps in
     one_may (same s w.sockets) (Hear w.mark) (events_at s steps) (λ e. (
       h.receiver.stays ∙ r.0.0,
-      hear_older w.mark (same s w.sockets) (at s (heard Receiver steps)) (receiver s steps).heard (at s (said Sender steps)) (sender s steps).said e h.receiver.heard h.sender.said (at_older s (w ∷ heard Receiver steps) (said Sender steps) r.0.1),
+      hear_older w.mark (same s w.sockets) (at s (heard_words Receiver steps)) (receiver s steps).heard (at s (said_words Sender steps)) (sender s steps).said e h.receiver.heard h.sender.said (at_older s (w ∷ heard_words Receiver steps) (said_words Sender steps) r.0.1),
     )) (run_at s steps r.1)
 run_at s (Hears Sender w ∷ steps) r =
     let h : BothSeen s steps = seen s steps in
     two_may (same s w.sockets) (Hear w.mark) (events_at s steps) (λ e. (
       h.sender.stays ∙ r.0.0,
-      hear_older w.mark (same s w.sockets) (at s (heard Sender steps)) (sender s steps).heard (at s (said Receiver steps)) (receiver s steps).said e h.sender.heard h.receiver.said (at_older s (w ∷ heard Sender steps) (said Receiver steps) r.0.1),
+      hear_older w.mark (same s w.sockets) (at s (heard_words Sender steps)) (sender s steps).heard (at s (said_words Receiver steps)) (receiver s steps).said e h.sender.heard h.receiver.said (at_older s (w ∷ heard_words Sender steps) (said_words Receiver steps) r.0.1),
     )) (run_at s steps r.1)
 run_at s (Leaves Receiver ∷ steps) r = (tt, run_at s steps r.1)
 run_at s (Leaves Sender ∷ steps) r = (tt, run_at s steps r.1)
@@ -105,9 +105,9 @@ all_older replies [] words h = h
 all_older replies (w ∷ new) words h = all_older replies new words h.1
 
 -- a request that names a free link
-settles : (steps : List Step) → AreSteps steps → stays Receiver steps ≡ true → (m : Mark) (link : ℕ) → NamesFree m link steps → Settled (said Sender steps) m link (said Receiver steps)
+settles : (steps : List Step) → AreSteps steps → stays Receiver steps ≡ true → (m : Mark) (link : ℕ) → NamesFree m link steps → Settled (said_words Sender steps) m link (said_words Receiver steps)
 settles steps r stay (Ask p) link free = λ t q i.
-    let a : (k : ℕ) × Asks k q (at t (said Receiver steps)) = among_asks t link q (said Receiver steps) i in
+    let a : (k : ℕ) × Asks k q (at t (said_words Receiver steps)) = among_asks t link q (said_words Receiver steps) i in
     let h : BothSeen t steps = seen t steps in
     let j : Joined (receiver t steps) (sender t steps) = joined_at t steps r in
     let b : Balanced (receiver t steps).said (receiver t steps).heard (receiver t steps).end
@@ -118,10 +118,10 @@ settles steps r stay (Ask p) link free = λ t q i.
       | inr l ↦ l
     ] in
     let own : closes (receiver t steps).said ≡ b.now + count (receiver t steps).end.gone = b.said in
-    let own_is : closes (receiver t steps).said ≡ closes (at t (said Receiver steps)) = ap closes h.receiver.said in
+    let own_is : closes (receiver t steps).said ≡ closes (at t (said_words Receiver steps)) = ap closes h.receiver.said in
     let taken : closes (receiver t steps).heard ≡ b.now + count (receiver t steps).end.taken = b.heard in
     let before : closes (receiver t steps).heard ≤ closes (sender t steps).said = closes_said (receiver t steps).heard (sender t steps).said j.here.older in
-    let reply_is : closes (sender t steps).said ≡ closes (at t (said Sender steps)) = ap closes h.sender.said in
+    let reply_is : closes (sender t steps).said ≡ closes (at t (said_words Sender steps)) = ap closes h.sender.said in
     (a.0, a.1, omega (arith, less, own, own_is), omega (arith, less, taken, before, reply_is))
 settles steps r stay Close link free = tt
 
@@ -134,13 +134,13 @@ closes_if : (stay : Bool) (w : Word) (words : List Word) (t : Sockets) → close
 closes_if true w words t = closes_put (same t w.sockets) w.mark (at t words)
 closes_if false w words t = omega arith
 
-pub all_settled : (steps : List Step) → AreSteps steps → AllSettled (said Sender steps) (said Receiver steps)
+pub all_settled : (steps : List Step) → AreSteps steps → AllSettled (said_words Sender steps) (said_words Receiver steps)
 all_settled [] r = tt
 all_settled (Says Receiver w ∷ steps) r = by (stays Receiver steps) refl (all_settled steps r.1) where
-  by : (stay : Bool) → stays Receiver steps ≡ stay → AllSettled (said Sender steps) (said Receiver steps) → AllSettled (said Sender steps) (if stay then w ∷ said Receiver steps else said Receiver steps)
+  by : (stay : Bool) → stays Receiver steps ≡ stay → AllSettled (said_words Sender steps) (said_words Receiver steps) → AllSettled (said_words Sender steps) (if stay then w ∷ said_words Receiver steps else said_words Receiver steps)
   by true e h = (settles steps r.1 e w.mark w.link r.0.1, h)
   by false e h = h
-all_settled (Says Sender w ∷ steps) r = all_more (said Sender steps) (said Sender (Says Sender w ∷ steps)) (said Receiver steps) (closes_if (stays Sender steps) w (said Sender steps)) (all_settled steps r.1)
+all_settled (Says Sender w ∷ steps) r = all_more (said_words Sender steps) (said_words Sender (Says Sender w ∷ steps)) (said_words Receiver steps) (closes_if (stays Sender steps) w (said_words Sender steps)) (all_settled steps r.1)
 all_settled (Hears Receiver w ∷ steps) r = all_settled steps r.1
 all_settled (Hears Sender w ∷ steps) r = all_settled steps r.1
 all_settled (Leaves Receiver ∷ steps) r = all_settled steps r.1
@@ -150,9 +150,9 @@ all_settled (Meets ∷ steps) r = tt
 -- no end of the sender has the link of a request that it takes
 pub unused : (steps : List Step) (w : Word) (p : ℕ) → AreSteps (Hears Sender w ∷ steps) → w.mark ≡ Ask p → IsUnused w.link steps
 unused steps w p r request t named =
-    let all : AllSettled (said Sender steps) (w ∷ heard Sender steps) = all_older (said Sender steps) r.0.1.0 (w ∷ heard Sender steps) (subst (λ (z : List Word). AllSettled (said Sender steps) z) r.0.1.1 (all_settled steps r.1)) in
-    let settled : Settled (said Sender steps) (Ask p) w.link (heard Sender steps) = subst (λ (m : Mark). Settled (said Sender steps) m w.link (heard Sender steps)) request all.0 in
-    let o : Over t named.0 (heard Sender steps) (said Sender steps) = settled t named.0 named.2 in
+    let all : AllSettled (said_words Sender steps) (w ∷ heard_words Sender steps) = all_older (said_words Sender steps) r.0.1.0 (w ∷ heard_words Sender steps) (subst (λ (z : List Word). AllSettled (said_words Sender steps) z) r.0.1.1 (all_settled steps r.1)) in
+    let settled : Settled (said_words Sender steps) (Ask p) w.link (heard_words Sender steps) = subst (λ (m : Mark). Settled (said_words Sender steps) m w.link (heard_words Sender steps)) request all.0 in
+    let o : Over t named.0 (heard_words Sender steps) (said_words Sender steps) = settled t named.0 named.2 in
     let h : BothSeen t steps = seen t steps in
     let j : Joined (receiver t steps) (sender t steps) = joined_at t steps r.1 in
     let b : Balanced (sender t steps).said (sender t steps).heard (sender t steps).end
@@ -161,10 +161,10 @@ unused steps w p r request t named =
     let now : o.0 ≡ b.now = asks_once o.0 b.now named.0 (receiver t steps).said j.here.grows (asks_said o.0 named.0 (sender t steps).heard (receiver t steps).said j.there.older asks)
     (asks_said b.now named.0 (sender t steps).heard (receiver t steps).said j.there.older (b.partner_at named.0 named.1)) in
     let taken : closes (sender t steps).heard ≡ b.now + count (sender t steps).end.taken = b.heard in
-    let taken_is : closes (sender t steps).heard ≡ closes (at t (heard Sender steps)) = ap closes h.sender.heard in
+    let taken_is : closes (sender t steps).heard ≡ closes (at t (heard_words Sender steps)) = ap closes h.sender.heard in
     let gone : closes (sender t steps).said ≡ b.now + count (sender t steps).end.gone = b.said in
-    let gone_is : closes (sender t steps).said ≡ closes (at t (said Sender steps)) = ap closes h.sender.said in
+    let gone_is : closes (sender t steps).said ≡ closes (at t (said_words Sender steps)) = ap closes h.sender.said in
     let half : count (sender t steps).end.gone + count (sender t steps).end.taken ≤ 1 = b.half in
-    let first : o.0 < closes (at t (heard Sender steps)) = o.2 in
-    let second : o.0 < closes (at t (said Sender steps)) = o.3 in
+    let first : o.0 < closes (at t (heard_words Sender steps)) = o.2 in
+    let second : o.0 < closes (at t (said_words Sender steps)) = o.3 in
     omega (arith, now, taken, taken_is, gone, gone_is, half, first, second)

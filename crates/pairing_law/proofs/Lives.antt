@@ -11,7 +11,7 @@ abbrev pub Every : (Life → Type 0) → List Life → Type 0
 Every P [] = Unit {0}
 Every P (x ∷ lives) = P x × Every P lives
 
-pub every_map : (P Q : Life → Type 0) (lives : List Life) → ((x : Life) → P x → Q x) → Every P lives → Every Q lives
+every_map : (P Q : Life → Type 0) (lives : List Life) → ((x : Life) → P x → Q x) → Every P lives → Every Q lives
 every_map P Q [] f h = tt
 every_map P Q (x ∷ lives) f h = (f x h.0, every_map P Q lives f h.1)
 

@@ -1,14 +1,14 @@
--- Texts that carry their places make a run as well: so what was heard is a front of what was said, with its places.
+-- Texts that carry their places make a run as well: so what was heard is a prefix of what was said, with its places.
 use Rattle.std.proofs.Common.{◌≡◌, ℕ, zero, suc, Bool, true, false, not, ◌&&◌, ◌||◌, List, [], ◌∷◌, refl, ap, sym, subst, ◌∙◌, if◌then◌else◌, ◌==◌, ◌+◌}
 use Rattle.leader1822.specs.Host.{Host, same_host}
 use Rattle.leader1822.specs.declared.crossing.Answer.{Answer}
 use Rattle.leader1822.specs.declared.crossing.Answer.TheVariants as answer
-use Rattle.reset_law.specs.Events.{Message, Reset, Reply, Other, Event, Contact, Out, In, Told, Down, Up, Idle, Call, Send, Take, Hear, Begin, when, are, place, turned, is_up}
+use Rattle.reset_law.specs.Events.{Message, Reset, Reply, Other, Event, Contact, Out, In, Told, Down, Up, Idle, Call, Send, Take, Hear, Begin, when, are, place, up_after_event, is_up}
 use Rattle.reset_law.specs.Boxes.{Box, Empty, Waiting, Taken, WaitsWith, Fits, Put, Fetch, Clear, ClearAll, fetched, posted, boxes}
-use Rattle.reset_law.specs.Pairs.{Pair, MaySend, moved, pair}
+use Rattle.reset_law.specs.Pairs.{Pair, MaySend, pair_moved, pair}
 use Rattle.reset_law.specs.Runs.{IsRun}
-use Rattle.reset_law.specs.Stays.{is_ready, ready, takes_reset, stays, heard, said, IsFront}
-use Rattle.reset_law.proofs.Stays.{heard_front}
+use Rattle.reset_law.specs.Stays.{is_ready, ready, takes_reset, stays, heard_in_stay, said_in_stay, IsFront}
+use Rattle.reset_law.proofs.lemmas.{heard_front}
 use Rattle.pairing_law.specs.Places.{tagged, with_place, with_box, placed_event, placed}
 
 -- ---- tags
@@ -41,33 +41,33 @@ place_same (Down x ∷ events) = ap (λ (n : ℕ). 1 + n) (place_same events)
 place_same (Up x ∷ events) = ap (λ (n : ℕ). 1 + n) (place_same events)
 place_same (Idle ∷ events) = place_same events
 
-sent_same : (t : Bool) (l q : ℕ) (m : Message) (p : Pair) → moved (when t (Send l (with_place q m))) p ≡ moved (when t (Send l m)) p
+sent_same : (t : Bool) (l q : ℕ) (m : Message) (p : Pair) → pair_moved (when t (Send l (with_place q m))) p ≡ pair_moved (when t (Send l m)) p
 sent_same true l q Reset p = refl
 sent_same true l q Reply p = refl
 sent_same true l q (Other text) p = refl
 sent_same false l q m p = refl
 
-took_place : (t : Bool) (q : ℕ) (m : Message) (p : Pair) → moved (when t (Take (with_place q m))) p ≡ moved (when t (Take m)) p
+took_place : (t : Bool) (q : ℕ) (m : Message) (p : Pair) → pair_moved (when t (Take (with_place q m))) p ≡ pair_moved (when t (Take m)) p
 took_place true q Reset p = refl
 took_place true q Reply p = refl
 took_place true q (Other text) p = refl
 took_place false q m p = refl
 
-took_same : (t : Bool) (x : Box) (m : Message) (p : Pair) → moved (when t (Take (with_box x m))) p ≡ moved (when t (Take m)) p
+took_same : (t : Bool) (x : Box) (m : Message) (p : Pair) → pair_moved (when t (Take (with_box x m))) p ≡ pair_moved (when t (Take m)) p
 took_same t Empty m p = refl
 took_same t (Waiting q n) m p = took_place t q m p
 took_same t (Taken q n) m p = refl
 
 pub pair_same : (a b : Host) (events : List Event) → pair a b (placed events) ≡ pair a b events
 pair_same a b [] = refl
-pair_same a b (Contact x y ∷ events) = ap (λ (p : Pair). moved (when (are a b x y) Call) p) (pair_same a b events)
+pair_same a b (Contact x y ∷ events) = ap (λ (p : Pair). pair_moved (when (are a b x y) Call) p) (pair_same a b events)
 pair_same a b (Out x y l m ∷ events) =
-    ap (λ (p : Pair). moved (when (are a b x y) (Send l (with_place (place events) m))) p) (pair_same a b events) ∙ sent_same (are a b x y) l (place events) m (pair a b events)
+    ap (λ (p : Pair). pair_moved (when (are a b x y) (Send l (with_place (place events) m))) p) (pair_same a b events) ∙ sent_same (are a b x y) l (place events) m (pair a b events)
 pair_same a b (In x y l m ∷ events) =
-    ap (λ (p : Pair). moved (when (are a b y x) (Take (with_box (boxes x y events l) m))) p) (pair_same a b events) ∙ took_same (are a b y x) (boxes x y events l) m (pair a b events)
-pair_same a b (Told x y l k ∷ events) = ap (λ (p : Pair). moved (when (are a b x y) (Hear l k)) p) (pair_same a b events)
-pair_same a b (Down x ∷ events) = ap (λ (p : Pair). moved (when (same_host a x) Begin) p) (pair_same a b events)
-pair_same a b (Up x ∷ events) = ap (λ (p : Pair). moved (when (same_host a x) Begin) p) (pair_same a b events)
+    ap (λ (p : Pair). pair_moved (when (are a b y x) (Take (with_box (boxes x y events l) m))) p) (pair_same a b events) ∙ took_same (are a b y x) (boxes x y events l) m (pair a b events)
+pair_same a b (Told x y l k ∷ events) = ap (λ (p : Pair). pair_moved (when (are a b x y) (Hear l k)) p) (pair_same a b events)
+pair_same a b (Down x ∷ events) = ap (λ (p : Pair). pair_moved (when (same_host a x) Begin) p) (pair_same a b events)
+pair_same a b (Up x ∷ events) = ap (λ (p : Pair). pair_moved (when (same_host a x) Begin) p) (pair_same a b events)
 pair_same a b (Idle ∷ events) = pair_same a b events
 
 pub up_same : (hosts : List Host) (h : Host) (events : List Event) → is_up hosts h (placed events) ≡ is_up hosts h events
@@ -76,8 +76,8 @@ up_same hosts h (Contact x y ∷ events) = up_same hosts h events
 up_same hosts h (Out x y l m ∷ events) = up_same hosts h events
 up_same hosts h (In x y l m ∷ events) = up_same hosts h events
 up_same hosts h (Told x y l k ∷ events) = up_same hosts h events
-up_same hosts h (Down x ∷ events) = ap (λ (u : Bool). turned h (Down x) u) (up_same hosts h events)
-up_same hosts h (Up x ∷ events) = ap (λ (u : Bool). turned h (Up x) u) (up_same hosts h events)
+up_same hosts h (Down x ∷ events) = ap (λ (u : Bool). up_after_event h (Down x) u) (up_same hosts h events)
+up_same hosts h (Up x ∷ events) = ap (λ (u : Bool). up_after_event h (Up x) u) (up_same hosts h events)
 up_same hosts h (Idle ∷ events) = up_same hosts h events
 
 -- ---- boxes have the tagged texts
@@ -167,7 +167,7 @@ placed_run hosts (Down x ∷ events) r = (up_same hosts x events ∙ r.0, tt, pl
 placed_run hosts (Up x ∷ events) r = ((r.0.0, up_same hosts x events ∙ r.0.1), tt, placed_run hosts events r.2)
 placed_run hosts (Idle ∷ events) r = (tt, tt, placed_run hosts events r.2)
 
-pub placed_front : (hosts : List Host) (events : List Event) → IsRun hosts events → (a b : Host) (l : ℕ) → IsFront (heard a b l (placed events)) (said a b l (placed events))
+pub placed_front : (hosts : List Host) (events : List Event) → IsRun hosts events → (a b : Host) (l : ℕ) → IsFront (heard_in_stay a b l (placed events)) (said_in_stay a b l (placed events))
 placed_front hosts events r a b l = heard_front hosts (placed events) (placed_run hosts events r) a b l
 
 -- ---- stays are the same

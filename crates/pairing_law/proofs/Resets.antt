@@ -4,16 +4,12 @@ use Rattle.leader1822.specs.Host.{Host, same_host}
 use Rattle.reset_law.specs.Phases.{Ready}
 use Rattle.reset_law.specs.Events.{Message, Reset, Reply, Other, Event, Contact, Out, In, Told, Down, Up, Idle, Call, Send, Hear, Begin, when, are, place}
 use Rattle.reset_law.specs.Boxes.{Box, Empty, Waiting, Taken, WaitsWith, Post, Put, Fetch, Clear, ClearAll, fetched, posted, at_link, boxes}
-use Rattle.reset_law.specs.Pairs.{Pair, MaySend, kind_of, moved, pair}
+use Rattle.reset_law.specs.Pairs.{Pair, MaySend, kind_of, pair_moved, pair}
 use Rattle.reset_law.specs.Monitor.{monitor}
 use Rattle.reset_law.specs.Invariant.{kind_in, is_signal}
 use Rattle.reset_law.specs.Runs.{IsRun}
 use Rattle.reset_law.specs.Stays.{ready, joint, begins, takes_reset, stays}
-use Rattle.reset_law.proofs.Links.{at}
-use Rattle.reset_law.proofs.Runs.{carry, alone_run}
-use Rattle.reset_law.proofs.Fresh.{turned_about, still_ready, ready_taken}
-use Rattle.reset_law.proofs.Joint.{phase_ready, contradicts, NoPlain, plain_fetched, plain_if, plain_alone}
-use Rattle.reset_law.proofs.Stays.{joint_stays}
+use Rattle.reset_law.proofs.lemmas.{NoPlain, alone_run, at, carry, contradicts, joint_stays, phase_ready, plain_alone, plain_fetched, plain_if, ready_taken, still_ready, turned_about}
 
 goes_on : (t r k s : Bool) → r ≡ true → k ≡ false → s ≡ true → (t || (r && not k && s)) ≡ true
 goes_on true r k s e f g = refl
@@ -64,7 +60,7 @@ none_waits : (bs : ℕ → Box) (S : Type 0) → NoPlain bs → Waits bs S
 none_waits bs S none l p text e = absurd (none l (ap kind_in e))
 
 -- who sends a text is ready, and stays so
-sends_ready : (t : Bool) (l : ℕ) (text : List Bool) (p : Pair) → (t ≡ true → MaySend p l (Other text)) → t ≡ true → (moved (when t (Send l (Other text))) p).phase ≡ Ready
+sends_ready : (t : Bool) (l : ℕ) (text : List Bool) (p : Pair) → (t ≡ true → MaySend p l (Other text)) → t ≡ true → (pair_moved (when t (Send l (Other text))) p).phase ≡ Ready
 sends_ready true l text p may e = (may refl).0
 sends_ready false l text p may e = absurd (cc)
 

@@ -1,8 +1,8 @@
 -- What is heard, where a host leaves and where both meet; and so through every list of events.
 use Rattle.std.proofs.Common.{◌≡◌, ◌≢◌, ℕ, ◌<◌, ◌≤◌, Bool, true, false, List, [], ◌∷◌, Option, Some, None, refl, ap, sym, subst, ◌∙◌, inl, inr, if◌then◌else◌, arith}
 use Rattle.pairing_law.specs.Marks.{Mark, Ask, Close, IsOlder}
-use Rattle.pairing_law.specs.Ends.{End, nothing, MayGo, gone, fits, taken}
-use Rattle.pairing_law.specs.Sides.{Life, Side, opening_side, opened, lives_gone, lives_taken, Move, Say, Hear, Leave, above, says, hears, leaves, moved, IsLater, May, Event, One, Two, Meet, meets, both, IsRun}
+use Rattle.pairing_law.specs.Ends.{End, nothing, MayGo, gone, fits, mark_taken}
+use Rattle.pairing_law.specs.Sides.{Life, Side, opening_side, lives_opened, lives_gone, lives_taken, Move, Say, Hear, Leave, above, says, hears, leaves, moved, IsLater, May, Event, One, Two, Meet, meets, both, IsRun}
 use Rattle.pairing_law.specs.Partners.{SafePartners}
 use Rattle.pairing_law.proofs.Words.{below_later}
 use Rattle.pairing_law.proofs.Balance.{Balanced, balanced_nothing, balanced_hears, next_fits, fits_ask, none_some, some_is}
@@ -15,7 +15,7 @@ abbrev alone_in : Mark → Side → Side
 alone_in m a = record { end = gone m a.end; stays = a.stays; said = a.said; heard = a.heard; lives = a.lives; next = above m a.next }
 
 none_opens : (m : Mark) (e : End) (lives : List Life) → e.partner ≡ None → lives_gone m e lives ≡ lives
-none_opens (Ask p) e lives none = ap (λ (o : Option ℕ). opened (Some p) o lives) none
+none_opens (Ask p) e lives none = ap (λ (o : Option ℕ). lives_opened (Some p) o lives) none
 none_opens Close e lives none = refl
 
 says_alone : (m : Mark) (a : Side) → a.stays ≡ false → a.end.partner ≡ None → says m a ≡ alone_in m a
@@ -65,10 +65,10 @@ joined_says m a b j may = by a.stays refl where
 -- ---- a word that is heard
 
 abbrev heard_in : Mark → Side → Side
-heard_in m a = record { end = taken m a.end; stays = a.stays; said = a.said; heard = m ∷ a.heard; lives = lives_taken m a.end a.lives; next = a.next }
+heard_in m a = record { end = mark_taken m a.end; stays = a.stays; said = a.said; heard = m ∷ a.heard; lives = lives_taken m a.end a.lives; next = a.next }
 
 hears_in : (m : Mark) (a : Side) → fits m a.end ≡ true → hears m a ≡ heard_in m a
-hears_in m a fit = ap (λ (v : Bool). record { end = if v then taken m a.end else a.end; stays = a.stays; said = a.said; heard = m ∷ a.heard; lives = if v then lives_taken m a.end a.lives else a.lives; next = a.next }) fit
+hears_in m a fit = ap (λ (v : Bool). record { end = if v then mark_taken m a.end else a.end; stays = a.stays; said = a.said; heard = m ∷ a.heard; lives = if v then lives_taken m a.end a.lives else a.lives; next = a.next }) fit
 
 -- all that a host takes of its peer is in order
 pub joined_fits : (m : Mark) (a b : Side) → Joined a b → May (Hear m) a b → fits m a.end ≡ true
@@ -76,7 +76,7 @@ joined_fits m a b j may =
     next_fits m b.said b.heard a.said a.heard j.there.kept a.end j.there.balanced (subst (λ (e : End). Balanced a.said a.heard e) (j.here.same may.0) j.here.balanced) j.there.grows may.1 j.there.older
 
 taken_used : (m : Mark) (e : End) (x : Life) → ((p : ℕ) → m ≡ Ask p → x.partner < p) → (e.asked ≡ Some x.own → e.partner ≢ None) → (e.partner ≡ Some x.partner → e.asked ≢ None)
-    → ((taken m e).asked ≡ Some x.own → (taken m e).partner ≢ None) × ((taken m e).partner ≡ Some x.partner → (taken m e).asked ≢ None)
+    → ((mark_taken m e).asked ≡ Some x.own → (mark_taken m e).partner ≢ None) × ((mark_taken m e).partner ≡ Some x.partner → (mark_taken m e).asked ≢ None)
 taken_used (Ask p) e x less own partner = (λ same none. absurd (cc), λ same. absurd (let h : p ≡ x.partner = some_is p x.partner same in let l : x.partner < p = less p refl in omega (arith, h, l)))
 taken_used Close e x less own partner = by e.gone where
   by : (v : Bool) → ((if v then nothing else record e { taken = true }).asked ≡ Some x.own → (if v then nothing else record e { taken = true }).partner ≢ None)
@@ -84,15 +84,15 @@ taken_used Close e x less own partner = by e.gone where
   by true = (λ same. absurd (cc), λ same. absurd (cc))
   by false = (own, partner)
 
-heard_stands : (floor other : ℕ) (m : Mark) (a b : Side) → Half other floor b a → IsOlder (m ∷ a.heard) b.said → (x : Life) → Stands floor other a.said a.heard a.end x → Stands floor other a.said (m ∷ a.heard) (taken m a.end) x
+heard_stands : (floor other : ℕ) (m : Mark) (a b : Side) → Half other floor b a → IsOlder (m ∷ a.heard) b.said → (x : Life) → Stands floor other a.said a.heard a.end x → Stands floor other a.said (m ∷ a.heard) (mark_taken m a.end) x
 heard_stands floor other m a b g next x s =
-    let used : ((taken m a.end).asked ≡ Some x.own → (taken m a.end).partner ≢ None) × ((taken m a.end).partner ≡ Some x.partner → (taken m a.end).asked ≢ None)
+    let used : ((mark_taken m a.end).asked ≡ Some x.own → (mark_taken m a.end).partner ≢ None) × ((mark_taken m a.end).partner ≡ Some x.partner → (mark_taken m a.end).asked ≢ None)
     = taken_used m a.end x (λ p same. partner_before floor other p a.said a.heard b.said x g.from g.grows (subst (λ (n : Mark). IsOlder (n ∷ a.heard) b.said) same next) s.stood) s.own_used s.partner_used in
     record { stood = stood_heard floor other m a.said a.heard x s.stood; own_used = used.0; partner_used = used.1 }
 
 -- an end that opens by its partner's request
 heard_opens : (floor other p : ℕ) (a b : Side) (h : Half floor other a b) (g : Half other floor b a) → a.stays ≡ true → fits (Ask p) a.end ≡ true → IsOlder (Ask p ∷ a.heard) b.said
-    → (o : Option ℕ) → a.end.asked ≡ o → Lived floor other a.said (Ask p ∷ a.heard) (record a.end { partner = Some p }) (opened o (Some p) a.lives) b.lives
+    → (o : Option ℕ) → a.end.asked ≡ o → Lived floor other a.said (Ask p ∷ a.heard) (record a.end { partner = Some p }) (lives_opened o (Some p) a.lives) b.lives
 heard_opens floor other p a b h g stay fit next o there = by o there where
   old : Lived floor other a.said (Ask p ∷ a.heard) (record a.end { partner = Some p }) a.lives b.lives
   old = lived_on floor other floor other a.said a.heard a.said (Ask p ∷ a.heard) a.end (record a.end { partner = Some p }) a.lives b.lives (heard_stands floor other (Ask p) a b g next) h.lived
@@ -100,7 +100,7 @@ heard_opens floor other p a b h g stay fit next o there = by o there where
   now : Balanced a.said (Ask p ∷ a.heard) (record a.end { partner = Some p })
   now = balanced_hears (Ask p) a.said a.heard a.end fit (subst (λ (e : End). Balanced a.said a.heard e) (h.same stay) h.balanced)
 
-  by : (o : Option ℕ) → a.end.asked ≡ o → Lived floor other a.said (Ask p ∷ a.heard) (record a.end { partner = Some p }) (opened o (Some p) a.lives) b.lives
+  by : (o : Option ℕ) → a.end.asked ≡ o → Lived floor other a.said (Ask p ∷ a.heard) (record a.end { partner = Some p }) (lives_opened o (Some p) a.lives) b.lives
   by None there = old
   by (Some r) there =
       let new : IsNew a.said (Ask p ∷ a.heard) (record { own = r; partner = p }) = (now.now, now.asked_at r there, now.partner_at p refl) in
@@ -115,20 +115,20 @@ heard_opens floor other p a b h g stay fit next o there = by o there where
       ))
 
 heard_lives : (floor other : ℕ) (m : Mark) (a b : Side) (h : Half floor other a b) (g : Half other floor b a) → a.stays ≡ true → fits m a.end ≡ true → IsOlder (m ∷ a.heard) b.said
-    → Lived floor other a.said (m ∷ a.heard) (taken m a.end) (lives_taken m a.end a.lives) b.lives
+    → Lived floor other a.said (m ∷ a.heard) (mark_taken m a.end) (lives_taken m a.end a.lives) b.lives
 heard_lives floor other (Ask p) a b h g stay fit next = heard_opens floor other p a b h g stay fit next a.end.asked refl
 heard_lives floor other Close a b h g stay fit next =
-    lived_on floor other floor other a.said a.heard a.said (Close ∷ a.heard) a.end (taken Close a.end) a.lives b.lives (heard_stands floor other Close a b g next) h.lived
+    lived_on floor other floor other a.said a.heard a.said (Close ∷ a.heard) a.end (mark_taken Close a.end) a.lives b.lives (heard_stands floor other Close a b g next) h.lived
 
 joined_heard : (m : Mark) (a b : Side) → Joined a b → May (Hear m) a b → Joined (heard_in m a) b
 joined_heard m a b j may =
     let fit : fits m a.end ≡ true = joined_fits m a b j may in
-    let lived : Lived j.floor j.other a.said (m ∷ a.heard) (taken m a.end) (lives_taken m a.end a.lives) b.lives = heard_lives j.floor j.other m a b j.here j.there may.0 fit may.1 in
+    let lived : Lived j.floor j.other a.said (m ∷ a.heard) (mark_taken m a.end) (lives_taken m a.end a.lives) b.lives = heard_lives j.floor j.other m a b j.here j.there may.0 fit may.1 in
     record {
       floor = j.floor;
       other = j.other;
       here = record {
-        kept = taken m a.end;
+        kept = mark_taken m a.end;
         balanced = balanced_hears m a.said a.heard a.end fit (subst (λ (e : End). Balanced a.said a.heard e) (j.here.same may.0) j.here.balanced);
         same = λ e. refl;
         alone = λ e. absurd (unlike a.stays may.0 e);

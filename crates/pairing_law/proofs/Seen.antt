@@ -2,7 +2,7 @@
 use Rattle.std.proofs.Common.{◌≡◌, Bool, true, false, List, [], ◌∷◌, ◌++◌, refl, ap, sym, subst, ◌∙◌, if◌then◌else◌}
 use Rattle.pairing_law.specs.Marks.{Mark, IsOlder}
 use Rattle.pairing_law.specs.Sides.{Side, Say, Hear, Event, One, Two, both}
-use Rattle.pairing_law.specs.Links.{Sockets, same, Word, Receiver, Sender, Step, Says, Hears, Leaves, Meets, when, with_event, events_at, receiver, sender, stays, said, heard, AreOlder}
+use Rattle.pairing_law.specs.Links.{Sockets, same, Word, Receiver, Sender, Step, Says, Hears, Leaves, Meets, when, with_event, events_at, receiver, sender, stays, said_words, heard_words, AreOlder}
 
 -- ---- the words of one pair of sockets
 
@@ -32,8 +32,8 @@ pub record Seen (x : Side) (stay : Bool) (words others : List Mark) : Type 0 whe
   pub heard : x.heard ≡ others
 
 pub record BothSeen (s : Sockets) (steps : List Step) : Type 0 where
-  pub receiver : Seen (receiver s steps) (stays Receiver steps) (at s (said Receiver steps)) (at s (heard Receiver steps))
-  pub sender : Seen (sender s steps) (stays Sender steps) (at s (said Sender steps)) (at s (heard Sender steps))
+  pub receiver : Seen (receiver s steps) (stays Receiver steps) (at s (said_words Receiver steps)) (at s (heard_words Receiver steps))
+  pub sender : Seen (sender s steps) (stays Sender steps) (at s (said_words Sender steps)) (at s (heard_words Sender steps))
 
 at_if : (s : Sockets) (stay : Bool) (w : Word) (words : List Word) → at s (if stay then w ∷ words else words) ≡ (if stay then put (same s w.sockets) w.mark (at s words) else at s words)
 at_if s true w words = refl
@@ -86,30 +86,30 @@ seen s [] = record { receiver = record { stays = refl; said = refl; heard = refl
 seen s (Says Receiver w ∷ steps) =
     let h : BothSeen s steps = seen s steps in
     record {
-      receiver = seen_as (receiver s (Says Receiver w ∷ steps)) (receiver s (Says Receiver w ∷ steps)) (stays Receiver steps) (if stays Receiver steps then put (same s w.sockets) w.mark (at s (said Receiver steps)) else at s (said Receiver steps))
-          (at s (said Receiver (Says Receiver w ∷ steps))) (at s (heard Receiver steps)) refl (at_if s (stays Receiver steps) w (said Receiver steps))
-          (one_says (same s w.sockets) w.mark (events_at s steps) (stays Receiver steps) (at s (said Receiver steps)) (at s (heard Receiver steps)) h.receiver);
-      sender = subst (λ (z : Side). Seen z (stays Sender steps) (at s (said Sender steps)) (at s (heard Sender steps))) (sym (two_quiet (same s w.sockets) w.mark (events_at s steps))) h.sender;
+      receiver = seen_as (receiver s (Says Receiver w ∷ steps)) (receiver s (Says Receiver w ∷ steps)) (stays Receiver steps) (if stays Receiver steps then put (same s w.sockets) w.mark (at s (said_words Receiver steps)) else at s (said_words Receiver steps))
+          (at s (said_words Receiver (Says Receiver w ∷ steps))) (at s (heard_words Receiver steps)) refl (at_if s (stays Receiver steps) w (said_words Receiver steps))
+          (one_says (same s w.sockets) w.mark (events_at s steps) (stays Receiver steps) (at s (said_words Receiver steps)) (at s (heard_words Receiver steps)) h.receiver);
+      sender = subst (λ (z : Side). Seen z (stays Sender steps) (at s (said_words Sender steps)) (at s (heard_words Sender steps))) (sym (two_quiet (same s w.sockets) w.mark (events_at s steps))) h.sender;
     }
 seen s (Says Sender w ∷ steps) =
     let h : BothSeen s steps = seen s steps in
     record {
-      receiver = subst (λ (z : Side). Seen z (stays Receiver steps) (at s (said Receiver steps)) (at s (heard Receiver steps))) (sym (one_quiet (same s w.sockets) w.mark (events_at s steps))) h.receiver;
-      sender = seen_as (sender s (Says Sender w ∷ steps)) (sender s (Says Sender w ∷ steps)) (stays Sender steps) (if stays Sender steps then put (same s w.sockets) w.mark (at s (said Sender steps)) else at s (said Sender steps))
-          (at s (said Sender (Says Sender w ∷ steps))) (at s (heard Sender steps)) refl (at_if s (stays Sender steps) w (said Sender steps))
-          (two_says (same s w.sockets) w.mark (events_at s steps) (stays Sender steps) (at s (said Sender steps)) (at s (heard Sender steps)) h.sender);
+      receiver = subst (λ (z : Side). Seen z (stays Receiver steps) (at s (said_words Receiver steps)) (at s (heard_words Receiver steps))) (sym (one_quiet (same s w.sockets) w.mark (events_at s steps))) h.receiver;
+      sender = seen_as (sender s (Says Sender w ∷ steps)) (sender s (Says Sender w ∷ steps)) (stays Sender steps) (if stays Sender steps then put (same s w.sockets) w.mark (at s (said_words Sender steps)) else at s (said_words Sender steps))
+          (at s (said_words Sender (Says Sender w ∷ steps))) (at s (heard_words Sender steps)) refl (at_if s (stays Sender steps) w (said_words Sender steps))
+          (two_says (same s w.sockets) w.mark (events_at s steps) (stays Sender steps) (at s (said_words Sender steps)) (at s (heard_words Sender steps)) h.sender);
     }
 seen s (Hears Receiver w ∷ steps) =
     let h : BothSeen s steps = seen s steps in
     record {
-      receiver = one_hears (same s w.sockets) w.mark (events_at s steps) (stays Receiver steps) (at s (said Receiver steps)) (at s (heard Receiver steps)) h.receiver;
-      sender = subst (λ (z : Side). Seen z (stays Sender steps) (at s (said Sender steps)) (at s (heard Sender steps))) (sym (two_deaf (same s w.sockets) w.mark (events_at s steps))) h.sender;
+      receiver = one_hears (same s w.sockets) w.mark (events_at s steps) (stays Receiver steps) (at s (said_words Receiver steps)) (at s (heard_words Receiver steps)) h.receiver;
+      sender = subst (λ (z : Side). Seen z (stays Sender steps) (at s (said_words Sender steps)) (at s (heard_words Sender steps))) (sym (two_deaf (same s w.sockets) w.mark (events_at s steps))) h.sender;
     }
 seen s (Hears Sender w ∷ steps) =
     let h : BothSeen s steps = seen s steps in
     record {
-      receiver = subst (λ (z : Side). Seen z (stays Receiver steps) (at s (said Receiver steps)) (at s (heard Receiver steps))) (sym (one_deaf (same s w.sockets) w.mark (events_at s steps))) h.receiver;
-      sender = two_hears (same s w.sockets) w.mark (events_at s steps) (stays Sender steps) (at s (said Sender steps)) (at s (heard Sender steps)) h.sender;
+      receiver = subst (λ (z : Side). Seen z (stays Receiver steps) (at s (said_words Receiver steps)) (at s (heard_words Receiver steps))) (sym (one_deaf (same s w.sockets) w.mark (events_at s steps))) h.receiver;
+      sender = two_hears (same s w.sockets) w.mark (events_at s steps) (stays Sender steps) (at s (said_words Sender steps)) (at s (heard_words Sender steps)) h.sender;
     }
 seen s (Leaves Receiver ∷ steps) =
     let h : BothSeen s steps = seen s steps in

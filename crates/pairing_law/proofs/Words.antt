@@ -2,12 +2,12 @@
 use Rattle.std.proofs.Common.{◌≡◌, ℕ, ◌+◌, ◌<◌, ◌≤◌, List, [], ◌∷◌, ◌++◌, sym, subst, ◌∙◌, inl, inr, arith}
 use Rattle.pairing_law.specs.Marks.{Mark, Ask, Close, closes, Asks, IsOlder}
 
-pub closes_more : (new word : List Mark) → closes word ≤ closes (new ++ word)
+closes_more : (new word : List Mark) → closes word ≤ closes (new ++ word)
 closes_more [] word = omega arith
 closes_more (Ask p ∷ new) word = closes_more new word
 closes_more (Close ∷ new) word = let l : closes word ≤ closes (new ++ word) = closes_more new word in omega (arith, l)
 
-pub asks_more : (k p : ℕ) (new word : List Mark) → Asks k p word → Asks k p (new ++ word)
+asks_more : (k p : ℕ) (new word : List Mark) → Asks k p word → Asks k p (new ++ word)
 asks_more k p [] word a = a
 asks_more k p (Ask q ∷ new) word a = inr (asks_more k p new word a)
 asks_more k p (Close ∷ new) word a = asks_more k p new word a
@@ -17,13 +17,6 @@ asks_said k p heard said o a = subst (λ (w : List Mark). Asks k p w) (sym o.1) 
 
 pub closes_said : (heard said : List Mark) → IsOlder heard said → closes heard ≤ closes said
 closes_said heard said o = subst (λ (w : List Mark). closes heard ≤ closes w) (sym o.1) (closes_more o.0 heard)
-
--- a request doesn't stand behind the closes of its word
-pub asks_within : (k p : ℕ) (word : List Mark) → Asks k p word → k ≤ closes word
-asks_within k p [] a = absurd a
-asks_within k p (Ask q ∷ word) (inl a) = let e : k ≡ closes word = a.1 in omega (arith, e)
-asks_within k p (Ask q ∷ word) (inr a) = asks_within k p word a
-asks_within k p (Close ∷ word) a = let l : k ≤ closes word = asks_within k p word a in omega (arith, l)
 
 -- what comes after a close is of another connection
 pub asks_before : (k p : ℕ) (new word : List Mark) → Asks k p (new ++ Close ∷ word) → k ≤ closes word → Asks k p word
@@ -79,7 +72,7 @@ asks_once j k p (Ask q ∷ word) g (inr a) (inr b) = asks_once j k p word g.1 a 
 asks_once j k p (Close ∷ word) g a b = asks_once j k p word g a b
 
 -- the same of an older word
-pub grows_older : (new word : List Mark) → Grows (new ++ word) → Grows word
+grows_older : (new word : List Mark) → Grows (new ++ word) → Grows word
 grows_older [] word g = g
 grows_older (Ask q ∷ new) word g = grows_older new word g.1
 grows_older (Close ∷ new) word g = grows_older new word g

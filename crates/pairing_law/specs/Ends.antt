@@ -37,6 +37,6 @@ abbrev pub fits : Mark → End → Bool
 fits (Ask p) e = not (is_some e.partner) && not e.taken
 fits Close e = is_begun e && not e.taken
 
-abbrev pub taken : Mark → End → End
-taken (Ask p) e = record e { partner = Some p }
-taken Close e = if e.gone then nothing else record e { taken = true }
+abbrev pub mark_taken : Mark → End → End
+mark_taken (Ask p) e = record e { partner = Some p }
+mark_taken Close e = if e.gone then nothing else record e { taken = true }

@@ -29,12 +29,12 @@ abbrev pub late : List Event
 late = One (Hear (Ask 5)) ∷ One (Say Close) ∷ Two (Say (Ask 5)) ∷ Two (Hear (Ask 3)) ∷ One (Say (Ask 3)) ∷ Meet ∷ []
 
 -- the first asks and leaves, and the second hears it all the same
-abbrev pub left : List Event
-left = Two (Hear (Ask 3)) ∷ One Leave ∷ One (Say (Ask 3)) ∷ Meet ∷ []
+abbrev pub left_events : List Event
+left_events = Two (Hear (Ask 3)) ∷ One Leave ∷ One (Say (Ask 3)) ∷ Meet ∷ []
 
 -- both begin anew, and connect the same sockets
 abbrev pub anew : List Event
-anew = Two (Hear (Ask 8)) ∷ One (Hear (Ask 6)) ∷ One (Say (Ask 8)) ∷ Two (Say (Ask 6)) ∷ Meet ∷ Two Leave ∷ left
+anew = Two (Hear (Ask 8)) ∷ One (Hear (Ask 6)) ∷ One (Say (Ask 8)) ∷ Two (Say (Ask 6)) ∷ Meet ∷ Two Leave ∷ left_events
 
 -- ---- what may not happen
 
@@ -48,15 +48,15 @@ unreset = One (Hear (Ask 5)) ∷ One (Say (Ask 7)) ∷ One Leave ∷ Two (Say (A
 
 -- ---- two pairs of sockets
 
-abbrev pub first : Sockets
-first = record { receive = 16; send = 33 }
+abbrev pub first_sockets : Sockets
+first_sockets = record { receive = 16; send = 33 }
 
-abbrev pub second : Sockets
-second = record { receive = 18; send = 35 }
+abbrev pub second_sockets : Sockets
+second_sockets = record { receive = 18; send = 35 }
 
 -- the receiver asks at place 3, and names link 5
 abbrev pub request : Word
-request = record { sockets = first; link = 5; mark = Ask 3 }
+request = record { sockets = first_sockets; link = 5; mark = Ask 3 }
 
 abbrev pub asked_link : List Step
 asked_link = Says Receiver request ∷ Meets ∷ []
@@ -66,14 +66,14 @@ taken_link = Hears Sender request ∷ asked_link
 
 -- the sender refuses it; its CLS is taken and answered
 abbrev pub refusal : Word
-refusal = record { sockets = first; link = 0; mark = Close }
+refusal = record { sockets = first_sockets; link = 0; mark = Close }
 
 abbrev pub used_link : List Step
 used_link = Says Receiver refusal ∷ Hears Receiver refusal ∷ Says Sender refusal ∷ taken_link
 
 -- the receiver asks for the other pair at place 8, and names the same link
 abbrev pub another : Word
-another = record { sockets = second; link = 5; mark = Ask 8 }
+another = record { sockets = second_sockets; link = 5; mark = Ask 8 }
 
 abbrev pub next_link : List Step
 next_link = Hears Sender another ∷ Hears Sender refusal ∷ Says Receiver another ∷ used_link

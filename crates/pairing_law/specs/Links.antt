@@ -80,9 +80,9 @@ said_more Sender (Says Sender w) stay words = if stay then w ∷ words else word
 said_more who (Hears x w) stay words = words
 said_more who (Leaves x) stay words = words
 
-abbrev pub said : Who → List Step → List Word
-said who [] = []
-said who (x ∷ steps) = said_more who x (stays who steps) (said who steps)
+abbrev pub said_words : Who → List Step → List Word
+said_words who [] = []
+said_words who (x ∷ steps) = said_more who x (stays who steps) (said_words who steps)
 
 abbrev pub heard_more : Who → Step → List Word → List Word
 heard_more who Meets words = []
@@ -93,9 +93,9 @@ heard_more Sender (Hears Sender w) words = w ∷ words
 heard_more who (Says x w) words = words
 heard_more who (Leaves x) words = words
 
-abbrev pub heard : Who → List Step → List Word
-heard who [] = []
-heard who (x ∷ steps) = heard_more who x (heard who steps)
+abbrev pub heard_words : Who → List Step → List Word
+heard_words who [] = []
+heard_words who (x ∷ steps) = heard_more who x (heard_words who steps)
 
 -- ---- links
 
@@ -108,18 +108,18 @@ abbrev pub Named : Option ℕ → Sockets → ℕ → List Word → Type 0
 Named request s link words = (p : ℕ) × (request ≡ Some p) × IsAmong (record { sockets = s; link = link; mark = Ask p }) words
 
 -- none of the receiver's ends that it asked for has the link
-abbrev pub IsFree : ℕ → List Step → Type 0
-IsFree link steps = (s : Sockets) → Named (receiver s steps).end.asked s link (said Receiver steps) → ⊥
+abbrev pub IsFreeLink : ℕ → List Step → Type 0
+IsFreeLink link steps = (s : Sockets) → Named (receiver s steps).end.asked s link (said_words Receiver steps) → ⊥
 
 -- none of the sender's ends has it, by a request that it took
 abbrev pub IsUnused : ℕ → List Step → Type 0
-IsUnused link steps = (s : Sockets) → Named (sender s steps).end.partner s link (heard Sender steps) → ⊥
+IsUnused link steps = (s : Sockets) → Named (sender s steps).end.partner s link (heard_words Sender steps) → ⊥
 
 -- ---- what may happen
 
 -- the receiver names a link that is free
 abbrev pub NamesFree : Mark → ℕ → List Step → Type 0
-NamesFree (Ask p) link steps = IsFree link steps
+NamesFree (Ask p) link steps = IsFreeLink link steps
 NamesFree Close link steps = Unit {0}
 
 abbrev pub AreOlder : List Word → List Word → Type 0
@@ -129,8 +129,8 @@ AreOlder heard said = (new : List Word) × (said ≡ new ++ heard)
 abbrev pub MayStep : Step → List Step → Type 0
 MayStep (Says Receiver w) steps = May (Say w.mark) (receiver w.sockets steps) (sender w.sockets steps) × NamesFree w.mark w.link steps
 MayStep (Says Sender w) steps = May (Say w.mark) (sender w.sockets steps) (receiver w.sockets steps)
-MayStep (Hears Receiver w) steps = (stays Receiver steps ≡ true) × AreOlder (w ∷ heard Receiver steps) (said Sender steps)
-MayStep (Hears Sender w) steps = (stays Sender steps ≡ true) × AreOlder (w ∷ heard Sender steps) (said Receiver steps)
+MayStep (Hears Receiver w) steps = (stays Receiver steps ≡ true) × AreOlder (w ∷ heard_words Receiver steps) (said_words Sender steps)
+MayStep (Hears Sender w) steps = (stays Sender steps ≡ true) × AreOlder (w ∷ heard_words Sender steps) (said_words Receiver steps)
 MayStep (Leaves who) steps = Unit {0}
 MayStep Meets steps = (s : Sockets) → ((receiver s steps).end ≡ nothing) × ((sender s steps).end ≡ nothing)
 

@@ -1,4 +1,4 @@
--- The events of the law of resets, where each text carries in front the place where it went out.
+-- The events of the law of resets, where each text begins with the place where it went out.
 use Rattle.std.specs.Prelude.{ℕ, zero, suc, Bool, true, false, List, [], ◌∷◌}
 use Rattle.reset_law.specs.Events.{Message, Reset, Reply, Other, Event, Contact, Out, In, Told, Down, Up, Idle, place}
 use Rattle.reset_law.specs.Boxes.{Box, Empty, Waiting, Taken, boxes}

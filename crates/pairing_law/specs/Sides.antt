@@ -1,7 +1,7 @@
 -- The two hosts of a connection, from contact to contact (NIC 8246, RST: it closes all connections between two hosts).
 use Rattle.std.specs.Prelude.{◌≡◌, ℕ, ◌+◌, ◌≤◌, Bool, true, false, List, [], ◌∷◌, Option, Some, if◌then◌else◌}
 use Rattle.pairing_law.specs.Marks.{Mark, Ask, Close, IsOlder}
-use Rattle.pairing_law.specs.Ends.{End, nothing, MayGo, gone, fits, taken}
+use Rattle.pairing_law.specs.Ends.{End, nothing, MayGo, gone, fits, mark_taken}
 
 -- an opened end: where its own request went out, and where its partner's did
 pub record Life : Type 0 where
@@ -22,16 +22,16 @@ abbrev pub opening_side : Side
 opening_side = record { end = nothing; stays = false; said = []; heard = []; lives = []; next = 0 }
 
 -- an end opens where its own request has gone out and its partner's was taken
-abbrev pub opened : Option ℕ → Option ℕ → List Life → List Life
-opened (Some p) (Some q) lives = record { own = p; partner = q } ∷ lives
-opened p q lives = lives
+abbrev pub lives_opened : Option ℕ → Option ℕ → List Life → List Life
+lives_opened (Some p) (Some q) lives = record { own = p; partner = q } ∷ lives
+lives_opened p q lives = lives
 
 abbrev pub lives_gone : Mark → End → List Life → List Life
-lives_gone (Ask p) e lives = opened (Some p) e.partner lives
+lives_gone (Ask p) e lives = lives_opened (Some p) e.partner lives
 lives_gone Close e lives = lives
 
 abbrev pub lives_taken : Mark → End → List Life → List Life
-lives_taken (Ask p) e lives = opened e.asked (Some p) lives
+lives_taken (Ask p) e lives = lives_opened e.asked (Some p) lives
 lives_taken Close e lives = lives
 
 -- ---- moves
@@ -61,7 +61,7 @@ says m x = record {
 -- what is an error changes nothing
 abbrev pub hears : Mark → Side → Side
 hears m x = record {
-  end = if fits m x.end then taken m x.end else x.end;
+  end = if fits m x.end then mark_taken m x.end else x.end;
   stays = x.stays;
   said = x.said;
   heard = m ∷ x.heard;
@@ -103,8 +103,8 @@ pub record Both : Type 0 where
   pub one : Side
   pub two : Side
 
-abbrev pub opening : Both
-opening = record { one = opening_side; two = opening_side }
+abbrev pub opening_both : Both
+opening_both = record { one = opening_side; two = opening_side }
 
 abbrev pub meets : Side → Side
 meets x = record x { stays = true; said = []; heard = [] }
@@ -116,7 +116,7 @@ happens Meet b = record { one = meets b.one; two = meets b.two }
 
 -- the two hosts after a list of events, newest first
 abbrev pub both : List Event → Both
-both [] = opening
+both [] = opening_both
 both (e ∷ events) = happens e (both events)
 
 -- where they meet neither has said or heard anything since it last left

@@ -14,8 +14,8 @@ ghost use Rattle.pairing_law.specs.Marks.{Mark, Ask, Close, closes, Asks};
 ghost use Rattle.pairing_law.specs.Ends.{nothing, fits};
 ghost use Rattle.pairing_law.specs.Sides.{Event, One, Two, Meet, Say, Hear, Leave, both, IsRun};
 ghost use Rattle.pairing_law.specs.Partners.{IsOpen, OwnOnce, PartnerOnce, SafePartners};
-ghost use Rattle.pairing_law.specs.Links.{Sockets, Word, Receiver, Sender, Step, Says, Hears, Leaves, Meets, events_at, receiver, sender, stays, said, heard, IsFree, IsUnused, MayStep, AreSteps};
-ghost use Rattle.pairing_law.specs.Example.{connected, over, again, refused, both_close, late, left, anew, stale, unreset, first, second, asked_link, taken_link, used_link, next_link};
+ghost use Rattle.pairing_law.specs.Links.{Sockets, Word, Receiver, Sender, Step, Says, Hears, Leaves, Meets, events_at, receiver, sender, stays, said_words, heard_words, IsFreeLink, IsUnused, MayStep, AreSteps};
+ghost use Rattle.pairing_law.specs.Example.{connected, over, again, refused, both_close, late, left_events, anew, stale, unreset, first_sockets, second_sockets, asked_link, taken_link, used_link, next_link};
 
 /// Whatever two hosts say of one pair of their sockets, and whenever they leave and meet again. What is assumed of them stands in
 /// `IsRun`: the rules by which a host speaks, and what a reset gives.
@@ -56,7 +56,7 @@ pub fn resets()
     ensures left { (hosts : List Host) (event : reset.Event) (events : List reset.Event) (a b : Host) → reset_run.IsRun hosts (event ∷ events) → stay.begins a b event events ≡ true → (stay.stays a b events ≡ false) × (stay.stays b a events ≡ false) }
 {}
 
-/// What was heard is a front of what was said with its places too: each text carries in front the place where it went out.
+/// What was heard is a prefix of what was said with its places too: each text begins with the place where it went out.
 pub fn places()
     // a text so tagged tells both
     ensures tagged { (p q : ℕ) (s t : List Bool) → tagged p s ≡ tagged q t → (p ≡ q) × (s ≡ t) }
@@ -65,26 +65,26 @@ pub fn places()
     ensures run { (hosts : List Host) (events : List reset.Event) → reset_run.IsRun hosts events → reset_run.IsRun hosts (placed events) }
     ensures same { (events : List reset.Event) (a b : Host) → (pair a b (placed events) ≡ pair a b events) × (stay.stays a b (placed events) ≡ stay.stays a b events) }
 
-    // so what a host heard of its peer in its stay is a front of what the peer said in its own, text by text and place by place
-    ensures front { (hosts : List Host) (events : List reset.Event) → reset_run.IsRun hosts events → (a b : Host) (link : ℕ) → stay.IsFront (stay.heard a b link (placed events)) (stay.said a b link (placed events)) }
+    // so what a host heard of its peer in its stay is a prefix of what the peer said in its own, text by text and place by place
+    ensures front { (hosts : List Host) (events : List reset.Event) → reset_run.IsRun hosts events → (a b : Host) (link : ℕ) → stay.IsFront (stay.heard_in_stay a b link (placed events)) (stay.said_in_stay a b link (placed events)) }
 {}
 
 /// A message and its place.
 pub fn worked_places()
     // it went out at place 5, and has that place where it is taken too
-    ensures said { stay.said one two 0 (placed message) ≡ tagged 5 (true ∷ []) ∷ [] }
-    ensures heard { stay.heard one two 0 (placed (reset.In one two 0 (reset.Other (true ∷ [])) ∷ message)) ≡ tagged 5 (true ∷ []) ∷ [] }
+    ensures said { stay.said_in_stay one two 0 (placed message) ≡ tagged 5 (true ∷ []) ∷ [] }
+    ensures heard { stay.heard_in_stay one two 0 (placed (reset.In one two 0 (reset.Other (true ∷ [])) ∷ message)) ≡ tagged 5 (true ∷ []) ∷ [] }
     ensures bits { tagged 2 (true ∷ []) ≡ true ∷ true ∷ false ∷ true ∷ [] }
 
     // a text with the same bits at another place is told from it
-    ensures two { stay.said one two 0 (placed (reset.Out one two 0 (reset.Other (true ∷ [])) ∷ reset.Told one two 0 answer.Rfnm ∷ reset.In one two 0 (reset.Other (true ∷ [])) ∷ message)) ≡ tagged 5 (true ∷ []) ∷ tagged 8 (true ∷ []) ∷ [] }
+    ensures two { stay.said_in_stay one two 0 (placed (reset.Out one two 0 (reset.Other (true ∷ [])) ∷ reset.Told one two 0 answer.Rfnm ∷ reset.In one two 0 (reset.Other (true ∷ [])) ∷ message)) ≡ tagged 5 (true ∷ []) ∷ tagged 8 (true ∷ []) ∷ [] }
 {}
 
 /// A connection that is opened, closed, and opened again.
 pub fn worked_connection()
     // each end opens where its second request has passed, the first host's with the two places turned about
     ensures live { IsOpen 3 5 (both connected).one.end × IsOpen 5 3 (both connected).two.end }
-    ensures half_open { (IsOpen 3 0 (both left).two.end → ⊥) × (IsOpen 0 3 (both left).two.end → ⊥) }
+    ensures half_open { (IsOpen 3 0 (both left_events).two.end → ⊥) × (IsOpen 0 3 (both left_events).two.end → ⊥) }
     ensures opened { ((both connected).one.lives ≡ record { own = 3; partner = 5 } ∷ []) × ((both connected).two.lives ≡ record { own = 5; partner = 3 } ∷ []) }
 
     // a CLS each way ends both
@@ -98,7 +98,7 @@ pub fn worked_connection()
     ensures first { Asks 0 3 (both again).one.said }
     ensures second { Asks 1 9 (both again).one.said }
 
-    // a request that is refused opens nothing, and a CLS from each side is still wanted
+    // a request that is refused opens nothing, and a CLS from each side is still needed
     ensures refused { ((both refused).two.lives ≡ []) × ((both refused).one.end ≡ record { asked = Some 3; partner = None; gone = false; taken = true }) }
 
     // CLS that cross end both
@@ -111,7 +111,7 @@ pub fn worked_connection()
 /// Hosts that leave, and begin anew.
 pub fn worked_stays()
     // a host that leaves forgets its end, and its peer goes on
-    ensures left { ((both left).one.end ≡ nothing) × ((both left).one.stays ≡ false) × ((both left).two.stays ≡ true) × ((both left).two.end ≡ record { asked = None; partner = Some 3; gone = false; taken = false }) }
+    ensures left { ((both left_events).one.end ≡ nothing) × ((both left_events).one.stays ≡ false) × ((both left_events).two.stays ≡ true) × ((both left_events).two.end ≡ record { asked = None; partner = Some 3; gone = false; taken = false }) }
 
     // after a reset words begin anew, and the same sockets are connected by new requests
     ensures anew { ((both anew).one.said ≡ Ask 8 ∷ []) × ((both anew).one.lives ≡ record { own = 8; partner = 6 } ∷ []) × ((both anew).two.lives ≡ record { own = 6; partner = 8 } ∷ []) }
@@ -134,28 +134,28 @@ pub fn worked_runs()
 /// Two pairs of sockets, and a link.
 pub fn worked_links()
     // what is said of one pair is nothing for the other
-    ensures apart { (events_at first asked_link ≡ One (Say (Ask 3)) ∷ Meet ∷ []) × (events_at second asked_link ≡ Meet ∷ []) }
+    ensures apart { (events_at first_sockets asked_link ≡ One (Say (Ask 3)) ∷ Meet ∷ []) × (events_at second_sockets asked_link ≡ Meet ∷ []) }
 
     // a request is allowed, and heard
     ensures asked { AreSteps taken_link }
-    ensures taken { ((sender first taken_link).end.partner ≡ Some 3) × (heard Sender taken_link ≡ said Receiver taken_link) }
+    ensures taken { ((sender first_sockets taken_link).end.partner ≡ Some 3) × (heard_words Sender taken_link ≡ said_words Receiver taken_link) }
 
     // while it stands its link isn't free for another, and the sender has it
-    ensures used { IsFree 5 taken_link → ⊥ }
+    ensures used { IsFreeLink 5 taken_link → ⊥ }
     ensures has { IsUnused 5 taken_link → ⊥ }
 
     // another link is
-    ensures other { IsFree 6 taken_link }
+    ensures other { IsFreeLink 6 taken_link }
 
     // after a CLS each way the link is free again, before the sender has taken the last of them
-    ensures free { IsFree 5 used_link }
-    ensures closed { ((receiver first used_link).end ≡ nothing) × ((sender first used_link).end ≡ record { asked = None; partner = Some 3; gone = true; taken = false }) }
+    ensures free { IsFreeLink 5 used_link }
+    ensures closed { ((receiver first_sockets used_link).end ≡ nothing) × ((sender first_sockets used_link).end ≡ record { asked = None; partner = Some 3; gone = true; taken = false }) }
 
     // then it goes to the other pair, and its old end is over by the time that the request is taken
-    ensures next { ((sender first next_link).end ≡ nothing) × ((sender second next_link).end.partner ≡ Some 8) }
+    ensures next { ((sender first_sockets next_link).end ≡ nothing) × ((sender second_sockets next_link).end.partner ≡ Some 8) }
 
     // leaving and meeting is that of all pairs
-    ensures leaves { (events_at second (Leaves Sender ∷ asked_link) ≡ Two Leave ∷ Meet ∷ []) × (stays Sender (Leaves Sender ∷ asked_link) ≡ false) × (stays Receiver (Leaves Sender ∷ asked_link) ≡ true) }
+    ensures leaves { (events_at second_sockets (Leaves Sender ∷ asked_link) ≡ Two Leave ∷ Meet ∷ []) × (stays Sender (Leaves Sender ∷ asked_link) ≡ false) × (stays Receiver (Leaves Sender ∷ asked_link) ≡ true) }
 {}
 
 /// What a host may not do.

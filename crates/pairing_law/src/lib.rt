@@ -6,7 +6,7 @@
 //! host hears, in order, what its peer said since both were through a reset, and that no end of before was left then. So no
 //! two ends have one request, and where the partner's request of an end is another's own, the reverse holds too.
 //!
-//! The law of resets (crate `reset_law`) gives this for texts. Each call of a host's program is tied to it in crate `host_pairing`.
+//! The law of resets (crate `reset_law`) gives this for texts. Each call of a host's program is tied to it in crate `host_keeps_pairing`.
 //! There is no code: the laws are the contracts of functions that do nothing.
 #![tactic(auto)]
 

@@ -3,24 +3,24 @@ use Rattle.std.proofs.Common.{◌≡◌, ℕ, ◌<◌, ◌+◌, List, [], ◌∷
 use Rattle.std.proofs.lemmas.Grind.{flat_map-append}
 use Rattle.std.proofs.lemmas.List.{append_assoc, append-nil, drop_more, take-append-drop, take_more}
 use Rattle.std.specs.Io.KnownBytes.{Appends}
-use Rattle.script.specs.Input.{ended}
+use Rattle.script.specs.Input.{ended_line}
 use Rattle.replay.specs.InTurn.{EndsInTurn, Happening, HappensOnce, InTurn, ShowsFront, WritesLines, text_of}
 use Rattle.replay.proofs.Shown.{appends_more, appends_none}
 
 pub text_of-append : {L : Type 0} (text : L → List ℕ) (xs ys : List L) → text_of text (xs ++ ys) ≡ text_of text xs ++ text_of text ys
-text_of-append text xs ys = flat_map-append (λ s. ended (text s)) xs ys
+text_of-append text xs ys = flat_map-append (λ s. ended_line (text s)) xs ys
 
 -- one more line is written
 pub text_more : {L : Type 0} (text : L → List ℕ) (xs : List L) (i : ℕ) (d : L) (a b c : Option (List ℕ)) → i < length xs
-    → Appends a b (text_of text (take i xs)) → Appends b c (ended (text (get_or xs i d))) → Appends a c (text_of text (take (i + 1) xs))
+    → Appends a b (text_of text (take i xs)) → Appends b c (ended_line (text (get_or xs i d))) → Appends a c (text_of text (take (i + 1) xs))
 text_more text xs i d a b c lt before now =
-    let all : text_of text (take (i + 1) xs) ≡ text_of text (take i xs) ++ ended (text (get_or xs i d)) =
-    ap (text_of text) (take_more xs i d lt) ∙ text_of-append text (take i xs) (get_or xs i d ∷ []) ∙ ap (λ ys. text_of text (take i xs) ++ ys) (append-nil (ended (text (get_or xs i d)))) in
-    subst (Appends a c) (sym all) (appends_more a b c (text_of text (take i xs)) (ended (text (get_or xs i d))) before now)
+    let all : text_of text (take (i + 1) xs) ≡ text_of text (take i xs) ++ ended_line (text (get_or xs i d)) =
+    ap (text_of text) (take_more xs i d lt) ∙ text_of-append text (take i xs) (get_or xs i d ∷ []) ∙ ap (λ ys. text_of text (take i xs) ++ ys) (append-nil (ended_line (text (get_or xs i d)))) in
+    subst (Appends a c) (sym all) (appends_more a b c (text_of text (take i xs)) (ended_line (text (get_or xs i d))) before now)
 
 -- ---- one event more
 
-pub in_turn_more : {S E L : Type 0} (Happens : Happening S E L) (old mid new : S) (events : List E) (e : E) (shown own : List L) → InTurn Happens old events mid shown → Happens mid e new own
+in_turn_more : {S E L : Type 0} (Happens : Happening S E L) (old mid new : S) (events : List E) (e : E) (shown own : List L) → InTurn Happens old events mid shown → Happens mid e new own
     → InTurn Happens old (events ++ e ∷ []) new (shown ++ own)
 in_turn_more {S} Happens old mid new [] e shown own h k =
     (new, own, [], subst (λ (s : S). Happens s e new own) h.0 k, (refl, refl), ap (λ xs. xs ++ own) h.1 ∙ sym (append-nil own))

@@ -3,3 +3,4 @@ pub mod Passing
 pub mod Replays
 pub mod Settled
 pub mod Shown
+pub mod lemmas

@@ -13,7 +13,7 @@ use Rattle.replay.specs.Replay.{AllTake, Calls, GoesOn, Halts, Onward, Round, Ro
 use Rattle.replay.specs.Steps.{EventEnds, Grew, PrintEnds}
 use Rattle.replay.specs.declared.events.ReplayFault.{ReplayFault}
 use Rattle.replay.specs.declared.events.ReplayFault.TheVariants as fault
-use Rattle.script.specs.declared.event.Event.TheVariants as event
+use Rattle.script.specs.declared.event.RawEvent.TheVariants as event
 use Rattle.replay.proofs.Shown.{appends_more, appends_none, gained, output-append, shown_crossings-append}
 
 pub grew_more : (old mid new : Seen) → Grew old mid → Grew mid new → Grew old new

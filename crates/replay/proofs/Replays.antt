@@ -3,11 +3,11 @@ use Rattle.std.proofs.Common.{◌≡◌, List, [], ◌∷◌, ◌++◌, reverse,
 use Rattle.std.proofs.lemmas.List.{append_assoc, reverse-append}
 use Rattle.replay.specs.Output.{Shown, crossings_of}
 use Rattle.replay.specs.Replay.{Calls, EndsIn, Replays, StopsIn}
-use Rattle.script.specs.declared.event.Event.{Event}
+use Rattle.script.specs.declared.event.RawEvent.{RawEvent}
 use Rattle.replay.proofs.Shown.{crossings_again, crossings_of-append, happens_shows}
 
 -- what a replay shows is what its log gained
-pub replays_show : {C : Type 0} (calls : Calls C) (old new : C) (events : List Event) (shown : List Shown) → Replays calls old events new shown
+pub replays_show : {C : Type 0} (calls : Calls C) (old new : C) (events : List RawEvent) (shown : List Shown) → Replays calls old events new shown
     → (calls.seen new).log ≡ reverse (crossings_of shown) ++ (calls.seen old).log
 replays_show calls old new [] shown h = ap (λ c. (calls.seen c).log) h.0 ∙ ap (λ s. reverse (crossings_of s) ++ (calls.seen old).log) (sym h.1)
 replays_show calls old new (e ∷ events) shown (mid, first, rest, happens, more, whole) =
@@ -17,8 +17,8 @@ replays_show calls old new (e ∷ events) shown (mid, first, rest, happens, more
     ∙ sym (append_assoc (reverse (crossings_of rest)) (reverse (crossings_of first)) (calls.seen old).log)
     ∙ ap (λ cs. cs ++ (calls.seen old).log) (sym (reverse-append (crossings_of first) (crossings_of rest)) ∙ ap reverse (sym all))
 
--- what a replay that ended for want of memory shows is what its log gained
-pub stops_show : {C : Type 0} (calls : Calls C) (old new : C) (events : List Event) (shown : List Shown) → EndsIn calls StopsIn old events new shown
+-- what a replay that ran out of memory shows is what its log gained
+pub stops_show : {C : Type 0} (calls : Calls C) (old new : C) (events : List RawEvent) (shown : List Shown) → EndsIn calls StopsIn old events new shown
     → (calls.seen new).log ≡ reverse (crossings_of shown) ++ (calls.seen old).log
 stops_show calls old new events shown h =
     let all : crossings_of shown ≡ crossings_of h.front ++ h.goes.crossings =

@@ -13,10 +13,10 @@ use Rattle.replay.specs.Replay.{AllTake, Calls, Chain, EndsIn, EventGives, GoesO
 use Rattle.replay.specs.Settled.{AreSettled, Grows, SameEnd}
 use Rattle.replay.proofs.InTurn.{ends_front, in_turn_once}
 use Rattle.replay.proofs.Shown.{shown_crossings-append}
-use Rattle.script.specs.declared.event.Event.{Event}
-use Rattle.script.specs.declared.event.Event.TheVariants as event
+use Rattle.script.specs.declared.event.RawEvent.{RawEvent}
+use Rattle.script.specs.declared.event.RawEvent.TheVariants as event
 
--- ---- want of memory
+-- ---- running out of memory
 
 not_both : (r : Result (Unit {0}) CarrierFault) → Halts r → GoesOn r → ⊥
 not_both (Ok done) halts goes = halts
@@ -50,7 +50,7 @@ same_grows calls old new same = stays calls old new (ap (λ c. (calls.seen c).lo
 
 -- ---- the parts of a calm
 
--- a part goes one way, want of memory aside; it only adds crossings; and where memory ran out, what crossed by then is the
+-- a part goes one way, running out of memory aside; it only adds crossings; and where memory ran out, what crossed by then is the
 -- first of what crosses in the whole part
 record Steady {C : Type 0} (calls : Calls C) (P : Part C) : Type 0 where
   once : (old : C) (r q : Result (Unit {0}) CarrierFault) (new other : C) → P old r new → GoesOn r → P old q other → GoesOn q → SameEnd r q new other
@@ -103,7 +103,7 @@ steady_chain calls First Next sf sn = record {
 
 -- ---- takings, quiet rounds, rounds
 
--- a taking behind which a host goes on, or ends without want of memory, went on
+-- a taking behind which a host goes on, or ends without running out of memory, went on
 taking_goes : (a : Result (Option Inbound) CarrierFault) (r : Result (Unit {0}) CarrierFault) (More Left : Type 0) → IfGiven a More ((r ≡ calmly (outcome_of a)) × Left) → GoesOn r → GoesOn (outcome_of a)
 taking_goes (Ok (Some given)) r More Left h goes = tt
 taking_goes (Ok None) r More Left h goes = tt
@@ -179,7 +179,7 @@ steady_rounds calls settled (suc times) = steady_chain calls (Round calls) (Roun
 
 -- ---- one event
 
-event_once : {C : Type 0} (calls : Calls C) → AreSettled calls → (old : C) (e : Event) (r q : Result (Unit {0}) CarrierFault) (new other : C)
+event_once : {C : Type 0} (calls : Calls C) → AreSettled calls → (old : C) (e : RawEvent) (r q : Result (Unit {0}) CarrierFault) (new other : C)
     → EventGives calls old e r new → GoesOn r → EventGives calls old e q other → GoesOn q → SameEnd r q new other
 event_once calls settled old (event.Out m) r q new other h hg k kg = settled.offers_once old m r q new other h hg k kg
 event_once calls settled old (event.Take g) r q new other h hg k kg =
@@ -203,7 +203,7 @@ pub record OneReplay {C : Type 0} (new other : C) (shown more : List Shown) : Ty
   pub carriers : new ≡ other
   pub lines : shown ≡ more
 
-pub replays_once : {C : Type 0} (calls : Calls C) → AreSettled calls → (old : C) (events : List Event) (new other : C) (shown more : List Shown) → Replays calls old events new shown → Replays calls old events other more → OneReplay new other shown more
+pub replays_once : {C : Type 0} (calls : Calls C) → AreSettled calls → (old : C) (events : List RawEvent) (new other : C) (shown more : List Shown) → Replays calls old events new shown → Replays calls old events other more → OneReplay new other shown more
 replays_once calls settled old events new other shown more h k =
     let one = in_turn_once (Happens calls) (happens_once calls settled) old events new other shown more h k in
     record { carriers = one.0; lines = one.1 }
@@ -232,7 +232,7 @@ own_first before middle after halted whole more shown own r mid end ahead first 
 nothing_first : (shown own : List Shown) → own ≡ [] → StartsWith shown own
 nothing_first shown own none = record { rest = shown; parts = ap (λ xs. xs ++ shown) (sym none) }
 
-stop_first : {C : Type 0} (calls : Calls C) → AreSettled calls → (old : C) (e : Event) (new other : C) (own shown : List Shown) → StopsIn calls old e new own → Happens calls old e other shown → StartsWith shown own
+stop_first : {C : Type 0} (calls : Calls C) → AreSettled calls → (old : C) (e : RawEvent) (new other : C) (own shown : List Shown) → StopsIn calls old e new own → Happens calls old e other shown → StartsWith shown own
 stop_first calls settled old (event.Out m) new other own shown h k = nothing_first shown own (h.no_lines tt)
 stop_first calls settled old (event.Take g) new other own shown h k = nothing_first shown own (h.no_lines tt)
 stop_first calls settled old (event.Net n) new other own shown h k = nothing_first shown own (h.no_lines tt)
@@ -243,7 +243,7 @@ stop_first calls settled old (event.Calm rounds) new other own shown h k = by h.
       let ahead : Grows calls new other = (steady_rounds calls settled rounds).first old stopped.0 k.outcome new other stopped.1 stopped.2 k.gives k.goes_on in
       own_first (calls.seen old).log (calls.seen new).log (calls.seen other).log h.crossings k.crossings ahead.crossings shown own k.outcome h.grown k.grown ahead.grown h.lines k.lines
 
-pub first_part : {C : Type 0} (calls : Calls C) → AreSettled calls → (old : C) (events : List Event) (new last : C) (part whole : List Shown) → EndsIn calls StopsIn old events new part → Replays calls old events last whole → StartsWith whole part
+pub first_part : {C : Type 0} (calls : Calls C) → AreSettled calls → (old : C) (events : List RawEvent) (new last : C) (part whole : List Shown) → EndsIn calls StopsIn old events new part → Replays calls old events last whole → StartsWith whole part
 first_part calls settled old events new last part whole h k =
     let front = ends_front (Happens calls) (StopsIn calls) (happens_once calls settled)
     (λ from e stopped other own shown stops happens. let starts = stop_first calls settled from e stopped other own shown stops happens in (starts.rest, starts.parts)) old events new last part whole h k in

@@ -1,9 +1,9 @@
 -- What a replay shows, call by call.
-use Rattle.std.proofs.Common.{◌≡◌, ℕ, ◌<◌, ◌+◌, Bool, true, false, List, [], ◌∷◌, ◌++◌, length, get_or, take, drop, reverse, Option, Some, None, Result, Ok, Err, if◌then◌else◌, inl, inr, refl, sym, ap, ◌∙◌, subst, arith, IfErr, OnOk, IsOk}
+use Rattle.std.proofs.Common.{◌≡◌, ℕ, ◌<◌, ◌+◌, Bool, true, false, List, [], ◌∷◌, ◌++◌, length, get_or, take, drop, reverse, Option, Some, None, Result, Ok, Err, if◌then◌else◌, inr, refl, sym, ap, ◌∙◌, subst, arith, IfErr, OnOk, IsOk}
 use Rattle.std.proofs.lemmas.List.{append_assoc, append-nil, take_more, drop_all, drop_at, reverse-append, reverse-reverse}
 use Rattle.std.proofs.lemmas.Bool.{false≢true}
 use Rattle.std.proofs.lemmas.Grind.{flat_map-append}
-use Rattle.std.specs.Io.KnownBytes.{Appends, Keeps}
+use Rattle.std.specs.Io.KnownBytes.{Appends}
 use Rattle.leader1822.specs.Host.{Host}
 use Rattle.leader1822.specs.Printed.{crossing_text}
 use Rattle.leader1822.specs.Calls.{Seen, halted, is_memory, crossing_of, step_crossings, ShowsRefusal, ShowsCrossings, ShowsOffer, ShowsRound, ShowsStep, ShowsTake}
@@ -13,20 +13,19 @@ use Rattle.leader1822.specs.declared.crossing.Crossing.TheVariants as crossing
 use Rattle.leader1822.specs.declared.crossing.Inbound.{Inbound}
 use Rattle.leader1822.specs.declared.event.NetEvent.{NetEvent}
 use Rattle.leader1822.specs.declared.message.HostMessage.{HostMessage}
-use Rattle.script.specs.Input.{ended}
+use Rattle.script.specs.Input.{ended_line}
 use Rattle.replay.specs.Output.{Shown, Writes, Crossed, Refused, shown_text, output, crossings_of, shown_crossings, shown_refusal}
 use Rattle.replay.specs.Steps.{EventEnds, Grew, PrintEnds}
-use Rattle.replay.specs.Replay.{BeginsWith, Calls, EventGives, GoesOn, Halts, Happens, StopsIn, outcome_of}
+use Rattle.replay.specs.Replay.{BeginsWith, Calls, EventGives, GoesOn, Halts, Happens, outcome_of}
 use Rattle.replay.specs.declared.events.ReplayFault.{ReplayFault}
 use Rattle.replay.specs.declared.events.ReplayFault.TheVariants as fault
-use Rattle.script.specs.declared.event.Event.{Event}
-use Rattle.script.specs.declared.event.Event.TheVariants as event
+use Rattle.script.specs.declared.event.RawEvent.{RawEvent}
 
 same_seen : (b : Bool) (s : Seen) → Grew s (if b then halted s else s)
 same_seen true s = record { crossings = []; grown = refl; hosts = refl }
 same_seen false s = record { crossings = []; grown = refl; hosts = refl }
 
-pub grew_refusal : (old : Seen) (e : CarrierFault) (new : Seen) → ShowsRefusal old e new → Grew old new
+grew_refusal : (old : Seen) (e : CarrierFault) (new : Seen) → ShowsRefusal old e new → Grew old new
 grew_refusal old e new h = subst (Grew old) (sym h.shown) (same_seen (is_memory e) old)
 
 grew_by : (old : Seen) (crossings : List Crossing) (new : Seen) → ShowsCrossings old crossings new → Grew old new
@@ -80,25 +79,20 @@ pub appends_none : (a : Option (List ℕ)) → Appends a a []
 appends_none None = tt
 appends_none (Some a) = sym (append-nil a)
 
-pub keeps_none : (a b : Option (List ℕ)) → Appends a b [] → Keeps a b
-keeps_none None b h = tt
-keeps_none (Some a) None h = absurd h
-keeps_none (Some a) (Some b) h = h ∙ append-nil a
-
 pub output-append : (xs ys : List Shown) → output (xs ++ ys) ≡ output xs ++ output ys
-output-append xs ys = flat_map-append (λ s. ended (shown_text s)) xs ys
+output-append xs ys = flat_map-append (λ s. ended_line (shown_text s)) xs ys
 
 pub shown_crossings-append : (xs ys : List Crossing) → shown_crossings (xs ++ ys) ≡ shown_crossings xs ++ shown_crossings ys
 shown_crossings-append [] ys = refl
 shown_crossings-append (x ∷ xs) ys = ap (λ zs. Crossed x ∷ zs) (shown_crossings-append xs ys)
 
 -- one more crossing is written
-pub crossing_written : (a b c : Option (List ℕ)) (crossings : List Crossing) (i : ℕ) (d : Crossing) → i < length crossings → Appends a b (output (shown_crossings (take i crossings))) → Appends b c (ended (crossing_text (get_or crossings i d))) → Appends a c (output (shown_crossings (take (i + 1) crossings)))
+pub crossing_written : (a b c : Option (List ℕ)) (crossings : List Crossing) (i : ℕ) (d : Crossing) → i < length crossings → Appends a b (output (shown_crossings (take i crossings))) → Appends b c (ended_line (crossing_text (get_or crossings i d))) → Appends a c (output (shown_crossings (take (i + 1) crossings)))
 crossing_written a b c crossings i d h before now =
-    let all : output (shown_crossings (take (i + 1) crossings)) ≡ output (shown_crossings (take i crossings)) ++ ended (crossing_text (get_or crossings i d)) =
+    let all : output (shown_crossings (take (i + 1) crossings)) ≡ output (shown_crossings (take i crossings)) ++ ended_line (crossing_text (get_or crossings i d)) =
     ap (λ cs. output (shown_crossings cs)) (take_more crossings i d h) ∙ ap output (shown_crossings-append (take i crossings) (get_or crossings i d ∷ [])) ∙ output-append (shown_crossings (take i crossings)) (Crossed (get_or crossings i d) ∷ [])
-    ∙ ap (λ xs. output (shown_crossings (take i crossings)) ++ xs) (append-nil (ended (crossing_text (get_or crossings i d)))) in
-    subst (Appends a c) (sym all) (appends_more a b c (output (shown_crossings (take i crossings))) (ended (crossing_text (get_or crossings i d))) before now)
+    ∙ ap (λ xs. output (shown_crossings (take i crossings)) ++ xs) (append-nil (ended_line (crossing_text (get_or crossings i d)))) in
+    subst (Appends a c) (sym all) (appends_more a b c (output (shown_crossings (take i crossings))) (ended_line (crossing_text (get_or crossings i d))) before now)
 
 pub crossings_of-append : (xs ys : List Shown) → crossings_of (xs ++ ys) ≡ crossings_of xs ++ crossings_of ys
 crossings_of-append [] ys = refl
@@ -142,7 +136,7 @@ none_gained old new before after same was is =
     ap (drop (length before)) one ∙ drop_all (length before) before (omega arith)
 
 -- one event: its crossings, and then its refusal
-event_writes : {C : Type 0} (calls : Calls C) (old new : C) (e : Event) (r : Result (Unit {0}) CarrierFault) (crossings : List Crossing) (a b : Option (List ℕ))
+event_writes : {C : Type 0} (calls : Calls C) (old new : C) (e : RawEvent) (r : Result (Unit {0}) CarrierFault) (crossings : List Crossing) (a b : Option (List ℕ))
     → EventGives calls old e r new → GoesOn r → (calls.seen new).log ≡ reverse crossings ++ (calls.seen old).log → Appends a b (output (shown_crossings crossings ++ shown_refusal r)) → Writes (Happens calls old e new) a b
 event_writes calls old new e r crossings a b gives goes_on grown written = record {
   shown = shown_crossings crossings ++ shown_refusal r;
@@ -155,7 +149,7 @@ halted_log (Ok done) old new halts same = absurd halts
 halted_log (Err f) old new halts same = same
 
 -- an event of one call ends as its printing ends
-pub call_ends : {C : Type 0} (calls : Calls C) (old new : C) (e : Event) (r : Result (Unit {0}) CarrierFault) (printed : Result (Unit {0}) ReplayFault) (before after : List Crossing) (a b : Option (List ℕ))
+pub call_ends : {C : Type 0} (calls : Calls C) (old new : C) (e : RawEvent) (r : Result (Unit {0}) CarrierFault) (printed : Result (Unit {0}) ReplayFault) (before after : List Crossing) (a b : Option (List ℕ))
     → BeginsWith e e → EventGives calls old e r new → Grew (calls.seen old) (calls.seen new) → IfErr r (λ f. (calls.seen new).log ≡ (calls.seen old).log)
     → before ≡ reverse (calls.seen old).log → after ≡ reverse (calls.seen new).log
     → PrintEnds (drop (length before) after) r printed a b → EventEnds calls old e printed new a b
@@ -171,16 +165,8 @@ call_ends calls old new e r (Err fault.OutOfMemory) before after a b whole gives
 call_ends calls old new e r (Err fault.CannotWrite) before after a b whole gives grew same was is h =
     ([], record { processed = e; begins = whole; outcome = r; gives = gives; unknown = refl })
 
--- memory ran out before the message was offered
-pub not_copied : {C : Type 0} (calls : Calls C) (old : C) (m : HostMessage) (a : Option (List ℕ)) → Writes (StopsIn calls old (event.Out m) old) a a
-not_copied calls old m a = record {
-  shown = [];
-  is_shown = record { runs_out = inl (tt, refl); crossings = []; grown = refl; lines = refl; no_lines = λ one. refl };
-  written = appends_none a;
-}
-
 -- what an event shows is what its log gained
-pub happens_shows : {C : Type 0} (calls : Calls C) (old new : C) (e : Event) (shown : List Shown) → Happens calls old e new shown
+pub happens_shows : {C : Type 0} (calls : Calls C) (old new : C) (e : RawEvent) (shown : List Shown) → Happens calls old e new shown
     → (calls.seen new).log ≡ reverse (crossings_of shown) ++ (calls.seen old).log
 happens_shows calls old new e shown h =
     let all : crossings_of shown ≡ h.crossings =
@@ -191,10 +177,6 @@ happens_shows calls old new e shown h =
 pub on_ok : {T E P Q : Type 0} (r : Result T E) → (P → Q) → OnOk r P → OnOk r Q
 on_ok (Ok x) f p = f p
 on_ok (Err e) f p = tt
-
-pub on_both : {T E P Q R : Type 0} (r : Result T E) → (P → Q → R) → OnOk r P → OnOk r Q → OnOk r R
-on_both (Ok x) f p q = f p q
-on_both (Err e) f p q = tt
 
 pub was_ok : {T E P : Type 0} (r : Result T E) → IsOk r → OnOk r P → P
 was_ok (Ok x) o h = h

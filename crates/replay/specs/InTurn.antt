@@ -2,7 +2,7 @@
 use Rattle.std.specs.Prelude.{◌≡◌, ℕ, List, [], ◌∷◌, ◌++◌, Option}
 use Rattle.std.specs.List.{flat_map}
 use Rattle.std.specs.Io.KnownBytes.{Appends}
-use Rattle.script.specs.Input.{ended}
+use Rattle.script.specs.Input.{ended_line}
 
 -- how an event may go: what there is before it, the event, what there is after it, and the lines that it shows
 abbrev pub Happening : Type 0 → Type 0 → Type 0 → Type 1
@@ -29,7 +29,7 @@ pub record EndsInTurn {S E L : Type 0} (Happens Goes : Happening S E L) (old : S
 
 -- lines, each with its end
 abbrev pub text_of : {L : Type 0} → (L → List ℕ) → List L → List ℕ
-text_of text shown = flat_map (λ s. ended (text s)) shown
+text_of text shown = flat_map (λ s. ended_line (text s)) shown
 
 -- some lines were written, and this holds of them
 pub record WritesLines {L : Type 0} (text : L → List ℕ) (IsShown : List L → Type 0) (before after : Option (List ℕ)) : Type 0 where

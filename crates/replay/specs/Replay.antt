@@ -9,8 +9,8 @@ use Rattle.leader1822.specs.declared.HostMessage.{HostMessage}
 use Rattle.leader1822.specs.declared.crossing.Crossing.{Crossing}
 use Rattle.replay.specs.InTurn.{EndsInTurn, InTurn}
 use Rattle.replay.specs.Output.{Shown, shown_crossings, shown_refusal}
-use Rattle.script.specs.declared.event.Event.{Event}
-use Rattle.script.specs.declared.event.Event.TheVariants as event
+use Rattle.script.specs.declared.event.RawEvent.{RawEvent}
+use Rattle.script.specs.declared.event.RawEvent.TheVariants as event
 
 -- what a carrier shows, and how each of its calls may go
 pub record Calls (C : Type 0) : Type 1 where
@@ -27,14 +27,14 @@ outcome_of (Err e) = Err e
 
 -- ---- a calm: rounds in which the network is left alone, and its hosts take what comes
 
--- how a part of a calm may go: the carrier before, the want of memory that ended it, if any did, and the carrier after
+-- how a part of a calm may go: the carrier before, the fault that ended it, if memory ran out, and the carrier after
 abbrev pub Part : Type 0 → Type 1
 Part C = C → Result (Unit {0}) CarrierFault → C → Type 0
 
 abbrev pub Nothing : {C : Type 0} → Part C
 Nothing old r new = (r ≡ Ok tt) × (new ≡ old)
 
--- where the first part ended for want of memory, the next one doesn't begin
+-- where memory ran out in the first part, the next one doesn't begin
 abbrev pub Onward : {C : Type 0} → Part C → Result (Unit {0}) CarrierFault → Part C
 Onward Next (Ok done) mid r new = Next mid r new
 Onward Next (Err f) mid r new = (r ≡ Err f) × (new ≡ mid)
@@ -43,7 +43,7 @@ Onward Next (Err f) mid r new = (r ≡ Err f) × (new ≡ mid)
 abbrev pub Chain : {C : Type 0} → Part C → Part C → Part C
 Chain {C} First Next old r new = (first : Result (Unit {0}) CarrierFault) × (mid : C) × First old first mid × Onward Next first mid r new
 
--- a calm passes over a refusal and doesn't tell it, but want of memory ends it
+-- a calm continues after a refusal and doesn't tell it, but ends when memory runs out
 abbrev pub calmly : Result (Unit {0}) CarrierFault → Result (Unit {0}) CarrierFault
 calmly (Ok done) = Ok done
 calmly (Err f) = if is_halt f || is_memory f then Err f else Ok tt
@@ -82,24 +82,24 @@ Rounds {C} calls (suc times) old r new = Chain (Round calls) (Rounds calls times
 -- ---- events
 
 -- how one event may go: the carrier before, the event, whether it was refused, and the carrier after
-abbrev pub EventGives : {C : Type 0} → Calls C → C → Event → Result (Unit {0}) CarrierFault → C → Type 0
+abbrev pub EventGives : {C : Type 0} → Calls C → C → RawEvent → Result (Unit {0}) CarrierFault → C → Type 0
 EventGives calls old (event.Out m) r new = calls.offers old m r new
 EventGives calls old (event.Take h) r new = (answer : Result (Option Inbound) CarrierFault) × calls.takes old h answer new × (r ≡ outcome_of answer)
 EventGives calls old (event.Net e) r new = calls.steps old e r new
 EventGives calls old (event.Calm rounds) r new = Rounds calls rounds old r new
 
--- a replay goes on after an event that was done and after one that was refused, but not after want of memory
+-- a replay continues after an event that was done and after one that was refused, but not after memory has run out
 abbrev pub GoesOn : Result (Unit {0}) CarrierFault → Type 0
 GoesOn (Ok done) = Unit {0}
 GoesOn (Err f) = (is_halt f || is_memory f) ≡ false
 
--- want of memory has stopped the carrier, now or earlier
+-- running out of memory has stopped the carrier, now or earlier
 abbrev pub Halts : Result (Unit {0}) CarrierFault → Type 0
 Halts (Ok done) = ⊥
 Halts (Err f) = (is_halt f || is_memory f) ≡ true
 
 -- one event happens, refused or not, and shows what crossed, oldest first, and then its refusal
-pub record Happens {C : Type 0} (calls : Calls C) (old : C) (e : Event) (new : C) (shown : List Shown) : Type 0 where
+pub record Happens {C : Type 0} (calls : Calls C) (old : C) (e : RawEvent) (new : C) (shown : List Shown) : Type 0 where
   pub outcome : Result (Unit {0}) CarrierFault
   pub gives : EventGives calls old e outcome new
   pub goes_on : GoesOn outcome
@@ -108,13 +108,13 @@ pub record Happens {C : Type 0} (calls : Calls C) (old : C) (e : Event) (new : C
   pub lines : shown ≡ shown_crossings crossings ++ shown_refusal outcome
 
 -- the events happen one after the other, and show these lines together
-abbrev pub Replays : {C : Type 0} → Calls C → C → List Event → C → List Shown → Type 0
+abbrev pub Replays : {C : Type 0} → Calls C → C → List RawEvent → C → List Shown → Type 0
 Replays calls old events new shown = InTurn (Happens calls) old events new shown
 
 -- ---- a replay that ends early, in one of its events
 
 -- the first rounds of a calm; any other event is whole
-abbrev pub BeginsWith : Event → Event → Type 0
+abbrev pub BeginsWith : RawEvent → RawEvent → Type 0
 BeginsWith (event.Out m) first = first ≡ event.Out m
 BeginsWith (event.Take h) first = first ≡ event.Take h
 BeginsWith (event.Net e) first = first ≡ event.Net e
@@ -122,33 +122,33 @@ BeginsWith (event.Calm rounds) first = (fewer : ℕ) × (first ≡ event.Calm fe
 
 -- the carrier processed this event, or the first rounds of a calm, and may have answered anything; how much was written of
 -- what it showed the writer alone knows
-pub record MayDo {C : Type 0} (calls : Calls C) (old : C) (e : Event) (new : C) (shown : List Shown) : Type 0 where
-  pub processed : Event
+pub record MayDo {C : Type 0} (calls : Calls C) (old : C) (e : RawEvent) (new : C) (shown : List Shown) : Type 0 where
+  pub processed : RawEvent
   pub begins : BeginsWith e processed
   pub outcome : Result (Unit {0}) CarrierFault
   pub gives : EventGives calls old processed outcome new
   pub unknown : shown ≡ []
 
 -- a message is copied before it is offered; no other event takes memory outside of the carrier
-abbrev pub IsCopied : Event → Type 0
+abbrev pub IsCopied : RawEvent → Type 0
 IsCopied (event.Out m) = Unit {0}
 IsCopied (event.Take h) = ⊥
 IsCopied (event.Net e) = ⊥
 IsCopied (event.Calm rounds) = ⊥
 
 -- a calm is many calls of the carrier, and any other event one
-abbrev pub IsOneCall : Event → Type 0
+abbrev pub IsOneCall : RawEvent → Type 0
 IsOneCall (event.Out m) = Unit {0}
 IsOneCall (event.Take h) = Unit {0}
 IsOneCall (event.Net e) = Unit {0}
 IsOneCall (event.Calm rounds) = ⊥
 
 -- memory ran out: before the carrier saw the event's message, or in the carrier, which stopped
-abbrev pub RunsOut : {C : Type 0} → Calls C → C → Event → C → Type 0
+abbrev pub RunsOut : {C : Type 0} → Calls C → C → RawEvent → C → Type 0
 RunsOut calls old e new = (IsCopied e × (new ≡ old)) ⊎ ((outcome : Result (Unit {0}) CarrierFault) × EventGives calls old e outcome new × Halts outcome)
 
 -- memory ran out at this event: a calm shows what crossed before that, and a single call nothing
-pub record StopsIn {C : Type 0} (calls : Calls C) (old : C) (e : Event) (new : C) (shown : List Shown) : Type 0 where
+pub record StopsIn {C : Type 0} (calls : Calls C) (old : C) (e : RawEvent) (new : C) (shown : List Shown) : Type 0 where
   pub runs_out : RunsOut calls old e new
   pub crossings : List Crossing
   pub grown : (calls.seen new).log ≡ reverse crossings ++ (calls.seen old).log
@@ -156,5 +156,5 @@ pub record StopsIn {C : Type 0} (calls : Calls C) (old : C) (e : Event) (new : C
   pub no_lines : IsOneCall e → shown ≡ []
 
 -- the events before the last one happened, the last one went as is said, and these lines were shown by then
-abbrev pub EndsIn : {C : Type 0} → Calls C → (Calls C → C → Event → C → List Shown → Type 0) → C → List Event → C → List Shown → Type 0
+abbrev pub EndsIn : {C : Type 0} → Calls C → (Calls C → C → RawEvent → C → List Shown → Type 0) → C → List RawEvent → C → List Shown → Type 0
 EndsIn calls Goes old events new shown = EndsInTurn (Happens calls) (Goes calls) old events new shown

@@ -18,7 +18,7 @@ pub record Grows {C : Type 0} (calls : Calls C) (old new : C) : Type 0 where
   pub crossings : List Crossing
   pub grown : (calls.seen new).log ≡ crossings ++ (calls.seen old).log
 
--- each call has one answer and leaves one carrier, want of memory aside; a taking only adds crossings, and none where it is
+-- each call has one answer and leaves one carrier, unless memory runs out; a taking only adds crossings, and none where it is
 -- refused; a quiet round adds none
 pub record AreSettled {C : Type 0} (calls : Calls C) : Type 0 where
   pub offers_once : (old : C) (m : HostMessage) (r q : Result (Unit {0}) CarrierFault) (new other : C)

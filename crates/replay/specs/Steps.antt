@@ -8,7 +8,7 @@ use Rattle.replay.specs.Output.{Shown, Writes, output, shown_crossings, shown_re
 use Rattle.replay.specs.Replay.{Calls, GoesOn, Halts, Happens, MayDo, StopsIn}
 use Rattle.replay.specs.declared.events.ReplayFault.{ReplayFault}
 use Rattle.replay.specs.declared.events.ReplayFault.TheVariants as fault
-use Rattle.script.specs.declared.event.Event.{Event}
+use Rattle.script.specs.declared.event.RawEvent.{RawEvent}
 
 -- a log that only grew, between the same hosts
 pub record Grew (old new : Seen) : Type 0 where
@@ -23,7 +23,7 @@ PrintEnds crossings outcome (Err fault.OutOfMemory) before after = Halts outcome
 PrintEnds crossings outcome (Err fault.CannotWrite) before after = Unit {0}
 
 -- how the replay of one event may end
-abbrev pub EventEnds : {C : Type 0} → Calls C → C → Event → Result (Unit {0}) ReplayFault → C → Option (List ℕ) → Option (List ℕ) → Type 0
+abbrev pub EventEnds : {C : Type 0} → Calls C → C → RawEvent → Result (Unit {0}) ReplayFault → C → Option (List ℕ) → Option (List ℕ) → Type 0
 EventEnds {C} calls old e (Ok done) new before after = Writes (Happens calls old e new) before after
 EventEnds {C} calls old e (Err fault.OutOfMemory) new before after = Writes (StopsIn calls old e new) before after
 EventEnds {C} calls old e (Err fault.CannotWrite) new before after = (shown : List Shown) × MayDo calls old e new shown

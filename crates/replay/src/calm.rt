@@ -3,7 +3,7 @@
 ghost use Rattle.std.specs.Prelude.{◌≡◌, Err, IfErr};
 ghost use Rattle.replay.specs.Replay.{Halts, Round, Takings, calmly};
 ghost use Rattle.replay.specs.Steps.{EventEnds, Grew};
-ghost use Rattle.script.specs.declared.event.Event.TheVariants as script_event;
+ghost use Rattle.script.specs.declared.event.RawEvent.TheVariants as script_event;
 
 use crate::events::ReplayFault;
 use crate::print::print_outcome;
@@ -64,7 +64,7 @@ fn take_all<C: Carrier>(carrier: &mut C, host: HostAddr) -> Result<(), CarrierFa
     Ok(())
 }
 
-/// What a calm tells of an outcome: it passes over a refusal, but not over want of memory.
+/// What a calm tells of an outcome: it continues after a refusal, but not after memory has run out.
 fn calmly(outcome: Result<(), CarrierFault>) -> Result<(), CarrierFault>
     ensures calm { result ≡ calmly outcome }
     ensures told { IfErr result (λ f. Halts (Err f)) }

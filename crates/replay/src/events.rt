@@ -5,12 +5,12 @@ ghost use Rattle.leader1822.specs.Messages.{SafeMessages};
 ghost use Rattle.replay.specs.Replay.{EndsIn, MayDo, Replays, StopsIn, outcome_of};
 ghost use Rattle.replay.specs.Output.{Shown, Writes};
 ghost use Rattle.replay.specs.Steps.{EventEnds};
-ghost use Rattle.script.specs.declared.event.Event.TheVariants as script_event;
+ghost use Rattle.script.specs.declared.event.RawEvent.TheVariants as script_event;
 
 use crate::calm::replay_calm;
 use crate::print::print_outcome;
 use leader1822::{Carrier, CarrierFault, HostAddr, HostMessage, Inbound, NetEvent};
-use script::Event;
+use script::RawEvent;
 use std::alloc::AllocError;
 use std::io::Write;
 use thiserror::Error;
@@ -54,7 +54,7 @@ impl From<AllocError> for ReplayFault {
 ///   wrote.
 pub fn replay_events<C: Carrier, W: Write>(
     carrier: &mut C,
-    events: &[Event],
+    events: &[RawEvent],
     writer: &mut W,
 ) -> Result<(), ReplayFault>
     // each RFNM belongs to one message, which was taken exactly once
@@ -72,6 +72,7 @@ pub fn replay_events<C: Carrier, W: Write>(
     ensures cannot_write { result ≡ Err ReplayFault.CannotWrite → (shown : List Shown) × EndsIn (record { seen = C.seen; offers = C.offers; takes = C.takes; steps = C.steps; rounds = C.rounds }) MayDo carrier.old events.now carrier.new shown }
 {
     let outcome = replay_in_turn(carrier, events, writer);
+    // for the proof alone: the log is a run of the mailboxes, and of each run the promise about messages is proved
     let _log = carrier.log();
     outcome
 }
@@ -79,7 +80,7 @@ pub fn replay_events<C: Carrier, W: Write>(
 /// Hands each event to the carrier in order, and prints what it shows.
 fn replay_in_turn<C: Carrier, W: Write>(
     carrier: &mut C,
-    events: &[Event],
+    events: &[RawEvent],
     writer: &mut W,
 ) -> Result<(), ReplayFault>
     ensures replayed { OnOk result (Writes (Replays (record { seen = C.seen; offers = C.offers; takes = C.takes; steps = C.steps; rounds = C.rounds }) carrier.old events.now carrier.new) (W.contents writer.old) (W.contents writer.new)) }
@@ -95,16 +96,16 @@ fn replay_in_turn<C: Carrier, W: Write>(
 /// Hands one event to the carrier, and prints what it shows.
 fn replay_event<C: Carrier, W: Write>(
     carrier: &mut C,
-    event: &Event,
+    event: &RawEvent,
     writer: &mut W,
 ) -> Result<(), ReplayFault>
     ensures { EventEnds (record { seen = C.seen; offers = C.offers; takes = C.takes; steps = C.steps; rounds = C.rounds }) carrier.old event.now result carrier.new (W.contents writer.old) (W.contents writer.new) }
 {
     match event {
-        Event::Out(message) => replay_offer(carrier, message.clone()?, writer),
-        Event::Take(host) => replay_taking(carrier, *host, writer),
-        Event::Net(event) => replay_step(carrier, *event, writer),
-        Event::Calm(rounds) => replay_calm(carrier, *rounds, writer),
+        RawEvent::Out(message) => replay_offer(carrier, message.clone()?, writer),
+        RawEvent::Take(host) => replay_taking(carrier, *host, writer),
+        RawEvent::Net(event) => replay_step(carrier, *event, writer),
+        RawEvent::Calm(rounds) => replay_calm(carrier, *rounds, writer),
     }
 }
 

@@ -13,7 +13,7 @@ use std::io::Write;
 
 /// Prints the crossings of a log after its first `booked` ones, and then the refusal, if there is one.
 ///
-/// Errors: `CannotWrite`; `OutOfMemory` where the refusal is want of memory. The crossings are printed first.
+/// Errors: `CannotWrite`; `OutOfMemory` where memory ran out in the event. The crossings are printed first.
 pub(crate) fn print_outcome<W: Write>(
     log: &[Crossing],
     booked: usize,
@@ -63,7 +63,7 @@ fn print_refusal<W: Write>(
     check_written(writeln!(writer, "refused {name}"))
 }
 
-/// The name of a refusal. `None` where want of memory has stopped the carrier.
+/// The name of a refusal. `None` where running out of memory has stopped the carrier.
 pub fn carrier_refusal(fault: CarrierFault) -> Option<&'static str>
     ensures name { IfSome result (λ name. name.now ≡ fault_name fault) }
     ensures goes_on { IsSome result ↔ GoesOn (Err fault) }

@@ -5,7 +5,7 @@ use Rattle.leader1822.specs.declared.crossing.Answer.{Answer}
 use Rattle.leader1822.specs.declared.crossing.Answer.TheVariants as answer
 use Rattle.reset_law.specs.Phases.{Phase, Closed, Want, Gone, Heard, Ready, rfnm_phase, failed_phase}
 use Rattle.reset_law.specs.Boxes.{Box, Empty, Waiting, Taken, Fits, at_link}
-use Rattle.reset_law.specs.Pairs.{Kind, Rst, Rrp, Plain, Pair, IsFree, told}
+use Rattle.reset_law.specs.Pairs.{Kind, Rst, Rrp, Plain, Pair, IsFreePair, pair_answered}
 use Rattle.reset_law.specs.Monitor.{Monitor, OnItsWay, Received, monitor_told, monitor_failed}
 use Rattle.reset_law.specs.Invariant.{kind_in, is_signal, Outstanding, InGone, InHeard, InReady, Shape, Sound}
 use Rattle.reset_law.proofs.Links.{at, boxed_at}
@@ -72,14 +72,14 @@ no_plain_cleared l out other k plain = elim (at out l None k) [
   | inr t ↦ other k (sym t.1 ∙ plain)
 ]
 
-free_cleared : (l : ℕ) (out : ℕ → Option Kind) → IsFree out → IsFree (at_link out l None)
+free_cleared : (l : ℕ) (out : ℕ → Option Kind) → IsFreePair out → IsFreePair (at_link out l None)
 free_cleared l out free k = elim (at out l None k) [
   | inl t ↦ t.1
   | inr t ↦ (t.1 ∙ free k)
 ]
 
 -- where nothing else is outstanding beside link 0, nothing is after that
-free_alone : (out : ℕ → Option Kind) → ((k : ℕ) → k ≢ 0 → out k ≡ None) → IsFree (at_link out 0 None)
+free_alone : (out : ℕ → Option Kind) → ((k : ℕ) → k ≢ 0 → out k ≡ None) → IsFreePair (at_link out 0 None)
 free_alone out alone k = elim (at out 0 None k) [
   | inl t ↦ t.1
   | inr t ↦ (t.1 ∙ alone k t.0)
@@ -124,7 +124,7 @@ shape_rfnm_gone true m begun out alone s =
     }
 shape_rfnm_gone false m begun out alone s =
     let stage : m.stage ≡ OnItsWay = s.stage in
-    let free : IsFree (at_link out 0 None) = free_alone out (alone (ap is_signal s.rst)) in
+    let free : IsFreePair (at_link out 0 None) = free_alone out (alone (ap is_signal s.rst)) in
     record {
       pending = s.pending;
       silent = s.silent;
@@ -249,12 +249,12 @@ sound_failed l p m boxes there s =
       shape = shape_failed p.phase p.owed l m p.begun p.out o.owes o.alone there s.shape;
     }
 
-pub sound_told : (l : ℕ) (k : Answer) (p : Pair) (m : Monitor) (boxes : ℕ → Box) → Fits k (boxes l) → Sound p m boxes → Sound (told l k p) (monitor_told l k m) (at_link boxes l Empty)
+pub sound_told : (l : ℕ) (k : Answer) (p : Pair) (m : Monitor) (boxes : ℕ → Box) → Fits k (boxes l) → Sound p m boxes → Sound (pair_answered l k p) (monitor_told l k m) (at_link boxes l Empty)
 sound_told l k p m boxes fits s =
     let o : Outstanding p m boxes = s.outstanding in
     by k (ap is_some (o.boxed l) ∙ fits_some k (boxes l) fits)
   where
-    by : (k : Answer) → is_some (p.out l) ≡ true → Sound (told l k p) (monitor_told l k m) (at_link boxes l Empty)
+    by : (k : Answer) → is_some (p.out l) ≡ true → Sound (pair_answered l k p) (monitor_told l k m) (at_link boxes l Empty)
     by answer.Rfnm there =
         let o : Outstanding p m boxes = s.outstanding in
         record {

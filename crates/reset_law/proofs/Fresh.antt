@@ -2,11 +2,11 @@
 use Rattle.std.proofs.Common.{◌≡◌, ◌≢◌, ◌⊎◌, ℕ, ◌+◌, ◌<◌, Bool, true, false, ◌&&◌, List, [], ◌∷◌, Option, Some, None, refl, ap, sym, subst, ◌∙◌, inl, inr, if◌then◌else◌, ◌==◌, arith}
 use Rattle.leader1822.specs.Host.{Host, same_host}
 use Rattle.leader1822.specs.declared.crossing.Answer.TheVariants as answer
-use Rattle.leader1822.proofs.Lists.{and_true}
+use Rattle.leader1822.proofs.lemmas.{and_true}
 use Rattle.reset_law.specs.Phases.{Phase, Closed, Want, Gone, Heard, Ready, taken_phase, failed_phase}
 use Rattle.reset_law.specs.Events.{Message, Reset, Reply, Other, Event, Contact, Out, In, Told, Down, Up, Idle, Part, Call, Send, Take, Hear, Begin, when, are, place}
 use Rattle.reset_law.specs.Boxes.{Box, Empty, Waiting, Taken, WaitsWith, Post, Put, Fetch, Clear, ClearAll, fetched, posted, at_link, boxes}
-use Rattle.reset_law.specs.Pairs.{Pair, kind_of, moved, pair}
+use Rattle.reset_law.specs.Pairs.{Pair, kind_of, pair_moved, pair}
 use Rattle.reset_law.specs.Monitor.{Monitor, IsAfter, monitored, monitor, counts}
 use Rattle.reset_law.specs.Invariant.{kind_in, is_signal, InReady, Shape, Sound}
 use Rattle.reset_law.specs.Runs.{IsRun, WaitsAfterClean}
@@ -87,7 +87,7 @@ IsPlain (Take Reset) = ⊥
 IsPlain (Take Reply) = ⊥
 IsPlain part = Unit {0}
 
-plain_ready : (part : Part) (here : ℕ) (p : Pair) (m : Monitor) → IsPlain part → (moved (Some part) p).phase ≡ Ready → (p.phase ≡ Ready) × ((monitored here (Some part) m).clean ≡ m.clean)
+plain_ready : (part : Part) (here : ℕ) (p : Pair) (m : Monitor) → IsPlain part → (pair_moved (Some part) p).phase ≡ Ready → (p.phase ≡ Ready) × ((monitored here (Some part) m).clean ≡ m.clean)
 plain_ready Call here p m plain e = absurd (cc)
 plain_ready (Send l Reset) here p m plain e = absurd (cc)
 plain_ready (Send l Reply) here p m plain e = (e, refl)
@@ -100,7 +100,7 @@ plain_ready (Hear l answer.Dead) here p m plain e = (ready_after_failure p.phase
 plain_ready (Hear l answer.Incomplete) here p m plain e = (ready_after_failure p.phase p.owed e, refl)
 plain_ready Begin here p m plain e = absurd (cc)
 
-pub still_ready : (t : Bool) (part : Part) (here : ℕ) (p : Pair) (m : Monitor) → IsPlain part → (moved (when t part) p).phase ≡ Ready → (p.phase ≡ Ready) × ((monitored here (when t part) m).clean ≡ m.clean)
+pub still_ready : (t : Bool) (part : Part) (here : ℕ) (p : Pair) (m : Monitor) → IsPlain part → (pair_moved (when t part) p).phase ≡ Ready → (p.phase ≡ Ready) × ((monitored here (when t part) m).clean ≡ m.clean)
 still_ready true part here p m plain e = plain_ready part here p m plain e
 still_ready false part here p m plain e = (e, refl)
 
@@ -168,7 +168,7 @@ pub turned_about : (a b x y : Host) → are b a y x ≡ true → are a b x y ≡
 turned_about a b x y e = let t : (same_host b y ≡ true) × (same_host a x ≡ true) = and_true (same_host b y) (same_host a x) e in both_true (same_host a x) (same_host b y) t.1 t.0
 
 -- a host that is ready after a message is taken was ready before, with the same clean point, or took a signal
-pub ready_taken : (t : Bool) (message : Message) (here : ℕ) (p : Pair) (m : Monitor) → (moved (when t (Take message)) p).phase ≡ Ready
+pub ready_taken : (t : Bool) (message : Message) (here : ℕ) (p : Pair) (m : Monitor) → (pair_moved (when t (Take message)) p).phase ≡ Ready
     → ((t ≡ true) × (is_signal (Some (kind_of message)) ≡ true)) ⊎ ((p.phase ≡ Ready) × ((monitored here (when t (Take message)) m).clean ≡ m.clean))
 ready_taken true Reset here p m e = inl (refl, refl)
 ready_taken true Reply here p m e = inl (refl, refl)
@@ -183,7 +183,7 @@ point_before hosts events r a b ready =
     let i : InReady (monitor a b events) (pair a b events).out = subst S ready s.shape in
     subst (λ (o : Option ℕ). IsAfter (place events) o) (sym i.clean) (subst (λ (o : Option ℕ). IsPast (place events) o) i.clean (past_run events a b))
 
-pub fresh_run : (hosts : List Host) (events : List Event) → IsRun hosts events → (a b : Host) → (pair b a events).phase ≡ Ready → IsFresh (boxes a b events) (monitor b a events).clean
+fresh_run : (hosts : List Host) (events : List Event) → IsRun hosts events → (a b : Host) → (pair b a events).phase ≡ Ready → IsFresh (boxes a b events) (monitor b a events).clean
 fresh_run hosts [] r a b ready = absurd (cc)
 fresh_run hosts (Contact x y ∷ events) r a b ready =
     let t : ((pair b a events).phase ≡ Ready) × ((monitor b a (Contact x y ∷ events)).clean ≡ (monitor b a events).clean) = still_ready (are b a x y) Call (place events) (pair b a events) (monitor b a events) tt ready in

@@ -6,7 +6,7 @@ use Rattle.leader1822.specs.declared.crossing.Answer.TheVariants as answer
 use Rattle.reset_law.specs.Phases.{Phase, Closed, Want, Gone, Heard, Ready, reset_phase}
 use Rattle.reset_law.specs.Events.{Message, Reset, Reply, Other, Event, Contact, Out, In, Told, Down, Up, Idle, Call, Send, Take, Hear, Begin, when, are, place, is_up}
 use Rattle.reset_law.specs.Boxes.{Box, Empty, Waiting, Taken, WaitsWith, Post, Put, Fetch, Clear, ClearAll, fetched, posted, at_link, boxes}
-use Rattle.reset_law.specs.Pairs.{Kind, Rst, Plain, kind_of, Pair, MaySend, moved, pair}
+use Rattle.reset_law.specs.Pairs.{Kind, Rst, Plain, kind_of, Pair, MaySend, pair_moved, pair}
 use Rattle.reset_law.specs.Monitor.{Monitor, monitor}
 use Rattle.reset_law.specs.Invariant.{kind_in, is_signal, Outstanding, Shape, Sound}
 use Rattle.reset_law.specs.Runs.{IsRun}
@@ -39,7 +39,7 @@ unready (Gone early) m begun out s rst = ((λ e. absurd (cc)), (λ e. absurd (cc
 unready Heard m begun out s rst = absurd (s.no_rst rst)
 unready Ready m begun out s rst = absurd (s.no_rst rst)
 
-taken_either : (t : Bool) (p : Pair) → (moved (when t (Take Reset)) p).phase ≡ Ready → (p.phase ≡ Ready) ⊎ (reset_phase p.phase ≡ Ready)
+taken_either : (t : Bool) (p : Pair) → (pair_moved (when t (Take Reset)) p).phase ≡ Ready → (p.phase ≡ Ready) ⊎ (reset_phase p.phase ≡ Ready)
 taken_either true p e = inr e
 taken_either false p e = inl e
 
@@ -126,27 +126,27 @@ plain_alone bs l m alone waits signal k e =
 
 -- ---- who owes an RRP to a host that is ready has said nothing to it
 
-owed_sent : (t : Bool) (l : ℕ) (m : Message) (p : Pair) → (moved (when t (Send l m)) p).owed ≡ true → (p.owed ≡ true) × ((t ≡ true) → m ≢ Reply)
+owed_sent : (t : Bool) (l : ℕ) (m : Message) (p : Pair) → (pair_moved (when t (Send l m)) p).owed ≡ true → (p.owed ≡ true) × ((t ≡ true) → m ≢ Reply)
 owed_sent true l Reset p e = (e, (λ t same. absurd (cc)))
 owed_sent true l Reply p e = absurd (cc)
 owed_sent true l (Other text) p e = (e, (λ t same. absurd (cc)))
 owed_sent false l m p e = (e, (λ t. absurd (cc)))
 
-owed_told : (t : Bool) (l : ℕ) (k : Answer) (p : Pair) → (moved (when t (Hear l k)) p).owed ≡ true → p.owed ≡ true
+owed_told : (t : Bool) (l : ℕ) (k : Answer) (p : Pair) → (pair_moved (when t (Hear l k)) p).owed ≡ true → p.owed ≡ true
 owed_told true l answer.Rfnm p e = e
 owed_told true l answer.Dead p e = e
 owed_told true l answer.Incomplete p e = e
 owed_told false l k p e = e
 
-owed_call : (t : Bool) (p : Pair) → (moved (when t Call) p).owed ≡ true → p.owed ≡ true
+owed_call : (t : Bool) (p : Pair) → (pair_moved (when t Call) p).owed ≡ true → p.owed ≡ true
 owed_call true p e = e
 owed_call false p e = e
 
-owed_begin : (t : Bool) (p : Pair) → (moved (when t Begin) p).owed ≡ true → p.owed ≡ true
+owed_begin : (t : Bool) (p : Pair) → (pair_moved (when t Begin) p).owed ≡ true → p.owed ≡ true
 owed_begin true p e = absurd (cc)
 owed_begin false p e = e
 
-owed_taken : (t : Bool) (m : Message) (p : Pair) → (moved (when t (Take m)) p).owed ≡ true → (p.owed ≡ true) ⊎ ((t ≡ true) × (m ≡ Reset))
+owed_taken : (t : Bool) (m : Message) (p : Pair) → (pair_moved (when t (Take m)) p).owed ≡ true → (p.owed ≡ true) ⊎ ((t ≡ true) × (m ≡ Reset))
 owed_taken true Reset p e = inr (refl, refl)
 owed_taken true Reply p e = inl e
 owed_taken true (Other text) p e = inl e

@@ -6,3 +6,4 @@ pub mod Fresh
 pub mod Joint
 pub mod Words
 pub mod Stays
+pub mod lemmas

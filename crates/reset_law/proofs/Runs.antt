@@ -1,11 +1,11 @@
 -- The invariant over whole lists of events.
 use Rattle.std.proofs.Common.{◌≡◌, ◌≢◌, ℕ, Bool, true, false, List, [], ◌∷◌, Some, None, refl, ap, sym, subst, ◌∙◌, inl, inr, if◌then◌else◌}
 use Rattle.leader1822.specs.Host.{Host, same_host}
-use Rattle.leader1822.proofs.Lists.{and_true, same_host-true}
+use Rattle.leader1822.proofs.lemmas.{and_true, same_host-true}
 use Rattle.reset_law.specs.Phases.{Closed, Ready}
 use Rattle.reset_law.specs.Events.{Message, Reset, Reply, Other, Event, Contact, Out, In, Told, Down, Up, Idle, Part, Call, Send, Take, Hear, Begin, when, are, place, is_up}
 use Rattle.reset_law.specs.Boxes.{Box, Empty, Waiting, Taken, Post, Put, Fetch, Clear, ClearAll, Fits, fetched, posted, at_link, boxes}
-use Rattle.reset_law.specs.Pairs.{Pair, MaySend, opening_pair, moved, pair}
+use Rattle.reset_law.specs.Pairs.{Pair, MaySend, opening_pair, pair_moved, pair}
 use Rattle.reset_law.specs.Monitor.{Monitor, monitored, monitor}
 use Rattle.reset_law.specs.Invariant.{kind_in, is_signal, Outstanding, Sound}
 use Rattle.reset_law.specs.Runs.{IsRun}
@@ -22,14 +22,10 @@ carry P a b x y same h =
     let first : P a y = subst (λ (v : Host). P v y) (sym (same_host-true a x t.0)) h in
     subst (λ (w : Host). P a w) (sym (same_host-true b y t.1)) first
 
--- the same, for one host
-pub carry_one : (P : Host → Type 0) (a x : Host) → same_host a x ≡ true → P x → P a
-carry_one P a x same h = subst P (sym (same_host-true a x same)) h
-
 -- ---- one event more
 
-chosen_part : (t : Bool) (part : Part) (here : ℕ) (p : Pair) (m : Monitor) (bs : ℕ → Box) → (t ≡ true → Sound (moved (Some part) p) (monitored here (Some part) m) bs) → Sound p m bs
-    → Sound (moved (when t part) p) (monitored here (when t part) m) bs
+chosen_part : (t : Bool) (part : Part) (here : ℕ) (p : Pair) (m : Monitor) (bs : ℕ → Box) → (t ≡ true → Sound (pair_moved (Some part) p) (monitored here (Some part) m) bs) → Sound p m bs
+    → Sound (pair_moved (when t part) p) (monitored here (when t part) m) bs
 chosen_part true part here p m bs f h = f refl
 chosen_part false part here p m bs f h = h
 
@@ -39,8 +35,8 @@ chosen_post true post here p m bs f h = f refl
 chosen_post false post here p m bs f h = h
 
 chosen_both : (t : Bool) (part : Part) (post : Post) (here : ℕ) (p : Pair) (m : Monitor) (bs : ℕ → Box)
-    → (t ≡ true → Sound (moved (Some part) p) (monitored here (Some part) m) (posted here (Some post) bs)) → Sound p m bs
-    → Sound (moved (when t part) p) (monitored here (when t part) m) (posted here (when t post) bs)
+    → (t ≡ true → Sound (pair_moved (Some part) p) (monitored here (Some part) m) (posted here (Some post) bs)) → Sound p m bs
+    → Sound (pair_moved (when t part) p) (monitored here (when t part) m) (posted here (when t post) bs)
 chosen_both true part post here p m bs f h = f refl
 chosen_both false part post here p m bs f h = h
 
@@ -49,22 +45,22 @@ stayed_up : (t up : Bool) → (if t then false else up) ≡ true → (t ≡ fals
 stayed_up true up h = absurd (cc)
 stayed_up false up h = (refl, h)
 
-not_stopped : (t : Bool) (here : ℕ) (p : Pair) (m : Monitor) (bs : ℕ → Box) → t ≡ false → Sound p m bs → Sound (moved (when t Begin) p) (monitored here (when t Begin) m) bs
+not_stopped : (t : Bool) (here : ℕ) (p : Pair) (m : Monitor) (bs : ℕ → Box) → t ≡ false → Sound p m bs → Sound (pair_moved (when t Begin) p) (monitored here (when t Begin) m) bs
 not_stopped true here p m bs no_stop h = absurd (cc)
 not_stopped false here p m bs no_stop h = h
 
 came_up : (t up : Bool) (here : ℕ) (p : Pair) (m : Monitor) (bs : ℕ → Box) → (if t then true else up) ≡ true → (up ≡ true → Sound p m bs)
-    → Sound (moved (when t Begin) p) (monitored here (when t Begin) m) (posted here (when t ClearAll) bs)
+    → Sound (pair_moved (when t Begin) p) (monitored here (when t Begin) m) (posted here (when t ClearAll) bs)
 came_up true up here p m bs e h = sound_opening
 came_up false up here p m bs e h = h e
 
 sound_sent : (here l : ℕ) (message : Message) (p : Pair) (m : Monitor) (bs : ℕ → Box) → MaySend p l message → Sound p m bs
-    → Sound (moved (Some (Send l message)) p) (monitored here (Some (Send l message)) m) (posted here (Some (Put l message)) bs)
+    → Sound (pair_moved (Some (Send l message)) p) (monitored here (Some (Send l message)) m) (posted here (Some (Put l message)) bs)
 sound_sent here l Reset p m bs may s = sound_reset_sent here l p m bs may s
 sound_sent here l Reply p m bs may s = sound_reply_sent here l p m bs may s
 sound_sent here l (Other text) p m bs may s = sound_other_sent here l text p m bs may s
 
-sound_taken : (here : ℕ) (message : Message) (p : Pair) (m : Monitor) (bs : ℕ → Box) → Sound p m bs → Sound (moved (Some (Take message)) p) (monitored here (Some (Take message)) m) bs
+sound_taken : (here : ℕ) (message : Message) (p : Pair) (m : Monitor) (bs : ℕ → Box) → Sound p m bs → Sound (pair_moved (Some (Take message)) p) (monitored here (Some (Take message)) m) bs
 sound_taken here Reset p m bs s = sound_reset_taken here p m bs s
 sound_taken here Reply p m bs s = sound_reply_taken here p m bs s
 sound_taken here (Other text) p m bs s = s
@@ -170,7 +166,7 @@ alone_run hosts (Out x y l message ∷ events) r a b =
     (λ e.
     (let up : is_up hosts a events ≡ true = carry (λ v w. is_up hosts v events ≡ true) a b x y e r.0.0 in
     let may : MaySend (pair a b events) l message = carry (λ v w. MaySend (pair v w events) l message) a b x y e r.1 in
-    sound_alone (moved (Some (Send l message)) (pair a b events)) (monitored (place events) (Some (Send l message)) (monitor a b events)) (posted (place events) (Some (Put l message)) (boxes a b events))
+    sound_alone (pair_moved (Some (Send l message)) (pair a b events)) (monitored (place events) (Some (Send l message)) (monitor a b events)) (posted (place events) (Some (Put l message)) (boxes a b events))
     (sound_sent (place events) l message (pair a b events) (monitor a b events) (boxes a b events) may (sound_run hosts events r.2 a b up))))
     (alone_run hosts events r.2 a b)
 alone_run hosts (In x y l message ∷ events) r a b =
@@ -185,11 +181,11 @@ alone_run hosts (Idle ∷ events) r a b = alone_run hosts events r.2 a b
 
 -- ---- a host that is down is as at the opening
 
-opened_if : (t : Bool) (part : Part) (p : Pair) → (t ≡ true → ⊥) → p ≡ opening_pair → moved (when t part) p ≡ opening_pair
+opened_if : (t : Bool) (part : Part) (p : Pair) → (t ≡ true → ⊥) → p ≡ opening_pair → pair_moved (when t part) p ≡ opening_pair
 opened_if true part p no_part e = absurd (no_part refl)
 opened_if false part p no_part e = e
 
-stopped_pair : (t up : Bool) (p : Pair) → (if t then false else up) ≡ false → (up ≡ false → p ≡ opening_pair) → moved (when t Begin) p ≡ opening_pair
+stopped_pair : (t up : Bool) (p : Pair) → (if t then false else up) ≡ false → (up ≡ false → p ≡ opening_pair) → pair_moved (when t Begin) p ≡ opening_pair
 stopped_pair true up p e h = refl
 stopped_pair false up p e h = h e
 

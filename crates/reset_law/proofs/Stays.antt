@@ -1,18 +1,18 @@
--- What a host heard of its peer while it stays is a front of what that peer said.
+-- What a host heard of its peer while it stays is a prefix of what that peer said.
 use Rattle.std.proofs.Common.{◌≡◌, ◌≢◌, ◌⊎◌, ℕ, Bool, true, false, not, ◌&&◌, ◌||◌, List, [], ◌∷◌, ◌++◌, refl, ap, sym, subst, ◌∙◌, inl, inr, if◌then◌else◌, ◌==◌, eq-eqb, append-nil}
 use Rattle.std.proofs.lemmas.Bool.{eqb-true}
 use Rattle.leader1822.specs.Host.{Host, same_host}
 use Rattle.leader1822.specs.declared.crossing.Answer.{Answer}
 use Rattle.leader1822.specs.declared.crossing.Answer.TheVariants as answer
-use Rattle.leader1822.proofs.Lists.{and_true}
+use Rattle.leader1822.proofs.lemmas.{and_true}
 use Rattle.reset_law.specs.Phases.{Phase, Closed, Want, Gone, Heard, Ready, reply_phase, failed_phase}
 use Rattle.reset_law.specs.Events.{Message, Reset, Reply, Other, Event, Contact, Out, In, Told, Down, Up, Idle, Call, Send, Take, Hear, Begin, when, are, place, is_up}
 use Rattle.reset_law.specs.Boxes.{Box, Empty, Waiting, Taken, WaitsWith, Fits, Put, Fetch, Clear, ClearAll, fetched, posted, at_link, boxes}
-use Rattle.reset_law.specs.Pairs.{Pair, MaySend, moved, pair}
+use Rattle.reset_law.specs.Pairs.{Pair, MaySend, pair_moved, pair}
 use Rattle.reset_law.specs.Monitor.{monitor}
 use Rattle.reset_law.specs.Invariant.{InHeard, Shape, Sound}
 use Rattle.reset_law.specs.Runs.{IsRun}
-use Rattle.reset_law.specs.Stays.{is_ready, ready, joint, begins, takes_reset, stays, said_by, heard_by, said, heard, waits_in, IsFront}
+use Rattle.reset_law.specs.Stays.{is_ready, ready, joint, begins, takes_reset, stays, said_by, heard_by, said_in_stay, heard_in_stay, waits_in, IsFront}
 use Rattle.reset_law.proofs.Links.{at}
 use Rattle.reset_law.proofs.Runs.{carry, sound_run, alone_run, ready_up}
 use Rattle.reset_law.proofs.Fresh.{turned_about, still_ready, ready_taken}
@@ -21,7 +21,7 @@ use Rattle.reset_law.proofs.Words.{Tells, tells_as, tells_all, front_longer, tel
 
 -- ---- how a stay begins
 
-reply_from : (t : Bool) (p : Pair) → (moved (when t (Take Reply)) p).phase ≡ Ready → (p.phase ≡ Heard) ⊎ (p.phase ≡ Ready)
+reply_from : (t : Bool) (p : Pair) → (pair_moved (when t (Take Reply)) p).phase ≡ Ready → (p.phase ≡ Heard) ⊎ (p.phase ≡ Ready)
 reply_from true p e = by p.phase e where
   by : (ph : Phase) → reply_phase ph ≡ Ready → (ph ≡ Heard) ⊎ (ph ≡ Ready)
   by Closed e = absurd (cc)
@@ -212,7 +212,7 @@ failed_owed Ready true e = refl
 failed_owed Ready false e = absurd (cc)
 
 -- a host that is told of a message stays ready by RFNM, or because it owes an RRP
-told_owed : (t : Bool) (k : ℕ) (kind : Answer) (p : Pair) → t ≡ true → (moved (when t (Hear k kind)) p).phase ≡ Ready → (kind ≡ answer.Rfnm) ⊎ (p.owed ≡ true)
+told_owed : (t : Bool) (k : ℕ) (kind : Answer) (p : Pair) → t ≡ true → (pair_moved (when t (Hear k kind)) p).phase ≡ Ready → (kind ≡ answer.Rfnm) ⊎ (p.owed ≡ true)
 told_owed true k answer.Rfnm p same e = inl refl
 told_owed true k answer.Dead p same e = inr (failed_owed p.phase p.owed e)
 told_owed true k answer.Incomplete p same e = inr (failed_owed p.phase p.owed e)
@@ -245,17 +245,17 @@ record Stay (hosts : List Host) (events : List Event) (a b : Host) (all' : Bool)
 
 abbrev HeardNow : Host → Host → ℕ → Event → List Event → Bool → Type 0
 HeardNow a b l e events all' =
-    Tells all' ((heard a b l events ++ heard_by a b l e) ++ waits_in (boxes a b (e ∷ events) l)) (said a b l events ++ (if stays a b events then said_by a b l e else []))
+    Tells all' ((heard_in_stay a b l events ++ heard_by a b l e) ++ waits_in (boxes a b (e ∷ events) l)) (said_in_stay a b l events ++ (if stays a b events then said_by a b l e else []))
 
 abbrev HeardBefore : Host → Host → ℕ → List Event → Type 0
-HeardBefore a b l events = Tells (joint a b events) (heard a b l events ++ waits_in (boxes a b events l)) (said a b l events)
+HeardBefore a b l events = Tells (joint a b events) (heard_in_stay a b l events ++ waits_in (boxes a b events l)) (said_in_stay a b l events)
 
 -- where nothing is said and nothing heard
 quiet : (hosts : List Host) (e : Event) (events : List Event) (a b : Host) (l : ℕ) (all' : Bool) → Stay hosts events a b all' → heard_by a b l e ≡ [] → said_by a b l e ≡ []
     → (waits_in (boxes a b (e ∷ events) l) ≡ waits_in (boxes a b events l)) ⊎ ((waits_in (boxes a b (e ∷ events) l) ≡ []) × (all' ≡ true → waits_in (boxes a b events l) ≡ []))
     → HeardBefore a b l events → HeardNow a b l e events all'
 quiet hosts e events a b l all' s none silent waits h =
-    tells_quiet (joint a b events) all' (stays a b events) (heard a b l events) (waits_in (boxes a b events l)) (waits_in (boxes a b (e ∷ events) l)) (said a b l events) (heard_by a b l e) (said_by a b l e)
+    tells_quiet (joint a b events) all' (stays a b events) (heard_in_stay a b l events) (waits_in (boxes a b events l)) (waits_in (boxes a b (e ∷ events) l)) (said_in_stay a b l events) (heard_by a b l e) (said_by a b l e)
     none silent s.before waits h
 
 out_step : (hosts : List Host) (x y : Host) (k : ℕ) (text : List Bool) (events : List Event) (a b : Host) (l : ℕ) (all' : Bool) → Stay hosts events a b all' → IsRun hosts (Out x y k (Other text) ∷ events)
@@ -274,7 +274,7 @@ out_step hosts x y k text events a b l all' s r h true same =
     let grows : stays a b events ≡ true = joint_stays hosts events s.run a b together in
     elim (at (boxes a b events) k (Waiting (place events) (Other text)) l) [
       | inl u ↦
-          tells_said (joint a b events) all' (stays a b events) (heard a b l events) (waits_in (boxes a b events l)) (waits_in (boxes a b (Out x y k (Other text) ∷ events) l)) (said a b l events)
+          tells_said (joint a b events) all' (stays a b events) (heard_in_stay a b l events) (waits_in (boxes a b events l)) (waits_in (boxes a b (Out x y k (Other text) ∷ events) l)) (said_in_stay a b l events)
           (heard_by a b l (Out x y k (Other text))) (said_by a b l (Out x y k (Other text))) (text ∷ []) refl
           (on_link (are a b x y) (l == k) (text ∷ []) same (eq-eqb l k u.0))
           (ap (λ (j : ℕ). waits_in (boxes a b events j)) u.0 ∙ ap waits_in empty)
@@ -294,7 +294,7 @@ in_step hosts x y k text events a b l all' s r h true same =
     let waits : WaitsWith (boxes a b events k) (Other text) = carry (λ v w. WaitsWith (boxes v w events k) (Other text)) a b x y same r.0.1 in
     elim (at (boxes a b events) k (fetched (boxes a b events k)) l) [
       | inl u ↦
-          tells_heard (joint a b events) all' (stays a b events) (heard a b l events) (waits_in (boxes a b events l)) (waits_in (boxes a b (In x y k (Other text) ∷ events) l)) (said a b l events)
+          tells_heard (joint a b events) all' (stays a b events) (heard_in_stay a b l events) (waits_in (boxes a b events l)) (waits_in (boxes a b (In x y k (Other text) ∷ events) l)) (said_in_stay a b l events)
           (heard_by a b l (In x y k (Other text))) (said_by a b l (In x y k (Other text))) (text ∷ [])
           (on_link (are a b x y) (l == k) (text ∷ []) same (eq-eqb l k u.0))
           (ap (λ (j : ℕ). waits_in (boxes a b events j)) u.0 ∙ other_waits (boxes a b events k) text waits)
@@ -328,7 +328,7 @@ told_step hosts x y k kind events a b l s r true same =
       | inr u ↦ inl (ap waits_in (clear ∙ u.1))
     ]
 
-up_step : (t : Bool) (here l : ℕ) (p : Pair) (bs : ℕ → Box) → (waits_in (posted here (when t ClearAll) bs l) ≡ waits_in (bs l)) ⊎ ((waits_in (posted here (when t ClearAll) bs l) ≡ []) × ((moved (when t Begin) p).phase ≢ Ready))
+up_step : (t : Bool) (here l : ℕ) (p : Pair) (bs : ℕ → Box) → (waits_in (posted here (when t ClearAll) bs l) ≡ waits_in (bs l)) ⊎ ((waits_in (posted here (when t ClearAll) bs l) ≡ []) × ((pair_moved (when t Begin) p).phase ≢ Ready))
 up_step true here l p bs = inr (refl, λ e. absurd (cc))
 up_step false here l p bs = inl refl
 
@@ -380,19 +380,19 @@ stay_run hosts (e ∷ events) r a b l s = by (begins a b e events) refl (λ befo
   by : (t : Bool) → begins a b e events ≡ t → (stays b a events ≡ true → HeardBefore a b l events) → HeardBefore a b l (e ∷ events)
   by true begun rest =
       let none : waits_in (boxes a b (e ∷ events) l) ≡ [] = nothing_waits (boxes a b (e ∷ events) l) ((begin_quiet hosts e events r a b begun).0 l) in
-      let old : List (List Bool) = heard a b l events ++ (if stays b a events then heard_by a b l e else []) in
-      let spoken : List (List Bool) = said a b l events ++ (if stays a b events then said_by a b l e else []) in
-      tells_all (joint a b (e ∷ events)) (heard a b l (e ∷ events) ++ waits_in (boxes a b (e ∷ events) l)) (said a b l (e ∷ events))
+      let old : List (List Bool) = heard_in_stay a b l events ++ (if stays b a events then heard_by a b l e else []) in
+      let spoken : List (List Bool) = said_in_stay a b l events ++ (if stays a b events then said_by a b l e else []) in
+      tells_all (joint a b (e ∷ events)) (heard_in_stay a b l (e ∷ events) ++ waits_in (boxes a b (e ∷ events) l)) (said_in_stay a b l (e ∷ events))
       (ap (λ (v : List (List Bool)). v ++ waits_in (boxes a b (e ∷ events) l)) (anew (begins a b e events) old begun) ∙ none ∙ sym (anew (begins a b e events) spoken begun))
   by false same rest =
       let parts : (ready b a (e ∷ events) ≡ true) × (takes_reset b a e ≡ false) × (stays b a events ≡ true) =
       stays_parts (begins b a e events) (ready b a (e ∷ events)) (takes_reset b a e) (stays b a events) s (sym (begins_either a b e events) ∙ same) in
-      let old : List (List Bool) = heard a b l events ++ (if stays b a events then heard_by a b l e else []) in
-      let spoken : List (List Bool) = said a b l events ++ (if stays a b events then said_by a b l e else []) in
-      let more : heard a b l (e ∷ events) ≡ heard a b l events ++ heard_by a b l e =
-      goes_on (begins a b e events) old same ∙ ap (λ (t : Bool). heard a b l events ++ (if t then heard_by a b l e else [])) parts.2 in
-      tells_as (joint a b (e ∷ events)) ((heard a b l events ++ heard_by a b l e) ++ waits_in (boxes a b (e ∷ events) l)) (heard a b l (e ∷ events) ++ waits_in (boxes a b (e ∷ events) l))
-      spoken (said a b l (e ∷ events)) (ap (λ (v : List (List Bool)). v ++ waits_in (boxes a b (e ∷ events) l)) more) (goes_on (begins a b e events) spoken same)
+      let old : List (List Bool) = heard_in_stay a b l events ++ (if stays b a events then heard_by a b l e else []) in
+      let spoken : List (List Bool) = said_in_stay a b l events ++ (if stays a b events then said_by a b l e else []) in
+      let more : heard_in_stay a b l (e ∷ events) ≡ heard_in_stay a b l events ++ heard_by a b l e =
+      goes_on (begins a b e events) old same ∙ ap (λ (t : Bool). heard_in_stay a b l events ++ (if t then heard_by a b l e else [])) parts.2 in
+      tells_as (joint a b (e ∷ events)) ((heard_in_stay a b l events ++ heard_by a b l e) ++ waits_in (boxes a b (e ∷ events) l)) (heard_in_stay a b l (e ∷ events) ++ waits_in (boxes a b (e ∷ events) l))
+      spoken (said_in_stay a b l (e ∷ events)) (ap (λ (v : List (List Bool)). v ++ waits_in (boxes a b (e ∷ events) l)) more) (goes_on (begins a b e events) spoken same)
       (stay_step hosts e events a b l (record { run = r.2; stay = parts.2; before = were_joint (joint a b (e ∷ events)) (joint a b events) same }) r parts.1 (rest parts.2))
 
 -- what is heard was waiting
@@ -415,7 +415,7 @@ heard_waiting hosts (Up x) events r a b l = inl refl
 heard_waiting hosts Idle events r a b l = inl refl
 
 -- whoever has left meanwhile
-pub heard_front : (hosts : List Host) (events : List Event) → IsRun hosts events → (a b : Host) (l : ℕ) → IsFront (heard a b l events) (said a b l events)
+pub heard_front : (hosts : List Host) (events : List Event) → IsRun hosts events → (a b : Host) (l : ℕ) → IsFront (heard_in_stay a b l events) (said_in_stay a b l events)
 heard_front hosts [] r a b l = ([], refl)
 heard_front hosts (e ∷ events) r a b l = by (begins a b e events) refl (heard_front hosts events r.2 a b l) where
   new : List (List Bool)
@@ -424,16 +424,16 @@ heard_front hosts (e ∷ events) r a b l = by (begins a b e events) refl (heard_
   spoken : List (List Bool)
   spoken = if stays a b events then said_by a b l e else []
 
-  more : (t : Bool) → stays b a events ≡ t → IsFront (heard a b l events) (said a b l events) → IsFront (heard a b l events ++ (if t then heard_by a b l e else [])) (said a b l events)
-  more false left h = subst (λ (v : List (List Bool)). IsFront v (said a b l events)) (sym (append-nil (heard a b l events))) h
+  more : (t : Bool) → stays b a events ≡ t → IsFront (heard_in_stay a b l events) (said_in_stay a b l events) → IsFront (heard_in_stay a b l events ++ (if t then heard_by a b l e else [])) (said_in_stay a b l events)
+  more false left h = subst (λ (v : List (List Bool)). IsFront v (said_in_stay a b l events)) (sym (append-nil (heard_in_stay a b l events))) h
   more true stay h = elim (heard_waiting hosts e events r a b l) [
-    | inl none ↦ subst (λ (v : List (List Bool)). IsFront v (said a b l events)) (sym (ap (λ (v : List (List Bool)). heard a b l events ++ v) none ∙ append-nil (heard a b l events))) h
-    | inr waits ↦ subst (λ (v : List (List Bool)). IsFront v (said a b l events)) (sym (ap (λ (v : List (List Bool)). heard a b l events ++ v) waits)) (stay_run hosts events r.2 a b l stay).front
+    | inl none ↦ subst (λ (v : List (List Bool)). IsFront v (said_in_stay a b l events)) (sym (ap (λ (v : List (List Bool)). heard_in_stay a b l events ++ v) none ∙ append-nil (heard_in_stay a b l events))) h
+    | inr waits ↦ subst (λ (v : List (List Bool)). IsFront v (said_in_stay a b l events)) (sym (ap (λ (v : List (List Bool)). heard_in_stay a b l events ++ v) waits)) (stay_run hosts events r.2 a b l stay).front
   ]
 
-  by : (t : Bool) → begins a b e events ≡ t → IsFront (heard a b l events) (said a b l events) → IsFront (heard a b l (e ∷ events)) (said a b l (e ∷ events))
-  by true begun h = subst (λ (v : List (List Bool)). IsFront v (said a b l (e ∷ events))) (sym (anew (begins a b e events) (heard a b l events ++ new) begun)) (said a b l (e ∷ events), refl)
+  by : (t : Bool) → begins a b e events ≡ t → IsFront (heard_in_stay a b l events) (said_in_stay a b l events) → IsFront (heard_in_stay a b l (e ∷ events)) (said_in_stay a b l (e ∷ events))
+  by true begun h = subst (λ (v : List (List Bool)). IsFront v (said_in_stay a b l (e ∷ events))) (sym (anew (begins a b e events) (heard_in_stay a b l events ++ new) begun)) (said_in_stay a b l (e ∷ events), refl)
   by false same h =
-      let front : IsFront (heard a b l events ++ new) (said a b l events ++ spoken) = front_longer (heard a b l events ++ new) (said a b l events) spoken (more (stays b a events) refl h) in
-      subst (λ (v : List (List Bool)). IsFront v (said a b l (e ∷ events))) (sym (goes_on (begins a b e events) (heard a b l events ++ new) same))
-      (subst (λ (v : List (List Bool)). IsFront (heard a b l events ++ new) v) (sym (goes_on (begins a b e events) (said a b l events ++ spoken) same)) front)
+      let front : IsFront (heard_in_stay a b l events ++ new) (said_in_stay a b l events ++ spoken) = front_longer (heard_in_stay a b l events ++ new) (said_in_stay a b l events) spoken (more (stays b a events) refl h) in
+      subst (λ (v : List (List Bool)). IsFront v (said_in_stay a b l (e ∷ events))) (sym (goes_on (begins a b e events) (heard_in_stay a b l events ++ new) same))
+      (subst (λ (v : List (List Bool)). IsFront (heard_in_stay a b l events ++ new) v) (sym (goes_on (begins a b e events) (said_in_stay a b l events ++ spoken) same)) front)

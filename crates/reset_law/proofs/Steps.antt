@@ -4,7 +4,7 @@ use Rattle.std.specs.Prelude.{is_some}
 use Rattle.reset_law.specs.Phases.{Phase, Closed, Want, Gone, Heard, Ready, reset_phase, reply_phase}
 use Rattle.reset_law.specs.Events.{Reset, Reply, Other, Call}
 use Rattle.reset_law.specs.Boxes.{Box, Empty, Waiting, fetched, at_link}
-use Rattle.reset_law.specs.Pairs.{Kind, Rst, Rrp, Plain, Pair, IsFree, MaySend, sent, took, moved, opening_pair}
+use Rattle.reset_law.specs.Pairs.{Kind, Rst, Rrp, Plain, Pair, IsFreePair, MaySend, pair_sent, took, pair_moved, opening_pair}
 use Rattle.reset_law.specs.Monitor.{Monitor, OnItsWay, Received, monitor_sent, monitor_took, monitored, opening_monitor}
 use Rattle.reset_law.specs.Invariant.{is_signal, Outstanding, InWant, InReady, Shape, Sound}
 use Rattle.reset_law.proofs.Links.{at, boxed_at, boxed_fetched, no_signal}
@@ -26,7 +26,7 @@ sound_opening = record {
 
 -- ---- a contact
 
-pub sound_contact : (here : ℕ) (p : Pair) (m : Monitor) (boxes : ℕ → Box) → Sound p m boxes → Sound (moved (Some Call) p) (monitored here (Some Call) m) boxes
+pub sound_contact : (here : ℕ) (p : Pair) (m : Monitor) (boxes : ℕ → Box) → Sound p m boxes → Sound (pair_moved (Some Call) p) (monitored here (Some Call) m) boxes
 sound_contact here p m boxes s =
     let o : Outstanding p m boxes = s.outstanding in
     record {
@@ -37,13 +37,13 @@ sound_contact here p m boxes s =
 -- ---- messages that go out
 
 -- a signal goes out alone, on link 0
-signal_on_zero : (out : ℕ → Option Kind) (l : ℕ) (x : Option Kind) → l ≡ 0 → IsFree out → (k : ℕ) → is_signal (at_link out l x k) ≡ true → k ≡ 0
+signal_on_zero : (out : ℕ → Option Kind) (l : ℕ) (x : Option Kind) → l ≡ 0 → IsFreePair out → (k : ℕ) → is_signal (at_link out l x k) ≡ true → k ≡ 0
 signal_on_zero out l x zero free k signal = elim (at out l x k) [
   | inl t ↦ (t.0 ∙ zero)
   | inr t ↦ absurd (no_signal (at_link out l x k) (t.1 ∙ free k) signal)
 ]
 
-signal_alone : (out : ℕ → Option Kind) (l : ℕ) (x : Option Kind) → l ≡ 0 → IsFree out → (k : ℕ) → k ≢ 0 → at_link out l x k ≡ None
+signal_alone : (out : ℕ → Option Kind) (l : ℕ) (x : Option Kind) → l ≡ 0 → IsFreePair out → (k : ℕ) → k ≢ 0 → at_link out l x k ≡ None
 signal_alone out l x zero free k away = elim (at out l x k) [
   | inl t ↦ absurd (away (t.0 ∙ zero))
   | inr t ↦ (t.1 ∙ free k)
@@ -56,7 +56,7 @@ at_itself out l x zero = elim (at out l x 0) [
 ]
 
 pub sound_reset_sent : (here l : ℕ) (p : Pair) (m : Monitor) (boxes : ℕ → Box) → MaySend p l Reset → Sound p m boxes
-    → Sound (sent l Reset p) (monitor_sent l Reset m) (at_link boxes l (Waiting here Reset))
+    → Sound (pair_sent l Reset p) (monitor_sent l Reset m) (at_link boxes l (Waiting here Reset))
 sound_reset_sent here l p m boxes may s =
     let o : Outstanding p m boxes = s.outstanding in
     let S : Phase → Type 0 = λ ph. Shape ph m p.begun p.out in
@@ -75,7 +75,7 @@ sound_reset_sent here l p m boxes may s =
     }
 
 -- where an RRP goes out nothing is known of a pair that waits to reset
-shape_reply_sent : (ph : Phase) (l : ℕ) (m : Monitor) (begun : Bool) (out : ℕ → Option Kind) → l ≡ 0 → ph ≢ Want → IsFree out → Shape ph m begun out
+shape_reply_sent : (ph : Phase) (l : ℕ) (m : Monitor) (begun : Bool) (out : ℕ → Option Kind) → l ≡ 0 → ph ≢ Want → IsFreePair out → Shape ph m begun out
     → Shape ph (monitor_sent l Reply m) begun (at_link out l (Some Rrp))
 shape_reply_sent Closed l m begun out zero want free s = record { idle = s.idle; silent = s.silent; no_rst = λ rst. let both : Some Rrp ≡ Some Rst = sym (at_itself out l (Some Rrp) zero) ∙ rst in absurd (cc) }
 shape_reply_sent Want l m begun out zero want free s = absurd (want refl)
@@ -109,10 +109,10 @@ shape_reply_sent Ready l m begun out zero want free s =
     record { idle = s.idle; point = s.point; clean = s.clean; no_rst = λ rst. let both : Some Rrp ≡ Some Rst = sym (at_itself out l (Some Rrp) zero) ∙ rst in absurd (cc) }
 
 pub sound_reply_sent : (here l : ℕ) (p : Pair) (m : Monitor) (boxes : ℕ → Box) → MaySend p l Reply → Sound p m boxes
-    → Sound (sent l Reply p) (monitor_sent l Reply m) (at_link boxes l (Waiting here Reply))
+    → Sound (pair_sent l Reply p) (monitor_sent l Reply m) (at_link boxes l (Waiting here Reply))
 sound_reply_sent here l p m boxes may s =
     let o : Outstanding p m boxes = s.outstanding in
-    let free : IsFree p.out = may.3 in
+    let free : IsFreePair p.out = may.3 in
     record {
       outstanding = record {
         boxed = boxed_at p.out boxes l (Waiting here Reply) o.boxed;
@@ -138,7 +138,7 @@ no_signal_beside l p m boxes o no_rst none start signal = elim start [
   by (Some Plain) e signal begun = absurd (cc)
 
 pub sound_other_sent : (here l : ℕ) (text : List Bool) (p : Pair) (m : Monitor) (boxes : ℕ → Box) → MaySend p l (Other text) → Sound p m boxes
-    → Sound (sent l (Other text) p) (monitor_sent l (Other text) m) (at_link boxes l (Waiting here (Other text)))
+    → Sound (pair_sent l (Other text) p) (monitor_sent l (Other text) m) (at_link boxes l (Waiting here (Other text)))
 sound_other_sent here l text p m boxes may s =
     let o : Outstanding p m boxes = s.outstanding in
     let S : Phase → Type 0 = λ ph. Shape ph m p.begun p.out in

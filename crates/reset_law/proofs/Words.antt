@@ -15,7 +15,7 @@ tells_as all xs xs' ys ys' e f h =
 pub tells_all : (all : Bool) (xs ys : List (List Bool)) → xs ≡ ys → Tells all xs ys
 tells_all all xs ys e = record { front = ([], append-nil xs ∙ e); whole = λ t. e }
 
-pub front_shorter : (xs w ys : List (List Bool)) → IsFront (xs ++ w) ys → IsFront xs ys
+front_shorter : (xs w ys : List (List Bool)) → IsFront (xs ++ w) ys → IsFront xs ys
 front_shorter xs w ys f = (w ++ f.0, sym (append_assoc xs w f.0) ∙ f.1)
 
 pub front_longer : (xs ys z : List (List Bool)) → IsFront xs ys → IsFront xs (ys ++ z)

@@ -60,12 +60,12 @@ part_of a b Idle = None
 -- ---- hosts that are up
 
 -- whether a host is up after one event more
-abbrev pub turned : Host → Event → Bool → Bool
-turned h (Down x) up = if same_host h x then false else up
-turned h (Up x) up = if same_host h x then true else up
-turned h e up = up
+abbrev pub up_after_event : Host → Event → Bool → Bool
+up_after_event h (Down x) up = if same_host h x then false else up
+up_after_event h (Up x) up = if same_host h x then true else up
+up_after_event h e up = up
 
 -- whether a host is up: at first, every host of the network is
 abbrev pub is_up : List Host → Host → List Event → Bool
 is_up hosts h [] = is_host hosts h
-is_up hosts h (e ∷ events) = turned h e (is_up hosts h events)
+is_up hosts h (e ∷ events) = up_after_event h e (is_up hosts h events)

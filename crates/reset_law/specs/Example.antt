@@ -35,8 +35,8 @@ abbrev pub reset_beside : List Event
 reset_beside = In two one 0 Reset ∷ Out two one 0 Reset ∷ Contact two one ∷ message
 
 -- host `one` contacts anew while its message waits
-abbrev pub left : List Event
-left = Contact one two ∷ message
+abbrev pub left_events : List Event
+left_events = Contact one two ∷ message
 
 -- the same, with a message on a connection's link
 abbrev pub reset_beside_data : List Event

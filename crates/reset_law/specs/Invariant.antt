@@ -2,7 +2,7 @@
 use Rattle.std.specs.Prelude.{◌≡◌, ◌≢◌, ◌⊎◌, ℕ, Bool, true, false, Option, Some, None, is_some}
 use Rattle.reset_law.specs.Phases.{Phase, Closed, Want, Gone, Heard, Ready}
 use Rattle.reset_law.specs.Boxes.{Box, Empty, Waiting, Taken}
-use Rattle.reset_law.specs.Pairs.{Kind, Rst, Rrp, Plain, kind_of, Pair, IsFree}
+use Rattle.reset_law.specs.Pairs.{Kind, Rst, Rrp, Plain, kind_of, Pair, IsFreePair}
 use Rattle.reset_law.specs.Monitor.{Monitor, Unsent, OnItsWay, Received}
 
 -- what is outstanding by a box
@@ -38,7 +38,7 @@ pub record InWant (m : Monitor) (begun : Bool) (out : ℕ → Option Kind) : Typ
   pub pending : m.pending ≡ true
   pub silent : begun ≡ false
   pub none_after : (k : ℕ) → m.after k ≡ false
-  pub stage : (m.stage ≡ Unsent) ⊎ ((m.stage ≡ Received) × (m.early ≡ true) × IsFree out)
+  pub stage : (m.stage ≡ Unsent) ⊎ ((m.stage ≡ Received) × (m.early ≡ true) × IsFreePair out)
 
 pub record InGone (remembered : Bool) (m : Monitor) (begun : Bool) (out : ℕ → Option Kind) : Type 0 where
   pub pending : m.pending ≡ true

@@ -29,10 +29,10 @@ pub record Pair : Type 0 where
 abbrev pub opening_pair : Pair
 opening_pair = record { phase = Closed; owed = false; begun = false; out = λ k. None }
 
-abbrev pub sent : ℕ → Message → Pair → Pair
-sent l Reset p = record p { phase = Gone false; out = at_link p.out l (Some Rst) }
-sent l Reply p = record p { owed = false; out = at_link p.out l (Some Rrp) }
-sent l (Other text) p = record p { begun = true; out = at_link p.out l (Some Plain) }
+abbrev pub pair_sent : ℕ → Message → Pair → Pair
+pair_sent l Reset p = record p { phase = Gone false; out = at_link p.out l (Some Rst) }
+pair_sent l Reply p = record p { owed = false; out = at_link p.out l (Some Rrp) }
+pair_sent l (Other text) p = record p { begun = true; out = at_link p.out l (Some Plain) }
 
 abbrev pub took : Message → Pair → Pair
 took Reset p = record p { phase = reset_phase p.phase; owed = true; begun = false }
@@ -42,32 +42,32 @@ took (Other text) p = p
 abbrev pub failed : ℕ → Pair → Pair
 failed l p = record { phase = failed_phase p.phase p.owed; owed = p.owed; begun = if p.owed then p.begun else false; out = at_link p.out l None }
 
-abbrev pub told : ℕ → Answer → Pair → Pair
-told l answer.Rfnm p = record p { phase = rfnm_phase l p.phase; out = at_link p.out l None }
-told l answer.Dead p = failed l p
-told l answer.Incomplete p = failed l p
+abbrev pub pair_answered : ℕ → Answer → Pair → Pair
+pair_answered l answer.Rfnm p = record p { phase = rfnm_phase l p.phase; out = at_link p.out l None }
+pair_answered l answer.Dead p = failed l p
+pair_answered l answer.Incomplete p = failed l p
 
-abbrev pub moved : Option Part → Pair → Pair
-moved None p = p
-moved (Some Call) p = record p { phase = Want; begun = false }
-moved (Some (Send l m)) p = sent l m p
-moved (Some (Take m)) p = took m p
-moved (Some (Hear l k)) p = told l k p
-moved (Some Begin) p = opening_pair
+abbrev pub pair_moved : Option Part → Pair → Pair
+pair_moved None p = p
+pair_moved (Some Call) p = record p { phase = Want; begun = false }
+pair_moved (Some (Send l m)) p = pair_sent l m p
+pair_moved (Some (Take m)) p = took m p
+pair_moved (Some (Hear l k)) p = pair_answered l k p
+pair_moved (Some Begin) p = opening_pair
 
 -- host `a`'s side of the pair with `b`
 abbrev pub pair : Host → Host → List Event → Pair
 pair a b [] = opening_pair
-pair a b (e ∷ events) = moved (part_of a b e) (pair a b events)
+pair a b (e ∷ events) = pair_moved (part_of a b e) (pair a b events)
 
 -- ---- what a host does by itself
 
-abbrev pub IsFree : (ℕ → Option Kind) → Type 0
-IsFree out = (k : ℕ) → out k ≡ None
+abbrev pub IsFreePair : (ℕ → Option Kind) → Type 0
+IsFreePair out = (k : ℕ) → out k ≡ None
 
 -- RST and RRP go alone, on link 0, the RST first. Nothing else goes while one of them waits, and nothing on a connection's
 -- link before a request went out
 abbrev pub MaySend : Pair → ℕ → Message → Type 0
-MaySend p l Reset = (l ≡ 0) × (p.phase ≡ Want) × IsFree p.out
-MaySend p l Reply = (l ≡ 0) × (p.owed ≡ true) × (p.phase ≢ Want) × IsFree p.out
+MaySend p l Reset = (l ≡ 0) × (p.phase ≡ Want) × IsFreePair p.out
+MaySend p l Reply = (l ≡ 0) × (p.owed ≡ true) × (p.phase ≢ Want) × IsFreePair p.out
 MaySend p l (Other text) = (p.phase ≡ Ready) × (p.owed ≡ false) × (p.out l ≡ None) × ((l ≡ 0) ⊎ (p.begun ≡ true))

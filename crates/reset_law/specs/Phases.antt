@@ -6,7 +6,7 @@ pub data Phase : Type 0 where
   Closed : Phase
   -- a contact is asked for, and its RST hasn't gone out
   Want : Phase
-  -- the RST is on its way; an RRP that came in the meantime is remembered
+  -- the RST is in transit; an RRP that came in the meantime is remembered
   Gone : (early : Bool) → Phase
   -- the peer has taken the RST, and its RRP is awaited
   Heard : Phase
@@ -34,7 +34,7 @@ taken_phase p = p
 abbrev pub rfnm_phase : ℕ → Phase → Phase
 rfnm_phase link p = if link == 0 then taken_phase p else p
 
--- a failure closes a pair, but for one that waits to reset, and while an RRP is owed; the failure of an RST always does
+-- a failure closes a pair, except for one that waits to reset, and while an RRP is owed; the failure of an RST always does
 abbrev pub failed_phase : Phase → Bool → Phase
 failed_phase Closed owed = Closed
 failed_phase Want owed = Want

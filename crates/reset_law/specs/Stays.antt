@@ -35,7 +35,7 @@ stays a b (e ∷ events) = begins a b e events || (ready a b (e ∷ events) && n
 
 -- ---- words
 
--- what `a` says to `b` on a link by this event, but for RST and RRP
+-- what `a` says to `b` on a link by this event, except for RST and RRP
 abbrev pub said_by : Host → Host → ℕ → Event → List (List Bool)
 said_by a b l (Out x y k (Other text)) = if are a b x y && l == k then text ∷ [] else []
 said_by a b l e = []
@@ -46,16 +46,16 @@ heard_by a b l (In x y k (Other text)) = if are a b x y && l == k then text ∷ 
 heard_by a b l e = []
 
 -- all that `a` said to `b` on a link in its last stay, the oldest first
-abbrev pub said : Host → Host → ℕ → List Event → List (List Bool)
-said a b l [] = []
-said a b l (e ∷ events) = if begins a b e events then [] else said a b l events ++ (if stays a b events then said_by a b l e else [])
+abbrev pub said_in_stay : Host → Host → ℕ → List Event → List (List Bool)
+said_in_stay a b l [] = []
+said_in_stay a b l (e ∷ events) = if begins a b e events then [] else said_in_stay a b l events ++ (if stays a b events then said_by a b l e else [])
 
 -- all that `b` heard of `a` on a link in its last stay
-abbrev pub heard : Host → Host → ℕ → List Event → List (List Bool)
-heard a b l [] = []
-heard a b l (e ∷ events) = if begins a b e events then [] else heard a b l events ++ (if stays b a events then heard_by a b l e else [])
+abbrev pub heard_in_stay : Host → Host → ℕ → List Event → List (List Bool)
+heard_in_stay a b l [] = []
+heard_in_stay a b l (e ∷ events) = if begins a b e events then [] else heard_in_stay a b l events ++ (if stays b a events then heard_by a b l e else [])
 
--- what waits in a box, but for RST and RRP
+-- what waits in a box, except for RST and RRP
 abbrev pub waits_in : Box → List (List Bool)
 waits_in (Waiting place (Other text)) = text ∷ []
 waits_in box = []

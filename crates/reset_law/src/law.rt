@@ -5,13 +5,13 @@ ghost use Rattle.leader1822.specs.Host.{Host};
 ghost use Rattle.leader1822.specs.declared.crossing.Answer.TheVariants as answer;
 ghost use Rattle.reset_law.specs.Boxes.{boxes, Empty, Waiting, Taken};
 ghost use Rattle.reset_law.specs.Events.{Event, Contact, Out, In, Told, Down, Up, Idle, Reset, Reply, Other, place, is_up};
-ghost use Rattle.reset_law.specs.Example.{one, two, reset, message, early_reply, both_ask, crossing, reset_beside, reset_beside_data, owing_reply, asked_back, left, reset_again};
+ghost use Rattle.reset_law.specs.Example.{one, two, reset, message, early_reply, both_ask, crossing, reset_beside, reset_beside_data, owing_reply, asked_back, left_events, reset_again};
 ghost use Rattle.reset_law.specs.Invariant.{kind_in, is_signal, Sound};
 ghost use Rattle.reset_law.specs.Monitor.{monitor};
 ghost use Rattle.reset_law.specs.Pairs.{pair, opening_pair, MaySend};
 ghost use Rattle.reset_law.specs.Phases.{Closed, Want, Gone, Heard, Ready};
 ghost use Rattle.reset_law.specs.Runs.{IsRun, WaitsAfterClean};
-ghost use Rattle.reset_law.specs.Stays.{ready, joint, begins, stays, said, heard, waits_in, IsFront};
+ghost use Rattle.reset_law.specs.Stays.{ready, joint, begins, stays, said_in_stay, heard_in_stay, waits_in, IsFront};
 
 /// A whole reset, step by step.
 pub fn worked_reset()
@@ -42,14 +42,14 @@ pub fn clean_reset()
 /// What two hosts hear of one another, link by link, while they stay together. A stay begins where both hosts are through a
 /// reset, and ends for each of them where it leaves.
 pub fn stays()
-    // what a host heard of its peer in its stay is a front of what the peer said in its own, whoever has left meanwhile
-    ensures front { (hosts : List Host) (events : List Event) → IsRun hosts events → (a b : Host) (link : ℕ) → IsFront (heard a b link events) (said a b link events) }
+    // what a host heard of its peer in its stay is a prefix of what the peer said in its own, whoever has left meanwhile
+    ensures front { (hosts : List Host) (events : List Event) → IsRun hosts events → (a b : Host) (link : ℕ) → IsFront (heard_in_stay a b link events) (said_in_stay a b link events) }
 
     // while the host stays, so is what it heard and what waits for it
-    ensures waiting { (hosts : List Host) (events : List Event) → IsRun hosts events → (a b : Host) (link : ℕ) → stays b a events ≡ true → IsFront (heard a b link events ++ waits_in (boxes a b events link)) (said a b link events) }
+    ensures waiting { (hosts : List Host) (events : List Event) → IsRun hosts events → (a b : Host) (link : ℕ) → stays b a events ≡ true → IsFront (heard_in_stay a b link events ++ waits_in (boxes a b events link)) (said_in_stay a b link events) }
 
     // while both are through a reset nothing is lost
-    ensures whole { (hosts : List Host) (events : List Event) → IsRun hosts events → (a b : Host) (link : ℕ) → joint a b events ≡ true → heard a b link events ++ waits_in (boxes a b events link) ≡ said a b link events }
+    ensures whole { (hosts : List Host) (events : List Event) → IsRun hosts events → (a b : Host) (link : ℕ) → joint a b events ≡ true → heard_in_stay a b link events ++ waits_in (boxes a b events link) ≡ said_in_stay a b link events }
 
     // then both stay, and where that began nothing of an older contact waited, either way
     ensures together { (hosts : List Host) (events : List Event) → IsRun hosts events → (a b : Host) → joint a b events ≡ true → stays a b events ≡ true }
@@ -121,16 +121,16 @@ pub fn worked_stays()
     ensures taken { (boxes one two (In one two 0 (Other (true ∷ [])) ∷ message) 0 ≡ Taken 5 (Other (true ∷ []))) × (boxes one two (Told one two 0 answer.Rfnm ∷ In one two 0 (Other (true ∷ [])) ∷ message) 0 ≡ Empty) }
 
     // what was said waits, and is heard when it is taken; on another link nothing is
-    ensures said { (said one two 0 message ≡ (true ∷ []) ∷ []) × (heard one two 0 message ≡ []) × (said one two 2 message ≡ []) }
-    ensures heard { heard one two 0 (In one two 0 (Other (true ∷ [])) ∷ message) ≡ (true ∷ []) ∷ [] }
+    ensures said { (said_in_stay one two 0 message ≡ (true ∷ []) ∷ []) × (heard_in_stay one two 0 message ≡ []) × (said_in_stay one two 2 message ≡ []) }
+    ensures heard { heard_in_stay one two 0 (In one two 0 (Other (true ∷ [])) ∷ message) ≡ (true ∷ []) ∷ [] }
 
     // a host that contacts anew leaves; its peer stays, and hears what waits
-    ensures left { (stays one two left ≡ false) × (stays two one left ≡ true) × (heard one two 0 (In one two 0 (Other (true ∷ [])) ∷ left) ≡ (true ∷ []) ∷ []) }
+    ensures left { (stays one two left_events ≡ false) × (stays two one left_events ≡ true) × (heard_in_stay one two 0 (In one two 0 (Other (true ∷ [])) ∷ left_events) ≡ (true ∷ []) ∷ []) }
 
     // a host that takes an RST doesn't stay, though it is still ready
     ensures reset { (ready one two reset_beside ≡ true) × (stays one two reset_beside ≡ false) × (stays two one reset_beside ≡ false) }
 
     // where a stay begins, words begin anew, whatever was said before
-    ensures again { (said one two 0 reset_again ≡ []) × (heard one two 0 reset_again ≡ []) × (stays one two reset_again ≡ true) }
-    ensures anew { (said one two 0 reset ≡ []) × (stays one two reset ≡ true) × (stays two one reset ≡ true) × (stays two one (In one two 0 Reset ∷ Out one two 0 Reset ∷ Contact one two ∷ []) ≡ false) }
+    ensures again { (said_in_stay one two 0 reset_again ≡ []) × (heard_in_stay one two 0 reset_again ≡ []) × (stays one two reset_again ≡ true) }
+    ensures anew { (said_in_stay one two 0 reset ≡ []) × (stays one two reset ≡ true) × (stays two one reset ≡ true) × (stays two one (In one two 0 Reset ∷ Out one two 0 Reset ∷ Contact one two ∷ []) ≡ false) }
 {}

@@ -4,3 +4,4 @@ pub mod Joining
 pub mod Walking
 pub mod Nexts
 pub mod RoundsLemmas
+pub mod lemmas

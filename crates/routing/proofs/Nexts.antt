@@ -15,14 +15,14 @@ same_by true x y e = inl (eqb-true x y e)
 same_by false x y e = inr (eqb-false x y e)
 
 -- two numbers are the same, or they aren't
-pub same_or_other : (x y : ℕ) → (x ≡ y) ⊎ (x ≡ y → ⊥)
+same_or_other : (x y : ℕ) → (x ≡ y) ⊎ (x ≡ y → ⊥)
 same_or_other x y = same_by (eqb x y) x y refl
 
 other_by : (b : Bool) (x y : ℕ) → eqb x y ≡ b → (x ≡ y → ⊥) → b ≡ false
 other_by true x y e other = absurd (other (eqb-true x y e))
 other_by false x y e other = refl
 
-pub is_other : (x y : ℕ) → (x ≡ y → ⊥) → (x == y) ≡ false
+is_other : (x y : ℕ) → (x ≡ y → ⊥) → (x == y) ≡ false
 is_other x y other = other_by (x == y) x y refl other
 
 pub distance-own : (t : Table) (imp : ℕ) → imp ≡ t.own → distance_to t imp ≡ 0

@@ -16,7 +16,7 @@ use Rattle.routing.proofs.Nexts.{distance-own, distance-le, distance-zero, dista
 told : List Table → List (List ℕ)
 told tables = map vector_of tables
 
-pub after_table : (graph : List (ℕ × ℕ)) (tables : List Table) (imp : ℕ) → IsImp (length tables) imp → table_of (one_round graph tables) imp ≡ after_round graph (map vector_of tables) (table_of tables imp)
+after_table : (graph : List (ℕ × ℕ)) (tables : List Table) (imp : ℕ) → IsImp (length tables) imp → table_of (one_round graph tables) imp ≡ after_round graph (map vector_of tables) (table_of tables imp)
 after_table graph tables imp there = get_or-map (after_round graph (map vector_of tables)) tables (imp - 1) no_table no_table (omega (arith, there.0, there.1))
 
 one_round-length : (graph : List (ℕ × ℕ)) (tables : List Table) → length (one_round graph tables) ≡ length tables
@@ -43,7 +43,7 @@ unfolding settled
 settled_keeps graph tables zero are = are
 settled_keeps graph tables (suc rounds) are = round_keeps graph (settled graph tables rounds) (settled_keeps graph tables rounds are)
 
-pub settled-length : (graph : List (ℕ × ℕ)) (tables : List Table) (rounds : ℕ) → length (settled graph tables rounds) ≡ length tables
+settled-length : (graph : List (ℕ × ℕ)) (tables : List Table) (rounds : ℕ) → length (settled graph tables rounds) ≡ length tables
 unfolding settled
 settled-length graph tables zero = refl
 settled-length graph tables (suc rounds) = one_round-length graph (settled graph tables rounds) ∙ settled-length graph tables rounds
@@ -59,7 +59,7 @@ ports_after graph tables imp are there =
     ap (λ (t : Table). t.heard) (after_table graph tables imp there)
     ∙ ap (λ (own : ℕ). map (λ (imp : ℕ). Some (get_or (map vector_of tables) (imp - 1) [])) (neighbours graph own)) (are.numbered imp there)
 
-pub neighbour_is_imp : (graph : List (ℕ × ℕ)) (tables : List Table) (imp port : ℕ) → AreTablesOf graph tables → port < length (neighbours graph imp) → IsImp (length tables) (get_or (neighbours graph imp) port 0)
+neighbour_is_imp : (graph : List (ℕ × ℕ)) (tables : List Table) (imp port : ℕ) → AreTablesOf graph tables → port < length (neighbours graph imp) → IsImp (length tables) (get_or (neighbours graph imp) port 0)
 neighbour_is_imp graph tables imp port are there = named_ends (length tables) graph imp (get_or (neighbours graph imp) port 0) are.named (port_joined graph imp port there)
 
 heard_after : (graph : List (ℕ × ℕ)) (tables : List Table) (imp port to : ℕ) → AreTablesOf graph tables → IsImp (length tables) imp → IsImp imps to → port < length (neighbours graph imp)

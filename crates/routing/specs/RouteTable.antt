@@ -9,8 +9,8 @@ pub record Table : Type 0 where
   pub heard : List (Option (List ℕ))
 
 -- the opening: nothing was heard on any port
-abbrev pub opening : ℕ → ℕ → Table
-opening own ports = record { own = own; heard = replicate ports None }
+abbrev pub opening_table : ℕ → ℕ → Table
+opening_table own ports = record { own = own; heard = replicate ports None }
 
 -- the IMP heard these distances on a port
 abbrev pub hears : Table → ℕ → List ℕ → Table

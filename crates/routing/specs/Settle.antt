@@ -29,7 +29,7 @@ after_round graph told t = record { own = t.own; heard = map (λ imp. Some (slic
 abbrev pub one_round : List (ℕ × ℕ) → List Table → List Table
 one_round graph tables = map (after_round graph (map vector_of tables)) tables
 
--- so many rounds
+-- the tables after so many rounds
 unfoldable pub settled : List (ℕ × ℕ) → List Table → ℕ → List Table
 settled graph tables zero = tables
 settled graph tables (suc rounds) = one_round graph (settled graph tables rounds)

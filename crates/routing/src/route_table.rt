@@ -1,7 +1,7 @@
 //! What an IMP knows of routes.
 
 ghost use Rattle.std.specs.Prelude.{◌≡◌, ◌≢◌, ◌+◌, ◌<◌, ◌≤◌, ◌==◌, IfOk, IfSome, OnErr, length, position, ◌-◌, All, Some, map, [], slice_index_or};
-ghost use Rattle.routing.specs.RouteTable.{opening, hears, loses, distance_in, heard_distance, least_heard, distance_to, vector_of, next_of};
+ghost use Rattle.routing.specs.RouteTable.{opening_table, hears, loses, distance_in, heard_distance, least_heard, distance_to, vector_of, next_of};
 ghost use Rattle.routing.specs.Vector.{imps, infinite, IsVector};
 ghost use Rattle.routing.specs.Settle.{IsImp, after_round, neighbours, other_end};
 
@@ -28,9 +28,9 @@ impl Model for RouteTable {
 impl RouteTable {
     /// The table of an IMP with this number and this many ports. Nothing was heard on any port.
     ///
-    /// Errors: want of memory, and only if there are ports.
+    /// Errors: memory runs out, which can happen only if there are ports.
     pub fn new(alloc: Global, own: u8, ports: u8) -> Result<Self, AllocError>
-        ensures opening { IfOk result (λ table. table ≡ opening own ports) }
+        ensures opening { IfOk result (λ table. table ≡ opening_table own ports) }
         ensures memory { OnErr result (0 < ports) }
     {
         let mut heard = Vec::new(alloc);

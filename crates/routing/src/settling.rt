@@ -8,14 +8,14 @@ ghost use Rattle.routing.specs.Settle.{AreTablesOf, IsImp, IsRight, settled, one
 use crate::{RouteTable, Vector};
 use std::alloc::{AllocError, Global};
 
-/// Lets the tables of a network hear one another, for this many rounds: in each round every IMP hears, on
+/// Lets the tables of a network exchange their distances, for this many rounds: in each round every IMP hears, on
 /// each of its ports, what the neighbour there told when the round began.
 ///
 /// `graph` has the live lines, each as a pair of IMPs, and an IMP's ports are its lines in that order.
 /// `tables` are those of IMP 1, IMP 2 and so on. After [`INFINITE`](crate::INFINITE) rounds, from whatever
 /// they had heard before, the tables are right.
 ///
-/// Errors: want of memory. The tables then are as before.
+/// Errors: memory runs out. The tables then are as before.
 pub fn settle(
     alloc: Global,
     graph: &[(u8, u8)],

@@ -68,7 +68,7 @@ impl Vector {
         Some(Vector { distances: copy })
     }
 
-    /// The same vector.
+    /// A copy of the vector.
     pub(crate) fn copy(&self) -> Self
         ensures { result ≡ self.now }
     {

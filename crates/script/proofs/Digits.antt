@@ -35,7 +35,7 @@ letter_at (suc (suc (suc (suc zero)))) h = refl
 letter_at (suc (suc (suc (suc (suc zero))))) h = refl
 letter_at (suc (suc (suc (suc (suc (suc k)))))) h = absurd (omega arith)
 
-pub upper_at : (c : ℕ) → is_upper_digit c ≡ true → IsUpperAt c
+upper_at : (c : ℕ) → is_upper_digit c ≡ true → IsUpperAt c
 upper_at c is = elim (or_cases (nat_le 48 c && nat_le c 57) (nat_le 65 c && nat_le c 70) is) [
   | inl digit ↦
       let both : (nat_le 48 c ≡ true) × (nat_le c 57 ≡ true) = and_parts (nat_le 48 c) (nat_le c 57) digit in
@@ -52,7 +52,7 @@ upper_at c is = elim (or_cases (nat_le 48 c && nat_le c 57) (nat_le 65 c && nat_
 ]
 
 -- each of the sixteen is one
-pub at_upper : (k : ℕ) → k < 16 → is_upper_digit (slice_index upper_digits k) ≡ true
+at_upper : (k : ℕ) → k < 16 → is_upper_digit (slice_index upper_digits k) ≡ true
 at_upper zero h = refl
 at_upper (suc zero) h = refl
 at_upper (suc (suc zero)) h = refl
@@ -72,7 +72,7 @@ at_upper (suc (suc (suc (suc (suc (suc (suc (suc (suc (suc (suc (suc (suc (suc (
 at_upper (suc (suc (suc (suc (suc (suc (suc (suc (suc (suc (suc (suc (suc (suc (suc (suc k)))))))))))))))) h = absurd (omega arith)
 
 -- an upper case digit is one in either case
-pub upper_is_digit : (c : ℕ) → is_upper_digit c ≡ true → is_hex_digit c ≡ true
+upper_is_digit : (c : ℕ) → is_upper_digit c ≡ true → is_hex_digit c ≡ true
 upper_is_digit c is =
     let at : IsUpperAt c = upper_at c is in
     ap is_hex_digit at.same ∙ ap is_some (IsDigits-upper_digits at.place at.below)
@@ -125,41 +125,6 @@ spelled_digits (n ∷ octets) small =
 
 pub spelled_even : (octets : List ℕ) → length (encode_upper octets) % 2 ≡ 0
 spelled_even octets = let size : length (encode_upper octets) ≡ 2 * length octets = length-encode_with upper_digits octets in omega arith
-
--- ---- the value of a digit
-
--- the upper half of an octet and the lower one
-pub value_small : (c : ℕ) → is_upper_digit c ≡ true → c % 16 + c / 64 * 9 < 16
-value_small c is = elim (or_cases (nat_le 48 c && nat_le c 57) (nat_le 65 c && nat_le c 70) is) [
-  | inl digit ↦
-      let both : (nat_le 48 c ≡ true) × (nat_le c 57 ≡ true) = and_parts (nat_le 48 c) (nat_le c 57) digit in
-      let low : 48 ≤ c = leb-true 48 c both.0 in
-      let high : c ≤ 57 = leb-true c 57 both.1 in
-      omega arith
-  | inr letter ↦
-      let both : (nat_le 65 c ≡ true) × (nat_le c 70 ≡ true) = and_parts (nat_le 65 c) (nat_le c 70) letter in
-      let low : 65 ≤ c = leb-true 65 c both.0 in
-      let high : c ≤ 70 = leb-true c 70 both.1 in
-      omega arith
-]
-
-pub value_same : (c : ℕ) → is_upper_digit c ≡ true → slice_index upper_digits (c % 16 + c / 64 * 9) ≡ c
-value_same c is = elim (or_cases (nat_le 48 c && nat_le c 57) (nat_le 65 c && nat_le c 70) is) [
-  | inl digit ↦
-      let both : (nat_le 48 c ≡ true) × (nat_le c 57 ≡ true) = and_parts (nat_le 48 c) (nat_le c 57) digit in
-      let low : 48 ≤ c = leb-true 48 c both.0 in
-      let high : c ≤ 57 = leb-true c 57 both.1 in
-      let value : c % 16 + c / 64 * 9 ≡ c - 48 = omega arith in
-      let back : c - 48 + 48 ≡ c = omega arith in
-      ap (slice_index upper_digits) value ∙ digit_at (c - 48) (omega arith) ∙ back
-  | inr letter ↦
-      let both : (nat_le 65 c ≡ true) × (nat_le c 70 ≡ true) = and_parts (nat_le 65 c) (nat_le c 70) letter in
-      let low : 65 ≤ c = leb-true 65 c both.0 in
-      let high : c ≤ 70 = leb-true c 70 both.1 in
-      let value : c % 16 + c / 64 * 9 ≡ c - 65 + 10 = omega arith in
-      let back : c - 65 + 65 ≡ c = omega arith in
-      ap (slice_index upper_digits) value ∙ letter_at (c - 65) (omega arith) ∙ back
-]
 
 -- ---- octets spelled one after another
 

@@ -76,9 +76,6 @@ host_read word a b x y None is unmarked isa isb xl yl made = λ h meant e.
 pub same_words : (f : Flow) (R : List ℕ) → flow_text f ++ 32 ∷ R ≡ host_text f.source ++ 32 ∷ (host_text f.destination ++ 32 ∷ (decimal f.link.0 ++ 32 ∷ R))
 same_words f R = append_assoc (host_text f.source) (32 ∷ (host_text f.destination ++ 32 ∷ decimal f.link.0)) (32 ∷ R) ∙ ap (λ v. host_text f.source ++ 32 ∷ v) (append_assoc (host_text f.destination) (32 ∷ decimal f.link.0) (32 ∷ R))
 
-pub no_three_words : (words : List ℕ) → ((a b c : List ℕ) → words ≢ a ++ 32 ∷ (b ++ 32 ∷ c)) → (f : Flow) → IsFlow f → words ≢ flow_text f
-no_three_words words none f meant e = none (host_text f.source) (host_text f.destination) (decimal f.link.0) e
-
 pub flow_read : (words a b c : List ℕ) (r : Option Flow) → words ≡ a ++ 32 ∷ (b ++ 32 ∷ c) → Lacks 32 a → Lacks 32 b → ReadsFlow a b c r → ReadsAs flow_text IsFlow words r
 flow_read words a b c (Some f) is ha hb (s, d, l, meant) =
     (is ∙ ap (λ v. v ++ 32 ∷ (b ++ 32 ∷ c)) s ∙ ap (λ v. host_text f.source ++ 32 ∷ (v ++ 32 ∷ c)) d ∙ ap (λ v. host_text f.source ++ 32 ∷ (host_text f.destination ++ 32 ∷ v)) l, meant)

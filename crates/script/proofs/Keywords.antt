@@ -13,8 +13,8 @@ use Rattle.leader1822.specs.declared.event.Direction.{Direction}
 use Rattle.leader1822.specs.declared.event.NetEvent.{NetEvent}
 use Rattle.leader1822.specs.declared.event.NetEvent.TheVariants as net
 use Rattle.leader1822.specs.declared.message.HostMessage.{HostMessage}
-use Rattle.script.specs.declared.event.Event.{Event}
-use Rattle.script.specs.declared.event.Event.TheVariants as event
+use Rattle.script.specs.declared.event.RawEvent.{RawEvent}
+use Rattle.script.specs.declared.event.RawEvent.TheVariants as event
 use Rattle.script.specs.Spelling.{spelling, net_spelling, IsEvent, IsNetEvent, IsMessage, IsHost, IsFlow, IsImp, IsIndex, message_text}
 use Rattle.script.specs.Steps.{Lacks, IsOfHosts, IsOfImps, IsOfLines, frame_text, IsFrame, pair_text, IsEnd, AreImps}
 use Rattle.script.proofs.Words.{SameCut, same_cut, uncut}
@@ -80,7 +80,7 @@ IsMeant Frames f = IsFrame f
 IsMeant Ends p = IsEnd p
 IsMeant Counts n = IsIndex n
 
-abbrev pub keyword : Event → List ℕ
+abbrev pub keyword : RawEvent → List ℕ
 keyword (event.Out m) = codes "out"
 keyword (event.Take h) = codes "take"
 keyword (event.Calm n) = codes "calm"
@@ -99,7 +99,7 @@ keyword (event.Net (net.EndDown i l)) = codes "enddown"
 keyword (event.Net (net.EndUp i l)) = codes "endup"
 
 -- the kind of a keyword's operand, and the event that they make
-abbrev pub made : List ℕ → (k : Kind) × (OperandOf k → Event)
+abbrev pub made : List ℕ → (k : Kind) × (OperandOf k → RawEvent)
 made word =
     if bytes_eq word (codes "out") then (Messages, λ x. event.Out x) else (
     if bytes_eq word (codes "take") then (Hosts, λ x. event.Take x) else (
@@ -118,7 +118,7 @@ made word =
     if bytes_eq word (codes "enddown") then (Ends, λ x. event.Net (net.EndDown x.0 x.1)) else (
     (Ends, λ x. event.Net (net.EndUp x.0 x.1)))))))))))))))))
 
-abbrev pub operand : (e : Event) → OperandOf (made (keyword e)).0
+abbrev pub operand : (e : RawEvent) → OperandOf (made (keyword e)).0
 operand (event.Out m) = m
 operand (event.Take h) = h
 operand (event.Calm n) = n
@@ -136,7 +136,7 @@ operand (event.Net (net.Drop l d k)) = (l, d, k)
 operand (event.Net (net.EndDown i l)) = (i, l)
 operand (event.Net (net.EndUp i l)) = (i, l)
 
-pub made_again : (e : Event) → (made (keyword e)).1 (operand e) ≡ e
+pub made_again : (e : RawEvent) → (made (keyword e)).1 (operand e) ≡ e
 made_again (event.Out m) = refl
 made_again (event.Take h) = refl
 made_again (event.Calm n) = refl
@@ -154,7 +154,7 @@ made_again (event.Net (net.Drop l d k)) = refl
 made_again (event.Net (net.EndDown i l)) = refl
 made_again (event.Net (net.EndUp i l)) = refl
 
-pub spelled : (e : Event) → spelling e ≡ keyword e ++ 32 ∷ text_of (made (keyword e)).0 (operand e)
+pub spelled : (e : RawEvent) → spelling e ≡ keyword e ++ 32 ∷ text_of (made (keyword e)).0 (operand e)
 spelled (event.Out m) = refl
 spelled (event.Take h) = refl
 spelled (event.Calm n) = refl
@@ -172,7 +172,7 @@ spelled (event.Net (net.Drop l d k)) = refl
 spelled (event.Net (net.EndDown i l)) = refl
 spelled (event.Net (net.EndUp i l)) = refl
 
-pub is_meant : (e : Event) → IsEvent e → IsMeant (made (keyword e)).0 (operand e)
+pub is_meant : (e : RawEvent) → IsEvent e → IsMeant (made (keyword e)).0 (operand e)
 is_meant (event.Out m) is = is
 is_meant (event.Take h) is = is
 is_meant (event.Calm n) is = is
@@ -190,7 +190,7 @@ is_meant (event.Net (net.Drop l d k)) is = is
 is_meant (event.Net (net.EndDown i l)) is = is
 is_meant (event.Net (net.EndUp i l)) is = is
 
-pub plain : (e : Event) → list_any (λ x. x == 32) (keyword e) ≡ false
+pub plain : (e : RawEvent) → list_any (λ x. x == 32) (keyword e) ≡ false
 plain (event.Out m) = refl
 plain (event.Take h) = refl
 plain (event.Calm n) = refl
@@ -211,11 +211,11 @@ plain (event.Net (net.EndUp i l)) = refl
 -- ---- lines that are no events
 
 -- a line without a space is no event
-pub no_space : (line : List ℕ) → Lacks 32 line → (x : Event) → IsEvent x → line ≢ spelling x
+pub no_space : (line : List ℕ) → Lacks 32 line → (x : RawEvent) → IsEvent x → line ≢ spelling x
 no_space line h x meant e = uncut 32 (keyword x) (text_of (made (keyword x)).0 (operand x)) (subst (Lacks 32) (e ∙ spelled x) h)
 
 -- a line begins with its event's keyword
-pub first_word : (word rest : List ℕ) (x : Event) → Lacks 32 word → word ++ 32 ∷ rest ≡ spelling x → word ≡ keyword x
+pub first_word : (word rest : List ℕ) (x : RawEvent) → Lacks 32 word → word ++ 32 ∷ rest ≡ spelling x → word ≡ keyword x
 first_word word rest x h e =
     let cut : SameCut word rest (keyword x) (text_of (made (keyword x)).0 (operand x)) = same_cut 32 word rest (keyword x) (text_of (made (keyword x)).0 (operand x)) h (unmarked_where 32 (keyword x) (plain x)) (e ∙ spelled x) in
     cut.front
@@ -223,7 +223,7 @@ first_word word rest x h e =
 -- a line whose operand spells none of its keyword's kind is no event
 pub no_operand : (key word rest : List ℕ) → word ≡ key → Lacks 32 word → ((z : OperandOf (made key).0) → IsMeant (made key).0 z → rest ≢ text_of (made key).0 z) → (x : NetEvent) → IsNetEvent x → word ++ 32 ∷ rest ≢ net_spelling x
 no_operand key word rest is h none x meant e =
-    let y : Event = event.Net x in
+    let y : RawEvent = event.Net x in
     let cut : SameCut word rest (keyword y) (text_of (made (keyword y)).0 (operand y)) = same_cut 32 word rest (keyword y) (text_of (made (keyword y)).0 (operand y)) h (unmarked_where 32 (keyword y) (plain y)) (e ∙ spelled y) in
     let F : List ℕ → Type 0 = λ w. (z : OperandOf (made w).0) → IsMeant (made w).0 z → rest ≢ text_of (made w).0 z in
     let there : F (keyword y) = subst F (sym is ∙ cut.front) none in
@@ -318,7 +318,7 @@ is_line_event (net.EndDown i l) meant = meant
 is_line_event (net.EndUp i l) meant = meant
 
 -- a line with another first word than `out`, `take` and `calm` is an event inside a network, or none
-pub no_event : (word rest : List ℕ) → Lacks 32 word → word ≢ codes "out" → word ≢ codes "take" → word ≢ codes "calm" → ((x : NetEvent) → IsNetEvent x → word ++ 32 ∷ rest ≢ net_spelling x) → (x : Event) → IsEvent x → word ++ 32 ∷ rest ≢ spelling x
+pub no_event : (word rest : List ℕ) → Lacks 32 word → word ≢ codes "out" → word ≢ codes "take" → word ≢ codes "calm" → ((x : NetEvent) → IsNetEvent x → word ++ 32 ∷ rest ≢ net_spelling x) → (x : RawEvent) → IsEvent x → word ++ 32 ∷ rest ≢ spelling x
 no_event word rest h out take calm none (event.Out m) meant e = out (first_word word rest (event.Out m) h e)
 no_event word rest h out take calm none (event.Take g) meant e = take (first_word word rest (event.Take g) h e)
 no_event word rest h out take calm none (event.Calm n) meant e = calm (first_word word rest (event.Calm n) h e)

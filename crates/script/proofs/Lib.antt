@@ -9,3 +9,4 @@ mod Parts
 pub mod Places
 pub mod Texts
 pub mod Words
+pub mod lemmas

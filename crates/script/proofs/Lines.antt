@@ -31,7 +31,7 @@ at_next {X} n xs ys y h = same_first (sym (drop_more xs n y (length_next n xs ys
 pub take_next : {X : Type 0} (n : ℕ) (xs ys : List X) (y : X) → drop n xs ≡ y ∷ ys → take (n + 1) xs ≡ take n xs ++ y ∷ []
 take_next {X} n xs ys y h = take_more xs n y (length_next n xs ys y h) ∙ ap (λ x. take n xs ++ x ∷ []) (at_next n xs ys y h)
 
-pub get_next : {X : Type 0} (n : ℕ) (xs ys : List X) (y : X) → drop n xs ≡ y ∷ ys → slice_get xs n ≡ Some y
+get_next : {X : Type 0} (n : ℕ) (xs ys : List X) (y : X) → drop n xs ≡ y ∷ ys → slice_get xs n ≡ Some y
 get_next {X} n [] ys y h = absurd (let short : n < 0 = length_next n [] ys y h in omega arith)
 get_next {X} zero (x ∷ xs) ys y h = ap Some (same_first h)
 get_next {X} (suc n) (x ∷ xs) ys y h = get_next n xs ys y h
@@ -50,7 +50,7 @@ line_count text =
 
 -- ---- events of any kind, by how they are spelled and which of them are valid
 
--- one more line that is passed over
+-- one more line that is ignored
 pub ask_past : {E : Type 0} (spell : E → List ℕ) (IsMeant : E → Type 0) (events : List E) (lines : List (List ℕ)) (line : List ℕ) → is_passed_over line ≡ true → AskForAs spell IsMeant events lines → AskForAs spell IsMeant events (lines ++ line ∷ [])
 ask_past {E} spell IsMeant events lines line passed asked =
     let none : filter asks (line ∷ []) ≡ [] = ap (λ p. cond (not p) (line ∷ []) []) passed in

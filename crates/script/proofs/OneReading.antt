@@ -16,11 +16,11 @@ use Rattle.leader1822.specs.declared.address.Flow.{Flow}
 use Rattle.leader1822.specs.declared.event.Direction.{Direction}
 use Rattle.leader1822.specs.declared.event.Direction.TheVariants as way
 use Rattle.leader1822.specs.declared.message.HostMessage.{HostMessage}
-use Rattle.script.specs.Input.{IsParted, ended}
+use Rattle.script.specs.Input.{IsParted, ended_line}
 use Rattle.script.specs.Script.{AskFor, AskForAs, lines_of}
 use Rattle.script.specs.Spelling.{IsEvent, IsFlow, IsHost, IsImp, IsMessage, direction_text, message_text, octets_text, spelling}
 use Rattle.script.specs.Steps.{IsFrame, frame_text, pair_text}
-use Rattle.script.specs.declared.event.Event.{Event}
+use Rattle.script.specs.declared.event.RawEvent.{RawEvent}
 use Rattle.script.proofs.Keywords.{unmarked_where, Kind, Messages, Hosts, Flows, Imps, Twos, Frames, Ends, Counts, OperandOf, text_of, IsMeant, keyword, made, operand, made_again, spelled, is_meant, plain}
 use Rattle.script.proofs.Places.{direction_unmarked}
 use Rattle.script.proofs.Hosts.{front_unmarked, host_range, host_unmarked}
@@ -157,7 +157,7 @@ made_once word other same x y p q e =
     let here : F word = λ z is alike. ap (made word).1 (operand_once (made word).0 x z p is alike) in
     subst F same here y q e
 
-pub event_once : (d e : Event) → IsEvent d → IsEvent e → spelling d ≡ spelling e → d ≡ e
+pub event_once : (d e : RawEvent) → IsEvent d → IsEvent e → spelling d ≡ spelling e → d ≡ e
 event_once d e p q same =
     let cut : SameCut (keyword d) (text_of (made (keyword d)).0 (operand d)) (keyword e) (text_of (made (keyword e)).0 (operand e)) =
     same_cut 32 (keyword d) (text_of (made (keyword d)).0 (operand d)) (keyword e) (text_of (made (keyword e)).0 (operand e)) (unmarked_where 32 (keyword d) (plain d)) (unmarked_where 32 (keyword e) (plain e)) (sym (spelled d) ∙ same ∙ spelled e) in
@@ -175,7 +175,7 @@ asked_once_as {E} spell IsValid once ds es lines d e = events_once ds es d.meant
       let rest : map spell ds ≡ map spell es = cc in
       ap₂ (λ z zs. z ∷ zs) (once x y (All-head IsValid x ds p) (All-head IsValid y es q) first) (events_once ds es (All-tail IsValid x ds p) (All-tail IsValid y es q) rest)
 
-pub asked_once : (ds es : List Event) (lines : List (List ℕ)) → AskFor ds lines → AskFor es lines → ds ≡ es
+pub asked_once : (ds es : List RawEvent) (lines : List (List ℕ)) → AskFor ds lines → AskFor es lines → ds ≡ es
 asked_once ds es lines d e = asked_once_as spelling IsEvent event_once ds es lines d e
 
 -- ---- inputs
@@ -198,7 +198,7 @@ parted_once input topology script other more p q = by p.lines q.lines
     both xs ys h k = same_parts (codes "%") p.before xs q.before ys p.unmarked q.unmarked (sym h ∙ k)
 
     fronts : p.before ≡ q.before → topology ≡ other
-    fronts e = p.front ∙ ap (flat_map ended) e ∙ sym q.front
+    fronts e = p.front ∙ ap (flat_map ended_line) e ∙ sym q.front
 
     by : (lines_of input ≡ p.before ++ codes "%" ∷ lines_of script) ⊎ ((lines_of input ≡ p.before ++ codes "%" ∷ []) × (script ≡ []))
         → (lines_of input ≡ q.before ++ codes "%" ∷ lines_of more) ⊎ ((lines_of input ≡ q.before ++ codes "%" ∷ []) × (more ≡ [])) → SameInput topology script other more

@@ -1,31 +1,31 @@
 -- Going through the lines of an input up to its mark.
-use Rattle.std.proofs.Common.{◌≡◌, ◌≢◌, ℕ, ◌≤◌, ◌+◌, List, [], ◌∷◌, ◌++◌, length, take, codes, Option, Some, None, Bor, refl, sym, ap, ◌∙◌, subst, arith, inl, inr, MatchOption, ◌⊎◌, suc}
+use Rattle.std.proofs.Common.{◌≡◌, ◌≢◌, ℕ, ◌+◌, List, [], ◌∷◌, ◌++◌, length, take, codes, Option, Some, None, Bor, refl, sym, ap, ◌∙◌, inl, inr, MatchOption, ◌⊎◌}
 use Rattle.std.proofs.lemmas.List.{append_assoc, append-nil, take_at, length-append}
 use Rattle.std.proofs.lemmas.List.Elements.{All-append, All-cons, All-nil}
 use Rattle.std.proofs.lemmas.Grind.{flat_map-append}
 use Rattle.std.specs.List.{All, flat_map}
 use Rattle.script.specs.Script.{lines_of, lines_after}
-use Rattle.script.specs.Input.{ended, IsParted}
+use Rattle.script.specs.Input.{ended_line, IsParted}
 
 -- what was passed of an input: whole lines that aren't the mark
 pub record Passed (input : List ℕ) (passed : ℕ) (rest : Option (Bor (List ℕ))) : Type 0 where
   pub before : List (List ℕ)
   pub unmarked : All (λ line. line ≢ codes "%") before
   pub lines : lines_of input ≡ before ++ lines_after rest
-  pub whole : MatchOption rest (Unit {0}) (λ left. (input ≡ flat_map ended before ++ left.now) × (passed ≡ length (flat_map ended before)))
+  pub whole : MatchOption rest (Unit {0}) (λ left. (input ≡ flat_map ended_line before ++ left.now) × (passed ≡ length (flat_map ended_line before)))
 
 pub none_passed : (input : Bor (List ℕ)) → Passed input.now 0 (Some input)
 none_passed input = record { before = []; unmarked = All-nil (λ line. line ≢ codes "%"); lines = refl; whole = (refl, refl) }
 
 -- the front with one more line
-front_more : (before : List (List ℕ)) (line : List ℕ) → flat_map ended (before ++ line ∷ []) ≡ flat_map ended before ++ (line ++ 10 ∷ [])
-front_more before line = flat_map-append ended before (line ∷ []) ∙ ap (λ xs. flat_map ended before ++ xs) (append-nil (line ++ 10 ∷ []))
+front_more : (before : List (List ℕ)) (line : List ℕ) → flat_map ended_line (before ++ line ∷ []) ≡ flat_map ended_line before ++ (line ++ 10 ∷ [])
+front_more before line = flat_map-append ended_line before (line ∷ []) ∙ ap (λ xs. flat_map ended_line before ++ xs) (append-nil (line ++ 10 ∷ []))
 
-still_whole : (input : List ℕ) (passed : ℕ) (before : List (List ℕ)) (left line : List ℕ) (more : Option (Bor (List ℕ))) → input ≡ flat_map ended before ++ left → passed ≡ length (flat_map ended before) → MatchOption more (left ≡ line) (λ m. left ≡ line ++ 10 ∷ m.now) → MatchOption more (Unit {0}) (λ m. (input ≡ flat_map ended (before ++ line ∷ []) ++ m.now) × (passed + (length line + 1) ≡ length (flat_map ended (before ++ line ∷ []))))
+still_whole : (input : List ℕ) (passed : ℕ) (before : List (List ℕ)) (left line : List ℕ) (more : Option (Bor (List ℕ))) → input ≡ flat_map ended_line before ++ left → passed ≡ length (flat_map ended_line before) → MatchOption more (left ≡ line) (λ m. left ≡ line ++ 10 ∷ m.now) → MatchOption more (Unit {0}) (λ m. (input ≡ flat_map ended_line (before ++ line ∷ []) ++ m.now) × (passed + (length line + 1) ≡ length (flat_map ended_line (before ++ line ∷ []))))
 still_whole input passed before left line None is count whole = tt
 still_whole input passed before left line (Some m) is count whole = (
-  is ∙ ap (λ xs. flat_map ended before ++ xs) (whole ∙ sym (append_assoc line (10 ∷ []) m.now)) ∙ sym (append_assoc (flat_map ended before) (line ++ 10 ∷ []) m.now) ∙ ap (λ xs. xs ++ m.now) (sym (front_more before line)),
-  ap (λ n. n + (length line + 1)) count ∙ ap (λ n. length (flat_map ended before) + n) (sym (length-append line (10 ∷ []))) ∙ sym (length-append (flat_map ended before) (line ++ 10 ∷ [])) ∙ ap length (sym (front_more before line)),
+  is ∙ ap (λ xs. flat_map ended_line before ++ xs) (whole ∙ sym (append_assoc line (10 ∷ []) m.now)) ∙ sym (append_assoc (flat_map ended_line before) (line ++ 10 ∷ []) m.now) ∙ ap (λ xs. xs ++ m.now) (sym (front_more before line)),
+  ap (λ n. n + (length line + 1)) count ∙ ap (λ n. length (flat_map ended_line before) + n) (sym (length-append line (10 ∷ []))) ∙ sym (length-append (flat_map ended_line before) (line ++ 10 ∷ [])) ∙ ap length (sym (front_more before line)),
 )
 
 -- one more line is passed
@@ -37,18 +37,6 @@ pass_line input passed left line more p differs lines whole = record {
   whole = still_whole input passed p.before left.now line more p.whole.0 p.whole.1 whole;
 }
 
-line_fits : (left line : List ℕ) (more : Option (Bor (List ℕ))) → MatchOption more (left ≡ line) (λ m. left ≡ line ++ 10 ∷ m.now) → length line ≤ length left
-line_fits left line None whole = let same : length left ≡ length line = ap length whole in omega arith
-line_fits left line (Some m) whole = let same : length left ≡ length line + length (10 ∷ m.now) = ap length whole ∙ length-append line (10 ∷ m.now) in omega arith
-
--- room for the line that was passed
-pub passed_fits : (input : List ℕ) (passed : ℕ) (left : Bor (List ℕ)) (line : List ℕ) (more : Option (Bor (List ℕ))) → Passed input passed (Some left) → MatchOption more (left.now ≡ line) (λ m. left.now ≡ line ++ 10 ∷ m.now) → passed + length line ≤ length input
-passed_fits input passed left line more p whole =
-    let all : length input ≡ length (flat_map ended p.before) + length left.now = ap length p.whole.0 ∙ length-append (flat_map ended p.before) left.now in
-    let count : passed ≡ length (flat_map ended p.before) = p.whole.1 in
-    let few : length line ≤ length left.now = line_fits left.now line more whole in
-    omega arith
-
 script_lines : (input : List ℕ) (before : List (List ℕ)) (line script : List ℕ) (more : Option (Bor (List ℕ))) → lines_of input ≡ before ++ line ∷ lines_after more → line ≡ codes "%" → MatchOption more (script ≡ []) (λ m. script ≡ m.now) → (lines_of input ≡ before ++ codes "%" ∷ lines_of script) ⊎ ((lines_of input ≡ before ++ codes "%" ∷ []) × (script ≡ []))
 script_lines input before line script None all is behind = inr (all ∙ ap (λ l. before ++ l ∷ []) is, behind)
 script_lines input before line script (Some m) all is behind = inl (all ∙ ap (λ l. before ++ l ∷ lines_of m.now) is ∙ ap (λ text. before ++ codes "%" ∷ lines_of text) (sym behind))
@@ -57,26 +45,7 @@ script_lines input before line script (Some m) all is behind = inl (all ∙ ap (
 pub parted : (input : List ℕ) (passed : ℕ) (left : Bor (List ℕ)) (line script : List ℕ) (more : Option (Bor (List ℕ))) → Passed input passed (Some left) → line ≡ codes "%" → lines_of left.now ≡ line ∷ lines_after more → MatchOption more (script ≡ []) (λ m. script ≡ m.now) → IsParted input (take passed input) script
 parted input passed left line script more p is lines behind = record {
   before = p.before;
-  front = ap (take passed) p.whole.0 ∙ take_at (flat_map ended p.before) left.now passed (sym p.whole.1);
+  front = ap (take passed) p.whole.0 ∙ take_at (flat_map ended_line p.before) left.now passed (sym p.whole.1);
   unmarked = p.unmarked;
   lines = script_lines input p.before line script more (p.lines ∙ ap (λ ls. p.before ++ ls) lines) is behind;
 }
-
--- no line was the mark
-pub unparted : (input : List ℕ) (passed : ℕ) → Passed input passed None → All (λ line. line ≢ codes "%") (lines_of input)
-unparted input passed p = subst (All (λ line. line ≢ codes "%")) (sym (p.lines ∙ append-nil p.before)) p.unmarked
-
-script_fits : (left line script : List ℕ) (more : Option (Bor (List ℕ))) → MatchOption more (left ≡ line) (λ m. left ≡ line ++ 10 ∷ m.now) → MatchOption more (script ≡ []) (λ m. script ≡ m.now) → length script ≤ length left
-script_fits left line script None whole behind = let none : length script ≡ 0 = ap length behind in omega arith
-script_fits left line script (Some m) whole behind =
-    let same : length left ≡ length line + length (10 ∷ m.now) = ap length whole ∙ length-append line (10 ∷ m.now) in
-    let rest : length script ≡ length m.now = ap length behind in
-    let one : length (10 ∷ m.now) ≡ suc (length m.now) = refl in
-    omega arith
-
--- a script is no longer than the input
-pub short_script : (input : List ℕ) (passed : ℕ) (left : Bor (List ℕ)) (line script : List ℕ) (more : Option (Bor (List ℕ))) → Passed input passed (Some left) → MatchOption more (left.now ≡ line) (λ m. left.now ≡ line ++ 10 ∷ m.now) → MatchOption more (script ≡ []) (λ m. script ≡ m.now) → length script ≤ length input
-short_script input passed left line script more p whole behind =
-    let all : length input ≡ length (flat_map ended p.before) + length left.now = ap length p.whole.0 ∙ length-append (flat_map ended p.before) left.now in
-    let few : length script ≤ length left.now = script_fits left.now line script more whole behind in
-    omega arith

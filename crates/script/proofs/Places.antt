@@ -1,5 +1,5 @@
 -- IMPs, directions, frames and ends of lines as words.
-use Rattle.std.proofs.Common.{◌≡◌, ◌≢◌, ℕ, ◌<◌, ◌≤◌, ◌^◌, ◌==◌, Bool, true, false, List, [], ◌∷◌, ◌++◌, if◌then◌else◌, Option, Some, None, refl, sym, ap, ◌∙◌, arith, subst, codes, lit<}
+use Rattle.std.proofs.Common.{◌≡◌, ◌≢◌, ℕ, ◌<◌, ◌≤◌, ◌^◌, ◌==◌, Bool, true, false, List, [], ◌∷◌, ◌++◌, if◌then◌else◌, Option, Some, None, refl, sym, ap, ◌∙◌, arith, subst, lit<}
 use Rattle.std.proofs.lemmas.Bool.Decides.{nat_tests}
 use Rattle.std.proofs.lemmas.Fmt.{decimal_injective}
 use Rattle.std.proofs.lemmas.List.Elements.{All-nil, All-cons}
@@ -17,7 +17,7 @@ use Rattle.script.proofs.Words.{SameThree, same_three, not_cut, not_front, not_b
 imp_small : (n : ℕ) → IsImp n → n ≤ 63
 imp_small n is = grind (arith, nat_tests)
 
-pub imp_unmarked : (n : ℕ) → IsImp n → Lacks 32 (decimal n)
+imp_unmarked : (n : ℕ) → IsImp n → Lacks 32 (decimal n)
 imp_unmarked n is = let small : n ≤ 63 = imp_small n is in All-unmarked_decimal 32 n (lit< tt) (omega arith)
 
 pub no_octet : (word : List ℕ) → ReadsAs decimal (λ n. n < 256) word None → (n : ℕ) → IsImp n → word ≢ decimal n
@@ -46,10 +46,6 @@ imp_read word x None is small made = λ n meant e.
 pub direction_unmarked : (d : Direction) → Lacks 32 (direction_text d)
 direction_unmarked way.Forward = All-cons (λ x. (x == 32) ≡ false) 43 [] refl (All-nil (λ x. (x == 32) ≡ false))
 direction_unmarked way.Back = All-cons (λ x. (x == 32) ≡ false) 45 [] refl (All-nil (λ x. (x == 32) ≡ false))
-
-pub no_direction : (word : List ℕ) → word ≢ codes "+" → word ≢ codes "-" → (d : Direction) → word ≢ direction_text d
-no_direction word forward back way.Forward e = forward e
-no_direction word forward back way.Back e = back e
 
 -- ---- frames
 

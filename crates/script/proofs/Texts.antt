@@ -1,5 +1,5 @@
 -- Texts of messages as words.
-use Rattle.std.proofs.Common.{◌≡◌, ◌≢◌, ℕ, ◌<◌, ◌≤◌, ◌+◌, ◌*◌, ◌%◌, Bool, true, false, List, [], ◌∷◌, ◌++◌, length, take, replicate, get_or, subst, Result, Ok, refl, sym, ap, ◌∙◌, arith, length-append, lit<, zero, suc, Option, Some, None, IsSome, IfSome, IfErr, Err}
+use Rattle.std.proofs.Common.{◌≡◌, ◌≢◌, ℕ, ◌<◌, ◌≤◌, ◌+◌, ◌*◌, ◌%◌, Bool, true, false, List, [], ◌∷◌, ◌++◌, length, take, replicate, get_or, subst, Result, Ok, refl, sym, ap, ◌∙◌, arith, length-append, lit<, zero, suc, IfErr, Err}
 use Rattle.std.proofs.lemmas.List.{take_at, length-take-le, length-replicate}
 use Rattle.std.proofs.lemmas.Grind.{get_or_default_zero}
 use Rattle.std.proofs.lemmas.List.Elements.{All-head, All-tail}
@@ -8,10 +8,9 @@ use Rattle.std.specs.List.{All}
 use Rattle.hex.specs.Hex.{encode_upper, upper_digits, decode_of, is_hex_digit, IsBytes}
 use Rattle.hex.proofs.HexLemmas.{decode_of-digits, decode_of-encode_upper, length-encode_with}
 use Rattle.bit_messages.specs.Octets.{octets_of, bits_of, spare_bits}
-use Rattle.bit_messages.proofs.OctetLemmas.{bits_again, octets_below, length-bits_of}
+use Rattle.bit_messages.proofs.lemmas.{bits_again, length-bits_of, octets_below, packs_octets}
 use Rattle.bit_messages.specs.Packed.{Packs}
-use Rattle.bit_messages.proofs.PackedLemmas.{packs_octets}
-use Rattle.script.specs.Spelling.{octets_text, IsHex, ReadsAs, is_upper_digit, IsTextWord, IsWordOfText}
+use Rattle.script.specs.Spelling.{octets_text, IsHex, is_upper_digit, IsTextWord, IsWordOfText}
 use Rattle.script.proofs.Digits.{IsSpelled, spelled_octets, spelled_digits, spelled_even, upper_are_digits, digits_small}
 use Rattle.std.specs.List.{list_all}
 use Rattle.std.proofs.lemmas.List.Sums.{AllPass-from_list_all}
@@ -21,12 +20,12 @@ pub text_again : (text : List Bool) → take (length text) (bits_of (octets_of t
 text_again text = ap (take (length text)) (bits_again text) ∙ take_at text (replicate (spare_bits (length text)) false) (length text) refl
 
 -- and there are enough of them
-pub enough_octets : (text : List Bool) → length text ≤ 8 * length (octets_of text)
+enough_octets : (text : List Bool) → length text ≤ 8 * length (octets_of text)
 enough_octets text =
     let all : 8 * length (octets_of text) ≡ length text + length (replicate (spare_bits (length text)) false) = sym (length-bits_of (octets_of text)) ∙ ap length (bits_again text) ∙ length-append text _ in
     omega arith
 
-pub spelled_text : (text : List Bool) → 0 < length text → octets_text text ≡ encode_upper (octets_of text)
+spelled_text : (text : List Bool) → 0 < length text → octets_text text ≡ encode_upper (octets_of text)
 spelled_text [] some = absurd (omega arith)
 spelled_text (b ∷ bits) some = refl
 
@@ -73,15 +72,6 @@ this_case word octets bits count some enough first same spelled =
     let all : length (bits_of octets) ≡ 8 * length octets = length-bits_of octets in
     let long : length bits ≡ count = ap length first ∙ length-take-le count (bits_of octets) (omega arith) in
     record { long = long; text = spelled ∙ ap encode_upper (sym same) ∙ sym (spelled_text bits (omega arith)) }
-
--- bits that are a short text
-pub text_made : (word : List ℕ) (count : ℕ) (bits : List Bool) (o : Option (List Bool)) → count ≤ 8063 → Spelled word count bits → (length bits ≤ 8063 → IsSome o) → IfSome o (λ text. text ≡ bits) → ReadsAs octets_text (λ text. length text ≡ count) word o
-text_made word count bits None few spelled short same =
-    let long : length bits ≡ count = spelled.long in
-    let few_bits : length bits ≤ 8063 = omega arith in
-    absurd (false≢true (short few_bits))
-text_made word count bits (Some t) few spelled short same =
-    (spelled.text ∙ ap octets_text (sym same), ap length same ∙ spelled.long)
 
 pub on_error : {T E : Type 0} (P : Type 0) (r : Result T E) → P → IfErr r (λ _. P)
 on_error P (Ok x) p = tt

@@ -3,7 +3,7 @@ use Rattle.std.specs.Prelude.{◌≡◌, ◌≢◌, ℕ, ◌≤◌, ◌-◌, ◌
 use Rattle.std.specs.Borrow.{Bor}
 use Rattle.std.specs.List.{All, slice_split}
 use Rattle.script.specs.Spelling.{spelling, IsEvent, WantsMemory}
-use Rattle.script.specs.declared.event.Event.{Event}
+use Rattle.script.specs.declared.event.RawEvent.{RawEvent}
 use Rattle.script.specs.declared.fault.LineFault.{LineFault}
 use Rattle.script.specs.declared.fault.LineFault.TheVariants as fault
 
@@ -27,7 +27,7 @@ asks line = not (is_passed_over line)
 
 -- ---- events of any kind, by how they are spelled and which of them are valid
 
--- the lines that are not passed over spell these events, in order
+-- the lines that are not ignored spell these events, in order
 pub record AskForAs {E : Type 0} (spelled_as : E → List ℕ) (IsMeant : E → Type 0) (events : List E) (lines : List (List ℕ)) : Type 0 where
   pub spelled : map spelled_as events ≡ filter asks lines
   pub meant : All IsMeant events
@@ -46,28 +46,28 @@ pub record IsFirstBadAs {E : Type 0} (spelled_as : E → List ℕ) (IsMeant : E 
   pub reached : IsReachedAs spelled_as IsMeant text number line
   pub bad : (e : E) → IsMeant e → line ≢ spelled_as e
 
--- memory ran out at a line that wants some
+-- memory ran out at a line that needs some
 pub record RanOutAs {E : Type 0} (spelled_as : E → List ℕ) (IsMeant : E → Type 0) (Wants : List ℕ → Type 0) (text : List ℕ) : Type 0 where
   pub number : ℕ
   pub line : List ℕ
   pub reached : IsReachedAs spelled_as IsMeant text number line
   pub wants : Wants line
 
--- why a script has no events: its first bad line, or want of memory
+-- why a script has no events: its first bad line, or that memory ran out
 abbrev pub IsLineFaultAs : {E : Type 0} → (E → List ℕ) → (E → Type 0) → (List ℕ → Type 0) → List ℕ → LineFault → Type 0
 IsLineFaultAs spelled IsMeant Wants text (fault.BadLine number) = IsFirstBadAs spelled IsMeant text number
 IsLineFaultAs spelled IsMeant Wants text fault.OutOfMemory = RanOutAs spelled IsMeant Wants text
 
 -- ---- the events of a network without host programs
 
--- the lines that are not passed over spell these events, in order
-abbrev pub AskFor : List Event → List (List ℕ) → Type 0
+-- the lines that are not ignored spell these events, in order
+abbrev pub AskFor : List RawEvent → List (List ℕ) → Type 0
 AskFor events lines = AskForAs spelling IsEvent events lines
 
 -- this is the first line that spells no event
 abbrev pub IsFirstBad : List ℕ → ℕ → Type 0
 IsFirstBad text number = IsFirstBadAs spelling IsEvent text number
 
--- why a script has no events: its first bad line, or want of memory
+-- why a script has no events: its first bad line, or that memory ran out
 abbrev pub IsLineFault : List ℕ → LineFault → Type 0
 IsLineFault text f = IsLineFaultAs spelling IsEvent WantsMemory text f

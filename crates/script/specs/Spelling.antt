@@ -12,8 +12,8 @@ use Rattle.leader1822.specs.declared.event.Direction.TheVariants as direction
 use Rattle.leader1822.specs.declared.event.NetEvent.{NetEvent}
 use Rattle.leader1822.specs.declared.event.NetEvent.TheVariants as net
 use Rattle.leader1822.specs.declared.message.HostMessage.{HostMessage}
-use Rattle.script.specs.declared.event.Event.{Event}
-use Rattle.script.specs.declared.event.Event.TheVariants as event
+use Rattle.script.specs.declared.event.RawEvent.{RawEvent}
+use Rattle.script.specs.declared.event.RawEvent.TheVariants as event
 
 -- a word spells this value, which is valid; `None` where it spells no valid value
 abbrev pub ReadsAs : {X : Type 0} → (X → List ℕ) → (X → Type 0) → List ℕ → Option X → Type 0
@@ -79,7 +79,7 @@ net_spelling (net.Forget at from) = codes "forget " ++ (decimal at ++ (codes " "
 net_spelling (net.Abandon f) = codes "abandon " ++ flow_text f
 
 -- an event's line
-abbrev pub spelling : Event → List ℕ
+abbrev pub spelling : RawEvent → List ℕ
 spelling (event.Out m) = codes "out " ++ message_text m
 spelling (event.Take h) = codes "take " ++ host_text h
 spelling (event.Net e) = net_spelling e
@@ -110,7 +110,7 @@ IsNetEvent (net.Forget at from) = IsImp at × IsImp from
 IsNetEvent (net.Abandon f) = IsFlow f
 
 -- the events that a script may ask for
-abbrev pub IsEvent : Event → Type 0
+abbrev pub IsEvent : RawEvent → Type 0
 IsEvent (event.Out m) = IsMessage m
 IsEvent (event.Take h) = IsHost h
 IsEvent (event.Net e) = IsNetEvent e
@@ -132,6 +132,6 @@ pub record IsTextRead (words : List ℕ) : Type 0 where
   pub few : count ≤ 8063
   pub hex : IsHex word
 
--- memory is wanted to read a message's octets, and to keep an event
+-- memory is needed to read a message's octets, and to keep an event
 abbrev pub WantsMemory : List ℕ → Type 0
-WantsMemory line = ((words : List ℕ) × (line ≡ codes "out " ++ words) × IsTextRead words) ⊎ ((e : Event) × (line ≡ spelling e) × IsEvent e)
+WantsMemory line = ((words : List ℕ) × (line ≡ codes "out " ++ words) × IsTextRead words) ⊎ ((e : RawEvent) × (line ≡ spelling e) × IsEvent e)

@@ -4,7 +4,7 @@ use leader1822::{HostAddr, HostMessage, NetEvent};
 
 /// What a line of a script asks for.
 #[derive(Debug, Drop)]
-pub enum Event {
+pub enum RawEvent {
     /// The source of this message hands it to its IMP.
     Out(HostMessage),
     /// This host takes what waits for it.

@@ -6,7 +6,7 @@ ghost use Rattle.script.specs.Script.{lines_of, is_passed_over, AskFor, IsLineFa
 ghost use Rattle.script.specs.Spelling.{ReadsAs, IsFlow, IsMessage, IsEvent, IsTextRead, WantsMemory, message_text, spelling};
 ghost use Rattle.script.specs.Steps.{ReadsFlow, Lacks};
 
-use crate::event::Event;
+use crate::event::RawEvent;
 use crate::fault::LineFault;
 use crate::input::{MAX_INPUT, first_line};
 use crate::network::read_net;
@@ -14,13 +14,13 @@ use crate::word::{cut, plain_number, read_count, read_host, read_octet, read_tex
 use leader1822::{Flow, HostMessage, Link};
 use std::alloc::{AllocError, Global};
 
-/// The events of a script, in order. Empty lines and lines that begin with `#` are passed over, but they are
+/// The events of a script, in order. Empty lines and lines that begin with `#` are ignored, but they are
 /// counted.
 ///
-/// Errors: `BadLine` with the number of the first line, counted from 1, that is no event. `OutOfMemory` only
-/// at a line that wants memory, an event or a message whose octets are hexadecimal, with no bad line before
+/// Errors: `BadLine` with the number of the first line, counted from 1, that is not an event. `OutOfMemory` only
+/// at a line that needs memory, an event or a message whose octets are hexadecimal, with no bad line before
 /// it.
-pub fn read_script(alloc: Global, text: &[u8]) -> Result<Vec<Event>, LineFault>
+pub fn read_script(alloc: Global, text: &[u8]) -> Result<Vec<RawEvent>, LineFault>
     requires { length text.now ≤ MAX_INPUT }
     ensures { MatchResult result (λ events. AskFor events.items (lines_of text.now)) (IsLineFault text.now) }
 {
@@ -54,7 +54,7 @@ pub fn is_passed_over(line: &[u8]) -> bool
 /// The event that a line asks for. `None` if the line is not a valid event.
 ///
 /// Errors: `AllocError`, only for a message.
-fn read_event(alloc: Global, line: &[u8]) -> Result<Option<Event>, AllocError>
+fn read_event(alloc: Global, line: &[u8]) -> Result<Option<RawEvent>, AllocError>
     ensures read { IfOk result (ReadsAs spelling IsEvent line.now) }
     ensures memory { IfErr result (λ _. WantsMemory line.now) }
 {
@@ -62,24 +62,24 @@ fn read_event(alloc: Global, line: &[u8]) -> Result<Option<Event>, AllocError>
         return Ok(None);
     };
     if word == b"out".as_slice() {
-        return Ok(read_message(alloc, rest)?.map(Event::Out));
+        return Ok(read_message(alloc, rest)?.map(RawEvent::Out));
     }
     Ok(read_plain(word, rest))
 }
 
 /// The event of a line without a text, from its first word and what follows it.
-fn read_plain(word: &[u8], rest: &[u8]) -> Option<Event>
+fn read_plain(word: &[u8], rest: &[u8]) -> Option<RawEvent>
     requires word { Lacks 32 word.now }
     requires not_out { word.now ≢ codes "out" }
     ensures { ReadsAs spelling IsEvent (word.now ++ 32 ∷ rest.now) result }
 {
     if word == b"take".as_slice() {
-        return Some(Event::Take(read_host(rest)?));
+        return Some(RawEvent::Take(read_host(rest)?));
     }
     if word == b"calm".as_slice() {
-        return Some(Event::Calm(plain_number(rest)?));
+        return Some(RawEvent::Calm(plain_number(rest)?));
     }
-    Some(Event::Net(read_net(word, rest)?))
+    Some(RawEvent::Net(read_net(word, rest)?))
 }
 
 /// The first two words, and what stands after them.

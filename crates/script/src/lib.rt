@@ -16,7 +16,7 @@ mod network;
 pub mod reading;
 mod word;
 
-pub use event::Event;
+pub use event::RawEvent;
 pub use events::read_script;
 pub use fault::LineFault;
 pub use input::{MAX_INPUT, split_input};

@@ -1,4 +1,4 @@
-//! The worked rows of topologies, scripts, options and whole inputs.
+//! The worked rows of topologies, options and faults. Whole inputs and their output are stored, in `cases/`.
 //!
 //! `message_tests` says why there are such rows.
 //!

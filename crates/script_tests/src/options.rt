@@ -6,7 +6,7 @@ use script::LineFault;
 use std::alloc::{AllocError, Global};
 use std::fmt::Display;
 use std::io::Cursor;
-use topology::{CarrierKind, Ends, ImpHosts, TopologyFault};
+use topology::{CarrierKind, ImpHosts, LineEnds, TopologyFault};
 
 /// Words that are no options.
 const NO_OPTIONS: [&[&str]; 8] = [
@@ -68,12 +68,33 @@ fn options_in_any_order(rt: HostRuntime) {
 /// A host at an IMP, and a script of no event.
 const NO_SCRIPT: &[u8] = b"carrier = \"plain\"\nraw = true\n[[imp]]\nid = 1\nhosts = 1\n%\n";
 
-/// How the simulator ends on these words and that input, and whether it wrote this.
-fn ended(alloc: Global, words: &[&str], printed: &[u8]) -> (Result<(), ScriptFault>, bool) {
+/// Two hosts of a raw network, and a script with a message that is taken and answered.
+const RAW: &[u8] =
+    b"carrier = \"plain\"\nraw = true\n[[imp]]\nid = 1\nhosts = 1\n[[imp]]\nid = 2\nhosts = 1\n%\nout 0/1 0/2 5 24 414243\nout 0/1 0/2 5 8 FF\ntake 0/2\ntake 0/1\ntake 0/1\n";
+
+/// What it prints.
+const RAW_PRINTED: &[u8] =
+    b"out 0/1 0/2 5 24\nrefused Blocked\nin 0/1 0/2 5 24\nanswer rfnm 0/1 0/2 5\nend\n";
+
+/// Two hosts with programs, and a script with a connection that opens and closes.
+const WORLD: &[u8] =
+    b"carrier = \"plain\"\nraw = false\n[[imp]]\nid = 1\nhosts = 1\n[[imp]]\nid = 2\nhosts = 1\n%\ncontact 0/1 0/2\ncalm 3\nlisten 0/2 33 8\nopenrecv 0/1 0/2 16 33\ncalm 2\nclose 0/1 16\ncalm 2\n";
+
+/// What it prints, with the lives of its book.
+const WORLD_PRINTED: &[u8] =
+    b"out 0/1 0/2 0 48\nin 0/1 0/2 0 48\nready 0/2 0/1\nout 0/2 0/1 0 48\nanswer rfnm 0/1 0/2 0\nin 0/2 0/1 0 48\nready 0/1 0/2\nanswer rfnm 0/2 0/1 0\nout 0/1 0/2 0 120\nin 0/1 0/2 0 120\nout 0/2 0/1 0 120\nopened 0/2 33 0/1 16\nanswer rfnm 0/1 0/2 0\nin 0/2 0/1 0 120\nopened 0/1 16 0/2 33\nanswer rfnm 0/2 0/1 0\nout 0/1 0/2 0 112\nin 0/1 0/2 0 112\nout 0/2 0/1 0 112\nended 0/2 33 0/1 16\nanswer rfnm 0/1 0/2 0\nin 0/2 0/1 0 112\nended 0/1 16 0/2 33\nanswer rfnm 0/2 0/1 0\nlife 0/2 33 0/1 16 8 7 send 0 0 0 0 0 0 ended\nlife 0/1 16 0/2 33 6 10 receive 0 0 0 0 0 0 ended\nend\n";
+
+/// How the simulator ends on these words and this input, and whether it wrote this.
+fn ended(
+    alloc: Global,
+    words: &[&str],
+    input: &[u8],
+    printed: &[u8],
+) -> (Result<(), ScriptFault>, bool) {
     let Ok(words) = strings(alloc, words) else {
         return (Err(ScriptFault::OutOfMemory), false);
     };
-    let mut reader = Cursor::new(NO_SCRIPT);
+    let mut reader = Cursor::new(input);
     let mut writer = Vec::new(alloc);
     let result = run(alloc, &words, &mut reader, &mut writer);
     (result, writer.as_slice() == printed)
@@ -82,13 +103,17 @@ fn ended(alloc: Global, words: &[&str], printed: &[u8]) -> (Result<(), ScriptFau
 #[test]
 fn the_words_say_what_is_done(rt: HostRuntime) {
     let found = [
-        ended(rt.alloc(), &["--book"], b"end\n"),
-        ended(rt.alloc(), &["--check"], b"ok\n"),
-        ended(rt.alloc(), &["--quiet"], b""),
+        ended(rt.alloc(), &["--book"], NO_SCRIPT, b"end\n"),
+        ended(rt.alloc(), &["--check"], NO_SCRIPT, b"ok\n"),
+        ended(rt.alloc(), &[], RAW, RAW_PRINTED),
+        ended(rt.alloc(), &["--book"], WORLD, WORLD_PRINTED),
+        ended(rt.alloc(), &["--quiet"], NO_SCRIPT, b""),
     ];
     assert_eq!(rt;
         found,
         [
+            (Ok(()), true),
+            (Ok(()), true),
             (Ok(()), true),
             (Ok(()), true),
             (Err(ScriptFault::BadOptions), true)
@@ -164,7 +189,7 @@ fn copies_equal_and_other_values_do_not(rt: HostRuntime) {
         are_apart(&[ReplayFault::OutOfMemory, ReplayFault::CannotWrite]),
         are_apart(&[CarrierKind::Plain, CarrierKind::Subnet]),
         are_apart(&[(1, 2), (2, 1), (2, 2)].map(|(imp, hosts)| ImpHosts { imp, hosts })),
-        are_apart(&[(1, 2), (2, 1), (2, 2)].map(|(a, b)| Ends { a, b })),
+        are_apart(&[(1, 2), (2, 1), (2, 2)].map(|(a, b)| LineEnds { a, b })),
     ];
     assert_eq!(rt; found, [true; 10]);
 }

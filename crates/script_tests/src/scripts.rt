@@ -1,67 +1,12 @@
-//! Whole inputs in memory that are replayed, and bad ones.
+//! Reads and writes that fail, and inputs that never end. Scripts and what they print are stored inputs, in `cases/`.
 
 use command_line::{ScriptFault, run_script};
-use std::alloc::{AllocError, Global};
+use std::alloc::Global;
 use std::io;
 use std::io::{Cursor, Read, Write};
 
-mod bad;
-mod faults;
-mod runs;
-mod worlds;
-
-/// Two IMPs with a host each, and the marker.
-const TWO_IMPS: &str =
-    "carrier = \"plain\"\nraw = true\n[[imp]]\nid = 1\nhosts = 1\n[[imp]]\nid = 2\nhosts = 1\n%\n";
-
-/// An input: a topology with the marker, and after it some octets, so many that are all alike, and some
-/// more.
-#[derive(Clone, Copy)]
-struct Input<'a> {
-    topology: &'a [u8],
-    front: &'a [u8],
-    filling: u8,
-    count: usize,
-    back: &'a [u8],
-}
-
-/// The input of two IMPs and this script.
-fn over_two_imps(script: &[u8]) -> Input<'_> {
-    Input {
-        topology: TWO_IMPS.as_bytes(),
-        front: script,
-        filling: 0,
-        count: 0,
-        back: b"",
-    }
-}
-
 /// How a replay ends, and whether it wrote what it should.
 type Ended = (Result<(), ScriptFault>, bool);
-
-/// How the replay of this input ends, and whether it wrote this.
-fn run(alloc: Global, input: &[u8], check: bool, printed: &[u8]) -> Ended {
-    let mut reader = Cursor::new(input);
-    let mut writer = Vec::new(alloc);
-    let result = run_script(alloc, &mut reader, &mut writer, false, check);
-    (result, writer.as_slice() == printed)
-}
-
-/// The same of an input that is put together first.
-fn run_input(
-    alloc: Global,
-    input: Input<'_>,
-    check: bool,
-    printed: &[u8],
-) -> Result<Ended, AllocError> {
-    let mut octets = Vec::from_slice(alloc, input.topology)?;
-    octets.extend_from_slice(input.front)?;
-    for _ in 0..input.count {
-        octets.push(input.filling)?;
-    }
-    octets.extend_from_slice(input.back)?;
-    Ok(run(alloc, &octets, check, printed))
-}
 
 /// Gives one octet a read, and fails at a read.
 #[derive(Drop)]
@@ -109,4 +54,99 @@ impl Write for FailingWriter {
     fn flush(&mut self) -> io::Result<()> {
         Ok(())
     }
+}
+
+/// How a run ends whose read fails after so many, and whether it wrote nothing.
+fn run_failing_reads(alloc: Global, reads: u32) -> Ended {
+    let mut reader = FailingReader { reads };
+    let mut writer = Vec::new(alloc);
+    let result = run_script(alloc, &mut reader, &mut writer, false, false);
+    (result, writer.is_empty())
+}
+
+#[test]
+fn each_read_may_fail(rt: HostRuntime) {
+    for reads in [0, 1, 2, 100, 1000] {
+        let ended = run_failing_reads(rt.alloc(), reads);
+        assert_eq!(rt;
+            ended,
+            (Err(ScriptFault::CannotRead), true),
+            "after {reads} reads"
+        );
+    }
+}
+
+/// Two hosts at one IMP, of which the first offers a message that the second takes.
+const OFFER_AND_TAKE: &[u8] =
+    b"carrier = \"plain\"\nraw = true\n[[imp]]\nid = 1\nhosts = 2\n%\nout 0/1 1/1 5 0 -\ntake 1/1\n";
+
+/// What a message offered and taken prints.
+const OFFERED_AND_TAKEN: &[u8] = b"out 0/1 1/1 5 0\nin 0/1 1/1 5 0\nend\n";
+
+/// How a run ends that has room for so many octets, and whether it wrote the first so many of all.
+fn run_failing_writes(alloc: Global, room: usize) -> Ended {
+    let mut writer = FailingWriter {
+        kept: Vec::new(alloc),
+        room,
+    };
+    let mut reader = Cursor::new(OFFER_AND_TAKE);
+    let result = run_script(alloc, &mut reader, &mut writer, false, false);
+    let first = OFFERED_AND_TAKEN.get(..room);
+    (result, first == Some(writer.kept.as_slice()))
+}
+
+#[test]
+fn each_write_may_fail(rt: HostRuntime) {
+    for room in 0..OFFERED_AND_TAKEN.len() {
+        let ended = run_failing_writes(rt.alloc(), room);
+        assert_eq!(rt; ended, (Err(ScriptFault::CannotWrite), true), "at {room}");
+    }
+}
+
+/// Gives as many octets as it is asked for, and never ends.
+#[derive(Drop)]
+struct EndlessReader {
+    given: usize,
+}
+
+impl Read for EndlessReader {
+    fn read(&mut self, buf: &mut [u8]) -> io::Result<usize> {
+        buf.fill(b'#');
+        self.given = self.given.saturating_add(buf.len());
+        Ok(buf.len())
+    }
+}
+
+#[test]
+fn of_an_endless_input_one_octet_too_many_is_read(rt: HostRuntime) {
+    let mut reader = EndlessReader { given: 0 };
+    let mut writer = Vec::new(rt.alloc());
+    let result = run_script(rt.alloc(), &mut reader, &mut writer, false, false);
+    assert_eq!(rt;
+        (result, reader.given, writer.is_empty()),
+        (Err(ScriptFault::BadTopology), 1_048_577, true)
+    );
+}
+
+/// Takes all octets, and fails to hand them on.
+#[derive(Drop)]
+struct FailingFlush;
+
+impl Write for FailingFlush {
+    fn write(&mut self, buf: &[u8]) -> io::Result<usize> {
+        Ok(buf.len())
+    }
+
+    fn flush(&mut self) -> io::Result<()> {
+        Err(io::Error::from(io::ErrorKind::Other))
+    }
+}
+
+#[test]
+fn the_last_flush_may_fail(rt: HostRuntime) {
+    let ended = [false, true].map(|check| {
+        let mut reader = Cursor::new(OFFER_AND_TAKE);
+        run_script(rt.alloc(), &mut reader, &mut FailingFlush, false, check)
+    });
+    assert_eq!(rt; ended, [Err(ScriptFault::CannotWrite); 2]);
 }

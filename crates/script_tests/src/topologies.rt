@@ -3,7 +3,7 @@
 use std::alloc::Global;
 use std::io;
 use std::io::Write;
-use topology::{CarrierKind, Ends, ImpHosts, Topology, TopologyFault};
+use topology::{CarrierKind, ImpHosts, LineEnds, Topology, TopologyFault};
 
 /// All that is seen of a topology, in words: its carrier, whether there are no host programs, its IMPs with
 /// their numbers of hosts, its lines, and its hosts.

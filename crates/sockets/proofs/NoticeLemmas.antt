@@ -6,7 +6,7 @@ use Rattle.leader1822.specs.declared.crossing.Answer.{Answer}
 use Rattle.leader1822.specs.declared.crossing.Inbound.TheVariants as inbound
 use Rattle.leader1822.specs.declared.message.HostMessage.{HostMessage}
 use Rattle.host_pairs.specs.Turn.{message_taken, freed, answered_turn}
-use Rattle.sockets.specs.Accepting.{turn_of, turned, accepted}
+use Rattle.sockets.specs.Accepting.{turn_of, after_turn, accepted}
 use Rattle.host_pairs.specs.Entries.{is_busy}
 use Rattle.host_pairs.specs.About.{AreAbout}
 use Rattle.sockets.specs.Pairs.{NcpState, pair_with}
@@ -19,7 +19,7 @@ use Rattle.host_pairs.specs.declared.notice.Notice.{Notice}
 use Rattle.host_pairs.specs.declared.notice.Notice.TheVariants as notice
 use Rattle.sockets.specs.declared.peer.Peer.{Peer}
 use Rattle.sockets.specs.declared.request.Request.TheVariants as request
-use Rattle.host_pairs.proofs.NoticeLemmas.{about_if, text_told, answer_told, parcel_kept}
+use Rattle.host_pairs.proofs.lemmas.{about_if, answer_told, parcel_kept, text_told}
 
 -- ---- a host
 
@@ -31,7 +31,7 @@ pub message_about : (s : NcpState) (m : HostMessage) (stamp : ℕ) → AreAbout 
 unfolding accepted
 message_about s m stamp =
     let p : Host = m.flow.source in
-    if_turned p (same_host s.own m.flow.destination) (turned s p (message_taken p stamp m.flow.link.0 m.text (turn_of s p))) (s, [])
+    if_turned p (same_host s.own m.flow.destination) (after_turn s p (message_taken p stamp m.flow.link.0 m.text (turn_of s p))) (s, [])
     (text_told p stamp m.flow.link.0 m.text (turn_of s p) tt) tt
 
 pub answer_about : (s : NcpState) (kind : Answer) (f : Flow) (stamp : ℕ) → AreAbout f.destination (accepted s (inbound.Answer kind f) stamp).1
@@ -39,8 +39,8 @@ unfolding accepted
 answer_about s kind f stamp =
     let p : Host = f.destination in
     if_turned p (same_host s.own f.source)
-    (cond {A = NcpState × List Notice} (is_busy (pair_with p s.peers).busy f.link.0) (turned s p (answered_turn p kind f.link.0 (turn_of s p))) (s, [])) (s, [])
-    (if_turned p (is_busy (pair_with p s.peers).busy f.link.0) (turned s p (answered_turn p kind f.link.0 (turn_of s p))) (s, [])
+    (cond {A = NcpState × List Notice} (is_busy (pair_with p s.peers).busy f.link.0) (after_turn s p (answered_turn p kind f.link.0 (turn_of s p))) (s, [])) (s, [])
+    (if_turned p (is_busy (pair_with p s.peers).busy f.link.0) (after_turn s p (answered_turn p kind f.link.0 (turn_of s p))) (s, [])
     (answer_told p kind f.link.0 (record (turn_of s p) { pair = freed f.link.0 (turn_of s p).pair }) tt) tt) tt
 
 pub offer_about : (s : NcpState) (stamp : ℕ) (p : Peer) (parcel : Parcel) → next_in s.peers ≡ Some (p, parcel) → AreAbout p.host (offered s stamp).1

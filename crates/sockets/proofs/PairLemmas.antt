@@ -6,7 +6,7 @@ use Rattle.host_pairs.specs.Pair.{PairState, opening_pair, is_opening}
 use Rattle.sockets.specs.Pairs.{pair_with, with_pair, placed, without_peer}
 use Rattle.sockets.specs.declared.peer.Peer.{Peer}
 use Rattle.sockets.proofs.PeerLemmas.{same_host-true, same_octet}
-use Rattle.host_pairs.proofs.OpeningLemmas.{opening_is}
+use Rattle.host_pairs.proofs.lemmas.{opening_is}
 
 -- ---- one host or another
 

@@ -3,7 +3,7 @@ use Rattle.std.proofs.Common.{◌≡◌, List, [], ◌∷◌, Option, Some, None
 use Rattle.host_pairs.specs.Parcels.{Parcel, next_of}
 use Rattle.sockets.specs.Sending.{next_in, parcel_for}
 use Rattle.sockets.specs.declared.peer.Peer.{Peer}
-use Rattle.host_pairs.proofs.ParcelLemmas.{some_is}
+use Rattle.host_pairs.proofs.lemmas.{some_is}
 
 -- ---- of which peer
 

@@ -33,7 +33,7 @@ pub same_octet : (g h : Host) → same_host g h ≡ true → address_octet g ≡
 same_octet g h e = ap (λ (x : Host). address_octet x) (same_host-true g h e)
 
 -- two hosts with one octet are one
-pub octet_names : (g h : Host) → IsAddress g → IsAddress h → address_octet g ≡ address_octet h → same_host g h ≡ true
+octet_names : (g h : Host) → IsAddress g → IsAddress h → address_octet g ≡ address_octet h → same_host g h ≡ true
 octet_names g h a b e =
     let imp : g.imp ≡ h.imp = omega (arith, e, a.imp_to, b.imp_to, a.host_to, b.host_to) in
     let host : g.host ≡ h.host = omega (arith, e, a.imp_to, b.imp_to, a.host_to, b.host_to) in
@@ -48,7 +48,7 @@ not_less_by m n le false e = refl
 not_less : (m n : ℕ) → n ≤ m → nat_lt m n ≡ false
 not_less m n le = not_less_by m n le (nat_lt m n) refl
 
-pub above_less : (m n : ℕ) (ps : List Peer) → m ≤ n → StandAbove n ps → StandAbove m ps
+above_less : (m n : ℕ) (ps : List Peer) → m ≤ n → StandAbove n ps → StandAbove m ps
 above_less m n [] le h = h
 above_less m n (p ∷ ps) le h = (omega (arith, le, h.0), h.1, h.2)
 
@@ -59,11 +59,11 @@ differs h p lt false e = refl
 pub other : (h : Host) (p : Peer) → address_octet h < address_octet p.host → same_host h p.host ≡ false
 other h p lt = differs h p lt (same_host h p.host) refl
 
-pub none_above : (h : Host) (n : ℕ) (ps : List Peer) → address_octet h ≤ n → StandAbove n ps → find (λ (p : Peer). same_host h p.host) ps ≡ None
+none_above : (h : Host) (n : ℕ) (ps : List Peer) → address_octet h ≤ n → StandAbove n ps → find (λ (p : Peer). same_host h p.host) ps ≡ None
 none_above h n [] le s = refl
 none_above h n (p ∷ ps) le s = rw (other h p (omega (arith, le, s.0))) (none_above h (address_octet p.host) ps (omega (arith, le, s.0)) s.2)
 
-pub kept_above : (h : Host) (n : ℕ) (ps : List Peer) → address_octet h ≤ n → StandAbove n ps → without_peer h ps ≡ ps
+kept_above : (h : Host) (n : ℕ) (ps : List Peer) → address_octet h ≤ n → StandAbove n ps → without_peer h ps ≡ ps
 kept_above h n [] le s = refl
 kept_above h n (p ∷ ps) le s = rw (other h p (omega (arith, le, s.0))) (ap (λ (qs : List Peer). p ∷ qs) (kept_above h (address_octet p.host) ps (omega (arith, le, s.0)) s.2))
 
@@ -156,7 +156,7 @@ placed_below n p q qs lt a s rest false false e f =
     let not_same : (address_octet p.host ≡ address_octet q.host) → ⊥ = λ w. (let y : same_host p.host q.host ≡ true = octet_names p.host q.host a s.1 w in absurd (cc)) in
     rw (e, f) (lt, a, (less_of (address_octet q.host) (address_octet p.host) (ltb-false (address_octet q.host) (address_octet p.host) e) not_same, s.1, s.2))
 
-pub placed_above : (n : ℕ) (p : Peer) (ps : List Peer) → n < address_octet p.host → IsAddress p.host → StandAbove n ps → StandAbove n (placed p ps)
+placed_above : (n : ℕ) (p : Peer) (ps : List Peer) → n < address_octet p.host → IsAddress p.host → StandAbove n ps → StandAbove n (placed p ps)
 placed_above n p [] lt a s = (lt, a, tt)
 placed_above n p (q ∷ qs) lt a s =
     placed_below n p q qs lt a s (λ m l t. placed_above m p qs l a t) (nat_lt (address_octet q.host) (address_octet p.host)) (same_host p.host q.host) refl refl
@@ -166,7 +166,7 @@ without_one : (h : Host) (n : ℕ) (p : Peer) (ps : List Peer) → StandAbove n 
 without_one h n p ps s rest true e = rw e (rest n (above_less n (address_octet p.host) ps (omega (arith, s.0)) s.2))
 without_one h n p ps s rest false e = rw e (s.0, s.1, rest (address_octet p.host) s.2)
 
-pub without_above : (h : Host) (n : ℕ) (ps : List Peer) → StandAbove n ps → StandAbove n (without_peer h ps)
+without_above : (h : Host) (n : ℕ) (ps : List Peer) → StandAbove n ps → StandAbove n (without_peer h ps)
 without_above h n [] s = tt
 without_above h n (p ∷ ps) s = without_one h n p ps s (λ m t. without_above h m ps t) (same_host h p.host) refl
 
@@ -179,40 +179,10 @@ placed_first p n (q ∷ qs) le s =
     let lt : nat_lt (address_octet q.host) (address_octet p.host) ≡ false = not_less (address_octet q.host) (address_octet p.host) (omega (arith, le, s.0)) in
     rw (lt, other p.host q (omega (arith, le, s.0))) refl
 
-placed_other : (n : ℕ) (p q : Peer) (qs : List Peer) → StandAbove n (q ∷ qs) → placed p (without_peer p.host qs) ≡ placed p qs
-    → (below same : Bool) → nat_lt (address_octet q.host) (address_octet p.host) ≡ below → same_host p.host q.host ≡ same → placed p (without_peer p.host (q ∷ qs)) ≡ placed p (q ∷ qs)
-placed_other n p q qs s rest true true e f = absurd (let o : address_octet p.host ≡ address_octet q.host = same_octet p.host q.host f in omega (arith, o, ltb-true (address_octet q.host) (address_octet p.host) e))
-placed_other n p q qs s rest false true e f =
-    let o : address_octet p.host ≤ address_octet q.host = omega (arith, same_octet p.host q.host f) in
-    let first : placed p (without_peer p.host qs) ≡ p ∷ qs =
-    ap (λ (ps : List Peer). placed p ps) (kept_above p.host (address_octet q.host) qs o s.2) ∙ placed_first p (address_octet q.host) qs o s.2 in
-    rw (e, f) first
-placed_other n p q qs s rest true false e f = rw (e, f) (let more : placed p (q ∷ without_peer p.host qs) ≡ q ∷ placed p qs = rw e (ap (λ (ps : List Peer). q ∷ ps) rest) in more)
-placed_other n p q qs s rest false false e f =
-    let le : address_octet p.host ≤ address_octet q.host = ltb-false (address_octet q.host) (address_octet p.host) e in
-    let more : placed p (q ∷ without_peer p.host qs) ≡ p ∷ q ∷ qs = rw (e, f) (ap (λ (ps : List Peer). p ∷ q ∷ ps) (kept_above p.host (address_octet q.host) qs le s.2)) in
-    rw (e, f) more
-
-placed_again : (n : ℕ) (p : Peer) (ps : List Peer) → StandAbove n ps → placed p (without_peer p.host ps) ≡ placed p ps
-placed_again n p [] s = refl
-placed_again n p (q ∷ qs) s =
-    placed_other n p q qs s (placed_again (address_octet q.host) p qs s.2) (nat_lt (address_octet q.host) (address_octet p.host)) (same_host p.host q.host) refl refl
-
 without_other : (h : Host) (p : Peer) (ps : List Peer) → without_peer h (without_peer h ps) ≡ without_peer h ps
     → (same : Bool) → same_host h p.host ≡ same → without_peer h (without_peer h (p ∷ ps)) ≡ without_peer h (p ∷ ps)
 without_other h p ps rest true e = rw e rest
 without_other h p ps rest false e = rw e (let more : without_peer h (p ∷ without_peer h ps) ≡ p ∷ without_peer h ps = rw e (ap (λ (qs : List Peer). p ∷ qs) rest) in more)
-
-without_again : (h : Host) (ps : List Peer) → without_peer h (without_peer h ps) ≡ without_peer h ps
-without_again h [] = refl
-without_again h (p ∷ ps) = without_other h p ps (without_again h ps) (same_host h p.host) refl
-
-put_again : (h : Host) (q : PairState) (ps : List Peer) → StandAbove 0 ps → (b : Bool) → is_opening q ≡ b → with_pair h q (without_peer h ps) ≡ with_pair h q ps
-put_again h q ps s true e = rw e (without_again h ps)
-put_again h q ps s false e = rw e (placed_again 0 (record { host = h; pair = q }) ps s)
-
-pub with_pair_again : (h : Host) (q : PairState) (ps : List Peer) → StandAbove 0 ps → with_pair h q (without_peer h ps) ≡ with_pair h q ps
-with_pair_again h q ps s = put_again h q ps s (is_opening q) refl
 
 -- ---- what is left in a peer's place
 
@@ -363,6 +333,3 @@ order_removed h ps qs s e = subst (λ (rs : List Peer). AreInOrder rs) (sym e) (
 
 pub order_placed : (p : Peer) (ps qs : List Peer) → IsAddress p.host → AreInOrder ps → qs ≡ placed p ps → AreInOrder qs
 order_placed p ps qs a s e = subst (λ (rs : List Peer). AreInOrder rs) (sym e) (placed_above 0 p ps (omega (arith, a.imp_from)) a s)
-
-pub again_removed : (h : Host) (q : PairState) (ps qs : List Peer) → AreInOrder ps → qs ≡ without_peer h ps → with_pair h q qs ≡ with_pair h q ps
-again_removed h q ps qs s e = ap (λ (rs : List Peer). with_pair h q rs) e ∙ with_pair_again h q ps s

@@ -7,7 +7,7 @@ use Rattle.sockets.specs.Accepting.{accepted}
 use Rattle.host_pairs.specs.Control.{orders_of}
 use Rattle.sockets.specs.Requests.{refusal, served, served_notices}
 use Rattle.sockets.specs.Sending.{next_out, offered}
-use Rattle.sockets.specs.Worked.{first, second, third, heard, reset, many_opened, opened, first_in, second_in, closed, rst_out, rst_taken, ready, RTS, STR, RST}
+use Rattle.sockets.specs.Worked.{first, second, third, control_heard, reset, many_opened, opened_connection, first_in, second_in, closed, rst_out, rst_taken, ready, RTS, STR, RST}
 use Rattle.sockets.specs.declared.fault.NcpFault.TheVariants as fault
 use Rattle.sockets.specs.declared.request.Request.TheVariants as request
 
@@ -23,23 +23,23 @@ pub listening_listen_bad_size : refusal closed (request.Listen 16 0) ≡ Some fa
 unfolding octets_of orders_of read_of command_of packed_count accepted refusal served served_notices next_out offered
 listening_listen_bad_size = refl
 
-pub listening_listen_on_refused : refusal (heard (second_in reset) first (RTS 16 33 5)).0 (request.Listen 33 8) ≡ None
+pub listening_listen_on_refused : refusal (control_heard (second_in reset) first (RTS 16 33 5)).0 (request.Listen 33 8) ≡ None
 unfolding octets_of orders_of read_of command_of packed_count accepted refusal served served_notices next_out offered
 listening_listen_on_refused = refl
 
-pub listening_send_on_refused : refusal (heard (second_in reset) first (RTS 16 33 5)).0 (request.OpenSend first 33 18 8) ≡ None
+pub listening_send_on_refused : refusal (control_heard (second_in reset) first (RTS 16 33 5)).0 (request.OpenSend first 33 18 8) ≡ None
 unfolding octets_of orders_of read_of command_of packed_count accepted refusal served served_notices next_out offered
 listening_send_on_refused = refl
 
-pub listening_send_to_refused : refusal (heard (second_in reset) first (RTS 16 33 5)).0 (request.OpenSend first 33 16 0) ≡ Some fault.InUse
+pub listening_send_to_refused : refusal (control_heard (second_in reset) first (RTS 16 33 5)).0 (request.OpenSend first 33 16 0) ≡ Some fault.InUse
 unfolding octets_of orders_of read_of command_of packed_count accepted refusal served served_notices next_out offered
 listening_send_to_refused = refl
 
-pub listening_receive_from_refused : refusal (heard ready second (STR 33 16 8)).0 (request.OpenReceive second 16 33) ≡ Some fault.InUse
+pub listening_receive_from_refused : refusal (control_heard ready second (STR 33 16 8)).0 (request.OpenReceive second 16 33) ≡ Some fault.InUse
 unfolding octets_of orders_of read_of command_of packed_count accepted refusal served served_notices next_out offered
 listening_receive_from_refused = refl
 
-pub listening_close_refused : refusal (heard (second_in reset) first (RTS 16 33 5)).0 (request.Close 33) ≡ Some fault.NoSuchSocket
+pub listening_close_refused : refusal (control_heard (second_in reset) first (RTS 16 33 5)).0 (request.Close 33) ≡ Some fault.NoSuchSocket
 unfolding octets_of orders_of read_of command_of packed_count accepted refusal served served_notices next_out offered
 listening_close_refused = refl
 
@@ -59,7 +59,7 @@ pub listening_send_in_use : refusal (served ready (request.Listen 17 8)) (reques
 unfolding octets_of orders_of read_of command_of packed_count accepted refusal served served_notices next_out offered
 listening_send_in_use = refl
 
-pub listening_send_own_end : refusal (second_in opened) (request.OpenSend first 33 18 0) ≡ Some fault.InUse
+pub listening_send_own_end : refusal (second_in opened_connection) (request.OpenSend first 33 18 0) ≡ Some fault.InUse
 unfolding octets_of orders_of read_of command_of packed_count accepted refusal served served_notices next_out offered
 listening_send_own_end = refl
 
@@ -83,11 +83,11 @@ pub listening_receive_in_use : refusal (served ready (request.Listen 16 8)) (req
 unfolding octets_of orders_of read_of command_of packed_count accepted refusal served served_notices next_out offered
 listening_receive_in_use = refl
 
-pub listening_receive_own_end : refusal (first_in opened) (request.OpenReceive second 16 35) ≡ Some fault.InUse
+pub listening_receive_own_end : refusal (first_in opened_connection) (request.OpenReceive second 16 35) ≡ Some fault.InUse
 unfolding octets_of orders_of read_of command_of packed_count accepted refusal served served_notices next_out offered
 listening_receive_own_end = refl
 
-pub listening_receive_with_another_peer : refusal (heard (first_in opened) third RST).0 (request.OpenReceive third 16 33) ≡ Some fault.InUse
+pub listening_receive_with_another_peer : refusal (control_heard (first_in opened_connection) third RST).0 (request.OpenReceive third 16 33) ≡ Some fault.InUse
 unfolding octets_of orders_of read_of command_of packed_count accepted refusal served served_notices next_out offered
 listening_receive_with_another_peer = refl
 

@@ -9,7 +9,7 @@ use Rattle.sockets.specs.Requests.{refusal, served, served_notices}
 use Rattle.sockets.specs.Sending.{next_out, offered}
 use Rattle.sockets.specs.declared.request.Request.TheVariants as request
 use Rattle.sockets.specs.Memory.{newly_kept}
-use Rattle.sockets.specs.Worked.{second, opened, first_in, second_in, closed, want, ready}
+use Rattle.sockets.specs.Worked.{second, opened_connection, first_in, second_in, closed, want, ready}
 
 pub memory_contact_known : newly_kept closed (request.Contact second) ≡ 1
 unfolding octets_of orders_of read_of command_of packed_count accepted refusal served served_notices next_out offered
@@ -23,23 +23,23 @@ pub memory_contact_ready : newly_kept ready (request.Contact second) ≡ 1
 unfolding octets_of orders_of read_of command_of packed_count accepted refusal served served_notices next_out offered
 memory_contact_ready = refl
 
-pub memory_send_bits : newly_kept (second_in opened) (request.Send 33 (replicate 8 true)) ≡ 8
+pub memory_send_bits : newly_kept (second_in opened_connection) (request.Send 33 (replicate 8 true)) ≡ 8
 unfolding octets_of orders_of read_of command_of packed_count accepted refusal served served_notices next_out offered
 memory_send_bits = refl
 
-pub memory_send_nothing : newly_kept (second_in opened) (request.Send 33 []) ≡ 0
+pub memory_send_nothing : newly_kept (second_in opened_connection) (request.Send 33 []) ≡ 0
 unfolding octets_of orders_of read_of command_of packed_count accepted refusal served served_notices next_out offered
 memory_send_nothing = refl
 
-pub memory_close_receiver : newly_kept (first_in opened) (request.Close 16) ≡ 1
+pub memory_close_receiver : newly_kept (first_in opened_connection) (request.Close 16) ≡ 1
 unfolding octets_of orders_of read_of command_of packed_count accepted refusal served served_notices next_out offered
 memory_close_receiver = refl
 
-pub memory_close_sender : newly_kept (second_in opened) (request.Close 33) ≡ 1
+pub memory_close_sender : newly_kept (second_in opened_connection) (request.Close 33) ≡ 1
 unfolding octets_of orders_of read_of command_of packed_count accepted refusal served served_notices next_out offered
 memory_close_sender = refl
 
-pub memory_close_draining : newly_kept (served (second_in opened) (request.Send 33 (replicate 8 true))) (request.Close 33) ≡ 0
+pub memory_close_draining : newly_kept (served (second_in opened_connection) (request.Send 33 (replicate 8 true))) (request.Close 33) ≡ 0
 unfolding octets_of orders_of read_of command_of packed_count accepted refusal served served_notices next_out offered
 memory_close_draining = refl
 

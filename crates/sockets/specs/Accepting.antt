@@ -19,14 +19,14 @@ turn_of s peer = record { pair = pair_with peer s.peers; listening = s.listening
 abbrev pub with_turn : NcpState → Host → TurnState → NcpState
 with_turn s peer t = record s { peers = with_pair peer t.pair s.peers; listening = t.listening }
 
-abbrev pub turned : NcpState → Host → TurnState → NcpState × List Notice
-turned s peer t = (with_turn s peer t, t.notices)
+abbrev pub after_turn : NcpState → Host → TurnState → NcpState × List Notice
+after_turn s peer t = (with_turn s peer t, t.notices)
 
 -- a message for this host
 abbrev pub accepted_message : NcpState → HostMessage → ℕ → NcpState × List Notice
 accepted_message s m stamp =
     if same_host s.own m.flow.destination
-    then turned s m.flow.source (message_taken m.flow.source stamp m.flow.link.0 m.text (turn_of s m.flow.source))
+    then after_turn s m.flow.source (message_taken m.flow.source stamp m.flow.link.0 m.text (turn_of s m.flow.source))
     else (s, [])
 
 -- an answer about a message that this host has out
@@ -34,7 +34,7 @@ abbrev pub accepted_answer : NcpState → Answer → Flow → NcpState × List N
 accepted_answer s kind f =
     if same_host s.own f.source
     then (if is_busy (pair_with f.destination s.peers).busy f.link.0
-    then turned s f.destination (answered_turn f.destination kind f.link.0 (turn_of s f.destination))
+    then after_turn s f.destination (answered_turn f.destination kind f.link.0 (turn_of s f.destination))
     else (s, []))
     else (s, [])
 

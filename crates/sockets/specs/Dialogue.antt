@@ -1,4 +1,4 @@
--- Two hosts and what is on its way between them, step by step: words for worked examples.
+-- Two hosts and what is in transit between them, step by step: words for worked examples.
 use Rattle.std.specs.Prelude.{ℕ, ◌+◌, Bool, not, if◌then◌else◌, List, [], ◌∷◌, ◌++◌, find, filter, map, Option, Some, None}
 use Rattle.leader1822.specs.Host.{Host, same_host}
 use Rattle.leader1822.specs.Flow.{same_flow}
@@ -31,7 +31,7 @@ abbrev pub without_first : {A : Type 0} → (A → Bool) → List A → List A
 without_first test [] = []
 without_first test (x ∷ xs) = if test x then xs else x ∷ without_first test xs
 
--- what can happen
+-- what can happen in a dialogue
 pub data Step : Type 0 where
   -- the host's user asks for something
   Ask : (host : Host) → (request : Request) → Step
@@ -49,8 +49,8 @@ abbrev pub with_state : Talk → Host → NcpState → Talk
 with_state t h s = record t { left = if same_host h t.left.own then s else t.left; right = if same_host h t.left.own then t.right else s }
 
 -- a host's state and what it was told
-abbrev pub turned : Host → NcpState × List Notice → Talk → Talk
-turned h turn t = record (with_state t h turn.0) { notices = t.notices ++ map (λ n. (h, n)) turn.1 }
+abbrev pub talk_turned : Host → NcpState × List Notice → Talk → Talk
+talk_turned h turn t = record (with_state t h turn.0) { notices = t.notices ++ map (λ n. (h, n)) turn.1 }
 
 abbrev pub crossed : Talk → Talk
 crossed t = record t { place = t.place + 1 }
@@ -64,15 +64,15 @@ is_told_to h a = same_host h a.1.source
 -- what goes out waits for its destination
 abbrev pub out : Host → Option HostMessage → Talk → Talk
 out h None t = t
-out h (Some m) t = crossed (turned h (offered (state_of t h) t.place) (record t { messages = t.messages ++ m ∷ [] }))
+out h (Some m) t = crossed (talk_turned h (offered (state_of t h) t.place) (record t { messages = t.messages ++ m ∷ [] }))
 
 -- for a message that is taken RFNM waits for its source
-abbrev pub taken : Host → Option (Answer × Flow) → Option HostMessage → Talk → Talk
-taken h (Some (kind, f)) m t =
-    crossed (turned h (accepted (state_of t h) (inbound.Answer kind f) t.place) (record t { answers = without_first (is_told_to h) t.answers }))
-taken h None (Some m) t =
-    crossed (turned h (accepted (state_of t h) (inbound.Message m) t.place) (record t { messages = without_first (is_for h) t.messages; answers = t.answers ++ (answer.Rfnm, m.flow) ∷ [] }))
-taken h None None t = t
+abbrev pub talk_taken : Host → Option (Answer × Flow) → Option HostMessage → Talk → Talk
+talk_taken h (Some (kind, f)) m t =
+    crossed (talk_turned h (accepted (state_of t h) (inbound.Answer kind f) t.place) (record t { answers = without_first (is_told_to h) t.answers }))
+talk_taken h None (Some m) t =
+    crossed (talk_turned h (accepted (state_of t h) (inbound.Message m) t.place) (record t { messages = without_first (is_for h) t.messages; answers = t.answers ++ (answer.Rfnm, m.flow) ∷ [] }))
+talk_taken h None None t = t
 
 -- the message, or its RFNM, is gone, and Incomplete waits for its source
 abbrev pub given_up : Flow → Talk → Talk
@@ -81,13 +81,13 @@ given_up f t = record t {
   answers = filter (λ a. not (same_flow f a.1)) t.answers ++ (answer.Incomplete, f) ∷ [];
 }
 
-abbrev pub after : Step → Talk → Talk
-after (Ask h r) t = turned h (served (state_of t h) r, served_notices (state_of t h) r) t
-after (Offer h) t = out h (next_out (state_of t h)) t
-after (Take h) t = taken h (find (is_told_to h) t.answers) (find (is_for h) t.messages) t
-after (GiveUp f) t = given_up f t
+abbrev pub talk_after : Step → Talk → Talk
+talk_after (Ask h r) t = talk_turned h (served (state_of t h) r, served_notices (state_of t h) r) t
+talk_after (Offer h) t = out h (next_out (state_of t h)) t
+talk_after (Take h) t = talk_taken h (find (is_told_to h) t.answers) (find (is_for h) t.messages) t
+talk_after (GiveUp f) t = given_up f t
 
 -- one step after another
 abbrev pub played : List Step → Talk → Talk
 played [] t = t
-played (step ∷ steps) t = played steps (after step t)
+played (step ∷ steps) t = played steps (talk_after step t)

@@ -1,4 +1,4 @@
--- When the program wants memory: only where it has something more to say, to the peer or to its user.
+-- When the program needs memory: only where it has something more to say, to the peer or to its user.
 use Rattle.std.specs.Prelude.{ℕ, ◌+◌, ◌-◌, if◌then◌else◌, length, Option, Some, None}
 use Rattle.leader1822.specs.Host.{Host, same_host}
 use Rattle.leader1822.specs.declared.crossing.Inbound.{Inbound}

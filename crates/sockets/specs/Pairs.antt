@@ -8,7 +8,7 @@ use Rattle.host_pairs.specs.declared.listener.Listener.{Listener}
 use Rattle.sockets.specs.declared.peer.Peer.{Peer}
 
 -- a host's network control program: its own address, its peers in order of their address octets, what listens, and whether
--- want of memory has made it useless
+-- running out of memory has made it useless
 pub record NcpState : Type 0 where
   pub own : Host
   pub peers : List Peer

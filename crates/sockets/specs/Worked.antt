@@ -53,8 +53,8 @@ abbrev pub reset : List Step
 reset = Ask first (request.Contact second) ∷ Offer first ∷ Take second ∷ Take first ∷ Offer second ∷ Take first ∷ Take second ∷ []
 
 -- the first asks for a connection to its socket 16, and the second's socket 33 was listening
-abbrev pub opening : List Step
-opening =
+abbrev pub opening_connection : List Step
+opening_connection =
     Ask second (request.Listen 33 8) ∷ Ask first (request.OpenReceive second 16 33)
     ∷ Offer first ∷ Take second ∷ Offer second ∷ Take first ∷ Take first ∷ Take second ∷ []
 
@@ -117,16 +117,16 @@ news before steps = (played steps (record (talk before) { notices = [] })).notic
 -- ---- one host alone
 
 -- after a control message of a peer with these octets, and what it is told
-abbrev pub heard : NcpState → Host → List ℕ → NcpState × List Notice
-heard s from octets = accepted s (inbound.Message (control from s.own octets)) 20
+abbrev pub control_heard : NcpState → Host → List ℕ → NcpState × List Notice
+control_heard s from octets = accepted s (inbound.Message (control from s.own octets)) 20
 
 -- after any message of a peer with these octets, and what it is told
 abbrev pub got : NcpState → Host → ℕ → List ℕ → NcpState × List Notice
 got s from link octets = accepted s (inbound.Message (message from s.own link octets)) 20
 
 -- after an answer about its own message to a peer, and what it is told
-abbrev pub answered : NcpState → Answer → Host → ℕ → NcpState × List Notice
-answered s kind to link = accepted s (inbound.Answer kind (on_link s.own to link)) 20
+abbrev pub answer_heard : NcpState → Answer → Host → ℕ → NcpState × List Notice
+answer_heard s kind to link = accepted s (inbound.Answer kind (on_link s.own to link)) 20
 
 -- after its next message has gone out
 abbrev pub gone : NcpState → NcpState
@@ -134,7 +134,7 @@ gone s = (offered s 20).0
 
 -- after that message was answered by RFNM, too
 abbrev pub delivered : NcpState → Host → ℕ → NcpState
-delivered s to link = (answered (gone s) answer.Rfnm to link).0
+delivered s to link = (answer_heard (gone s) answer.Rfnm to link).0
 
 -- ---- commands, octet by octet
 
@@ -191,8 +191,8 @@ every_command =
 
 -- ---- more dialogues
 
-abbrev pub opened : List Step
-opened = reset ++ opening
+abbrev pub opened_connection : List Step
+opened_connection = reset ++ opening_connection
 
 -- the second's socket 33 was listening, and the first closes its end before the answer to its request comes
 abbrev pub closed_early : List Step
@@ -269,7 +269,7 @@ two_listening = served (served (second_in reset) (request.Listen 33 8)) (request
 
 abbrev pub two_senders : NcpState
 two_senders =
-    served (served (heard (gone (heard two_listening first (RTS 16 33 9 ++ RTS 18 35 4)).0) first (ALL 9 1 8 ++ ALL 4 1 8)).0
+    served (served (control_heard (gone (control_heard two_listening first (RTS 16 33 9 ++ RTS 18 35 4)).0) first (ALL 9 1 8 ++ ALL 4 1 8)).0
     (request.Send 33 (bits_of (65 ∷ [])))) (request.Send 35 (bits_of (66 ∷ [])))
 
 -- a host at the first's IMP

@@ -23,7 +23,7 @@ impl Ncp {
         ensures turn { result ≡ accepting.turn_of self.old peer }
         ensures known { length self.new.peers ≡ length self.old.peers }
         ensures again { (pair : PairState) → with_pair peer pair self.new.peers ≡ with_pair peer pair self.old.peers }
-        ensures rest { (turn : TurnState) → accepting.turned self.new peer turn ≡ accepting.turned self.old peer turn }
+        ensures rest { (turn : TurnState) → accepting.after_turn self.new peer turn ≡ accepting.after_turn self.old peer turn }
     {
         Turn {
             pair: self.peers.take(self.alloc, peer),
@@ -34,7 +34,7 @@ impl Ncp {
 
     /// Puts what is known of a peer back, and gives what is told.
     pub(crate) fn finish(&mut self, peer: HostAddr, turn: Turn) -> Result<Vec<Notice>, AllocError>
-        ensures state { IfOk result (λ notices. accepting.turned self.old peer turn ≡ (self.new, notices.items)) }
+        ensures state { IfOk result (λ notices. accepting.after_turn self.old peer turn ≡ (self.new, notices.items)) }
         ensures memory { OnErr result (length self.old.peers < length (with_pair peer turn.pair self.old.peers)) }
     {
         let Turn {

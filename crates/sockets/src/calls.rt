@@ -98,7 +98,7 @@ impl Ncp {
         self.peers.put(peer, pair)
     }
 
-    /// A socket listens.
+    /// A socket listens, behind the others.
     fn add_listener(&mut self, listener: Listener) -> Result<(), AllocError>
         ensures { OnOk result (self.new ≡ record self.old { listening = self.old.listening ++ listener ∷ [] }) }
     {

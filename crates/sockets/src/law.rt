@@ -18,7 +18,7 @@ ghost use Rattle.sockets.specs.Requests.{refusal, served, served_notices};
 ghost use Rattle.sockets.specs.declared.peer.Peer.{Peer};
 ghost use Rattle.host_pairs.specs.Parcels.{Parcel, Reset, Reply, next_of};
 ghost use Rattle.sockets.specs.Sending.{message_for, next_in, next_out, offered};
-ghost use Rattle.sockets.specs.Worked.{first, second, third, talk, message, control, reset, opening, closing, crossing, failing, sending, asking_back, giving_back, many_opened, twelve, second_after};
+ghost use Rattle.sockets.specs.Worked.{first, second, third, talk, message, control, reset, opening_connection, closing, crossing, failing, sending, asking_back, giving_back, many_opened, twelve, second_after};
 ghost use Rattle.sockets.specs.declared.fault.NcpFault.TheVariants as fault;
 ghost use Rattle.host_pairs.specs.declared.notice.Notice.TheVariants as notice;
 ghost use Rattle.sockets.specs.declared.request.Request.{Request};
@@ -36,10 +36,10 @@ pub fn worked_dialogues()
     ensures failing { (talk failing).notices ≡ (second, notice.Ready first) ∷ (first, notice.ContactFailed second) ∷ (second, notice.PairReset first) ∷ (first, notice.Ready second) ∷ [] }
 
     // a connection opens at its sender when the STR is out, at its receiver when that is taken; it ends at each when both CLS have passed
-    ensures connection { (talk (reset ++ opening ++ closing)).notices ≡ (second, notice.Ready first) ∷ (first, notice.Ready second) ∷ (second, notice.Opened 33 first 16 8 7) ∷ (first, notice.Opened 16 second 33 6 10) ∷ (second, notice.Ended 33 first 16) ∷ (first, notice.Ended 16 second 33) ∷ [] }
+    ensures connection { (talk (reset ++ opening_connection ++ closing)).notices ≡ (second, notice.Ready first) ∷ (first, notice.Ready second) ∷ (second, notice.Opened 33 first 16 8 7) ∷ (first, notice.Opened 16 second 33 6 10) ∷ (second, notice.Ended 33 first 16) ∷ (first, notice.Ended 16 second 33) ∷ [] }
 
     // of thirteen octets the hundred bits granted cover twelve; then what is left is asked back
-    ensures data { (talk (reset ++ opening ++ sending ++ asking_back)).notices ≡ (second, notice.Ready first) ∷ (first, notice.Ready second) ∷ (second, notice.Opened 33 first 16 8 7) ∷ (first, notice.Opened 16 second 33 6 10) ∷ (second, notice.Sent 33 (bits_of twelve)) ∷ (first, notice.Arrived 16 (bits_of twelve)) ∷ (first, notice.Returned 16 1 4) ∷ [] }
+    ensures data { (talk (reset ++ opening_connection ++ sending ++ asking_back)).notices ≡ (second, notice.Ready first) ∷ (first, notice.Ready second) ∷ (second, notice.Opened 33 first 16 8 7) ∷ (first, notice.Opened 16 second 33 6 10) ∷ (second, notice.Sent 33 (bits_of twelve)) ∷ (first, notice.Arrived 16 (bits_of twelve)) ∷ (first, notice.Returned 16 1 4) ∷ [] }
 {}
 
 /// What a host says next, octet by octet.
@@ -61,33 +61,33 @@ pub fn worked_messages()
     ensures echoed { next_out (second_after (control first second (9 ∷ 65 ∷ []))) ≡ Some (control second first (10 ∷ 65 ∷ [])) }
 
     // each end interrupts with a command of its own
-    ensures interrupt_by_receiver { next_out (served (state_of (talk (reset ++ opening)) first) (request.Interrupt 16)) ≡ Some (control first second (7 ∷ 2 ∷ [])) }
-    ensures interrupt_by_sender { next_out (served (state_of (talk (reset ++ opening)) second) (request.Interrupt 33)) ≡ Some (control second first (8 ∷ 2 ∷ [])) }
+    ensures interrupt_by_receiver { next_out (served (state_of (talk (reset ++ opening_connection)) first) (request.Interrupt 16)) ≡ Some (control first second (7 ∷ 2 ∷ [])) }
+    ensures interrupt_by_sender { next_out (served (state_of (talk (reset ++ opening_connection)) second) (request.Interrupt 33)) ≡ Some (control second first (8 ∷ 2 ∷ [])) }
 
     // twelve whole octets go out within 100 bits, and nothing more after them
-    ensures data { next_out (state_of (talk (reset ++ opening ++ sending)) second) ≡ Some (message second first 2 (0 ∷ 8 ∷ 0 ∷ 12 ∷ 0 ∷ twelve)) }
-    ensures no_more { next_out (offered (state_of (talk (reset ++ opening ++ sending)) second) 15).0 ≡ None }
+    ensures data { next_out (state_of (talk (reset ++ opening_connection ++ sending)) second) ≡ Some (message second first 2 (0 ∷ 8 ∷ 0 ∷ 12 ∷ 0 ∷ twelve)) }
+    ensures no_more { next_out (offered (state_of (talk (reset ++ opening_connection ++ sending)) second) 15).0 ≡ None }
 
     // half of three messages and the whole of 100 bits are given back: a fraction above 128 counts as the whole
-    ensures given_back { next_out (state_of (talk (reset ++ opening ++ giving_back)) second) ≡ Some (control second first (6 ∷ 2 ∷ 0 ∷ 1 ∷ 0 ∷ 0 ∷ 0 ∷ 100 ∷ [])) }
+    ensures given_back { next_out (state_of (talk (reset ++ opening_connection ++ giving_back)) second) ≡ Some (control second first (6 ∷ 2 ∷ 0 ∷ 1 ∷ 0 ∷ 0 ∷ 0 ∷ 100 ∷ [])) }
 {}
 
 /// Why a user is refused.
 pub fn worked_refusals()
-    ensures over_grant { refusal (state_of (talk (reset ++ opening ++ Ask first (request.Grant 16 65535 0) ∷ [])) first) (request.Grant 16 1 0) ≡ Some fault.OverGrant }
-    ensures bad_size { refusal (state_of (talk (reset ++ opening)) second) (request.Send 33 (replicate 7 true)) ≡ Some fault.BadSize }
-    ensures wrong_end { refusal (state_of (talk (reset ++ opening)) first) (request.Send 16 (bits_of (255 ∷ []))) ≡ Some fault.WrongEnd }
-    ensures no_such_socket { refusal (state_of (talk (reset ++ opening)) second) (request.Send 35 (bits_of (255 ∷ []))) ≡ Some fault.NoSuchSocket }
-    ensures in_use { refusal (state_of (talk (reset ++ opening)) second) (request.Listen 33 8) ≡ Some fault.InUse }
-    ensures not_contacted { refusal (state_of (talk (reset ++ opening)) first) (request.OpenReceive third 18 33) ≡ Some fault.NotContacted }
+    ensures over_grant { refusal (state_of (talk (reset ++ opening_connection ++ Ask first (request.Grant 16 65535 0) ∷ [])) first) (request.Grant 16 1 0) ≡ Some fault.OverGrant }
+    ensures bad_size { refusal (state_of (talk (reset ++ opening_connection)) second) (request.Send 33 (replicate 7 true)) ≡ Some fault.BadSize }
+    ensures wrong_end { refusal (state_of (talk (reset ++ opening_connection)) first) (request.Send 16 (bits_of (255 ∷ []))) ≡ Some fault.WrongEnd }
+    ensures no_such_socket { refusal (state_of (talk (reset ++ opening_connection)) second) (request.Send 35 (bits_of (255 ∷ []))) ≡ Some fault.NoSuchSocket }
+    ensures in_use { refusal (state_of (talk (reset ++ opening_connection)) second) (request.Listen 33 8) ≡ Some fault.InUse }
+    ensures not_contacted { refusal (state_of (talk (reset ++ opening_connection)) first) (request.OpenReceive third 18 33) ≡ Some fault.NotContacted }
     ensures not_open { refusal (state_of (talk (reset ++ Ask first (request.OpenSend second 17 32 8) ∷ [])) first) (request.Send 17 (bits_of (255 ∷ []))) ≡ Some fault.NotOpen }
-    ensures closing { refusal (state_of (talk (reset ++ opening ++ Ask first (request.Close 16) ∷ [])) first) (request.Close 16) ≡ Some fault.Closing }
+    ensures closing { refusal (state_of (talk (reset ++ opening_connection ++ Ask first (request.Close 16) ∷ [])) first) (request.Close 16) ≡ Some fault.Closing }
 
     // thirty receiving ends have all links from 2 to 31
     ensures no_link { refusal (state_of (talk (reset ++ many_opened)) first) (request.OpenReceive second 76 33) ≡ Some fault.NoLink }
 
     // where several refusals apply, the first of the list is given
-    ensures in_order { refusal (state_of (talk (reset ++ opening)) first) (request.OpenSend third 16 33 0) ≡ Some fault.NotContacted }
+    ensures in_order { refusal (state_of (talk (reset ++ opening_connection)) first) (request.OpenSend third 16 33 0) ≡ Some fault.NotContacted }
 {}
 
 /// What is about one peer leaves the other pairs as they are.

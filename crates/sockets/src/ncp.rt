@@ -55,7 +55,7 @@ impl Ncp {
         self.own
     }
 
-    /// Whether want of memory has made it useless.
+    /// Whether running out of memory has made it useless.
     pub fn is_spent(&self) -> bool
         ensures { result ≡ self.now.spent }
     {

@@ -6,7 +6,7 @@ use leader1822::HostAddr;
 /// Another host, and what this one knows of it.
 #[derive(Drop)]
 pub struct Peer {
-    /// Its address.
+    /// The host's address.
     pub host: HostAddr,
     /// How far the two hosts have come.
     pub pair: Pair,

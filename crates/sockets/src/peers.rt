@@ -37,7 +37,7 @@ impl Model for Peers {
 }
 
 impl Peers {
-    /// No peers.
+    /// A list without peers.
     pub fn new(alloc: Global) -> Peers
         ensures { result ≡ [] }
     {

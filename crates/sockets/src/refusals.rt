@@ -24,7 +24,7 @@ use ncp_control::{Allocation, ByteSize, Command, ConnectionLink, ReceiveSocket, 
 
 impl Ncp {
     /// Why a request would be refused now: the first fault that applies, and none where the request would be served.
-    /// Nothing changes, and no memory is wanted.
+    /// Nothing changes, and no memory is needed.
     #[tactic(auto, unfolding(crate::specs::Requests::refusal))]
     pub fn refusal(&self, request: &Request) -> Option<NcpFault>
         ensures { result ≡ requests.refusal self.now request.now }
@@ -57,7 +57,7 @@ impl Ncp {
     }
 
     /// Why so many bits would be refused to be sent on a socket now: the first fault that applies. Nothing changes, and no memory
-    /// is wanted.
+    /// is needed.
     pub fn send_refusal(&self, socket: u32, bits: usize) -> Option<NcpFault>
         ensures { result ≡ requests.send_refusal self.now socket bits }
     {

@@ -60,7 +60,7 @@ impl Ncp {
         // a control message is read again as the commands that it was made of
         ensures again { IfOk result (λ message. IsReadFrom (sending.next_in self.now.peers) message) }
 
-        // memory is wanted only for a message
+        // memory runs out only if there is a message
         ensures memory { IfErr result (λ f. is_some (sending.next_in self.now.peers) ≡ true) }
         ensures message { MatchResult result (λ message. message ≡ sending.next_out self.now) (λ f. f ≡ fault.OutOfMemory) }
     {

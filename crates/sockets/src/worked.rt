@@ -10,7 +10,7 @@ ghost use Rattle.host_pairs.specs.Parcels.{Bytes, next_bytes};
 ghost use Rattle.sockets.specs.Memory.{newly_kept};
 ghost use Rattle.sockets.specs.Requests.{refusal, served, served_notices};
 ghost use Rattle.sockets.specs.Sending.{next_out, offered};
-ghost use Rattle.sockets.specs.Worked.{first, second, third, neighbour, open_sender, talk, news, message, control, on_link, heard, got, answered, gone, delivered, reset, closing, sending, many_opened, twelve, opened, closed_early, opening_by_sender, closed_unasked, both_asking, one_refused, refused_closed, draining, own_reset, own_opening, first_in, second_in, closed, want, rst_out, rst_taken, ready, want_again, two_senders, every_command, RTS, STR, CLS, ALL, GVB, RET, INR, INS, ECO, ERP, ERR, RST, RRP};
+ghost use Rattle.sockets.specs.Worked.{first, second, third, neighbour, open_sender, talk, news, message, control, on_link, control_heard, got, answer_heard, gone, delivered, reset, closing, sending, many_opened, twelve, opened_connection, closed_early, opening_by_sender, closed_unasked, both_asking, one_refused, refused_closed, draining, own_reset, own_opening, first_in, second_in, closed, want, rst_out, rst_taken, ready, want_again, two_senders, every_command, RTS, STR, CLS, ALL, GVB, RET, INR, INS, ECO, ERP, ERR, RST, RRP};
 ghost use Rattle.leader1822.specs.declared.crossing.Answer.TheVariants as answer;
 ghost use Rattle.leader1822.specs.declared.crossing.Inbound.TheVariants as inbound;
 ghost use Rattle.ncp_control.specs.declared.command.Command.TheVariants as command;
@@ -23,27 +23,27 @@ pub fn worked_requests()
     // a request for an end that this host has closed is taken, without an ERR and without an opening; a second one is an ERR
     ensures taken_when_closed { next_out (first_in closed_early) ≡ Some (control first second (CLS 16 33)) }
     ensures opens_nothing { (talk closed_early).notices ≡ (second, notice.Ready first) ∷ (first, notice.Ready second) ∷ (second, notice.Opened 33 first 16 8 7) ∷ [] }
-    ensures second_request { next_out (heard (first_in closed_early) second (STR 33 16 8)).0 ≡ Some (control first second (CLS 16 33 ++ ERR 3 (STR 33 16 8) 0)) }
+    ensures second_request { next_out (control_heard (first_in closed_early) second (STR 33 16 8)).0 ≡ Some (control first second (CLS 16 33 ++ ERR 3 (STR 33 16 8) 0)) }
 
     // a request that was refused was the first one too, but its link is free
-    ensures second_after_refusal { next_out (heard (second_in reset) first (RTS 16 33 5 ++ RTS 16 33 6)).0 ≡ Some (control second first (CLS 33 16 ++ ERR 3 (RTS 16 33 6) 0)) }
-    ensures refused_without_link { next_out (heard (second_in reset) first (RTS 16 33 5 ++ RTS 18 35 5 ++ INR 5)).0 ≡ Some (control second first (CLS 33 16 ++ CLS 35 18 ++ ERR 5 (INR 5) 8)) }
+    ensures second_after_refusal { next_out (control_heard (second_in reset) first (RTS 16 33 5 ++ RTS 16 33 6)).0 ≡ Some (control second first (CLS 33 16 ++ ERR 3 (RTS 16 33 6) 0)) }
+    ensures refused_without_link { next_out (control_heard (second_in reset) first (RTS 16 33 5 ++ RTS 18 35 5 ++ INR 5)).0 ≡ Some (control second first (CLS 33 16 ++ CLS 35 18 ++ ERR 5 (INR 5) 8)) }
 
     // a link in use is looked at before all else: the socket goes on listening. So it is while the end is closing
-    ensures link_in_use { next_out (heard (served (second_in opened) (request.Listen 35 8)) first (RTS 18 35 2 ++ RTS 18 35 3)).0 ≡ Some (control second first (ERR 3 (RTS 18 35 2) 0 ++ STR 35 18 8)) }
-    ensures link_of_closing { next_out (heard (second_in opened) first (CLS 16 33 ++ RTS 18 35 2)).0 ≡ Some (control second first (CLS 33 16 ++ ERR 3 (RTS 18 35 2) 0)) }
+    ensures link_in_use { next_out (control_heard (served (second_in opened_connection) (request.Listen 35 8)) first (RTS 18 35 2 ++ RTS 18 35 3)).0 ≡ Some (control second first (ERR 3 (RTS 18 35 2) 0 ++ STR 35 18 8)) }
+    ensures link_of_closing { next_out (control_heard (second_in opened_connection) first (CLS 16 33 ++ RTS 18 35 2)).0 ≡ Some (control second first (CLS 33 16 ++ ERR 3 (RTS 18 35 2) 0)) }
 
     // a socket listens for one request, whoever makes it, and answers with its own size; a receiver takes the sender's
-    ensures listens_once { next_out (heard (served (second_in reset) (request.Listen 33 9)) first (RTS 16 33 5 ++ RTS 18 33 6)).0 ≡ Some (control second first (STR 33 16 9 ++ CLS 33 18)) }
+    ensures listens_once { next_out (control_heard (served (second_in reset) (request.Listen 33 9)) first (RTS 16 33 5 ++ RTS 18 33 6)).0 ≡ Some (control second first (STR 33 16 9 ++ CLS 33 18)) }
     ensures opened_by_sender { news reset opening_by_sender ≡ (first, notice.Opened 16 second 33 8 7) ∷ (second, notice.Opened 33 first 16 6 10) ∷ [] }
     ensures size_of_sender { (got (served (first_in (reset ++ opening_by_sender)) (request.Grant 16 1 9)) second 2 (0 ∷ 8 ∷ 0 ∷ 1 ∷ 0 ∷ 65 ∷ [])).1 ≡ notice.Arrived 16 (bits_of (65 ∷ [])) ∷ [] }
 
     // a socket that has stopped listening refuses
-    ensures no_longer_listening { next_out (heard (served (served (second_in reset) (request.Listen 33 8)) (request.Close 33)) first (RTS 16 33 5)).0 ≡ Some (control second first (CLS 33 16)) }
+    ensures no_longer_listening { next_out (control_heard (served (served (second_in reset) (request.Listen 33 8)) (request.Close 33)) first (RTS 16 33 5)).0 ≡ Some (control second first (CLS 33 16)) }
 
     // until an end is open, its link is not connected
     ensures receiver_not_open { next_out (got (served ready (request.OpenReceive second 16 33)) second 2 (0 ∷ 8 ∷ 0 ∷ 0 ∷ 0 ∷ [])).0 ≡ Some (control first second (RTS 16 33 2 ++ ERR 5 (0 ∷ 8 ∷ 0 ∷ 0 ∷ 0 ∷ []) 5)) }
-    ensures sender_not_open { next_out (heard (served (second_in reset) (request.Listen 33 8)) first (RTS 16 33 5 ++ ALL 5 1 8)).0 ≡ Some (control second first (STR 33 16 8 ++ ERR 5 (ALL 5 1 8) 2)) }
+    ensures sender_not_open { next_out (control_heard (served (second_in reset) (request.Listen 33 8)) first (RTS 16 33 5 ++ ALL 5 1 8)).0 ≡ Some (control second first (STR 33 16 8 ++ ERR 5 (ALL 5 1 8) 2)) }
 
     // what is closed before its request has gone out sends both, and its end is told of; the refused end at the other host is not
     ensures closed_unasked_says { next_out (served (served ready (request.OpenReceive second 16 33)) (request.Close 16)) ≡ Some (control first second (RTS 16 33 2 ++ CLS 16 33)) }
@@ -51,13 +51,13 @@ pub fn worked_requests()
 
     // ends that ask for each other need nobody who listens; an end opens when both requests have crossed, its own too
     ensures both_ask { news reset both_asking ≡ (first, notice.Opened 16 second 33 6 8) ∷ (second, notice.Opened 33 first 16 7 10) ∷ [] }
-    ensures asked_for { (heard (served ready (request.OpenReceive second 16 33)) second (STR 33 16 8)).1 ≡ [] }
-    ensures asks_too { (offered (heard (served ready (request.OpenReceive second 16 33)) second (STR 33 16 8)).0 21).1 ≡ notice.Opened 16 second 33 21 20 ∷ [] }
+    ensures asked_for { (control_heard (served ready (request.OpenReceive second 16 33)) second (STR 33 16 8)).1 ≡ [] }
+    ensures asks_too { (offered (control_heard (served ready (request.OpenReceive second 16 33)) second (STR 33 16 8)).0 21).1 ≡ notice.Opened 16 second 33 21 20 ∷ [] }
 
     // commands and data about the link of the other end's kind find no connection
-    ensures commands_of_a_sender { next_out (heard (first_in opened) second (ALL 2 1 1 ++ GVB 2 1 1 ++ INR 2)).0 ≡ Some (control first second (ERR 5 (ALL 2 1 1) 2 ++ ERR 5 (GVB 2 1 1) 6 ++ ERR 5 (INR 2) 8)) }
-    ensures commands_of_a_receiver { next_out (heard (second_in opened) first (RET 2 0 0 ++ INS 2)).0 ≡ Some (control second first (ERR 5 (RET 2 0 0) 2 ++ ERR 5 (INS 2) 8)) }
-    ensures data_to_a_sender { next_out (got (second_in opened) first 2 (0 ∷ 8 ∷ 0 ∷ 0 ∷ 0 ∷ [])).0 ≡ Some (control second first (ERR 5 (0 ∷ 8 ∷ 0 ∷ 0 ∷ 0 ∷ []) 5)) }
+    ensures commands_of_a_sender { next_out (control_heard (first_in opened_connection) second (ALL 2 1 1 ++ GVB 2 1 1 ++ INR 2)).0 ≡ Some (control first second (ERR 5 (ALL 2 1 1) 2 ++ ERR 5 (GVB 2 1 1) 6 ++ ERR 5 (INR 2) 8)) }
+    ensures commands_of_a_receiver { next_out (control_heard (second_in opened_connection) first (RET 2 0 0 ++ INS 2)).0 ≡ Some (control second first (ERR 5 (RET 2 0 0) 2 ++ ERR 5 (INS 2) 8)) }
+    ensures data_to_a_sender { next_out (got (second_in opened_connection) first 2 (0 ∷ 8 ∷ 0 ∷ 0 ∷ 0 ∷ [])).0 ≡ Some (control second first (ERR 5 (0 ∷ 8 ∷ 0 ∷ 0 ∷ 0 ∷ []) 5)) }
 {}
 
 /// Which link a receiving end has.
@@ -67,97 +67,97 @@ pub fn worked_links()
     ensures link_of_closing { next_out (served (first_in (reset ++ one_refused)) (request.OpenReceive second 20 37)) ≡ Some (control first second (CLS 16 33 ++ RTS 20 37 4)) }
 
     // a sending end's link isn't the receiver's to give, and another peer has thirty links of its own
-    ensures links_of_senders { next_out (served (second_in opened) (request.OpenReceive first 18 35)) ≡ Some (control second first (RTS 18 35 2)) }
-    ensures links_of_another_peer { refusal (heard (first_in (reset ++ many_opened)) third RST).0 (request.OpenReceive third 76 33) ≡ None }
+    ensures links_of_senders { next_out (served (second_in opened_connection) (request.OpenReceive first 18 35)) ≡ Some (control second first (RTS 18 35 2)) }
+    ensures links_of_another_peer { refusal (control_heard (first_in (reset ++ many_opened)) third RST).0 (request.OpenReceive third 76 33) ≡ None }
 
     // an open sending end sends on its link; one without a link, which no call leaves, would send nothing
     ensures linked { next_bytes [] (open_sender (Some 2) ∷ []) ≡ Some (Bytes (open_sender (Some 2)) 8 1) }
     ensures not_linked { next_bytes [] (open_sender None ∷ []) ≡ None }
 
     // without a free link a request is refused, and the socket goes on listening
-    ensures listens_without_link { refusal (heard (served (first_in (reset ++ many_opened)) (request.Listen 76 8)) second (STR 33 76 8)).0 (request.Grant 76 0 0) ≡ Some fault.NoSuchSocket }
-    ensures listens_on { refusal (heard (served (first_in (reset ++ many_opened)) (request.Listen 76 8)) second (STR 33 76 8)).0 (request.Listen 76 8) ≡ Some fault.InUse }
+    ensures listens_without_link { refusal (control_heard (served (first_in (reset ++ many_opened)) (request.Listen 76 8)) second (STR 33 76 8)).0 (request.Grant 76 0 0) ≡ Some fault.NoSuchSocket }
+    ensures listens_on { refusal (control_heard (served (first_in (reset ++ many_opened)) (request.Listen 76 8)) second (STR 33 76 8)).0 (request.Listen 76 8) ≡ Some fault.InUse }
 
     // twelve requests go into each message, so the third one has six of them and the CLS
-    ensures refused_without_free_link { next_out (delivered (delivered (heard (served (first_in (reset ++ many_opened)) (request.Listen 76 8)) second (STR 33 76 8)).0 second 0) second 0) ≡ Some (control first second (RTS 64 33 26 ++ RTS 66 33 27 ++ RTS 68 33 28 ++ RTS 70 33 29 ++ RTS 72 33 30 ++ RTS 74 33 31 ++ CLS 76 33)) }
+    ensures refused_without_free_link { next_out (delivered (delivered (control_heard (served (first_in (reset ++ many_opened)) (request.Listen 76 8)) second (STR 33 76 8)).0 second 0) second 0) ≡ Some (control first second (RTS 64 33 26 ++ RTS 66 33 27 ++ RTS 68 33 28 ++ RTS 70 33 29 ++ RTS 72 33 30 ++ RTS 74 33 31 ++ CLS 76 33)) }
 {}
 
 /// How a connection ends.
 pub fn worked_closings()
     // a second CLS does nothing; one without an end is an ERR, whatever its sockets
-    ensures second_cls { next_out (heard (second_in opened) first (CLS 16 33 ++ CLS 16 33)).0 ≡ Some (control second first (CLS 33 16)) }
-    ensures cls_after_the_end { next_out (heard (second_in (opened ++ closing)) first (CLS 16 33)).0 ≡ Some (control second first (ERR 4 (CLS 16 33) 1)) }
-    ensures cls_of_any_sockets { next_out (heard (second_in reset) first (CLS 33 33)).0 ≡ Some (control second first (ERR 4 (CLS 33 33) 1)) }
+    ensures second_cls { next_out (control_heard (second_in opened_connection) first (CLS 16 33 ++ CLS 16 33)).0 ≡ Some (control second first (CLS 33 16)) }
+    ensures cls_after_the_end { next_out (control_heard (second_in (opened_connection ++ closing)) first (CLS 16 33)).0 ≡ Some (control second first (ERR 4 (CLS 16 33) 1)) }
+    ensures cls_of_any_sockets { next_out (control_heard (second_in reset) first (CLS 33 33)).0 ≡ Some (control second first (ERR 4 (CLS 33 33) 1)) }
 
     // an end that drains says nothing of its closing until what waits is sent and answered. Until then it is open: it takes what is granted, gives it back and is interrupted
-    ensures drains { next_out (second_in (opened ++ draining)) ≡ None }
-    ensures drains_into_a_grant { next_out (heard (second_in (opened ++ draining)) first (ALL 2 1 8)).0 ≡ Some (message second first 2 (0 ∷ 8 ∷ 0 ∷ 1 ∷ 0 ∷ 65 ∷ [])) }
-    ensures drains_until_answered { next_out (gone (heard (second_in (opened ++ draining)) first (ALL 2 1 8)).0) ≡ None }
-    ensures drained { next_out (delivered (heard (second_in (opened ++ draining)) first (ALL 2 1 8)).0 first 2) ≡ Some (control second first (CLS 33 16)) }
-    ensures draining_gives_back { next_out (heard (second_in (opened ++ draining)) first (ALL 2 1 7 ++ GVB 2 128 128)).0 ≡ Some (control second first (RET 2 1 7)) }
-    ensures draining_is_interrupted { (heard (second_in (opened ++ draining)) first (INR 2)).1 ≡ notice.Interrupt 33 ∷ [] }
+    ensures drains { next_out (second_in (opened_connection ++ draining)) ≡ None }
+    ensures drains_into_a_grant { next_out (control_heard (second_in (opened_connection ++ draining)) first (ALL 2 1 8)).0 ≡ Some (message second first 2 (0 ∷ 8 ∷ 0 ∷ 1 ∷ 0 ∷ 65 ∷ [])) }
+    ensures drains_until_answered { next_out (gone (control_heard (second_in (opened_connection ++ draining)) first (ALL 2 1 8)).0) ≡ None }
+    ensures drained { next_out (delivered (control_heard (second_in (opened_connection ++ draining)) first (ALL 2 1 8)).0 first 2) ≡ Some (control second first (CLS 33 16)) }
+    ensures draining_gives_back { next_out (control_heard (second_in (opened_connection ++ draining)) first (ALL 2 1 7 ++ GVB 2 128 128)).0 ≡ Some (control second first (RET 2 1 7)) }
+    ensures draining_is_interrupted { (control_heard (second_in (opened_connection ++ draining)) first (INR 2)).1 ≡ notice.Interrupt 33 ∷ [] }
 
     // the partner's CLS drops what waits to be sent, and what is out has to be answered first; then commands about the link do nothing
-    ensures called_off { (heard (gone (second_in (opened ++ sending))) first (CLS 16 33 ++ ALL 2 1 8 ++ GVB 2 128 128 ++ INR 2)).1 ≡ [] }
-    ensures called_off_waits { next_out (heard (gone (second_in (opened ++ sending))) first (CLS 16 33 ++ ALL 2 1 8 ++ GVB 2 128 128 ++ INR 2)).0 ≡ None }
-    ensures called_off_closes { next_out (answered (heard (gone (second_in (opened ++ sending))) first (CLS 16 33 ++ ALL 2 1 8)).0 answer.Rfnm first 2).0 ≡ Some (control second first (CLS 33 16)) }
+    ensures called_off { (control_heard (gone (second_in (opened_connection ++ sending))) first (CLS 16 33 ++ ALL 2 1 8 ++ GVB 2 128 128 ++ INR 2)).1 ≡ [] }
+    ensures called_off_waits { next_out (control_heard (gone (second_in (opened_connection ++ sending))) first (CLS 16 33 ++ ALL 2 1 8 ++ GVB 2 128 128 ++ INR 2)).0 ≡ None }
+    ensures called_off_closes { next_out (answer_heard (control_heard (gone (second_in (opened_connection ++ sending))) first (CLS 16 33 ++ ALL 2 1 8)).0 answer.Rfnm first 2).0 ≡ Some (control second first (CLS 33 16)) }
 
     // a receiving end closes at once; then data and commands about its link do nothing
-    ensures data_when_closing { next_out (got (served (first_in opened) (request.Close 16)) second 2 (0 ∷ 8 ∷ 0 ∷ 1 ∷ 0 ∷ 65 ∷ [])).0 ≡ Some (control first second (CLS 16 33)) }
-    ensures commands_when_closing { next_out (heard (served (first_in opened) (request.Close 16)) second (RET 2 0 0 ++ RET 2 1 1 ++ INS 2)).0 ≡ Some (control first second (CLS 16 33)) }
-    ensures untold_when_closing { (heard (served (first_in opened) (request.Close 16)) second (RET 2 0 0 ++ INS 2)).1 ≡ [] }
-    ensures closes_at_once { next_out (served (served (gone (second_in (opened ++ sending))) (request.OpenReceive first 18 35)) (request.Close 18)) ≡ Some (control second first (RTS 18 35 2 ++ CLS 18 35)) }
+    ensures data_when_closing { next_out (got (served (first_in opened_connection) (request.Close 16)) second 2 (0 ∷ 8 ∷ 0 ∷ 1 ∷ 0 ∷ 65 ∷ [])).0 ≡ Some (control first second (CLS 16 33)) }
+    ensures commands_when_closing { next_out (control_heard (served (first_in opened_connection) (request.Close 16)) second (RET 2 0 0 ++ RET 2 1 1 ++ INS 2)).0 ≡ Some (control first second (CLS 16 33)) }
+    ensures untold_when_closing { (control_heard (served (first_in opened_connection) (request.Close 16)) second (RET 2 0 0 ++ INS 2)).1 ≡ [] }
+    ensures closes_at_once { next_out (served (served (gone (second_in (opened_connection ++ sending))) (request.OpenReceive first 18 35)) (request.Close 18)) ≡ Some (control second first (RTS 18 35 2 ++ CLS 18 35)) }
 {}
 
 /// What becomes of data, and of an allocation.
 pub fn worked_data()
     // what is granted may be used to the last bit. Bits behind the data and the octets of zeros are ignored
-    ensures covered { (got (served (first_in opened) (request.Grant 16 1 16)) second 2 (0 ∷ 8 ∷ 0 ∷ 2 ∷ 0 ∷ 65 ∷ 66 ∷ [])).1 ≡ notice.Arrived 16 (bits_of (65 ∷ 66 ∷ [])) ∷ [] }
-    ensures more_than_announced { (got (served (first_in opened) (request.Grant 16 1 16)) second 2 (7 ∷ 8 ∷ 0 ∷ 1 ∷ 9 ∷ 65 ∷ 66 ∷ 67 ∷ [])).1 ≡ notice.Arrived 16 (bits_of (65 ∷ [])) ∷ [] }
+    ensures covered { (got (served (first_in opened_connection) (request.Grant 16 1 16)) second 2 (0 ∷ 8 ∷ 0 ∷ 2 ∷ 0 ∷ 65 ∷ 66 ∷ [])).1 ≡ notice.Arrived 16 (bits_of (65 ∷ 66 ∷ [])) ∷ [] }
+    ensures more_than_announced { (got (served (first_in opened_connection) (request.Grant 16 1 16)) second 2 (7 ∷ 8 ∷ 0 ∷ 1 ∷ 9 ∷ 65 ∷ 66 ∷ 67 ∷ [])).1 ≡ notice.Arrived 16 (bits_of (65 ∷ [])) ∷ [] }
 
     // no bytes are data too, and cost a message
-    ensures no_bytes { (got (served (first_in opened) (request.Grant 16 1 16)) second 2 (0 ∷ 8 ∷ 0 ∷ 0 ∷ 0 ∷ [])).1 ≡ notice.Arrived 16 [] ∷ [] }
-    ensures no_bytes_cost_a_message { next_out (got (got (served (first_in opened) (request.Grant 16 1 16)) second 2 (0 ∷ 8 ∷ 0 ∷ 0 ∷ 0 ∷ [])).0 second 2 (0 ∷ 8 ∷ 0 ∷ 0 ∷ 0 ∷ [])).0 ≡ Some (control first second (ALL 2 1 16 ++ ERR 3 (0 ∷ 8 ∷ 0 ∷ 0 ∷ 0 ∷ []) 5)) }
+    ensures no_bytes { (got (served (first_in opened_connection) (request.Grant 16 1 16)) second 2 (0 ∷ 8 ∷ 0 ∷ 0 ∷ 0 ∷ [])).1 ≡ notice.Arrived 16 [] ∷ [] }
+    ensures no_bytes_cost_a_message { next_out (got (got (served (first_in opened_connection) (request.Grant 16 1 16)) second 2 (0 ∷ 8 ∷ 0 ∷ 0 ∷ 0 ∷ [])).0 second 2 (0 ∷ 8 ∷ 0 ∷ 0 ∷ 0 ∷ [])).0 ≡ Some (control first second (ALL 2 1 16 ++ ERR 3 (0 ∷ 8 ∷ 0 ∷ 0 ∷ 0 ∷ []) 5)) }
 
     // past what was granted, in bits or in messages, data are an ERR, and so is another size, and a message that ends too soon
-    ensures past_the_bits { next_out (got (served (first_in opened) (request.Grant 16 1 16)) second 2 (0 ∷ 8 ∷ 0 ∷ 3 ∷ 0 ∷ 65 ∷ 66 ∷ 67 ∷ [])).0 ≡ Some (control first second (ALL 2 1 16 ++ ERR 3 (0 ∷ 8 ∷ 0 ∷ 3 ∷ 0 ∷ 65 ∷ 66 ∷ 67 ∷ []) 2)) }
-    ensures untold_past_the_bits { (got (served (first_in opened) (request.Grant 16 1 16)) second 2 (0 ∷ 8 ∷ 0 ∷ 3 ∷ 0 ∷ 65 ∷ 66 ∷ 67 ∷ [])).1 ≡ [] }
-    ensures past_the_messages { next_out (got (served (first_in opened) (request.Grant 16 0 16)) second 2 (0 ∷ 8 ∷ 0 ∷ 1 ∷ 0 ∷ 65 ∷ [])).0 ≡ Some (control first second (ALL 2 0 16 ++ ERR 3 (0 ∷ 8 ∷ 0 ∷ 1 ∷ 0 ∷ 65 ∷ []) 4)) }
-    ensures another_size { next_out (got (served (first_in opened) (request.Grant 16 1 16)) second 2 (0 ∷ 4 ∷ 0 ∷ 1 ∷ 0 ∷ 240 ∷ [])).0 ≡ Some (control first second (ALL 2 1 16 ++ ERR 3 (0 ∷ 4 ∷ 0 ∷ 1 ∷ 0 ∷ 240 ∷ []) 4)) }
-    ensures too_short { next_out (got (served (first_in opened) (request.Grant 16 1 16)) second 2 (0 ∷ 8 ∷ 0 ∷ 2 ∷ 0 ∷ 65 ∷ [])).0 ≡ Some (control first second (ALL 2 1 16 ++ ERR 3 (0 ∷ 8 ∷ 0 ∷ 2 ∷ 0 ∷ 65 ∷ []) 4)) }
+    ensures past_the_bits { next_out (got (served (first_in opened_connection) (request.Grant 16 1 16)) second 2 (0 ∷ 8 ∷ 0 ∷ 3 ∷ 0 ∷ 65 ∷ 66 ∷ 67 ∷ [])).0 ≡ Some (control first second (ALL 2 1 16 ++ ERR 3 (0 ∷ 8 ∷ 0 ∷ 3 ∷ 0 ∷ 65 ∷ 66 ∷ 67 ∷ []) 2)) }
+    ensures untold_past_the_bits { (got (served (first_in opened_connection) (request.Grant 16 1 16)) second 2 (0 ∷ 8 ∷ 0 ∷ 3 ∷ 0 ∷ 65 ∷ 66 ∷ 67 ∷ [])).1 ≡ [] }
+    ensures past_the_messages { next_out (got (served (first_in opened_connection) (request.Grant 16 0 16)) second 2 (0 ∷ 8 ∷ 0 ∷ 1 ∷ 0 ∷ 65 ∷ [])).0 ≡ Some (control first second (ALL 2 0 16 ++ ERR 3 (0 ∷ 8 ∷ 0 ∷ 1 ∷ 0 ∷ 65 ∷ []) 4)) }
+    ensures another_size { next_out (got (served (first_in opened_connection) (request.Grant 16 1 16)) second 2 (0 ∷ 4 ∷ 0 ∷ 1 ∷ 0 ∷ 240 ∷ [])).0 ≡ Some (control first second (ALL 2 1 16 ++ ERR 3 (0 ∷ 4 ∷ 0 ∷ 1 ∷ 0 ∷ 240 ∷ []) 4)) }
+    ensures too_short { next_out (got (served (first_in opened_connection) (request.Grant 16 1 16)) second 2 (0 ∷ 8 ∷ 0 ∷ 2 ∷ 0 ∷ 65 ∷ [])).0 ≡ Some (control first second (ALL 2 1 16 ++ ERR 3 (0 ∷ 8 ∷ 0 ∷ 2 ∷ 0 ∷ 65 ∷ []) 4)) }
 
     // a RET of more than there is, in messages or in bits, is an ERR and takes nothing
-    ensures too_much_returned { next_out (heard (served (first_in opened) (request.Grant 16 1 16)) second (RET 2 2 0 ++ RET 2 0 17 ++ RET 2 1 16)).0 ≡ Some (control first second (ALL 2 1 16 ++ ERR 3 (RET 2 2 0) 2 ++ ERR 3 (RET 2 0 17) 2)) }
-    ensures returned { (heard (served (first_in opened) (request.Grant 16 1 16)) second (RET 2 2 0 ++ RET 2 0 17 ++ RET 2 1 16)).1 ≡ notice.Returned 16 1 16 ∷ [] }
+    ensures too_much_returned { next_out (control_heard (served (first_in opened_connection) (request.Grant 16 1 16)) second (RET 2 2 0 ++ RET 2 0 17 ++ RET 2 1 16)).0 ≡ Some (control first second (ALL 2 1 16 ++ ERR 3 (RET 2 2 0) 2 ++ ERR 3 (RET 2 0 17) 2)) }
+    ensures returned { (control_heard (served (first_in opened_connection) (request.Grant 16 1 16)) second (RET 2 2 0 ++ RET 2 0 17 ++ RET 2 1 16)).1 ≡ notice.Returned 16 1 16 ∷ [] }
 
     // nothing may be granted, asked back and returned
-    ensures nothing_granted { next_out (served (first_in opened) (request.Grant 16 0 0)) ≡ Some (control first second (ALL 2 0 0)) }
-    ensures asked_back { next_out (served (first_in opened) (request.AskBack 16 64 200)) ≡ Some (control first second (GVB 2 64 200)) }
-    ensures nothing_given_back { next_out (heard (second_in opened) first (GVB 2 128 128)).0 ≡ Some (control second first (RET 2 0 0)) }
-    ensures nothing_returned { (heard (first_in opened) second (RET 2 0 0)).1 ≡ notice.Returned 16 0 0 ∷ [] }
+    ensures nothing_granted { next_out (served (first_in opened_connection) (request.Grant 16 0 0)) ≡ Some (control first second (ALL 2 0 0)) }
+    ensures asked_back { next_out (served (first_in opened_connection) (request.AskBack 16 64 200)) ≡ Some (control first second (GVB 2 64 200)) }
+    ensures nothing_given_back { next_out (control_heard (second_in opened_connection) first (GVB 2 128 128)).0 ≡ Some (control second first (RET 2 0 0)) }
+    ensures nothing_returned { (control_heard (first_in opened_connection) second (RET 2 0 0)).1 ≡ notice.Returned 16 0 0 ∷ [] }
 
     // what was granted adds up; what was used, given back or returned is taken off
-    ensures bits_are_used { next_out (got (got (served (first_in opened) (request.Grant 16 3 16)) second 2 (0 ∷ 8 ∷ 0 ∷ 1 ∷ 0 ∷ 65 ∷ [])).0 second 2 (0 ∷ 8 ∷ 0 ∷ 2 ∷ 0 ∷ 65 ∷ 66 ∷ [])).0 ≡ Some (control first second (ALL 2 3 16 ++ ERR 3 (0 ∷ 8 ∷ 0 ∷ 2 ∷ 0 ∷ 65 ∷ 66 ∷ []) 3)) }
-    ensures grants_add_up { (got (served (served (first_in opened) (request.Grant 16 1 16)) (request.Grant 16 0 8)) second 2 (0 ∷ 8 ∷ 0 ∷ 3 ∷ 0 ∷ 65 ∷ 66 ∷ 67 ∷ [])).1 ≡ notice.Arrived 16 (bits_of (65 ∷ 66 ∷ 67 ∷ [])) ∷ [] }
-    ensures returned_once { next_out (heard (served (first_in opened) (request.Grant 16 1 16)) second (RET 2 1 8 ++ RET 2 1 8 ++ RET 2 0 8)).0 ≡ Some (control first second (ALL 2 1 16 ++ ERR 3 (RET 2 1 8) 2)) }
-    ensures given_back_once { next_out (heard (second_in (opened ++ sending)) first (GVB 2 64 200 ++ GVB 2 128 128)).0 ≡ Some (control second first (RET 2 1 100 ++ RET 2 1 0)) }
+    ensures bits_are_used { next_out (got (got (served (first_in opened_connection) (request.Grant 16 3 16)) second 2 (0 ∷ 8 ∷ 0 ∷ 1 ∷ 0 ∷ 65 ∷ [])).0 second 2 (0 ∷ 8 ∷ 0 ∷ 2 ∷ 0 ∷ 65 ∷ 66 ∷ [])).0 ≡ Some (control first second (ALL 2 3 16 ++ ERR 3 (0 ∷ 8 ∷ 0 ∷ 2 ∷ 0 ∷ 65 ∷ 66 ∷ []) 3)) }
+    ensures grants_add_up { (got (served (served (first_in opened_connection) (request.Grant 16 1 16)) (request.Grant 16 0 8)) second 2 (0 ∷ 8 ∷ 0 ∷ 3 ∷ 0 ∷ 65 ∷ 66 ∷ 67 ∷ [])).1 ≡ notice.Arrived 16 (bits_of (65 ∷ 66 ∷ 67 ∷ [])) ∷ [] }
+    ensures returned_once { next_out (control_heard (served (first_in opened_connection) (request.Grant 16 1 16)) second (RET 2 1 8 ++ RET 2 1 8 ++ RET 2 0 8)).0 ≡ Some (control first second (ALL 2 1 16 ++ ERR 3 (RET 2 1 8) 2)) }
+    ensures given_back_once { next_out (control_heard (second_in (opened_connection ++ sending)) first (GVB 2 64 200 ++ GVB 2 128 128)).0 ≡ Some (control second first (RET 2 1 100 ++ RET 2 1 0)) }
 
     // bits go out in the order of the calls, and what is left goes next
-    ensures in_order { next_out (heard (served (served (second_in opened) (request.Send 33 (bits_of (65 ∷ [])))) (request.Send 33 (bits_of (66 ∷ [])))) first (ALL 2 1 8 ++ ALL 2 1 8)).0 ≡ Some (message second first 2 (0 ∷ 8 ∷ 0 ∷ 2 ∷ 0 ∷ 65 ∷ 66 ∷ [])) }
-    ensures what_is_left { next_out (heard (answered (gone (second_in (opened ++ sending))) answer.Rfnm first 2).0 first (ALL 2 0 4)).0 ≡ Some (message second first 2 (0 ∷ 8 ∷ 0 ∷ 1 ∷ 0 ∷ 13 ∷ [])) }
-    ensures nothing_sent { next_out (heard (served (second_in opened) (request.Send 33 [])) first (ALL 2 1 8)).0 ≡ None }
+    ensures in_order { next_out (control_heard (served (served (second_in opened_connection) (request.Send 33 (bits_of (65 ∷ [])))) (request.Send 33 (bits_of (66 ∷ [])))) first (ALL 2 1 8 ++ ALL 2 1 8)).0 ≡ Some (message second first 2 (0 ∷ 8 ∷ 0 ∷ 2 ∷ 0 ∷ 65 ∷ 66 ∷ [])) }
+    ensures what_is_left { next_out (control_heard (answer_heard (gone (second_in (opened_connection ++ sending))) answer.Rfnm first 2).0 first (ALL 2 0 4)).0 ≡ Some (message second first 2 (0 ∷ 8 ∷ 0 ∷ 1 ∷ 0 ∷ 13 ∷ [])) }
+    ensures nothing_sent { next_out (control_heard (served (second_in opened_connection) (request.Send 33 [])) first (ALL 2 1 8)).0 ≡ None }
 
     // either end is told that the other interrupts
-    ensures interrupted_by_sender { (heard (first_in opened) second (INS 2)).1 ≡ notice.Interrupt 16 ∷ [] }
-    ensures interrupted_by_receiver { (heard (second_in opened) first (INR 2)).1 ≡ notice.Interrupt 33 ∷ [] }
+    ensures interrupted_by_sender { (control_heard (first_in opened_connection) second (INS 2)).1 ≡ notice.Interrupt 16 ∷ [] }
+    ensures interrupted_by_receiver { (control_heard (second_in opened_connection) first (INR 2)).1 ≡ notice.Interrupt 33 ∷ [] }
 
     // of the ends that may send, that with the lowest link does, and each waits for its answer. Commands go first if link 0 is free
     ensures lowest_link { next_out two_senders ≡ Some (message second first 4 (0 ∷ 8 ∷ 0 ∷ 1 ∷ 0 ∷ 66 ∷ [])) }
     ensures next_link { next_out (gone two_senders) ≡ Some (message second first 9 (0 ∷ 8 ∷ 0 ∷ 1 ∷ 0 ∷ 65 ∷ [])) }
     ensures no_link_left { next_out (gone (gone two_senders)) ≡ None }
-    ensures waits_for_the_answer { next_out (heard (gone (second_in (opened ++ sending))) first (ALL 2 0 4)).0 ≡ None }
-    ensures commands_wait { next_out (heard two_senders first (ECO 65)).0 ≡ Some (message second first 4 (0 ∷ 8 ∷ 0 ∷ 1 ∷ 0 ∷ 66 ∷ [])) }
-    ensures commands_first { next_out (heard (answered two_senders answer.Rfnm first 0).0 first (ECO 65)).0 ≡ Some (control second first (ERP 65)) }
+    ensures waits_for_the_answer { next_out (control_heard (gone (second_in (opened_connection ++ sending))) first (ALL 2 0 4)).0 ≡ None }
+    ensures commands_wait { next_out (control_heard two_senders first (ECO 65)).0 ≡ Some (message second first 4 (0 ∷ 8 ∷ 0 ∷ 1 ∷ 0 ∷ 66 ∷ [])) }
+    ensures commands_first { next_out (control_heard (answer_heard two_senders answer.Rfnm first 0).0 first (ECO 65)).0 ≡ Some (control second first (ERP 65)) }
 {}
 
 /// What a reset does, and what ends it.
@@ -166,66 +166,66 @@ pub fn worked_resets()
     ensures own_peer { (talk (own_reset ++ own_opening)).notices ≡ (first, notice.Ready first) ∷ (first, notice.Opened 33 first 16 9 7) ∷ (first, notice.Opened 16 first 33 6 10) ∷ [] }
 
     // an RST amid other commands drops what waited before it; what follows it is heard, since the pair is ready then. RRP goes before all that
-    ensures reset_amid_commands { (heard (second_in reset) first (ECO 65 ++ RST ++ ECO 66)).1 ≡ notice.PairReset first ∷ [] }
-    ensures reply_alone { next_out (heard (second_in reset) first (ECO 65 ++ RST ++ ECO 66)).0 ≡ Some (control second first RRP) }
-    ensures heard_after_reset { next_out (delivered (heard (second_in reset) first (ECO 65 ++ RST ++ ECO 66)).0 first 0) ≡ Some (control second first (ERP 66)) }
-    ensures opened_amid_commands { next_out (delivered (heard closed second (ECO 65 ++ RST ++ ECO 66)).0 second 0) ≡ Some (control first second (ERP 66)) }
+    ensures reset_amid_commands { (control_heard (second_in reset) first (ECO 65 ++ RST ++ ECO 66)).1 ≡ notice.PairReset first ∷ [] }
+    ensures reply_alone { next_out (control_heard (second_in reset) first (ECO 65 ++ RST ++ ECO 66)).0 ≡ Some (control second first RRP) }
+    ensures heard_after_reset { next_out (delivered (control_heard (second_in reset) first (ECO 65 ++ RST ++ ECO 66)).0 first 0) ≡ Some (control second first (ERP 66)) }
+    ensures opened_amid_commands { next_out (delivered (control_heard closed second (ECO 65 ++ RST ++ ECO 66)).0 second 0) ≡ Some (control first second (ERP 66)) }
 
     // a contact fails if its RST does, also while an RRP is owed, which then goes out
-    ensures failed_while_owing { (answered (heard rst_out second RST).0 answer.Incomplete second 0).1 ≡ notice.ContactFailed second ∷ [] }
-    ensures failed_by_dead { (answered (heard rst_out second RST).0 answer.Dead second 0).1 ≡ notice.ContactFailed second ∷ [] }
-    ensures replies_when_failed { next_out (answered (heard rst_out second RST).0 answer.Incomplete second 0).0 ≡ Some (control first second RRP) }
-    ensures closed_when_failed { (heard (answered (heard rst_out second RST).0 answer.Incomplete second 0).0 second RST).1 ≡ notice.Ready second ∷ [] }
+    ensures failed_while_owing { (answer_heard (control_heard rst_out second RST).0 answer.Incomplete second 0).1 ≡ notice.ContactFailed second ∷ [] }
+    ensures failed_by_dead { (answer_heard (control_heard rst_out second RST).0 answer.Dead second 0).1 ≡ notice.ContactFailed second ∷ [] }
+    ensures replies_when_failed { next_out (answer_heard (control_heard rst_out second RST).0 answer.Incomplete second 0).0 ≡ Some (control first second RRP) }
+    ensures closed_when_failed { (control_heard (answer_heard (control_heard rst_out second RST).0 answer.Incomplete second 0).0 second RST).1 ≡ notice.Ready second ∷ [] }
 
     // once the RST was taken another failure ends the contact, but not while an RRP is owed
-    ensures reply_failed { (answered (gone (heard rst_taken second RST).0) answer.Incomplete second 0).1 ≡ notice.ContactFailed second ∷ [] }
-    ensures reply_failed_while_owing { (answered (heard (gone (heard rst_taken second RST).0) second RST).0 answer.Incomplete second 0).1 ≡ [] }
-    ensures still_awaited { (heard (answered (heard (gone (heard rst_taken second RST).0) second RST).0 answer.Incomplete second 0).0 second RRP).1 ≡ notice.Ready second ∷ [] }
+    ensures reply_failed { (answer_heard (gone (control_heard rst_taken second RST).0) answer.Incomplete second 0).1 ≡ notice.ContactFailed second ∷ [] }
+    ensures reply_failed_while_owing { (answer_heard (control_heard (gone (control_heard rst_taken second RST).0) second RST).0 answer.Incomplete second 0).1 ≡ [] }
+    ensures still_awaited { (control_heard (answer_heard (control_heard (gone (control_heard rst_taken second RST).0) second RST).0 answer.Incomplete second 0).0 second RRP).1 ≡ notice.Ready second ∷ [] }
 
     // so it is with a pair that is ready
-    ensures lost_when_ready { (answered (gone (served ready (request.Echo second 65))) answer.Dead second 0).1 ≡ notice.PairReset second ∷ [] }
-    ensures closed_when_lost { refusal (answered (gone (served ready (request.Echo second 65))) answer.Dead second 0).0 (request.Echo second 65) ≡ Some fault.NotContacted }
-    ensures as_at_the_opening { answered (served (gone (served ready (request.Echo second 65))) (request.Echo second 66)) answer.Dead second 0 ≡ (closed, notice.PairReset second ∷ []) }
-    ensures lost_drops_connections { refusal (answered (gone (served (first_in opened) (request.Interrupt 16))) answer.Dead second 0).0 (request.Grant 16 0 0) ≡ Some fault.NoSuchSocket }
-    ensures reset_drops_connections { refusal (heard (first_in opened) second RST).0 (request.Grant 16 0 0) ≡ Some fault.NoSuchSocket }
-    ensures reset_of_another_peer { refusal (heard (first_in opened) third RST).0 (request.Grant 16 0 0) ≡ None }
-    ensures reply_lost { answered (gone (heard ready second RST).0) answer.Dead second 0 ≡ (closed, notice.PairReset second ∷ []) }
-    ensures lost_while_owing { (answered (heard (gone (served ready (request.Echo second 65))) second RST).0 answer.Dead second 0).1 ≡ [] }
-    ensures ready_while_owing { refusal (answered (heard (gone (served ready (request.Echo second 65))) second RST).0 answer.Dead second 0).0 (request.Echo second 65) ≡ None }
+    ensures lost_when_ready { (answer_heard (gone (served ready (request.Echo second 65))) answer.Dead second 0).1 ≡ notice.PairReset second ∷ [] }
+    ensures closed_when_lost { refusal (answer_heard (gone (served ready (request.Echo second 65))) answer.Dead second 0).0 (request.Echo second 65) ≡ Some fault.NotContacted }
+    ensures as_at_the_opening { answer_heard (served (gone (served ready (request.Echo second 65))) (request.Echo second 66)) answer.Dead second 0 ≡ (closed, notice.PairReset second ∷ []) }
+    ensures lost_drops_connections { refusal (answer_heard (gone (served (first_in opened_connection) (request.Interrupt 16))) answer.Dead second 0).0 (request.Grant 16 0 0) ≡ Some fault.NoSuchSocket }
+    ensures reset_drops_connections { refusal (control_heard (first_in opened_connection) second RST).0 (request.Grant 16 0 0) ≡ Some fault.NoSuchSocket }
+    ensures reset_of_another_peer { refusal (control_heard (first_in opened_connection) third RST).0 (request.Grant 16 0 0) ≡ None }
+    ensures reply_lost { answer_heard (gone (control_heard ready second RST).0) answer.Dead second 0 ≡ (closed, notice.PairReset second ∷ []) }
+    ensures lost_while_owing { (answer_heard (control_heard (gone (served ready (request.Echo second 65))) second RST).0 answer.Dead second 0).1 ≡ [] }
+    ensures ready_while_owing { refusal (answer_heard (control_heard (gone (served ready (request.Echo second 65))) second RST).0 answer.Dead second 0).0 (request.Echo second 65) ≡ None }
 
     // a link is free by any answer, also while an RRP is owed, and an end that waited for that closes then
-    ensures closes_after_failure { next_out (delivered (heard (answered (served (heard (served (gone (second_in (opened ++ sending))) (request.Listen 35 8)) first (RST ++ RTS 16 35 2)).0 (request.Close 35)) answer.Incomplete first 2).0 first (ECO 65)).0 first 0) ≡ Some (control second first (STR 35 16 8 ++ CLS 35 16 ++ ERP 65)) }
+    ensures closes_after_failure { next_out (delivered (control_heard (answer_heard (served (control_heard (served (gone (second_in (opened_connection ++ sending))) (request.Listen 35 8)) first (RST ++ RTS 16 35 2)).0 (request.Close 35)) answer.Incomplete first 2).0 first (ECO 65)).0 first 0) ≡ Some (control second first (STR 35 16 8 ++ CLS 35 16 ++ ERP 65)) }
 
     // an RRP that comes before the RFNM of the RST may belong to an older RST: another RST goes out. An RST of the peer changes nothing of that
-    ensures early_reply { (answered (heard rst_out second RRP).0 answer.Rfnm second 0).1 ≡ [] }
-    ensures another_rst { next_out (answered (heard rst_out second (RRP ++ RST)).0 answer.Rfnm second 0).0 ≡ Some (control first second RST) }
+    ensures early_reply { (answer_heard (control_heard rst_out second RRP).0 answer.Rfnm second 0).1 ≡ [] }
+    ensures another_rst { next_out (answer_heard (control_heard rst_out second (RRP ++ RST)).0 answer.Rfnm second 0).0 ≡ Some (control first second RST) }
 
     // what was remembered belongs to the RST that was out, and not to the next one
-    ensures early_reply_forgotten { next_out (delivered (answered (served (heard rst_out second RRP).0 (request.Contact second)) answer.Rfnm second 0).0 second 0) ≡ None }
-    ensures reply_to_the_next { (heard (delivered (answered (heard want_again second RRP).0 answer.Rfnm second 0).0 second 0) second RRP).1 ≡ notice.Ready second ∷ [] }
+    ensures early_reply_forgotten { next_out (delivered (answer_heard (served (control_heard rst_out second RRP).0 (request.Contact second)) answer.Rfnm second 0).0 second 0) ≡ None }
+    ensures reply_to_the_next { (control_heard (delivered (answer_heard (control_heard want_again second RRP).0 answer.Rfnm second 0).0 second 0) second RRP).1 ≡ notice.Ready second ∷ [] }
 
     // a second contact waits until the first one's RST is answered, however that is
     ensures rst_waits { next_out want_again ≡ None }
-    ensures rst_after_failure { next_out (answered want_again answer.Incomplete second 0).0 ≡ Some (control first second RST) }
-    ensures no_failure { (answered want_again answer.Incomplete second 0).1 ≡ [] }
-    ensures rst_after_rfnm { next_out (answered want_again answer.Rfnm second 0).0 ≡ Some (control first second RST) }
+    ensures rst_after_failure { next_out (answer_heard want_again answer.Incomplete second 0).0 ≡ Some (control first second RST) }
+    ensures no_failure { (answer_heard want_again answer.Incomplete second 0).1 ≡ [] }
+    ensures rst_after_rfnm { next_out (answer_heard want_again answer.Rfnm second 0).0 ≡ Some (control first second RST) }
 
     // RST and RRP wait for the answers of all links, and nothing else goes while they do. RST goes before RRP
-    ensures rst_is_silent { next_out (served (gone (second_in (opened ++ sending))) (request.Contact first)) ≡ None }
-    ensures rst_when_silent { next_out (answered (served (gone (second_in (opened ++ sending))) (request.Contact first)) answer.Rfnm first 2).0 ≡ Some (control second first RST) }
-    ensures rst_waits_for_each { next_out (answered (served (gone (heard (gone (second_in (opened ++ sending))) first (ECO 65)).0) (request.Contact first)) answer.Rfnm first 0).0 ≡ None }
-    ensures rrp_is_silent { next_out (heard (gone (second_in (opened ++ sending))) first (RST ++ ECO 65)).0 ≡ None }
-    ensures rrp_when_silent { next_out (answered (heard (gone (second_in (opened ++ sending))) first (RST ++ ECO 65)).0 answer.Rfnm first 2).0 ≡ Some (control second first RRP) }
-    ensures rst_first { next_out (served (heard ready second RST).0 (request.Contact second)) ≡ Some (control first second RST) }
-    ensures rrp_after_rst { next_out (delivered (served (heard ready second RST).0 (request.Contact second)) second 0) ≡ Some (control first second RRP) }
+    ensures rst_is_silent { next_out (served (gone (second_in (opened_connection ++ sending))) (request.Contact first)) ≡ None }
+    ensures rst_when_silent { next_out (answer_heard (served (gone (second_in (opened_connection ++ sending))) (request.Contact first)) answer.Rfnm first 2).0 ≡ Some (control second first RST) }
+    ensures rst_waits_for_each { next_out (answer_heard (served (gone (control_heard (gone (second_in (opened_connection ++ sending))) first (ECO 65)).0) (request.Contact first)) answer.Rfnm first 0).0 ≡ None }
+    ensures rrp_is_silent { next_out (control_heard (gone (second_in (opened_connection ++ sending))) first (RST ++ ECO 65)).0 ≡ None }
+    ensures rrp_when_silent { next_out (answer_heard (control_heard (gone (second_in (opened_connection ++ sending))) first (RST ++ ECO 65)).0 answer.Rfnm first 2).0 ≡ Some (control second first RRP) }
+    ensures rst_first { next_out (served (control_heard ready second RST).0 (request.Contact second)) ≡ Some (control first second RST) }
+    ensures rrp_after_rst { next_out (delivered (served (control_heard ready second RST).0 (request.Contact second)) second 0) ≡ Some (control first second RRP) }
 
     // one RRP answers every RST before it, and what waited to be said is gone
-    ensures one_reply { next_out (delivered (heard (served ready (request.Echo second 65)) second (RST ++ RST)).0 second 0) ≡ None }
+    ensures one_reply { next_out (delivered (control_heard (served ready (request.Echo second 65)) second (RST ++ RST)).0 second 0) ≡ None }
 
     // a contact with a ready pair drops its connections, which the user is told
-    ensures contact_tells { served_notices (first_in opened) (request.Contact second) ≡ notice.PairReset second ∷ [] }
-    ensures contact_drops { refusal (served (first_in opened) (request.Contact second)) (request.Grant 16 0 0) ≡ Some fault.NoSuchSocket }
-    ensures contact_drops_commands { next_out (heard (delivered (served (served ready (request.Echo second 65)) (request.Contact second)) second 0) second RRP).0 ≡ None }
+    ensures contact_tells { served_notices (first_in opened_connection) (request.Contact second) ≡ notice.PairReset second ∷ [] }
+    ensures contact_drops { refusal (served (first_in opened_connection) (request.Contact second)) (request.Grant 16 0 0) ≡ Some fault.NoSuchSocket }
+    ensures contact_drops_commands { next_out (control_heard (delivered (served (served ready (request.Echo second 65)) (request.Contact second)) second 0) second RRP).0 ≡ None }
 
     // peers come in order of their address octets: host 1 at IMP 1 has 65
     ensures peers_in_order { next_out (served (served closed (request.Contact neighbour)) (request.Contact second)) ≡ Some (control first second RST) }
@@ -233,50 +233,50 @@ pub fn worked_resets()
 
     // what isn't for this host, and an answer that it doesn't wait for, does nothing
     ensures not_for_this_host { next_out (accepted ready (inbound.Message (control second third (ECO 65))) 20).0 ≡ None }
-    ensures nothing_outstanding { refusal (answered ready answer.Dead second 5).0 (request.Echo second 65) ≡ None }
+    ensures nothing_outstanding { refusal (answer_heard ready answer.Dead second 5).0 (request.Echo second 65) ≡ None }
     ensures answer_of_another { refusal (accepted (gone (served ready (request.Echo second 65))) (inbound.Answer answer.Dead (on_link third second 0)) 20).0 (request.Echo second 65) ≡ None }
 {}
 
 /// Every command in every phase of a reset.
 pub fn worked_phases()
-    // outside the ready phase every command but RST and RRP is passed over, and so are data and malformed messages
-    ensures closed_commands { heard closed second every_command ≡ (closed, []) }
+    // outside the ready phase every command but RST and RRP is ignored, and so are data and malformed messages
+    ensures closed_commands { control_heard closed second every_command ≡ (closed, []) }
     ensures closed_data { got closed second 5 (0 ∷ 8 ∷ 0 ∷ 1 ∷ 0 ∷ 65 ∷ []) ≡ (closed, []) }
     ensures closed_malformed { got closed second 0 (0 ∷ 7 ∷ 0 ∷ 1 ∷ 0 ∷ []) ≡ (closed, []) }
-    ensures want_commands { heard want second every_command ≡ (want, []) }
+    ensures want_commands { control_heard want second every_command ≡ (want, []) }
     ensures want_data { got want second 5 (0 ∷ 8 ∷ 0 ∷ 1 ∷ 0 ∷ 65 ∷ []) ≡ (want, []) }
     ensures want_malformed { got want second 0 (0 ∷ 7 ∷ 0 ∷ 1 ∷ 0 ∷ []) ≡ (want, []) }
-    ensures rst_out_commands { heard rst_out second every_command ≡ (rst_out, []) }
+    ensures rst_out_commands { control_heard rst_out second every_command ≡ (rst_out, []) }
     ensures rst_out_data { got rst_out second 5 (0 ∷ 8 ∷ 0 ∷ 1 ∷ 0 ∷ 65 ∷ []) ≡ (rst_out, []) }
     ensures rst_out_malformed { got rst_out second 0 (0 ∷ 7 ∷ 0 ∷ 1 ∷ 0 ∷ []) ≡ (rst_out, []) }
-    ensures rst_taken_commands { heard rst_taken second every_command ≡ (rst_taken, []) }
+    ensures rst_taken_commands { control_heard rst_taken second every_command ≡ (rst_taken, []) }
     ensures rst_taken_data { got rst_taken second 5 (0 ∷ 8 ∷ 0 ∷ 1 ∷ 0 ∷ 65 ∷ []) ≡ (rst_taken, []) }
     ensures rst_taken_malformed { got rst_taken second 0 (0 ∷ 7 ∷ 0 ∷ 1 ∷ 0 ∷ []) ≡ (rst_taken, []) }
 
     // when the pair is ready each has its answer
-    ensures ready_commands { next_out (heard (second_in reset) first every_command).0 ≡ Some (control second first (CLS 33 16 ++ CLS 18 35 ++ ERR 4 (CLS 20 37) 1 ++ ERR 5 (ALL 6 1 8) 2 ++ ERR 5 (GVB 6 64 128) 6 ++ ERR 5 (RET 7 2 9) 2 ++ ERR 5 (INR 6) 8 ++ ERR 5 (INS 7) 8 ++ ERP 65 ++ ERR 1 (14 ∷ []) 9)) }
-    ensures ready_notices { (heard (second_in reset) first every_command).1 ≡ notice.Echoed first 66 ∷ notice.RemoteError first 77 (take 10 twelve) ∷ [] }
+    ensures ready_commands { next_out (control_heard (second_in reset) first every_command).0 ≡ Some (control second first (CLS 33 16 ++ CLS 18 35 ++ ERR 4 (CLS 20 37) 1 ++ ERR 5 (ALL 6 1 8) 2 ++ ERR 5 (GVB 6 64 128) 6 ++ ERR 5 (RET 7 2 9) 2 ++ ERR 5 (INR 6) 8 ++ ERR 5 (INS 7) 8 ++ ERP 65 ++ ERR 1 (14 ∷ []) 9)) }
+    ensures ready_notices { (control_heard (second_in reset) first every_command).1 ≡ notice.Echoed first 66 ∷ notice.RemoteError first 77 (take 10 twelve) ∷ [] }
 
     // an RST is answered by an RRP in every phase; it opens a closed pair, and is told of where the pair was closed or ready
-    ensures closed_reset { (heard closed second RST).1 ≡ notice.Ready second ∷ [] }
-    ensures want_reset { next_out (delivered (heard want second RST).0 second 0) ≡ Some (control first second RRP) }
-    ensures untold_when_wanted { (heard want second RST).1 ≡ [] }
-    ensures rst_out_reset { next_out (answered (heard rst_out second RST).0 answer.Rfnm second 0).0 ≡ Some (control first second RRP) }
-    ensures untold_when_out { (heard rst_out second RST).1 ≡ [] }
-    ensures rst_taken_reset { next_out (heard rst_taken second RST).0 ≡ Some (control first second RRP) }
-    ensures untold_when_taken { (heard rst_taken second RST).1 ≡ [] }
+    ensures closed_reset { (control_heard closed second RST).1 ≡ notice.Ready second ∷ [] }
+    ensures want_reset { next_out (delivered (control_heard want second RST).0 second 0) ≡ Some (control first second RRP) }
+    ensures untold_when_wanted { (control_heard want second RST).1 ≡ [] }
+    ensures rst_out_reset { next_out (answer_heard (control_heard rst_out second RST).0 answer.Rfnm second 0).0 ≡ Some (control first second RRP) }
+    ensures untold_when_out { (control_heard rst_out second RST).1 ≡ [] }
+    ensures rst_taken_reset { next_out (control_heard rst_taken second RST).0 ≡ Some (control first second RRP) }
+    ensures untold_when_taken { (control_heard rst_taken second RST).1 ≡ [] }
 
-    // an RRP is passed over where no RST of this host is about
-    ensures closed_reply { heard closed second RRP ≡ (closed, []) }
-    ensures want_reply { heard want second RRP ≡ (want, []) }
-    ensures ready_reply { heard ready second RRP ≡ (ready, []) }
+    // an RRP is ignored if no RST of this host waits for one
+    ensures closed_reply { control_heard closed second RRP ≡ (closed, []) }
+    ensures want_reply { control_heard want second RRP ≡ (want, []) }
+    ensures ready_reply { control_heard ready second RRP ≡ (ready, []) }
 {}
 
 /// What is answered by ERR, and what an ERR quotes.
 pub fn worked_errors()
     // of an RTS with too few octets, those that are there are quoted, in each length
     ensures each_length { map (λ k. orders_of (control_text (take k (RTS 16 33 5)))) (range_with_len 0 11) ≡ [] ∷ (Wrong 2 (1 ∷ []) ∷ []) ∷ (Wrong 2 (1 ∷ 0 ∷ []) ∷ []) ∷ (Wrong 2 (1 ∷ 0 ∷ 0 ∷ []) ∷ []) ∷ (Wrong 2 (1 ∷ 0 ∷ 0 ∷ 0 ∷ []) ∷ []) ∷ (Wrong 2 (1 ∷ 0 ∷ 0 ∷ 0 ∷ 16 ∷ []) ∷ []) ∷ (Wrong 2 (1 ∷ 0 ∷ 0 ∷ 0 ∷ 16 ∷ 0 ∷ []) ∷ []) ∷ (Wrong 2 (1 ∷ 0 ∷ 0 ∷ 0 ∷ 16 ∷ 0 ∷ 0 ∷ []) ∷ []) ∷ (Wrong 2 (1 ∷ 0 ∷ 0 ∷ 0 ∷ 16 ∷ 0 ∷ 0 ∷ 0 ∷ []) ∷ []) ∷ (Wrong 2 (1 ∷ 0 ∷ 0 ∷ 0 ∷ 16 ∷ 0 ∷ 0 ∷ 0 ∷ 33 ∷ []) ∷ []) ∷ (Legal (command.Rts 16 33 5) ∷ []) ∷ [] }
-    ensures short_quoted { next_out (heard (second_in reset) first (take 9 (RTS 16 33 5))).0 ≡ Some (control second first (ERR 2 (take 9 (RTS 16 33 5)) 1)) }
+    ensures short_quoted { next_out (control_heard (second_in reset) first (take 9 (RTS 16 33 5))).0 ≡ Some (control second first (ERR 2 (take 9 (RTS 16 33 5)) 1)) }
 
     // of a message with fewer bits than it announces, or than a header has, the text is quoted, filled with zeros
     ensures each_text { map (λ n. orders_of (take n (control_text (RTS 16 33 5)))) (0 ∷ 8 ∷ 39 ∷ 40 ∷ 41 ∷ 48 ∷ 119 ∷ []) ≡ (Wrong 3 [] ∷ []) ∷ (Wrong 3 (0 ∷ []) ∷ []) ∷ (Wrong 3 (0 ∷ 8 ∷ 0 ∷ 10 ∷ 0 ∷ []) ∷ []) ∷ (Wrong 3 (0 ∷ 8 ∷ 0 ∷ 10 ∷ 0 ∷ []) ∷ []) ∷ (Wrong 3 (0 ∷ 8 ∷ 0 ∷ 10 ∷ 0 ∷ 0 ∷ []) ∷ []) ∷ (Wrong 3 (0 ∷ 8 ∷ 0 ∷ 10 ∷ 0 ∷ 1 ∷ []) ∷ []) ∷ (Wrong 3 (0 ∷ 8 ∷ 0 ∷ 10 ∷ 0 ∷ 1 ∷ 0 ∷ 0 ∷ 0 ∷ 16 ∷ 0 ∷ 0 ∷ 0 ∷ 33 ∷ 4 ∷ []) ∷ []) ∷ [] }
@@ -285,16 +285,16 @@ pub fn worked_errors()
     ensures more_than_announced { next_out (got (second_in reset) first 0 (3 ∷ 8 ∷ 0 ∷ 2 ∷ 5 ∷ 9 ∷ 65 ∷ 9 ∷ 66 ∷ [])).0 ≡ Some (control second first (ERP 65)) }
 
     // 120 octets of commands are read, 121 are not
-    ensures greatest_control { (heard (second_in reset) first (replicate 118 0 ++ ERP 65)).1 ≡ notice.Echoed first 65 ∷ [] }
-    ensures too_great_control { next_out (heard (second_in reset) first (replicate 119 0 ++ ECO 65)).0 ≡ Some (control second first (ERR 3 (0 ∷ 8 ∷ 0 ∷ 121 ∷ 0 ∷ []) 5)) }
+    ensures greatest_control { (control_heard (second_in reset) first (replicate 118 0 ++ ERP 65)).1 ≡ notice.Echoed first 65 ∷ [] }
+    ensures too_great_control { next_out (control_heard (second_in reset) first (replicate 119 0 ++ ECO 65)).0 ≡ Some (control second first (ERR 3 (0 ∷ 8 ∷ 0 ∷ 121 ∷ 0 ∷ []) 5)) }
 
     // behind a field outside its range the reading goes on; behind an illegal code and missing octets it doesn't, but what came before is heard
-    ensures goes_on { next_out (heard (second_in reset) first (RTS 16 33 1 ++ RTS 17 33 5 ++ RTS 16 34 5 ++ RTS 16 33 32 ++ STR 33 16 0 ++ ECO 65)).0 ≡ Some (control second first (ERR 3 (RTS 16 33 1) 0 ++ ERR 3 (RTS 17 33 5) 0 ++ ERR 3 (RTS 16 34 5) 0 ++ ERR 3 (RTS 16 33 32) 0 ++ ERR 3 (STR 33 16 0) 0 ++ ERP 65)) }
-    ensures ends_at_an_illegal_code { next_out (heard (second_in reset) first (ECO 65 ++ 14 ∷ ECO 66)).0 ≡ Some (control second first (ERP 65 ++ ERR 1 (14 ∷ ECO 66) 7)) }
+    ensures goes_on { next_out (control_heard (second_in reset) first (RTS 16 33 1 ++ RTS 17 33 5 ++ RTS 16 34 5 ++ RTS 16 33 32 ++ STR 33 16 0 ++ ECO 65)).0 ≡ Some (control second first (ERR 3 (RTS 16 33 1) 0 ++ ERR 3 (RTS 17 33 5) 0 ++ ERR 3 (RTS 16 34 5) 0 ++ ERR 3 (RTS 16 33 32) 0 ++ ERR 3 (STR 33 16 0) 0 ++ ERP 65)) }
+    ensures ends_at_an_illegal_code { next_out (control_heard (second_in reset) first (ECO 65 ++ 14 ∷ ECO 66)).0 ≡ Some (control second first (ERP 65 ++ ERR 1 (14 ∷ ECO 66) 7)) }
 
     // an ERR with any code is told of and never answered
-    ensures never_answered { next_out (heard (second_in reset) first (ERR 77 (take 10 twelve) 0)).0 ≡ None }
-    ensures told_of { (heard (second_in reset) first (ERR 77 (take 10 twelve) 0)).1 ≡ notice.RemoteError first 77 (take 10 twelve) ∷ [] }
+    ensures never_answered { next_out (control_heard (second_in reset) first (ERR 77 (take 10 twelve) 0)).0 ≡ None }
+    ensures told_of { (control_heard (second_in reset) first (ERR 77 (take 10 twelve) 0)).1 ≡ notice.RemoteError first 77 (take 10 twelve) ∷ [] }
 {}
 
 /// Why a user may not listen or ask for a connection, the first refusal of the list.
@@ -307,18 +307,18 @@ pub fn worked_listening()
     ensures listen_bad_size { refusal closed (request.Listen 16 0) ≡ Some fault.BadSize }
 
     // the end of a refused request isn't this host's own, but holds both sockets
-    ensures listen_on_refused { refusal (heard (second_in reset) first (RTS 16 33 5)).0 (request.Listen 33 8) ≡ None }
-    ensures send_on_refused { refusal (heard (second_in reset) first (RTS 16 33 5)).0 (request.OpenSend first 33 18 8) ≡ None }
-    ensures send_to_refused { refusal (heard (second_in reset) first (RTS 16 33 5)).0 (request.OpenSend first 33 16 0) ≡ Some fault.InUse }
-    ensures receive_from_refused { refusal (heard ready second (STR 33 16 8)).0 (request.OpenReceive second 16 33) ≡ Some fault.InUse }
-    ensures close_refused { refusal (heard (second_in reset) first (RTS 16 33 5)).0 (request.Close 33) ≡ Some fault.NoSuchSocket }
+    ensures listen_on_refused { refusal (control_heard (second_in reset) first (RTS 16 33 5)).0 (request.Listen 33 8) ≡ None }
+    ensures send_on_refused { refusal (control_heard (second_in reset) first (RTS 16 33 5)).0 (request.OpenSend first 33 18 8) ≡ None }
+    ensures send_to_refused { refusal (control_heard (second_in reset) first (RTS 16 33 5)).0 (request.OpenSend first 33 16 0) ≡ Some fault.InUse }
+    ensures receive_from_refused { refusal (control_heard ready second (STR 33 16 8)).0 (request.OpenReceive second 16 33) ≡ Some fault.InUse }
+    ensures close_refused { refusal (control_heard (second_in reset) first (RTS 16 33 5)).0 (request.Close 33) ≡ Some fault.NoSuchSocket }
 
     // `open_send`: the pair isn't ready; the own socket is even or the foreign one odd; the own socket is in use; the size is 0
     ensures send_not_contacted { refusal rst_taken (request.OpenSend second 16 33 0) ≡ Some fault.NotContacted }
     ensures send_from_even { refusal (served ready (request.Listen 16 8)) (request.OpenSend second 16 32 0) ≡ Some fault.WrongEnd }
     ensures send_to_odd { refusal (served ready (request.Listen 17 8)) (request.OpenSend second 17 33 0) ≡ Some fault.WrongEnd }
     ensures send_in_use { refusal (served ready (request.Listen 17 8)) (request.OpenSend second 17 32 0) ≡ Some fault.InUse }
-    ensures send_own_end { refusal (second_in opened) (request.OpenSend first 33 18 0) ≡ Some fault.InUse }
+    ensures send_own_end { refusal (second_in opened_connection) (request.OpenSend first 33 18 0) ≡ Some fault.InUse }
     ensures send_bad_size { refusal ready (request.OpenSend second 17 32 0) ≡ Some fault.BadSize }
 
     // `open_receive`: likewise, and all links are taken
@@ -326,8 +326,8 @@ pub fn worked_listening()
     ensures receive_at_odd { refusal (served ready (request.Listen 17 8)) (request.OpenReceive second 17 33) ≡ Some fault.WrongEnd }
     ensures receive_from_even { refusal (served ready (request.Listen 16 8)) (request.OpenReceive second 16 32) ≡ Some fault.WrongEnd }
     ensures receive_in_use { refusal (served ready (request.Listen 16 8)) (request.OpenReceive second 16 33) ≡ Some fault.InUse }
-    ensures receive_own_end { refusal (first_in opened) (request.OpenReceive second 16 35) ≡ Some fault.InUse }
-    ensures receive_with_another_peer { refusal (heard (first_in opened) third RST).0 (request.OpenReceive third 16 33) ≡ Some fault.InUse }
+    ensures receive_own_end { refusal (first_in opened_connection) (request.OpenReceive second 16 35) ≡ Some fault.InUse }
+    ensures receive_with_another_peer { refusal (control_heard (first_in opened_connection) third RST).0 (request.OpenReceive third 16 33) ≡ Some fault.InUse }
     ensures receive_in_use_first { refusal (first_in (reset ++ many_opened)) (request.OpenReceive second 16 33) ≡ Some fault.InUse }
 
     // `echo`
@@ -341,37 +341,37 @@ pub fn worked_calls()
     ensures send_wrong_end { refusal closed (request.Send 16 (replicate 7 true)) ≡ Some fault.WrongEnd }
     ensures send_only_listening { refusal (served ready (request.Listen 17 8)) (request.Send 17 (replicate 7 true)) ≡ Some fault.NoSuchSocket }
     ensures send_not_open { refusal (served ready (request.OpenSend second 17 32 8)) (request.Send 17 (replicate 7 true)) ≡ Some fault.NotOpen }
-    ensures send_called_off { refusal (heard (gone (second_in (opened ++ sending))) first (CLS 16 33)).0 (request.Send 33 (replicate 8 true)) ≡ Some fault.NotOpen }
-    ensures send_bad_size { refusal (second_in (opened ++ draining)) (request.Send 33 (replicate 7 true)) ≡ Some fault.BadSize }
-    ensures send_closing { refusal (second_in (opened ++ draining)) (request.Send 33 (replicate 8 true)) ≡ Some fault.Closing }
+    ensures send_called_off { refusal (control_heard (gone (second_in (opened_connection ++ sending))) first (CLS 16 33)).0 (request.Send 33 (replicate 8 true)) ≡ Some fault.NotOpen }
+    ensures send_bad_size { refusal (second_in (opened_connection ++ draining)) (request.Send 33 (replicate 7 true)) ≡ Some fault.BadSize }
+    ensures send_closing { refusal (second_in (opened_connection ++ draining)) (request.Send 33 (replicate 8 true)) ≡ Some fault.Closing }
 
     // `grant`: the socket is odd; no own end; not open, as one that was closed; more than the counters hold, in messages or in bits, less what was used
     ensures grant_wrong_end { refusal closed (request.Grant 33 1 8) ≡ Some fault.WrongEnd }
-    ensures grant_no_such_socket { refusal (first_in opened) (request.Grant 18 1 8) ≡ Some fault.NoSuchSocket }
+    ensures grant_no_such_socket { refusal (first_in opened_connection) (request.Grant 18 1 8) ≡ Some fault.NoSuchSocket }
     ensures grant_not_open { refusal (served ready (request.OpenReceive second 16 33)) (request.Grant 16 1 8) ≡ Some fault.NotOpen }
-    ensures grant_closed { refusal (served (served (first_in opened) (request.Grant 16 65535 0)) (request.Close 16)) (request.Grant 16 1 8) ≡ Some fault.NotOpen }
-    ensures grant_all_messages { refusal (first_in opened) (request.Grant 16 65535 4294967295) ≡ None }
-    ensures grant_too_many_bits { refusal (served (first_in opened) (request.Grant 16 0 4294967295)) (request.Grant 16 0 1) ≡ Some fault.OverGrant }
-    ensures grant_what_was_used { refusal (got (served (first_in opened) (request.Grant 16 65535 8)) second 2 (0 ∷ 8 ∷ 0 ∷ 1 ∷ 0 ∷ 65 ∷ [])).0 (request.Grant 16 1 4294967295) ≡ None }
+    ensures grant_closed { refusal (served (served (first_in opened_connection) (request.Grant 16 65535 0)) (request.Close 16)) (request.Grant 16 1 8) ≡ Some fault.NotOpen }
+    ensures grant_all_messages { refusal (first_in opened_connection) (request.Grant 16 65535 4294967295) ≡ None }
+    ensures grant_too_many_bits { refusal (served (first_in opened_connection) (request.Grant 16 0 4294967295)) (request.Grant 16 0 1) ≡ Some fault.OverGrant }
+    ensures grant_what_was_used { refusal (got (served (first_in opened_connection) (request.Grant 16 65535 8)) second 2 (0 ∷ 8 ∷ 0 ∷ 1 ∷ 0 ∷ 65 ∷ [])).0 (request.Grant 16 1 4294967295) ≡ None }
 
     // `ask_back`: those of `grant` but the last
     ensures ask_back_wrong_end { refusal closed (request.AskBack 33 1 1) ≡ Some fault.WrongEnd }
     ensures ask_back_no_such_socket { refusal (served ready (request.Listen 16 8)) (request.AskBack 16 1 1) ≡ Some fault.NoSuchSocket }
     ensures ask_back_not_open { refusal (served ready (request.OpenReceive second 16 33)) (request.AskBack 16 1 1) ≡ Some fault.NotOpen }
-    ensures ask_back_closed { refusal (served (first_in opened) (request.Close 16)) (request.AskBack 16 1 1) ≡ Some fault.NotOpen }
+    ensures ask_back_closed { refusal (served (first_in opened_connection) (request.Close 16)) (request.AskBack 16 1 1) ≡ Some fault.NotOpen }
 
     // `interrupt`: no own end; not open; it drains
     ensures interrupt_no_such_socket { refusal (served ready (request.Listen 16 8)) (request.Interrupt 16) ≡ Some fault.NoSuchSocket }
     ensures interrupt_not_open { refusal (served ready (request.OpenSend second 17 32 8)) (request.Interrupt 17) ≡ Some fault.NotOpen }
-    ensures interrupt_closed { refusal (served (first_in opened) (request.Close 16)) (request.Interrupt 16) ≡ Some fault.NotOpen }
-    ensures interrupt_closing { refusal (second_in (opened ++ draining)) (request.Interrupt 33) ≡ Some fault.Closing }
+    ensures interrupt_closed { refusal (served (first_in opened_connection) (request.Close 16)) (request.Interrupt 16) ≡ Some fault.NotOpen }
+    ensures interrupt_closing { refusal (second_in (opened_connection ++ draining)) (request.Interrupt 33) ≡ Some fault.Closing }
 
     // `close`: it has no own end and doesn't listen; it was closed at this end, or at the other, open or not
     ensures close_no_such_socket { refusal ready (request.Close 16) ≡ Some fault.NoSuchSocket }
     ensures close_listening { refusal (served ready (request.Listen 16 8)) (request.Close 16) ≡ None }
     ensures close_not_open { refusal (served ready (request.OpenReceive second 16 33)) (request.Close 16) ≡ None }
-    ensures close_draining { refusal (second_in (opened ++ draining)) (request.Close 33) ≡ Some fault.Closing }
-    ensures close_called_off { refusal (heard (gone (second_in (opened ++ sending))) first (CLS 16 33)).0 (request.Close 33) ≡ Some fault.Closing }
+    ensures close_draining { refusal (second_in (opened_connection ++ draining)) (request.Close 33) ≡ Some fault.Closing }
+    ensures close_called_off { refusal (control_heard (gone (second_in (opened_connection ++ sending))) first (CLS 16 33)).0 (request.Close 33) ≡ Some fault.Closing }
 {}
 
 /// How much more a host keeps once a request is served.
@@ -382,13 +382,13 @@ pub fn worked_memory()
     ensures contact_ready { newly_kept ready (request.Contact second) ≡ 1 }
 
     // bits, where there are any
-    ensures send_bits { newly_kept (second_in opened) (request.Send 33 (replicate 8 true)) ≡ 8 }
-    ensures send_nothing { newly_kept (second_in opened) (request.Send 33 []) ≡ 0 }
+    ensures send_bits { newly_kept (second_in opened_connection) (request.Send 33 (replicate 8 true)) ≡ 8 }
+    ensures send_nothing { newly_kept (second_in opened_connection) (request.Send 33 []) ≡ 0 }
 
     // a receiving end queues its CLS at once, a sending end where nothing waits; one that drains doesn't, nor does a socket that listens
-    ensures close_receiver { newly_kept (first_in opened) (request.Close 16) ≡ 1 }
-    ensures close_sender { newly_kept (second_in opened) (request.Close 33) ≡ 1 }
-    ensures close_draining { newly_kept (served (second_in opened) (request.Send 33 (replicate 8 true))) (request.Close 33) ≡ 0 }
+    ensures close_receiver { newly_kept (first_in opened_connection) (request.Close 16) ≡ 1 }
+    ensures close_sender { newly_kept (second_in opened_connection) (request.Close 33) ≡ 1 }
+    ensures close_draining { newly_kept (served (second_in opened_connection) (request.Send 33 (replicate 8 true))) (request.Close 33) ≡ 0 }
     ensures close_listening { newly_kept (served ready (request.Listen 16 8)) (request.Close 16) ≡ 0 }
 
     // a socket that listens, or a command

@@ -4,9 +4,9 @@ use Rattle.std.proofs.lemmas.Bool.{eqb-true, leb-true, ltb-true}
 use Rattle.std.proofs.Math.Nat.{min-le_left, min-eq_left}
 use Rattle.ncp_control.specs.Allocation as counters
 use Rattle.ncp_control.specs.declared.allocation.Allocation.{Allocation}
-use Rattle.ncp_control.proofs.Counters.{share-le}
+use Rattle.ncp_control.proofs.lemmas.{share-le}
 use Rattle.stream_law.specs.Words.{Word, Rts, Str, All, Gvb, Ret, Cls, for, covers, holds}
-use Rattle.stream_law.specs.Within.{bits_in, IsFront}
+use Rattle.stream_law.specs.Within.{message_bits, IsFront}
 
 pub parts : (a b : Bool) → (a && b) ≡ true → (a ≡ true) × (b ≡ true)
 parts true b e = (refl, e)
@@ -161,9 +161,9 @@ pub total_messages : (ms : List (List Bool)) → total Messages ms ≡ length ms
 total_messages [] = refl
 total_messages (m ∷ ms) = let e : total Messages ms ≡ length ms = total_messages ms in omega (arith, e)
 
-pub total_bits : (ms : List (List Bool)) → total Bits ms ≡ bits_in ms
+pub total_bits : (ms : List (List Bool)) → total Bits ms ≡ message_bits ms
 total_bits [] = refl
-total_bits (m ∷ ms) = let e : total Bits ms ≡ bits_in ms = total_bits ms in omega (arith, e)
+total_bits (m ∷ ms) = let e : total Bits ms ≡ message_bits ms = total_bits ms in omega (arith, e)
 
 -- ---- what is under way
 

@@ -7,7 +7,7 @@ use Rattle.stream_law.specs.Receivers.{Receiver}
 use Rattle.stream_law.specs.Senders.{Sender}
 use Rattle.stream_law.specs.Streams.{Stream, Box, Empty, Waiting, Taken}
 use Rattle.stream_law.specs.Within.{IsFront}
-use Rattle.stream_law.proofs.Amounts.{unlike, never, some_is, Counter, Messages, Bits, number, cost, total, total_of, granted_in, returned_in, held}
+use Rattle.stream_law.proofs.Amounts.{unlike, some_is, Counter, Messages, Bits, number, cost, total, total_of, granted_in, returned_in, held}
 use Rattle.stream_law.proofs.Words.{unless, NoRts, DownFits, UpFits}
 
 abbrev pub made : Receiver → Sender → List Word → List Word → Box → Stream
@@ -121,9 +121,6 @@ all_over x h none k asked = elim (h.known k asked) [
   | inr o ↦ o
 ]
 
-pub not_over : (x : Stream) → Inv x → (c : ℕ) → x.sender.closed c ≡ false → x.receiver.over c ≡ false
-not_over x h c none = never (x.receiver.over c) (λ o. unlike (x.sender.closed c) (h.passed c o) none)
-
 -- what was asked for and isn't closed has the link
 pub sole : (x : Stream) → Inv x → (c : ℕ) → x.receiver.asked c ≡ true → x.sender.closed c ≡ false → x.receiver.end ≡ Some c
 sole x h c asked none = elim (h.known c asked) [
@@ -131,7 +128,7 @@ sole x h c asked none = elim (h.known c asked) [
   | inr o ↦ absurd (unlike (x.sender.closed c) (h.passed c o) none)
 ]
 
-pub waits_for : (x : Stream) → Inv x → (c z : ℕ) (bits : List Bool) → x.box ≡ Waiting c z bits → Waits x.sender (Waiting c z bits)
+waits_for : (x : Stream) → Inv x → (c z : ℕ) (bits : List Bool) → x.box ≡ Waiting c z bits → Waits x.sender (Waiting c z bits)
 waits_for x h c z bits e = subst (λ (b : Box). Waits x.sender b) e h.waiting
 
 pub waits_of : (x : Stream) → Inv x → (c z : ℕ) (bits : List Bool) → x.box ≡ Waiting c z bits → x.receiver.end ≡ Some c
@@ -166,7 +163,7 @@ only_some None e z f = absurd (cc)
 only_some (Some y) e z f = ap (λ (n : ℕ). Some n) (f y refl)
 
 -- it costs no more than what was granted and is left
-pub affordable : (x : Stream) → Inv x → (u : Counter) (c : ℕ) (bits : List Bool) → x.receiver.end ≡ Some c → x.sender.sent c ≡ x.receiver.taken c ++ bits ∷ [] → cost u bits ≤ number u x.receiver.allocation
+affordable : (x : Stream) → Inv x → (u : Counter) (c : ℕ) (bits : List Bool) → x.receiver.end ≡ Some c → x.sender.sent c ≡ x.receiver.taken c ++ bits ∷ [] → cost u bits ≤ number u x.receiver.allocation
 affordable x h u c bits end sent =
     let a : Account u c x.receiver x.sender x.to_sender x.to_receiver = h.account u c in
     let l : number u (x.receiver.granted c) ≤ number u x.receiver.allocation + total u (x.receiver.taken c) + number u (x.receiver.returned c) = h.left u c end in

@@ -4,3 +4,4 @@ pub mod Keeps
 pub mod Receives
 pub mod Sends
 pub mod Runs
+pub mod lemmas

@@ -6,15 +6,15 @@ use Rattle.stream_law.specs.Receivers as receivers
 use Rattle.stream_law.specs.Receivers.{Receiver}
 use Rattle.stream_law.specs.Senders as senders
 use Rattle.stream_law.specs.Senders.{Sender}
-use Rattle.stream_law.specs.Streams.{Stream, Box, Empty, Waiting, Taken, Event, Receives, Sends, happens, queued, behind, opening, stream, MayHappen, IsRun}
-use Rattle.stream_law.specs.Within.{bits_in, AreGranted, IsSafe, NothingLeft}
+use Rattle.stream_law.specs.Streams.{Stream, Box, Empty, Waiting, Taken, Event, Receives, Sends, happens, word_queued, behind, opening_stream, stream, MayHappen, IsRun}
+use Rattle.stream_law.specs.Within.{message_bits, AreGranted, IsSafe, NothingLeft}
 use Rattle.stream_law.proofs.Amounts.{some_is, for_here, Counter, Messages, Bits, number, number_nothing, total, total_front, total_messages, total_bits}
 use Rattle.stream_law.proofs.Words.{none_returned}
 use Rattle.stream_law.proofs.Keeps.{made, Account, Inv, all_over, closed_of, waits_of, acceptable}
 use Rattle.stream_law.proofs.Receives as receives
 use Rattle.stream_law.proofs.Sends as sends
 
-pub inv_opening : Inv opening
+pub inv_opening : Inv opening_stream
 inv_opening = record {
   known = λ c e. absurd (cc);
   own = λ c e. absurd (cc);
@@ -47,7 +47,7 @@ heard r s d rest b (Gvb c m n) h = absurd (h.up)
 
 -- and what the sender does
 heard_by_sender : (r : Receiver) (s : Sender) (rest u : List Word) (b : Box) (w : Word) → Inv (made r s (w ∷ rest) u b)
-    → Inv (made r (senders.hears w s) rest (queued (senders.says (senders.Hear w) s) u) b)
+    → Inv (made r (senders.hears w s) rest (word_queued (senders.says (senders.Hear w) s) u) b)
 heard_by_sender r s rest u b (Rts c) h = sends.kept_rts r s rest u b c h
 heard_by_sender r s rest u b (All c m n) h = sends.kept_all r s rest u b c m n h
 heard_by_sender r s rest u b (Gvb c m n) h = sends.kept_gvb r s rest u b c m n h
@@ -75,7 +75,7 @@ kept (Sends (senders.Send c z bits)) x m h =
     (λ i. sends.kept_send x.receiver x.sender x.to_sender x.to_receiver i c z bits m.0.0 m.0.1 m.0.2 m.0.3) h
 kept (Sends (senders.Close c)) x m h = sends.kept_close x.receiver x.sender x.to_sender x.to_receiver x.box h c m.0 m.1
 kept (Sends (senders.Hear w)) x m h =
-    subst (λ (d : List Word). Inv (made x.receiver x.sender d x.to_receiver x.box) → Inv (made x.receiver (senders.hears w x.sender) (behind d) (queued (senders.says (senders.Hear w) x.sender) x.to_receiver) x.box)) (sym m.1.1)
+    subst (λ (d : List Word). Inv (made x.receiver x.sender d x.to_receiver x.box) → Inv (made x.receiver (senders.hears w x.sender) (behind d) (word_queued (senders.says (senders.Hear w) x.sender) x.to_receiver) x.box)) (sym m.1.1)
     (heard_by_sender x.receiver x.sender m.1.0 x.to_receiver x.box w) h
 kept (Sends senders.Told) x m h =
     subst (λ (b : Box). Inv (made x.receiver x.sender x.to_sender x.to_receiver b) → Inv (made x.receiver x.sender x.to_sender x.to_receiver Empty)) (sym m.1)
@@ -94,7 +94,7 @@ granted_as x h c ms less =
     let k : total Messages ms ≤ total Messages (x.sender.sent c) = less Messages in
     let l : total Bits ms ≤ total Bits (x.sender.sent c) = less Bits in
     let m : total Messages ms ≡ length ms = total_messages ms in
-    let n : total Bits ms ≡ bits_in ms = total_bits ms in
+    let n : total Bits ms ≡ message_bits ms = total_bits ms in
     record { in_messages = omega (arith, a, k, m); in_bits = omega (arith, b, l, n) }
 
 pub safe_run : (events : List Event) (c : ℕ) → IsRun events → IsSafe (stream events) c

@@ -8,7 +8,7 @@ use Rattle.stream_law.specs.Words.{Word, Rts, Str, All, Gvb, Ret, Cls, for, cove
 use Rattle.stream_law.specs.Receivers.{Receiver}
 use Rattle.stream_law.specs.Senders as senders
 use Rattle.stream_law.specs.Senders.{Sender}
-use Rattle.stream_law.specs.Streams.{Box, Empty, Waiting, Taken, queued}
+use Rattle.stream_law.specs.Streams.{Box, Empty, Waiting, Taken, word_queued}
 use Rattle.stream_law.specs.Within.{IsFront}
 use Rattle.stream_law.proofs.Amounts.{parts, not_true, unlike, never, some_is, at, for_here, for_more, for_less, mine, mine_add, mine_within, Counter, number, amount, cost, total, number_granted, number_spent, number_back, number_nothing, total_for, returned_in, returned_more, held, held_is}
 use Rattle.stream_law.proofs.Words.{unless, unless_none, unless_some, DownFits, up_more, up_said}
@@ -361,7 +361,7 @@ module _ (r : Receiver) (s : Sender) (rest u : List Word) (b : Box) where
   asked_of c m n h = (unless_some s.shut s.end c h.down.0).0
 
   returned_if : (c m n : ℕ) → s.end ≡ Some c → Inv (made r s (Gvb c m n ∷ rest) u b) → (v : Bool) → senders.is_open c s ≡ v
-      → Inv (made r (if v then record s { allocation = counters.given_back s.allocation m n } else s) rest (queued (if v then Some (Ret c (counters.share s.allocation.messages m) (counters.share s.allocation.bits n)) else None) u) b)
+      → Inv (made r (if v then record s { allocation = counters.given_back s.allocation m n } else s) rest (word_queued (if v then Some (Ret c (counters.share s.allocation.messages m) (counters.share s.allocation.bits n)) else None) u) b)
   returned_if c m n end h true e = record {
     known = h.known;
     own = h.own;
@@ -416,10 +416,10 @@ module _ (r : Receiver) (s : Sender) (rest u : List Word) (b : Box) where
   }
 
   pub kept_gvb : (c m n : ℕ) → Inv (made r s (Gvb c m n ∷ rest) u b)
-      → Inv (made r (senders.with_allocation s.end (λ a. counters.given_back a m n) s) rest (queued (senders.returns m n s.end s) u) b)
+      → Inv (made r (senders.with_allocation s.end (λ a. counters.given_back a m n) s) rest (word_queued (senders.returns m n s.end s) u) b)
   kept_gvb c m n h =
       let end : s.end ≡ Some c = asked_of c m n h in
-      subst (λ (o : Option ℕ). Inv (made r (senders.with_allocation o (λ a. counters.given_back a m n) s) rest (queued (senders.returns m n o s) u) b)) (sym end)
+      subst (λ (o : Option ℕ). Inv (made r (senders.with_allocation o (λ a. counters.given_back a m n) s) rest (word_queued (senders.returns m n o s) u) b)) (sym end)
       (returned_if c m n end h (senders.is_open c s) refl)
 
   shut_if : (c : ℕ) → s.end ≡ Some c → s.shut ≡ false → Inv (made r s (Cls c ∷ rest) u b) → (v : Bool) → s.closed c ≡ v → Inv (made r (if v then record s { end = None } else record s { shut = true }) rest u b)

@@ -13,36 +13,36 @@ abbrev pub three : List Bool
 three = true ∷ true ∷ false ∷ []
 
 -- connection 1 is asked for and answered, with bytes of one bit; both ends open
-abbrev pub opened : List Event
-opened =
+abbrev pub opened_events : List Event
+opened_events =
     Receives (receivers.Open 1) ∷ Receives (receivers.Hear (Str 1 1)) ∷ Sends (senders.Open 1) ∷ Sends (senders.Ask 1 1) ∷ Sends (senders.Hear (Rts 1)) ∷ Receives (receivers.Ask 1)
     ∷ []
 
 -- two messages and ten bits are granted
-abbrev pub granted : List Event
-granted = Sends (senders.Hear (All 1 2 10)) ∷ Receives (receivers.Grant 1 2 10) ∷ opened
+abbrev pub granted_events : List Event
+granted_events = Sends (senders.Hear (All 1 2 10)) ∷ Receives (receivers.Grant 1 2 10) ∷ opened_events
 
 -- a message goes out, and is taken
-abbrev pub sent : List Event
-sent = Sends (senders.Send 1 1 two) ∷ granted
+abbrev pub sent_events : List Event
+sent_events = Sends (senders.Send 1 1 two) ∷ granted_events
 
-abbrev pub taken : List Event
-taken = Receives (receivers.Take 1 two) ∷ sent
+abbrev pub taken_events : List Event
+taken_events = Receives (receivers.Take 1 two) ∷ sent_events
 
 -- half of what is left of each is asked back, and returned; a grant goes out meanwhile
-abbrev pub returned : List Event
-returned =
-    Receives (receivers.Hear (Ret 1 0 4)) ∷ Sends (senders.Hear (Gvb 1 64 64)) ∷ Receives (receivers.Grant 1 1 3) ∷ Receives (receivers.AskBack 1 64 64) ∷ Sends senders.Told ∷ taken
+abbrev pub returned_events : List Event
+returned_events =
+    Receives (receivers.Hear (Ret 1 0 4)) ∷ Sends (senders.Hear (Gvb 1 64 64)) ∷ Receives (receivers.Grant 1 1 3) ∷ Receives (receivers.AskBack 1 64 64) ∷ Sends senders.Told ∷ taken_events
 
 -- the sender closes, and then the receiver, whose CLS isn't heard yet; its end goes
-abbrev pub closed : List Event
-closed = Receives (receivers.Free 1) ∷ Receives (receivers.Close 1) ∷ Receives (receivers.Hear (Cls 1)) ∷ Sends (senders.Close 1) ∷ returned
+abbrev pub closed_events : List Event
+closed_events = Receives (receivers.Free 1) ∷ Receives (receivers.Close 1) ∷ Receives (receivers.Hear (Cls 1)) ∷ Sends (senders.Close 1) ∷ returned_events
 
 -- the link is that of connection 2, which its sender closed before it heard the request
 abbrev pub next : List Event
 next =
     Sends (senders.Hear (Rts 2)) ∷ Sends (senders.Close 2) ∷ Sends (senders.Ask 2 8) ∷ Sends (senders.Hear (Cls 1)) ∷ Sends (senders.Hear (All 1 1 3)) ∷ Receives (receivers.Ask 2)
-    ∷ closed
+    ∷ closed_events
 
 -- ---- what may not happen
 
@@ -51,10 +51,10 @@ abbrev pub hasty : List Event
 hasty =
     Receives (receivers.Take 1 two) ∷ Sends (senders.Hear (All 2 2 10)) ∷ Receives (receivers.Grant 2 2 10) ∷ Receives (receivers.Open 2) ∷ Receives (receivers.Hear (Str 2 1))
     ∷ Sends (senders.Open 2) ∷ Sends (senders.Ask 2 1) ∷ Sends (senders.Hear (Rts 2)) ∷ Sends (senders.Hear (Cls 1)) ∷ Receives (receivers.Ask 2) ∷ Receives (receivers.Free 1)
-    ∷ Receives (receivers.Close 1) ∷ Receives (receivers.Hear (Cls 1)) ∷ Sends (senders.Close 1) ∷ sent
+    ∷ Receives (receivers.Close 1) ∷ Receives (receivers.Hear (Cls 1)) ∷ Sends (senders.Close 1) ∷ sent_events
 
 -- a receiver whose link is free before a CLS has passed either way: it grants in connection 2, and the sender spends it in 1
 abbrev pub early : List Event
 early =
     Sends (senders.Send 1 1 three) ∷ Sends (senders.Hear (All 2 5 50)) ∷ Receives (receivers.Grant 2 5 50) ∷ Receives (receivers.Open 2) ∷ Receives (receivers.Hear (Str 2 1))
-    ∷ Sends (senders.Ask 2 1) ∷ Sends (senders.Hear (Rts 2)) ∷ Receives (receivers.Ask 2) ∷ Receives (receivers.Free 1) ∷ opened
+    ∷ Sends (senders.Ask 2 1) ∷ Sends (senders.Hear (Rts 2)) ∷ Receives (receivers.Ask 2) ∷ Receives (receivers.Free 1) ∷ opened_events

@@ -20,8 +20,8 @@ pub record Receiver : Type 0 where
   pub returned : ℕ → Allocation
   pub taken : ℕ → List (List Bool)
 
-abbrev pub opening : Receiver
-opening = record {
+abbrev pub opening_receiver : Receiver
+opening_receiver = record {
   end = None;
   opened = false;
   closed = false;

@@ -17,8 +17,8 @@ pub record Sender : Type 0 where
   -- the messages that were sent in it, the oldest first
   pub sent : ℕ → List (List Bool)
 
-abbrev pub opening : Sender
-opening = record { end = None; opened = false; shut = false; allocation = counters.nothing; size = λ c. None; closed = λ c. false; sent = λ c. [] }
+abbrev pub opening_sender : Sender
+opening_sender = record { end = None; opened = false; shut = false; allocation = counters.nothing; size = λ c. None; closed = λ c. false; sent = λ c. [] }
 
 abbrev pub is_open : ℕ → Sender → Bool
 is_open c s = s.opened && not s.shut && not (s.closed c)

@@ -1,4 +1,4 @@
--- The two hosts of a link in one stay, and what is under way between them.
+-- The two hosts of a link in one stay, and what is in transit between them.
 use Rattle.std.specs.Prelude.{◌≡◌, ℕ, Bool, true, List, [], ◌∷◌, ◌++◌, Option, Some, None}
 use Rattle.stream_law.specs.Words.{Word}
 use Rattle.stream_law.specs.Receivers as receivers
@@ -14,7 +14,7 @@ pub data Box : Type 0 where
   Waiting : (connection size : ℕ) → (bits : List Bool) → Box
   Taken : Box
 
--- what each said and the other hasn't heard, the oldest first: it waits to go out, or is on its way
+-- what each said and the other hasn't heard, the oldest first: it waits to go out, or is in transit
 pub record Stream : Type 0 where
   pub receiver : Receiver
   pub sender : Sender
@@ -23,19 +23,19 @@ pub record Stream : Type 0 where
   pub box : Box
 
 -- where both have met
-abbrev pub opening : Stream
-opening = record { receiver = receivers.opening; sender = senders.opening; to_sender = []; to_receiver = []; box = Empty }
+abbrev pub opening_stream : Stream
+opening_stream = record { receiver = receivers.opening_receiver; sender = senders.opening_sender; to_sender = []; to_receiver = []; box = Empty }
 
 -- a host that leaves does nothing more
 pub data Event : Type 0 where
   Receives : (move : receivers.Move) → Event
   Sends : (move : senders.Move) → Event
 
--- ---- what is under way
+-- ---- what is in transit
 
-abbrev pub queued : Option Word → List Word → List Word
-queued None words = words
-queued (Some w) words = words ++ w ∷ []
+abbrev pub word_queued : Option Word → List Word → List Word
+word_queued None words = words
+word_queued (Some w) words = words ++ w ∷ []
 
 abbrev pub behind : List Word → List Word
 behind [] = []
@@ -62,7 +62,7 @@ abbrev pub happens : Event → Stream → Stream
 happens (Receives m) x = record {
   receiver = receivers.moved m x.receiver;
   sender = x.sender;
-  to_sender = queued (receivers.says m) x.to_sender;
+  to_sender = word_queued (receivers.says m) x.to_sender;
   to_receiver = unheard m x.to_receiver;
   box = box_taken m x.box;
 }
@@ -70,7 +70,7 @@ happens (Sends m) x = record {
   receiver = x.receiver;
   sender = senders.moved m x.sender;
   to_sender = unheard_by_sender m x.to_sender;
-  to_receiver = queued (senders.says m x.sender) x.to_receiver;
+  to_receiver = word_queued (senders.says m x.sender) x.to_receiver;
   box = box_sent m x.box;
 }
 
@@ -96,7 +96,7 @@ MayHappen (Sends m) x = senders.May m x.sender × MaySend m x
 
 -- the two after a list of events, newest first
 abbrev pub stream : List Event → Stream
-stream [] = opening
+stream [] = opening_stream
 stream (e ∷ events) = happens e (stream events)
 
 abbrev pub IsRun : List Event → Type 0

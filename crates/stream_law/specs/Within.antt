@@ -9,16 +9,16 @@ abbrev pub IsFront : List (List Bool) → List (List Bool) → Type 0
 IsFront xs ys = (rest : List (List Bool)) × (xs ++ rest ≡ ys)
 
 -- the bits of messages
-abbrev pub bits_in : List (List Bool) → ℕ
-bits_in [] = 0
-bits_in (m ∷ messages) = length m + bits_in messages
+abbrev pub message_bits : List (List Bool) → ℕ
+message_bits [] = 0
+message_bits (m ∷ messages) = length m + message_bits messages
 
 -- these messages, with what was returned, are no more than what was granted
 pub record AreGranted (messages : List (List Bool)) (returned granted : Allocation) : Type 0 where
   pub in_messages : length messages + returned.messages ≤ granted.messages
-  pub in_bits : bits_in messages + returned.bits ≤ granted.bits
+  pub in_bits : message_bits messages + returned.bits ≤ granted.bits
 
--- of each connection: what was taken is a front of what was sent; and both are granted
+-- of each connection: what was taken is a prefix of what was sent; and both are granted
 pub record IsSafe (x : Stream) (c : ℕ) : Type 0 where
   pub front : IsFront (x.receiver.taken c) (x.sender.sent c)
   pub taken : AreGranted (x.receiver.taken c) (x.receiver.returned c) (x.receiver.granted c)
@@ -31,7 +31,7 @@ NoneReturned [] = Unit {0}
 NoneReturned (Ret c messages bits ∷ words) = ⊥
 NoneReturned (w ∷ words) = NoneReturned words
 
--- nothing that could be taken for another connection's is under way: no data wait, nothing is being returned, and no end sends on the link any more
+-- nothing that could be taken for another connection's is in transit: no data wait, nothing is being returned, and no end sends on the link any more
 pub record NothingLeft (x : Stream) : Type 0 where
   pub data_none : (c size : ℕ) (bits : List Bool) → x.box ≡ Waiting c size bits → ⊥
   pub returned_none : NoneReturned x.to_receiver

@@ -6,13 +6,13 @@ ghost use Rattle.stream_law.specs.Words.{Rts, Str, All, Gvb, Ret, Cls};
 ghost use Rattle.stream_law.specs.Receivers as receivers;
 ghost use Rattle.stream_law.specs.Senders as senders;
 ghost use Rattle.stream_law.specs.Streams.{Event, Receives, Sends, Empty, Waiting, Taken, stream, IsRun};
-ghost use Rattle.stream_law.specs.Within.{IsFront, bits_in, AreGranted, IsSafe, NoneReturned, NothingLeft};
-ghost use Rattle.stream_law.specs.Example.{two, three, opened, granted, sent, taken, returned, closed, next, hasty, early};
+ghost use Rattle.stream_law.specs.Within.{IsFront, message_bits, AreGranted, IsSafe, NoneReturned, NothingLeft};
+ghost use Rattle.stream_law.specs.Example.{two, three, opened_events, granted_events, sent_events, taken_events, returned_events, closed_events, next, hasty, early};
 
 /// Whatever the two hosts of a link do while they stay together, connection after connection. What is assumed of them stands in
 /// `IsRun`: their own rules, and that what one said is heard in order.
 pub fn streams()
-    // in each connection what was taken is a front of what was sent. What was taken and what was returned are granted, and so are what was
+    // in each connection what was taken is a prefix of what was sent. What was taken and what was returned are granted, and so are what was
     // sent and what was returned
     ensures safe { (events : List Event) (c : ℕ) → IsRun events → IsSafe (stream events) c }
 
@@ -37,18 +37,18 @@ pub fn owners()
 /// A stream from its request to its end, and the next one on its link.
 pub fn worked_stream()
     // both ends are of connection 1, and open
-    ensures opened { ((stream opened).receiver.end ≡ Some 1) × ((stream opened).sender.end ≡ Some 1) × (receivers.is_open 1 (stream opened).receiver ≡ true) × (senders.is_open 1 (stream opened).sender ≡ true) }
+    ensures opened { ((stream opened_events).receiver.end ≡ Some 1) × ((stream opened_events).sender.end ≡ Some 1) × (receivers.is_open 1 (stream opened_events).receiver ≡ true) × (senders.is_open 1 (stream opened_events).sender ≡ true) }
 
     // a message of two bits waits; it costs the sender one of two messages and two of ten bits, and the receiver as much when it is taken
-    ensures sent { ((stream sent).box ≡ Waiting 1 1 two) × ((stream sent).sender.allocation ≡ record { messages = 1; bits = 8 }) × ((stream sent).receiver.allocation ≡ record { messages = 2; bits = 10 }) }
-    ensures taken { ((stream taken).receiver.taken 1 ≡ two ∷ []) × ((stream taken).sender.sent 1 ≡ two ∷ []) × ((stream taken).receiver.allocation ≡ record { messages = 1; bits = 8 }) × ((stream taken).box ≡ Taken) }
+    ensures sent { ((stream sent_events).box ≡ Waiting 1 1 two) × ((stream sent_events).sender.allocation ≡ record { messages = 1; bits = 8 }) × ((stream sent_events).receiver.allocation ≡ record { messages = 2; bits = 10 }) }
+    ensures taken { ((stream taken_events).receiver.taken 1 ≡ two ∷ []) × ((stream taken_events).sender.sent 1 ≡ two ∷ []) × ((stream taken_events).receiver.allocation ≡ record { messages = 1; bits = 8 }) × ((stream taken_events).box ≡ Taken) }
 
-    // half of one message is none, half of eight bits is four; what was granted meanwhile is under way
-    ensures returned { ((stream returned).receiver.returned 1 ≡ record { messages = 0; bits = 4 }) × ((stream returned).receiver.granted 1 ≡ record { messages = 3; bits = 13 }) × ((stream returned).receiver.allocation ≡ record { messages = 2; bits = 7 }) }
-    ensures left { ((stream returned).sender.allocation ≡ record { messages = 1; bits = 4 }) × ((stream returned).to_sender ≡ All 1 1 3 ∷ []) }
+    // half of one message is none, half of eight bits is four; what was granted meanwhile is in transit
+    ensures returned { ((stream returned_events).receiver.returned 1 ≡ record { messages = 0; bits = 4 }) × ((stream returned_events).receiver.granted 1 ≡ record { messages = 3; bits = 13 }) × ((stream returned_events).receiver.allocation ≡ record { messages = 2; bits = 7 }) }
+    ensures left { ((stream returned_events).sender.allocation ≡ record { messages = 1; bits = 4 }) × ((stream returned_events).to_sender ≡ All 1 1 3 ∷ []) }
 
     // the link is free at the receiver, and the sender hasn't heard of it yet
-    ensures closed { ((stream closed).receiver.end ≡ None) × ((stream closed).sender.end ≡ Some 1) × ((stream closed).to_sender ≡ All 1 1 3 ∷ Cls 1 ∷ []) }
+    ensures closed { ((stream closed_events).receiver.end ≡ None) × ((stream closed_events).sender.end ≡ Some 1) × ((stream closed_events).to_sender ≡ All 1 1 3 ∷ Cls 1 ∷ []) }
 
     // the late grant is nobody's, and the next end doesn't open, since it was closed before its request was heard
     ensures next { ((stream next).sender.end ≡ Some 2) × ((stream next).sender.allocation ≡ counters.nothing) × (senders.is_open 2 (stream next).sender ≡ false) }
@@ -70,56 +70,56 @@ pub fn worked_runs()
 /// What a host may not do.
 pub fn worked_rules()
     // it sends at an open end, in bytes of the size that it told, what it was granted, and one message at a time
-    ensures past { IsRun (Sends (senders.Send 1 1 (two ++ three ++ three ++ three)) ∷ granted) → ⊥ }
-    ensures ungranted { IsRun (Sends (senders.Send 1 1 []) ∷ opened) → ⊥ }
-    ensures size { IsRun (Sends (senders.Send 1 8 two) ∷ granted) → ⊥ }
-    ensures outstanding { IsRun (Sends (senders.Send 1 1 two) ∷ taken) → ⊥ }
-    ensures behind { IsRun (Sends (senders.Send 1 1 two) ∷ Sends (senders.Close 1) ∷ granted) → ⊥ }
+    ensures past { IsRun (Sends (senders.Send 1 1 (two ++ three ++ three ++ three)) ∷ granted_events) → ⊥ }
+    ensures ungranted { IsRun (Sends (senders.Send 1 1 []) ∷ opened_events) → ⊥ }
+    ensures size { IsRun (Sends (senders.Send 1 8 two) ∷ granted_events) → ⊥ }
+    ensures outstanding { IsRun (Sends (senders.Send 1 1 two) ∷ taken_events) → ⊥ }
+    ensures behind { IsRun (Sends (senders.Send 1 1 two) ∷ Sends (senders.Close 1) ∷ granted_events) → ⊥ }
 
     // it closes where all that it sent is answered, and once
-    ensures unanswered { IsRun (Sends (senders.Close 1) ∷ taken) → ⊥ }
-    ensures twice { IsRun (Sends (senders.Close 1) ∷ Sends (senders.Close 1) ∷ granted) → ⊥ }
+    ensures unanswered { IsRun (Sends (senders.Close 1) ∷ taken_events) → ⊥ }
+    ensures twice { IsRun (Sends (senders.Close 1) ∷ Sends (senders.Close 1) ∷ granted_events) → ⊥ }
 
     // a receiver asks on a free link, for each connection once, and its link is free when a CLS has passed both ways
-    ensures used { IsRun (Receives (receivers.Ask 2) ∷ opened) → ⊥ }
-    ensures again { IsRun (Receives (receivers.Ask 1) ∷ closed) → ⊥ }
-    ensures unheard { IsRun (Receives (receivers.Free 1) ∷ Receives (receivers.Close 1) ∷ granted) → ⊥ }
+    ensures used { IsRun (Receives (receivers.Ask 2) ∷ opened_events) → ⊥ }
+    ensures again { IsRun (Receives (receivers.Ask 1) ∷ closed_events) → ⊥ }
+    ensures unheard { IsRun (Receives (receivers.Free 1) ∷ Receives (receivers.Close 1) ∷ granted_events) → ⊥ }
 
-    ensures unclosed { IsRun (Receives (receivers.Free 1) ∷ Receives (receivers.Hear (Cls 1)) ∷ Sends (senders.Close 1) ∷ granted) → ⊥ }
+    ensures unclosed { IsRun (Receives (receivers.Free 1) ∷ Receives (receivers.Hear (Cls 1)) ∷ Sends (senders.Close 1) ∷ granted_events) → ⊥ }
 
     // it grants at an open end, no more than its counters hold
     ensures unopened { IsRun (Receives (receivers.Grant 1 1 1) ∷ Receives (receivers.Ask 1) ∷ []) → ⊥ }
-    ensures too_many { IsRun (Receives (receivers.Grant 1 65534 0) ∷ granted) → ⊥ }
-    ensures too_much { IsRun (Receives (receivers.Grant 1 0 4294967286) ∷ granted) → ⊥ }
+    ensures too_many { IsRun (Receives (receivers.Grant 1 65534 0) ∷ granted_events) → ⊥ }
+    ensures too_much { IsRun (Receives (receivers.Grant 1 0 4294967286) ∷ granted_events) → ⊥ }
 
     // nothing is heard that wasn't said, or out of its order; nothing is taken that doesn't wait
-    ensures unsaid { IsRun (Sends (senders.Hear (All 1 1 1)) ∷ granted) → ⊥ }
-    ensures order { IsRun (Sends (senders.Hear (Cls 1)) ∷ closed) → ⊥ }
-    ensures nothing { IsRun (Receives (receivers.Take 1 two) ∷ granted) → ⊥ }
+    ensures unsaid { IsRun (Sends (senders.Hear (All 1 1 1)) ∷ granted_events) → ⊥ }
+    ensures order { IsRun (Sends (senders.Hear (Cls 1)) ∷ closed_events) → ⊥ }
+    ensures nothing { IsRun (Receives (receivers.Take 1 two) ∷ granted_events) → ⊥ }
 {}
 
 /// What is dropped.
 pub fn worked_dropping()
     // data for an end that closes, in bytes of another size, or past what was granted
-    ensures closing { (stream (Receives (receivers.Take 1 two) ∷ Receives (receivers.Close 1) ∷ sent)).receiver.taken 1 ≡ [] }
-    ensures over { (receivers.takes 1 two (Some 1) (record (stream sent).receiver { over = λ c. true })).taken 1 ≡ [] }
-    ensures size { (receivers.takes 8 two (Some 1) (stream sent).receiver).taken 1 ≡ [] }
-    ensures bits { (receivers.takes 1 two (Some 1) (record (stream sent).receiver { allocation = record { messages = 1; bits = 1 } })).taken 1 ≡ [] }
-    ensures messages { (receivers.takes 1 two (Some 1) (record (stream sent).receiver { allocation = record { messages = 0; bits = 2 } })).taken 1 ≡ [] }
-    ensures just { (receivers.takes 1 two (Some 1) (record (stream sent).receiver { allocation = record { messages = 1; bits = 2 } })).taken 1 ≡ two ∷ [] }
+    ensures closing { (stream (Receives (receivers.Take 1 two) ∷ Receives (receivers.Close 1) ∷ sent_events)).receiver.taken 1 ≡ [] }
+    ensures over { (receivers.takes 1 two (Some 1) (record (stream sent_events).receiver { over = λ c. true })).taken 1 ≡ [] }
+    ensures size { (receivers.takes 8 two (Some 1) (stream sent_events).receiver).taken 1 ≡ [] }
+    ensures bits { (receivers.takes 1 two (Some 1) (record (stream sent_events).receiver { allocation = record { messages = 1; bits = 1 } })).taken 1 ≡ [] }
+    ensures messages { (receivers.takes 1 two (Some 1) (record (stream sent_events).receiver { allocation = record { messages = 0; bits = 2 } })).taken 1 ≡ [] }
+    ensures just { (receivers.takes 1 two (Some 1) (record (stream sent_events).receiver { allocation = record { messages = 1; bits = 2 } })).taken 1 ≡ two ∷ [] }
 
     // more returned than is left, or to an end that closes
-    ensures returned { receivers.takes_back 3 0 (Some 1) (stream sent).receiver ≡ (stream sent).receiver }
-    ensures returned_bits { receivers.takes_back 0 11 (Some 1) (stream sent).receiver ≡ (stream sent).receiver }
-    ensures late { receivers.takes_back 1 1 (Some 1) (record (stream sent).receiver { closed = true }) ≡ record (stream sent).receiver { closed = true } }
+    ensures returned { receivers.takes_back 3 0 (Some 1) (stream sent_events).receiver ≡ (stream sent_events).receiver }
+    ensures returned_bits { receivers.takes_back 0 11 (Some 1) (stream sent_events).receiver ≡ (stream sent_events).receiver }
+    ensures late { receivers.takes_back 1 1 (Some 1) (record (stream sent_events).receiver { closed = true }) ≡ record (stream sent_events).receiver { closed = true } }
 
     // a grant, and what is asked back, at an end that closes; a request on a link that an end has
-    ensures granted { (senders.hears (All 1 1 1) (record (stream sent).sender { shut = true })).allocation ≡ (stream sent).sender.allocation }
-    ensures asked_back { senders.says (senders.Hear (Gvb 1 64 64)) (record (stream sent).sender { shut = true }) ≡ None }
-    ensures asked { senders.hears (Rts 2) (stream sent).sender ≡ (stream sent).sender }
+    ensures granted { (senders.hears (All 1 1 1) (record (stream sent_events).sender { shut = true })).allocation ≡ (stream sent_events).sender.allocation }
+    ensures asked_back { senders.says (senders.Hear (Gvb 1 64 64)) (record (stream sent_events).sender { shut = true }) ≡ None }
+    ensures asked { senders.hears (Rts 2) (stream sent_events).sender ≡ (stream sent_events).sender }
 
     // the CLS of a connection that isn't on the link
-    ensures other { senders.hears (Cls 2) (stream sent).sender ≡ (stream sent).sender }
+    ensures other { senders.hears (Cls 2) (stream sent_events).sender ≡ (stream sent_events).sender }
 {}
 
 /// What a promise says.
@@ -128,18 +128,18 @@ pub fn worked_within()
     ensures front { IsFront (two ∷ []) (two ∷ three ∷ []) }
     ensures behind { IsFront (three ∷ []) (two ∷ three ∷ []) → ⊥ }
     ensures longer { IsFront (two ∷ three ∷ []) (two ∷ []) → ⊥ }
-    ensures bits { bits_in (two ∷ three ∷ []) ≡ 5 }
+    ensures bits { message_bits (two ∷ three ∷ []) ≡ 5 }
 
     // what was returned counts with the messages and with the bits
     ensures granted { AreGranted (two ∷ three ∷ []) (record { messages = 1; bits = 2 }) (record { messages = 3; bits = 7 }) }
     ensures many { AreGranted (two ∷ three ∷ []) (record { messages = 1; bits = 2 }) (record { messages = 2; bits = 7 }) → ⊥ }
     ensures much { AreGranted (two ∷ three ∷ []) (record { messages = 1; bits = 2 }) (record { messages = 3; bits = 6 }) → ⊥ }
 
-    // a return behind other words is under way
+    // a return behind other words is in transit
     ensures returned { NoneReturned (Str 2 1 ∷ Cls 1 ∷ Ret 1 0 4 ∷ []) → ⊥ }
 
     // data that wait are left over, and so is an end of the sender that isn't closed
-    ensures waiting { NothingLeft (stream sent) → ⊥ }
-    ensures unclosed { NothingLeft (stream granted) → ⊥ }
-    ensures left { NothingLeft (stream closed) }
+    ensures waiting { NothingLeft (stream sent_events) → ⊥ }
+    ensures unclosed { NothingLeft (stream granted_events) → ⊥ }
+    ensures left { NothingLeft (stream closed_events) }
 {}

@@ -1,4 +1,4 @@
--- How a call of a subnet ends, and which calls may want memory.
+-- How a call of a subnet ends, and which calls may run out of memory.
 use Rattle.std.specs.Prelude.{◌≡◌, ℕ, Bool, true, false, List, Option, Some, None, Result, Ok, Err, is_some, nat_lt, length, slice_get, ◌||◌, ◌&&◌}
 use Rattle.std.specs.List.{list_any}
 use Rattle.leader1822.specs.Calls.{is_memory}
@@ -14,11 +14,11 @@ use Rattle.imp_node.specs.State.{State}
 use Rattle.imp_node.specs.Turns.{resend_grows, route_grows, end_down_grows, end_up_grows, give_up_grows, forget_grows, abandon_grows, from_line_grows, to_host_grows}
 use Rattle.subnet.specs.Net.{Net, Wire, imp_at, wire_at, port_of, frames_on, far_end}
 use Rattle.subnet.specs.Flows.{imp_is_up}
-use Rattle.subnet.specs.Events.{first_of, taken}
+use Rattle.subnet.specs.Events.{first_of, taken_by_host}
 
 -- ---- a subnet that may have stopped
 
--- a subnet, and whether want of memory has stopped it: nothing is said of what is in it then, save its hosts and its log
+-- a subnet, and whether running out of memory has stopped it: nothing is said of what is in it then, except its hosts and its log
 pub record Kept : Type 0 where
   pub net : Net
   pub stopped : Bool
@@ -30,18 +30,18 @@ running n = record { net = n; stopped = false }
 abbrev pub refusal_of : Kept → (Net → Option CarrierFault) → Option CarrierFault
 refusal_of k refusal = first_of k.stopped fault.Stopped (refusal k.net)
 
--- after want of memory hosts and log are as before the call
+-- after memory has run out hosts and log are as before the call
 pub record HasHalted (old new : Kept) : Type 0 where
   pub hosts : new.net.hosts ≡ old.net.hosts
   pub log : new.net.log ≡ old.net.log
   pub stopped : new.stopped ≡ true
 
--- want of memory comes last; any other fault is the first refusal, and changes nothing
+-- running out of memory comes last; any other fault is the first refusal, and changes nothing
 abbrev pub Fails : Option CarrierFault → Bool → Bool → CarrierFault → Kept → Kept → Type 0
 Fails refusal grows true e old new = (refusal ≡ None) × (grows ≡ true) × HasHalted old new
 Fails refusal grows false e old new = (refusal ≡ Some e) × (new ≡ old)
 
--- A call that is refused for `refusal`, and else gives a value with this property. It may want memory only where it is not
+-- A call that is refused for `refusal`, and else gives a value with this property. It may run out of memory only if it is not
 -- refused and `grows` is true
 abbrev pub Decided : {T : Type 0} → Option CarrierFault → Bool → (T → Type 0) → Kept → Kept → Result T CarrierFault → Type 0
 Decided refusal grows Gives old new (Ok x) = (refusal ≡ None) × Gives x
@@ -49,14 +49,14 @@ Decided refusal grows Gives old new (Err e) = Fails refusal grows (is_memory e) 
 
 -- ---- memory
 
--- a call of an IMP that is up may want memory
+-- a call of an IMP that is up may run out of memory
 abbrev pub grows_at : Option State → (State → Bool) → Bool
 grows_at None grows = false
 grows_at (Some s) grows = grows s
 
 -- what a host takes is put on the log
 abbrev pub take_grows : Net → Host → Bool
-take_grows n h = is_some (taken n h) || grows_at (imp_at n.imps h.imp) (λ s. to_host_grows s h.host)
+take_grows n h = is_some (taken_by_host n h) || grows_at (imp_at n.imps h.imp) (λ s. to_host_grows s h.host)
 
 -- a frame that is delivered is copied, since it stays on its line
 abbrev pub copy_grows : Frame → Bool
@@ -71,7 +71,7 @@ delivered_grows n l d (Some f) =
 abbrev pub has_host_up : State → Bool
 has_host_up s = list_any (λ host. host.up) s.hosts
 
--- An event that is not refused may want memory where its IMP does, where something crosses, and where an IMP is made that starts
+-- An event that is not refused may run out of memory where its IMP does, where something crosses, and where a starting IMP is made
 abbrev pub step_grows : Net → NetEvent → Bool
 step_grows n (event.Deliver l d k) = delivered_grows n l d (slice_get (frames_on d (wire_at n.lines l)) k)
 step_grows n (event.Drop l d k) = false
@@ -89,11 +89,11 @@ step_grows n (event.Abandon f) = grows_at (imp_at n.imps f.destination.imp) (λ 
 
 -- ---- memory in a quiet round
 
--- a frame that has bits is live on its way to an IMP that is up
+-- a frame that has bits is in transit to an IMP that is up
 abbrev pub brings_bits : List (Option State) → Wire → Bool
 brings_bits imps w = (imp_is_up (imp_at imps w.b) && list_any copy_grows w.forward) || (imp_is_up (imp_at imps w.a) && list_any copy_grows w.back)
 
--- A quiet round may want memory in two cases: an IMP that is up puts a frame on a line when it tells its distances, as it does on
+-- A quiet round may run out of memory in two cases: an IMP that is up puts a frame on a line when it tells its distances, as it does on
 -- each of its ends that is up; or a frame that has bits goes to an IMP that is up, and is copied when it is delivered. In every other
 -- subnet no IMP sends anything in the round, and nothing is copied
 abbrev pub round_grows : Net → Bool

@@ -19,7 +19,7 @@ use Rattle.leader1822.specs.declared.event.NetEvent.TheVariants as event
 use Rattle.leader1822.specs.declared.message.HostMessage.{HostMessage}
 use Rattle.link_table.specs.Numbers.{oldest}
 use Rattle.imp_channel.specs.declared.frame.Frame.{Frame}
-use Rattle.imp_node.specs.State.{State, HostState, Turn, no_host}
+use Rattle.imp_node.specs.State.{State, HostState, ImpTurn, no_host}
 use Rattle.imp_node.specs.State as imp
 use Rattle.imp_node.specs.Offering.{begins, from_host, from_host_refusal}
 use Rattle.imp_node.specs.Arrival.{from_line}
@@ -33,7 +33,7 @@ use Rattle.subnet.specs.Alive.{is_alive, has_data, has_flow, is_remembered}
 -- ---- small words
 
 -- a call of an IMP that is up
-abbrev pub at_imp : Option State → ℕ → (State → Turn) → Net → Net
+abbrev pub at_imp : Option State → ℕ → (State → ImpTurn) → Net → Net
 at_imp None i call n = n
 at_imp (Some s) i call n = with_turn i (call s) n
 
@@ -86,8 +86,8 @@ abbrev pub given_at : Option State → ℕ → Option Inbound
 given_at None h = None
 given_at (Some s) h = next_for s h
 
-abbrev pub taken : Net → Host → Option Inbound
-taken n h = given_at (imp_at n.imps h.imp) h.host
+abbrev pub taken_by_host : Net → Host → Option Inbound
+taken_by_host n h = given_at (imp_at n.imps h.imp) h.host
 
 abbrev pub crossings_of : Option Inbound → List Crossing
 crossings_of None = []
@@ -95,7 +95,7 @@ crossings_of (Some i) = crossing_of i ∷ []
 
 -- the host takes the oldest of what waits for it: that crosses, if anything waits
 abbrev pub take_in : Net → Host → Net
-take_in n h = logging (crossings_of (taken n h)) (at_imp (imp_at n.imps h.imp) h.imp (λ s. to_host s h.host) n)
+take_in n h = logging (crossings_of (taken_by_host n h)) (at_imp (imp_at n.imps h.imp) h.imp (λ s. to_host s h.host) n)
 
 -- ---- frames
 
@@ -213,7 +213,7 @@ imp_refusal n i = first_of (not (is_imp n i)) fault.NoSuch (at_up (imp_at n.imps
 
 -- an IMP starts empty, with all ends of lines up and all hosts down
 abbrev pub started_imp : ℕ → ℕ → ℕ → State
-started_imp i hosts ports = record (imp.opening i hosts ports) { hosts = replicate hosts no_host }
+started_imp i hosts ports = record (imp.opening_node i hosts ports) { hosts = replicate hosts no_host }
 
 -- it starts only where nothing of its flows is alive and no other IMP keeps a number of one from it
 abbrev pub starting_refusal : Net → ℕ → Option CarrierFault

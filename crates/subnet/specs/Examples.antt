@@ -14,7 +14,7 @@ use Rattle.imp_node.specs.Flows.{answer_packet}
 use Rattle.imp_node.specs.Pump.{pump}
 use Rattle.imp_node.specs.Examples.{host, flow, only_packet, packet_frame, ack_frame, empty_message, from_1, from_2, imp}
 use Rattle.subnet.specs.Net.{Net, Wire}
-use Rattle.subnet.specs.Opening.{opening, hosts_from}
+use Rattle.subnet.specs.Opening.{opening_subnet, hosts_from}
 
 -- ---- one flow, from host 0 at IMP 1 to host 0 at IMP 2, its empty messages and their frames
 
@@ -66,7 +66,7 @@ pair one two forward back = record {
 
 -- the same two at their opening
 abbrev pub opened_pair : Net
-opened_pair = opening (hosts_from 0 sites) sites (record { a = 1; b = 2 } ∷ [])
+opened_pair = opening_subnet (hosts_from 0 sites) sites (record { a = 1; b = 2 } ∷ [])
 
 -- IMP 1 after it began numbers of our flow up to this one, which was answered
 abbrev pub begun_up_to : ℕ → State
@@ -106,7 +106,7 @@ sending_ours = (pump [] (imp 1 (Some from_2 ∷ []) (only_packet ours 0 ∷ []))
 
 -- IMP 2 that took a packet from channel 0 of the line
 abbrev pub past_one : State
-past_one = record imp_2 { ports = record { up = true; line = record line.opening { expected = true ∷ replicate 7 false } } ∷ [] }
+past_one = record imp_2 { ports = record { up = true; line = record line.opening_end { expected = true ∷ replicate 7 false } } ∷ [] }
 
 -- ---- lines alone
 

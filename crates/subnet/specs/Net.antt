@@ -6,7 +6,7 @@ use Rattle.leader1822.specs.declared.event.Direction.{Direction}
 use Rattle.leader1822.specs.declared.event.Direction.TheVariants as way
 use Rattle.imp_channel.specs.declared.frame.Frame.{Frame}
 use Rattle.imp_node.specs.declared.outgoing.Outgoing.{Outgoing}
-use Rattle.imp_node.specs.State.{State, Turn}
+use Rattle.imp_node.specs.State.{State, ImpTurn}
 
 -- a line between two IMPs, and the frames that are live on it each way, the oldest first
 pub record Wire : Type 0 where
@@ -81,7 +81,7 @@ put_all lines i [] = lines
 put_all lines i (out ∷ outs) = put_all (put_one lines i out) i outs
 
 -- IMP `i` after a call, with its frames on their lines
-abbrev pub with_turn : ℕ → Turn → Net → Net
+abbrev pub with_turn : ℕ → ImpTurn → Net → Net
 with_turn i turn n = record n { imps = slice_set n.imps i (Some turn.state); lines = put_all n.lines i turn.frames }
 
 -- ---- frames on lines

@@ -9,16 +9,16 @@ use Rattle.subnet.specs.Net.{Net, Wire, ends_at}
 abbrev pub empty_wire : Ends → Wire
 empty_wire e = record { a = e.a; b = e.b; forward = []; back = [] }
 
-abbrev pub opened : ℕ → Option ℕ → ℕ → Option State
-opened i None ports = None
-opened i (Some hosts) ports = Some (imp.opening i hosts ports)
+abbrev pub opened_imp : ℕ → Option ℕ → ℕ → Option State
+opened_imp i None ports = None
+opened_imp i (Some hosts) ports = Some (imp.opening_node i hosts ports)
 
 abbrev pub opened_from : ℕ → List (Option ℕ) → (ℕ → ℕ) → List (Option State)
 opened_from i [] ports = []
-opened_from i (site ∷ sites) ports = opened i site (ports i) ∷ opened_from (i + 1) sites ports
+opened_from i (site ∷ sites) ports = opened_imp i site (ports i) ∷ opened_from (i + 1) sites ports
 
-abbrev pub opening : List Host → List (Option ℕ) → List Ends → Net
-opening hosts sites ends = record {
+abbrev pub opening_subnet : List Host → List (Option ℕ) → List Ends → Net
+opening_subnet hosts sites ends = record {
   hosts = hosts;
   sites = sites;
   imps = opened_from 0 sites (λ i. count_by (ends_at i) (map empty_wire ends));

@@ -20,15 +20,15 @@ refusal n (Take h) = take_refusal n h
 refusal n (Happen e) = step_refusal n e
 refusal n Round = None
 
-abbrev pub after : Net → Call → Net
-after n (Offer m) = offer_out n m
-after n (Take h) = take_in n h
-after n (Happen e) = stepped n e
-after n Round = quiet_round n
+abbrev pub net_after : Net → Call → Net
+net_after n (Offer m) = offer_out n m
+net_after n (Take h) = take_in n h
+net_after n (Happen e) = stepped n e
+net_after n Round = quiet_round n
 
 -- a refused call changes nothing
 abbrev pub done_by : Option CarrierFault → Net → Call → Net
-done_by None n c = after n c
+done_by None n c = net_after n c
 done_by (Some fault) n c = n
 
 -- a list of calls, newest first

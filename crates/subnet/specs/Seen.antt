@@ -4,7 +4,7 @@ use Rattle.leader1822.specs.Calls.{Seen}
 use Rattle.subnet.specs.Net.{Net}
 use Rattle.subnet.specs.Opening.{hosts_from}
 
--- its hosts and its log, while want of memory has not stopped it
+-- its hosts and its log, while running out of memory has not stopped it
 abbrev pub seen : Net → Seen
 seen n = record { hosts = n.hosts; log = n.log; stopped = false }
 

@@ -9,7 +9,7 @@ use Rattle.leader1822.specs.declared.event.NetEvent.{NetEvent}
 use Rattle.leader1822.specs.declared.message.HostMessage.{HostMessage}
 use Rattle.subnet.specs.Net.{Net}
 use Rattle.subnet.specs.Calls.{Kept, running, refusal_of, Decided, take_grows, step_grows, round_grows}
-use Rattle.subnet.specs.Events.{offer_refusal, offer_out, take_refusal, taken, take_in, step_refusal, stepped, quiet_round}
+use Rattle.subnet.specs.Events.{offer_refusal, offer_out, take_refusal, taken_by_host, take_in, step_refusal, stepped, quiet_round}
 use Rattle.subnet.specs.Routed.{IsRouted}
 use Rattle.subnet.specs.Seen.{IsListed}
 use Rattle.subnet.specs.Sound.{IsSound}
@@ -20,7 +20,7 @@ pub record IsWhole (n : Net) : Type 0 where
   pub sound : IsSound n
   pub routed : IsRouted n
 
--- what holds of a subnet always, and what until want of memory stops it
+-- what holds of a subnet always, and what holds until memory runs out
 pub record IsWorking (k : Kept) : Type 0 where
   pub run : IsRun k.net.hosts k.net.log
   pub ordered : InOrder k.net.hosts
@@ -36,7 +36,7 @@ SubnetOffer old m result new = Decided (refusal_of old (λ n. offer_refusal n m)
 
 abbrev pub SubnetTake : Kept → Host → Result (Option Inbound) CarrierFault → Kept → Type 0
 SubnetTake old h result new =
-    Decided (refusal_of old (λ n. take_refusal n h)) (take_grows old.net h) (λ given. (given ≡ taken old.net h) × (new ≡ running (take_in old.net h))) old new result
+    Decided (refusal_of old (λ n. take_refusal n h)) (take_grows old.net h) (λ given. (given ≡ taken_by_host old.net h) × (new ≡ running (take_in old.net h))) old new result
 
 abbrev pub SubnetStep : Kept → NetEvent → Result (Unit {0}) CarrierFault → Kept → Type 0
 SubnetStep old e result new = Decided (refusal_of old (λ n. step_refusal n e)) (step_grows old.net e) (λ done. new ≡ running (stepped old.net e)) old new result

@@ -66,7 +66,7 @@ impl Parts {
     }
 
     /// An IMP drops the last numbers that it keeps of flows from another IMP.
-    #[tactic(auto, using(crate::proofs::Stepping::forget_step))]
+    #[tactic(auto, using(crate::proofs::Moves::Stepping::forget_step))]
     pub(crate) fn forget(&mut self, at: ImpNumber, from: ImpNumber) -> Result<(), CarrierFault>
         requires { AreLive self.old.imps }
         ensures step { Steps (event.Forget at from) self.old self.new result }

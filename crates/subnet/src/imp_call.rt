@@ -5,7 +5,7 @@ ghost use Rattle.imp_node.specs.Turns.{Turned, Takes};
 ghost use Rattle.subnet.specs.Events.{at_up};
 ghost use Rattle.subnet.specs.Calls.{grows_at};
 ghost use Rattle.subnet.specs.Net.{imp_at};
-ghost use Rattle.subnet.specs.Inside.Calling.{call_refusal, call_turn, call_grows, IsLive, AreLive, Ends, imp_by, imps_by, frames_by};
+ghost use Rattle.subnet.specs.Inside.Calling.{call_refusal, call_turn, call_grows, IsLive, AreLive, CallEnds, imp_by, imps_by, frames_by};
 
 use imp_channel::Frame;
 use imp_node::{Imp, Outgoing};
@@ -20,7 +20,7 @@ pub enum ImpCall {
     Arrive(u8, Frame),
     /// What is not acknowledged is sent again.
     Resend,
-    /// Distances are told.
+    /// It tells its neighbours its distances.
     Route,
     /// The end of a line at a port stops.
     EndDown(u8),
@@ -32,9 +32,9 @@ pub enum ImpCall {
     Forget(ImpNumber),
     /// The slot of a flow is thrown away.
     Abandon(Flow),
-    /// A host stops.
+    /// One of its hosts stops.
     HostDown(u8),
-    /// A host starts.
+    /// One of its hosts starts.
     HostUp(u8),
 }
 
@@ -61,10 +61,10 @@ impl ImpCall {
     }
 
     /// Makes the call of the IMP at a place, if one is up there.
-    #[tactic(auto, using(crate::proofs::Ending::ends_of_turned))]
+    #[tactic(auto, using(crate::proofs::Calls::Ending::ends_of_turned))]
     fn make_at(self, imp: &mut Option<Imp>) -> Result<Vec<Outgoing>, CarrierFault>
         requires { IfSome imp.old (λ s. s.spent ≡ false) }
-        ensures call { Ends (at_up imp.old (call_refusal self)) (grows_at imp.old (call_grows self)) (λ frames. (imp.new ≡ imp_by imp.old (call_turn self)) × (frames.items ≡ frames_by imp.old (call_turn self))) imp.old imp.new result }
+        ensures call { CallEnds (at_up imp.old (call_refusal self)) (grows_at imp.old (call_grows self)) (λ frames. (imp.new ≡ imp_by imp.old (call_turn self)) × (frames.items ≡ frames_by imp.old (call_turn self))) imp.old imp.new result }
         ensures live { OnOk result (IfSome imp.new (λ s. s.spent ≡ false)) }
     {
         match imp {
@@ -83,7 +83,7 @@ pub(crate) fn call_imp(
     call: ImpCall,
 ) -> Result<Vec<Outgoing>, CarrierFault>
     requires { AreLive imps.old }
-    ensures call { Ends (at_up (imp_at imps.old imp) (call_refusal call)) (grows_at (imp_at imps.old imp) (call_grows call)) (λ frames. (imps.new ≡ imps_by imps.old imp (imp_at imps.old imp) (call_turn call)) × (frames.items ≡ frames_by (imp_at imps.old imp) (call_turn call))) imps.old imps.new result }
+    ensures call { CallEnds (at_up (imp_at imps.old imp) (call_refusal call)) (grows_at (imp_at imps.old imp) (call_grows call)) (λ frames. (imps.new ≡ imps_by imps.old imp (imp_at imps.old imp) (call_turn call)) × (frames.items ≡ frames_by (imp_at imps.old imp) (call_turn call))) imps.old imps.new result }
     ensures live { OnOk result (AreLive imps.new) }
 {
     let at = imp as usize;

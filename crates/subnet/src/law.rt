@@ -21,10 +21,10 @@ ghost use Rattle.leader1822.specs.declared.message.HostMessage.{HostMessage};
 ghost use Rattle.imp_channel.specs.declared.frame.Content.TheVariants as content;
 ghost use Rattle.imp_node.specs.Examples.{host, flow, packets_to, no_acks, ack_frame};
 ghost use Rattle.imp_node.specs.Lines.{on_port};
-ghost use Rattle.imp_node.specs.State.{State, opening, no_host, port_at};
+ghost use Rattle.imp_node.specs.State.{State, opening_node, no_host, port_at};
 ghost use Rattle.subnet.specs.Calls.{Kept, running, step_grows, round_grows};
 ghost use Rattle.subnet.specs.Alive.{packets, messages, is_alive};
-ghost use Rattle.subnet.specs.Events.{offer_refusal, offer_out, take_refusal, taken, crossings_of, take_in, deliver, drop_frame, giving_up_refusal, forgetting_refusal, starting_refusal, imp_stopped, imp_started, refreshed, quiet_round, step_refusal, stepped};
+ghost use Rattle.subnet.specs.Events.{offer_refusal, offer_out, take_refusal, taken_by_host, crossings_of, take_in, deliver, drop_frame, giving_up_refusal, forgetting_refusal, starting_refusal, imp_stopped, imp_started, refreshed, quiet_round, step_refusal, stepped};
 ghost use Rattle.subnet.specs.Examples.{ours, our_message, our_queued, data_frame, rfnm_frame, passing_frame, imp_1, imp_2, wire, pair, opened_pair, begun_up_to, expecting, one_host_down, hosts_down, cut_off, serving_ours, keeping_ours, keeping_own, sending_ours, past_one, full_of, triangle};
 ghost use Rattle.subnet.specs.Flows.{host_is_up};
 ghost use Rattle.subnet.specs.Making.{NothingNew, OnlyNew, offer_makes, take_makes, deliver_makes, stop_makes};
@@ -46,14 +46,14 @@ pub fn whole_runs()
         → AreHosts hosts sites
         → length sites ≤ 17
         → OffersMessages calls
-        → IsRun hosts (ran calls (start.opening hosts sites ends)).log }
+        → IsRun hosts (ran calls (start.opening_subnet hosts sites ends)).log }
 
     // and the subnet is sound
     ensures sound { (hosts : List Host) (sites : List (Option ℕ)) (ends : List Ends) (calls : List Call)
         → AreHosts hosts sites
         → length sites ≤ 17
         → OffersMessages calls
-        → IsSound (ran calls (start.opening hosts sites ends)) }
+        → IsSound (ran calls (start.opening_subnet hosts sites ends)) }
 {}
 
 /// What hosts see of each call of a subnet.
@@ -63,15 +63,15 @@ pub fn shown()
 
     // the message that is offered crosses, and so does what is taken, which is for the host that takes
     ensures offer_out { (n : Net) (m : HostMessage) → (offer_out n m).log ≡ crossing.Out m ∷ n.log }
-    ensures take_in { (n : Net) (h : Host) → (take_in n h).log ≡ crossings_of (taken n h) ++ n.log }
-    ensures taken { (n : Net) (h : Host) (i : Inbound) → IsSound n → taken n h ≡ Some i → IsFor h i }
+    ensures take_in { (n : Net) (h : Host) → (take_in n h).log ≡ crossings_of (taken_by_host n h) ++ n.log }
+    ensures taken { (n : Net) (h : Host) (i : Inbound) → IsSound n → taken_by_host n h ≡ Some i → IsFor h i }
 
     // a host that stops or starts crosses, and so do the hosts of an IMP that stops, in order, if they are up
     ensures step { (n : Net) (e : NetEvent) → step_refusal n e ≡ None → IsListed n → IsSound n → (stepped n e).log ≡ step_crossings (seen n) e ++ n.log }
     ensures quiet_round { (n : Net) → (quiet_round n).log ≡ n.log }
 {}
 
-/// A subnet as a carrier: each call, whether it succeeds, is refused or wants memory, keeps what holds of a subnet
+/// A subnet as a carrier: each call, whether it succeeds, is refused or runs out of memory, keeps what holds of a subnet
 /// always, and shows what every carrier's calls show.
 pub fn carrier()
     ensures offer_out { (old new : Kept) (m : HostMessage) (result : Result Unit CarrierFault) → IsHostMessage m → SubnetOffer old m result new → IsWorking old → IsWorking new }
@@ -84,7 +84,7 @@ pub fn carrier()
     ensures round_shown { (old new : Kept) (result : Result Unit CarrierFault) → SubnetRound old result new → ShowsRound (seen_of old) result (seen_of new) }
 
     // at its opening it is so
-    ensures opening { (sites : List (Option ℕ)) (ends : List Ends) → length sites ≤ 17 → IsWorking (running (start.opening (start.hosts_from 0 sites) sites ends)) }
+    ensures opening { (sites : List (Option ℕ)) (ends : List Ends) → length sites ≤ 17 → IsWorking (running (start.opening_subnet (start.hosts_from 0 sites) sites ends)) }
 {}
 
 /// The hosts of the network and its sites are the same after each call.
@@ -124,8 +124,8 @@ pub fn holding()
 
 /// At its opening a subnet whose hosts are those of its IMPs is sound, and no packet is there.
 pub fn at_the_opening()
-    ensures sound { (hosts : List Host) (sites : List (Option ℕ)) (ends : List Ends) → AreHosts hosts sites → IsSound (start.opening hosts sites ends) }
-    ensures empty { (hosts : List Host) (sites : List (Option ℕ)) (ends : List Ends) → packets (start.opening hosts sites ends) ≡ [] }
+    ensures sound { (hosts : List Host) (sites : List (Option ℕ)) (ends : List Ends) → AreHosts hosts sites → IsSound (start.opening_subnet hosts sites ends) }
+    ensures empty { (hosts : List Host) (sites : List (Option ℕ)) (ends : List Ends) → packets (start.opening_subnet hosts sites ends) ≡ [] }
 
     // the hosts that stand in the list of the IMPs, one after another, are those of its IMPs
     ensures hosts { (sites : List (Option ℕ)) → AreHosts (start.hosts_from 0 sites) sites }
@@ -149,7 +149,7 @@ pub fn sound_messages()
 /// Distances are told of the IMPs 1 to 16 alone, from the opening on and whatever happens: so a message with
 /// addresses, which every message of a host has, can be carried where it goes.
 pub fn routed()
-    ensures opening { (hosts : List Host) (sites : List (Option ℕ)) (ends : List Ends) → length sites ≤ 17 → IsRouted (start.opening hosts sites ends) }
+    ensures opening { (hosts : List Host) (sites : List (Option ℕ)) (ends : List Ends) → length sites ≤ 17 → IsRouted (start.opening_subnet hosts sites ends) }
     ensures offer_out { (n : Net) (m : HostMessage) → IsRouted n → IsRouted (offer_out n m) }
     ensures take_in { (n : Net) (h : Host) → IsRouted n → IsRouted (take_in n h) }
     ensures step { (n : Net) (e : NetEvent) → IsRouted n → IsRouted (stepped n e) }
@@ -202,7 +202,7 @@ pub fn sound_steps()
     ensures quiet_round { (n : Net) → IsSound n → IsSound (quiet_round n) }
 {}
 
-/// When a quiet round may want memory.
+/// When a quiet round may run out of memory.
 pub fn round_memory()
     // never where no IMP is up, whatever frames are live
     ensures no_imp { (n : Net) → ((i : ℕ) → imp_at n.imps i ≡ None) → round_grows n ≡ false }
@@ -255,13 +255,13 @@ pub fn worked_still_alive()
     ensures offer_window { offer_refusal (pair (Some (begun_up_to 127)) (Some imp_2) (data_frame 0 ∷ []) []) our_message ≡ Some fault.StillAlive }
     ensures offer_within { offer_refusal (pair (Some (begun_up_to 127)) (Some imp_2) (data_frame 1 ∷ []) []) our_message ≡ None }
 
-    // numbers go round, also where fewer were begun; an answer counts like data
+    // numbers wrap around, also where fewer were begun; an answer counts like data
     ensures offer_round { offer_refusal (pair (Some (begun_up_to 0)) (Some imp_2) [] (rfnm_frame 129 ∷ [])) our_message ≡ Some fault.StillAlive }
 
     // before the first number nothing is in the way
     ensures offer_first { offer_refusal (pair (Some imp_1) (Some imp_2) (data_frame 129 ∷ []) []) our_message ≡ None }
 
-    // want of room comes behind it; and what would begin no number, without a route or from a host that is down, does not wait
+    // `NoRoom` comes after it; and what would begin no number, without a route or from a host that is down, does not wait
     ensures offer_full { (offer_refusal (pair (Some (record (begun_up_to 127) { store = packets_to 3 32 })) (Some imp_2) (data_frame 0 ∷ []) []) our_message ≡ Some fault.StillAlive) × (offer_refusal (pair (Some (record (begun_up_to 127) { store = packets_to 3 32 })) (Some imp_2) (data_frame 1 ∷ []) []) our_message ≡ Some fault.NoRoom) }
     ensures offer_nowhere { offer_refusal (pair (Some (record (begun_up_to 127) { routes = record { own = 1; heard = None ∷ [] } })) (Some imp_2) (data_frame 0 ∷ []) []) our_message ≡ None }
     ensures offer_down { offer_refusal (pair (Some (record (begun_up_to 127) { hosts = no_host ∷ no_host ∷ [] })) (Some imp_2) (data_frame 0 ∷ []) []) our_message ≡ Some fault.IsDown }
@@ -280,7 +280,7 @@ pub fn worked_still_alive()
     ensures forget_back { step_refusal (pair (Some imp_1) (Some imp_2) (data_frame 0 ∷ []) []) (event.Forget 1 2) ≡ None }
     ensures forget_answer { step_refusal (pair (Some imp_1) (Some imp_2) [] (rfnm_frame 0 ∷ [])) (event.Forget 2 1) ≡ None }
 
-    // an IMP comes up: something of a flow from it is alive, also an answer. What others only passed over it doesn't count
+    // an IMP comes up: something of a flow from it is alive, also an answer. What only travelled over it for others doesn't count
     ensures start_answer { starting_refusal (pair None (Some imp_2) [] (rfnm_frame 0 ∷ [])) 1 ≡ Some fault.StillAlive }
     ensures start_destination { starting_refusal (pair (Some imp_1) None (data_frame 0 ∷ []) []) 2 ≡ Some fault.StillAlive }
     ensures start_passing { starting_refusal (pair None (Some imp_2) (passing_frame ∷ []) []) 1 ≡ None }
@@ -303,7 +303,7 @@ pub fn worked_stops()
     ensures unread { messages (imp_stopped (pair (Some imp_1) (Some serving_ours) [] []) 2) ≡ [] }
 
     // it starts with all hosts down and all ends of lines up, having heard nothing, and nothing crosses
-    ensures started { imp_at (imp_started (pair None (Some imp_2) [] []) 1).imps 1 ≡ Some (record (opening 1 2 1) { hosts = no_host ∷ no_host ∷ [] }) }
+    ensures started { imp_at (imp_started (pair None (Some imp_2) [] []) 1).imps 1 ≡ Some (record (opening_node 1 2 1) { hosts = no_host ∷ no_host ∷ [] }) }
     ensures silent { (imp_started (pair None (Some imp_2) [] []) 1).log ≡ [] }
 {}
 
@@ -330,7 +330,7 @@ pub fn worked_refusals()
     ensures other_line { (step_refusal (record (pair (Some imp_1) (Some imp_2) [] []) { lines = triangle }) (event.EndDown 1 2) ≡ Some fault.NoSuch) × (step_refusal (record (pair (Some imp_1) (Some imp_2) [] []) { lines = triangle }) (event.EndUp 2 0) ≡ Some fault.IsUp) }
 {}
 
-/// A quiet round.
+/// What a quiet round does to IMPs and frames.
 pub fn worked_rounds()
     // after one round from the opening each IMP has heard what the other could tell before the round, and no frame is left
     ensures heard { quiet_round opened_pair ≡ pair (Some imp_1) (Some imp_2) [] [] }
@@ -345,7 +345,7 @@ pub fn worked_rounds()
     ensures down { quiet_round (pair (Some imp_1) None (data_frame 0 ∷ []) []) ≡ pair (Some imp_1) None [] [] }
 {}
 
-/// When memory may be wanted.
+/// When memory may run out.
 pub fn worked_memory()
     // an IMP that stops: only where a host goes down with it
     ensures stops { (step_grows (pair (Some one_host_down) (Some imp_2) [] []) (event.ImpDown 1) ≡ true) × (step_grows (pair (Some hosts_down) (Some imp_2) [] []) (event.ImpDown 1) ≡ false) }

@@ -128,10 +128,10 @@ impl Parts {
         Ok(())
     }
 
-    /// The frame at a place of a directed line comes in at the far end, if the IMP there is up.
+    /// The frame at a place of a directed line arrives at the far end, if the IMP there is up.
     ///
-    /// Errors: want of memory alone.
-    #[tactic(auto, using(crate::proofs::Delivering::not_brought, crate::proofs::Delivering::none_brought))]
+    /// Errors: memory runs out, and nothing else.
+    #[tactic(auto, using(crate::proofs::Calls::Delivering::not_brought, crate::proofs::Calls::Delivering::none_brought))]
     pub(crate) fn bring(
         &mut self,
         line: usize,

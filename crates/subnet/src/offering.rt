@@ -6,7 +6,7 @@ ghost use Rattle.imp_node.specs.Queries as queries;
 ghost use Rattle.subnet.specs.Net.{imp_at};
 ghost use Rattle.subnet.specs.Events as events;
 ghost use Rattle.subnet.specs.Events.{offer_alive, alive_behind};
-ghost use Rattle.subnet.specs.Inside.Calling.{AreLive, Ends, SameLog};
+ghost use Rattle.subnet.specs.Inside.Calling.{AreLive, CallEnds, SameLog};
 
 use crate::imp_call::ImpCall;
 use crate::parts::Parts;
@@ -18,7 +18,7 @@ impl Parts {
     /// A message goes out: its source's IMP takes it.
     pub(crate) fn offer_out(&mut self, message: HostMessage) -> Result<(), CarrierFault>
         requires { AreLive self.old.imps }
-        ensures call { Ends (events.offer_refusal self.old message) true (λ done. self.new ≡ events.offer_out self.old message) self.old self.new result }
+        ensures call { CallEnds (events.offer_refusal self.old message) true (λ done. self.new ≡ events.offer_out self.old message) self.old self.new result }
         ensures live { OnOk result (AreLive self.new.imps) }
         ensures keeps { OnErr result (SameLog self.old self.new) }
     {

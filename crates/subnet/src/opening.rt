@@ -1,4 +1,4 @@
-//! A subnet opens.
+//! How a subnet is opened from its hosts, sites and lines.
 
 ghost use Rattle.std.specs.Prelude.{◌≡◌, ◌≤◌, ◌<◌, None, length, map, count_by, slice_index_or, All, IfOk, IfSome};
 ghost use Rattle.packetiser.specs.Limits.{greatest_imp};
@@ -13,11 +13,11 @@ use leader1822::{HostAddr, ImpNumber};
 use std::alloc::{AllocError, Global};
 
 impl Parts {
-    /// A subnet at its opening: its hosts, how many hosts the IMP of each number has, if there is one, and the
+    /// A subnet at its start: its hosts, how many hosts the IMP of each number has, if there is one, and the
     /// ends of its lines. All IMPs, ends of lines and hosts are up.
     ///
-    /// Errors: want of memory alone.
-    #[tactic(auto, using(crate::proofs::Opens::places_opened, crate::proofs::Opens::opened_live, crate::proofs::Opens::lines_opened))]
+    /// Errors: memory runs out, and nothing else.
+    #[tactic(auto, using(crate::proofs::Calls::Opens::places_opened, crate::proofs::Calls::Opens::opened_live, crate::proofs::Calls::Opens::lines_opened))]
     pub(crate) fn open(
         alloc: Global,
         hosts: Vec<HostAddr>,
@@ -28,7 +28,7 @@ impl Parts {
         requires numbers { length sites.items ≤ 17 }
         requires hosts { All (λ site. IfSome site (λ count. count ≤ 4)) sites.items }
         requires few { length ends.now < 256 }
-        ensures opened { IfOk result (λ parts. parts ≡ start.opening hosts.items sites.items ends.now) }
+        ensures opened { IfOk result (λ parts. parts ≡ start.opening_subnet hosts.items sites.items ends.now) }
         ensures live { IfOk result (λ parts. AreLive parts.imps) }
     {
         let lines = empty_lines(alloc, ends)?;
@@ -57,7 +57,7 @@ fn empty_lines(alloc: Global, ends: &[Ends]) -> Result<Vec<Wire>, AllocError>
 }
 
 /// The IMPs of these sites, with the ports that the lines give them.
-#[tactic(auto, using(crate::proofs::Opens::site_fits, crate::proofs::Opens::all_ports))]
+#[tactic(auto, using(crate::proofs::Calls::Opens::site_fits, crate::proofs::Calls::Opens::all_ports))]
 fn opened_imps(
     alloc: Global,
     sites: &[Option<u8>],
@@ -81,7 +81,7 @@ fn opened_imps(
 /// The IMP of a site, if there is one.
 fn opened(alloc: Global, number: u8, site: Option<u8>, ports: u8) -> Result<Option<Imp>, AllocError>
     requires { IfSome site (λ count. (1 ≤ number) × (number ≤ greatest_imp) × (count ≤ 4)) }
-    ensures { IfOk result (λ imp. imp ≡ start.opened number site ports) }
+    ensures { IfOk result (λ imp. imp ≡ start.opened_imp number site ports) }
 {
     let Some(hosts) = site else {
         return Ok(None);

@@ -119,7 +119,7 @@ impl Parts {
 
     /// A copy of the frame at a place of a directed line, if there is one.
     ///
-    /// Errors: want of memory alone.
+    /// Errors: memory runs out, and nothing else.
     pub(crate) fn copied_frame(
         &self,
         line: usize,
@@ -164,8 +164,8 @@ impl Parts {
 
     /// Makes a call of the IMP of this number, if it is up and doesn't refuse it.
     ///
-    /// Errors: want of memory alone.
-    #[tactic(auto, using(crate::proofs::Attempting::attempted, crate::proofs::Attempting::attempt_lives, crate::proofs::Attempting::attempt_grows))]
+    /// Errors: memory runs out, and nothing else.
+    #[tactic(auto, using(crate::proofs::Calls::Attempting::attempted, crate::proofs::Calls::Attempting::attempt_lives, crate::proofs::Calls::Attempting::attempt_grows))]
     pub(crate) fn attempt(&mut self, imp: u8, call: ImpCall) -> Result<(), AllocError>
         requires live { AreLive self.old.imps }
         requires ignores { Ignores call }
@@ -191,7 +191,7 @@ impl Parts {
     }
 }
 
-/// Whether memory was wanted.
+/// Whether memory ran out.
 pub(crate) fn runs_out(outcome: &Result<(), CarrierFault>) -> bool
     ensures { result ≡ runs_out outcome.now }
 {

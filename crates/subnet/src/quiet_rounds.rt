@@ -1,4 +1,4 @@
-//! Quiet rounds.
+//! Quiet rounds: every IMP tells and sends again, and every frame arrives once.
 
 ghost use Rattle.std.specs.Prelude.{◌≡◌, length, true, OnOk, OnErr};
 ghost use Rattle.std.specs.List.{range_with_len};
@@ -14,9 +14,9 @@ use std::alloc::AllocError;
 
 impl Parts {
     /// Each IMP that is up tells its distances and sends again. Then the frames of each line are delivered and
-    /// dropped, one way after the other.
+    /// dropped, one direction after the other.
     ///
-    /// Errors: want of memory alone.
+    /// Errors: memory runs out, and nothing else.
     pub(crate) fn quiet_round(&mut self) -> Result<(), AllocError>
         requires { AreLive self.old.imps }
         ensures ok { OnOk result (self.new ≡ events.quiet_round self.old) }
@@ -45,7 +45,7 @@ impl Parts {
     }
 
     /// Each IMP that is up tells its distances and sends again.
-    #[tactic(auto, using(crate::proofs::Carries::range_more, crate::proofs::RoundMemory::refreshed_earlier))]
+    #[tactic(auto, using(crate::proofs::Calls::Carries::range_more, crate::proofs::Calls::RoundMemory::refreshed_earlier))]
     fn refresh_all(&mut self, places: u8) -> Result<(), AllocError>
         requires { AreLive self.old.imps }
         ensures ok { OnOk result (self.new ≡ events.all_refreshed (range_with_len 0 places) self.old) }
@@ -61,7 +61,7 @@ impl Parts {
     }
 
     /// An IMP tells its distances and sends again, if it is up.
-    #[tactic(auto, using(crate::proofs::Attempting::resend_ignores, crate::proofs::Attempting::route_ignores, crate::proofs::RoundMemory::telling_wants, crate::proofs::RoundMemory::sending_wants))]
+    #[tactic(auto, using(crate::proofs::Calls::Attempting::resend_ignores, crate::proofs::Calls::Attempting::route_ignores, crate::proofs::Calls::RoundMemory::telling_wants, crate::proofs::Calls::RoundMemory::sending_wants))]
     fn refresh(&mut self, imp: u8) -> Result<(), AllocError>
         requires { AreLive self.old.imps }
         ensures ok { OnOk result (self.new ≡ events.refreshed self.old imp) }
@@ -73,8 +73,8 @@ impl Parts {
         self.attempt(imp, ImpCall::Resend)
     }
 
-    /// The frames of each of so many lines are delivered and dropped, one way after the other.
-    #[tactic(auto, using(crate::proofs::Carries::range_more))]
+    /// The frames of each of so many lines are delivered and dropped, one direction after the other.
+    #[tactic(auto, using(crate::proofs::Calls::Carries::range_more))]
     fn turn_all(&mut self, lines: usize) -> Result<(), AllocError>
         requires { AreLive self.old.imps }
         ensures ok { OnOk result (self.new ≡ events.all_turns (range_with_len 0 lines) self.old) }
@@ -115,7 +115,7 @@ impl Parts {
     }
 
     /// So many frames of a directed line, the oldest first, are each delivered once and dropped.
-    #[tactic(auto, using(crate::proofs::Carries::carried_more, crate::proofs::RoundMemory::carried_earlier))]
+    #[tactic(auto, using(crate::proofs::Calls::Carries::carried_more, crate::proofs::Calls::RoundMemory::carried_earlier))]
     fn carry(&mut self, count: usize, line: usize, direction: Direction) -> Result<(), AllocError>
         requires { AreLive self.old.imps }
         ensures ok { OnOk result (self.new ≡ events.carried count line direction self.old) }
@@ -131,7 +131,7 @@ impl Parts {
     }
 
     /// The oldest frame of a directed line, if there is one, is delivered and dropped.
-    #[tactic(auto, using(crate::proofs::Carries::delivered_none, crate::proofs::RoundMemory::delivering_wants))]
+    #[tactic(auto, using(crate::proofs::Calls::Carries::delivered_none, crate::proofs::Calls::RoundMemory::delivering_wants))]
     fn carry_first(&mut self, line: usize, direction: Direction) -> Result<(), AllocError>
         requires { AreLive self.old.imps }
         ensures ok { OnOk result (self.new ≡ carried_first line direction self.old) }
@@ -147,7 +147,7 @@ impl Parts {
     }
 
     /// The oldest frame of a directed line, if there is one, is lost.
-    #[tactic(auto, using(crate::proofs::Carries::lost_none))]
+    #[tactic(auto, using(crate::proofs::Calls::Carries::lost_none))]
     fn lose_first(&mut self, line: usize, direction: Direction)
         ensures lost { self.new ≡ events.drop_frame self.old line direction 0 }
         ensures imps { self.new.imps ≡ self.old.imps }

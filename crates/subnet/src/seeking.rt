@@ -93,7 +93,7 @@ impl Sought {
     }
 
     /// Whether a live frame of a line carries what is sought.
-    #[tactic(auto, using(crate::proofs::Carrying::carries_is))]
+    #[tactic(auto, using(crate::proofs::Calls::Carrying::carries_is))]
     fn is_on(&self, wire: &Wire) -> bool
         ensures { result ≡ carries (packet_is self.now) wire.now }
     {

@@ -1,4 +1,4 @@
-//! An IMP starts.
+//! An IMP starts: when it is refused, and how it begins.
 
 ghost use Rattle.std.specs.Prelude.{◌≡◌, ◌≤◌, ◌<◌, ◌==◌, ◌&&◌, not, true, false, length, slice_set, count_by, Some, IfOk, OnOk};
 ghost use Rattle.std.specs.List.{list_any};
@@ -20,7 +20,7 @@ use std::alloc::{AllocError, Global};
 
 impl Parts {
     /// An IMP starts, empty and with all its hosts down.
-    #[tactic(auto, using(crate::proofs::Starts::started_lives))]
+    #[tactic(auto, using(crate::proofs::Calls::Starts::started_lives))]
     pub(crate) fn imp_up(&mut self, imp: ImpNumber) -> Result<(), CarrierFault>
         requires { AreLive self.old.imps }
         ensures step { Steps (event.ImpUp imp) self.old self.new result }
@@ -53,7 +53,7 @@ impl Parts {
     }
 
     /// An IMP of the network as it starts.
-    #[tactic(auto, using(crate::proofs::Starts::all_ports, crate::proofs::Starts::few_sites))]
+    #[tactic(auto, using(crate::proofs::Calls::Starts::all_ports, crate::proofs::Calls::Starts::few_sites))]
     fn started(&self, imp: ImpNumber) -> Result<Imp, AllocError>
         requires { is_imp self.now imp ≡ true }
         ensures { IfOk result (λ s. s ≡ events.started_imp imp (hosts_at (site_at self.now imp)) (count_by (ends_at imp) self.now.lines)) }
@@ -64,7 +64,7 @@ impl Parts {
     }
 
     /// How many hosts an IMP has; none if it isn't there.
-    #[tactic(auto, using(crate::proofs::Starts::few_hosts))]
+    #[tactic(auto, using(crate::proofs::Calls::Starts::few_hosts))]
     fn host_count(&self, imp: u8) -> u8
         ensures count { result ≡ hosts_at (site_at self.now imp) }
         ensures most { result ≤ 4 }
@@ -114,7 +114,7 @@ fn keeps(place: &Option<Imp>, imp: ImpNumber) -> bool
 }
 
 /// Whether the IMP of this place is another one that is up and keeps a last number of a flow from this IMP.
-#[tactic(auto, using(crate::proofs::Starts::beside_same, crate::proofs::Starts::beside_other))]
+#[tactic(auto, using(crate::proofs::Calls::Starts::beside_same, crate::proofs::Calls::Starts::beside_other))]
 fn is_kept_at(at: usize, place: &Option<Imp>, imp: ImpNumber) -> bool
     requires { IsLive at place.now }
     ensures { result ≡ says (λ s. not (number s == imp) && queries.keeps s imp) place.now }

@@ -18,7 +18,7 @@ use std::alloc::{AllocError, Global};
 const MOST_HOSTS: u8 = 4;
 
 impl Parts {
-    /// A host stops.
+    /// A host stops: what waits for it is cleared, and the sources of these messages are told Dead.
     pub(crate) fn host_down(&mut self, host: HostAddr) -> Result<(), CarrierFault>
         requires { AreLive self.old.imps }
         ensures step { Steps (event.HostDown host) self.old self.new result }
@@ -35,7 +35,7 @@ impl Parts {
         Ok(())
     }
 
-    /// A host starts.
+    /// A host starts, unless a message of it is outstanding.
     pub(crate) fn host_up(&mut self, host: HostAddr) -> Result<(), CarrierFault>
         requires { AreLive self.old.imps }
         ensures step { Steps (event.HostUp host) self.old self.new result }
@@ -53,7 +53,7 @@ impl Parts {
     }
 
     /// An IMP stops, and its hosts with it. What it held is gone; frames on its lines stay.
-    #[tactic(auto, using(crate::proofs::Stopping::stopped_lives))]
+    #[tactic(auto, using(crate::proofs::Calls::Stopping::stopped_lives))]
     pub(crate) fn imp_down(&mut self, imp: ImpNumber) -> Result<(), CarrierFault>
         requires { AreLive self.old.imps }
         ensures step { Steps (event.ImpDown imp) self.old self.new result }
@@ -75,7 +75,7 @@ impl Parts {
     }
 
     /// Puts on the log that the hosts of an IMP go down, in their order.
-    #[tactic(auto, using(crate::proofs::Stopping::all_crossed, crate::proofs::Stopping::crossed_up))]
+    #[tactic(auto, using(crate::proofs::Calls::Stopping::all_crossed, crate::proofs::Calls::Stopping::crossed_up))]
     fn cross_downs(&mut self, imp: ImpNumber) -> Result<(), AllocError>
         ensures ok { OnOk result (self.new ≡ logging (downs_at imp (imp_at self.old.imps imp)) self.old) }
         ensures err { OnErr result (self.new ≡ self.old) }
@@ -111,7 +111,7 @@ impl Parts {
 }
 
 /// The crossings of an IMP's hosts that are up, as they go down, the oldest first.
-#[tactic(auto, using(crate::proofs::Stopping::in_order_is))]
+#[tactic(auto, using(crate::proofs::Calls::Stopping::in_order_is))]
 fn downs_of(alloc: Global, imp: ImpNumber, up: &Imp) -> Result<Vec<Crossing>, AllocError>
     ensures downs { IfOk result (λ downs. downs.items ≡ reverse (downs_from imp 0 up.now.hosts)) }
     ensures memory { OnErr result (has_host_up up.now ≡ true) }

@@ -1,4 +1,4 @@
-//! A packet subnet.
+//! A packet subnet: all IMPs and lines, as a carrier.
 
 ghost use Rattle.std.specs.Prelude.{◌≡◌, ◌<◌, ◌≤◌, true, false, reverse, None, All, IfSome, IfOk, length, slice_index_or};
 ghost use Rattle.subnet.specs.Inside.Calling.{AreLive, SameLog, runs_out};
@@ -16,10 +16,10 @@ use link_table::Number;
 use std::alloc::{AllocError, Global};
 use std::marker::Model;
 
-/// All IMPs and lines of a network, and what is on its way in them.
+/// All IMPs and lines of a network, and what is in transit in them.
 ///
 /// Hosts offer messages to their IMPs, which cut them into packets and pass those on over lines; each packet
-/// may be lost, repeated and overtaken. Want of memory stops the subnet: nothing is done any more, and its log
+/// may be lost, repeated and overtaken. Running out of memory stops the subnet: nothing more is done, and its log
 /// stands.
 #[derive(Drop)]
 pub struct Subnet {
@@ -47,7 +47,7 @@ impl Subnet {
     /// number how many hosts an IMP has, 0 to 4, where there is one: there is none of the number 0, and none above
     /// 16. `hosts` are the hosts of all IMPs, one after another. There are fewer than 256 lines.
     ///
-    /// Errors: want of memory alone.
+    /// Errors: memory runs out, and nothing else.
     pub fn new(
         alloc: Global,
         hosts: Vec<HostAddr>,
@@ -59,7 +59,7 @@ impl Subnet {
         requires counts { All (λ site. IfSome site (λ count. count ≤ 4)) sites.items }
         requires listed { hosts.items ≡ start.hosts_from 0 sites.items }
         requires few { length ends.now < 256 }
-        ensures { IfOk result (λ subnet. subnet ≡ running (start.opening hosts.items sites.items ends.now)) }
+        ensures { IfOk result (λ subnet. subnet ≡ running (start.opening_subnet hosts.items sites.items ends.now)) }
     {
         Ok(Subnet {
             parts: Parts::open(alloc, hosts, sites, ends)?,
@@ -70,14 +70,14 @@ impl Subnet {
     /// Whether a packet or message of this flow and number is alive: a packet in a store, a channel, a slot or a
     /// live frame, or a whole message that waits for its host. An answer that waits for its host does not count.
     ///
-    /// It takes no memory. After want of memory has stopped the subnet, nothing is known of what is alive.
+    /// It takes no memory. After memory has run out, nothing is known of what is alive.
     pub fn alive(&self, flow: &Flow, number: Number) -> bool
         ensures { result ≡ is_alive self.now.net flow.now number }
     {
         self.parts.is_alive(flow, number)
     }
 
-    /// Whether want of memory has stopped it. Its log is a run, and until then it is whole.
+    /// Whether running out of memory has stopped it. Its log is a run, and until then it is whole.
     fn has_stopped(&self) -> bool
         ensures same { result ≡ self.now.stopped }
         ensures working { IsWorking self.now }
@@ -122,8 +122,8 @@ impl Subnet {
         outcome
     }
 
-    /// A round in which what is on its way moves on.
-    #[tactic(auto, using(crate::proofs::Working::round_done))]
+    /// A round in which what is in transit moves on.
+    #[tactic(auto, using(crate::proofs::Calls::Working::round_done))]
     fn round(&mut self) -> Result<(), CarrierFault>
         ensures { SubnetRound self.old result self.new }
     {
@@ -157,7 +157,7 @@ impl Carrier for Subnet {
     /// Errors: `NoSuch` where the source isn't a host of the network, `StillAlive` while the number 127 before
     /// the flow's last one is alive, `IsDown` where the source or its IMP is down, `Blocked` while a message of
     /// the flow is outstanding or an answer about it waits, `NoRoom` where its IMP has no place for it.
-    #[tactic(auto, using(crate::proofs::Working::offer_shown))]
+    #[tactic(auto, using(crate::proofs::Calls::Working::offer_shown))]
     fn offer_out(&mut self, message: HostMessage) -> Result<(), CarrierFault> {
         self.offer(message)
     }
@@ -167,22 +167,24 @@ impl Carrier for Subnet {
     ///
     /// Errors: `NoSuch` where it isn't a host of the network, `IsDown` where it or its IMP is down, `NoRoom`
     /// where the RFNM has no place.
-    #[tactic(auto, using(crate::proofs::Working::take_shown))]
+    #[tactic(auto, using(crate::proofs::Calls::Working::take_shown))]
     fn take_in(&mut self, host: HostAddr) -> Result<Option<Inbound>, CarrierFault> {
+        // for the proof alone: its clause `working` says that the log is a run, and the network whole until it stops
         let _ = self.has_stopped();
         self.take(host)
     }
 
     /// Each event is a step of one IMP, of one line or of one host, as the definitions of `specs/Events` say,
     /// with its refusals in their order.
-    #[tactic(auto, using(crate::proofs::Working::step_shown))]
+    #[tactic(auto, using(crate::proofs::Calls::Working::step_shown))]
     fn step(&mut self, event: NetEvent) -> Result<(), CarrierFault> {
+        // for the proof alone, as in `take_in`
         let _ = self.has_stopped();
         self.happen(event)
     }
 
     /// Each IMP that is up tells its distances and sends again; then each live frame is delivered and dropped.
-    #[tactic(auto, using(crate::proofs::Working::round_shown))]
+    #[tactic(auto, using(crate::proofs::Calls::Working::round_shown))]
     fn quiet_round(&mut self) -> Result<(), CarrierFault> {
         self.round()
     }
@@ -197,7 +199,7 @@ impl Carrier for Subnet {
 }
 
 impl Parts {
-    /// A quiet round, which may fail for want of memory.
+    /// A quiet round, which may run out of memory.
     fn fails_in_round(&mut self) -> bool
         requires { AreLive self.old.imps }
         ensures round { result ≡ false → self.new ≡ events.quiet_round self.old }
@@ -222,7 +224,7 @@ impl Parts {
     }
 }
 
-/// Whether memory was wanted.
+/// Whether memory ran out.
 fn has_run_out(outcome: &Result<Option<Inbound>, CarrierFault>) -> bool
     ensures { result ≡ runs_out outcome.now }
 {
@@ -230,6 +232,9 @@ fn has_run_out(outcome: &Result<Option<Inbound>, CarrierFault>) -> bool
 }
 
 /// What the type of a message promises.
+///
+/// It is there for the proof alone, and does nothing: it looks at the addresses, at the text and at the link, and the
+/// prover then knows their ranges.
 fn known(message: &HostMessage)
     ensures { IsHostMessage message.now }
 {
@@ -241,7 +246,7 @@ fn known(message: &HostMessage)
     is_octet(message.flow.link.0);
 }
 
-/// A link is an octet.
+/// A link is an octet. It is there for the proof alone.
 fn is_octet(link: u8)
     ensures { link < 256 }
 {}

@@ -92,7 +92,7 @@ impl Wire {
 
     /// A copy of the frame at a place of those that go one way; `None` where there is none.
     ///
-    /// Errors: want of memory alone.
+    /// Errors: memory runs out, and nothing else.
     pub(crate) fn copy(
         &self,
         direction: Direction,
@@ -121,7 +121,7 @@ impl Wire {
     /// An IMP puts a frame on the line, behind the others that go the same way. On a full line the frame is
     /// lost.
     ///
-    /// Errors: want of memory alone.
+    /// Errors: memory runs out, and nothing else.
     pub(crate) fn put(&mut self, imp: u8, frame: Frame) -> Result<(), AllocError>
         ensures { OnOk result (self.new ≡ with_frame imp frame self.old) }
     {
@@ -141,7 +141,7 @@ fn frame_at(frames: &VecDeque<Frame>, place: usize) -> Option<&Frame>
 }
 
 /// A copy of the frame at a place.
-#[tactic(auto, using(crate::proofs::Delivering::copy_wanted))]
+#[tactic(auto, using(crate::proofs::Calls::Delivering::copy_wanted))]
 fn copied(frames: &VecDeque<Frame>, place: usize) -> Result<Option<Frame>, AllocError>
     ensures ok { IfOk result (λ frame. frame ≡ slice_get frames.now.items place) }
     ensures memory { OnErr result (copied_grows (slice_get frames.now.items place) ≡ true) }
@@ -214,7 +214,7 @@ fn put_one(lines: &mut [Wire], imp: u8, outgoing: Outgoing) -> Result<(), AllocE
 }
 
 /// An IMP puts one frame after another on the lines at its ports.
-#[tactic(auto, using(crate::proofs::Putting::put_more))]
+#[tactic(auto, using(crate::proofs::Calls::Putting::put_more))]
 pub(crate) fn put_all(lines: &mut [Wire], imp: u8, frames: Vec<Outgoing>) -> Result<(), AllocError>
     ensures ok { OnOk result (lines.new ≡ put_all lines.old imp frames.items) }
     ensures memory { OnErr result (0 < length frames.items) }

@@ -344,7 +344,7 @@ const REFUSED: [Row; 15] = [
         Act::Step(Event::HostUp(Who::Here)),
         Want::Refused(CarrierFault::Unsettled),
     ),
-    // its message arrives, and the RFNM settles it
+    // its message arrives, and the RFNM answers it
     (Act::Rounds(1), Want::Done),
     (Act::Take(Who::Near), Want::Given(Who::Near, 5, 0, 0)),
     (Act::Rounds(1), Want::Done),

@@ -6,7 +6,7 @@ use Rattle.std.proofs.Math.Seq.{take-append_seam}
 use Rattle.std.proofs.lemmas.Grind.{flat_map-append, fold-append}
 use Rattle.std.proofs.lemmas.List.Folds.{list_any-append}
 use Rattle.std.specs.List.{flat_map, fold, list_all, list_any}
-use Rattle.terminal.specs.Lines.{AreLines, Heard, ends_line, has_end, hear, heard, is_printable, spelled}
+use Rattle.terminal.specs.Lines.{AreLines, Heard, ends_line, has_end, hear, lines_heard, is_printable, spelled}
 
 -- ---- the octet before an end
 
@@ -17,7 +17,7 @@ before_at (x ∷ []) (suc n) is last = absurd (omega arith)
 before_at (x ∷ y ∷ ys) zero is last = absurd (omega arith)
 before_at (x ∷ y ∷ ys) (suc n) is last = ap (λ (l : List ℕ). x ∷ l) (before_at (y ∷ ys) n (omega arith) last)
 
-pub before_end : (rest : List ℕ) → slice_index_or rest (length rest - 1) 0 ≡ 13 → rest ≡ take (length rest - 1) rest ++ 13 ∷ []
+before_end : (rest : List ℕ) → slice_index_or rest (length rest - 1) 0 ≡ 13 → rest ≡ take (length rest - 1) rest ++ 13 ∷ []
 before_end [] last = absurd (omega arith)
 before_end (x ∷ xs) last = before_at (x ∷ xs) (length (x ∷ xs) - 1) (omega arith) last
 
@@ -25,15 +25,15 @@ pub record IsEnd (rest : List ℕ) (x : ℕ) : Type 0 where
   pub feed : x ≡ 10
   pub return : slice_index_or rest (length rest - 1) 0 ≡ 13
 
-pub is_end : (rest : List ℕ) (x : ℕ) → ends_line rest x ≡ true → IsEnd rest x
+is_end : (rest : List ℕ) (x : ℕ) → ends_line rest x ≡ true → IsEnd rest x
 is_end rest x ends = record { feed = grind (arith, nat_tests); return = grind (arith, nat_tests) }
 
 -- ---- pairs
 
-abbrev pub the_heard : List (List ℕ) → List ℕ → Heard
+abbrev the_heard : List (List ℕ) → List ℕ → Heard
 the_heard lines rest = (lines, rest)
 
-abbrev pub heard_if : Bool → List (List ℕ) → List ℕ → ℕ → Heard
+abbrev heard_if : Bool → List (List ℕ) → List ℕ → ℕ → Heard
 heard_if b lines rest octet = if b then (lines ++ take (length rest - 1) rest ∷ [], []) else (lines, rest ++ octet ∷ [])
 
 -- ---- nothing is lost
@@ -56,7 +56,7 @@ one_more lines rest x true ends =
     left ∙ sym right
 one_more lines rest x false ends = sym (append_assoc (flat_map spelled lines) rest (x ∷ []))
 
-pub all_of : (lines : List (List ℕ)) (rest octets : List ℕ) → total (fold hear (lines, rest) octets) ≡ (flat_map spelled lines ++ rest) ++ octets
+all_of : (lines : List (List ℕ)) (rest octets : List ℕ) → total (fold hear (lines, rest) octets) ≡ (flat_map spelled lines ++ rest) ++ octets
 all_of lines rest [] = sym (append-nil (flat_map spelled lines ++ rest))
 all_of lines rest (x ∷ xs) =
     let h : Heard = hear (lines, rest) x in
@@ -64,7 +64,7 @@ all_of lines rest (x ∷ xs) =
     ∙ ap (λ (t : List ℕ). t ++ xs) (one_more lines rest x (ends_line rest x) refl)
     ∙ append_assoc (flat_map spelled lines ++ rest) (x ∷ []) xs
 
-pub nothing_lost : (rest octets : List ℕ) → flat_map spelled (heard rest octets).0 ++ (heard rest octets).1 ≡ rest ++ octets
+pub nothing_lost : (rest octets : List ℕ) → flat_map spelled (lines_heard rest octets).0 ++ (lines_heard rest octets).1 ≡ rest ++ octets
 nothing_lost rest octets = all_of [] rest octets
 
 -- ---- truth values
@@ -103,12 +103,12 @@ push_at (y ∷ z ∷ zs) (suc n) x is stays endless =
     let here : ((y == 13) && (z == 10)) ≡ false = first_false ((y == 13) && (z == 10)) (has_end (z ∷ zs)) endless in
     rw here (push_at (z ∷ zs) n x (omega arith) stays (second_false ((y == 13) && (z == 10)) (has_end (z ∷ zs)) endless))
 
-pub open_push : (rest : List ℕ) (x : ℕ) → ends_line rest x ≡ false → has_end rest ≡ false → has_end (rest ++ x ∷ []) ≡ false
+open_push : (rest : List ℕ) (x : ℕ) → ends_line rest x ≡ false → has_end rest ≡ false → has_end (rest ++ x ∷ []) ≡ false
 open_push [] x stays endless = refl
 open_push (y ∷ ys) x stays endless = push_at (y ∷ ys) (length (y ∷ ys) - 1) x (omega arith) stays endless
 
 -- what stands before octets without an end has none
-pub open_front : (xs ys : List ℕ) → has_end (xs ++ ys) ≡ false → has_end xs ≡ false
+open_front : (xs ys : List ℕ) → has_end (xs ++ ys) ≡ false → has_end xs ≡ false
 open_front [] ys endless = refl
 open_front (x ∷ []) ys endless = refl
 open_front (x ∷ z ∷ zs) ys endless =
@@ -123,7 +123,7 @@ here_at (y ∷ []) (suc n) x xs is endless = absurd (omega arith)
 here_at (y ∷ z ∷ zs) zero x xs is endless = absurd (omega arith)
 here_at (y ∷ z ∷ zs) (suc n) x xs is endless = here_at (z ∷ zs) n x xs (omega arith) (second_false ((y == 13) && (z == 10)) (has_end (z ∷ zs ++ x ∷ xs)) endless)
 
-pub no_end_here : (r : List ℕ) (x : ℕ) (xs : List ℕ) → has_end (r ++ x ∷ xs) ≡ false → ends_line r x ≡ false
+no_end_here : (r : List ℕ) (x : ℕ) (xs : List ℕ) → has_end (r ++ x ∷ xs) ≡ false → ends_line r x ≡ false
 no_end_here [] x xs endless = and_false (x == 10)
 no_end_here (y ∷ ys) x xs endless = here_at (y ∷ ys) (length (y ∷ ys) - 1) x xs (omega arith) endless
 
@@ -148,9 +148,9 @@ pub all_open : (h : Heard) (octets : List ℕ) → AreOpen h → AreOpen (fold h
 all_open h [] endless = endless
 all_open (lines, rest) (x ∷ xs) endless = all_open (hear (lines, rest) x) xs (one_open lines rest x (ends_line rest x) refl endless)
 
-pub are_lines : (rest octets : List ℕ) → has_end rest ≡ false → AreLines (rest ++ octets) (heard rest octets).0 (heard rest octets).1
+pub are_lines : (rest octets : List ℕ) → has_end rest ≡ false → AreLines (rest ++ octets) (lines_heard rest octets).0 (lines_heard rest octets).1
 are_lines rest octets endless =
-    let o : AreOpen (heard rest octets) = all_open ([], rest) octets (record { lines = refl; rest = endless }) in
+    let o : AreOpen (lines_heard rest octets) = all_open ([], rest) octets (record { lines = refl; rest = endless }) in
     record { all = sym (nothing_lost rest octets); lines_whole = o.lines; rest_open = o.rest }
 
 -- ---- there is one reading only
@@ -172,7 +172,7 @@ before_last_at : (l : List ℕ) (x : ℕ) → length (l ++ x ∷ []) - 1 ≡ len
 before_last_at l x = omega (arith, length-append l (x ∷ []))
 
 -- a line with its end is read as this line
-pub line_read : (lines : List (List ℕ)) (l more : List ℕ) → has_end l ≡ false → fold hear (lines, []) (l ++ 13 ∷ 10 ∷ more) ≡ fold hear (lines ++ l ∷ [], []) more
+line_read : (lines : List (List ℕ)) (l more : List ℕ) → has_end l ≡ false → fold hear (lines, []) (l ++ 13 ∷ 10 ∷ more) ≡ fold hear (lines ++ l ∷ [], []) more
 line_read lines l more endless =
     let returned : List ℕ = l ++ 13 ∷ [] in
     let ends : ends_line returned 10 ≡ true = ap (λ (n : ℕ). slice_index_or returned n 0 == 13) (before_last_at l 13) ∙ ap (λ (n : ℕ). n == 13) (last_at l 13) in
@@ -191,7 +191,7 @@ read_again before (l ∷ lines) rest endless last =
     ∙ read_again (before ++ l ∷ []) lines rest (second_false (has_end l) (list_any has_end lines) endless) last
     ∙ ap (λ (z : List (List ℕ)). the_heard z rest) (append_assoc before (l ∷ []) lines)
 
-pub only_reading : (octets : List ℕ) (lines : List (List ℕ)) (rest : List ℕ) → AreLines octets lines rest → heard [] octets ≡ (lines, rest)
+pub only_reading : (octets : List ℕ) (lines : List (List ℕ)) (rest : List ℕ) → AreLines octets lines rest → lines_heard [] octets ≡ (lines, rest)
 only_reading octets lines rest are = ap (λ (z : List ℕ). fold hear (the_heard [] []) z) are.all ∙ read_again [] lines rest are.lines_whole are.rest_open
 
 -- ---- what is typed has no end
@@ -203,7 +203,7 @@ both_true : (a b : Bool) → (a && b) ≡ true → (a ≡ true) × (b ≡ true)
 both_true true b e = (refl, e)
 both_true false b e = absurd (grind arith)
 
-pub typed_open : (text : List ℕ) → list_all is_printable text ≡ true → has_end text ≡ false
+typed_open : (text : List ℕ) → list_all is_printable text ≡ true → has_end text ≡ false
 typed_open [] all = refl
 typed_open (x ∷ []) all = refl
 typed_open (x ∷ y ∷ ys) all =
@@ -211,5 +211,5 @@ typed_open (x ∷ y ∷ ys) all =
     let here : (x == 13) ≡ false = not_return x both.0 in
     rw here (typed_open (y ∷ ys) both.1)
 
-pub typed_read : (text : List ℕ) → list_all is_printable text ≡ true → heard [] (spelled text) ≡ (text ∷ [], [])
+pub typed_read : (text : List ℕ) → list_all is_printable text ≡ true → lines_heard [] (spelled text) ≡ (text ∷ [], [])
 typed_read text all = line_read [] text [] (typed_open text all)

@@ -3,7 +3,7 @@ use Rattle.std.proofs.lemmas.Bool.Decides.{nat_tests}
 use Rattle.std.proofs.Common.{◌≡◌, ◌==◌, ℕ, ◌<◌, Bool, true, false, List, [], ◌∷◌, ◌++◌, length, take, drop, refl, ap, ◌∙◌, arith, replicate}
 use Rattle.std.proofs.lemmas.List.{take-append-drop, length-drop, length-take-le, append-nil}
 use Rattle.bit_messages.specs.Octets.{octets_of, bits_of, spare_bits}
-use Rattle.bit_messages.proofs.OctetLemmas.{bits_again}
+use Rattle.bit_messages.proofs.lemmas.{bits_again}
 use Rattle.terminal.specs.Machines.{TerminalState, terminal_heard}
 use Rattle.terminal.specs.Octets.{in_octets, whole, part}
 
@@ -13,13 +13,13 @@ part_few bits = omega (arith, length-drop (in_octets (length bits)) bits)
 pub whole_and_part : (bits : List Bool) → whole bits ++ part bits ≡ bits
 whole_and_part bits = take-append-drop (in_octets (length bits)) bits
 
-pub length-whole : (bits : List Bool) → length (whole bits) ≡ in_octets (length bits)
+length-whole : (bits : List Bool) → length (whole bits) ≡ in_octets (length bits)
 length-whole bits = length-take-le (in_octets (length bits)) bits (omega arith)
 
 none_whole : (count : ℕ) → count < 8 → in_octets count ≡ 0
 none_whole count few = omega arith
 
-pub whole_few : (bits : List Bool) → length bits < 8 → whole bits ≡ []
+whole_few : (bits : List Bool) → length bits < 8 → whole bits ≡ []
 whole_few bits few = ap (λ (n : ℕ). take n bits) (none_whole (length bits) few)
 
 pub part_whole : (bits : List Bool) → length bits < 8 → part bits ≡ bits

@@ -4,30 +4,30 @@ use Rattle.std.proofs.lemmas.List.{append_assoc, append-nil}
 use Rattle.std.proofs.lemmas.Grind.{flat_map-append}
 use Rattle.std.specs.List.{flat_map}
 use Rattle.bit_messages.specs.Octets.{bits_of, octets_of}
-use Rattle.bit_messages.proofs.PackedLemmas.{bits_of-append}
+use Rattle.bit_messages.proofs.lemmas.{bits_of-append}
 use Rattle.host_pairs.specs.declared.notice.Notice.{Notice}
 use Rattle.host_pairs.specs.declared.notice.Notice.TheVariants as notice
 use Rattle.sockets.specs.declared.request.Request.{Request}
 use Rattle.terminal.specs.Ends.{arrived_on, closed_by, closing, sending}
-use Rattle.terminal.specs.Lines.{Heard, heard, spelled}
+use Rattle.terminal.specs.Lines.{Heard, lines_heard, spelled}
 use Rattle.terminal.specs.Machines.{EchoState, echo_by, echo_turn, TerminalState, TerminalTurn, terminal_by, terminal_heard, terminal_turn}
 use Rattle.terminal.specs.Octets.{whole, part}
-use Rattle.terminal.specs.Played.{arrivals, bits_in, echo_played, kept, line_bits, sent, terminal_played}
+use Rattle.terminal.specs.Played.{arrivals, bits_in, echo_played, kept, line_bits, bits_sent, terminal_played}
 use Rattle.terminal.proofs.LineLemmas.{nothing_lost}
 use Rattle.terminal.proofs.OctetLemmas.{whole_and_part, whole_octets}
 
 -- ---- the echo service
 
-sent_sending : (send : ℕ) (bits : List Bool) → sent (sending send bits) ≡ bits
+sent_sending : (send : ℕ) (bits : List Bool) → bits_sent (sending send bits) ≡ bits
 sent_sending send [] = refl
 sent_sending send (b ∷ bs) = append-nil (b ∷ bs)
 
-closing_sends : (receive send ended : ℕ) (a b : Bool) → ended == receive ≡ a → ended == send ≡ b → sent (closing receive send ended) ≡ []
+closing_sends : (receive send ended : ℕ) (a b : Bool) → ended == receive ≡ a → ended == send ≡ b → bits_sent (closing receive send ended) ≡ []
 closing_sends receive send ended true b e f = rw e refl
 closing_sends receive send ended false true e f = rw (e, f) refl
 closing_sends receive send ended false false e f = rw (e, f) refl
 
-closed_sends : (receive send : ℕ) (n : Notice) → sent (closed_by receive send n) ≡ []
+closed_sends : (receive send : ℕ) (n : Notice) → bits_sent (closed_by receive send n) ≡ []
 closed_sends receive send (notice.Ready p) = refl
 closed_sends receive send (notice.ContactFailed p) = refl
 closed_sends receive send (notice.PairReset p) = refl
@@ -41,10 +41,10 @@ closed_sends receive send (notice.Echoed p o) = refl
 closed_sends receive send (notice.RemoteError p c d) = refl
 
 pub record EchoKeeps (s : EchoState) (news : List Bool) (t : EchoState × List Request) : Type 0 where
-  pub bits : s.part ++ news ≡ sent t.1 ++ t.0.part
+  pub bits : s.part ++ news ≡ bits_sent t.1 ++ t.0.part
   pub receive : t.0.receive ≡ s.receive
 
-echo_keeps_by : (s : EchoState) (o : Option (List Bool)) (closes : List Request) → sent closes ≡ [] → EchoKeeps s (bits_in o) (echo_by s o closes)
+echo_keeps_by : (s : EchoState) (o : Option (List Bool)) (closes : List Request) → bits_sent closes ≡ [] → EchoKeeps s (bits_in o) (echo_by s o closes)
 echo_keeps_by s (Some bits) closes none = record {
   bits = sym (whole_and_part (s.part ++ bits)) ∙ ap (λ (b : List Bool). b ++ part (s.part ++ bits)) (sym (sent_sending s.send (whole (s.part ++ bits))));
   receive = refl;
@@ -54,32 +54,32 @@ echo_keeps_by s None closes none = record {
   receive = refl;
 }
 
-pub echo_keeps : (s : EchoState) (n : Notice) → EchoKeeps s (bits_in (arrived_on s.receive n)) (echo_turn s n)
+echo_keeps : (s : EchoState) (n : Notice) → EchoKeeps s (bits_in (arrived_on s.receive n)) (echo_turn s n)
 unfolding echo_turn
 echo_keeps s n = echo_keeps_by s (arrived_on s.receive n) (closed_by s.receive s.send n) (closed_sends s.receive s.send n)
 
-pub echoes : (s : EchoState) (ns : List Notice) → s.part ++ arrivals s.receive ns ≡ sent (echo_played s ns).1 ++ (echo_played s ns).0.part
+pub echoes : (s : EchoState) (ns : List Notice) → s.part ++ arrivals s.receive ns ≡ bits_sent (echo_played s ns).1 ++ (echo_played s ns).0.part
 echoes s [] = append-nil s.part
 echoes s (n ∷ ns) =
     let k : EchoKeeps s (bits_in (arrived_on s.receive n)) (echo_turn s n) = echo_keeps s n in
     let t : EchoState × List Request = echo_turn s n in
-    let rest : t.0.part ++ arrivals s.receive ns ≡ sent (echo_played t.0 ns).1 ++ (echo_played t.0 ns).0.part =
+    let rest : t.0.part ++ arrivals s.receive ns ≡ bits_sent (echo_played t.0 ns).1 ++ (echo_played t.0 ns).0.part =
     ap (λ (r : ℕ). t.0.part ++ arrivals r ns) (sym k.receive) ∙ echoes t.0 ns in
     sym (append_assoc s.part (bits_in (arrived_on s.receive n)) (arrivals s.receive ns))
     ∙ ap (λ (b : List Bool). b ++ arrivals s.receive ns) k.bits
-    ∙ append_assoc (sent t.1) t.0.part (arrivals s.receive ns)
-    ∙ ap (λ (b : List Bool). sent t.1 ++ b) rest
-    ∙ sym (append_assoc (sent t.1) (sent (echo_played t.0 ns).1) (echo_played t.0 ns).0.part)
+    ∙ append_assoc (bits_sent t.1) t.0.part (arrivals s.receive ns)
+    ∙ ap (λ (b : List Bool). bits_sent t.1 ++ b) rest
+    ∙ sym (append_assoc (bits_sent t.1) (bits_sent (echo_played t.0 ns).1) (echo_played t.0 ns).0.part)
     ∙ ap (λ (b : List Bool). b ++ (echo_played t.0 ns).0.part) (sym (flat_map-append _ t.1 (echo_played t.0 ns).1))
 
 -- ---- the line terminal
 
-pub terminal_keeps : (s : TerminalState) (bits : List Bool) → kept s ++ bits ≡ line_bits (terminal_heard s bits).1 ++ kept (terminal_heard s bits).0
+terminal_keeps : (s : TerminalState) (bits : List Bool) → kept s ++ bits ≡ line_bits (terminal_heard s bits).1 ++ kept (terminal_heard s bits).0
 unfolding terminal_heard
 terminal_keeps s bits =
     let all : List Bool = s.part ++ bits in
     let octets : List ℕ = octets_of (whole all) in
-    let h : Heard = heard s.rest octets in
+    let h : Heard = lines_heard s.rest octets in
     append_assoc (bits_of s.rest) s.part bits
     ∙ ap (λ (b : List Bool). bits_of s.rest ++ b) (sym (whole_and_part all) ∙ ap (λ (b : List Bool). b ++ part all) (sym (whole_octets all)))
     ∙ sym (append_assoc (bits_of s.rest) (bits_of octets) (part all))
@@ -95,7 +95,7 @@ unfolding terminal_heard
 terminal_keeps_by s (Some bits) closes = record { bits = terminal_keeps s bits; receive = refl }
 terminal_keeps_by s None closes = record { bits = append-nil (kept s); receive = refl }
 
-pub terminal_turn_keeps : (s : TerminalState) (n : Notice) → TerminalKeeps s (bits_in (arrived_on s.receive n)) (terminal_turn s n)
+terminal_turn_keeps : (s : TerminalState) (n : Notice) → TerminalKeeps s (bits_in (arrived_on s.receive n)) (terminal_turn s n)
 unfolding terminal_turn
 terminal_turn_keeps s n = terminal_keeps_by s (arrived_on s.receive n) (closed_by s.receive s.send n)
 

@@ -18,7 +18,7 @@ is_printable octet = nat_le 32 octet && nat_le octet 126
 abbrev pub line_fault : List ℕ → Option TerminalFault
 line_fault text = if list_all is_printable text then None else Some fault.NotPrintable
 
--- a call that is refused for `refusal`, and else gives a value with this property: want of memory comes last
+-- a call that is refused for `refusal`, and else gives a value with this property: running out of memory comes last
 abbrev pub Decided : {T : Type 0} → Option TerminalFault → (T → Type 0) → Result T TerminalFault → Type 0
 Decided refusal Gives (Ok x) = (refusal ≡ None) × Gives x
 Decided refusal Gives (Err fault.OutOfMemory) = refusal ≡ None
@@ -34,14 +34,14 @@ ends_line rest octet = (octet == 10) && (slice_index_or rest (length rest - 1) 0
 abbrev pub Heard : Type 0
 Heard = List (List ℕ) × List ℕ
 
--- one more octet
+-- what is kept and told after one more octet
 abbrev pub hear : Heard → ℕ → Heard
 hear (lines, rest) octet =
     if ends_line rest octet then (lines ++ take (length rest - 1) rest ∷ [], []) else (lines, rest ++ octet ∷ [])
 
 -- these octets come, where `rest` came since the last end
-abbrev pub heard : List ℕ → List ℕ → Heard
-heard rest octets = fold hear ([], rest) octets
+abbrev pub lines_heard : List ℕ → List ℕ → Heard
+lines_heard rest octets = fold hear ([], rest) octets
 
 -- ---- what that means
 

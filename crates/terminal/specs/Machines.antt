@@ -4,12 +4,12 @@ use Rattle.bit_messages.specs.Octets.{octets_of}
 use Rattle.host_pairs.specs.declared.notice.Notice.{Notice}
 use Rattle.sockets.specs.declared.request.Request.{Request}
 use Rattle.terminal.specs.Ends.{granted_again, closed_by, sending, arrived_on}
-use Rattle.terminal.specs.Lines.{heard}
+use Rattle.terminal.specs.Lines.{lines_heard}
 use Rattle.terminal.specs.Octets.{whole, part}
 
 -- ---- the echo service
 
--- its two sockets, the bits behind the last whole octet that came, and whether want of memory has made it useless
+-- its two sockets, the bits after the last whole octet that came, and whether running out of memory has made it useless
 pub record EchoState : Type 0 where
   pub receive : ℕ
   pub send : ℕ
@@ -56,7 +56,7 @@ turn s requests lines = record { state = s; requests = requests; lines = lines }
 -- these bits came: with those that were kept they are octets, and the octets are lines
 unfoldable pub terminal_heard : TerminalState → List Bool → TerminalState × List (List ℕ)
 terminal_heard s bits =
-    let h : List (List ℕ) × List ℕ = heard s.rest (octets_of (whole (s.part ++ bits))) in
+    let h : List (List ℕ) × List ℕ = lines_heard s.rest (octets_of (whole (s.part ++ bits))) in
     (record s { part = part (s.part ++ bits); rest = h.1 }, h.0)
 
 abbrev pub terminal_by : TerminalState → Option (List Bool) → List Request → TerminalTurn

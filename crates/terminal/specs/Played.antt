@@ -24,8 +24,8 @@ abbrev pub sent_by : Request → List Bool
 sent_by (request.Send socket bits) = bits
 sent_by r = []
 
-abbrev pub sent : List Request → List Bool
-sent requests = flat_map sent_by requests
+abbrev pub bits_sent : List Request → List Bool
+bits_sent requests = flat_map sent_by requests
 
 -- ---- the echo service
 

@@ -1,4 +1,4 @@
-//! The echo service.
+//! The echo service: it sends back what it receives.
 
 ghost use Rattle.std.specs.Prelude.{◌≡◌, ◌<◌, true, false, length, Err, MatchResult, Ok, IfOk, OnErr};
 ghost use Rattle.terminal.specs.Ends as ends;
@@ -39,7 +39,7 @@ impl Model for EchoService {
 impl EchoService {
     /// The service on two open connections, and its first grant: 4 messages and 4096 bits.
     ///
-    /// Errors: `AllocError` where memory is wanted for the request.
+    /// Errors: `AllocError` when there is no memory for the request.
     pub fn start(
         alloc: Global,
         receive: ReceiveSocket,
@@ -72,7 +72,7 @@ impl EchoService {
         self.send
     }
 
-    /// Whether want of memory has made it useless.
+    /// Whether running out of memory has made it useless.
     pub fn is_spent(&self) -> bool
         ensures { result ≡ self.now.spent }
     {
@@ -99,7 +99,7 @@ impl EchoService {
     /// its receive socket a grant, and the octets that go back; at the end of one of its connections that
     /// the other be closed; at any other notice nothing.
     ///
-    /// Errors: `AllocError` where memory is wanted, only where it asks for something, and then it is spent.
+    /// Errors: `AllocError` when memory runs out, only where it asks for something, and then it is spent.
     #[tactic(auto, unfolding(crate::specs::Machines::echo_turn))]
     pub fn notice(&mut self, notice: &Notice) -> Result<Vec<Request>, AllocError>
         requires live { self.old.spent ≡ false }

@@ -30,7 +30,7 @@ impl Model for Line {
 }
 
 impl Line {
-    /// Its octets.
+    /// The octets of the line, without its end.
     pub fn as_octets(&self) -> &[u8]
         ensures { result.now ≡ self.now }
     {
@@ -107,7 +107,7 @@ pub(crate) fn hear(
     rest: &mut Vec<u8>,
     octets: &[u8],
 ) -> Result<Vec<Line>, AllocError>
-    ensures { IfOk result (λ told. lines.heard rest.old.items octets.now ≡ (told.items, rest.new.items)) }
+    ensures { IfOk result (λ told. lines.lines_heard rest.old.items octets.now ≡ (told.items, rest.new.items)) }
 {
     let mut told = Vec::new(alloc);
     for octet in octets {

@@ -1,4 +1,4 @@
-//! The line terminal.
+//! The line terminal: it sends typed lines, and tells the lines that arrive.
 
 ghost use Rattle.std.specs.Prelude.{◌≡◌, ◌<◌, [], ◌∷◌, true, false, length, MatchResult, IfOk, Err, OnErr, Ok};
 ghost use Rattle.terminal.specs.Ends as ends;
@@ -51,7 +51,7 @@ pub struct Told {
 impl LineTerminal {
     /// The terminal on two open connections, and its first grant: 4 messages and 4096 bits.
     ///
-    /// Errors: `AllocError` where memory is wanted for the request.
+    /// Errors: `AllocError` when there is no memory for the request.
     pub fn start(
         alloc: Global,
         receive: ReceiveSocket,
@@ -85,7 +85,7 @@ impl LineTerminal {
         self.send
     }
 
-    /// Whether want of memory has made it useless.
+    /// Whether running out of memory has made it useless.
     pub fn is_spent(&self) -> bool
         ensures { result ≡ self.now.spent }
     {
@@ -115,9 +115,9 @@ impl LineTerminal {
     }
 
     /// Takes bits in that came for it. Returns the lines that have ended, in order, each without its end.
-    /// Bits that are no whole octet are kept for the next that come, and octets that are no whole line too.
+    /// Bits that are not a whole octet are kept for the next that come, and so are octets that are not a whole line.
     ///
-    /// Errors: `AllocError` where memory is wanted, only where there are bits, and then it is spent.
+    /// Errors: `AllocError` when memory runs out, only where there are bits, and then it is spent.
     pub fn arrived(&mut self, bits: &Bits) -> Result<Vec<Line>, AllocError>
         requires live { self.old.spent ≡ false }
         ensures lines { MatchResult result (λ told. machines.terminal_heard self.old bits.now ≡ (self.new, told.items)) (λ _. self.new.spent ≡ true) }
@@ -158,7 +158,7 @@ impl LineTerminal {
     /// ended: at an arrival on its receive socket a grant, and the lines; at the end of one of its
     /// connections that the other be closed; at any other notice nothing.
     ///
-    /// Errors: `AllocError` where memory is wanted, only where it asks for something, and then it is spent.
+    /// Errors: `AllocError` when memory runs out, only where it asks for something, and then it is spent.
     #[tactic(auto, unfolding(crate::specs::Machines::terminal_turn))]
     pub fn notice(&mut self, notice: &Notice) -> Result<Told, AllocError>
         requires live { self.old.spent ≡ false }

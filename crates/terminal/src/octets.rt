@@ -22,7 +22,7 @@ fn join_bits(alloc: Global, kept: &mut Bits, bits: &Bits) -> Result<Bits, BitFau
 }
 
 /// Puts bits behind those that were kept. Gives what is whole octets now, and keeps the rest. It fails only
-/// for want of memory, and then nothing is kept.
+/// when memory runs out, and then nothing is kept.
 #[tactic(auto, using(crate::proofs::OctetLemmas::part_few))]
 pub(crate) fn join(alloc: Global, kept: &mut Bits, bits: &Bits) -> Result<Bits, AllocError>
     ensures octets { IfOk result (λ octets. octets ≡ whole (kept.old ++ bits.now)) }

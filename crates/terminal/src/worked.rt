@@ -6,7 +6,7 @@ ghost use Rattle.bit_messages.specs.Octets.{bits_of};
 ghost use Rattle.leader1822.specs.Host.{Host};
 ghost use Rattle.host_pairs.specs.declared.notice.Notice.TheVariants as notice;
 ghost use Rattle.sockets.specs.declared.request.Request.TheVariants as request;
-ghost use Rattle.terminal.specs.Lines.{heard, line_fault, spelled};
+ghost use Rattle.terminal.specs.Lines.{lines_heard, line_fault, spelled};
 ghost use Rattle.terminal.specs.Machines.{echo_turn, opening_echo, opening_terminal, terminal_turn, turn};
 ghost use Rattle.terminal.specs.Played.{echo_played, terminal_played};
 ghost use Rattle.terminal.specs.declared.fault.TerminalFault.TheVariants as fault;
@@ -23,22 +23,22 @@ pub fn worked_lines()
     ensures above { line_fault (127 ∷ 65 ∷ []) ≡ Some fault.NotPrintable }
 
     // two lines and the beginning of a third
-    ensures two_lines { heard [] (72 ∷ 13 ∷ 10 ∷ 73 ∷ 74 ∷ 13 ∷ 10 ∷ 75 ∷ []) ≡ ((72 ∷ []) ∷ (73 ∷ 74 ∷ []) ∷ [], 75 ∷ []) }
+    ensures two_lines { lines_heard [] (72 ∷ 13 ∷ 10 ∷ 73 ∷ 74 ∷ 13 ∷ 10 ∷ 75 ∷ []) ≡ ((72 ∷ []) ∷ (73 ∷ 74 ∷ []) ∷ [], 75 ∷ []) }
 
     // an empty line is a line
-    ensures empty_line { heard [] (13 ∷ 10 ∷ 13 ∷ 10 ∷ []) ≡ ([] ∷ [] ∷ [], []) }
+    ensures empty_line { lines_heard [] (13 ∷ 10 ∷ 13 ∷ 10 ∷ []) ≡ ([] ∷ [] ∷ [], []) }
 
     // neither a 10 alone, nor a 13 alone, nor the two in the other order end a line
-    ensures no_end { heard [] (72 ∷ 10 ∷ 13 ∷ 73 ∷ 10 ∷ 13 ∷ []) ≡ ([], 72 ∷ 10 ∷ 13 ∷ 73 ∷ 10 ∷ 13 ∷ []) }
+    ensures no_end { lines_heard [] (72 ∷ 10 ∷ 13 ∷ 73 ∷ 10 ∷ 13 ∷ []) ≡ ([], 72 ∷ 10 ∷ 13 ∷ 73 ∷ 10 ∷ 13 ∷ []) }
 
     // a 13 before the end is the line's own
-    ensures own_return { heard [] (72 ∷ 13 ∷ 13 ∷ 10 ∷ []) ≡ ((72 ∷ 13 ∷ []) ∷ [], []) }
+    ensures own_return { lines_heard [] (72 ∷ 13 ∷ 13 ∷ 10 ∷ []) ≡ ((72 ∷ 13 ∷ []) ∷ [], []) }
 
     // the end may come in two parts
-    ensures end_in_parts { heard (72 ∷ 13 ∷ []) (10 ∷ 73 ∷ []) ≡ ((72 ∷ []) ∷ [], 73 ∷ []) }
+    ensures end_in_parts { lines_heard (72 ∷ 13 ∷ []) (10 ∷ 73 ∷ []) ≡ ((72 ∷ []) ∷ [], 73 ∷ []) }
 
     // octets of any value are kept
-    ensures any_octet { heard [] (0 ∷ 255 ∷ 13 ∷ 10 ∷ []) ≡ ((0 ∷ 255 ∷ []) ∷ [], []) }
+    ensures any_octet { lines_heard [] (0 ∷ 255 ∷ 13 ∷ 10 ∷ []) ≡ ((0 ∷ 255 ∷ []) ∷ [], []) }
 {}
 
 /// What the echo service does, with the sockets 100 and 101.

@@ -7,7 +7,7 @@ use Rattle.std.proofs.lemmas.Bool.Decides.{nat_tests}
 use Rattle.std.proofs.lemmas.List.Folds.{list_any-append}
 use Rattle.std.specs.List.{list_all}
 use Rattle.leader1822.specs.Host.{Host, is_host, same_host}
-use Rattle.leader1822.proofs.Lists.{same_host-true, same_host-refl}
+use Rattle.leader1822.proofs.lemmas.{same_host-refl, same_host-true}
 use Rattle.topology.specs.declared.network.ImpHosts.{ImpHosts}
 use Rattle.topology.specs.Topology.{TopologyFields, IsTopology, has_host, host_if, hosts_below, hosts_of, is_imp}
 

@@ -5,19 +5,19 @@ use Rattle.std.proofs.lemmas.List.Sums.{sum_by-cons}
 use Rattle.std.proofs.lemmas.Bool.{cases_Bool, and_parts, false≢true}
 use Rattle.std.proofs.lemmas.Bool.Decides.{nat_tests}
 use Rattle.topology.specs.declared.network.ImpHosts.{ImpHosts}
-use Rattle.topology.specs.declared.network.Ends.{Ends}
+use Rattle.topology.specs.declared.network.LineEnds.{LineEnds}
 use Rattle.topology.specs.Topology.{IsTopology, TopologyFields, are_apart, has_ports, is_imp, is_line, is_there, line_count}
 
 abbrev one : Bool → ℕ
 one b = cond b 1 0
 
 -- how many ends of lines these IMPs have
-abbrev ends_of : List ImpHosts → List Ends → ℕ
+abbrev ends_of : List ImpHosts → List LineEnds → ℕ
 ends_of [] lines = 0
 ends_of (i ∷ imps) lines = line_count lines i.imp + ends_of imps lines
 
 -- and how many of one line
-abbrev ends_of_one : List ImpHosts → Ends → ℕ
+abbrev ends_of_one : List ImpHosts → LineEnds → ℕ
 ends_of_one [] line = 0
 ends_of_one (i ∷ imps) line = one (line.a == i.imp || line.b == i.imp) + ends_of_one imps line
 
@@ -26,10 +26,10 @@ abbrev named : List ImpHosts → ℕ → ℕ
 named [] n = 0
 named (i ∷ imps) n = one (n == i.imp) + named imps n
 
-ends_more : (imps : List ImpHosts) (line : Ends) (lines : List Ends) → ends_of imps (line ∷ lines) ≡ ends_of_one imps line + ends_of imps lines
+ends_more : (imps : List ImpHosts) (line : LineEnds) (lines : List LineEnds) → ends_of imps (line ∷ lines) ≡ ends_of_one imps line + ends_of imps lines
 ends_more [] line lines = refl
 ends_more (i ∷ imps) line lines =
-    let first : line_count (line ∷ lines) i.imp ≡ one (line.a == i.imp || line.b == i.imp) + line_count lines i.imp = sum_by-cons (λ (l : Ends). one (l.a == i.imp || l.b == i.imp)) line lines in
+    let first : line_count (line ∷ lines) i.imp ≡ one (line.a == i.imp || line.b == i.imp) + line_count lines i.imp = sum_by-cons (λ (l : LineEnds). one (l.a == i.imp || l.b == i.imp)) line lines in
     let rest : ends_of imps (line ∷ lines) ≡ ends_of_one imps line + ends_of imps lines = ends_more imps line lines in
     by (line_count (line ∷ lines) i.imp) (one (line.a == i.imp || line.b == i.imp)) (line_count lines i.imp) (ends_of imps (line ∷ lines)) (ends_of_one imps line) (ends_of imps lines) first rest
   where
@@ -62,7 +62,7 @@ apart_one false false apart = refl
 one_end : (a b n : ℕ) → (a == b) ≡ false → one (a == n || b == n) ≡ one (a == n) + one (b == n)
 one_end a b n apart = apart_one (a == n) (b == n) (λ e f. false≢true (sym apart ∙ eq-eqb a b (eqb-true a n e ∙ sym (eqb-true b n f))))
 
-both_ends : (imps : List ImpHosts) (line : Ends) → (line.a == line.b) ≡ false → ends_of_one imps line ≡ named imps line.a + named imps line.b
+both_ends : (imps : List ImpHosts) (line : LineEnds) → (line.a == line.b) ≡ false → ends_of_one imps line ≡ named imps line.a + named imps line.b
 both_ends [] line apart = refl
 both_ends (i ∷ imps) line apart =
     by (one (line.a == i.imp || line.b == i.imp)) (one (line.a == i.imp)) (one (line.b == i.imp)) (ends_of_one imps line) (named imps line.a) (named imps line.b)
@@ -76,7 +76,7 @@ no_true true e = absurd (false≢true e)
 no_true false e = refl
 
 -- each line has two ends
-two_each : (imps : List ImpHosts) (lines : List Ends) → list_all (is_line imps) lines ≡ true → 2 * length lines ≤ ends_of imps lines
+two_each : (imps : List ImpHosts) (lines : List LineEnds) → list_all (is_line imps) lines ≡ true → 2 * length lines ≤ ends_of imps lines
 two_each imps [] good = omega arith
 two_each imps (line ∷ lines) good =
     let all : (is_line imps line ≡ true) × (list_all (is_line imps) lines ≡ true) = and_parts (is_line imps line) (list_all (is_line imps) lines) good in
@@ -90,7 +90,7 @@ two_each imps (line ∷ lines) good =
     omega (arith, ends, a, b, rest, more)
 
 -- no IMP has more than five
-five_each : (imps : List ImpHosts) (lines : List Ends) → has_ports imps lines ≡ true → ends_of imps lines ≤ 5 * length imps
+five_each : (imps : List ImpHosts) (lines : List LineEnds) → has_ports imps lines ≡ true → ends_of imps lines ≤ 5 * length imps
 five_each [] lines few = omega arith
 five_each (i ∷ imps) lines few =
     let all : (nat_le (line_count lines i.imp) 5 ≡ true) × (has_ports imps lines ≡ true) = and_parts (nat_le (line_count lines i.imp) 5) (has_ports imps lines) few in

@@ -41,7 +41,7 @@ rest_rises : (i : ImpHosts) (imps : List ImpHosts) → IsRising (i ∷ imps) →
 rest_rises i [] rising = tt
 rest_rises i (j ∷ imps) rising = rising.1
 
-pub hosts_there : (imps : List ImpHosts) (n host : ℕ) → IsRising imps → has_host imps n host ≡ in_site (site_of imps n) host
+hosts_there : (imps : List ImpHosts) (n host : ℕ) → IsRising imps → has_host imps n host ≡ in_site (site_of imps n) host
 hosts_there [] n host rising = refl
 hosts_there (i ∷ imps) n host rising = elim (cases_Bool (i.imp == n)) [
   | inl same ↦ (

@@ -8,14 +8,14 @@ use Rattle.leader1822.specs.Host.{Host}
 use Rattle.topology.specs.declared.network.CarrierKind.{CarrierKind}
 use Rattle.topology.specs.declared.network.CarrierKind.TheVariants as kind
 use Rattle.topology.specs.declared.network.ImpHosts.{ImpHosts}
-use Rattle.topology.specs.declared.network.Ends.{Ends}
+use Rattle.topology.specs.declared.network.LineEnds.{LineEnds}
 
 -- a topology: what carries the messages, whether there are no host programs, the IMPs by rising number, and the lines in order
 pub record TopologyFields : Type 0 where
   pub carrier : CarrierKind
   pub raw : Bool
   pub imps : List ImpHosts
-  pub lines : List Ends
+  pub lines : List LineEnds
 
 -- ---- the limits
 
@@ -46,28 +46,28 @@ abbrev pub are_imps : List ImpHosts → Bool
 are_imps imps = nat_le 1 (length imps) && (nat_le (length imps) most_imps && list_all is_imp imps)
 
 -- a line joins two IMPs that are there
-abbrev pub is_line : List ImpHosts → Ends → Bool
+abbrev pub is_line : List ImpHosts → LineEnds → Bool
 is_line imps line = not (line.a == line.b) && (is_there imps line.a && is_there imps line.b)
 
 -- two lines join the same IMPs, in either direction
-abbrev pub joins_same : Ends → Ends → Bool
+abbrev pub joins_same : LineEnds → LineEnds → Bool
 joins_same line other = (other.a == line.a && other.b == line.b) || (other.a == line.b && other.b == line.a)
 
 -- no two lines join the same IMPs
-abbrev pub are_apart : List Ends → Bool
+abbrev pub are_apart : List LineEnds → Bool
 are_apart [] = true
 are_apart (line ∷ lines) = not (list_any (joins_same line) lines) && are_apart lines
 
 -- how many lines an IMP has
-abbrev pub line_count : List Ends → ℕ → ℕ
+abbrev pub line_count : List LineEnds → ℕ → ℕ
 line_count lines number = count_by (λ line. line.a == number || line.b == number) lines
 
 -- no IMP has more than five lines
-abbrev pub has_ports : List ImpHosts → List Ends → Bool
+abbrev pub has_ports : List ImpHosts → List LineEnds → Bool
 has_ports imps lines = list_all (λ i. nat_le (line_count lines i.imp) most_lines) imps
 
 -- the rules of lines
-abbrev pub are_lines : List ImpHosts → List Ends → Bool
+abbrev pub are_lines : List ImpHosts → List LineEnds → Bool
 are_lines imps lines = (list_all (is_line imps) lines && are_apart lines) && has_ports imps lines
 
 -- ---- order
@@ -137,7 +137,7 @@ imp_from None hosts = None
 imp_from (Some imp) None = None
 imp_from (Some imp) (Some hosts) = Some (record { imp = imp; hosts = hosts })
 
-abbrev pub line_from : Option ℕ → Option ℕ → Option Ends
+abbrev pub line_from : Option ℕ → Option ℕ → Option LineEnds
 line_from None b = None
 line_from (Some a) None = None
 line_from (Some a) (Some b) = Some (record { a = a; b = b })
@@ -147,18 +147,18 @@ abbrev pub imp_of : Data → Option ImpHosts
 imp_of d = if size d == 2 then imp_from (number_at (codes "id") d) (number_at (codes "hosts") d) else None
 
 -- a table with the keys `a` and `b` and no other
-abbrev pub line_of : Data → Option Ends
+abbrev pub line_of : Data → Option LineEnds
 line_of d = if size d == 2 then line_from (number_at (codes "a") d) (number_at (codes "b") d) else None
 
-abbrev pub joined : {X : Type 0} → Option X → Option (List X) → Option (List X)
-joined {X} None xs = None
-joined {X} (Some x) None = None
-joined {X} (Some x) (Some xs) = Some (x ∷ xs)
+abbrev pub joined_option : {X : Type 0} → Option X → Option (List X) → Option (List X)
+joined_option {X} None xs = None
+joined_option {X} (Some x) None = None
+joined_option {X} (Some x) (Some xs) = Some (x ∷ xs)
 
 -- what the items of an array describe, in order; none where one of them describes nothing
 abbrev pub each_of : {X : Type 0} → (Data → Option X) → Items → Option (List X)
 each_of {X} describes no_items = Some []
-each_of {X} describes (item d items) = joined (describes d) (each_of describes items)
+each_of {X} describes (item d items) = joined_option (describes d) (each_of describes items)
 
 abbrev pub all_of : {X : Type 0} → (Data → Option X) → Option Items → Option (List X)
 all_of {X} describes None = None
@@ -168,7 +168,7 @@ abbrev pub imps_of : Option Data → Option (List ImpHosts)
 imps_of None = None
 imps_of (Some d) = all_of imp_of (as_array d)
 
-abbrev pub lines_of : Option Data → Option (List Ends)
+abbrev pub lines_of : Option Data → Option (List LineEnds)
 lines_of None = Some []
 lines_of (Some d) = all_of line_of (as_array d)
 
@@ -195,12 +195,12 @@ topology_if true n = Some n
 topology_if false n = None
 
 -- the topology of these IMPs and lines, where they keep the rules
-abbrev pub topology_by : CarrierKind → Bool → List ImpHosts → List Ends → Option TopologyFields
+abbrev pub topology_by : CarrierKind → Bool → List ImpHosts → List LineEnds → Option TopologyFields
 topology_by carrier raw imps lines =
     topology_if (all_placed imps && (are_imps (by_number imps) && are_lines (by_number imps) lines))
     (record { carrier = carrier; raw = raw; imps = by_number imps; lines = lines })
 
-abbrev pub topology_from : Option CarrierKind → Option Bool → Option (List ImpHosts) → Option (List Ends) → Option TopologyFields
+abbrev pub topology_from : Option CarrierKind → Option Bool → Option (List ImpHosts) → Option (List LineEnds) → Option TopologyFields
 topology_from None raw imps lines = None
 topology_from (Some carrier) None imps lines = None
 topology_from (Some carrier) (Some raw) None lines = None

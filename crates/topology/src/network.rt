@@ -44,7 +44,7 @@ pub struct ImpHosts {
 
 /// The two IMPs that a line joins.
 #[derive(Clone, Copy, Debug, PartialEq, Eq)]
-pub struct Ends {
+pub struct LineEnds {
     /// The number of its first IMP.
     pub a: u8,
     /// The number of its second IMP.
@@ -58,7 +58,7 @@ pub struct Topology {
     carrier: CarrierKind,
     raw: bool,
     imps: Vec<ImpHosts>,
-    lines: Vec<Ends>,
+    lines: Vec<LineEnds>,
 }
 
 impl Model for Topology {
@@ -196,7 +196,7 @@ impl Topology {
     }
 
     /// The lines, in the order of the document: 40 at most. They are numbered from 0.
-    pub fn lines(&self) -> &[Ends]
+    pub fn lines(&self) -> &[LineEnds]
         ensures all { result.now ≡ self.now.lines }
         ensures few { length result.now ≤ 40 }
     {
@@ -204,7 +204,7 @@ impl Topology {
     }
 }
 
-/// Why a text is no document, as a fault of a topology: only want of memory is told as such.
+/// Why a text is not a document, as a fault of a topology: only running out of memory is told as such.
 fn fault_of(error: &toml::de::Error) -> TopologyFault
     ensures memory { (result ≡ TopologyFault.OutOfMemory) ↔ IsMemory error.now }
 {
@@ -294,13 +294,13 @@ fn imp_of(value: &Value) -> Option<ImpHosts>
 }
 
 /// The line that a table with the keys `a` and `b` describes.
-fn line_of(value: &Value) -> Option<Ends>
+fn line_of(value: &Value) -> Option<LineEnds>
     ensures { result ≡ line_of (view value.now) }
 {
     if size(value) != 2 {
         return None;
     }
-    Some(Ends {
+    Some(LineEnds {
         a: number_at(value, "a")?,
         b: number_at(value, "b")?,
     })
@@ -335,7 +335,7 @@ fn each_imp(alloc: Global, values: &[Value]) -> Result<Vec<ImpHosts>, TopologyFa
 }
 
 /// The lines of a document, in its order. There are none where it has no key for them.
-fn lines_of(alloc: Global, document: &Value) -> Result<Vec<Ends>, TopologyFault>
+fn lines_of(alloc: Global, document: &Value) -> Result<Vec<LineEnds>, TopologyFault>
     ensures { DescribedIn (lines_of (get (codes "line") (view document.now))) result }
 {
     let Some(listed) = document.get("line") else {
@@ -348,7 +348,7 @@ fn lines_of(alloc: Global, document: &Value) -> Result<Vec<Ends>, TopologyFault>
 }
 
 /// The lines that these values describe.
-fn each_line(alloc: Global, values: &[Value]) -> Result<Vec<Ends>, TopologyFault>
+fn each_line(alloc: Global, values: &[Value]) -> Result<Vec<LineEnds>, TopologyFault>
     ensures { DescribedIn (each_of line_of (items_view values.now)) result }
 {
     let mut lines = Vec::new(alloc);
@@ -390,28 +390,28 @@ fn is_there(imps: &[ImpHosts], number: u8) -> bool
 }
 
 /// Whether lines join IMPs that are there, no two the same, and no IMP has more than five.
-fn are_lines(imps: &[ImpHosts], lines: &[Ends]) -> bool
+fn are_lines(imps: &[ImpHosts], lines: &[LineEnds]) -> bool
     ensures { result ≡ are_lines imps.now lines.now }
 {
     join_imps(imps, lines) && are_apart(lines) && has_ports(imps, lines)
 }
 
 /// Whether each of these lines joins two IMPs that are there.
-fn join_imps(imps: &[ImpHosts], lines: &[Ends]) -> bool
+fn join_imps(imps: &[ImpHosts], lines: &[LineEnds]) -> bool
     ensures { result ≡ list_all (is_line imps.now) lines.now }
 {
     lines.iter().all(|line| is_line(imps, line))
 }
 
 /// Whether a line joins two IMPs that are there.
-fn is_line(imps: &[ImpHosts], line: &Ends) -> bool
+fn is_line(imps: &[ImpHosts], line: &LineEnds) -> bool
     ensures { result ≡ is_line imps.now line.now }
 {
     line.a != line.b && is_there(imps, line.a) && is_there(imps, line.b)
 }
 
 /// Whether no two of these lines join the same IMPs.
-fn are_apart(lines: &[Ends]) -> bool
+fn are_apart(lines: &[LineEnds]) -> bool
     ensures { result ≡ are_apart lines.now }
 {
     match lines.split_first() {
@@ -421,7 +421,7 @@ fn are_apart(lines: &[Ends]) -> bool
 }
 
 /// Whether one of these lines joins the same IMPs as this one.
-fn is_joined(lines: &[Ends], line: &Ends) -> bool
+fn is_joined(lines: &[LineEnds], line: &LineEnds) -> bool
     ensures { result ≡ list_any (joins_same line.now) lines.now }
 {
     lines.iter().any(|other| (other.a == line.a && other.b == line.b)
@@ -429,7 +429,7 @@ fn is_joined(lines: &[Ends], line: &Ends) -> bool
 }
 
 /// Whether no IMP has more than five lines.
-fn has_ports(imps: &[ImpHosts], lines: &[Ends]) -> bool
+fn has_ports(imps: &[ImpHosts], lines: &[LineEnds]) -> bool
     ensures { result ≡ has_ports imps.now lines.now }
 {
     imps.iter()
@@ -437,7 +437,7 @@ fn has_ports(imps: &[ImpHosts], lines: &[Ends]) -> bool
 }
 
 /// How many of these lines end at an IMP.
-fn line_count(lines: &[Ends], number: u8) -> usize
+fn line_count(lines: &[LineEnds], number: u8) -> usize
     ensures { result ≡ line_count lines.now number }
 {
     lines

@@ -12,7 +12,7 @@ use Rattle.leader1822.specs.declared.crossing.Crossing.TheVariants as crossing
 use Rattle.leader1822.specs.declared.crossing.Inbound.{Inbound}
 use Rattle.leader1822.specs.declared.event.NetEvent.{NetEvent}
 use Rattle.leader1822.specs.declared.message.HostMessage.{HostMessage}
-use Rattle.host_services.specs.Services.{DeskState, ServicesState, opening_desk}
+use Rattle.host_services.specs.Services.{ServiceDeskState, ServicesState, opening_desk}
 use Rattle.host_services.specs.Turns as services
 use Rattle.sockets.specs.Pairs.{NcpState}
 use Rattle.sockets.specs.Requests.{refusal, served, served_notices}
@@ -22,16 +22,16 @@ use Rattle.sockets.specs.declared.fault.NcpFault.{NcpFault}
 use Rattle.sockets.specs.declared.fault.NcpFault.TheVariants as problem
 use Rattle.host_pairs.specs.declared.notice.Notice.{Notice}
 use Rattle.sockets.specs.declared.request.Request.{Request}
-use Rattle.net_sim.specs.Book.{Kept, crossed, all_crossed, told, all_told, asked, all_asked}
+use Rattle.net_sim.specs.Book.{Kept, crossed, all_crossed, book_told, all_told, asked, all_asked}
 use Rattle.net_sim.specs.declared.event.WorldFault.{WorldFault}
 use Rattle.net_sim.specs.declared.event.WorldFault.TheVariants.{Carrier, Program}
 use Rattle.net_sim.specs.declared.event.Event.{Event}
 use Rattle.net_sim.specs.declared.event.Event.TheVariants.{Net, Quiet, Offer, Take, Ask, Server, User, Typed}
 use Rattle.net_sim.specs.declared.seat.Seat.{Seat}
-use Rattle.net_sim.specs.World.{Calls, WorldState, seat_of, services_of, noticed, turn_of, done_by, with_carrier, moved, changed, served_at, with_server, with_user, TypeGives, DoesOrHalts, Refuses, Does, Halts, Passes, OfferEnds, OfferGives, TakeEnds, TakeGives, NetEnds, QuietEnds, AskGives, AtProgram, AtSeat, EventGives, StepGives, stops}
+use Rattle.net_sim.specs.World.{Calls, WorldState, seat_of, services_of, noticed, turn_of, done_by, with_carrier, world_moved, changed, served_at, with_server, with_user, TypeGives, DoesOrHalts, Refuses, Does, Halts, Passes, OfferEnds, OfferGives, TakeEnds, TakeGives, NetEnds, QuietEnds, AskGives, AtProgram, AtSeat, EventGives, StepGives, stops}
 use Rattle.sockets.specs.declared.request.Request.TheVariants as request
 use Rattle.host_services.specs.TypedLines.{line_bits}
-use Rattle.net_sim.proofs.Refusals.{step_stands}
+use Rattle.net_sim.proofs.lemmas.{step_stands}
 use Rattle.world_replay.specs.Gains.{Gains}
 use Rattle.world_replay.proofs.News.{AreAbout, AreBetween, between_append, between_wider}
 use Rattle.world_replay.proofs.Reports.{about_append, about_wider, told_about}
@@ -62,7 +62,7 @@ more_reports old new g =
 abbrev pub gains_none : (k : Kept) → Gains k k
 gains_none k = record { crossings = []; notices = []; reports = []; crossed = refl; told = sym (append-nil k.book.notices); said = sym (append-nil k.book.reports) }
 
-pub gains_same : (old new : Kept) → new ≡ old → Gains old new
+gains_same : (old new : Kept) → new ≡ old → Gains old new
 gains_same old new is = subst (Gains old) (sym is) (gains_none old)
 
 pub grew_none : (k : Kept) → Grew k k
@@ -90,7 +90,7 @@ grew_more old mid new h k = record {
 grew_crossed : (c : Crossing) (k : Kept) → Grew k (crossed c k)
 grew_crossed c k = record { gains = record { crossings = c ∷ []; notices = []; reports = []; crossed = refl; told = sym (append-nil k.book.notices); said = sym (append-nil k.book.reports) }; between = tt; about = tt }
 
-grew_told : (h : Host) (n : Notice) (k : Kept) → Grew k (told h n k)
+grew_told : (h : Host) (n : Notice) (k : Kept) → Grew k (book_told h n k)
 grew_told h n k = record {
   gains = record { crossings = []; notices = record { host = h; place = length k.book.crossings; notice = n } ∷ []; reports = []; crossed = refl; told = refl; said = sym (append-nil k.book.reports) };
   between = (omega arith, omega arith, tt);
@@ -99,7 +99,7 @@ grew_told h n k = record {
 
 grew_all_told : (h : Host) (ns : List Notice) (k : Kept) → Grew k (all_told h ns k)
 grew_all_told h [] k = grew_none k
-grew_all_told h (n ∷ ns) k = grew_more k (told h n k) (all_told h ns (told h n k)) (grew_told h n k) (grew_all_told h ns (told h n k))
+grew_all_told h (n ∷ ns) k = grew_more k (book_told h n k) (all_told h ns (book_told h n k)) (grew_told h n k) (grew_all_told h ns (book_told h n k))
 
 grew_all_crossed : (cs : List Crossing) (k : Kept) → Grew k (all_crossed cs k)
 grew_all_crossed [] k = grew_none k
@@ -128,17 +128,17 @@ asked_same h (r ∷ rs) k =
 -- notices count up, and are no reports
 told_reports : (h : Host) (ns : List Notice) (k : Kept) → (all_told h ns k).book.reports ≡ k.book.reports
 told_reports h [] k = refl
-told_reports h (n ∷ ns) k = told_reports h ns (told h n k)
+told_reports h (n ∷ ns) k = told_reports h ns (book_told h n k)
 
 told_count : (h : Host) (ns : List Notice) (k : Kept) → length (all_told h ns k).book.notices ≡ length k.book.notices + length ns
 told_count h [] k = omega arith
 told_count h (n ∷ ns) k =
-    let one : length (told h n k).book.notices ≡ length k.book.notices + 1 = length-append k.book.notices (record { host = h; place = length k.book.crossings; notice = n } ∷ []) in
-    let more : length (all_told h ns (told h n k)).book.notices ≡ length (told h n k).book.notices + length ns = told_count h ns (told h n k) in
+    let one : length (book_told h n k).book.notices ≡ length k.book.notices + 1 = length-append k.book.notices (record { host = h; place = length k.book.crossings; notice = n } ∷ []) in
+    let more : length (all_told h ns (book_told h n k)).book.notices ≡ length (book_told h n k).book.notices + length ns = told_count h ns (book_told h n k) in
     omega (arith, one, more)
 
 -- a book that grew by no report, and then by what services did, who were told of its new notices
-grew_done : (k j : Kept) (h : Host) (d : DeskState) → Grew k j → j.book.reports ≡ k.book.reports → AreAbout (length k.book.notices) (length j.book.notices) d.reports → Grew k (done_by h d j)
+grew_done : (k j : Kept) (h : Host) (d : ServiceDeskState) → Grew k j → j.book.reports ≡ k.book.reports → AreAbout (length k.book.notices) (length j.book.notices) d.reports → Grew k (done_by h d j)
 grew_done k j h d g none about =
     let same : SameNews j (all_asked h d.asked j) = asked_same h d.asked j in
     record {
@@ -155,7 +155,7 @@ grew_done k j h d g none about =
     }
 
 -- the same of a new service, which is about no notice
-gains_done : (k : Kept) (h : Host) (d : DeskState) → Gains k (done_by h d k)
+gains_done : (k : Kept) (h : Host) (d : ServiceDeskState) → Gains k (done_by h d k)
 gains_done k h d =
     let same : SameNews k (all_asked h d.asked k) = asked_same h d.asked k in
     record {
@@ -207,7 +207,7 @@ module _ {C : Type 0} (calls : Calls C) where
       → OfferEnds h s m answer c old r new → Grew old.kept new.kept
   offer_end h s m (Ok done) c old r new ends = elim ends [
     | inl d ↦ let turn : NcpState × List Notice = offered s (length old.kept.book.crossings) in
-        does_grow old (moved c h (crossing.Out m) turn old) r new (grew_moved h (crossing.Out m) turn.1 (services_of h old.services) turn.0 old.kept) d
+        does_grow old (world_moved c h (crossing.Out m) turn old) r new (grew_moved h (crossing.Out m) turn.1 (services_of h old.services) turn.0 old.kept) d
     | inr x ↦ halts_grow c old r new x
   ]
   offer_end h s m (Err e) c old r new ends = passes_grow e c old r new ends
@@ -221,7 +221,7 @@ module _ {C : Type 0} (calls : Calls C) where
   take_end h s (Ok None) c old r new ends = does_grow old (with_carrier c old) r new (grew_none old.kept) ends
   take_end h s (Ok (Some i)) c old r new ends = elim ends [
     | inl d ↦ let turn : NcpState × List Notice = accepted s i (length old.kept.book.crossings) in
-        does_grow old (moved c h (crossing_of i) turn old) r new (grew_moved h (crossing_of i) turn.1 (services_of h old.services) turn.0 old.kept) d
+        does_grow old (world_moved c h (crossing_of i) turn old) r new (grew_moved h (crossing_of i) turn.1 (services_of h old.services) turn.0 old.kept) d
     | inr x ↦ halts_grow c old r new x
   ]
   take_end h s (Err e) c old r new ends = passes_grow e c old r new ends
@@ -269,7 +269,7 @@ module _ {C : Type 0} (calls : Calls C) where
 
   -- ---- a server or a user begins
 
-  begun : (h : Host) (t : ServicesState × DeskState) (old done : WorldState C) (r : Result (Unit {0}) WorldFault) (new : WorldState C) → done.kept ≡ done_by h t.1 old.kept → DoesOrHalts done old r new → Gains old.kept new.kept
+  begun : (h : Host) (t : ServicesState × ServiceDeskState) (old done : WorldState C) (r : Result (Unit {0}) WorldFault) (new : WorldState C) → done.kept ≡ done_by h t.1 old.kept → DoesOrHalts done old r new → Gains old.kept new.kept
   begun h t old done r new is ends = elim ends [
     | inl d ↦ subst (Gains old.kept) (sym (ap (λ (w : WorldState C). w.kept) d.1 ∙ is)) (gains_done old.kept h t.1)
     | inr x ↦ gains_same old.kept new.kept x.kept

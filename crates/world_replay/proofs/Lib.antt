@@ -3,3 +3,4 @@ pub mod News
 pub mod Replays
 pub mod Reports
 pub mod Steady
+pub mod lemmas

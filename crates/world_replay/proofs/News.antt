@@ -7,10 +7,9 @@ use Rattle.host_services.specs.declared.report.Reported.{Reported}
 use Rattle.leader1822.specs.Printed.{crossing_text}
 use Rattle.leader1822.specs.declared.crossing.Crossing.{Crossing}
 use Rattle.net_sim.specs.declared.book.Told.{Told}
-use Rattle.replay.proofs.InTurn.{text_of-append}
-use Rattle.replay.proofs.Shown.{appends_more, appends_none}
+use Rattle.replay.proofs.lemmas.{appends_more, appends_none, text_of-append}
 use Rattle.replay.specs.InTurn.{text_of}
-use Rattle.script.specs.Input.{ended}
+use Rattle.script.specs.Input.{ended_line}
 use Rattle.world_replay.specs.Output.{Shown, Crossed, Noticed, Said, Refused, crossings_of, shown_text, output, place_of, shown_crossings, shown_in_turn, shown_notices, told_in_turn}
 use Rattle.world_replay.specs.Printed.{reported_text, told_text}
 use Rattle.world_replay.specs.Steps.{Fronts}
@@ -20,7 +19,7 @@ output-append xs ys = text_of-append shown_text xs ys
 
 pub crossings_text : (cs : List Crossing) → output (shown_crossings cs) ≡ text_of crossing_text cs
 crossings_text [] = refl
-crossings_text (c ∷ cs) = ap (λ xs. ended (crossing_text c) ++ xs) (crossings_text cs)
+crossings_text (c ∷ cs) = ap (λ xs. ended_line (crossing_text c) ++ xs) (crossings_text cs)
 
 -- ---- crossings and news in turn
 
@@ -37,7 +36,7 @@ pub fronts_none : (before : ℕ) (crossings : List Crossing) (a : Option (List �
 fronts_none before crossings a = record { shown = []; whole = λ more. refl; written = appends_none a }
 
 -- some news, and then others
-pub fronts_more : (first mid last : ℕ) (crossings left rest : List Crossing) (xs ys : List Shown) (a b c : Option (List ℕ)) → Fronts first crossings xs mid left a b → Fronts mid left ys last rest b c → Fronts first crossings (xs ++ ys) last rest a c
+fronts_more : (first mid last : ℕ) (crossings left rest : List Crossing) (xs ys : List Shown) (a b c : Option (List ℕ)) → Fronts first crossings xs mid left a b → Fronts mid left ys last rest b c → Fronts first crossings (xs ++ ys) last rest a c
 fronts_more first mid last crossings left rest xs ys a b c h k = record {
   shown = h.shown ++ k.shown;
   whole = λ more. ap (shown_in_turn first crossings) (append_assoc xs ys more) ∙ h.whole (ys ++ more) ∙ ap (λ zs. h.shown ++ zs) (k.whole more) ∙ sym (append_assoc h.shown k.shown (shown_in_turn last rest more));
@@ -45,15 +44,15 @@ fronts_more first mid last crossings left rest xs ys a b c h k = record {
 }
 
 -- one piece of news behind the crossings that were before it
-one_front : (before : ℕ) (crossings : List Crossing) (s : Shown) (a b c : Option (List ℕ)) → Appends a b (output (shown_crossings (take (place_of s - before) crossings))) → Appends b c (ended (shown_text s))
+one_front : (before : ℕ) (crossings : List Crossing) (s : Shown) (a b c : Option (List ℕ)) → Appends a b (output (shown_crossings (take (place_of s - before) crossings))) → Appends b c (ended_line (shown_text s))
     → Fronts before crossings (s ∷ []) (max before (place_of s)) (drop (place_of s - before) crossings) a c
 one_front before crossings s a b c crossed told =
     let front : List Shown = shown_crossings (take (place_of s - before) crossings) in
-    let line : output (s ∷ []) ≡ ended (shown_text s) = append-nil (ended (shown_text s)) in
+    let line : output (s ∷ []) ≡ ended_line (shown_text s) = append-nil (ended_line (shown_text s)) in
     record {
       shown = front ++ s ∷ [];
       whole = λ more. sym (append_assoc front (s ∷ []) (shown_in_turn (max before (place_of s)) (drop (place_of s - before) crossings) more));
-      written = subst (Appends a c) (sym (output-append front (s ∷ []) ∙ ap (λ xs. output front ++ xs) line)) (appends_more a b c (output front) (ended (shown_text s)) crossed told);
+      written = subst (Appends a c) (sym (output-append front (s ∷ []) ∙ ap (λ xs. output front ++ xs) line)) (appends_more a b c (output front) (ended_line (shown_text s)) crossed told);
     }
 
 max_zero : (n : ℕ) → max n 0 ≡ n
@@ -63,7 +62,7 @@ minus_zero : (n : ℕ) → 0 - n ≡ 0
 minus_zero n = omega arith
 
 -- a report wants no crossings before it
-pub report_front : (before : ℕ) (crossings : List Crossing) (r : Reported) (a b : Option (List ℕ)) → Appends a b (ended (reported_text r)) → Fronts before crossings (Said r ∷ []) before crossings a b
+report_front : (before : ℕ) (crossings : List Crossing) (r : Reported) (a b : Option (List ℕ)) → Appends a b (ended_line (reported_text r)) → Fronts before crossings (Said r ∷ []) before crossings a b
 report_front before crossings r a b told =
     let none : shown_crossings (take (0 - before) crossings) ≡ [] = ap (λ n. shown_crossings (take n crossings)) (minus_zero before) in
     let here : Fronts before crossings (Said r ∷ []) (max before 0) (drop (0 - before) crossings) a b =
@@ -74,7 +73,7 @@ report_front before crossings r a b told =
 -- notices up to this one
 pub notice_front : (first before later : ℕ) (crossings left rest : List Crossing) (notices : List Told) (i : ℕ) (t : Told) (a b c d : Option (List ℕ)) → i < length notices → t ≡ get_or notices i t
     → later ≡ max before t.place → rest ≡ drop (t.place - before) left
-    → Fronts first crossings (shown_notices (take i notices)) before left a b → Appends b c (output (shown_crossings (take (t.place - before) left))) → Appends c d (ended (told_text t))
+    → Fronts first crossings (shown_notices (take i notices)) before left a b → Appends b c (output (shown_crossings (take (t.place - before) left))) → Appends c d (ended_line (told_text t))
     → Fronts first crossings (shown_notices (take (i + 1) notices)) later rest a d
 notice_front first before later crossings left rest notices i t a b c d lt is latest rests h crossed told =
     let one : Fronts before left (Noticed t ∷ []) (max before t.place) (drop (t.place - before) left) b d = one_front before left (Noticed t) b c d crossed told in
@@ -94,7 +93,7 @@ no_reports start notices reports first crossings a = record { news = []; whole =
 
 pub one_report : (start : ℕ) (notices : List Told) (reports : List Reported) (first : ℕ) (crossings : List Crossing) (i counted : ℕ) (waiting front rest : List Told) (r : Reported) (count before later : ℕ) (left less : List Crossing) (a b c d : Option (List ℕ))
     → i < length reports → r ≡ get_or reports i r → count ≡ min (r.notices - counted) (length waiting) → front ≡ take count waiting → rest ≡ drop count waiting
-    → Reports start notices reports first crossings i counted waiting before left a b → Fronts before left (shown_notices front) later less b c → Appends c d (ended (reported_text r))
+    → Reports start notices reports first crossings i counted waiting before left a b → Fronts before left (shown_notices front) later less b c → Appends c d (ended_line (reported_text r))
     → Reports start notices reports first crossings (i + 1) (max counted r.notices) rest later less a d
 one_report start notices reports first crossings i counted waiting front rest r count before later left less a b c d lt is cut fronts rests h told said =
     let next : drop i reports ≡ r ∷ drop (i + 1) reports = drop_more reports i r lt ∙ ap (λ (x : Reported). x ∷ drop (i + 1) reports) (sym is) in
@@ -141,7 +140,7 @@ crossings_again [] = refl
 crossings_again (c ∷ cs) = ap (λ xs. c ∷ xs) (crossings_again cs)
 
 -- news are no crossings
-abbrev pub AreNews : List Shown → Type 0
+abbrev AreNews : List Shown → Type 0
 AreNews [] = Unit {0}
 AreNews (Crossed c ∷ xs) = ⊥
 AreNews (Noticed t ∷ xs) = AreNews xs

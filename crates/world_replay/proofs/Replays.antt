@@ -9,7 +9,7 @@ use Rattle.net_sim.specs.World as world
 use Rattle.net_sim.specs.World.{Calls, WorldState, stops}
 use Rattle.net_sim.specs.declared.event.WorldFault.{WorldFault}
 use Rattle.replay.specs.InTurn.{HappensOnce, ShowsFront}
-use Rattle.replay.proofs.InTurn.{ends_front, in_turn_once}
+use Rattle.replay.proofs.lemmas.{appends_more, ends_front, in_turn_once}
 use Rattle.replay.specs.Settled.{AreSettled, Grows}
 use Rattle.world_script.specs.declared.event.WorldEvent.{WorldEvent}
 use Rattle.world_script.specs.declared.event.WorldEvent.TheVariants as event
@@ -17,8 +17,7 @@ use Rattle.world_replay.specs.Gains.{Gains, news}
 use Rattle.world_replay.specs.Output.{Shown, crossings_of, output, shown_in_turn, shown_refusal, told_in_turn}
 use Rattle.world_replay.specs.Replay.{EndsIn, EventGives, Happens, Replays, StopsIn}
 use Rattle.world_replay.specs.Settled.{carried}
-use Rattle.net_sim.proofs.Always.{calm_keeps}
-use Rattle.replay.proofs.Shown.{appends_more}
+use Rattle.net_sim.proofs.lemmas.{calm_keeps}
 use Rattle.replay.specs.declared.events.ReplayFault.{ReplayFault}
 use Rattle.replay.specs.declared.events.ReplayFault.TheVariants as fault
 use Rattle.world_replay.specs.Steps.{EventEnds}
@@ -47,7 +46,7 @@ same_news : (old new other : Kept) (g : Gains old new) (k : Gains old other) →
 same_news old new other g k same =
     ap (λ cs. news old cs g.notices g.reports) same.crossings ∙ ap (λ ns. news old k.crossings ns g.reports) same.notices ∙ ap (λ rs. news old k.crossings k.notices rs) same.reports
 
-pub gains_once : (old new other : Kept) (g : Gains old new) (k : Gains old other) → new ≡ other → SameGains g k
+gains_once : (old new other : Kept) (g : Gains old new) (k : Gains old other) → new ≡ other → SameGains g k
 gains_once old new other g k same =
     let both : reverse g.crossings ++ old.book.crossings ≡ reverse k.crossings ++ old.book.crossings = sym g.crossed ∙ ap (λ (x : Kept). x.book.crossings) same ∙ k.crossed in
     let told : old.book.notices ++ g.notices ≡ old.book.notices ++ k.notices = sym g.told ∙ ap (λ (x : Kept). x.book.notices) same ∙ k.told in
@@ -93,7 +92,7 @@ gained_more old mid new g k =
     (told_begin (length mid.book.crossings) (length new.book.crossings) (length mid.book.notices) (length new.book.notices) k.gains.notices k.gains.reports (noticed mid new k.gains) k.between k.about)
 
 -- where memory ran out, what is shown is the first part of what is shown where it doesn't
-pub stops_front : {C : Type 0} (calls : Calls C) → AreSettled (carried calls) → ShowsFront (StopsIn calls) (Happens calls)
+stops_front : {C : Type 0} (calls : Calls C) → AreSettled (carried calls) → ShowsFront (StopsIn calls) (Happens calls)
 stops_front {C} calls settled old (event.Happen e) new other part whole h k =
     let stood : SameGains h.gains (gains_none old.kept) = gains_once old.kept new.kept old.kept h.gains (gains_none old.kept) (step_kept calls e old h.outcome new h.gives h.stops) in
     (whole, ap (λ xs. xs ++ whole) (sym (h.lines ∙ same_news old.kept new.kept old.kept h.gains (gains_none old.kept) stood)))
@@ -152,7 +151,7 @@ event_gains {C} calls (event.Calm rounds) old r new h =
     grew.gains
 
 -- the crossings, notices and reports behind those of before are what the book gained
-pub news_is : (old new : Kept) (g : Gains old new) (crossed told said : ℕ) → crossed ≡ length old.book.crossings → told ≡ length old.book.notices → said ≡ length old.book.reports
+news_is : (old new : Kept) (g : Gains old new) (crossed told said : ℕ) → crossed ≡ length old.book.crossings → told ≡ length old.book.notices → said ≡ length old.book.reports
     → shown_in_turn crossed (drop crossed (reverse new.book.crossings)) (told_in_turn told (drop told new.book.notices) (drop said new.book.reports)) ≡ gained g
 news_is old new g crossed told said is same alike =
     let whole : reverse new.book.crossings ≡ reverse old.book.crossings ++ g.crossings =
@@ -204,7 +203,7 @@ event_ends contents calls old e outcome new (Err fault.CannotWrite) crossed told
 same_growth : {C : Type 0} (own : world.Calls C) (old new : C) → Grows (carried own) old new → Grows (carried (shown own)) old new
 same_growth own old new g = record { crossings = g.crossings; grown = g.grown }
 
-pub shown_settled : {C : Type 0} (own : world.Calls C) → AreSettled (carried own) → AreSettled (carried (shown own))
+shown_settled : {C : Type 0} (own : world.Calls C) → AreSettled (carried own) → AreSettled (carried (shown own))
 shown_settled own s = record {
   offers_once = λ old m r q new other h hg k kg. s.offers_once old m r q new other h.0 hg k.0 kg;
   takes_once = λ old g r q new other h hg k kg. s.takes_once old g r q new other h.0 hg k.0 kg;

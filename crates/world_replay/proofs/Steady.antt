@@ -11,7 +11,7 @@ use Rattle.leader1822.specs.declared.crossing.Inbound.{Inbound}
 use Rattle.leader1822.specs.declared.event.NetEvent.{NetEvent}
 use Rattle.leader1822.specs.declared.message.HostMessage.{HostMessage}
 use Rattle.net_sim.specs.Book.{Kept}
-use Rattle.net_sim.specs.World.{Calls, WorldState, seat_of, services_of, up_in, with_carrier, moved, changed, with_server, with_user, TypeGives, DoesOrHalts, stops, wants_memory, Refuses, Does, Halts, Passes, OfferEnds, OfferGives, TakeEnds, TakeGives, NetEnds, QuietEnds, AskGives, AtProgram, AtSeat, EventGives, StepGives, Repeats, TurnsOf, Calms, CalmGives}
+use Rattle.net_sim.specs.World.{Calls, WorldState, seat_of, services_of, up_in, with_carrier, world_moved, changed, with_server, with_user, TypeGives, DoesOrHalts, stops, wants_memory, Refuses, Does, Halts, Passes, OfferEnds, OfferGives, TakeEnds, TakeGives, NetEnds, QuietEnds, AskGives, AtProgram, AtSeat, EventGives, StepGives, Repeats, TurnsOf, Calms, CalmGives}
 use Rattle.net_sim.specs.declared.event.Event.{Event}
 use Rattle.net_sim.specs.declared.event.Event.TheVariants.{Net, Quiet, Offer, Take, Ask, Server, User, Typed}
 use Rattle.net_sim.specs.declared.event.WorldFault.{WorldFault}
@@ -32,7 +32,7 @@ use Rattle.world_replay.proofs.Grown.{Grew, begins, grew_more, grew_same, step_g
 
 -- ---- what goes one way
 
--- what ends so goes one way, want of memory aside; the book only grows by it; and where memory ran out, the book can only grow
+-- what ends so goes one way, running out of memory aside; the book only grows by it; and where memory ran out, the book can only grow
 -- to what it is where it didn't
 pub record Steady {C : Type 0} (k : Kept) (P : Result (Unit {0}) WorldFault → WorldState C → Type 0) : Type 0 where
   pub once : (r q : Result (Unit {0}) WorldFault) (new other : WorldState C) → P r new → stops r ≡ false → P q other → stops q ≡ false → (r ≡ q) × (new ≡ other)
@@ -54,7 +54,7 @@ steady_done {C} done = record {
 abbrev pub Onward : {C : Type 0} → (WorldState C → Result (Unit {0}) WorldFault → WorldState C → Type 0) → Result (Unit {0}) WorldFault → WorldState C → Result (Unit {0}) WorldFault → WorldState C → Type 0
 Onward Next a mid r new = MatchBool (stops a) ((r ≡ a) × (new ≡ mid)) (Next mid r new)
 
-abbrev pub Then : {C : Type 0} → (Result (Unit {0}) WorldFault → WorldState C → Type 0) → (WorldState C → Result (Unit {0}) WorldFault → WorldState C → Type 0) → Result (Unit {0}) WorldFault → WorldState C → Type 0
+abbrev Then : {C : Type 0} → (Result (Unit {0}) WorldFault → WorldState C → Type 0) → (WorldState C → Result (Unit {0}) WorldFault → WorldState C → Type 0) → Result (Unit {0}) WorldFault → WorldState C → Type 0
 Then {C} P Next r new = (a : Result (Unit {0}) WorldFault) × (mid : WorldState C) × P a mid × Onward Next a mid r new
 
 on_either : {A B X : Type 0} (b : Bool) → (b ≡ true → A → X) → (b ≡ false → B → X) → MatchBool b A B → X
@@ -87,7 +87,7 @@ module _ {C : Type 0} (k : Kept) (P : Result (Unit {0}) WorldFault → WorldStat
       let same : (a ≡ b) × (mid ≡ mid') = sp.once a b mid mid' p s p' on'.0 in
       (sn mid).first r q new other n halts (subst (λ (m : WorldState C). Next m q other) (sym same.1) on'.1) goes) h
 
-  pub steady_then : Steady k (Then P Next)
+  steady_then : Steady k (Then P Next)
   steady_then = record {
     once = λ r q new other h hg l lg. then_once r q new other h hg l lg;
     grows = λ r new h. then_grows r new h;
@@ -153,12 +153,9 @@ halts_stop c old r new h goes = no_stop r (ap stops h.answer ∙ memory_stops h.
 -- ---- one event
 
 module _ {C : Type 0} (calls : Calls C) (settled : AreSettled (carried calls)) where
-  does_kept : (done : WorldState C) (r : Result (Unit {0}) WorldFault) (new : WorldState C) → Does done r new → stops r ≡ true → ⊥
-  does_kept done r new h halts = no_stop r halts (ap stops h.0)
-
   -- an offer
   abbrev offered_to : Host → NcpState → HostMessage → WorldState C → Unit {0} → C → WorldState C
-  offered_to h s m old done c = moved c h (crossing.Out m) (offered s (length old.kept.book.crossings)) old
+  offered_to h s m old done c = world_moved c h (crossing.Out m) (offered s (length old.kept.book.crossings)) old
 
   offer_ends : (h : Host) (s : NcpState) (m : HostMessage) (old : WorldState C) (a : Result (Unit {0}) CarrierFault) (c : C) (r : Result (Unit {0}) WorldFault) (new : WorldState C) → calls.offers old.carrier m a c → OfferEnds h s m a c old r new
       → stops r ≡ false → Ends (calls.offers old.carrier m) (offered_to h s m old) old r new
@@ -182,7 +179,7 @@ module _ {C : Type 0} (calls : Calls C) (settled : AreSettled (carried calls)) w
   -- a taking
   abbrev taken_by : Host → NcpState → WorldState C → Option Inbound → C → WorldState C
   taken_by h s old None c = with_carrier c old
-  taken_by h s old (Some i) c = moved c h (crossing_of i) (accepted s i (length old.kept.book.crossings)) old
+  taken_by h s old (Some i) c = world_moved c h (crossing_of i) (accepted s i (length old.kept.book.crossings)) old
 
   take_ends : (h : Host) (s : NcpState) (old : WorldState C) (a : Result (Option Inbound) CarrierFault) (c : C) (r : Result (Unit {0}) WorldFault) (new : WorldState C) → calls.takes old.carrier h a c → TakeEnds h s a c old r new
       → stops r ≡ false → Ends (calls.takes old.carrier h) (taken_by h s old) old r new

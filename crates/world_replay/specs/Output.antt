@@ -57,7 +57,7 @@ told_in_turn before notices [] = shown_notices notices
 told_in_turn before notices (r ∷ reports) =
     shown_notices (take (r.notices - before) notices) ++ Said r ∷ told_in_turn (max before r.notices) (drop (r.notices - before) notices) reports
 
--- how many crossings stood in the book before something that isn't a crossing. A report follows its notice, and wants none
+-- how many crossings stood in the book before something that isn't a crossing. A report follows its notice, and needs none
 abbrev pub place_of : Shown → ℕ
 place_of (Crossed c) = 0
 place_of (Noticed t) = t.place

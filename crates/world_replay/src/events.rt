@@ -47,6 +47,7 @@ pub fn replay_events<C: Carrier, W: Write>(
     ensures cannot_write { result ≡ Err ReplayFault.CannotWrite → (lines : List Shown) × EndsIn (shown (record { seen = C.seen; offers = C.offers; takes = C.takes; steps = C.steps; rounds = C.rounds })) (MayDo (shown (record { seen = C.seen; offers = C.offers; takes = C.takes; steps = C.steps; rounds = C.rounds }))) world.old events.items world.new lines }
 {
     let outcome = replay_in_turn(world, events, writer);
+    // for the proof alone: the promise about messages is a clause of `World::book`
     let _book = world.book();
     outcome
 }

@@ -4,7 +4,7 @@ ghost use Rattle.std.specs.Prelude.{◌≡◌, ◌↔◌, ◌≤◌, ◌-◌, Er
 ghost use Rattle.std.specs.Io.KnownBytes.{Appends};
 ghost use Rattle.host_services.specs.declared.report.Report.TheVariants as report;
 ghost use Rattle.net_sim.specs.World.{stops};
-ghost use Rattle.script.specs.Input.{ended};
+ghost use Rattle.script.specs.Input.{ended_line};
 ghost use Rattle.world_replay.specs.Output.{lives_output, output, shown_crossings, shown_in_turn, shown_notices, shown_refusal, told_in_turn};
 ghost use Rattle.world_replay.specs.Printed.{problem_name, refusal_name, report_text, reported_text, shown_octet};
 ghost use Rattle.world_replay.specs.Steps.{Fronts};
@@ -112,7 +112,7 @@ fn print_notices<W: Write>(
 
 /// Prints what a service reports.
 fn print_report<W: Write>(reported: &Reported, writer: &mut W) -> Result<(), ReplayFault>
-    ensures written { OnOk result (Appends (W.contents writer.old) (W.contents writer.new) (ended (reported_text reported.now))) }
+    ensures written { OnOk result (Appends (W.contents writer.old) (W.contents writer.new) (ended_line (reported_text reported.now))) }
     ensures fault { IfErr result (λ f. f ≡ ReplayFault.CannotWrite) }
 {
     let host = &reported.host;
@@ -142,7 +142,7 @@ fn print_report<W: Write>(reported: &Reported, writer: &mut W) -> Result<(), Rep
 /// Prints a line that came to a terminal, behind the terminal's host. An octet that is no printing character of ASCII
 /// is printed as a question mark.
 fn print_line<W: Write>(host: &HostAddr, octets: &[u8], writer: &mut W) -> Result<(), ReplayFault>
-    ensures written { OnOk result (Appends (W.contents writer.old) (W.contents writer.new) (ended (report_text host.now (report.Line octets.now)))) }
+    ensures written { OnOk result (Appends (W.contents writer.old) (W.contents writer.new) (ended_line (report_text host.now (report.Line octets.now)))) }
     ensures fault { IfErr result (λ f. f ≡ ReplayFault.CannotWrite) }
 {
     check_written(write!(writer, "line {host} "))?;
@@ -195,7 +195,7 @@ pub(crate) fn print_refusal<W: Write>(
     check_written(writeln!(writer, "refused {name}"))
 }
 
-/// The name of a refusal. `None` where want of memory has stopped the world.
+/// The name of a refusal. `None` where running out of memory has stopped the world.
 fn name_of(fault: WorldFault) -> Option<&'static str>
     ensures name { IfSome result (λ name. name.now ≡ refusal_name fault) }
     ensures goes_on { IsSome result ↔ (stops (Err fault) ≡ false) }
@@ -206,7 +206,7 @@ fn name_of(fault: WorldFault) -> Option<&'static str>
     }
 }
 
-/// The name of a refusal by a host's program. `None` for want of memory.
+/// The name of a refusal by a host's program. `None` if memory ran out.
 fn program_refusal(fault: NcpFault) -> Option<&'static str>
     ensures name { IfSome result (λ name. name.now ≡ problem_name fault) }
     ensures goes_on { IsSome result ↔ (stops (Err (WorldFault.Program fault)) ≡ false) }

@@ -1,3 +1,4 @@
 mod Lines
 mod Requests
 pub mod WorldOnce
+pub mod lemmas

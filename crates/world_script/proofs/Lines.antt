@@ -10,9 +10,8 @@ use Rattle.leader1822.specs.declared.event.NetEvent.TheVariants as net
 use Rattle.net_sim.specs.declared.event.Event.TheVariants as event
 use Rattle.script.specs.Spelling.{IsHost, IsNetEvent, ReadsAs, net_spelling}
 use Rattle.script.specs.Steps.{Lacks}
-use Rattle.script.specs.declared.event.Event.TheVariants as raw
-use Rattle.script.proofs.Keywords.{keyword, made, operand, plain, spelled, text_of, unmarked_where}
-use Rattle.script.proofs.Words.{SameCut, same_cut, uncut}
+use Rattle.script.specs.declared.event.RawEvent.TheVariants as raw
+use Rattle.script.proofs.lemmas.{SameCut, keyword, made, operand, plain, same_cut, spelled, text_of, uncut, unmarked_where}
 use Rattle.terminal.specs.Lines.{is_printable, line_fault}
 use Rattle.terminal.specs.declared.fault.TerminalFault.{TerminalFault}
 use Rattle.terminal.specs.declared.fault.TerminalFault.TheVariants as fault

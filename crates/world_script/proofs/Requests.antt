@@ -7,10 +7,7 @@ use Rattle.leader1822.specs.Host.{Host}
 use Rattle.leader1822.specs.Printed.{host_text}
 use Rattle.script.specs.Spelling.{IsHost, ReadsAs, octets_text}
 use Rattle.script.specs.Steps.{Lacks}
-use Rattle.script.proofs.Hosts.{host_unmarked}
-use Rattle.script.proofs.Keywords.{unmarked_where}
-use Rattle.script.proofs.Numbers.{All-unmarked_decimal}
-use Rattle.script.proofs.Words.{SameCut, not_back, not_cut, not_front, same_cut}
+use Rattle.script.proofs.lemmas.{All-unmarked_decimal, SameCut, host_unmarked, not_back, not_cut, not_front, same_cut, unmarked_where}
 use Rattle.sockets.specs.declared.request.Request.{Request}
 use Rattle.sockets.specs.declared.request.Request.TheVariants as request
 use Rattle.world_script.specs.Steps.{AreThree, AreTwo, arguments, three_text, two_text, verb_of, verb_text}
@@ -23,7 +20,7 @@ use Rattle.world_script.specs.declared.verb.Verb.TheVariants as verb
 number_unmarked : (n limit : ℕ) → limit < 2 ^ 32 → n ≤ limit → Lacks 32 (decimal n)
 number_unmarked n limit few small = All-unmarked_decimal 32 n (lit< tt) (omega arith)
 
-pub wide_unmarked : (n : ℕ) → n < 2 ^ 32 → Lacks 32 (decimal n)
+wide_unmarked : (n : ℕ) → n < 2 ^ 32 → Lacks 32 (decimal n)
 wide_unmarked n small = All-unmarked_decimal 32 n (lit< tt) (omega arith)
 
 -- words without a space don't begin with a host and a space
@@ -122,7 +119,7 @@ verb_again verb.Interrupt z = refl
 verb_again verb.Close z = refl
 
 -- words that are the arguments of no operand of a verb are those of no request of that verb
-pub no_request : (v : Verb) (words : List ℕ) → ((z : OperandOf v) → IsRequest (request_of v z) → words ≢ arguments (request_of v z)) → (r : Request) → IsRequest r → verb_of r ≡ v → words ≢ arguments r
+no_request : (v : Verb) (words : List ℕ) → ((z : OperandOf v) → IsRequest (request_of v z) → words ≢ arguments (request_of v z)) → (r : Request) → IsRequest r → verb_of r ≡ v → words ≢ arguments r
 no_request v words none r meant same e =
     let F : Verb → Type 0 = λ w. (z : OperandOf w) → IsRequest (request_of w z) → words ≢ arguments (request_of w z) in
     let there : F (verb_of r) = subst F (sym same) none in

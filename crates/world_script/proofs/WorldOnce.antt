@@ -6,10 +6,8 @@ use Rattle.leader1822.specs.Host.{Host}
 use Rattle.leader1822.specs.Printed.{host_text}
 use Rattle.leader1822.specs.declared.event.NetEvent.{NetEvent}
 use Rattle.script.specs.Spelling.{IsHost, octets_text}
-use Rattle.script.specs.declared.event.Event.TheVariants as raw
-use Rattle.script.proofs.Hosts.{host_unmarked}
-use Rattle.script.proofs.OneReading.{asked_once_as, event_once, host_once, text_once}
-use Rattle.script.proofs.Words.{SameCut, same_cut}
+use Rattle.script.specs.declared.event.RawEvent.TheVariants as raw
+use Rattle.script.proofs.lemmas.{SameCut, asked_once_as, event_once, host_once, host_unmarked, same_cut, text_once}
 use Rattle.world_script.specs.Steps.{arguments, three_text, two_text}
 use Rattle.world_script.specs.WorldScript.{AskFor}
 use Rattle.world_script.specs.WorldSpelling.{IsRequest, IsWorldEvent, world_spelling}

@@ -5,10 +5,10 @@ use Rattle.script.specs.declared.fault.LineFault.{LineFault}
 use Rattle.world_script.specs.WorldSpelling.{IsWorldEvent, WantsMemory, world_spelling}
 use Rattle.world_script.specs.declared.event.WorldEvent.{WorldEvent}
 
--- the lines that are not passed over spell these events, in order
+-- the lines that are not ignored spell these events, in order
 abbrev pub AskFor : List WorldEvent → List (List ℕ) → Type 0
 AskFor events lines = AskForAs world_spelling IsWorldEvent events lines
 
--- why a script has no events: its first bad line, or want of memory
+-- why a script has no events: its first bad line, or that memory ran out
 abbrev pub IsLineFault : List ℕ → LineFault → Type 0
 IsLineFault text f = IsLineFaultAs world_spelling IsWorldEvent WantsMemory text f

@@ -91,6 +91,6 @@ pub record IsSendRead (line : List ℕ) : Type 0 where
   pub few : count < 2 ^ 32
   pub hex : IsHex word
 
--- memory is wanted to read the octets to send, and to keep an event
+-- memory is needed to read the octets to send, and to keep an event
 abbrev pub WantsMemory : List ℕ → Type 0
 WantsMemory line = IsSendRead line ⊎ ((e : WorldEvent) × (line ≡ world_spelling e) × IsWorldEvent e)

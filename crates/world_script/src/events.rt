@@ -18,11 +18,11 @@ use script::reading::{cut, first_line, is_passed_over, plain_number, read_host, 
 use script::{LineFault, MAX_INPUT};
 use std::alloc::{AllocError, Global};
 
-/// The events of a world's script, in order. Empty lines and lines that begin with `#` are passed over, but
+/// The events of a world's script, in order. Empty lines and lines that begin with `#` are ignored, but
 /// they are counted.
 ///
-/// Errors: `BadLine` with the number of the first line, counted from 1, that is no event. `OutOfMemory` only
-/// at a line that wants memory, an event or a `send` whose octets are hexadecimal, with no bad line before it.
+/// Errors: `BadLine` with the number of the first line, counted from 1, that is not an event. `OutOfMemory` only
+/// at a line that needs memory, an event or a `send` whose octets are hexadecimal, with no bad line before it.
 pub fn read_world_script(alloc: Global, text: &[u8]) -> Result<Vec<WorldEvent>, LineFault>
     requires { length text.now ≤ MAX_INPUT }
     ensures { MatchResult result (λ events. AskFor events.items (lines_of text.now)) (IsLineFault text.now) }

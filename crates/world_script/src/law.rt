@@ -6,7 +6,7 @@ ghost use Rattle.world_script.specs.WorldScript.{AskFor};
 ghost use Rattle.world_script.specs.WorldSpelling.{IsWorldEvent, world_spelling};
 ghost use Rattle.world_script.specs.declared.event.WorldEvent.{WorldEvent};
 
-/// There is one reading: a line settles its event, and lines ask for one list of events.
+/// There is one reading: a line determines its event, and lines ask for one list of events.
 pub fn one_reading()
     ensures event { (event other : WorldEvent) → IsWorldEvent event → IsWorldEvent other → world_spelling event ≡ world_spelling other → event ≡ other }
     ensures events { (lines : List (List ℕ)) (events others : List WorldEvent) → AskFor events lines → AskFor others lines → events ≡ others }

@@ -25,7 +25,7 @@ fn second() -> HostAddr
 }
 
 /// A world of 0/1 and 0/2 in which nothing has happened.
-pub(crate) fn world(alloc: Global) -> Result<World<PlainBoxes>, AllocError> {
+fn world(alloc: Global) -> Result<World<PlainBoxes>, AllocError> {
     let mut hosts = Vec::new(alloc);
     hosts.push(first())?;
     hosts.push(second())?;
@@ -36,6 +36,12 @@ pub(crate) fn world(alloc: Global) -> Result<World<PlainBoxes>, AllocError> {
 /// crosses before it stops.
 const CALLS: &str =
     "contact 0/1 0/2\noffer 0/1\ntake 0/2\noffer 0/2\ntake 0/1\ntake 0/1\ntake 0/2\nlisten 0/2 33 8\nopenrecv 0/1 0/2 16 33\noffer 0/1\ntake 0/2\noffer 0/2\ntake 0/1\ntake 0/1\nopensend 0/1 0/2 17 18 8\nsend 0/2 33 16 4142\ngrant 0/1 16 65535 8\ngrant 0/1 16 1 0\naskback 0/1 16 128 128\necho 0/1 0/2 65\ninterrupt 0/1 16\nclose 0/1 16\nhostdown 0/2\ntake 0/2\n";
+
+/// Services fail as they begin; then a line that is typed goes to a server and comes back. It is the stored input
+/// `cases/scenes_show_what_was_written_down/a_server_a_user_and_a_terminal`, whose calms are here the single events of which
+/// the output tells there; and so do the counts, by its lines.
+const SERVICES: &str =
+    "type 0/1 A\nserver 0/2 8 100\nuser 0/1 0/2 7 16\nserver 0/3 7 100\nserver 0/2 7 100\ncontact 0/1 0/2\noffer 0/1\ntake 0/2\noffer 0/2\ntake 0/1\ntake 0/1\ntake 0/2\nuser 0/1 0/2 7 18\noffer 0/1\ntake 0/2\noffer 0/2\ntake 0/1\ntake 0/1\noffer 0/1\ntake 0/2\ntake 0/2\noffer 0/2\ntake 0/1\ntake 0/1\noffer 0/1\ntake 0/2\ntake 0/2\noffer 0/2\ntake 0/1\ntake 0/1\noffer 0/1\ntake 0/2\ntake 0/2\noffer 0/2\ntake 0/1\ntake 0/1\ntake 0/2\ntype 0/1 A ~\noffer 0/1\ntake 0/2\noffer 0/2\noffer 0/2\ntake 0/1\ntake 0/1\ntake 0/1\noffer 0/1\ntake 0/2\ntake 0/2\ntake 0/2\ntake 0/1\nhostdown 0/1\ntype 0/1 A\n";
 
 /// The events of a script, without its calms, and a quiet round behind them. `None` where the script is bad or memory runs
 /// out.
@@ -112,11 +118,13 @@ fn outcome(alloc: Global, script: &str, way: Way) -> Option<Outcome> {
 }
 
 /// Scripts, how their events happen, and what comes of them.
-const ROWS: [(&str, Way, Refused, [usize; 5]); 4] = [
+const ROWS: [(&str, Way, Refused, [usize; 5]); 5] = [
     // a grant past what a counter holds is refused by a program, and a host that is down by the carrier
     (CALLS, Way::Steps, [1, 1], [12, 4, 1, 2, 16]),
-    // a run passes over them
+    // a run continues after them
     (CALLS, Way::Run, [0, 0], [12, 4, 1, 2, 16]),
+    // a line where no terminal came is refused by a program, a host that isn't there and one that is down by the carrier
+    (SERVICES, Way::Steps, [2, 1], [43, 16, 1, 6, 32]),
     // 0/1 has nothing to take and offers its RST; then 0/2 takes it and offers its RRP
     ("contact 0/1 0/2", Way::Calm(1), [0, 0], [3, 1, 1, 0, 0]),
     ("contact 0/1 0/2", Way::Calm(3), [0, 0], [6, 2, 1, 0, 0]),

@@ -1,14 +1,15 @@
-//! Worked examples of hosts with their programs over plain mailboxes.
+//! Worked examples of hosts with their programs over plain mailboxes, and of the lines of their scripts.
 //!
 //! A contract says what a call does on every value. It can't say that this is what was meant, nor that
 //! memory is left for the call. So worlds of two hosts are led through events here, each call of a world among them,
-//! and what comes of it is compared with what was written down before.
+//! and lines are read; and what comes of it is compared with what was written down before. Lines that are refused, and
+//! what a replay prints, are stored inputs, in `cases/`.
 //!
 //! The tests stand in a crate of their own, since a crate with tests is proved twice, with them and without
-//! them. What a scene shows is a text, so that a test compares one value, which is cheap to prove.
+//! them. A test compares one plain value, which is cheap to prove.
 #![tactic(auto)]
 
 #[cfg(test)]
 mod calls;
 #[cfg(test)]
-mod scenes;
+mod lines;

@@ -10,7 +10,7 @@ use Rattle.imp_channel.specs.declared.line.Received.{Received}
 use Rattle.imp_channel.specs.declared.line.Received.TheVariants as received
 use Rattle.imp_node.specs.State.{State}
 use Rattle.imp_node.specs.Room.{queue_has_room}
-use Rattle.imp_node.specs.Flows.{noted, queued, answer_packet}
+use Rattle.imp_node.specs.Flows.{noted, message_queued, answer_packet}
 use Rattle.imp_node.specs.Pump.{stored}
 use Rattle.imp_node.specs.Arrival.{Arrival, Passing, Old, Undeliverable, Piece, NoSlot, Whole, Unmarked, Answering, arrival, arrival_has_room}
 
@@ -40,4 +40,4 @@ turned_away f n s = stored (answer_packet kind.Dead f n) (noted f n (record s { 
 -- a body is whole
 abbrev pub completed : Flow → ℕ → List Bool → State → State
 completed f n body s =
-    if has_mark body then queued (record { flow = f; number = n; text = text_of body }) (noted f n s) else noted f n s
+    if has_mark body then message_queued (record { flow = f; number = n; text = text_of body }) (noted f n s) else noted f n s

@@ -3,7 +3,7 @@ use Rattle.std.specs.Prelude.{◌≡◌, Bool, true, false, not, List, [], ◌�
 use Rattle.std.specs.FinMap as map
 use Rattle.leader1822.specs.Host.{Host, is_host}
 use Rattle.leader1822.specs.Flow.{flow_cmp}
-use Rattle.leader1822.specs.Boxes.{Boxes, WaitingAnswer, for_host, queued_if, is_rfnm, is_running, offered, taken, given_up, host_stopped, host_started}
+use Rattle.leader1822.specs.Boxes.{Boxes, WaitingAnswer, for_host, queued_if, is_rfnm, is_running, offered, inbound_taken, given_up, host_stopped, host_started}
 use Rattle.leader1822.specs.Inside.Named.{IsNamed}
 use Rattle.leader1822.specs.Inside.Soundness.{texts_for, kinds_for, IsSound}
 use Rattle.leader1822.specs.declared.address.Flow.{Flow}
@@ -76,9 +76,9 @@ held_offered c m = record {
 
 abbrev pub held_taken : Held → Host → Option Inbound → Held
 held_taken c h None = c
-held_taken c h (Some (inbound.Answer kind f)) = record { boxes = taken c.boxes h (Some (inbound.Answer kind f)); flows = map.remove c.flows f }
+held_taken c h (Some (inbound.Answer kind f)) = record { boxes = inbound_taken c.boxes h (Some (inbound.Answer kind f)); flows = map.remove c.flows f }
 held_taken c h (Some (inbound.Message m)) = record {
-  boxes = taken c.boxes h (Some (inbound.Message m));
+  boxes = inbound_taken c.boxes h (Some (inbound.Message m));
   flows = put c.flows m.flow (answer_if (is_running c.boxes.hosts c.boxes.down m.flow.source) answer.Rfnm);
 }
 
@@ -91,14 +91,14 @@ cleared flows [] = flows
 cleared flows (a ∷ answers) = cleared (map.remove flows a.1) answers
 
 -- Dead waits of the flows of these messages, where their sources run
-abbrev pub turned : List Host → List Host → Flows → List HostMessage → Flows
-turned hosts down flows [] = flows
-turned hosts down flows (m ∷ ms) = turned hosts down (put flows m.flow (answer_if (is_running hosts down m.flow.source) answer.Dead)) ms
+abbrev pub flows_dead : List Host → List Host → Flows → List HostMessage → Flows
+flows_dead hosts down flows [] = flows
+flows_dead hosts down flows (m ∷ ms) = flows_dead hosts down (put flows m.flow (answer_if (is_running hosts down m.flow.source) answer.Dead)) ms
 
 abbrev pub held_stopped : Held → Host → Held
 held_stopped c h = record {
   boxes = host_stopped c.boxes h;
-  flows = turned c.boxes.hosts (c.boxes.down ++ h ∷ []) (cleared c.flows (for_host c.boxes.answers h)) (for_host c.boxes.messages h);
+  flows = flows_dead c.boxes.hosts (c.boxes.down ++ h ∷ []) (cleared c.flows (for_host c.boxes.answers h)) (for_host c.boxes.messages h);
 }
 
 abbrev pub held_started : Held → Host → Held

@@ -59,7 +59,7 @@ pub record IsSound (b : Boxes) : Type 0 where
   pub run : IsRun b.hosts b.log
   pub matches : b.stopped ≡ false → Matches b
 
--- where memory was wanted, what waits may be anything, and hosts and log stand
+-- where memory ran out, what waits may be anything, and hosts and log stay
 pub record KeepsLog (old new : Boxes) : Type 0 where
   pub hosts : new.hosts ≡ old.hosts
   pub log : new.log ≡ old.log

@@ -115,7 +115,7 @@ pub(super) fn is_written_as(
 }
 
 /// Whether a command is written as these octets, has their number, is read from them, and from no
-/// shorter front of them.
+/// shorter prefix of them.
 fn agreement(alloc: Global, command: Command, spelling: &[u8]) -> Result<[bool; 4], ControlFault> {
     Ok([
         is_written_as(alloc, command, spelling)?,

@@ -1,4 +1,4 @@
-//! The header in front of data.
+//! The header that precedes data.
 
 use bit_messages::{BitFault, Bits};
 use ncp_control::DataHeader;

@@ -5,8 +5,8 @@ use Rattle.leader1822.specs.Host.{Host}
 use Rattle.net_sim.specs.World.{Calls, WorldState, WorldFault, Quiet, Offer, Take, StepGives, Repeats, TurnsOf, stops, up_in}
 
 -- a host takes up to 16 times, and then offers up to 32 times
-abbrev pub Turn : {C : Type 0} → Calls C → Host → WorldState C → Result (Unit {0}) WorldFault → WorldState C → Type 0
-Turn {C} calls h old r new =
+abbrev pub CalmTurn : {C : Type 0} → Calls C → Host → WorldState C → Result (Unit {0}) WorldFault → WorldState C → Type 0
+CalmTurn {C} calls h old r new =
     (first : Result (Unit {0}) WorldFault) × (taken : WorldState C) × Repeats calls (Take h) 16 old first taken
     × MatchBool (stops first) ((r ≡ first) × (new ≡ taken)) (Repeats calls (Offer h) 32 taken r new)
 

@@ -25,11 +25,11 @@ begun x l = record { lives = l.lives ++ x ∷ []; handed = l.handed ++ [] ∷ []
 abbrev pub crossed : Crossing → LivesState → LivesState
 crossed c l = record { lives = lives_crossed c l.lives; handed = l.handed }
 
-abbrev pub ended : Ending → LivesState → LivesState
-ended e l = record { lives = where_it (ends e) book.ended l.lives; handed = l.handed }
+abbrev pub lives_state_ended : Ending → LivesState → LivesState
+lives_state_ended e l = record { lives = where_it (ends e) book.life_ended l.lives; handed = l.handed }
 
-abbrev pub told : Host → Notice → LivesState → LivesState
-told h n l = record { lives = lives_told h n l.lives; handed = handed_told n l.handed }
+abbrev pub lives_state_told : Host → Notice → LivesState → LivesState
+lives_state_told h n l = record { lives = lives_told h n l.lives; handed = handed_told n l.handed }
 
 abbrev pub asked : Host → Request → LivesState → LivesState
 asked h r l = record { lives = lives_asked h r l.lives; handed = handed_asked h r l.lives l.handed }
@@ -41,7 +41,7 @@ all_crossed (c ∷ cs) l = all_crossed cs (crossed c l)
 
 abbrev pub all_told : List Told → LivesState → LivesState
 all_told [] l = l
-all_told (t ∷ ts) l = all_told ts (told t.host t.notice l)
+all_told (t ∷ ts) l = all_told ts (lives_state_told t.host t.notice l)
 
 abbrev pub asked_by : Option (Host × Request) → LivesState → LivesState
 asked_by None l = l

@@ -8,7 +8,7 @@ use Rattle.leader1822.specs.declared.event.NetEvent.{NetEvent}
 use Rattle.leader1822.specs.declared.event.Direction.{Direction}
 use Rattle.imp_channel.specs.declared.frame.Frame.{Frame}
 use Rattle.imp_node.specs.declared.outgoing.Outgoing.{Outgoing}
-use Rattle.imp_node.specs.State.{State, HostState, Turn, number}
+use Rattle.imp_node.specs.State.{State, HostState, ImpTurn, number}
 use Rattle.imp_node.specs.Arrival.{from_line, from_line_refusal, ignored}
 use Rattle.imp_node.specs.Offering.{from_host, from_host_refusal, from_host_grows}
 use Rattle.imp_node.specs.Lines.{resend, route, end_down, end_down_refusal, end_up, end_up_refusal}
@@ -35,7 +35,7 @@ call_refusal (call.Abandon f) s = abandon_refusal s f
 call_refusal (call.HostDown h) s = host_down_refusal s h
 call_refusal (call.HostUp h) s = host_up_refusal s h
 
-abbrev pub call_turn : ImpCall → State → Turn
+abbrev pub call_turn : ImpCall → State → ImpTurn
 call_turn (call.Offer m) s = from_host s m
 call_turn (call.Arrive k f) s = from_line s k f
 call_turn call.Resend s = resend s
@@ -72,15 +72,15 @@ abbrev pub AreLive : List (Option State) → Type 0
 AreLive imps = (i : ℕ) → IsLive i (imp_at imps i)
 
 -- the IMPs after a call of one of them, if that is up, and the frames that it puts on lines
-abbrev pub imp_by : Option State → (State → Turn) → Option State
+abbrev pub imp_by : Option State → (State → ImpTurn) → Option State
 imp_by None call = None
 imp_by (Some s) call = Some (call s).state
 
-abbrev pub imps_by : List (Option State) → ℕ → Option State → (State → Turn) → List (Option State)
+abbrev pub imps_by : List (Option State) → ℕ → Option State → (State → ImpTurn) → List (Option State)
 imps_by imps i None call = imps
 imps_by imps i (Some s) call = slice_set imps i (Some (call s).state)
 
-abbrev pub frames_by : Option State → (State → Turn) → List Outgoing
+abbrev pub frames_by : Option State → (State → ImpTurn) → List Outgoing
 frames_by None call = []
 frames_by (Some s) call = (call s).frames
 
@@ -95,22 +95,22 @@ abbrev pub Fails : {A : Type 0} → Option CarrierFault → Bool → Bool → Ca
 Fails refusal grows true e old new = (refusal ≡ None) × (grows ≡ true)
 Fails refusal grows false e old new = (refusal ≡ Some e) × (new ≡ old)
 
--- A call that is refused for `refusal`, and else gives a value with this property. A refusal changes nothing. Want of memory
+-- A call that is refused for `refusal`, and else gives a value with this property. A refusal changes nothing. Running out of memory
 -- comes last, only where something grows
-abbrev pub Ends : {A T : Type 0} → Option CarrierFault → Bool → (T → Type 0) → A → A → Result T CarrierFault → Type 0
-Ends refusal grows Gives old new (Ok x) = (refusal ≡ None) × Gives x
-Ends refusal grows Gives old new (Err e) = Fails refusal grows (is_memory e) e old new
+abbrev pub CallEnds : {A T : Type 0} → Option CarrierFault → Bool → (T → Type 0) → A → A → Result T CarrierFault → Type 0
+CallEnds refusal grows Gives old new (Ok x) = (refusal ≡ None) × Gives x
+CallEnds refusal grows Gives old new (Err e) = Fails refusal grows (is_memory e) e old new
 
 -- a call of IMP `i`, if it is up
 abbrev pub Makes : ℕ → ImpCall → Net → Net → Result (Unit {0}) CarrierFault → Type 0
 Makes i c old new r =
-    Ends (at_up (imp_at old.imps i) (call_refusal c)) (grows_at (imp_at old.imps i) (call_grows c)) (λ done. new ≡ at_imp (imp_at old.imps i) i (call_turn c) old) old new r
+    CallEnds (at_up (imp_at old.imps i) (call_refusal c)) (grows_at (imp_at old.imps i) (call_grows c)) (λ done. new ≡ at_imp (imp_at old.imps i) i (call_turn c) old) old new r
 
--- an event
+-- an event is refused, or gives the subnet that is `stepped`
 abbrev pub Steps : NetEvent → Net → Net → Result (Unit {0}) CarrierFault → Type 0
-Steps e old new r = Ends (step_refusal old e) (step_grows old e) (λ done. new ≡ stepped old e) old new r
+Steps e old new r = CallEnds (step_refusal old e) (step_grows old e) (λ done. new ≡ stepped old e) old new r
 
--- want of memory
+-- whether memory ran out in a call
 abbrev pub runs_out : {T : Type 0} → Result T CarrierFault → Bool
 runs_out (Ok x) = false
 runs_out (Err e) = is_memory e

@@ -11,13 +11,13 @@ use Rattle.subnet.specs.declared.seeking.Sought.TheVariants as sought
 use Rattle.subnet.specs.Net.{Net}
 use Rattle.subnet.specs.Alive.{anywhere}
 
--- in an IMP
+-- what is sought is in an IMP
 abbrev pub imp_has : Sought → State → Bool
 imp_has (sought.Message f n) s = holds s f n
 imp_has (sought.Between from to) s = holds_data s from to
 imp_has (sought.Touching i) s = touches s i
 
--- in a frame
+-- a packet is what is sought
 abbrev pub packet_is : Sought → PacketFields → Bool
 packet_is (sought.Message f n) p = packet_has f n p
 packet_is (sought.Between from to) p = is_data_between from to p
@@ -26,6 +26,6 @@ packet_is (sought.Touching i) p = packet_touches i p
 abbrev pub frame_has : Sought → Frame → Bool
 frame_has q f = list_any (packet_is q) (carried_by f.content)
 
--- anywhere
+-- what is sought is anywhere in the subnet
 abbrev pub found : Sought → Net → Bool
 found q n = anywhere n (imp_has q) (packet_is q)

@@ -1,5 +1,5 @@
 use Rattle.std.proofs.Common.{Err, ap, inr}
-use Rattle.replay.proofs.Shown.{on_ok}
+use Rattle.replay.proofs.lemmas.{on_ok}
 use Rattle.replay.specs.Replay.{Calls}
 use Rattle.command_line.proofs.Faults.{told_memory}
 use Rattle.command_line.proofs.Written.{world_writes_all, world_writes_part}

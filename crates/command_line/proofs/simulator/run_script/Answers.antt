@@ -1,5 +1,5 @@
 use Rattle.std.proofs.Common.{subst}
-use Rattle.replay.proofs.Shown.{on_ok}
+use Rattle.replay.proofs.lemmas.{on_ok}
 use Rattle.command_line.specs.Events.{asked_of}
 use Rattle.command_line.specs.Input.{IsInput}
 use Rattle.command_line.proofs.Faults.{known_read, write_fault}

@@ -1,6 +1,6 @@
 use Rattle.std.proofs.Common.{[]}
 use Rattle.std.specs.List.{Contains}
-use Rattle.flow_law.specs.Moves.{Makes, Either, after}
+use Rattle.flow_law.specs.Moves.{Makes, Either, view_moved}
 use Rattle.flow_law.specs.Runs.{ByTest}
 use Rattle.flow_law.proofs.Clauses.{invariant_less, none_there}
 use Rattle.flow_law.proofs.AllMoves.{invariant_after}
@@ -20,4 +20,4 @@ pub returns-clause-opening : goal.returns-clause-opening
 returns-clause-opening c = λ test start o. opening_invariant start (Contains []) o none_there
 
 pub returns-clause-kept : goal.returns-clause-kept
-returns-clause-kept c = λ test v alive turn h is. invariant_less (after turn.move v) (Either (Contains alive) (Makes (ByTest test) turn.move v)) (Contains turn.left) is.left (invariant_after turn.move v (Contains alive) is.needs h)
+returns-clause-kept c = λ test v alive turn h is. invariant_less (view_moved turn.move v) (Either (Contains alive) (Makes (ByTest test) turn.move v)) (Contains turn.left) is.left (invariant_after turn.move v (Contains alive) is.needs h)

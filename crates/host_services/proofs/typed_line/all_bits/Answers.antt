@@ -1,7 +1,7 @@
 use Rattle.std.proofs.Common.{rules, ◌≡◌, ◌*◌, length, take, ◌∙◌, arith}
 use Rattle.std.proofs.lemmas.List.{take_all}
 use Rattle.bit_messages.specs.Octets.{bits_of}
-use Rattle.bit_messages.proofs.OctetLemmas.{length-bits_of}
+use Rattle.bit_messages.proofs.lemmas.{length-bits_of}
 use Rattle.host_services.proofs.typed_line.all_bits.Goals as goal
 
 pub returns-in-Ok : goal.returns-in-Ok

@@ -4,7 +4,7 @@ use Rattle.std.proofs.lemmas.List.{length-reverse}
 use Rattle.leader1822.specs.declared.crossing.Crossing.{Crossing}
 use Rattle.net_sim.specs.Book.{Kept, Told, Called, all_asked, all_reported, all_told, asked, contacts_asked}
 use Rattle.net_sim.specs.Inside.Lives.{told_at, written}
-use Rattle.net_sim.proofs.InOrder.{written_asked}
+use Rattle.net_sim.proofs.Books.InOrder.{written_asked}
 use Rattle.net_sim.proofs.asking.write_asked.Goals as goal
 
 pub returns-clause-done : goal.returns-clause-done

@@ -1,7 +1,7 @@
 use Rattle.net_sim.specs.Inside.Parts.{Serves}
 use Rattle.net_sim.specs.World.{services_of}
-use Rattle.net_sim.proofs.Serving.{serves}
-use Rattle.net_sim.proofs.Ends.{ask_ends}
+use Rattle.net_sim.proofs.Hosts.Serving.{serves}
+use Rattle.net_sim.proofs.Hosts.Ends.{ask_ends}
 use Rattle.net_sim.proofs.events.ask.Goals as goal
 
 pub ask_at-requires-clause-services : goal.ask_at-requires-clause-services

@@ -1,7 +1,7 @@
 use Rattle.net_sim.specs.Inside.Parts.{Serves}
 use Rattle.net_sim.specs.World.{services_of}
-use Rattle.net_sim.proofs.Serving.{serves}
-use Rattle.net_sim.proofs.Ends.{server_ends}
+use Rattle.net_sim.proofs.Hosts.Serving.{serves}
+use Rattle.net_sim.proofs.Hosts.Ends.{server_ends}
 use Rattle.net_sim.proofs.events.begin_server.Goals as goal
 
 pub server_at-requires-clause-services : goal.server_at-requires-clause-services

@@ -4,8 +4,8 @@ use Rattle.leader1822.specs.declared.crossing.Crossing.TheVariants as crossing
 use Rattle.net_sim.specs.Carriers.{shown}
 use Rattle.net_sim.specs.Inside.Parts.{Serves}
 use Rattle.net_sim.specs.World.{Calls, services_of}
-use Rattle.net_sim.proofs.Serving.{serves}
-use Rattle.net_sim.proofs.Ends.{offer_ends, offer_halts, newest}
+use Rattle.net_sim.proofs.Hosts.Serving.{serves}
+use Rattle.net_sim.proofs.Hosts.Ends.{offer_ends, offer_halts, newest}
 use Rattle.net_sim.proofs.events.offer.Goals as goal
 
 pub returns-in_err-message : goal.returns-in_err-message

@@ -3,8 +3,8 @@ use Rattle.leader1822.specs.Calls.{crossing_of}
 use Rattle.net_sim.specs.Carriers.{shown}
 use Rattle.net_sim.specs.Inside.Parts.{Serves}
 use Rattle.net_sim.specs.World.{Calls, services_of}
-use Rattle.net_sim.proofs.Serving.{serves}
-use Rattle.net_sim.proofs.Ends.{take_ends, take_shown, newest}
+use Rattle.net_sim.proofs.Hosts.Serving.{serves}
+use Rattle.net_sim.proofs.Hosts.Ends.{take_ends, take_shown, newest}
 use Rattle.net_sim.proofs.events.take.Goals as goal
 
 pub hear-requires-clause-services : goal.hear-requires-clause-services

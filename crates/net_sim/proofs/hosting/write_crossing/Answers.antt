@@ -3,7 +3,7 @@ use Rattle.std.specs.List.{flat_map}
 use Rattle.std.proofs.lemmas.List.{length-reverse}
 use Rattle.net_sim.specs.Book.{Kept, Told, Called, contacts_asked, all_asked, all_reported, all_told, all_crossed}
 use Rattle.net_sim.specs.Inside.Lives.{told_at, written}
-use Rattle.net_sim.proofs.InOrder.{written_both}
+use Rattle.net_sim.proofs.Books.InOrder.{written_both}
 use Rattle.net_sim.proofs.hosting.write_crossing.Goals as goal
 
 pub returns-clause-done : goal.returns-clause-done

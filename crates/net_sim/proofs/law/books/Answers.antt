@@ -1,7 +1,7 @@
 use Rattle.net_sim.specs.Carriers.{shown}
 use Rattle.net_sim.specs.World.{Calls}
-use Rattle.net_sim.proofs.Booked.{step_books, run_books, calm_books, booked_messages}
-use Rattle.net_sim.proofs.Refusals.{step_stands}
+use Rattle.net_sim.proofs.Books.Booked.{step_books, run_books, calm_books, booked_messages}
+use Rattle.net_sim.proofs.Books.Refusals.{step_stands}
 use Rattle.net_sim.proofs.law.books.Goals as goal
 
 pub returns-clause-step : goal.returns-clause-step

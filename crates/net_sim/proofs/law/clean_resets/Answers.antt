@@ -1,4 +1,4 @@
-use Rattle.net_sim.proofs.Clean.{seat_agrees, book_clean, book_front, book_run}
+use Rattle.net_sim.proofs.Resets.Clean.{seat_agrees, book_clean, book_front, book_run}
 use Rattle.net_sim.proofs.law.clean_resets.Goals as goal
 
 pub returns-clause-clean : goal.returns-clause-clean

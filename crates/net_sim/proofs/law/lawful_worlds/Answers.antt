@@ -1,5 +1,5 @@
 use Rattle.net_sim.specs.World.{Calls}
-use Rattle.net_sim.proofs.Clean.{opening_lawful, step_lawful, run_lawful, calm_lawful}
+use Rattle.net_sim.proofs.Resets.Clean.{opening_lawful, step_lawful, run_lawful, calm_lawful}
 use Rattle.net_sim.proofs.law.lawful_worlds.Goals as goal
 
 pub returns-clause-opening : goal.returns-clause-opening

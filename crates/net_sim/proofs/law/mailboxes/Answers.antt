@@ -1,4 +1,4 @@
-use Rattle.net_sim.proofs.Bridge.{box_same, needs_same, place_same, up_same}
+use Rattle.net_sim.proofs.Resets.Bridge.{box_same, needs_same, place_same, up_same}
 use Rattle.net_sim.proofs.law.mailboxes.Goals as goal
 
 pub returns-clause-up : goal.returns-clause-up

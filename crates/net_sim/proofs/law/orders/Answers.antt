@@ -1,4 +1,4 @@
-use Rattle.net_sim.proofs.Ordered.{request_order, message_order, answer_order, offer_order}
+use Rattle.net_sim.proofs.Resets.Ordered.{request_order, message_order, answer_order, offer_order}
 use Rattle.net_sim.proofs.law.orders.Goals as goal
 
 pub returns-clause-request : goal.returns-clause-request

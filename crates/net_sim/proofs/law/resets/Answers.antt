@@ -1,6 +1,6 @@
-use Rattle.net_sim.proofs.Calls.{opening_agrees, request_agrees, message_agrees, answer_agrees}
-use Rattle.net_sim.proofs.Offers.{offer_may, offer_apart, offer_agrees}
-use Rattle.net_sim.proofs.Unheard.{unheard}
+use Rattle.net_sim.proofs.Resets.Calls.{opening_agrees, request_agrees, message_agrees, answer_agrees}
+use Rattle.net_sim.proofs.Resets.Offers.{offer_may, offer_apart, offer_agrees}
+use Rattle.net_sim.proofs.Resets.Unheard.{unheard}
 use Rattle.net_sim.proofs.law.resets.Goals as goal
 
 pub returns-clause-opening : goal.returns-clause-opening

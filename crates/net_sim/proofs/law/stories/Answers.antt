@@ -1,4 +1,4 @@
-use Rattle.net_sim.proofs.StoryLemmas.{story_agrees, program_own}
+use Rattle.net_sim.proofs.Resets.StoryLemmas.{story_agrees, program_own}
 use Rattle.net_sim.proofs.law.stories.Goals as goal
 
 pub returns-clause-agrees : goal.returns-clause-agrees

@@ -1,7 +1,7 @@
 use Rattle.std.proofs.Common.{◌≡◌, drop}
 use Rattle.net_sim.specs.Book.{lives_at, returned}
 use Rattle.net_sim.specs.Inside.Places.{places}
-use Rattle.net_sim.proofs.Places.{changed_at, where_here}
+use Rattle.net_sim.proofs.Books.Places.{changed_at, where_here}
 use Rattle.net_sim.proofs.lives.give_back.Given as goal
 
 -- what is left makes of the lives what the whole does, and the open ones are where they were

@@ -1,6 +1,6 @@
 use Rattle.std.proofs.Common.{rules, ◌<◌, length, slice_index_or, sym, ◌∙◌}
 use Rattle.net_sim.specs.Book.{lives_at, granted}
-use Rattle.net_sim.proofs.Places.{where_here, next_changed, all_changed, at_within, at_spares, places_set}
+use Rattle.net_sim.proofs.Books.Places.{where_here, next_changed, all_changed, at_within, at_spares, places_set}
 use Rattle.net_sim.proofs.lives.grant.Goals as goal
 
 pub bounds-lives-at : goal.bounds-lives-at

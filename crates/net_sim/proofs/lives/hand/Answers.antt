@@ -1,6 +1,6 @@
 use Rattle.std.proofs.Common.{rules, ◌<◌, length, slice_index_or, ◌∙◌}
 use Rattle.net_sim.specs.Book.{lives_at}
-use Rattle.net_sim.proofs.Places.{next_handed, all_handed, hand_here, hand_none, at_within, at_spares}
+use Rattle.net_sim.proofs.Books.Places.{next_handed, all_handed, hand_here, hand_none, at_within, at_spares}
 use Rattle.net_sim.proofs.lives.hand.Goals as goal
 use Rattle.net_sim.proofs.lives.hand.Goals.{then-at-handed+in_ok-hand_at, else-at-handed}
 

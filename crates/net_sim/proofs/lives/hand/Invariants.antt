@@ -1,6 +1,6 @@
 use Rattle.std.proofs.Common.{◌≡◌, drop}
 use Rattle.net_sim.specs.Book.{lives_at}
-use Rattle.net_sim.proofs.Places.{handed_at}
+use Rattle.net_sim.proofs.Books.Places.{handed_at}
 use Rattle.net_sim.proofs.lives.hand.Given as goal
 
 -- what is left makes of the bits what the whole does

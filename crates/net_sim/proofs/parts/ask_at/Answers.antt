@@ -5,7 +5,7 @@ use Rattle.sockets.specs.Requests.{served, served_notices}
 use Rattle.host_services.specs.Services.{ServicesState}
 use Rattle.net_sim.specs.Book.{all_told, asked}
 use Rattle.net_sim.specs.World.{turn_of}
-use Rattle.net_sim.proofs.Doing.{call_done}
+use Rattle.net_sim.proofs.Hosts.Doing.{call_done}
 use Rattle.net_sim.proofs.parts.ask_at.Goals as goal
 
 pub returns-clause-served : goal.returns-clause-served

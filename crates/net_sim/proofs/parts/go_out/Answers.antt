@@ -5,7 +5,7 @@ use Rattle.host_services.specs.Services.{ServicesState}
 use Rattle.sockets.specs.Sending.{offered}
 use Rattle.net_sim.specs.Book.{all_crossed, all_told}
 use Rattle.net_sim.specs.World.{turn_of}
-use Rattle.net_sim.proofs.Doing.{call_done}
+use Rattle.net_sim.proofs.Hosts.Doing.{call_done}
 use Rattle.net_sim.proofs.parts.go_out.Goals as goal
 
 pub returns-clause-done : goal.returns-clause-done

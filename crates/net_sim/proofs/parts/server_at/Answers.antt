@@ -4,7 +4,7 @@ use Rattle.sockets.specs.Pairs.{NcpState}
 use Rattle.host_services.specs.Services.{ServicesState}
 use Rattle.host_services.specs.Services.{opening_desk}
 use Rattle.host_services.specs.Turns.{server_begun}
-use Rattle.net_sim.proofs.Doing.{call_done}
+use Rattle.net_sim.proofs.Hosts.Doing.{call_done}
 use Rattle.net_sim.proofs.parts.server_at.Goals as goal
 
 pub returns-clause-done : goal.returns-clause-done

@@ -1,8 +1,8 @@
 use Rattle.std.proofs.Common.{rules, ◌≡◌, ℕ, Some, slice_index_or, ap, sym, subst, ◌∙◌}
 use Rattle.host_services.specs.TypedLines.{line_bits}
-use Rattle.net_sim.specs.World.{HostServices}
-use Rattle.net_sim.proofs.Doing.{same_number}
-use Rattle.net_sim.proofs.Ends.{IsAnswered}
+use Rattle.net_sim.specs.World.{ServiceSeat}
+use Rattle.net_sim.proofs.Hosts.Doing.{same_number}
+use Rattle.net_sim.proofs.Hosts.Ends.{IsAnswered}
 use Rattle.sockets.specs.Requests.{refusal}
 use Rattle.sockets.specs.declared.request.Request.{Request}
 use Rattle.sockets.specs.declared.request.Request.TheVariants as requests
@@ -11,7 +11,7 @@ use Rattle.net_sim.proofs.parts.type_at.Goals as goal
 pub returns-clause-refused : goal.returns-clause-refused
 returns-clause-refused c = λ h s x socket f sits serves typing r.
     let here : (slice_index_or c.args.services.now c.args.at c.index-services-at.result).services.typing ≡ Some c.number.result = search rules in
-    let same : c.number.result ≡ socket = same_number c.number.result socket (sym here ∙ ap (λ (z : HostServices). z.services.typing) (serves.is c.index-services-at.result) ∙ typing) in
+    let same : c.number.result ≡ socket = same_number c.number.result socket (sym here ∙ ap (λ (z : ServiceSeat). z.services.typing) (serves.is c.index-services-at.result) ∙ typing) in
     let asked : c.in-Ok.request ≡ requests.Send c.number.result (line_bits c.args.line.now) = search rules in
     let is : c.in-Ok.request ≡ requests.Send socket (line_bits c.args.line.now) = asked ∙ ap (λ (n : ℕ). requests.Send n (line_bits c.args.line.now)) same in
     c.ask_at.ensures.refused h s f sits (ap (λ (q : Request). refusal s q) is ∙ r)
@@ -19,7 +19,7 @@ returns-clause-refused c = λ h s x socket f sits serves typing r.
 pub returns-clause-served : goal.returns-clause-served
 returns-clause-served c = λ h s x socket sits serves typing r.
     let here : (slice_index_or c.args.services.now c.args.at c.index-services-at.result).services.typing ≡ Some c.number.result = search rules in
-    let same : c.number.result ≡ socket = same_number c.number.result socket (sym here ∙ ap (λ (z : HostServices). z.services.typing) (serves.is c.index-services-at.result) ∙ typing) in
+    let same : c.number.result ≡ socket = same_number c.number.result socket (sym here ∙ ap (λ (z : ServiceSeat). z.services.typing) (serves.is c.index-services-at.result) ∙ typing) in
     let asked : c.in-Ok.request ≡ requests.Send c.number.result (line_bits c.args.line.now) = search rules in
     let is : c.in-Ok.request ≡ requests.Send socket (line_bits c.args.line.now) = asked ∙ ap (λ (n : ℕ). requests.Send n (line_bits c.args.line.now)) same in
     let done : IsAnswered h s x c.in-Ok.request c.args.seats.now c.ask_at.new.seats c.args.services.now c.ask_at.new.services c.args.book.now c.ask_at.new.book c.ask_at.result = c.ask_at.ensures.served h s x sits serves (ap (λ (q : Request). refusal s q) is ∙ r) in

@@ -1,7 +1,7 @@
 use Rattle.std.proofs.Common.{rules, Some}
 use Rattle.leader1822.specs.Host.{same_host}
 use Rattle.net_sim.specs.World.{Seat, with_program}
-use Rattle.net_sim.proofs.LifeLoops.{one_changed}
+use Rattle.net_sim.proofs.Books.LifeLoops.{one_changed}
 use Rattle.sockets.specs.Pairs.{opening_state}
 use Rattle.net_sim.proofs.seat.start.Goals as goal
 

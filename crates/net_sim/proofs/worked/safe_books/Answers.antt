@@ -1,4 +1,4 @@
-use Rattle.net_sim.proofs.SafeRow.{safe}
+use Rattle.net_sim.proofs.Books.SafeRow.{safe}
 use Rattle.net_sim.proofs.worked.safe_books.Goals as goal
 
 pub returns : goal.returns

@@ -1,4 +1,4 @@
-use Rattle.net_sim.proofs.Unsafe as unsafe
+use Rattle.net_sim.proofs.Books.Unsafe as unsafe
 use Rattle.net_sim.proofs.worked.unsafe_books.Goals as goal
 
 pub returns-clause-twice : goal.returns-clause-twice

@@ -13,9 +13,9 @@ unfolding next_out
 returns-clause-nothing c r new h = h
 
 pub returns-clause-asked : goal.returns-clause-asked
-unfolding served_notices turns.told
+unfolding served_notices turns.services_told
 returns-clause-asked c = refl
 
 pub returns-clause-served : goal.returns-clause-served
-unfolding served_notices turns.told
+unfolding served_notices turns.services_told
 returns-clause-served c = (refl, refl)

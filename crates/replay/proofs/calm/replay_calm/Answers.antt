@@ -1,6 +1,6 @@
 use Rattle.std.proofs.Common.{◌≡◌, Err, rules, subst, sym}
 use Rattle.replay.specs.Steps.{EventEnds}
-use Rattle.script.specs.declared.event.Event.TheVariants as event
+use Rattle.script.specs.declared.event.RawEvent.TheVariants as event
 use Rattle.replay.specs.Replay.{Calls}
 use Rattle.replay.proofs.Passing.{all_passed, one_passed, passed_ends}
 use Rattle.replay.proofs.calm.replay_calm.Goals as goal

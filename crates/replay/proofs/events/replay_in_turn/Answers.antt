@@ -3,7 +3,7 @@ use Rattle.std.proofs.lemmas.List.{take_all}
 use Rattle.replay.specs.Output.{Shown, Writes, shown_text}
 use Rattle.replay.specs.Replay.{Calls, Happens, MayDo, Replays, StopsIn}
 use Rattle.replay.specs.Steps.{EventEnds}
-use Rattle.script.specs.declared.event.Event.{Event}
+use Rattle.script.specs.declared.event.RawEvent.{RawEvent}
 use Rattle.replay.proofs.InTurn.{cut_at, last_shown, last_written, nothing_written, one_more, one_written}
 use Rattle.replay.specs.declared.events.ReplayFault.TheVariants as fault
 use Rattle.replay.proofs.events.replay_in_turn.Goals as goal
@@ -16,7 +16,7 @@ loop-event-init g c =
 pub loop-event-preserved : goal.loop-event-preserved
 loop-event-preserved g c =
     let calls : Calls g.row.C.Denot = record { seen = g.C.Carrier.seen; offers = g.C.Carrier.offers; takes = g.C.Carrier.takes; steps = g.C.Carrier.steps; rounds = g.C.Carrier.rounds } in
-    subst (λ (es : List Event). Writes (Replays calls c.args.carrier.now es c.replay_event.new.carrier) (g.W.Write.contents c.args.writer.now) (g.W.Write.contents c.replay_event.new.writer))
+    subst (λ (es : List RawEvent). Writes (Replays calls c.args.carrier.now es c.replay_event.new.carrier) (g.W.Write.contents c.args.writer.now) (g.W.Write.contents c.replay_event.new.writer))
     (one_more c.args.events.now c.loop-event.event-index c.event-item.result c.loop-event-test.true c.event-item.is)
     (one_written (Happens calls) shown_text c.args.carrier.now c.loop-event.carrier c.replay_event.new.carrier (take c.loop-event.event-index c.args.events.now) c.event-item.result
     (g.W.Write.contents c.args.writer.now) (g.W.Write.contents c.loop-event.writer) (g.W.Write.contents c.replay_event.new.writer) c.loop-event.invariant c.in_ok-replay_event.ensures)
@@ -24,7 +24,7 @@ loop-event-preserved g c =
 pub returns-clause-replayed : goal.returns-clause-replayed
 returns-clause-replayed g c =
     let calls : Calls g.row.C.Denot = record { seen = g.C.Carrier.seen; offers = g.C.Carrier.offers; takes = g.C.Carrier.takes; steps = g.C.Carrier.steps; rounds = g.C.Carrier.rounds } in
-    subst (λ (es : List Event). Writes (Replays calls c.args.carrier.now es c.loop-event.carrier) (g.W.Write.contents c.args.writer.now) (g.W.Write.contents c.loop-event.writer))
+    subst (λ (es : List RawEvent). Writes (Replays calls c.args.carrier.now es c.loop-event.carrier) (g.W.Write.contents c.args.writer.now) (g.W.Write.contents c.loop-event.writer))
     (take_all c.loop-event.event-index c.args.events.now c.loop-event-test.false) c.loop-event.invariant
 
 pub returns-in_err-replay_event-clause-memory : goal.returns-in_err-replay_event-clause-memory

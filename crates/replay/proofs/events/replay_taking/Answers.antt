@@ -1,6 +1,6 @@
 use Rattle.std.proofs.Common.{◌≡◌, refl, sym, subst, IfErr}
 use Rattle.replay.specs.Replay.{Calls}
-use Rattle.script.specs.declared.event.Event.TheVariants as event
+use Rattle.script.specs.declared.event.RawEvent.TheVariants as event
 use Rattle.replay.proofs.Shown.{call_ends, grew_take, refused_take}
 use Rattle.replay.proofs.events.replay_taking.Goals as goal
 

@@ -1,5 +1,5 @@
 use Rattle.std.proofs.Common.{refl}
-use Rattle.host_pairs.proofs.ParcelLemmas.{what_goes}
+use Rattle.host_pairs.proofs.lemmas.{what_goes}
 use Rattle.sockets.proofs.ParcelLemmas.{next_is}
 use Rattle.sockets.proofs.law.parcels.Goals as goal
 

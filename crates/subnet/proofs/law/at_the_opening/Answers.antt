@@ -1,5 +1,5 @@
-use Rattle.subnet.proofs.Openings.{opening_sound, opening_empty}
-use Rattle.subnet.proofs.SiteHosts.{hosts_fit, hosts_ordered}
+use Rattle.subnet.proofs.Moves.Openings.{opening_sound, opening_empty}
+use Rattle.subnet.proofs.Calls.SiteHosts.{hosts_fit, hosts_ordered}
 use Rattle.subnet.proofs.law.at_the_opening.Goals as goal
 
 pub returns-clause-sound : goal.returns-clause-sound

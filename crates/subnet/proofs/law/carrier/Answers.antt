@@ -1,4 +1,4 @@
-use Rattle.subnet.proofs.Working.{opening_working, offer_working, offer_shown, take_working, take_shown, step_working, step_shown, round_working, round_shown}
+use Rattle.subnet.proofs.Calls.Working.{opening_working, offer_working, offer_shown, take_working, take_shown, step_working, step_shown, round_working, round_shown}
 use Rattle.subnet.proofs.law.carrier.Goals as goal
 
 pub returns-clause-offer_out : goal.returns-clause-offer_out

@@ -1,4 +1,4 @@
-use Rattle.subnet.proofs.RoundMemory.{round_wants_none, round_wants}
+use Rattle.subnet.proofs.Calls.RoundMemory.{round_wants_none, round_wants}
 use Rattle.subnet.proofs.law.round_memory.Goals as goal
 
 pub returns : goal.returns

@@ -1,4 +1,4 @@
-use Rattle.subnet.proofs.Routed.{opening_routed, offer_routed, take_routed, step_routed, round_routed, can_go}
+use Rattle.subnet.proofs.Packets.Routed.{opening_routed, offer_routed, take_routed, step_routed, round_routed, can_go}
 use Rattle.subnet.proofs.law.routed.Goals as goal
 
 pub returns-clause-opening : goal.returns-clause-opening

@@ -1,4 +1,4 @@
-use Rattle.subnet.proofs.Showing.{offer_same, take_same, step_same, round_same}
+use Rattle.subnet.proofs.Calls.Showing.{offer_same, take_same, step_same, round_same}
 use Rattle.subnet.proofs.law.same_network.Goals as goal
 
 pub returns-clause-offer_out : goal.returns-clause-offer_out

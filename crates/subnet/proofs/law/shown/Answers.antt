@@ -1,4 +1,4 @@
-use Rattle.subnet.proofs.Showing.{imp_says, offer_log, take_log, take_for, step_log, round_log}
+use Rattle.subnet.proofs.Calls.Showing.{imp_says, offer_log, take_log, take_for, step_log, round_log}
 use Rattle.subnet.proofs.law.shown.Goals as goal
 
 pub returns-clause-ups : goal.returns-clause-ups

@@ -1,8 +1,8 @@
-use Rattle.flow_law.proofs.FollowLemmas.{sound_run}
+use Rattle.flow_law.proofs.lemmas.{sound_run}
 use Rattle.subnet.specs.Net.{port_of}
 use Rattle.subnet.specs.Flows.{Alive, view}
-use Rattle.subnet.proofs.GivingUp.{give_up_sound}
-use Rattle.subnet.proofs.QuietCalls.{drop_sound, resend_sound, route_sound, end_down_sound, end_up_sound, abandon_sound}
+use Rattle.subnet.proofs.Moves.GivingUp.{give_up_sound}
+use Rattle.subnet.proofs.Moves.QuietCalls.{drop_sound, resend_sound, route_sound, end_down_sound, end_up_sound, abandon_sound}
 use Rattle.subnet.proofs.law.sound_events.Goals as goal
 
 pub returns-clause-drop : goal.returns-clause-drop

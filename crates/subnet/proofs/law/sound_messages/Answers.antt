@@ -1,6 +1,6 @@
-use Rattle.subnet.proofs.Deliveries.{deliver_sound}
-use Rattle.subnet.proofs.Offers.{offer_sound}
-use Rattle.subnet.proofs.Takes.{take_sound}
+use Rattle.subnet.proofs.Moves.Deliveries.{deliver_sound}
+use Rattle.subnet.proofs.Moves.Offers.{offer_sound}
+use Rattle.subnet.proofs.Moves.Takes.{take_sound}
 use Rattle.subnet.proofs.law.sound_messages.Goals as goal
 
 pub returns-clause-offer_out : goal.returns-clause-offer_out

@@ -1,5 +1,5 @@
-use Rattle.subnet.proofs.EventSteps.{step_sound}
-use Rattle.subnet.proofs.Rounds.{quiet_round_sound}
+use Rattle.subnet.proofs.Moves.EventSteps.{step_sound}
+use Rattle.subnet.proofs.Calls.Rounds.{quiet_round_sound}
 use Rattle.subnet.proofs.law.sound_steps.Goals as goal
 
 pub returns-clause-step : goal.returns-clause-step

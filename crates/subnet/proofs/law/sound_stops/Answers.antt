@@ -1,8 +1,8 @@
-use Rattle.subnet.proofs.Forgetting.{forget_sound}
-use Rattle.subnet.proofs.HostsDown.{host_down_sound}
-use Rattle.subnet.proofs.HostsUp.{host_up_sound}
-use Rattle.subnet.proofs.ImpsDown.{imp_down_sound}
-use Rattle.subnet.proofs.ImpsUp.{imp_up_sound}
+use Rattle.subnet.proofs.Moves.Forgetting.{forget_sound}
+use Rattle.subnet.proofs.Moves.HostsDown.{host_down_sound}
+use Rattle.subnet.proofs.Moves.HostsUp.{host_up_sound}
+use Rattle.subnet.proofs.Moves.ImpsDown.{imp_down_sound}
+use Rattle.subnet.proofs.Moves.ImpsUp.{imp_up_sound}
 use Rattle.subnet.proofs.law.sound_stops.Goals as goal
 
 pub returns-clause-forget : goal.returns-clause-forget

@@ -1,4 +1,4 @@
-use Rattle.subnet.proofs.WholeRuns.{always_run, always_sound}
+use Rattle.subnet.proofs.Moves.WholeRuns.{always_run, always_sound}
 use Rattle.subnet.proofs.law.whole_runs.Goals as goal
 
 pub returns-clause-run : goal.returns-clause-run

@@ -1,7 +1,7 @@
 use Rattle.std.proofs.Common.{◌≡◌, ℕ, false, [], refl, sym}
 use Rattle.std.specs.FinMap.{empty}
 use Rattle.link_table.specs.Keys.{has_from}
-use Rattle.link_table.proofs.KeyLemmas.{asked}
+use Rattle.link_table.proofs.lemmas.{asked}
 use Rattle.imp_channel.specs.Line.{submitted}
 use Rattle.link_table.specs.Numbers.{is_new, oldest, modulus, window}
 use Rattle.routing.specs.RouteTable.{next_of, distance_to, vector_of}

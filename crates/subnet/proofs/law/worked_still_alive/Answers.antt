@@ -5,8 +5,7 @@ use Rattle.link_table.specs.Flows.{begun, number_in}
 use Rattle.link_table.specs.Keys.{has_from}
 use Rattle.link_table.specs.declared.source.Standing.{Standing}
 use Rattle.link_table.specs.declared.source.Standing.TheVariants as standing
-use Rattle.link_table.proofs.FlowLemmas.{get_put, get_begun}
-use Rattle.link_table.proofs.KeyLemmas.{asked}
+use Rattle.link_table.proofs.lemmas.{asked, get_begun, get_put}
 use Rattle.subnet.specs.Examples.{ours}
 use Rattle.imp_channel.specs.Line.{submitted}
 use Rattle.link_table.specs.Numbers.{is_new, oldest, modulus, window}

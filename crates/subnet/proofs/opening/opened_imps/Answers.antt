@@ -1,4 +1,4 @@
-use Rattle.subnet.proofs.Opens.{site_read}
+use Rattle.subnet.proofs.Calls.Opens.{site_read}
 use Rattle.subnet.proofs.opening.opened_imps.Goals as goal
 
 pub opened-requires : goal.opened-requires

@@ -1,7 +1,7 @@
 use Rattle.std.proofs.Common.{Option, None, sym, subst, ◌∙◌}
 use Rattle.imp_node.specs.State.{State}
 use Rattle.subnet.specs.Inside.Calling.{IsLive}
-use Rattle.subnet.proofs.Living.{read_alike}
+use Rattle.subnet.proofs.Calls.Living.{read_alike}
 use Rattle.subnet.proofs.starting.is_kept_beside.Goals as goal
 
 pub is_kept_at-requires : goal.is_kept_at-requires

@@ -1,7 +1,7 @@
 use Rattle.std.proofs.Common.{ap, ◌∙◌}
 use Rattle.imp_node.specs.State.{State}
 use Rattle.imp_node.specs.Stopping.{host_down}
-use Rattle.subnet.proofs.Starts.{opened, one_more_down}
+use Rattle.subnet.proofs.Calls.Starts.{opened, one_more_down}
 use Rattle.subnet.proofs.starting.start.Goals as goal
 
 pub loop-host-init : goal.loop-host-init

@@ -1,5 +1,5 @@
 use Rattle.std.proofs.Common.{◌≡◌, ◌-◌}
-use Rattle.subnet.proofs.Starts.{down_to}
+use Rattle.subnet.proofs.Calls.Starts.{down_to}
 use Rattle.subnet.proofs.starting.start.Given as goal
 
 -- the first hosts are down

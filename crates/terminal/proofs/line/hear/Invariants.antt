@@ -5,4 +5,4 @@ use Rattle.terminal.proofs.line.hear.Given as goal
 
 -- what came so far was heard
 abbrev pub invariant-loop-octet : goal.invariant-loop-octet
-invariant-loop-octet l = fold lines.hear (l.told.items, l.rest.items) (drop l.octet-index l.octets) ≡ lines.heard l.fn.rest.items l.fn.octets
+invariant-loop-octet l = fold lines.hear (l.told.items, l.rest.items) (drop l.octet-index l.octets) ≡ lines.lines_heard l.fn.rest.items l.fn.octets

@@ -2,7 +2,7 @@ use Rattle.std.proofs.Common.{◌≡◌, ◌∷◌, [], ◌++◌, Err, rules, ap
 use Rattle.std.proofs.lemmas.List.{append_assoc}
 use Rattle.net_sim.specs.Carriers.{shown}
 use Rattle.net_sim.specs.World.{Calls}
-use Rattle.replay.proofs.InTurn.{last_shown, last_written, one_written}
+use Rattle.replay.proofs.lemmas.{last_shown, last_written, one_written}
 use Rattle.replay.specs.declared.events.ReplayFault.TheVariants as fault
 use Rattle.world_replay.specs.Output.{shown_text}
 use Rattle.world_replay.specs.Replay.{Happens, MayDo, StopsIn}

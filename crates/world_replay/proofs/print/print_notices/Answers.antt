@@ -1,6 +1,6 @@
 use Rattle.std.proofs.Common.{refl, subst}
 use Rattle.std.proofs.lemmas.List.{take_all}
-use Rattle.replay.proofs.Shown.{was_ok}
+use Rattle.replay.proofs.lemmas.{was_ok}
 use Rattle.world_replay.specs.Output.{shown_notices}
 use Rattle.world_replay.specs.Steps.{Fronts}
 use Rattle.world_replay.proofs.News.{fronts_none, notice_front}

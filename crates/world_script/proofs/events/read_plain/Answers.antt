@@ -1,5 +1,5 @@
 use Rattle.std.proofs.Common.{codes}
-use Rattle.script.proofs.Keywords.{differs}
+use Rattle.script.proofs.lemmas.{differs}
 use Rattle.world_script.proofs.Lines.{no_plain}
 use Rattle.world_script.proofs.events.read_plain.Goals as goal
 

@@ -1,7 +1,7 @@
 use Rattle.std.proofs.Common.{arith, rules, inr, Err, ◌≡◌, ◌≤◌, ◌<◌, ◌+◌, length, drop, take, sym, ap, ◌∙◌, refl, [], subst}
 use Rattle.script.specs.Script.{lines_of, lines_after}
 use Rattle.world_script.specs.WorldScript.{AskFor}
-use Rattle.script.proofs.Lines.{drop_next, take_next, length_next, take_whole, line_count, ask_past, ask_next, ask_none, first_bad, ran_out}
+use Rattle.script.proofs.lemmas.{ask_next, ask_none, ask_past, drop_next, first_bad, length_next, line_count, ran_out, take_next, take_whole}
 use Rattle.world_script.specs.WorldSpelling.{IsWorldEvent, WantsMemory, world_spelling}
 use Rattle.script.specs.declared.fault.LineFault.TheVariants as fault
 use Rattle.world_script.proofs.events.read_world_script.Goals as goal

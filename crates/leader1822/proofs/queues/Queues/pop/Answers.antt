@@ -1,5 +1,5 @@
 use Rattle.std.proofs.Common.{◌≡◌, [], Some, is_some, ap, sym, ◌∙◌}
-use Rattle.leader1822.specs.Boxes.{for_host, with_queue, first, rest}
+use Rattle.leader1822.specs.Boxes.{for_host, with_queue, first_of_list, rest}
 use Rattle.leader1822.specs.Inside.Shown.{waiting_in, shown}
 use Rattle.leader1822.proofs.Kept.{for_shown, shown_with, shown_same, popped}
 use Rattle.leader1822.proofs.SoundCalls.{none_first}
@@ -9,7 +9,7 @@ pub returns-in_default-clause-oldest : goal.returns-in_default-clause-oldest
 returns-in_default-clause-oldest g c =
     let h = c.args.host.now in
     let none : for_host c.args.self.now h ≡ [] = ap (λ q. for_host q h) (sym c.self.view_is) ∙ for_shown c.self.inside.queues.entries h ∙ ap waiting_in (sym c.in_default.ensures.value) in
-    ap first (sym none)
+    ap first_of_list (sym none)
 
 pub returns-in_default-clause-left : goal.returns-in_default-clause-left
 returns-in_default-clause-left g c =
@@ -24,7 +24,7 @@ returns-clause-oldest g c =
     let h = c.args.host.now in
     let whole : for_host c.args.self.now h ≡ c.in-Some.queue.now.items =
     ap (λ q. for_host q h) (sym c.self.view_is) ∙ for_shown c.self.inside.queues.entries h ∙ ap waiting_in (sym c.in-Some.ensures.value) in
-    (popped c.pop_front.result c.in-Some.queue.now.items c.pop_front.new.self.items c.pop_front.ensures.items c.pop_front.ensures.rest).oldest ∙ ap first (sym whole)
+    (popped c.pop_front.result c.in-Some.queue.now.items c.pop_front.new.self.items c.pop_front.ensures.items c.pop_front.ensures.rest).oldest ∙ ap first_of_list (sym whole)
 
 pub returns-clause-left : goal.returns-clause-left
 returns-clause-left g c =

@@ -1,5 +1,5 @@
 use Rattle.std.proofs.Common.{rules}
-use Rattle.net_sim.proofs.Places.{known_more}
+use Rattle.net_sim.proofs.Books.Places.{known_more}
 use Rattle.net_sim.proofs.lives.Lives.begin.Goals as goal
 
 pub invariant_of-self-2 : goal.invariant_of-self-2

@@ -1,7 +1,7 @@
 use Rattle.std.proofs.Common.{rules, List, ◌++◌, take, drop, length}
 use Rattle.net_sim.specs.Book.{Life}
 use Rattle.net_sim.specs.Inside.Endings.{ends}
-use Rattle.net_sim.proofs.Places.{known_left, put_back}
+use Rattle.net_sim.proofs.Books.Places.{known_left, put_back}
 use Rattle.net_sim.proofs.lives.Lives.end.Goals as goal
 
 pub invariant_of-self : goal.invariant_of-self

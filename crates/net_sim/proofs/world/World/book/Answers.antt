@@ -1,7 +1,7 @@
 use Rattle.std.proofs.Common.{rules}
 use Rattle.net_sim.specs.Clean.{IsLawful}
 use Rattle.net_sim.specs.World.{Calls}
-use Rattle.net_sim.proofs.Booked.{booked_messages}
+use Rattle.net_sim.proofs.Books.Booked.{booked_messages}
 use Rattle.net_sim.proofs.world.World.book.Goals as goal
 
 pub returns-clause-messages : goal.returns-clause-messages

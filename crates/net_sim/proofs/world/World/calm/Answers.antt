@@ -1,7 +1,7 @@
 use Rattle.std.proofs.Common.{◌≡◌, true, false, Ok, sym, ◌∙◌}
 use Rattle.net_sim.specs.Carriers.{shown}
 use Rattle.net_sim.specs.World.{Calls, stops}
-use Rattle.net_sim.proofs.Calming.{begun, none_passed, one_passed, stop_passed, all_passed}
+use Rattle.net_sim.proofs.Hosts.Calming.{begun, none_passed, one_passed, stop_passed, all_passed}
 use Rattle.net_sim.proofs.world.World.calm.Goals as goal
 
 pub returns-then-stops : goal.returns-then-stops

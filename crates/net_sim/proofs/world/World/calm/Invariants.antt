@@ -1,6 +1,6 @@
 use Rattle.net_sim.specs.Carriers.{shown}
 use Rattle.net_sim.specs.World.{Calls}
-use Rattle.net_sim.proofs.Calming.{Passed}
+use Rattle.net_sim.proofs.Hosts.Calming.{Passed}
 use Rattle.net_sim.proofs.world.World.calm.Given as goal
 
 -- so many rounds have passed

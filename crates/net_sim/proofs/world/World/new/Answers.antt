@@ -4,7 +4,7 @@ use Rattle.leader1822.specs.Host.{Host, IsAddress}
 use Rattle.std.specs.List.{All}
 use Rattle.net_sim.specs.Book.{opening_kept}
 use Rattle.net_sim.specs.World.{Calls, opening_seats, opening_services}
-use Rattle.net_sim.proofs.Held.{opening_held}
+use Rattle.net_sim.proofs.Books.Held.{opening_held}
 use Rattle.net_sim.proofs.world.World.new.Goals as goal
 
 pub invariant_of-result : goal.invariant_of-result

@@ -1,7 +1,7 @@
 use Rattle.std.proofs.Common.{◌≡◌, ◌<◌, ◌≤◌, true, false, length, sym, ◌∙◌, arith}
 use Rattle.net_sim.specs.Carriers.{shown}
 use Rattle.net_sim.specs.World.{Calls, Offer, stops}
-use Rattle.net_sim.proofs.Calming.{shown_count, one_repeated, none_repeated, stop_repeated, all_repeated}
+use Rattle.net_sim.proofs.Hosts.Calming.{shown_count, one_repeated, none_repeated, stop_repeated, all_repeated}
 use Rattle.net_sim.proofs.world.World.offer_all.Goals as goal
 
 pub returns-then-stops : goal.returns-then-stops

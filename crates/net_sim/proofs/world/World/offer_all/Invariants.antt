@@ -1,6 +1,6 @@
 use Rattle.net_sim.specs.Carriers.{shown}
 use Rattle.net_sim.specs.World.{Calls, Offer}
-use Rattle.net_sim.proofs.Calming.{Repeated}
+use Rattle.net_sim.proofs.Hosts.Calming.{Repeated}
 use Rattle.net_sim.proofs.world.World.offer_all.Given as goal
 
 -- something has crossed each time

@@ -1,6 +1,6 @@
 use Rattle.net_sim.specs.Carriers.{shown}
 use Rattle.net_sim.specs.World.{Calls}
-use Rattle.net_sim.proofs.Calming.{Turned}
+use Rattle.net_sim.proofs.Hosts.Calming.{Turned}
 use Rattle.net_sim.proofs.world.World.pass_round.Given as goal
 
 -- the hosts before this place have had their turns

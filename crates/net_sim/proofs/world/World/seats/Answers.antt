@@ -1,6 +1,6 @@
 use Rattle.std.proofs.Common.{rules}
 use Rattle.net_sim.specs.Inside.Held.{IsHeld}
-use Rattle.net_sim.proofs.Held.{held_once}
+use Rattle.net_sim.proofs.Books.Held.{held_once}
 use Rattle.net_sim.proofs.world.World.seats.Goals as goal
 
 pub returns-clause-once : goal.returns-clause-once

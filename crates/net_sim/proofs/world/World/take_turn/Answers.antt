@@ -1,7 +1,7 @@
 use Rattle.std.proofs.Common.{◌≡◌, true, false, sym, ◌∙◌}
 use Rattle.net_sim.specs.Carriers.{shown}
 use Rattle.net_sim.specs.World.{Calls, stops}
-use Rattle.net_sim.proofs.Calming.{stop_turn, whole_turn}
+use Rattle.net_sim.proofs.Hosts.Calming.{stop_turn, whole_turn}
 use Rattle.net_sim.proofs.world.World.take_turn.Goals as goal
 
 pub returns-then-stops : goal.returns-then-stops

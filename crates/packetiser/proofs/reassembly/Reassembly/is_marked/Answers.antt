@@ -2,7 +2,7 @@ use Rattle.std.proofs.Common.{◌≡◌, ◌∙◌, ◌||◌, Bool, List, true, 
 use Rattle.std.specs.List.{list_any}
 use Rattle.bit_messages.specs.Body.{has_mark}
 use Rattle.packetiser.specs.PacketFields.{PacketFields}
-use Rattle.packetiser.specs.Slots.{SlotState, kept_for, gathered, joined}
+use Rattle.packetiser.specs.Slots.{SlotState, kept_for, gathered, joined_pieces}
 use Rattle.packetiser.proofs.Holding.{mark_first, mark_later}
 use Rattle.packetiser.proofs.reassembly.Reassembly.is_marked.Goals as goal
 

@@ -1,5 +1,5 @@
 use Rattle.std.proofs.Common.{sym, ◌∙◌}
-use Rattle.subnet.proofs.Delivering.{brought_ok, bring_grows_on}
+use Rattle.subnet.proofs.Calls.Delivering.{brought_ok, bring_grows_on}
 use Rattle.subnet.proofs.parts.Parts.bring.Goals as goal
 
 pub returns-in-Some-clause-ok : goal.returns-in-Some-clause-ok

@@ -1,5 +1,5 @@
 use Rattle.std.proofs.Common.{sym, ◌∙◌}
-use Rattle.subnet.proofs.Stepping.{end_down_step}
+use Rattle.subnet.proofs.Moves.Stepping.{end_down_step}
 use Rattle.subnet.proofs.parts.Parts.end_down.Goals as goal
 
 pub returns-clause-step : goal.returns-clause-step

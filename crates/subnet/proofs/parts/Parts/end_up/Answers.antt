@@ -1,5 +1,5 @@
 use Rattle.std.proofs.Common.{sym, ◌∙◌}
-use Rattle.subnet.proofs.Stepping.{end_up_step}
+use Rattle.subnet.proofs.Moves.Stepping.{end_up_step}
 use Rattle.subnet.proofs.parts.Parts.end_up.Goals as goal
 
 pub returns-clause-step : goal.returns-clause-step

@@ -1,6 +1,6 @@
 use Rattle.std.proofs.Common.{sym, ◌∙◌}
 use Rattle.std.proofs.lemmas.Result.{err_from_is_err_and}
-use Rattle.subnet.proofs.Stepping.{offer_failed}
+use Rattle.subnet.proofs.Moves.Stepping.{offer_failed}
 use Rattle.subnet.proofs.parts.Parts.offer_out.Goals as goal
 
 pub returns-in_err-at_imp-clause-call : goal.returns-in_err-at_imp-clause-call

@@ -1,4 +1,4 @@
-use Rattle.subnet.proofs.Working.{step_invariant}
+use Rattle.subnet.proofs.Calls.Working.{step_invariant}
 use Rattle.subnet.proofs.subnet.Subnet.happen.Goals as goal
 
 pub invariant_of-self : goal.invariant_of-self

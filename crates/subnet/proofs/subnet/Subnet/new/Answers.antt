@@ -1,4 +1,4 @@
-use Rattle.subnet.proofs.Working.{opened_working}
+use Rattle.subnet.proofs.Calls.Working.{opened_working}
 use Rattle.subnet.proofs.subnet.Subnet.new.Goals as goal
 
 pub invariant_of-result : goal.invariant_of-result

@@ -1,4 +1,4 @@
-use Rattle.subnet.proofs.Working.{offer_invariant}
+use Rattle.subnet.proofs.Calls.Working.{offer_invariant}
 use Rattle.subnet.proofs.subnet.Subnet.offer.Goals as goal
 
 pub invariant_of-self : goal.invariant_of-self

@@ -1,4 +1,4 @@
-use Rattle.subnet.proofs.Working.{round_invariant}
+use Rattle.subnet.proofs.Calls.Working.{round_invariant}
 use Rattle.subnet.proofs.subnet.Subnet.round.Goals as goal
 
 pub invariant_of-self : goal.invariant_of-self

@@ -1,4 +1,4 @@
-use Rattle.subnet.proofs.Working.{take_invariant}
+use Rattle.subnet.proofs.Calls.Working.{take_invariant}
 use Rattle.subnet.proofs.subnet.Subnet.take.Goals as goal
 
 pub invariant_of-self : goal.invariant_of-self

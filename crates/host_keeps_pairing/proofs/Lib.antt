@@ -1,0 +1,17 @@
+pub mod Lists
+pub mod Stands
+pub mod Desks
+pub mod Takes
+pub mod Passes
+pub mod Turns
+pub mod Requests
+pub mod Calls
+pub mod Rows
+pub mod Openings
+pub mod Told
+pub mod Fronts
+pub mod SpokenRows
+pub mod Known
+pub mod Endings
+pub mod Partners
+pub mod lemmas

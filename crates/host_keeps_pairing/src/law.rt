@@ -1,0 +1,323 @@
+//! What a host's program says and hears of connections. The functions here do nothing: each clause is a law.
+
+ghost use Rattle.std.specs.Prelude.{◌≡◌, ℕ, Bool, ◌+◌, ◌≤◌, ◌==◌, if◌then◌else◌, true, false, List, [], ◌∷◌, ◌++◌, Option, Some, None, map, filter};
+ghost use Rattle.leader1822.specs.Host.{Host, same_host};
+ghost use Rattle.leader1822.specs.declared.address.Flow.{Flow};
+ghost use Rattle.leader1822.specs.declared.crossing.Answer.{Answer};
+ghost use Rattle.leader1822.specs.declared.crossing.Inbound.TheVariants as inbound;
+ghost use Rattle.leader1822.specs.declared.message.HostMessage.{HostMessage};
+ghost use Rattle.ncp_control.specs.declared.command.Command.TheVariants as command;
+ghost use Rattle.pairing_law.specs.Ends.{End, nothing};
+ghost use Rattle.pairing_law.specs.Marks.{Ask, Close, IsOlder};
+ghost use Rattle.pairing_law.specs.Partners.{IsIn};
+ghost use Rattle.pairing_law.specs.Places.{tagged};
+ghost use Rattle.pairing_law.specs.Links.{AreSteps, Sockets, Step, receiver, sender};
+ghost use Rattle.pairing_law.specs.Sides as pairing;
+ghost use Rattle.pairing_law.specs.Sides.{Life, both};
+ghost use Rattle.reset_law.specs.Events.{Event, In, Out, Other};
+ghost use Rattle.reset_law.specs.Example.{one, two};
+ghost use Rattle.reset_law.specs.Runs.{IsRun};
+ghost use Rattle.sockets.specs.Accepting.{accepted, turn_of};
+ghost use Rattle.host_pairs.specs.About.{AreAbout};
+ghost use Rattle.host_pairs.specs.Commands.{asked_on_link};
+ghost use Rattle.host_pairs.specs.Control.{Legal, Wrong, orders_of};
+ghost use Rattle.sockets.specs.Dialogue.{state_of};
+ghost use Rattle.host_pairs.specs.Entries.{refused_end, sending_end};
+ghost use Rattle.host_pairs.specs.Allowed.{commands_of};
+ghost use Rattle.host_pairs.specs.Pair.{PairState, opening_pair};
+ghost use Rattle.sockets.specs.Pairs.{NcpState, opening_state, pair_with};
+ghost use Rattle.sockets.specs.Peers.{AreInOrder};
+ghost use Rattle.host_pairs.specs.Phases.{is_ready};
+ghost use Rattle.sockets.specs.Requests.{refusal, served, served_notices};
+ghost use Rattle.host_pairs.specs.Parcels.{Parcel};
+ghost use Rattle.sockets.specs.Sending.{next_in, offered};
+ghost use Rattle.sockets.specs.Worked.{first, second, third, talk, reset, opening_connection, closing};
+ghost use Rattle.host_pairs.specs.declared.phase.Phase.TheVariants as phase;
+ghost use Rattle.host_pairs.specs.declared.entry.Closing.TheVariants as closing;
+ghost use Rattle.host_pairs.specs.declared.notice.Notice.{Notice};
+ghost use Rattle.host_pairs.specs.declared.notice.Notice.TheVariants as notice;
+ghost use Rattle.sockets.specs.declared.peer.Peer.{Peer};
+ghost use Rattle.sockets.specs.declared.request.Request.{Request};
+ghost use Rattle.sockets.specs.declared.request.Request.TheVariants as request;
+ghost use Rattle.host_keeps_pairing.specs.Words.{AllFit, MayAllGo, all_gone, all_taken, marks, marks_in};
+ghost use Rattle.host_keeps_pairing.specs.Ends.{HasEnd, IsSound, Stand, Standing, due, end_of, kept_in, standing};
+ghost use Rattle.host_keeps_pairing.specs.Hearing.{AreFree, AreJoint, NamesFreeLink, after_request};
+ghost use Rattle.host_keeps_pairing.specs.Spoken.{asking, listened, reset_of_two, spoken, untagged};
+ghost use Rattle.host_keeps_pairing.specs.Openings.{AreAmong, all_lives_gone, all_lives_taken, with_openings};
+ghost use Rattle.host_keeps_pairing.specs.Known.{ArePartners, Knows, all_known};
+
+/// What a host says: where its program has, for two sockets and a peer, an end of the law of pairing, all that goes out of it is
+/// what the law lets it say of that end, and the program has the end after it.
+pub fn saying()
+    // a program that starts has no end
+    ensures opening { (origin : ℕ → ℕ) (own foreign : ℕ) (h peer : Host) → HasEnd origin own foreign (pair_with peer (opening_state h).peers) nothing }
+
+    // a contact drops the ends with its peer. All else that a user asks for, and isn't refused, says nothing yet: it waits
+    ensures request { (origin : ℕ → ℕ) (own foreign : ℕ) (s : NcpState) (r : Request) (peer : Host) (x : End) → refusal s r ≡ None → HasEnd origin own foreign (pair_with peer s.peers) x → HasEnd origin own foreign (pair_with peer (served s r).peers) (after_request peer r x) }
+
+    // the commands of the next message say only what may be said, where the requests before went out at lower places
+    ensures may { (origin : ℕ → ℕ) (own foreign : ℕ) (s : NcpState) (stamp : ℕ) (g : Peer) (parcel : Parcel) (x : End) (next : ℕ) → AreInOrder s.peers → next_in s.peers ≡ Some (g, parcel) → next ≤ stamp → HasEnd origin own foreign (pair_with g.host s.peers) x → MayAllGo (marks stamp own foreign (commands_of g.pair parcel)) x next }
+
+    // and once it has gone out, they are said
+    ensures offer { (origin : ℕ → ℕ) (own foreign : ℕ) (s : NcpState) (stamp : ℕ) (g : Peer) (parcel : Parcel) (x : End) → AreInOrder s.peers → next_in s.peers ≡ Some (g, parcel) → HasEnd origin own foreign (pair_with g.host s.peers) x → HasEnd origin own foreign (pair_with g.host (offered s stamp).0.peers) (all_gone (marks stamp own foreign (commands_of g.pair parcel)) x) }
+{}
+
+/// What a host hears of a peer in a message for it.
+pub fn hearing()
+    // where the pair is ready, commands that are in order, with links that are free, do to the end what the law says of each
+    ensures commands { (origin : ℕ → ℕ) (own foreign : ℕ) (s : NcpState) (m : HostMessage) (stamp : ℕ) (x : End) → same_host s.own m.flow.destination ≡ true → (m.flow.link.0 == 0) ≡ true → is_ready (pair_with m.flow.source s.peers).phase ≡ true → AreJoint (orders_of m.text) → AreFree m.flow.source stamp (orders_of m.text) (turn_of s m.flow.source) → AllFit (marks_in (origin stamp) foreign own (orders_of m.text)) x → HasEnd origin own foreign (pair_with m.flow.source s.peers) x → HasEnd origin own foreign (pair_with m.flow.source (accepted s (inbound.Message m) stamp).0.peers) (all_taken (marks_in (origin stamp) foreign own (orders_of m.text)) x) }
+
+    // where it isn't, they do nothing
+    ensures idle { (origin : ℕ → ℕ) (own foreign : ℕ) (s : NcpState) (m : HostMessage) (stamp : ℕ) (x : End) → same_host s.own m.flow.destination ≡ true → (m.flow.link.0 == 0) ≡ true → is_ready (pair_with m.flow.source s.peers).phase ≡ false → AreJoint (orders_of m.text) → HasEnd origin own foreign (pair_with m.flow.source s.peers) x → HasEnd origin own foreign (pair_with m.flow.source (accepted s (inbound.Message m) stamp).0.peers) x }
+
+    // an RST leaves no end, and an RRP leaves it as it is
+    ensures reset { (origin : ℕ → ℕ) (own foreign : ℕ) (s : NcpState) (m : HostMessage) (stamp : ℕ) → same_host s.own m.flow.destination ≡ true → (m.flow.link.0 == 0) ≡ true → orders_of m.text ≡ Legal command.Rst ∷ [] → HasEnd origin own foreign (pair_with m.flow.source (accepted s (inbound.Message m) stamp).0.peers) nothing }
+    ensures reply { (origin : ℕ → ℕ) (own foreign : ℕ) (s : NcpState) (m : HostMessage) (stamp : ℕ) (x : End) → same_host s.own m.flow.destination ≡ true → (m.flow.link.0 == 0) ≡ true → orders_of m.text ≡ Legal command.Rrp ∷ [] → HasEnd origin own foreign (pair_with m.flow.source s.peers) x → HasEnd origin own foreign (pair_with m.flow.source (accepted s (inbound.Message m) stamp).0.peers) x }
+
+    // so do data
+    ensures data { (origin : ℕ → ℕ) (own foreign : ℕ) (s : NcpState) (m : HostMessage) (stamp : ℕ) (x : End) → same_host s.own m.flow.destination ≡ true → (m.flow.link.0 == 0) ≡ false → HasEnd origin own foreign (pair_with m.flow.source s.peers) x → HasEnd origin own foreign (pair_with m.flow.source (accepted s (inbound.Message m) stamp).0.peers) x }
+
+    // an answer leaves it too, but where the pair is ready no longer
+    ensures answer { (origin : ℕ → ℕ) (own foreign : ℕ) (s : NcpState) (kind : Answer) (f : Flow) (stamp : ℕ) (x : End) → HasEnd origin own foreign (pair_with f.destination s.peers) x → HasEnd origin own foreign (pair_with f.destination (accepted s (inbound.Answer kind f) stamp).0.peers) (kept_in (pair_with f.destination (accepted s (inbound.Answer kind f) stamp).0.peers) x) }
+{}
+
+/// The openings of which a host's user is told are lives of the law: what was told stays some of the lives, in their order, after each
+/// call. A partner's request is told by the place where it was taken, and the law's by that where it went out.
+pub fn openings()
+    // what goes out, and commands that are in order, make the lives that the law says
+    ensures offer { (origin : ℕ → ℕ) (own foreign : ℕ) (s : NcpState) (stamp : ℕ) (g : Peer) (parcel : Parcel) (x : End) (told lives : List Life) → AreInOrder s.peers → next_in s.peers ≡ Some (g, parcel) → HasEnd origin own foreign (pair_with g.host s.peers) x → AreAmong told lives → AreAmong (with_openings origin own foreign (offered s stamp).1 told) (all_lives_gone (marks stamp own foreign (commands_of g.pair parcel)) x lives) }
+    ensures commands { (origin : ℕ → ℕ) (own foreign : ℕ) (s : NcpState) (m : HostMessage) (stamp : ℕ) (x : End) (told lives : List Life) → same_host s.own m.flow.destination ≡ true → (m.flow.link.0 == 0) ≡ true → is_ready (pair_with m.flow.source s.peers).phase ≡ true → AreJoint (orders_of m.text) → AreFree m.flow.source stamp (orders_of m.text) (turn_of s m.flow.source) → AllFit (marks_in (origin stamp) foreign own (orders_of m.text)) x → HasEnd origin own foreign (pair_with m.flow.source s.peers) x → AreAmong told lives → AreAmong (with_openings origin own foreign (accepted s (inbound.Message m) stamp).1 told) (all_lives_taken (marks_in (origin stamp) foreign own (orders_of m.text)) x lives) }
+
+    // nothing else tells of an opening: commands where the pair isn't ready, an RST, an RRP, data, an answer and what a user asks for
+    ensures idle { (origin : ℕ → ℕ) (own foreign : ℕ) (s : NcpState) (m : HostMessage) (stamp : ℕ) → same_host s.own m.flow.destination ≡ true → (m.flow.link.0 == 0) ≡ true → is_ready (pair_with m.flow.source s.peers).phase ≡ false → AreJoint (orders_of m.text) → (told : List Life) → with_openings origin own foreign (accepted s (inbound.Message m) stamp).1 told ≡ told }
+    ensures reset { (origin : ℕ → ℕ) (own foreign : ℕ) (s : NcpState) (m : HostMessage) (stamp : ℕ) → same_host s.own m.flow.destination ≡ true → (m.flow.link.0 == 0) ≡ true → orders_of m.text ≡ Legal command.Rst ∷ [] → (told : List Life) → with_openings origin own foreign (accepted s (inbound.Message m) stamp).1 told ≡ told }
+    ensures reply { (origin : ℕ → ℕ) (own foreign : ℕ) (s : NcpState) (m : HostMessage) (stamp : ℕ) → same_host s.own m.flow.destination ≡ true → (m.flow.link.0 == 0) ≡ true → orders_of m.text ≡ Legal command.Rrp ∷ [] → (told : List Life) → with_openings origin own foreign (accepted s (inbound.Message m) stamp).1 told ≡ told }
+    ensures data { (origin : ℕ → ℕ) (own foreign : ℕ) (s : NcpState) (m : HostMessage) (stamp : ℕ) (told lives : List Life) → same_host s.own m.flow.destination ≡ true → (m.flow.link.0 == 0) ≡ false → AreAmong told lives → AreAmong (with_openings origin own foreign (accepted s (inbound.Message m) stamp).1 told) lives }
+    ensures answer { (origin : ℕ → ℕ) (own foreign : ℕ) (s : NcpState) (kind : Answer) (f : Flow) (stamp : ℕ) (told : List Life) → with_openings origin own foreign (accepted s (inbound.Answer kind f) stamp).1 told ≡ told }
+    ensures request { (origin : ℕ → ℕ) (own foreign : ℕ) (s : NcpState) (r : Request) (told : List Life) → with_openings origin own foreign (served_notices s r) told ≡ told }
+{}
+
+/// What a host's user knows to be open is open: where its program told it of an opening on two sockets with a peer, and hasn't told since that the
+/// end is over, the law's end there is open by the two requests that were told. Each call keeps this.
+pub fn endings()
+    // what goes out, and commands that are in order, have the end that the law gives. Where both CLS have passed the user is told
+    ensures offer { (origin : ℕ → ℕ) (own foreign : ℕ) (s : NcpState) (stamp : ℕ) (g : Peer) (parcel : Parcel) (x : End) (known : List Life) → AreInOrder s.peers → next_in s.peers ≡ Some (g, parcel) → HasEnd origin own foreign (pair_with g.host s.peers) x → Knows known x → Knows (all_known origin g.host own foreign (offered s stamp).1 known) (all_gone (marks stamp own foreign (commands_of g.pair parcel)) x) }
+    ensures commands { (origin : ℕ → ℕ) (own foreign : ℕ) (s : NcpState) (m : HostMessage) (stamp : ℕ) (x : End) (known : List Life) → same_host s.own m.flow.destination ≡ true → (m.flow.link.0 == 0) ≡ true → is_ready (pair_with m.flow.source s.peers).phase ≡ true → AreJoint (orders_of m.text) → AreFree m.flow.source stamp (orders_of m.text) (turn_of s m.flow.source) → AllFit (marks_in (origin stamp) foreign own (orders_of m.text)) x → HasEnd origin own foreign (pair_with m.flow.source s.peers) x → Knows known x → Knows (all_known origin m.flow.source own foreign (accepted s (inbound.Message m) stamp).1 known) (all_taken (marks_in (origin stamp) foreign own (orders_of m.text)) x) }
+
+    // an RST leaves no end, and the user is told; so does an answer where the pair is ready no longer, and a contact
+    ensures reset { (origin : ℕ → ℕ) (own foreign : ℕ) (s : NcpState) (m : HostMessage) (stamp : ℕ) (x : End) (known : List Life) → same_host s.own m.flow.destination ≡ true → (m.flow.link.0 == 0) ≡ true → orders_of m.text ≡ Legal command.Rst ∷ [] → HasEnd origin own foreign (pair_with m.flow.source s.peers) x → Knows known x → Knows (all_known origin m.flow.source own foreign (accepted s (inbound.Message m) stamp).1 known) nothing }
+    ensures answer { (origin : ℕ → ℕ) (own foreign : ℕ) (s : NcpState) (kind : Answer) (f : Flow) (stamp : ℕ) (x : End) (known : List Life) → HasEnd origin own foreign (pair_with f.destination s.peers) x → Knows known x → Knows (all_known origin f.destination own foreign (accepted s (inbound.Answer kind f) stamp).1 known) (kept_in (pair_with f.destination (accepted s (inbound.Answer kind f) stamp).0.peers) x) }
+    ensures request { (origin : ℕ → ℕ) (own foreign : ℕ) (s : NcpState) (r : Request) (peer : Host) (x : End) (known : List Life) → HasEnd origin own foreign (pair_with peer s.peers) x → Knows known x → Knows (all_known origin peer own foreign (served_notices s r) known) (after_request peer r x) }
+
+    // commands where the pair isn't ready, an RRP and data change nothing of what is known, nor does what is told of another peer
+    ensures idle { (origin : ℕ → ℕ) (own foreign : ℕ) (s : NcpState) (m : HostMessage) (stamp : ℕ) (known : List Life) → same_host s.own m.flow.destination ≡ true → (m.flow.link.0 == 0) ≡ true → is_ready (pair_with m.flow.source s.peers).phase ≡ false → AreJoint (orders_of m.text) → all_known origin m.flow.source own foreign (accepted s (inbound.Message m) stamp).1 known ≡ known }
+    ensures reply { (origin : ℕ → ℕ) (own foreign : ℕ) (s : NcpState) (m : HostMessage) (stamp : ℕ) (known : List Life) → same_host s.own m.flow.destination ≡ true → (m.flow.link.0 == 0) ≡ true → orders_of m.text ≡ Legal command.Rrp ∷ [] → all_known origin m.flow.source own foreign (accepted s (inbound.Message m) stamp).1 known ≡ known }
+    ensures data { (origin : ℕ → ℕ) (own foreign : ℕ) (s : NcpState) (m : HostMessage) (stamp : ℕ) (known : List Life) → same_host s.own m.flow.destination ≡ true → (m.flow.link.0 == 0) ≡ false → all_known origin m.flow.source own foreign (accepted s (inbound.Message m) stamp).1 known ≡ known }
+    ensures others { (origin : ℕ → ℕ) (own foreign : ℕ) (peer other : Host) (notices : List Notice) (known : List Life) → AreAbout other notices → same_host peer other ≡ false → all_known origin peer own foreign notices known ≡ known }
+{}
+
+/// Where the users of two hosts both know of an open end on the same sockets, each end is the other's partner, if the two ends of
+/// which they know are those of a run of the law.
+pub fn known_partners()
+    // as far as one pair of their sockets goes
+    ensures pair { (events : List pairing.Event) (known others : List Life) (x y : Life) → pairing.IsRun events → Knows known (both events).one.end → Knows others (both events).two.end → IsIn x known → IsIn y others → ArePartners x y }
+
+    // and over all connections one way
+    ensures links { (steps : List Step) (s : Sockets) (known others : List Life) (x y : Life) → AreSteps steps → Knows known (receiver s steps).end → Knows others (sender s steps).end → IsIn x known → IsIn y others → ArePartners x y }
+{}
+
+/// Openings that are told, and lives.
+pub fn worked_openings()
+    // an opening of the two sockets is a life, the newest first; one of other sockets, or the same the other way, is none
+    ensures told { with_openings (λ p. p + 20) 16 33 (notice.Opened 16 second 33 6 10 ∷ notice.Ended 16 second 33 ∷ notice.Opened 16 second 33 14 15 ∷ []) [] ≡ record { own = 14; partner = 35 } ∷ record { own = 6; partner = 30 } ∷ [] }
+    ensures apart { with_openings (λ p. p) 16 33 (notice.Opened 33 first 16 8 7 ∷ notice.Opened 16 second 35 6 10 ∷ notice.Opened 18 second 33 6 10 ∷ []) [] ≡ [] }
+
+    // the lives of what was said, and of what was heard
+    ensures said { all_lives_gone (Ask 6 ∷ Close ∷ []) (record { asked = None; partner = Some 8; gone = false; taken = false }) [] ≡ record { own = 6; partner = 8 } ∷ [] }
+    ensures heard { all_lives_taken (Ask 8 ∷ Close ∷ []) (record { asked = Some 6; partner = None; gone = false; taken = false }) [] ≡ record { own = 6; partner = 8 } ∷ [] }
+
+    // the request of the next connection makes no life with the partner of the last
+    ensures next_said { all_lives_gone (Close ∷ Ask 7 ∷ []) (record { asked = Some 3; partner = Some 4; gone = false; taken = true }) [] ≡ [] }
+    ensures next_heard { all_lives_taken (Close ∷ Ask 7 ∷ []) (record { asked = Some 3; partner = Some 4; gone = true; taken = false }) [] ≡ [] }
+
+    // some of others, in their order; not others, not in another order, and none twice
+    ensures some { AreAmong (record { own = 1; partner = 2 } ∷ record { own = 5; partner = 6 } ∷ []) (record { own = 1; partner = 2 } ∷ record { own = 3; partner = 4 } ∷ record { own = 5; partner = 6 } ∷ []) }
+    ensures turned { AreAmong (record { own = 5; partner = 6 } ∷ record { own = 1; partner = 2 } ∷ []) (record { own = 1; partner = 2 } ∷ record { own = 5; partner = 6 } ∷ []) → ⊥ }
+    ensures twice { AreAmong (record { own = 1; partner = 2 } ∷ record { own = 1; partner = 2 } ∷ []) (record { own = 1; partner = 2 } ∷ []) → ⊥ }
+
+    // both programs of a dialogue tell of the life that the other's has, turned about
+    ensures dialogue { with_openings (λ p. if p == 10 then 8 else 0) 16 33 (map (λ n. n.1) (filter (λ n. same_host first n.0) (talk (reset ++ opening_connection ++ closing)).notices)) [] ≡ record { own = 6; partner = 8 } ∷ [] }
+{}
+
+/// What a host's user knows of its end on socket 16, with socket 33 of host `second`.
+pub fn worked_endings()
+    // an opening is known by its two requests, the partner's by the place where it went out
+    ensures opened { all_known (λ p. p + 20) second 16 33 (notice.Opened 16 second 33 14 15 ∷ []) [] ≡ record { own = 14; partner = 35 } ∷ [] }
+
+    // until the end is told to be over, or all connections with the peer are
+    ensures ended { all_known (λ p. p + 20) second 16 33 (notice.Opened 16 second 33 14 15 ∷ notice.Ended 16 second 33 ∷ []) [] ≡ [] }
+    ensures reset { all_known (λ p. p + 20) second 16 33 (notice.Opened 16 second 33 14 15 ∷ notice.PairReset second ∷ []) [] ≡ [] }
+
+    // the next opening is another one
+    ensures again { all_known (λ p. p + 20) second 16 33 (notice.Opened 16 second 33 14 15 ∷ notice.Ended 16 second 33 ∷ notice.Opened 16 second 33 6 10 ∷ []) [] ≡ record { own = 6; partner = 30 } ∷ [] }
+
+    // where none was told to be over, both are known; but no end is open by both
+    ensures twice { all_known (λ p. p + 20) second 16 33 (notice.Opened 16 second 33 14 15 ∷ notice.Opened 16 second 33 6 10 ∷ []) [] ≡ record { own = 6; partner = 30 } ∷ record { own = 14; partner = 35 } ∷ [] }
+    ensures two { Knows (record { own = 6; partner = 8 } ∷ record { own = 6; partner = 4 } ∷ []) (record { asked = Some 6; partner = Some 8; gone = false; taken = false }) → ⊥ }
+
+    // ends of other sockets, of the same the other way and of another peer are others, and data tell nothing
+    ensures sockets { all_known (λ p. p + 20) second 16 33 (notice.Ended 33 second 16 ∷ notice.Ended 16 second 35 ∷ notice.Ended 18 second 33 ∷ notice.Opened 33 second 16 8 7 ∷ notice.Opened 16 second 35 6 10 ∷ notice.Opened 18 second 33 6 10 ∷ []) (record { own = 14; partner = 35 } ∷ []) ≡ record { own = 14; partner = 35 } ∷ [] }
+    ensures peers { all_known (λ p. p + 20) second 16 33 (notice.Ended 16 third 33 ∷ notice.PairReset third ∷ notice.Opened 16 third 33 6 10 ∷ []) (record { own = 14; partner = 35 } ∷ []) ≡ record { own = 14; partner = 35 } ∷ [] }
+    ensures data { all_known (λ p. p + 20) second 16 33 (notice.Sent 16 (true ∷ []) ∷ notice.Arrived 16 (true ∷ []) ∷ notice.Interrupt 16 ∷ []) [] ≡ [] }
+
+    // an end that is known is open by these two requests, also while it closes; not by others, and not turned about
+    ensures open { Knows (record { own = 6; partner = 8 } ∷ []) (record { asked = Some 6; partner = Some 8; gone = true; taken = false }) }
+    ensures turned { Knows (record { own = 6; partner = 8 } ∷ []) (record { asked = Some 8; partner = Some 6; gone = false; taken = false }) → ⊥ }
+    ensures older { Knows (record { own = 6; partner = 8 } ∷ []) (record { asked = Some 6; partner = Some 4; gone = false; taken = false }) → ⊥ }
+
+    // one that waits for its partner isn't, nor is one that is over; where nothing is known nothing is said
+    ensures waiting { Knows (record { own = 6; partner = 8 } ∷ []) (record { asked = Some 6; partner = None; gone = false; taken = false }) → ⊥ }
+    ensures over { Knows (record { own = 6; partner = 8 } ∷ []) nothing → ⊥ }
+    ensures nobody { Knows [] (record { asked = Some 6; partner = Some 8; gone = false; taken = false }) }
+
+    // in a dialogue host `first` knows of its end while it is open
+    ensures dialogue { all_known (λ p. if p == 10 then 8 else 0) second 16 33 (map (λ n. n.1) (filter (λ n. same_host first n.0) (talk (reset ++ opening_connection)).notices)) [] ≡ record { own = 6; partner = 8 } ∷ [] }
+    ensures closed { all_known (λ p. if p == 10 then 8 else 0) second 16 33 (map (λ n. n.1) (filter (λ n. same_host first n.0) (talk (reset ++ opening_connection ++ closing)).notices)) [] ≡ [] }
+
+    // and `second` of its own, the other way about: each is the other's partner, and with another place neither is
+    ensures peer { all_known (λ p. if p == 7 then 6 else 0) first 33 16 (map (λ n. n.1) (filter (λ n. same_host second n.0) (talk (reset ++ opening_connection)).notices)) [] ≡ record { own = 8; partner = 6 } ∷ [] }
+    ensures partners { ArePartners (record { own = 6; partner = 8 }) (record { own = 8; partner = 6 }) }
+    ensures apart { ArePartners (record { own = 6; partner = 8 }) (record { own = 8; partner = 4 }) → ⊥ }
+    ensures older_partner { ArePartners (record { own = 6; partner = 4 }) (record { own = 8; partner = 6 }) → ⊥ }
+{}
+
+/// What two hosts said and heard of two sockets since both were through a reset, over the law of resets.
+pub fn words()
+    // a text that carries its place is parted again
+    ensures parted { (place : ℕ) (text : List Bool) → untagged (tagged place text) ≡ (place, text) }
+
+    // what a host heard is what its peer said first, mark by mark and place by place
+    ensures front { (hosts : List Host) (events : List Event) → IsRun hosts events → (a b : Host) (own foreign : ℕ) → IsOlder (listened a b own foreign events) (spoken a b own foreign events) }
+{}
+
+/// Words of two sockets: host `one` asks host `two` for a connection, and closes it, in one message.
+pub fn worked_spoken()
+    // the message goes out at place 5; the newest mark comes first
+    ensures said { spoken one two 16 33 (Out one two 0 (Other asking) ∷ reset_of_two) ≡ Close ∷ Ask 5 ∷ [] }
+    ensures unheard { listened one two 16 33 (Out one two 0 (Other asking) ∷ reset_of_two) ≡ [] }
+    ensures heard { listened one two 16 33 (In one two 0 (Other asking) ∷ Out one two 0 (Other asking) ∷ reset_of_two) ≡ Close ∷ Ask 5 ∷ [] }
+
+    // nothing is said of the same sockets the other way, by the other host, or out of a stay
+    ensures turned { spoken one two 33 16 (Out one two 0 (Other asking) ∷ reset_of_two) ≡ [] }
+    ensures peer { spoken two one 16 33 (Out one two 0 (Other asking) ∷ reset_of_two) ≡ [] }
+    ensures alone { spoken one two 16 33 (Out one two 0 (Other asking) ∷ []) ≡ [] }
+{}
+
+/// What commands say of two sockets.
+pub fn worked_words()
+    // the receiver of sockets 16 and 33 asks by an RTS, the sender by an STR, and each closes by a CLS
+    ensures receiver { marks 5 16 33 (command.Rts 16 33 2 ∷ command.Cls 16 33 ∷ []) ≡ Ask 5 ∷ Close ∷ [] }
+    ensures sender { marks 5 33 16 (command.Str 33 16 8 ∷ command.Cls 33 16 ∷ []) ≡ Ask 5 ∷ Close ∷ [] }
+
+    // nothing of that is said of the same sockets the other way, or of others
+    ensures apart { marks 5 33 16 (command.Rts 16 33 2 ∷ command.Cls 16 33 ∷ command.Str 35 16 8 ∷ command.Str 33 18 8 ∷ command.All 2 1 100 ∷ []) ≡ [] }
+    ensures others { marks 5 16 33 (command.Rts 16 35 2 ∷ command.Rts 18 33 2 ∷ command.Cls 16 35 ∷ command.Cls 18 33 ∷ []) ≡ [] }
+
+    // an error that is read says nothing
+    ensures read { marks_in 5 16 33 (Wrong 1 (7 ∷ []) ∷ Legal (command.Cls 16 33) ∷ []) ≡ Close ∷ [] }
+
+    // one after the other, said and heard
+    ensures said { all_gone (Ask 5 ∷ Close ∷ []) nothing ≡ record { asked = Some 5; partner = None; gone = true; taken = false } }
+    ensures heard { all_taken (Ask 5 ∷ Close ∷ []) nothing ≡ record { asked = None; partner = Some 5; gone = false; taken = true } }
+
+    // a CLS that ends the connection, and the request of the next one
+    ensures next_said { all_gone (Close ∷ Ask 7 ∷ []) (record { asked = Some 3; partner = Some 4; gone = false; taken = true }) ≡ record { asked = Some 7; partner = None; gone = false; taken = false } }
+    ensures next_heard { all_taken (Close ∷ Ask 7 ∷ []) (record { asked = Some 3; partner = Some 4; gone = true; taken = false }) ≡ record { asked = None; partner = Some 7; gone = false; taken = false } }
+
+    // a request and its CLS may go out together, at a place that no request went out at before; two requests may not, and a CLS
+    // of nothing may not
+    ensures may { MayAllGo (Ask 5 ∷ Close ∷ []) nothing 5 }
+    ensures older { MayAllGo (Ask 5 ∷ []) nothing 6 → ⊥ }
+    ensures twice { MayAllGo (Ask 5 ∷ Ask 6 ∷ []) nothing 5 → ⊥ }
+    ensures same_place { MayAllGo (Ask 5 ∷ Close ∷ Ask 5 ∷ []) (record { asked = None; partner = Some 4; gone = false; taken = true }) 5 → ⊥ }
+    ensures nobody { MayAllGo (Close ∷ []) nothing 5 → ⊥ }
+
+    // a second request isn't in order, a CLS behind the first is
+    ensures second { AllFit (Ask 5 ∷ Ask 6 ∷ []) nothing → ⊥ }
+    ensures fits { AllFit (Ask 5 ∷ Close ∷ []) nothing }
+{}
+
+/// Ends as the law has them.
+pub fn worked_ends()
+    // an end that this host opened asks; one that was closed before its request went out asks and closes
+    ensures new { due 5 (standing (sending_end 33 16 8)) ≡ Ask 5 ∷ [] }
+    ensures called_off { due 5 (standing (record (sending_end 33 16 8) { closing = closing.Queued })) ≡ Ask 5 ∷ Close ∷ [] }
+
+    // one that drains has nothing to say yet, and one whose CLS has gone out has nothing more to say
+    ensures draining { due 5 (standing (record (sending_end 33 16 8) { asked = Some 3; closing = closing.Due })) ≡ [] }
+    ensures said { due 5 (standing (record (sending_end 33 16 8) { asked = Some 3; closing = closing.Sent })) ≡ [] }
+
+    // that of a request which is refused closes and doesn't ask; its partner's request went out where the place of its taking tells
+    ensures refusing { due 5 (standing (refused_end 33 16 9)) ≡ Close ∷ [] }
+    ensures refused { end_of (λ p. p + 20) (standing (refused_end 33 16 9)) ≡ record { asked = None; partner = Some 29; gone = false; taken = false } }
+
+    // once both CLS have passed there is none
+    ensures past { end_of (λ p. p) (record { mine = true; asked = Some 3; partner = Some 5; closing = closing.Sent; partner_closed = true }) ≡ nothing }
+
+    // a CLS before the own request, a foreign end that doesn't close or that has asked, and two ends of the same sockets don't stand
+    ensures early { IsSound true (record { mine = true; asked = None; partner = Some 5; closing = closing.Sent; partner_closed = false }) → ⊥ }
+    ensures kept { IsSound true (record { mine = false; asked = None; partner = Some 5; closing = closing.No; partner_closed = false }) → ⊥ }
+    ensures stranger { IsSound true (record { mine = false; asked = Some 3; partner = Some 5; closing = closing.Queued; partner_closed = false }) → ⊥ }
+    ensures twins { (s : Standing) (x : End) → Stand true (λ p. p) 5 (s ∷ s ∷ []) [] x → ⊥ }
+
+    // nor does one whose CLS have both passed, once it is to be swept
+    ensures swept { IsSound true (record { mine = true; asked = Some 3; partner = Some 5; closing = closing.Sent; partner_closed = true }) → ⊥ }
+    ensures unswept { IsSound false (record { mine = true; asked = Some 3; partner = Some 5; closing = closing.Sent; partner_closed = true }) }
+
+    // where there is no end the law has none, and an end that has to ask has its request in the queue
+    ensures nobody { Stand true (λ p. p) 5 [] [] (record { asked = Some 3; partner = None; gone = false; taken = false }) → ⊥ }
+    ensures silent { (x : End) → Stand true (λ p. p) 5 (standing (sending_end 33 16 8) ∷ []) [] x → ⊥ }
+    ensures unlike { Stand true (λ p. p) 5 (standing (sending_end 33 16 8) ∷ []) (Ask 5 ∷ []) (record { asked = Some 3; partner = None; gone = false; taken = false }) → ⊥ }
+
+    // a request of which nobody knows doesn't wait
+    ensures stray { (x : End) → Stand true (λ p. p) 5 [] (Ask 5 ∷ []) x → ⊥ }
+
+    // a pair that isn't ready has no end
+    ensures unready { HasEnd (λ p. p) 33 16 (record opening_pair { entries = record (sending_end 33 16 8) { asked = Some 3 } ∷ [] }) (record { asked = Some 3; partner = None; gone = false; taken = false }) → ⊥ }
+{}
+
+/// What a host finds.
+pub fn worked_finding()
+    // a link that a sending end has isn't free, another is
+    ensures used { NamesFreeLink (command.Rts 18 35 2) (asked_on_link 7 2 (sending_end 33 16 8) ∷ []) → ⊥ }
+    ensures free { NamesFreeLink (command.Rts 18 35 3) (asked_on_link 7 2 (sending_end 33 16 8) ∷ []) }
+
+    // a link that an RTS took in the same message isn't free for the next
+    ensures taken_up { AreFree second 7 (Legal (command.Rts 16 33 2) ∷ Legal (command.Rts 18 35 2) ∷ []) (record { pair = record opening_pair { phase = phase.Ready }; listening = record { socket = 33; size = 8 } ∷ []; notices = [] }) → ⊥ }
+
+    // an RST doesn't stand among other commands
+    ensures alone { AreJoint (Legal command.Nop ∷ Legal command.Rst ∷ []) → ⊥ }
+    ensures reply_alone { AreJoint (Legal command.Nop ∷ Legal command.Rrp ∷ []) → ⊥ }
+    ensures joint { AreJoint (Legal command.Nop ∷ Wrong 1 (7 ∷ []) ∷ []) }
+
+    // a contact drops the ends with its peer, and with no other
+    ensures dropped { after_request second (request.Contact second) (record { asked = Some 3; partner = None; gone = false; taken = false }) ≡ nothing }
+    ensures others { after_request third (request.Contact second) (record { asked = Some 3; partner = None; gone = false; taken = false }) ≡ record { asked = Some 3; partner = None; gone = false; taken = false } }
+
+    // a pair that isn't ready keeps none
+    ensures left { kept_in opening_pair (record { asked = Some 3; partner = None; gone = false; taken = false }) ≡ nothing }
+    ensures stays { kept_in (record opening_pair { phase = phase.Ready }) (record { asked = Some 3; partner = None; gone = false; taken = false }) ≡ record { asked = Some 3; partner = None; gone = false; taken = false } }
+{}
+
+/// Programs in a dialogue: host `first` receives on socket 16 what `second` sends from 33.
+pub fn worked_programs()
+    // its RTS goes out at place 6, and the STR that went out at place 8 is taken at place 10
+    ensures receiver { HasEnd (λ p. if p == 10 then 8 else 0) 16 33 (pair_with second (state_of (talk (reset ++ opening_connection)) first).peers) (record { asked = Some 6; partner = Some 8; gone = false; taken = false }) }
+
+    // the sender took the RTS at place 7
+    ensures sender { HasEnd (λ p. if p == 7 then 6 else 0) 33 16 (pair_with first (state_of (talk (reset ++ opening_connection)) second).peers) (record { asked = Some 8; partner = Some 6; gone = false; taken = false }) }
+
+    // after a CLS each way neither has an end
+    ensures closed { HasEnd (λ p. p) 16 33 (pair_with second (state_of (talk (reset ++ opening_connection ++ closing)) first).peers) nothing }
+    ensures over { HasEnd (λ p. p) 33 16 (pair_with first (state_of (talk (reset ++ opening_connection ++ closing)) second).peers) nothing }
+{}

@@ -1,0 +1,254 @@
+-- What the receiver of a link does by a command of its peer.
+use Rattle.std.proofs.Common.{◌≡◌, ℕ, ◌%◌, Bool, true, false, not, if◌then◌else◌, ◌&&◌, ◌==◌, List, [], ◌∷◌, ◌++◌, filter, Option, Some, None, is_some, refl, ap, sym, subst, ◌∙◌, eq-eqb}
+use Rattle.std.proofs.lemmas.Bool.{eqb-true, ne_eqb, or_parts}
+use Rattle.std.specs.List.{list_any}
+use Rattle.leader1822.specs.Host.{Host}
+use Rattle.ncp_control.specs.Command.{IsCommand}
+use Rattle.ncp_control.specs.Numbers.{is_receive_socket, is_send_socket}
+use Rattle.ncp_control.specs.declared.command.Command.{Command}
+use Rattle.ncp_control.specs.declared.command.Command.TheVariants as command
+use Rattle.stream_law.specs.Words as words
+use Rattle.stream_law.specs.Words.{for}
+use Rattle.stream_law.specs.Receivers as receivers
+use Rattle.stream_law.specs.Receivers.{Receiver}
+use Rattle.stream_law.proofs.lemmas.{for_here}
+use Rattle.host_pairs.specs.Commands.{asked_with_size, asked_on_link, cls_taken_by, rts_taken_by, rts_taken, str_heard, str_linked, str_taken, str_taken_by, rts_heard, desk_taken}
+use Rattle.host_pairs.specs.Desk.{DeskState, listener_on}
+use Rattle.host_pairs.specs.Entries.{changed_first, connection_links, entry_at, free_link, is_at, is_link, is_receiving, receiving_end, receives_on, refused_end, sending_end, sends_on}
+use Rattle.host_pairs.specs.declared.entry.Entry.{Entry}
+use Rattle.host_pairs.specs.declared.listener.Listener.{Listener}
+use Rattle.host_keeps_streams.specs.Closings.{all_received, MayAllReceive, received_close, received_open}
+use Rattle.host_keeps_streams.specs.Ends.{AreReceiver, HasReceiver}
+use Rattle.host_keeps_streams.specs.Moves.{answers_str, closes_on, cls_received, received_by, str_received}
+use Rattle.host_keeps_streams.specs.Names.{named, numbers, is_among, AreApart, IsNewReceived, NewReceived}
+use Rattle.host_keeps_streams.proofs.Lists.{append_off, append_on, away, find_passes, none_any, not_is, not_received}
+use Rattle.host_pairs.proofs.lemmas.{both, some_is}
+use Rattle.host_keeps_streams.specs.Said.{LeavesReceiver}
+use Rattle.host_keeps_streams.proofs.Quiet.{receiver_leaves}
+use Rattle.host_keeps_streams.proofs.Receivers.{ret_receives}
+use Rattle.host_keeps_streams.proofs.Opening.{and_no, number_passes}
+use Rattle.host_keeps_streams.proofs.Names.{among_filter, others}
+use Rattle.host_keeps_streams.proofs.Ending.{cls_receives, cls_elsewhere}
+use Rattle.host_keeps_streams.proofs.Opening as opening
+
+-- what a law's receiver has to do, and what it has afterwards
+abbrev pub Received : (ℕ → ℕ → ℕ) → ℕ → List receivers.Move → List Entry → Receiver → Type 0
+Received name link moves es r = MayAllReceive moves r × HasReceiver name link es (all_received moves r)
+
+-- an odd socket isn't even
+pub odd_is : (n : ℕ) → is_send_socket n ≡ true → is_receive_socket n ≡ false
+odd_is n e = ne_eqb (n % 2) 0 (λ same. (let one : n % 2 ≡ 1 = eqb-true (n % 2) 1 e in absurd (cc)))
+
+module _ (name : ℕ → ℕ → ℕ) where
+  -- what is heard of a connection that isn't on the link is no matter of its end
+  told_apart : (c z : ℕ) (xs : List Entry) (r : Receiver) → is_among c (numbers name xs) ≡ false → AreReceiver name xs r → AreReceiver name xs (receivers.hears (words.Str c z) r)
+  told_apart c z [] r n h = h
+  told_apart c z (x ∷ []) r n h =
+      let other : (named name x == c) ≡ false = (or_parts (named name x == c) false n).0 in
+      record { end = h.end; opened = h.opened; closed = h.closed; over = h.over; size = (rw other h.size); allocation = h.allocation; due = h.due; live = h.live }
+  told_apart c z (x ∷ y ∷ ys) r n h = h
+
+  over_apart : (c : ℕ) (xs : List Entry) (r : Receiver) → is_among c (numbers name xs) ≡ false → AreReceiver name xs r → AreReceiver name xs (receivers.hears (words.Cls c) r)
+  over_apart c [] r n h = h
+  over_apart c (x ∷ []) r n h =
+      let other : (named name x == c) ≡ false = (or_parts (named name x == c) false n).0 in
+      record { end = h.end; opened = h.opened; closed = h.closed; over = (rw other h.over); size = h.size; allocation = h.allocation; due = h.due; live = h.live }
+  over_apart c (x ∷ y ∷ ys) r n h = h
+
+module _ (name : ℕ → ℕ → ℕ) (link : ℕ) where
+  -- an end that is found is that of these sockets
+  pub own_name : (own foreign : ℕ) (e : Entry) (es : List Entry) → entry_at own foreign es ≡ Some e → named name e ≡ name own foreign
+  own_name own foreign e es found =
+      let t : ((e.own == own) ≡ true) × ((e.foreign == foreign) ≡ true) = both (e.own == own) (e.foreign == foreign) (find_passes (is_at own foreign) e es found) in
+      ap (λ (n : ℕ). name n e.foreign) (eqb-true e.own own t.0) ∙ ap (λ (n : ℕ). name own n) (eqb-true e.foreign foreign t.1)
+
+  pub own_parity : (own foreign : ℕ) (e : Entry) (es : List Entry) → entry_at own foreign es ≡ Some e → is_receiving e ≡ is_receive_socket own
+  own_parity own foreign e es found =
+      let t : ((e.own == own) ≡ true) × ((e.foreign == foreign) ≡ true) = both (e.own == own) (e.foreign == foreign) (find_passes (is_at own foreign) e es found) in
+      ap is_receive_socket (eqb-true e.own own t.0)
+
+  -- ---- an STR
+
+  module _ (peer : Host) (stamp own foreign z : ℕ) (d : DeskState) (r : Receiver) (even : is_receive_socket own ≡ true) (h : HasReceiver name link d.entries r) (a : AreApart (numbers name d.entries)) where
+    -- whatever comes isn't on this link
+    refused_here : is_among (name own foreign) (numbers name d.entries) ≡ false → (e : Entry) → receives_on link e ≡ false → Received name link (receivers.Hear (words.Str (name own foreign) z) ∷ []) (d.entries ++ e ∷ []) r
+    refused_here free e off = (
+      (tt, tt),
+      subst (λ (xs : List Entry). AreReceiver name xs (receivers.hears (words.Str (name own foreign) z) r)) (sym (append_off (receives_on link) e d.entries off))
+          (told_apart name (name own foreign) z (filter (receives_on link) d.entries) r (among_filter name (name own foreign) (receives_on link) d.entries free) h),
+    )
+
+    nowhere : (e : Entry) → e.link ≡ None → receives_on link e ≡ false
+    nowhere e none = ap (λ (o : Option ℕ). is_receiving e && is_link link o) none ∙ and_no (is_receiving e)
+
+    answered_on_link : IsNewReceived (name own foreign) (numbers name d.entries) r → free_link d.entries ≡ Some link
+        → Received name link (receivers.Hear (words.Str (name own foreign) z) ∷ receivers.Ask (name own foreign) ∷ []) (d.entries ++ asked_with_size stamp z (receiving_end own foreign link) ∷ []) r
+    answered_on_link new free =
+        let unused : list_any (receives_on link) d.entries ≡ false = not_is (list_any (receives_on link) d.entries) (number_passes (λ l. not (list_any (receives_on l) d.entries)) link connection_links free) in
+        let empty : filter (receives_on link) d.entries ≡ [] = none_any (receives_on link) d.entries unused in
+        let on : receives_on link (asked_with_size stamp z (receiving_end own foreign link)) ≡ true = (let there : (link == link) ≡ true = eq-eqb link link refl in rw (even, there) refl) in
+        let none : r.end ≡ None = subst (λ (xs : List Entry). AreReceiver name xs r) empty h in (
+          (tt, ((none, new.unasked), tt)),
+          subst (λ (xs : List Entry). AreReceiver name xs (all_received (receivers.Hear (words.Str (name own foreign) z) ∷ receivers.Ask (name own foreign) ∷ []) r)) (sym (append_on (receives_on link) (asked_with_size stamp z (receiving_end own foreign link)) d.entries on empty))
+              (record { end = refl; opened = refl; closed = refl; over = new.unheard; size = for_here (name own foreign) (Some z) r.size; allocation = refl; due = refl; live = refl }),
+        )
+
+    answered_by : IsNewReceived (name own foreign) (numbers name d.entries) r → (other : ℕ) → free_link d.entries ≡ Some other → (v : Bool) → (other == link) ≡ v
+        → Received name link (receivers.Hear (words.Str (name own foreign) z) ∷ answers_str link (name own foreign) (Some (record { socket = own; size = z })) (Some other)) (d.entries ++ asked_with_size stamp z (receiving_end own foreign other) ∷ []) r
+    answered_by new other free true e =
+        let same : other ≡ link = eqb-true other link e in
+        rw e (subst (λ (l : ℕ). Received name link (receivers.Hear (words.Str (name own foreign) z) ∷ receivers.Ask (name own foreign) ∷ []) (d.entries ++ asked_with_size stamp z (receiving_end own foreign l) ∷ []) r) (sym same)
+        (answered_on_link new (free ∙ ap (λ (l : ℕ). Some l) same)))
+    answered_by new other free false e =
+        rw e (refused_here new.free (asked_with_size stamp z (receiving_end own foreign other)) (ap (λ (v : Bool). is_receive_socket own && v) e ∙ and_no (is_receive_socket own)))
+
+    linked_by : IsNewReceived (name own foreign) (numbers name d.entries) r → (l : Listener) → (o : Option ℕ) → free_link d.entries ≡ o
+        → Received name link (receivers.Hear (words.Str (name own foreign) z) ∷ answers_str link (name own foreign) (Some l) o) (str_linked own foreign z stamp o d).entries r
+    linked_by new l None free = refused_here new.free (refused_end own foreign stamp) (nowhere (refused_end own foreign stamp) refl)
+    linked_by new l (Some other) free = answered_by new other free (other == link) refl
+
+    listened_by : IsNewReceived (name own foreign) (numbers name d.entries) r → (o : Option Listener)
+        → Received name link (receivers.Hear (words.Str (name own foreign) z) ∷ answers_str link (name own foreign) o (free_link d.entries)) (str_heard own foreign z stamp o d).entries r
+    listened_by new None = refused_here new.free (refused_end own foreign stamp) (nowhere (refused_end own foreign stamp) refl)
+    listened_by new (Some l) = linked_by new l (free_link d.entries) refl
+
+    -- an end is there
+    abbrev Told : Entry → Type 0
+    Told e = Received name link (str_received link (name own foreign) z (listener_on own d.listening) (free_link d.entries) (Some e)) (str_taken_by peer own foreign z stamp (Some e) d).entries r
+
+    told_here : (e : Entry) → entry_at own foreign d.entries ≡ Some e → is_some e.partner ≡ false → receives_on link e ≡ true → Told e
+    told_here e found first on =
+        let done : MayAllReceive (receivers.Hear (words.Str (named name e) z) ∷ received_open (is_some e.asked) (named name e)) r
+        × HasReceiver name link (str_taken_by peer own foreign z stamp (entry_at own foreign d.entries) d).entries (all_received (receivers.Hear (words.Str (named name e) z) ∷ received_open (is_some e.asked) (named name e)) r)
+        = opening.str_heard name link peer [] stamp own foreign z d e r found on first h in
+        let there : Received name link (receivers.Hear (words.Str (named name e) z) ∷ received_open (is_some e.asked) (named name e)) (str_taken_by peer own foreign z stamp (Some e) d).entries r
+        = subst (λ (o : Option Entry). Received name link (receivers.Hear (words.Str (named name e) z) ∷ received_open (is_some e.asked) (named name e)) (str_taken_by peer own foreign z stamp o d).entries r) found done in
+        let moved : Received name link (receivers.Hear (words.Str (name own foreign) z) ∷ received_open (is_some e.asked) (name own foreign)) (str_taken_by peer own foreign z stamp (Some e) d).entries r
+        = subst (λ (c : ℕ). Received name link (receivers.Hear (words.Str c z) ∷ received_open (is_some e.asked) c) (str_taken_by peer own foreign z stamp (Some e) d).entries r) (own_name own foreign e d.entries found) there in
+        rw (first, on) (rw first at moved)
+
+    told_away : (e : Entry) → entry_at own foreign d.entries ≡ Some e → is_some e.partner ≡ false → receives_on link e ≡ false → Told e
+    told_away e found first off =
+        let list : filter (receives_on link) (changed_first (is_at own foreign) (asked_with_size stamp z) d.entries) ≡ filter (receives_on link) d.entries
+        = away (is_at own foreign) (receives_on link) (asked_with_size stamp z) e d.entries off off found in
+        let free : is_among (name own foreign) (numbers name (filter (receives_on link) d.entries)) ≡ false
+        = subst (λ (c : ℕ). is_among c (numbers name (filter (receives_on link) d.entries)) ≡ false) (own_name own foreign e d.entries found) (others name (is_at own foreign) (receives_on link) e d.entries off a found) in
+        rw (first, off) ((tt, tt), subst (λ (xs : List Entry). AreReceiver name xs (receivers.hears (words.Str (name own foreign) z) r)) (sym list) (told_apart name (name own foreign) z (filter (receives_on link) d.entries) r free h))
+
+    told_by : (e : Entry) → entry_at own foreign d.entries ≡ Some e → (u v : Bool) → is_some e.partner ≡ u → receives_on link e ≡ v → Told e
+    told_by e found true v p o = rw p (tt, h)
+    told_by e found false true p o = told_here e found p o
+    told_by e found false false p o = told_away e found p o
+
+    str_by : (o : Option Entry) → entry_at own foreign d.entries ≡ o → (o ≡ None → IsNewReceived (name own foreign) (numbers name d.entries) r)
+        → Received name link (str_received link (name own foreign) z (listener_on own d.listening) (free_link d.entries) o) (str_taken_by peer own foreign z stamp o d).entries r
+    str_by None found new = listened_by (new refl) (listener_on own d.listening)
+    str_by (Some e) found new = told_by e found (is_some e.partner) (receives_on link e) refl refl
+
+    str_receives : (entry_at own foreign d.entries ≡ None → IsNewReceived (name own foreign) (numbers name d.entries) r)
+        → Received name link (str_received link (name own foreign) z (listener_on own d.listening) (free_link d.entries) (entry_at own foreign d.entries)) (str_taken peer own foreign z stamp d).entries r
+    str_receives new = str_by (entry_at own foreign d.entries) refl new
+
+  -- ---- a CLS
+
+  module _ (peer : Host) (busy : List ℕ) (stamp own foreign : ℕ) (d : DeskState) (r : Receiver) (h : HasReceiver name link d.entries r) (a : AreApart (numbers name d.entries)) where
+    abbrev Shut : Option Entry → Type 0
+    Shut o = Received name link (cls_received link (name own foreign) o) (cls_taken_by peer busy own foreign o d).entries r
+
+    -- nothing of it is this receiver's
+    cls_away : (q : Receiver) → HasReceiver name link d.entries q → (e : Entry) → entry_at own foreign d.entries ≡ Some e → receives_on link e ≡ false → HasReceiver name link (cls_taken_by peer busy own foreign (Some e) d).entries q
+    cls_away q k e found off =
+        let one : (x : Entry) → entry_at own foreign d.entries ≡ Some x → receives_on link x ≡ false
+        = λ x f. (let same : x ≡ e = some_is x e (sym f ∙ found) in ap (receives_on link) same ∙ off) in
+        subst (λ (o : Option Entry). HasReceiver name link (cls_taken_by peer busy own foreign o d).entries q) found (cls_elsewhere name link peer busy stamp own foreign d q one k)
+
+    cls_here : (e : Entry) → entry_at own foreign d.entries ≡ Some e → e.partner_closed ≡ false → receives_on link e ≡ true → Received name link (receivers.Hear (words.Cls (name own foreign)) ∷ closes_on link (name own foreign) e) (cls_taken_by peer busy own foreign (Some e) d).entries r
+    cls_here e found first on =
+        let done : Received name link (receivers.Hear (words.Cls (named name e)) ∷ received_close e.closing (named name e)) (cls_taken_by peer busy own foreign (entry_at own foreign d.entries) d).entries r
+        = cls_receives name link peer busy stamp own foreign d e r found on first h in
+        let there : Received name link (receivers.Hear (words.Cls (named name e)) ∷ received_close e.closing (named name e)) (cls_taken_by peer busy own foreign (Some e) d).entries r
+        = subst (λ (o : Option Entry). Received name link (receivers.Hear (words.Cls (named name e)) ∷ received_close e.closing (named name e)) (cls_taken_by peer busy own foreign o d).entries r) found done in
+        let own_one : Received name link (receivers.Hear (words.Cls (name own foreign)) ∷ received_close e.closing (name own foreign)) (cls_taken_by peer busy own foreign (Some e) d).entries r
+        = subst (λ (c : ℕ). Received name link (receivers.Hear (words.Cls c) ∷ received_close e.closing c) (cls_taken_by peer busy own foreign (Some e) d).entries r) (own_name own foreign e d.entries found) there in
+        subst (λ (v : Bool). Received name link (receivers.Hear (words.Cls (name own foreign)) ∷ (if v then received_close e.closing (name own foreign) else [])) (cls_taken_by peer busy own foreign (Some e) d).entries r) (sym on) own_one
+
+    cls_there : (e : Entry) → entry_at own foreign d.entries ≡ Some e → receives_on link e ≡ false → Received name link (receivers.Hear (words.Cls (name own foreign)) ∷ closes_on link (name own foreign) e) (cls_taken_by peer busy own foreign (Some e) d).entries r
+    cls_there e found off =
+        let free : is_among (name own foreign) (numbers name (filter (receives_on link) d.entries)) ≡ false
+        = subst (λ (c : ℕ). is_among c (numbers name (filter (receives_on link) d.entries)) ≡ false) (own_name own foreign e d.entries found) (others name (is_at own foreign) (receives_on link) e d.entries off a found) in
+        subst (λ (v : Bool). Received name link (receivers.Hear (words.Cls (name own foreign)) ∷ (if v then received_close e.closing (name own foreign) else [])) (cls_taken_by peer busy own foreign (Some e) d).entries r) (sym off)
+        ((tt, tt), cls_away (receivers.hears (words.Cls (name own foreign)) r) (over_apart name (name own foreign) (filter (receives_on link) d.entries) r free h) e found off)
+
+    is_first : (e : Entry) → is_receiving e ≡ true → e.partner_closed ≡ false → (is_receiving e && not e.partner_closed) ≡ true
+    is_first e i p = rw (i, p) refl
+
+    shut_by : (e : Entry) → entry_at own foreign d.entries ≡ Some e → (u v w : Bool) → is_receiving e ≡ u → e.partner_closed ≡ v → receives_on link e ≡ w → Shut (Some e)
+    shut_by e found false v w i p o = subst (λ (b : Bool). Received name link (if b && not e.partner_closed then receivers.Hear (words.Cls (name own foreign)) ∷ closes_on link (name own foreign) e else []) (cls_taken_by peer busy own foreign (Some e) d).entries r) (sym i)
+        (tt, cls_away r h e found (not_received link e i))
+    shut_by e found true true w i p o = rw (i, p) (tt, h)
+    shut_by e found true false true i p o =
+        subst (λ (b : Bool). Received name link (if b then receivers.Hear (words.Cls (name own foreign)) ∷ closes_on link (name own foreign) e else []) (cls_taken_by peer busy own foreign (Some e) d).entries r) (sym (is_first e i p)) (cls_here e found p o)
+    shut_by e found true false false i p o =
+        subst (λ (b : Bool). Received name link (if b then receivers.Hear (words.Cls (name own foreign)) ∷ closes_on link (name own foreign) e else []) (cls_taken_by peer busy own foreign (Some e) d).entries r) (sym (is_first e i p)) (cls_there e found o)
+
+    cls_by : (o : Option Entry) → entry_at own foreign d.entries ≡ o → Shut o
+    cls_by None found = (tt, h)
+    cls_by (Some e) found = shut_by e found (is_receiving e) e.partner_closed (receives_on link e) refl refl refl
+
+    pub cls_hears : Shut (entry_at own foreign d.entries)
+    cls_hears = cls_by (entry_at own foreign d.entries) refl
+
+  -- ---- an RTS is no matter of a receiver
+
+  module _ (peer : Host) (stamp own foreign l : ℕ) (d : DeskState) (r : Receiver) (odd : is_receive_socket own ≡ false) (h : HasReceiver name link d.entries r) where
+    rts_more : (e : Entry) → is_receiving e ≡ false → HasReceiver name link (d.entries ++ e ∷ []) r
+    rts_more e i = subst (λ (xs : List Entry). AreReceiver name xs r) (sym (append_off (receives_on link) e d.entries (not_received link e i))) h
+
+    rts_found : (e : Entry) → entry_at own foreign d.entries ≡ Some e → (v : Bool) → is_some e.partner ≡ v → HasReceiver name link (rts_taken_by peer own foreign l stamp (Some e) d).entries r
+    rts_found e found true p = rw p h
+    rts_found e found false p =
+        let off : is_receiving e ≡ false = own_parity own foreign e d.entries found ∙ odd in
+        rw p (subst (λ (xs : List Entry). AreReceiver name xs r) (sym (away (is_at own foreign) (receives_on link) (asked_on_link stamp l) e d.entries (not_received link e off) (not_received link (asked_on_link stamp l e) off) found)) h)
+
+    rts_listened : (o : Option Listener) → HasReceiver name link (rts_heard own foreign l stamp o d).entries r
+    rts_listened None = rts_more (refused_end own foreign stamp) odd
+    rts_listened (Some x) = rts_more (asked_on_link stamp l (sending_end own foreign x.size)) odd
+
+    rts_by : (o : Option Entry) → entry_at own foreign d.entries ≡ o → HasReceiver name link (rts_taken_by peer own foreign l stamp o d).entries r
+    rts_by None found = rts_listened (listener_on own d.listening)
+    rts_by (Some e) found = rts_found e found (is_some e.partner) refl
+
+    rts_linked : (v : Bool) → list_any (sends_on l) d.entries ≡ v → HasReceiver name link (rts_taken peer own foreign l stamp d).entries r
+    rts_linked true used = rw used h
+    rts_linked false used = rw used (rts_by (entry_at own foreign d.entries) refl)
+
+    rts_leaves : HasReceiver name link (rts_taken peer own foreign l stamp d).entries r
+    rts_leaves = rts_linked (list_any (sends_on l) d.entries) refl
+
+  -- ---- all commands
+
+  ret_by : (peer : Host) (busy : List ℕ) (stamp k l m n : ℕ) (d : DeskState) (r : Receiver) → HasReceiver name link d.entries r → (v : Bool) → (l == link) ≡ v
+      → Received name link (if v then receivers.Hear (words.Ret k m n) ∷ [] else []) (desk_taken peer busy stamp (command.Ret l m n) d).entries r
+  ret_by peer busy stamp k l m n d r h true e =
+      ((tt, tt), subst (λ (x : ℕ). HasReceiver name link (desk_taken peer busy stamp (command.Ret x m n) d).entries (receivers.takes_back m n r.end r)) (sym (eqb-true l link e)) (ret_receives name link peer busy stamp m n d r h))
+  ret_by peer busy stamp k l m n d r h false e = (tt, subst (λ (xs : List Entry). AreReceiver name xs r) (sym (receiver_leaves link peer busy stamp (command.Ret l m n) d e)) h)
+
+  module _ (peer : Host) (busy : List ℕ) (stamp k : ℕ) (d : DeskState) (r : Receiver) (h : HasReceiver name link d.entries r) where
+    left : (c : Command) → LeavesReceiver link c → Received name link [] (desk_taken peer busy stamp c d).entries r
+    left c l = (tt, subst (λ (xs : List Entry). AreReceiver name xs r) (sym (receiver_leaves link peer busy stamp c d l)) h)
+
+    pub hears_all : (c : Command) → IsCommand c → AreApart (numbers name d.entries) → NewReceived name c d.entries r → Received name link (received_by name link k c d) (desk_taken peer busy stamp c d).entries r
+    hears_all command.Nop i a new = left command.Nop tt
+    hears_all (command.Rts receive send l) i a new = (tt, rts_leaves peer stamp send receive l d r (odd_is send i.3) h)
+    hears_all (command.Str send receive size) i a new = str_receives peer stamp receive send size d r i.3 h a new
+    hears_all (command.Cls foreign own) i a new = cls_hears peer busy stamp own foreign d r h a
+    hears_all (command.All l m n) i a new = left (command.All l m n) tt
+    hears_all (command.Gvb l m n) i a new = left (command.Gvb l m n) tt
+    hears_all (command.Ret l m n) i a new = ret_by peer busy stamp k l m n d r h (l == link) refl
+    hears_all (command.Inr l) i a new = left (command.Inr l) tt
+    hears_all (command.Ins l) i a new = left (command.Ins l) tt
+    hears_all (command.Eco octet) i a new = left (command.Eco octet) tt
+    hears_all (command.Erp octet) i a new = left (command.Erp octet) tt
+    hears_all (command.Err code detail) i a new = left (command.Err code detail) tt
+    hears_all command.Rst i a new = left command.Rst tt
+    hears_all command.Rrp i a new = left command.Rrp tt

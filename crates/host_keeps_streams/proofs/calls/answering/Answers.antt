@@ -1,0 +1,20 @@
+use Rattle.host_pairs.specs.Turn.{answered_turn}
+use Rattle.leader1822.specs.declared.crossing.Answer.TheVariants as answer
+use Rattle.std.proofs.Common.{◌++◌}
+use Rattle.host_pairs.specs.Turn.{freed}
+use Rattle.host_pairs.specs.Desk.{desk_of}
+use Rattle.host_keeps_streams.specs.Moves.{closes, told_on}
+use Rattle.host_keeps_streams.proofs.Asks.{settled_received, settled_sound, told_sent}
+use Rattle.host_keeps_streams.proofs.Known.{Sent}
+use Rattle.host_keeps_streams.proofs.calls.answering.Goals as goal
+
+pub returns-clause-received : goal.returns-clause-received
+returns-clause-received c name link l peer t r h = settled_received name link (freed l t.pair).busy (desk_of t.pair t.listening) r h
+
+pub returns-clause-sent : goal.returns-clause-sent
+returns-clause-sent c name link l peer t s sound h =
+    let done : Sent name link (told_on link l ++ closes name (freed l t.pair).busy t.pair.entries) (answered_turn peer answer.Rfnm l t).pair.entries s = told_sent name link (freed l t.pair).busy (desk_of t.pair t.listening) l s h.here h.known sound in
+    (done.may, record { here = done.has; known = done.known })
+
+pub returns-clause-sound : goal.returns-clause-sound
+returns-clause-sound c name l peer t sound = settled_sound name l (freed l t.pair).busy (desk_of t.pair t.listening) sound

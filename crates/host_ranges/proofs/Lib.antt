@@ -1,5 +1,0 @@
-pub mod Orders
-pub mod Desks
-pub mod Takes
-pub mod Calls
-pub mod Requests

@@ -1,5 +1,0 @@
-use Rattle.host_ranges.proofs.Calls.{offer_read}
-use Rattle.host_ranges.proofs.law.reading.Goals as goal
-
-pub returns : goal.returns
-returns c = record { again = offer_read }

@@ -1,4 +1,0 @@
-use Rattle.host_streams.proofs.calls.beginning.Goals as goal
-
-pub returns-clause-sent : goal.returns-clause-sent
-returns-clause-sent c name link = record { here = λ k f o. absurd (cc); known = tt }

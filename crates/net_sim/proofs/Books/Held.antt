@@ -1,0 +1,204 @@
+-- What a world keeps is enough for its next event.
+use Rattle.std.proofs.Common.{◌≡◌, ℕ, Bool, true, false, ◌||◌, if◌then◌else◌, List, [], ◌∷◌, map, Option, Some, None, IfSome, All, Result, refl, ap, sym, subst, ◌∙◌}
+use Rattle.std.specs.Bool.{MatchBool}
+use Rattle.std.proofs.lemmas.List.Elements.{All-nil, All-cons, All-head, All-tail}
+use Rattle.leader1822.proofs.lemmas.{host_before_never, host_before_trans}
+use Rattle.leader1822.specs.Calls.{Seen, InOrder}
+use Rattle.leader1822.specs.Host.{Host, IsAddress, host_before, is_host, same_host}
+use Rattle.leader1822.specs.Mailboxes.{IsRun, is_up}
+use Rattle.leader1822.specs.declared.crossing.Crossing.TheVariants as crossing
+use Rattle.leader1822.specs.declared.crossing.Inbound.{Inbound}
+use Rattle.leader1822.specs.declared.crossing.Inbound.TheVariants as inbound
+use Rattle.sockets.proofs.lemmas.{same_host-true}
+use Rattle.sockets.specs.Accepting.{accepted, turn_of, after_turn}
+use Rattle.host_pairs.specs.Turn.{message_taken, answered_turn}
+use Rattle.host_pairs.specs.Entries.{is_busy}
+use Rattle.host_pairs.specs.Pair.{PairState}
+use Rattle.sockets.specs.Pairs.{NcpState, opening_state, owner_of, pair_with}
+use Rattle.host_pairs.specs.Desk.{listens_on, without_listener}
+use Rattle.sockets.specs.Requests.{at_owner, served}
+use Rattle.host_pairs.specs.Asked.{closed_end}
+use Rattle.host_pairs.specs.Parcels.{Parcel}
+use Rattle.sockets.specs.Sending.{next_in, offered, offered_by}
+use Rattle.host_pairs.specs.declared.entry.Entry.{Entry}
+use Rattle.host_pairs.specs.declared.notice.Notice.{Notice}
+use Rattle.sockets.specs.declared.peer.Peer.{Peer}
+use Rattle.sockets.specs.declared.request.Request.{Request}
+use Rattle.sockets.specs.declared.request.Request.TheVariants as request
+use Rattle.leader1822.specs.declared.carrier.CarrierFault.TheVariants as fault
+use Rattle.net_sim.specs.Book.{Kept}
+use Rattle.net_sim.specs.Carriers.{shown}
+use Rattle.net_sim.specs.Clean.{HaveAddresses, IsLawful}
+use Rattle.net_sim.specs.Inside.Held.{IsHeld}
+use Rattle.net_sim.specs.Inside.Parts.{AreLive, IsOnce, world_ended, hosts_of, hosts_served, running}
+use Rattle.net_sim.specs.Story.{Moment, Crossed, Asked, program_after, places, program}
+use Rattle.net_sim.specs.Timeline.{crossings_of}
+use Rattle.net_sim.specs.Whole.{IsNamed, IsWhole, seat_in}
+use Rattle.net_sim.specs.World.{Calls, WorldState, WorldFault, Carrier, Event, Seat, ServiceSeat, EventGives, Refuses, StepGives, opening_world}
+use Rattle.net_sim.proofs.Resets.Clean.{opening_lawful, step_lawful}
+use Rattle.net_sim.proofs.Books.Whole.{step_whole}
+
+-- ---- hosts in order stand once each
+
+not_same : (g h : Host) → host_before g h ≡ true → (b : Bool) → same_host g h ≡ b → b ≡ false
+not_same g h before true e =
+    let P : Host → Type 0 = λ x. host_before x h ≡ true in
+    let again : host_before h h ≡ true = subst P (same_host-true g h e) before in
+    let never : host_before h h ≡ false = host_before_never h in
+    absurd (cc)
+not_same g h before false e = refl
+
+without_next : (g h : Host) (hosts : List Host) → InOrder (g ∷ h ∷ hosts) → InOrder (g ∷ hosts)
+without_next g h [] order = tt
+without_next g h (k ∷ hosts) order = (host_before_trans g h k order.0 order.1.0, order.1.1)
+
+not_later : (g : Host) (hosts : List Host) → InOrder (g ∷ hosts) → is_host hosts g ≡ false
+not_later g [] order = refl
+not_later g (h ∷ hosts) order = rw (not_same g h order.0 (same_host g h) refl) (not_later g hosts (without_next g h hosts order))
+
+once_first : (g : Host) (hosts : List Host) → InOrder (g ∷ hosts) → (h : Host) → same_host h g ≡ true → is_host hosts h ≡ false
+once_first g hosts order h same = let P : Host → Type 0 = λ x. is_host hosts x ≡ false in subst P (sym (same_host-true h g same)) (not_later g hosts order)
+
+once_in_order : (hosts : List Host) → InOrder hosts → IsOnce hosts
+once_in_order [] order = tt
+once_in_order (g ∷ []) order = (once_first g [] order, tt)
+once_in_order (g ∷ h ∷ hosts) order = (once_first g (h ∷ hosts) order, once_in_order (h ∷ hosts) order.1)
+
+-- ---- no call spends a program
+
+abbrev IsLive : NcpState → Type 0
+IsLive s = s.spent ≡ false
+
+if_live : (b : Bool) (x y : NcpState) → IsLive x → IsLive y → IsLive (if b then x else y)
+if_live true x y left right = left
+if_live false x y left right = right
+
+turn_live : (b : Bool) (x y : NcpState × List Notice) → IsLive x.0 → IsLive y.0 → IsLive (if b then x else y).0
+turn_live true x y left right = left
+turn_live false x y left right = right
+
+accepted_live : (s : NcpState) (i : Inbound) (stamp : ℕ) → IsLive s → IsLive (accepted s i stamp).0
+unfolding accepted
+accepted_live s (inbound.Message m) stamp live =
+    turn_live (same_host s.own m.flow.destination) (after_turn s m.flow.source (message_taken m.flow.source stamp m.flow.link.0 m.text (turn_of s m.flow.source))) (s, []) live live
+accepted_live s (inbound.Answer kind f) stamp live =
+    let busy : Bool = is_busy (pair_with f.destination s.peers).busy f.link.0 in
+    let turn : NcpState × List Notice = after_turn s f.destination (answered_turn f.destination kind f.link.0 (turn_of s f.destination)) in
+    turn_live (same_host s.own f.source) (if busy then turn else (s, [])) (s, []) (turn_live busy turn (s, []) live live) live
+
+offered_live : (s : NcpState) (stamp : ℕ) → IsLive s → IsLive (offered s stamp).0
+unfolding offered
+offered_live s stamp live = by (next_in s.peers) where
+  by : (o : Option (Peer × Parcel)) → IsLive (offered_by s stamp o).0
+  by None = live
+  by (Some (p, parcel)) = live
+
+owner_live : (s : NcpState) (o : Option (Host × Entry)) (change : Entry → PairState → PairState) → IsLive s → IsLive (at_owner s o change)
+owner_live s None change live = live
+owner_live s (Some (peer, e)) change live = live
+
+served_live : (s : NcpState) (r : Request) → IsLive s → IsLive (served s r)
+unfolding served
+served_live s (request.Contact peer) live = live
+served_live s (request.Listen socket size) live = live
+served_live s (request.OpenSend peer own foreign size) live = live
+served_live s (request.OpenReceive peer own foreign) live = live
+served_live s (request.Send socket bits) live = owner_live s (owner_of socket s.peers) _ live
+served_live s (request.Grant socket messages bits) live = owner_live s (owner_of socket s.peers) _ live
+served_live s (request.AskBack socket messages bits) live = owner_live s (owner_of socket s.peers) _ live
+served_live s (request.Interrupt socket) live = owner_live s (owner_of socket s.peers) _ live
+served_live s (request.Close socket) live =
+    if_live (listens_on socket s.listening) (record s { listening = without_listener socket s.listening }) (at_owner s (owner_of socket s.peers) (λ e. closed_end socket)) live
+    (owner_live s (owner_of socket s.peers) (λ e. closed_end socket) live)
+served_live s (request.Echo peer octet) live = live
+
+after_live : (a : Host) (here : ℕ) (x : Moment) (s : NcpState) → IsLive s → IsLive (program_after a here x s)
+after_live a here (Crossed (crossing.Out m)) s live = if_live (same_host a m.flow.source) (offered s here).0 s (offered_live s here live) live
+after_live a here (Crossed (crossing.In m)) s live = if_live (same_host a m.flow.destination) (accepted s (inbound.Message m) here).0 s (accepted_live s (inbound.Message m) here live) live
+after_live a here (Crossed (crossing.Answer kind f)) s live = if_live (same_host a f.source) (accepted s (inbound.Answer kind f) here).0 s (accepted_live s (inbound.Answer kind f) here live) live
+after_live a here (Crossed (crossing.Down h)) s live = if_live (same_host a h) (opening_state a) s refl live
+after_live a here (Crossed (crossing.Up h)) s live = if_live (same_host a h) (opening_state a) s refl live
+after_live a here (Asked h r) s live = if_live (same_host a h) (served s r) s (served_live s r live) live
+
+program_live : (a : Host) (moments : List Moment) → IsLive (program a moments)
+program_live a [] = refl
+program_live a (x ∷ moments) = after_live a (places moments) x (program a moments) (program_live a moments)
+
+-- ---- the seats
+
+hosts_seated : (hosts hs : List Host) (moments : List Moment) → hosts_of (map (seat_in hosts moments) hs) ≡ hs
+hosts_seated hosts [] moments = refl
+hosts_seated hosts (h ∷ hs) moments = ap (λ (xs : List Host). h ∷ xs) (hosts_seated hosts hs moments)
+
+abbrev RunsLive : Seat → Type 0
+RunsLive s = IfSome s.program (λ p. p.spent ≡ false)
+
+seat_by : (b : Bool) (s : NcpState) → IsLive s → IfSome (if b then Some s else None) (λ p. p.spent ≡ false)
+seat_by true s live = live
+seat_by false s live = tt
+
+seats_live : (hosts hs : List Host) (moments : List Moment) → AreLive (map (seat_in hosts moments) hs)
+seats_live hosts [] moments = All-nil RunsLive
+seats_live hosts (h ∷ hs) moments =
+    All-cons RunsLive (seat_in hosts moments h) (map (seat_in hosts moments) hs) (seat_by (is_up hosts h (crossings_of moments)) (program h moments) (program_live h moments)) (seats_live hosts hs moments)
+
+pub held_once : {C : Type 0} (seen : C → Seen) (w : WorldState C) → IsHeld seen w → w.stopped ≡ false → IsOnce (hosts_of w.seats)
+held_once seen w held running =
+    let whole : IsWhole seen (seen w.carrier).hosts w = held.lawful.whole in
+    let hosts : List Host = (seen w.carrier).hosts in
+    let same : hosts_of w.seats ≡ hosts = ap (λ (s : List Seat). hosts_of s) (whole.seats running) ∙ hosts_seated hosts hosts whole.moments in
+    subst IsOnce (sym same) (once_in_order hosts held.ordered)
+
+pub held_live : {C : Type 0} (seen : C → Seen) (w : WorldState C) → IsHeld seen w → w.stopped ≡ false → AreLive w.seats
+held_live seen w held running =
+    let whole : IsWhole seen (seen w.carrier).hosts w = held.lawful.whole in
+    subst AreLive (sym (whole.seats running)) (seats_live (seen w.carrier).hosts (seen w.carrier).hosts whole.moments)
+
+-- the services stand in the order of the seats
+pub held_order : {C : Type 0} (seen : C → Seen) (w : WorldState C) → IsHeld seen w → w.stopped ≡ false → hosts_served w.services ≡ hosts_of w.seats
+held_order seen w held running =
+    let whole : IsWhole seen (seen w.carrier).hosts w = held.lawful.whole in
+    let hosts : List Host = (seen w.carrier).hosts in
+    (whole.services running).order ∙ sym (ap (λ (s : List Seat). hosts_of s) (whole.seats running) ∙ hosts_seated hosts hosts whole.moments)
+
+-- ---- addresses
+
+have_first : (g : Host) (hosts : List Host) → IsAddress g → HaveAddresses hosts → (h : Host) (b : Bool) → same_host h g ≡ b → (b || is_host hosts h) ≡ true → IsAddress h
+have_first g hosts first later h true e is = subst IsAddress (sym (same_host-true h g e)) first
+have_first g hosts first later h false e is = later h is
+
+have_addresses : (hosts : List Host) → All (λ (h : Host). IsAddress h) hosts → HaveAddresses hosts
+have_addresses [] all h is = absurd (cc)
+have_addresses (g ∷ hosts) all h is =
+    have_first g hosts (All-head (λ (x : Host). IsAddress x) g hosts all) (have_addresses hosts (All-tail (λ (x : Host). IsAddress x) g hosts all)) h (same_host h g) refl is
+
+-- ---- each call leaves a world so
+
+pub opening_held : {C : Type 0} (own : Calls C) (c : C) → (own.seen c).log ≡ [] → InOrder (own.seen c).hosts → All (λ (h : Host). IsAddress h) (own.seen c).hosts → IsHeld own.seen (opening_world (shown own) c)
+opening_held own c none order addresses = record { ordered = order; lawful = opening_lawful own c none (have_addresses (own.seen c).hosts addresses) }
+
+step_held : {C : Type 0} (own : Calls C) (e : Event) (old : WorldState C) (r : Result (Unit {0}) WorldFault) (new : WorldState C) → IsHeld own.seen old → IsNamed e → StepGives (shown own) old e r new
+    → IsRun (own.seen new.carrier).hosts (own.seen new.carrier).log → IsHeld own.seen new
+step_held own e old r new held named gives run =
+    let hosts : List Host = (own.seen old.carrier).hosts in
+    let whole : IsWhole own.seen hosts new = step_whole own hosts e old r new named held.lawful.whole gives in
+    let same : (own.seen new.carrier).hosts ≡ hosts = whole.network in
+    let mine : IsRun hosts (own.seen new.carrier).log = subst (λ (hs : List Host). IsRun hs (own.seen new.carrier).log) same run in
+    record {
+      ordered = subst InOrder (sym same) held.ordered;
+      lawful = subst (λ (hs : List Host). IsLawful own.seen hs new) (sym same) (step_lawful own hosts old new r held.lawful mine e named gives);
+    }
+
+still_running : {C : Type 0} (w : WorldState C) → w.stopped ≡ false → running w.carrier w.seats w.services w.kept ≡ w
+still_running {C} w e = let with : Bool → WorldState C = λ b. record { carrier = w.carrier; seats = w.seats; services = w.services; kept = w.kept; stopped = b } in ap with (sym e)
+
+event_steps : {C : Type 0} (calls : Calls C) (e : Event) (old : WorldState C) (r : Result (Unit {0}) WorldFault) (new : WorldState C) → old.stopped ≡ false
+    → EventGives calls (running old.carrier old.seats old.services old.kept) e r new → StepGives calls old e r new
+event_steps {C} calls e old r new run gives =
+    let mine : EventGives calls old e r new = subst (λ (w : WorldState C). EventGives calls w e r new) (still_running old run) gives in
+    subst (λ (b : Bool). MatchBool b (Refuses (Carrier fault.Stopped) old r new) (EventGives calls old e r new)) (sym run) mine
+
+pub followed_held : {C : Type 0} (own : Calls C) (e : Event) (old : WorldState C) (c : C) (seats : List Seat) (services : List ServiceSeat) (k : Kept) (r : Result (Unit {0}) WorldFault) → IsHeld own.seen old → IsNamed e
+    → old.stopped ≡ false → EventGives (shown own) (running old.carrier old.seats old.services old.kept) e r (world_ended c seats services k r) → IsRun (own.seen c).hosts (own.seen c).log → IsHeld own.seen (world_ended c seats services k r)
+followed_held own e old c seats services k r held named run gives is =
+    step_held own e old r (world_ended c seats services k r) held named (event_steps (shown own) e old r (world_ended c seats services k r) run gives) is

@@ -1,0 +1,171 @@
+-- Crossings oldest first, and newest first.
+use Rattle.std.proofs.Common.{◌≡◌, ℕ, ◌+◌, Option, List, [], ◌∷◌, ◌++◌, Some, None, length, map, reverse, refl, ap, sym, ◌∙◌, arith}
+use Rattle.std.specs.List.{flat_map}
+use Rattle.std.proofs.lemmas.List.{reverse-append, length-append, length-reverse, append-nil, append_assoc}
+use Rattle.leader1822.specs.declared.crossing.Crossing.{Crossing}
+use Rattle.net_sim.specs.Inside.Seats.{emptied_in_order, turned_in_order}
+use Rattle.host_pairs.specs.declared.notice.Notice.{Notice}
+use Rattle.leader1822.specs.Host.{Host}
+use Rattle.sockets.specs.declared.request.Request.{Request}
+use Rattle.net_sim.specs.Book.{Kept, Told, Called, Reported, crossed, all_crossed, book_told, all_told, asked, all_asked, all_reported, contacts_asked}
+use Rattle.net_sim.specs.Inside.Lives as all
+use Rattle.net_sim.specs.Inside.Lives.{LivesState, of_kept, followed, written, told_at}
+use Rattle.net_sim.specs.World.{Seat, ServiceSeat, seats_turned, all_turned, emptied, all_emptied}
+
+turned_behind : (cs : List Crossing) (c : Crossing) (seats : List Seat) → all_turned (cs ++ c ∷ []) seats ≡ all_turned cs (seats_turned c seats)
+turned_behind [] c seats = refl
+turned_behind (d ∷ cs) c seats = ap (λ (s : List Seat). seats_turned d s) (turned_behind cs c seats)
+
+pub turned_reversed : (cs : List Crossing) (seats : List Seat) → turned_in_order cs seats ≡ all_turned (reverse cs) seats
+turned_reversed [] seats = refl
+turned_reversed (c ∷ cs) seats =
+    turned_reversed cs (seats_turned c seats) ∙ sym (turned_behind (reverse cs) c seats)
+    ∙ ap (λ (ds : List Crossing). all_turned ds seats) (sym (reverse-append (c ∷ []) cs))
+
+emptied_behind : (cs : List Crossing) (c : Crossing) (all : List ServiceSeat) → all_emptied (cs ++ c ∷ []) all ≡ all_emptied cs (emptied c all)
+emptied_behind [] c all = refl
+emptied_behind (d ∷ cs) c all = ap (λ (s : List ServiceSeat). emptied d s) (emptied_behind cs c all)
+
+pub emptied_reversed : (cs : List Crossing) (all : List ServiceSeat) → emptied_in_order cs all ≡ all_emptied (reverse cs) all
+emptied_reversed [] all = refl
+emptied_reversed (c ∷ cs) all =
+    emptied_reversed cs (emptied c all) ∙ sym (emptied_behind (reverse cs) c all)
+    ∙ ap (λ (ds : List Crossing). all_emptied ds all) (sym (reverse-append (c ∷ []) cs))
+
+-- ---- what is written down
+
+crossed_behind : (cs : List Crossing) (c : Crossing) (k : Kept) → all_crossed (cs ++ c ∷ []) k ≡ all_crossed cs (crossed c k)
+crossed_behind [] c k = refl
+crossed_behind (d ∷ cs) c k = ap (λ (x : Kept). crossed d x) (crossed_behind cs c k)
+
+crossed_reversed : (c : Crossing) (cs : List Crossing) (k : Kept) → all_crossed (reverse cs) (crossed c k) ≡ all_crossed (reverse (c ∷ cs)) k
+crossed_reversed c cs k = sym (crossed_behind (reverse cs) c k) ∙ ap (λ (ds : List Crossing). all_crossed ds k) (sym (reverse-append (c ∷ []) cs))
+
+same_kept : (xs ys : List Crossing) (ns ms : List Told) (us vs : List Called) (ps qs : List Reported) (l : LivesState) → xs ≡ ys → ns ≡ ms → us ≡ vs → ps ≡ qs
+    → ◌≡◌ {A = Kept} (record { book = record { crossings = xs; notices = ns; contacts = us; reports = ps; lives = l.lives }; handed = l.handed })
+    (record { book = record { crossings = ys; notices = ms; contacts = vs; reports = qs; lives = l.lives }; handed = l.handed })
+same_kept xs ys ns ms us vs ps qs l x n a p = cc
+
+-- crossings and what users were told, and nothing else
+abbrev pub plain : List Crossing → List Told → Kept → Kept
+plain cs ts k = written cs None [] ts None [] [] k
+
+-- what users were told, one after another
+written_told : (h : Host) (ns : List Notice) (k : Kept) → plain [] (map (told_at h (length k.book.crossings)) ns) k ≡ all_told h ns k
+written_told h [] k =
+    same_kept k.book.crossings k.book.crossings (k.book.notices ++ []) k.book.notices (k.book.contacts ++ []) k.book.contacts (k.book.reports ++ []) k.book.reports (of_kept k) refl (append-nil k.book.notices)
+    (append-nil k.book.contacts) (append-nil k.book.reports)
+written_told h (n ∷ ns) k =
+    let t : Told = told_at h (length k.book.crossings) n in
+    let ts : List Told = map (told_at h (length k.book.crossings)) ns in
+    same_kept k.book.crossings k.book.crossings (k.book.notices ++ t ∷ ts) ((k.book.notices ++ t ∷ []) ++ ts) (k.book.contacts ++ []) (k.book.contacts ++ []) (k.book.reports ++ []) (k.book.reports ++ [])
+    (all.all_told ts (all.lives_state_told h n (of_kept k))) refl (sym (append_assoc k.book.notices (t ∷ []) ts)) refl refl
+    ∙ written_told h ns (book_told h n k)
+
+-- after what crossed
+written_crossed : (cs : List Crossing) (ts : List Told) (k : Kept) → plain cs ts k ≡ plain [] ts (all_crossed (reverse cs) k)
+written_crossed [] ts k = refl
+written_crossed (c ∷ cs) ts k =
+    same_kept (reverse (c ∷ cs) ++ k.book.crossings) (reverse cs ++ c ∷ k.book.crossings) (k.book.notices ++ ts) (k.book.notices ++ ts) (k.book.contacts ++ []) (k.book.contacts ++ []) (k.book.reports ++ []) (k.book.reports ++ [])
+    (followed cs None ts None [] (all.crossed c (of_kept k)))
+    (ap (λ (ds : List Crossing). ds ++ k.book.crossings) (reverse-append (c ∷ []) cs) ∙ append_assoc (reverse cs) (c ∷ []) k.book.crossings) refl refl refl
+    ∙ written_crossed cs ts (crossed c k) ∙ ap (λ (x : Kept). plain [] ts x) (crossed_reversed c cs k)
+
+crossings_after : (cs : List Crossing) (k : Kept) → (all_crossed cs k).book.crossings ≡ cs ++ k.book.crossings
+crossings_after [] k = refl
+crossings_after (c ∷ cs) k = ap (λ (xs : List Crossing). c ∷ xs) (crossings_after cs k)
+
+-- the places are the number of crossings after these
+written_before : (h : Host) (place : ℕ) (cs : List Crossing) (ns : List Notice) (k : Kept) → place ≡ length k.book.crossings + length cs
+    → plain cs (map (told_at h place) ns) k ≡ all_told h ns (all_crossed (reverse cs) k)
+written_before h place cs ns k is =
+    let after : Kept = all_crossed (reverse cs) k in
+    let many : place ≡ length after.book.crossings = is ∙ omega (arith, length-append (reverse cs) k.book.crossings, length-reverse cs) ∙ ap (λ (xs : List Crossing). length xs) (sym (crossings_after (reverse cs) k)) in
+    written_crossed cs (map (told_at h place) ns) k ∙ ap (λ (n : ℕ). plain [] (map (told_at h n) ns) after) many ∙ written_told h ns after
+
+-- ---- what services asked for, and reported
+
+-- their contacts stand at one place
+written_ran : (h : Host) (rs : List Request) (reports : List Reported) (k : Kept)
+    → ◌≡◌ {A = Kept} (record {
+      book = record {
+        crossings = k.book.crossings;
+        notices = k.book.notices;
+        contacts = k.book.contacts ++ flat_map (contacts_asked h (length k.book.crossings)) rs;
+        reports = k.book.reports ++ reports;
+        lives = (all.all_asked h rs (of_kept k)).lives;
+      };
+      handed = (all.all_asked h rs (of_kept k)).handed;
+    }) (all_reported reports (all_asked h rs k))
+written_ran h [] reports k =
+    same_kept k.book.crossings k.book.crossings k.book.notices k.book.notices (k.book.contacts ++ []) k.book.contacts (k.book.reports ++ reports) (k.book.reports ++ reports) (of_kept k) refl refl (append-nil k.book.contacts) refl
+written_ran h (r ∷ rs) reports k =
+    same_kept k.book.crossings k.book.crossings k.book.notices k.book.notices
+    (k.book.contacts ++ (contacts_asked h (length k.book.crossings) r ++ flat_map (contacts_asked h (length k.book.crossings)) rs))
+    ((k.book.contacts ++ contacts_asked h (length k.book.crossings) r) ++ flat_map (contacts_asked h (length k.book.crossings)) rs)
+    (k.book.reports ++ reports) (k.book.reports ++ reports) (all.all_asked h rs (all.asked h r (of_kept k))) refl refl
+    (sym (append_assoc k.book.contacts (contacts_asked h (length k.book.crossings) r) (flat_map (contacts_asked h (length k.book.crossings)) rs))) refl
+    ∙ written_ran h rs reports (asked h r k)
+
+told_places : (h : Host) (ns : List Notice) (k : Kept) → (all_told h ns k).book.crossings ≡ k.book.crossings
+told_places h [] k = refl
+told_places h (n ∷ ns) k = told_places h ns (book_told h n k)
+
+-- all that follows what was written before
+after_that : (cs : List Crossing) (a : Option (Host × Request)) (first : List Called) (ts : List Told) (h : Host) (rs : List Request) (reports : List Reported) (k before : Kept) (n : ℕ)
+    → written cs a first ts None [] [] k ≡ before → n ≡ length before.book.crossings
+    → written cs a (first ++ flat_map (contacts_asked h n) rs) ts (Some h) rs reports k ≡ all_reported reports (all_asked h rs before)
+after_that cs a first ts h rs reports k before n is many =
+    let mid : Kept = written cs a first ts None [] [] k in
+    let calls : List Called = flat_map (contacts_asked h n) rs in
+    same_kept (reverse cs ++ k.book.crossings) (reverse cs ++ k.book.crossings) (k.book.notices ++ ts) (k.book.notices ++ ts) (k.book.contacts ++ (first ++ calls)) ((k.book.contacts ++ first) ++ calls)
+    (k.book.reports ++ reports) ((k.book.reports ++ []) ++ reports) (all.all_asked h rs (of_kept mid)) refl refl (sym (append_assoc k.book.contacts first calls)) (ap (λ (ps : List Reported). ps ++ reports) (sym (append-nil k.book.reports)))
+    ∙ ap (λ (m : ℕ). with_calls (flat_map (contacts_asked h m) rs)) (many ∙ ap (λ (x : Kept). length x.book.crossings) (sym is))
+    ∙ written_ran h rs reports mid ∙ ap (λ (x : Kept). all_reported reports (all_asked h rs x)) is where
+      with_calls : List Called → Kept
+      with_calls us =
+          let mid : Kept = written cs a first ts None [] [] k in
+          record {
+            book = record {
+              crossings = mid.book.crossings;
+              notices = mid.book.notices;
+              contacts = mid.book.contacts ++ us;
+              reports = mid.book.reports ++ reports;
+              lives = (all.all_asked h rs (of_kept mid)).lives;
+            };
+            handed = (all.all_asked h rs (of_kept mid)).handed;
+          }
+
+pub written_both : (h : Host) (place : ℕ) (cs : List Crossing) (ns : List Notice) (rs : List Request) (reports : List Reported) (k : Kept) → place ≡ length k.book.crossings + length cs
+    → written cs None (flat_map (contacts_asked h place) rs) (map (told_at h place) ns) (Some h) rs reports k ≡ all_reported reports (all_asked h rs (all_told h ns (all_crossed (reverse cs) k)))
+written_both h place cs ns rs reports k is =
+    let before : Kept = all_told h ns (all_crossed (reverse cs) k) in
+    let same : before.book.crossings ≡ reverse cs ++ k.book.crossings = told_places h ns (all_crossed (reverse cs) k) ∙ crossings_after (reverse cs) k in
+    let many : place ≡ length before.book.crossings = is ∙ omega (arith, length-append (reverse cs) k.book.crossings, length-reverse cs) ∙ ap (λ (xs : List Crossing). length xs) (sym same) in
+    after_that cs None [] (map (told_at h place) ns) h rs reports k before place (written_before h place cs ns k is) many
+
+-- ---- what was asked for
+
+asked_before : (h : Host) (r : Request) (ns : List Notice) (k : Kept)
+    → written [] (Some (h, r)) (contacts_asked h (length k.book.crossings) r) (map (told_at h (length k.book.crossings)) ns) None [] [] k ≡ all_told h ns (asked h r k)
+asked_before h r ns k =
+    let calls : List Called = k.book.contacts ++ contacts_asked h (length k.book.crossings) r in
+    let ts : List Told = map (told_at h (length k.book.crossings)) ns in
+    same_kept k.book.crossings k.book.crossings (k.book.notices ++ ts) (k.book.notices ++ ts) calls (calls ++ []) (k.book.reports ++ []) (k.book.reports ++ []) (all.all_told ts (all.asked h r (of_kept k))) refl refl (sym (append-nil calls)) refl
+    ∙ written_told h ns (asked h r k)
+
+pub written_asked : (h : Host) (r : Request) (ns : List Notice) (rs : List Request) (reports : List Reported) (k : Kept)
+    → written [] (Some (h, r)) (contacts_asked h (length k.book.crossings) r ++ flat_map (contacts_asked h (length k.book.crossings)) rs) (map (told_at h (length k.book.crossings)) ns) (Some h) rs reports k
+    ≡ all_reported reports (all_asked h rs (all_told h ns (asked h r k)))
+written_asked h r ns rs reports k =
+    after_that [] (Some (h, r)) (contacts_asked h (length k.book.crossings) r) (map (told_at h (length k.book.crossings)) ns) h rs reports k (all_told h ns (asked h r k)) (length k.book.crossings) (asked_before h r ns k)
+    (ap (λ (xs : List Crossing). length xs) (sym (told_places h ns (asked h r k))))
+
+-- ---- nothing else
+
+pub written_alone : (cs : List Crossing) (k : Kept) → plain cs [] k ≡ all_crossed (reverse cs) k
+written_alone cs k =
+    let after : Kept = all_crossed (reverse cs) k in
+    written_crossed cs [] k
+    ∙ same_kept after.book.crossings after.book.crossings (after.book.notices ++ []) after.book.notices (after.book.contacts ++ []) after.book.contacts (after.book.reports ++ []) after.book.reports (of_kept after) refl
+    (append-nil after.book.notices) (append-nil after.book.contacts) (append-nil after.book.reports)

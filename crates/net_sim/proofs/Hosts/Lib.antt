@@ -1,0 +1,11 @@
+-- Hosts, their seats and their services in one event, and the rounds of a calm. Main lemmas: Serving `serves` (services stand where their seat does),
+-- Doing `call_done` (a call and the turns of its services), Seats `found_seat` (where a host sits), Telling (what is kept is what the moments tell),
+-- Calming `all_repeated` (the rounds of a calm).
+pub mod Asks
+pub mod Calming
+pub mod Doing
+pub mod Ends
+pub mod SeatLemmas
+pub mod Seats
+pub mod Serving
+pub mod Telling

@@ -1,0 +1,72 @@
+-- Where a host sits.
+use Rattle.std.proofs.Common.{◌≡◌, ℕ, ◌<◌, Bool, true, false, ◌||◌, not, is_some, cond, List, [], ◌∷◌, length, Option, Some, None, Result, find, slice_index_or, refl, ap, sym, subst, ◌∙◌}
+use Rattle.std.specs.List.{position}
+use Rattle.std.proofs.lemmas.List.{get_or_default}
+use Rattle.leader1822.specs.Host.{Host, same_host, is_host}
+use Rattle.host_pairs.proofs.lemmas.{one_changed, one_found}
+use Rattle.sockets.proofs.lemmas.{same_host-true}
+use Rattle.host_pairs.specs.Entries.{changed_first}
+use Rattle.sockets.specs.Pairs.{NcpState}
+use Rattle.net_sim.specs.Inside.Parts.{IsOnce, Sits, hosts_of}
+use Rattle.net_sim.specs.World.{WorldState, WorldFault, Seat, seat_of, seated, AtSeat}
+
+-- what is found passes
+found_by : (test : Seat → Bool) (x y : Seat) (rest : Option Seat) (b : Bool) → test x ≡ b → (rest ≡ Some y → test y ≡ true) → cond b (Some x) rest ≡ Some y → test y ≡ true
+found_by test x y rest true e k h = let P : Seat → Type 0 = λ s. test s ≡ true in let same : x ≡ y = cc in subst P same e
+found_by test x y rest false e k h = k h
+
+found_passes : (test : Seat → Bool) (seats : List Seat) (y : Seat) → find test seats ≡ Some y → test y ≡ true
+found_passes test [] y h = absurd (cc)
+found_passes test (x ∷ seats) y h = found_by test x y (find test seats) (test x) refl (found_passes test seats y) h
+
+-- a host that isn't among these isn't seated
+or_false : (a b : Bool) → (a || b) ≡ false → (a ≡ false) × (b ≡ false)
+or_false true b h = absurd (cc)
+or_false false b h = (refl, h)
+
+pub absent : (h : Host) (p : Option NcpState) (seats : List Seat) → is_host (hosts_of seats) h ≡ false → seated h p seats ≡ seats
+absent h p [] away = refl
+absent h p (x ∷ seats) away =
+    let t : (same_host h x.host ≡ false) × (is_host (hosts_of seats) h ≡ false) = or_false (same_host h x.host) (is_host (hosts_of seats) h) away in
+    rw t.0 (ap (λ (s : List Seat). x ∷ s) (absent h p seats t.1))
+
+-- of the first seat of a host all seats of it are made, where each host has one
+first_by : (h : Host) (p : Option NcpState) (x : Seat) (seats : List Seat) → IsOnce (hosts_of (x ∷ seats)) → (b : Bool) → same_host h x.host ≡ b
+    → changed_first (λ s. same_host h s.host) (λ s. record { host = s.host; program = p }) seats ≡ seated h p seats
+    → changed_first (λ s. same_host h s.host) (λ s. record { host = s.host; program = p }) (x ∷ seats) ≡ seated h p (x ∷ seats)
+first_by h p x seats once true e rest = rw e (ap (λ (s : List Seat). record { host = x.host; program = p } ∷ s) (sym (absent h p seats (once.0 h e))))
+first_by h p x seats once false e rest = rw e (ap (λ (s : List Seat). x ∷ s) rest)
+
+first_seated : (h : Host) (p : Option NcpState) (seats : List Seat) → IsOnce (hosts_of seats) → changed_first (λ s. same_host h s.host) (λ s. record { host = s.host; program = p }) seats ≡ seated h p seats
+first_seated h p [] once = refl
+first_seated h p (x ∷ seats) once = first_by h p x seats once (same_host h x.host) refl (first_seated h p seats once.1)
+
+pub sits : (h : Host) (place : ℕ) (seat : Seat) (s : NcpState) (seats : List Seat) → IsOnce (hosts_of seats) → position (λ s. same_host h s.host) seats ≡ Some place → place < length seats
+    → slice_index_or seats place seat ≡ seat → seat.program ≡ Some s → Sits h place s seats
+sits h place seat s seats once at within there program =
+    let found : seat_of h seats ≡ Some seat = one_found (λ s. same_host h s.host) place seat seats at ∙ ap (λ (x : Seat). Some x) there in
+    let mine : h ≡ seat.host = same_host-true h seat.host (found_passes (λ s. same_host h s.host) seats seat found) in
+    let is : ◌≡◌ {A = Seat} seat (record { host = h; program = Some s }) =
+    ap (λ (g : Host). record { host = g; program = seat.program }) (sym mine) ∙ ap (λ (o : Option NcpState). record { host = h; program = o }) program in
+    record {
+      within = within;
+      is = λ d. get_or_default seats place d seat within ∙ there ∙ is;
+      found = found ∙ ap (λ (x : Seat). Some x) is;
+      set = λ p. one_changed (λ s. same_host h s.host) place (λ s. record { host = s.host; program = p }) seat (record { host = h; program = p }) seats at
+          (ap (λ (g : Host). record { host = g; program = p }) (mine ∙ ap (λ (x : Seat). x.host) (sym there)))
+          ∙ first_seated h p seats once;
+    }
+
+pub some_program : (o : Option NcpState) → not (is_some o) ≡ false → (s : NcpState) × o ≡ Some s
+some_program None h = absurd (cc)
+some_program (Some s) h = (s, refl)
+
+pub no_program : (o : Option NcpState) → not (is_some o) ≡ true → o ≡ None
+no_program None h = refl
+no_program (Some s) h = absurd (cc)
+
+-- ---- an event at a host
+
+pub sits_gives : {C : Type 0} (Gives : NcpState → Type 0) (h : Host) (place : ℕ) (s : NcpState) (old : WorldState C) (r : Result (Unit {0}) WorldFault) (new : WorldState C) → Sits h place s old.seats → Gives s
+    → AtSeat Gives (seat_of h old.seats) old r new
+sits_gives {C} Gives h place s old r new sits gives = subst (λ (o : Option Seat). AtSeat Gives o old r new) (sym sits.found) gives

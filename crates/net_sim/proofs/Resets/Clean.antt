@@ -1,0 +1,155 @@
+-- A host that is through a reset takes of its peer only what went out after its last clean point.
+use Rattle.std.proofs.Common.{◌≡◌, ℕ, Bool, true, false, if◌then◌else◌, List, [], ◌∷◌, ◌++◌, length, Result, Some, refl, ap, sym, subst, ◌∙◌}
+use Rattle.leader1822.specs.Calls.{Seen}
+use Rattle.leader1822.specs.Host.{Host, same_host}
+use Rattle.leader1822.specs.Mailboxes as mail
+use Rattle.leader1822.specs.Mailboxes.{same_flow}
+use Rattle.leader1822.specs.declared.address.Flow.{Flow}
+use Rattle.leader1822.specs.declared.crossing.Crossing.{Crossing}
+use Rattle.leader1822.specs.declared.crossing.Crossing.TheVariants as crossing
+use Rattle.leader1822.specs.declared.message.HostMessage.{HostMessage}
+use Rattle.leader1822.proofs.lemmas.{run_below}
+use Rattle.sockets.specs.Pairs.{NcpState, pair_with}
+use Rattle.reset_law.specs.Boxes.{Box, Empty, Waiting, Taken}
+use Rattle.reset_law.specs.Events as reset
+use Rattle.reset_law.specs.Events.{Message, Other, In}
+use Rattle.reset_law.specs.Pairs.{Pair, pair}
+use Rattle.reset_law.specs.Phases.{Phase, Closed, Want, Gone, Heard, Ready}
+use Rattle.reset_law.specs.Runs.{IsRun, WaitsAfterClean}
+use Rattle.reset_law.specs.Stays.{IsFront, heard_in_stay, is_ready, said_in_stay}
+use Rattle.reset_law.proofs.lemmas.{clean_run, heard_front}
+use Rattle.net_sim.specs.Book.{Called}
+use Rattle.net_sim.specs.Clean.{HaveAddresses, IsFresh, IsLawful, IsText, is_through}
+use Rattle.net_sim.specs.Projection.{Agrees, event_of}
+use Rattle.net_sim.specs.Safe.{last_out}
+use Rattle.net_sim.specs.Story.{events_of, program}
+use Rattle.net_sim.specs.Timeline.{contacts_of, crossings_of, events_in, seen_box}
+use Rattle.net_sim.specs.Carriers.{shown}
+use Rattle.net_sim.specs.Whole.{Each, IsNamed, seat_in}
+use Rattle.net_sim.specs.World.{Calls, Event, Seat, WorldFault, WorldState, opening_world, seat_of, StepGives, RunGives, CalmGives}
+use Rattle.net_sim.proofs.Books.Booked.{calm_books, opening_booked, run_books, step_books}
+use Rattle.net_sim.proofs.Hosts.Seats.{found_seat}
+use Rattle.net_sim.proofs.Books.Whole.{calm_whole, opening_whole, program_is, run_whole, step_whole}
+use Rattle.net_sim.proofs.Books.BookEvents.{box_in, pair_told, run_at, run_told, same_events, told_events}
+use Rattle.net_sim.proofs.Resets.Coupled.{Coupled, coupled}
+use Rattle.net_sim.proofs.Resets.StoryLemmas.{story_agrees}
+
+-- ---- where a message that waits went out
+
+out_by : (f : Flow) (m : HostMessage) (p : ℕ) (text : List Bool) (log : List Crossing) → (mail.box_of f log ≡ mail.Waiting p text → last_out f log ≡ Some p) → (b : Bool) → same_flow f m.flow ≡ b
+    → mail.box_of f (crossing.Out m ∷ log) ≡ mail.Waiting p text → last_out f (crossing.Out m ∷ log) ≡ Some p
+out_by f m p text log rest true e is =
+    let here : mail.Waiting (length log) m.text ≡ mail.Waiting p text = rw e at is in
+    rw e (ap (λ (x : mail.Box). Some (place_of x)) here) where
+      place_of : mail.Box → ℕ
+      place_of mail.Empty = 0
+      place_of (mail.Waiting place kept) = place
+      place_of (mail.Taken place kept) = place
+out_by f m p text log rest false e is = let before : mail.box_of f log ≡ mail.Waiting p text = rw e at is in rw e (rest before)
+
+fetched_waits : (box : mail.Box) (p : ℕ) (text : List Bool) (b : Bool) → (if b then mail.fetched box else box) ≡ mail.Waiting p text → box ≡ mail.Waiting p text
+fetched_waits mail.Empty p text true is = is
+fetched_waits (mail.Waiting place kept) p text true is = absurd (let no : mail.Taken place kept ≡ mail.Waiting p text = is in cc)
+fetched_waits (mail.Taken place kept) p text true is = is
+fetched_waits box p text false is = is
+
+cleared_waits : (box : mail.Box) (p : ℕ) (text : List Bool) (b : Bool) → (if b then mail.Empty else box) ≡ mail.Waiting p text → box ≡ mail.Waiting p text
+cleared_waits box p text true is = absurd (let no : mail.Empty ≡ mail.Waiting p text = is in cc)
+cleared_waits box p text false is = is
+
+pub waiting_out : (f : Flow) (p : ℕ) (text : List Bool) (log : List Crossing) → mail.box_of f log ≡ mail.Waiting p text → last_out f log ≡ Some p
+waiting_out f p text [] is = absurd (let no : mail.Empty ≡ mail.Waiting p text = is in cc)
+waiting_out f p text (crossing.Out m ∷ log) is = out_by f m p text log (λ e. waiting_out f p text log e) (same_flow f m.flow) refl is
+waiting_out f p text (crossing.In m ∷ log) is = waiting_out f p text log (fetched_waits (mail.box_of f log) p text (same_flow f m.flow) is)
+waiting_out f p text (crossing.Answer kind g ∷ log) is = waiting_out f p text log (cleared_waits (mail.box_of f log) p text (same_flow f g) is)
+waiting_out f p text (crossing.Down h ∷ log) is = waiting_out f p text log is
+waiting_out f p text (crossing.Up h ∷ log) is = waiting_out f p text log (cleared_waits (mail.box_of f log) p text (same_host f.source h) is)
+
+seen_waiting : (link : ℕ) (box : mail.Box) (p : ℕ) (message : Message) → seen_box link box ≡ Waiting p message → (text : List Bool) × (box ≡ mail.Waiting p text)
+seen_waiting link mail.Empty p message is = absurd (cc)
+seen_waiting link (mail.Waiting place text) p message is = (text, ap (λ (x : Box). mail.Waiting (place_of x) text) is) where
+  place_of : Box → ℕ
+  place_of Empty = 0
+  place_of (Waiting n m) = n
+  place_of (Taken n m) = n
+seen_waiting link (mail.Taken place text) p message is = absurd (cc)
+
+-- ---- the book is a run of the law of resets
+
+module _ {C : Type 0} (seen : C → Seen) (hosts : List Host) (w : WorldState C) (lawful : IsLawful seen hosts w) where
+  abbrev contacts : List Called
+  contacts = w.kept.book.contacts
+
+  abbrev log : List Crossing
+  log = w.kept.book.crossings
+
+  book_coupled : Coupled hosts lawful.whole.moments
+  book_coupled =
+      let all : mail.IsRun hosts (lawful.booked.unbooked ++ log) = subst (λ (xs : List Crossing). mail.IsRun hosts xs) lawful.booked.book lawful.run in
+      let run : mail.IsRun hosts (crossings_of lawful.whole.moments) = subst (λ (xs : List Crossing). mail.IsRun hosts xs) lawful.whole.crossings (run_below hosts lawful.booked.unbooked log all) in
+      coupled hosts lawful.addresses lawful.whole.moments run lawful.whole.timeline
+
+  book_events : events_in contacts log ≡ told_events lawful.whole.moments
+  book_events =
+      ap (λ (cs : List Called). events_in cs log) lawful.whole.contacts ∙ ap (λ (xs : List Crossing). events_in (contacts_of lawful.whole.moments) xs) lawful.whole.crossings ∙ same_events lawful.whole.moments
+
+  pub book_run : IsRun hosts (events_in contacts log)
+  book_run = subst (λ (es : List reset.Event). IsRun hosts es) (sym book_events) (run_told hosts lawful.whole.moments book_coupled.run)
+
+  -- each host's program is where the book has it
+  book_agrees : (a b : Host) → Agrees (pair_with b (program a lawful.whole.moments).peers) (pair a b (events_in contacts log))
+  book_agrees a b =
+      let same : pair a b (events_in contacts log) ≡ pair a b (events_of lawful.whole.moments) = ap (λ (es : List reset.Event). pair a b es) book_events ∙ pair_told a b lawful.whole.moments in
+      subst (λ (p : Pair). Agrees (pair_with b (program a lawful.whole.moments).peers) p) (sym same) (story_agrees lawful.whole.moments a b book_coupled.story)
+
+  ready_is : (ph : Phase) → is_ready ph ≡ true → ph ≡ Ready
+  ready_is Closed e = absurd (cc)
+  ready_is Want e = absurd (cc)
+  ready_is (Gone early) e = absurd (cc)
+  ready_is Heard e = absurd (cc)
+  ready_is Ready e = refl
+
+  pub book_clean : (newer older : List Crossing) (m : HostMessage) → log ≡ newer ++ crossing.In m ∷ older → IsText m → is_through m.flow.destination m.flow.source contacts older ≡ true → IsFresh m contacts older
+  book_clean newer older m parts plain through =
+      let all : IsRun hosts (events_in contacts (newer ++ crossing.In m ∷ older)) = subst (λ (xs : List Crossing). IsRun hosts (events_in contacts xs)) parts book_run in
+      let here : IsRun hosts (event_of (crossing.In m) ∷ events_in contacts older) = run_at hosts contacts newer (crossing.In m) older all in
+      let run : IsRun hosts (In m.flow.source m.flow.destination m.flow.link.0 (Other m.text) ∷ events_in contacts older) =
+      subst (λ (x : Message). IsRun hosts (In m.flow.source m.flow.destination m.flow.link.0 x ∷ events_in contacts older)) plain here in
+      let waits : WaitsAfterClean m.flow.source m.flow.destination m.flow.link.0 m.text (events_in contacts older) =
+      clean_run hosts (events_in contacts older) m.flow.source m.flow.destination m.flow.link.0 m.text run (ready_is (pair m.flow.destination m.flow.source (events_in contacts older)).phase through) in
+      let box : seen_box m.flow.link.0 (mail.box_of m.flow older) ≡ Waiting waits.place (Other m.text) = sym (box_in m.flow.source m.flow.destination contacts older m.flow.link.0) ∙ waits.waits in
+      let kept : (text : List Bool) × (mail.box_of m.flow older ≡ mail.Waiting waits.place text) = seen_waiting m.flow.link.0 (mail.box_of m.flow older) waits.place (Other m.text) box in
+      record { place = waits.place; out = waiting_out m.flow waits.place kept.0 older kept.1; after = waits.after }
+
+  -- link by link, what a host heard in its last stay is a prefix of what was said
+  pub book_front : (a b : Host) (link : ℕ) → IsFront (heard_in_stay a b link (events_in contacts log)) (said_in_stay a b link (events_in contacts log))
+  book_front a b link = heard_front hosts (events_in contacts log) book_run a b link
+
+  -- and so is the program in the seat of each host that is up
+  pub seat_agrees : w.stopped ≡ false → (a b : Host) (s : NcpState) → seat_of a w.seats ≡ Some (record { host = a; program = Some s }) → Agrees (pair_with b s.peers) (pair a b (events_in contacts log))
+  seat_agrees running a b s is =
+      let there : record { host = a; program = Some s } ≡ seat_in hosts lawful.whole.moments a =
+      found_seat hosts hosts lawful.whole.moments a (record { host = a; program = Some s }) (ap (λ (seats : List Seat). seat_of a seats) (sym (lawful.whole.seats running)) ∙ is) in
+      let here : (mail.is_up hosts a (crossings_of lawful.whole.moments) ≡ true) × (program a lawful.whole.moments ≡ s) =
+      program_is (mail.is_up hosts a (crossings_of lawful.whole.moments)) (program a lawful.whole.moments) s (ap (λ (x : Seat). x.program) (sym there)) in
+      subst (λ (x : NcpState). Agrees (pair_with b x.peers) (pair a b (events_in contacts log))) here.1 (book_agrees a b)
+
+-- ---- worlds come to be so, and stay so
+
+pub opening_lawful : {C : Type 0} (own : Calls C) (c : C) → (own.seen c).log ≡ [] → HaveAddresses (own.seen c).hosts → IsLawful own.seen (own.seen c).hosts (opening_world (shown own) c)
+opening_lawful own c none addresses = record {
+  whole = opening_whole own c;
+  booked = opening_booked own c none;
+  run = subst (λ (xs : List Crossing). mail.IsRun (own.seen c).hosts xs) (sym none) tt;
+  addresses = addresses;
+}
+
+module _ {C : Type 0} (own : Calls C) (hosts : List Host) (old new : WorldState C) (r : Result (Unit {0}) WorldFault) (lawful : IsLawful own.seen hosts old) (run : mail.IsRun hosts (own.seen new.carrier).log) where
+  pub step_lawful : (e : Event) → IsNamed e → StepGives (shown own) old e r new → IsLawful own.seen hosts new
+  step_lawful e named h = record { whole = step_whole own hosts e old r new named lawful.whole h; booked = step_books own e old r new lawful.booked h; run = run; addresses = lawful.addresses }
+
+  pub run_lawful : (events : List Event) → Each IsNamed events → RunGives (shown own) old events r new → IsLawful own.seen hosts new
+  run_lawful events named h = record { whole = run_whole own hosts events old r new named lawful.whole h; booked = run_books own events old r new lawful.booked h; run = run; addresses = lawful.addresses }
+
+  pub calm_lawful : (times : ℕ) → CalmGives (shown own) times old r new → IsLawful own.seen hosts new
+  calm_lawful times h = record { whole = calm_whole own hosts times old r new lawful.whole h; booked = calm_books own times old r new lawful.booked h; run = run; addresses = lawful.addresses }

@@ -1,0 +1,178 @@
+-- After every story each program is, for each peer, where the law of resets has it.
+use Rattle.std.proofs.Common.{◌≡◌, ℕ, Bool, true, false, if◌then◌else◌, List, [], ◌∷◌, Option, Some, None, is_some, refl, sym, subst, ◌∙◌}
+use Rattle.leader1822.specs.Host.{Host, same_host}
+use Rattle.leader1822.specs.declared.address.Flow.{Flow}
+use Rattle.leader1822.specs.declared.crossing.Answer.{Answer}
+use Rattle.leader1822.specs.declared.crossing.Crossing.TheVariants as crossing
+use Rattle.leader1822.specs.declared.crossing.Inbound.{Inbound}
+use Rattle.leader1822.specs.declared.crossing.Inbound.TheVariants as inbound
+use Rattle.leader1822.specs.declared.message.HostMessage.{HostMessage}
+use Rattle.leader1822.proofs.lemmas.{same_host-true}
+use Rattle.sockets.specs.Accepting.{accepted, accepted_message, accepted_answer}
+use Rattle.host_pairs.specs.Entries.{is_busy}
+use Rattle.host_pairs.specs.Pair.{PairState}
+use Rattle.sockets.specs.Pairs.{NcpState, pair_with, owner_of}
+use Rattle.host_pairs.specs.Desk.{listens_on}
+use Rattle.sockets.specs.Requests.{served, at_owner, closed_socket}
+use Rattle.host_pairs.specs.Parcels.{Parcel}
+use Rattle.sockets.specs.Sending.{message_for, next_in, offered, offered_by}
+use Rattle.host_pairs.specs.declared.entry.Entry.{Entry}
+use Rattle.sockets.specs.declared.peer.Peer.{Peer}
+use Rattle.sockets.specs.declared.request.Request.{Request}
+use Rattle.sockets.specs.declared.request.Request.TheVariants as request
+use Rattle.reset_law.specs.Events.{Event, part_of}
+use Rattle.reset_law.specs.Pairs.{Pair, pair_moved, pair}
+use Rattle.net_sim.specs.Projection.{Agrees, event_of, event_by}
+use Rattle.net_sim.specs.Story.{Moment, Crossed, Asked, places, event_in, events_of, program_after, program, IsNext, Follows, IsStory}
+use Rattle.net_sim.proofs.Resets.Calls.{opening_agrees, request_agrees, message_agrees, answer_agrees}
+use Rattle.net_sim.proofs.Resets.Offers.{offer_agrees}
+
+-- ---- a program keeps its own address
+
+owner_own : (s : NcpState) (o : Option (Host × Entry)) (change : Entry → PairState → PairState) → (at_owner s o change).own ≡ s.own
+owner_own s None change = refl
+owner_own s (Some (g, e)) change = refl
+
+closed_own : (s : NcpState) (socket : ℕ) (b : Bool) → listens_on socket s.listening ≡ b → (closed_socket s socket).own ≡ s.own
+closed_own s socket true e = rw e refl
+closed_own s socket false e = rw e (owner_own s (owner_of socket s.peers) _)
+
+served_own : (s : NcpState) (r : Request) → (served s r).own ≡ s.own
+unfolding served
+served_own s (request.Contact peer) = refl
+served_own s (request.Listen socket size) = refl
+served_own s (request.OpenSend peer own foreign size) = refl
+served_own s (request.OpenReceive peer own foreign) = refl
+served_own s (request.Send socket bits) = owner_own s (owner_of socket s.peers) _
+served_own s (request.Grant socket messages bits) = owner_own s (owner_of socket s.peers) _
+served_own s (request.AskBack socket messages bits) = owner_own s (owner_of socket s.peers) _
+served_own s (request.Interrupt socket) = owner_own s (owner_of socket s.peers) _
+served_own s (request.Close socket) = closed_own s socket (listens_on socket s.listening) refl
+served_own s (request.Echo peer octet) = refl
+
+offered_own_by : (s : NcpState) (stamp : ℕ) (o : Option (Peer × Parcel)) → (offered_by s stamp o).0.own ≡ s.own
+offered_own_by s stamp None = refl
+offered_own_by s stamp (Some (p, x)) = refl
+
+offered_own : (s : NcpState) (stamp : ℕ) → (offered s stamp).0.own ≡ s.own
+unfolding offered
+offered_own s stamp = offered_own_by s stamp (next_in s.peers)
+
+message_own : (s : NcpState) (m : HostMessage) (stamp : ℕ) (b : Bool) → same_host s.own m.flow.destination ≡ b → (accepted_message s m stamp).0.own ≡ s.own
+message_own s m stamp true e = rw e refl
+message_own s m stamp false e = rw e refl
+
+answer_own : (s : NcpState) (kind : Answer) (f : Flow) (b c : Bool) → same_host s.own f.source ≡ b → is_busy (pair_with f.destination s.peers).busy f.link.0 ≡ c → (accepted_answer s kind f).0.own ≡ s.own
+answer_own s kind f true true e g = rw (e, g) refl
+answer_own s kind f true false e g = rw (e, g) refl
+answer_own s kind f false c e g = rw e refl
+
+accepted_own : (s : NcpState) (i : Inbound) (stamp : ℕ) → (accepted s i stamp).0.own ≡ s.own
+unfolding accepted
+accepted_own s (inbound.Message m) stamp = message_own s m stamp (same_host s.own m.flow.destination) refl
+accepted_own s (inbound.Answer kind f) stamp = answer_own s kind f (same_host s.own f.source) (is_busy (pair_with f.destination s.peers).busy f.link.0) refl refl
+
+own_if : (b : Bool) (s t : NcpState) (a : Host) → s.own ≡ a → t.own ≡ a → (if b then s else t).own ≡ a
+own_if true s t a e f = e
+own_if false s t a e f = f
+
+after_own : (a : Host) (here : ℕ) (x : Moment) (s : NcpState) → s.own ≡ a → (program_after a here x s).own ≡ a
+after_own a here (Crossed (crossing.Out m)) s e = own_if (same_host a m.flow.source) _ s a (offered_own s here ∙ e) e
+after_own a here (Crossed (crossing.In m)) s e = own_if (same_host a m.flow.destination) _ s a (accepted_own s (inbound.Message m) here ∙ e) e
+after_own a here (Crossed (crossing.Answer kind f)) s e = own_if (same_host a f.source) _ s a (accepted_own s (inbound.Answer kind f) here ∙ e) e
+after_own a here (Crossed (crossing.Down h)) s e = own_if (same_host a h) _ s a refl e
+after_own a here (Crossed (crossing.Up h)) s e = own_if (same_host a h) _ s a refl e
+after_own a here (Asked h r) s e = own_if (same_host a h) _ s a (served_own s r ∙ e) e
+
+pub program_own : (a : Host) (moments : List Moment) → (program a moments).own ≡ a
+program_own a [] = refl
+program_own a (x ∷ moments) = after_own a (places moments) x (program a moments) (program_own a moments)
+
+-- ---- one moment
+
+abbrev Stands : Host → Host → Moment → List Moment → Type 0
+Stands a b x moments = Agrees (pair_with b (program a (x ∷ moments)).peers) (pair a b (event_in x ∷ events_of moments))
+
+abbrev Before : Host → Host → List Moment → Type 0
+Before a b moments = Agrees (pair_with b (program a moments).peers) (pair a b (events_of moments))
+
+-- what the law says of the program's own address, it says of the host
+as_own : (a b : Host) (e : Event) (q : PairState) (p : Pair) (s : NcpState) → s.own ≡ a → Agrees q (pair_moved (part_of s.own b e) p) → Agrees q (pair_moved (part_of a b e) p)
+as_own a b e q p s own h = subst (λ (x : Host). Agrees q (pair_moved (part_of x b e) p)) own h
+
+another : (a b h : Host) (r : Request) (q : PairState) (p : Pair) → same_host a h ≡ false → Agrees q p → Agrees q (pair_moved (part_of a b (event_by h r)) p)
+another a b h (request.Contact peer) q p e k = rw e k
+another a b h (request.Listen socket size) q p e k = k
+another a b h (request.OpenSend peer own foreign size) q p e k = k
+another a b h (request.OpenReceive peer own foreign) q p e k = k
+another a b h (request.Send socket bits) q p e k = k
+another a b h (request.Grant socket messages bits) q p e k = k
+another a b h (request.AskBack socket messages bits) q p e k = k
+another a b h (request.Interrupt socket) q p e k = k
+another a b h (request.Close socket) q p e k = k
+another a b h (request.Echo peer octet) q p e k = k
+
+asked_stands : (a b h : Host) (r : Request) (moments : List Moment) → Before a b moments → (c : Bool) → same_host a h ≡ c → Stands a b (Asked h r) moments
+asked_stands a b h r moments k true e =
+    let s : NcpState = program a moments in
+    let is : a ≡ h = same_host-true a h e in
+    let step : Agrees (pair_with b (served (program a moments) r).peers) (pair_moved (part_of a b (event_by a r)) (pair a b (events_of moments))) =
+    subst (λ (x : Host). Agrees (pair_with b (served (program a moments) r).peers) (pair_moved (part_of x b (event_by x r)) (pair a b (events_of moments)))) (program_own a moments) (request_agrees (program a moments) r b (pair a b (events_of moments)) k) in
+    rw e (subst (λ (x : Host). Agrees (pair_with b (served (program a moments) r).peers) (pair_moved (part_of a b (event_by x r)) (pair a b (events_of moments)))) is step)
+asked_stands a b h r moments k false e = rw e (another a b h r (pair_with b (program a moments).peers) (pair a b (events_of moments)) e k)
+
+in_stands : (a b : Host) (m : HostMessage) (moments : List Moment) → Follows (Crossed (crossing.In m)) moments → Before a b moments → (c : Bool) → same_host a m.flow.destination ≡ c → Stands a b (Crossed (crossing.In m)) moments
+in_stands a b m moments apart k true e =
+    let step : Agrees (pair_with b (accepted (program a moments) (inbound.Message m) (places moments)).0.peers) (pair_moved (part_of a b (event_of (crossing.In m))) (pair a b (events_of moments))) =
+    as_own a b (event_of (crossing.In m)) _ (pair a b (events_of moments)) (program a moments) (program_own a moments) (message_agrees (program a moments) m (places moments) b (pair a b (events_of moments)) apart k) in
+    let now : Agrees (pair_with b (if true then (accepted (program a moments) (inbound.Message m) (places moments)).0 else program a moments).peers) (pair_moved (part_of a b (event_of (crossing.In m))) (pair a b (events_of moments))) = step in
+    subst (λ (x : Bool). Agrees (pair_with b (if x then (accepted (program a moments) (inbound.Message m) (places moments)).0 else program a moments).peers) (pair_moved (part_of a b (event_of (crossing.In m))) (pair a b (events_of moments)))) (sym e) now
+in_stands a b m moments apart k false e = rw e k
+
+out_of : (a b : Host) (m : HostMessage) (moments : List Moment) → IsNext (program a moments) m → Before a b moments
+    → Agrees (pair_with b (offered (program a moments) (places moments)).0.peers) (pair_moved (part_of a b (event_of (crossing.Out m))) (pair a b (events_of moments)))
+out_of a b m moments n k =
+    let s : NcpState = program a moments in
+    let step : Agrees (pair_with b (offered (program a moments) (places moments)).0.peers) (pair_moved (part_of (program a moments).own b (event_of (crossing.Out (message_for (program a moments).own n.peer n.parcel)))) (pair a b (events_of moments))) =
+    offer_agrees (program a moments) (places moments) n.peer n.parcel b (pair a b (events_of moments)) n.order n.next k in
+    let said : Agrees (pair_with b (offered (program a moments) (places moments)).0.peers) (pair_moved (part_of (program a moments).own b (event_of (crossing.Out m))) (pair a b (events_of moments))) =
+    subst (λ (x : HostMessage). Agrees (pair_with b (offered (program a moments) (places moments)).0.peers) (pair_moved (part_of (program a moments).own b (event_of (crossing.Out x))) (pair a b (events_of moments)))) (sym n.message) step in
+    as_own a b (event_of (crossing.Out m)) _ (pair a b (events_of moments)) (program a moments) (program_own a moments) said
+
+out_stands : (a b : Host) (m : HostMessage) (moments : List Moment) → Follows (Crossed (crossing.Out m)) moments → Before a b moments → (c : Bool) → same_host a m.flow.source ≡ c → Stands a b (Crossed (crossing.Out m)) moments
+out_stands a b m moments n k true e =
+    let is : a ≡ m.flow.source = same_host-true a m.flow.source e in
+    let step : Agrees (pair_with b (offered (program a moments) (places moments)).0.peers) (pair_moved (part_of a b (event_of (crossing.Out m))) (pair a b (events_of moments))) =
+    out_of a b m moments (subst (λ (x : Host). IsNext (program x moments) m) (sym is) n) k in
+    subst (λ (x : Bool). Agrees (pair_with b (if x then (offered (program a moments) (places moments)).0 else program a moments).peers) (pair_moved (part_of a b (event_of (crossing.Out m))) (pair a b (events_of moments)))) (sym e) step
+out_stands a b m moments n k false e = rw e k
+
+answer_stands : (a b : Host) (kind : Answer) (f : Flow) (moments : List Moment) → Follows (Crossed (crossing.Answer kind f)) moments → Before a b moments → (c : Bool) → same_host a f.source ≡ c → Stands a b (Crossed (crossing.Answer kind f)) moments
+answer_stands a b kind f moments out k true e =
+    let is : a ≡ f.source = same_host-true a f.source e in
+    let there : same_host (program a moments).own f.source ≡ true → same_host b f.destination ≡ true → is_some ((pair a b (events_of moments)).out f.link.0) ≡ true =
+    λ own to. subst (λ (y : Host). is_some ((pair a y (events_of moments)).out f.link.0) ≡ true) (sym (same_host-true b f.destination to)) (subst (λ (x : Host). is_some ((pair x f.destination (events_of moments)).out f.link.0) ≡ true) (sym is) out) in
+    let step : Agrees (pair_with b (accepted (program a moments) (inbound.Answer kind f) (places moments)).0.peers) (pair_moved (part_of a b (event_of (crossing.Answer kind f))) (pair a b (events_of moments))) =
+    as_own a b (event_of (crossing.Answer kind f)) _ (pair a b (events_of moments)) (program a moments) (program_own a moments) (answer_agrees (program a moments) kind f (places moments) b (pair a b (events_of moments)) there k) in
+    subst (λ (x : Bool). Agrees (pair_with b (if x then (accepted (program a moments) (inbound.Answer kind f) (places moments)).0 else program a moments).peers) (pair_moved (part_of a b (event_of (crossing.Answer kind f))) (pair a b (events_of moments)))) (sym e) step
+answer_stands a b kind f moments out k false e = rw e k
+
+down_stands : (a b h : Host) (moments : List Moment) → Before a b moments → (c : Bool) → same_host a h ≡ c → Stands a b (Crossed (crossing.Down h)) moments
+down_stands a b h moments k true e = rw e (opening_agrees a b)
+down_stands a b h moments k false e = rw e k
+
+up_stands : (a b h : Host) (moments : List Moment) → Before a b moments → (c : Bool) → same_host a h ≡ c → Stands a b (Crossed (crossing.Up h)) moments
+up_stands a b h moments k true e = rw e (opening_agrees a b)
+up_stands a b h moments k false e = rw e k
+
+moment_stands : (a b : Host) (x : Moment) (moments : List Moment) → Follows x moments → Before a b moments → Stands a b x moments
+moment_stands a b (Crossed (crossing.Out m)) moments f k = out_stands a b m moments f k (same_host a m.flow.source) refl
+moment_stands a b (Crossed (crossing.In m)) moments f k = in_stands a b m moments f k (same_host a m.flow.destination) refl
+moment_stands a b (Crossed (crossing.Answer kind g)) moments f k = answer_stands a b kind g moments f k (same_host a g.source) refl
+moment_stands a b (Crossed (crossing.Down h)) moments f k = down_stands a b h moments k (same_host a h) refl
+moment_stands a b (Crossed (crossing.Up h)) moments f k = up_stands a b h moments k (same_host a h) refl
+moment_stands a b (Asked h r) moments f k = asked_stands a b h r moments k (same_host a h) refl
+
+pub story_agrees : (moments : List Moment) (a b : Host) → IsStory moments → Agrees (pair_with b (program a moments).peers) (pair a b (events_of moments))
+story_agrees [] a b s = opening_agrees a b
+story_agrees (x ∷ moments) a b s = moment_stands a b x moments s.0 (story_agrees moments a b s.1)

@@ -1,0 +1,182 @@
+-- What a host has asked for on a link, by each call.
+use Rattle.std.proofs.Common.{◌≡◌, ◌⊎◌, ℕ, Bool, true, false, not, ◌&&◌, ◌==◌, if◌then◌else◌, List, [], ◌∷◌, length, Option, Some, None, is_some, refl, ◌∙◌, inl, inr}
+use Rattle.std.proofs.lemmas.Bool.{eqb-true}
+use Rattle.ncp_control.specs.DataHeader.{data_bits}
+use Rattle.ncp_control.specs.declared.command.Command.{Command}
+use Rattle.ncp_control.specs.declared.command.Command.TheVariants as command
+use Rattle.ncp_control.specs.declared.data_header.DataHeader.{DataHeader}
+use Rattle.stream_law.specs.Words as words
+use Rattle.stream_law.specs.Words.{covers, for, holds, is_size}
+use Rattle.stream_law.specs.Receivers as receivers
+use Rattle.stream_law.specs.Receivers.{Receiver}
+use Rattle.host_pairs.specs.Data.{data_of}
+use Rattle.host_pairs.specs.Entries.{entry_at, is_receiving, receives_on}
+use Rattle.host_pairs.specs.Pair.{PairState}
+use Rattle.host_pairs.specs.declared.entry.Closing.{Closing}
+use Rattle.host_pairs.specs.declared.entry.Closing.TheVariants as closing
+use Rattle.host_pairs.specs.declared.entry.Entry.{Entry}
+use Rattle.host_pairs.specs.declared.listener.Listener.{Listener}
+use Rattle.host_keeps_streams.specs.Closings.{all_received, received_close, received_gone, received_open}
+use Rattle.host_keeps_streams.specs.Histories.{Call, IsAllowed, IsTelling}
+use Rattle.host_keeps_streams.specs.Moves.{answers_str, asked_received, asks_for, closed_received, closes_on, cls_received, data_received, received_out, str_received}
+use Rattle.host_keeps_streams.specs.Names.{named}
+use Rattle.stream_law.specs.Senders.{Sender}
+
+-- ---- moves that ask for nothing
+
+abbrev pub AsksNone : receivers.Move → Type 0
+AsksNone (receivers.Ask c) = ⊥
+AsksNone m = Unit {0}
+
+abbrev pub AllAskNone : List receivers.Move → Type 0
+AllAskNone [] = Unit {0}
+AllAskNone (m ∷ ms) = AsksNone m × AllAskNone ms
+
+returned_asked : (m n : ℕ) (o : Option ℕ) (r : Receiver) (k : ℕ) → (receivers.takes_back m n o r).asked k ≡ r.asked k
+returned_asked m n None r k = refl
+returned_asked m n (Some c) r k = by (receivers.is_open c r && holds r.allocation m n) refl where
+  by : (v : Bool) → (receivers.is_open c r && holds r.allocation m n) ≡ v → (receivers.takes_back m n (Some c) r).asked k ≡ r.asked k
+  by true t = rw t refl
+  by false t = rw t refl
+
+taken_asked : (z : ℕ) (bits : List Bool) (o : Option ℕ) (r : Receiver) (k : ℕ) → (receivers.takes z bits o r).asked k ≡ r.asked k
+taken_asked z bits None r k = refl
+taken_asked z bits (Some c) r k = by (receivers.is_open c r && is_size z (r.size c) && covers r.allocation (length bits)) refl where
+  by : (v : Bool) → (receivers.is_open c r && is_size z (r.size c) && covers r.allocation (length bits)) ≡ v → (receivers.takes z bits (Some c) r).asked k ≡ r.asked k
+  by true t = rw t refl
+  by false t = rw t refl
+
+word_asked : (w : words.Word) (r : Receiver) (k : ℕ) → (receivers.hears w r).asked k ≡ r.asked k
+word_asked (words.Str c z) r k = refl
+word_asked (words.Cls c) r k = refl
+word_asked (words.Ret c m n) r k = returned_asked m n r.end r k
+word_asked (words.Rts c) r k = refl
+word_asked (words.All c m n) r k = refl
+word_asked (words.Gvb c m n) r k = refl
+
+moved_asked : (m : receivers.Move) (r : Receiver) → AsksNone m → (k : ℕ) → (receivers.moved m r).asked k ≡ r.asked k
+moved_asked (receivers.Ask c) r a k = absurd a
+moved_asked (receivers.Open c) r a k = refl
+moved_asked (receivers.Grant c m n) r a k = refl
+moved_asked (receivers.AskBack c m n) r a k = refl
+moved_asked (receivers.Close c) r a k = refl
+moved_asked (receivers.Free c) r a k = refl
+moved_asked (receivers.Hear w) r a k = word_asked w r k
+moved_asked (receivers.Take z bits) r a k = taken_asked z bits r.end r k
+
+pub same_asked : (ms : List receivers.Move) (r : Receiver) → AllAskNone ms → (k : ℕ) → (all_received ms r).asked k ≡ r.asked k
+same_asked [] r a k = refl
+same_asked (m ∷ ms) r a k = same_asked ms (receivers.moved m r) a.1 k ∙ moved_asked m r a.0 k
+
+-- ---- calls that ask for nothing
+
+open_none : (v : Bool) (c : ℕ) → AllAskNone (received_open v c)
+open_none true c = (tt, tt)
+open_none false c = tt
+
+close_none : (v : Closing) (c : ℕ) → AllAskNone (received_close v c)
+close_none closing.No c = (tt, tt)
+close_none closing.Due c = (tt, tt)
+close_none closing.Queued c = tt
+close_none closing.Sent c = (tt, tt)
+
+gone_none : (v : Bool) (c : ℕ) → AllAskNone (received_gone v c)
+gone_none true c = (tt, tt)
+gone_none false c = tt
+
+pub if_none : (v : Bool) (ms : List receivers.Move) → AllAskNone ms → AllAskNone (if v then ms else [])
+if_none true ms a = a
+if_none false ms a = tt
+
+not_none : (v : Bool) (ms : List receivers.Move) → AllAskNone ms → AllAskNone (if v then [] else ms)
+not_none true ms a = tt
+not_none false ms a = a
+
+module _ (name : ℕ → ℕ → ℕ) (link : ℕ) where
+  -- an STR for an end that is there
+  pub str_none : (c z : ℕ) (listener : Option Listener) (free : Option ℕ) (e : Entry) → AllAskNone (str_received link c z listener free (Some e))
+  str_none c z listener free e = not_none (is_some e.partner) (receivers.Hear (words.Str c z) ∷ received_open (receives_on link e && is_some e.asked) c) (tt, open_none (receives_on link e && is_some e.asked) c)
+
+  pub cls_none : (c : ℕ) (o : Option Entry) → AllAskNone (cls_received link c o)
+  cls_none c None = tt
+  cls_none c (Some e) = if_none (is_receiving e && not e.partner_closed) (receivers.Hear (words.Cls c) ∷ closes_on link c e) (tt, if_none (receives_on link e) (received_close e.closing c) (close_none e.closing c))
+
+  pub data_none : (l : ℕ) (text : List Bool) (o : Option DataHeader) → AllAskNone (data_received link l text o)
+  data_none l text None = tt
+  data_none l text (Some h) = if_none (l == link) (receivers.Take h.size (data_of (data_bits h) text) ∷ []) (tt, tt)
+
+  asked_none : (o : Option Entry) → AllAskNone (asked_received name link o)
+  asked_none None = tt
+  asked_none (Some e) = if_none (receives_on link e) (received_open (is_some e.partner) (named name e)) (open_none (is_some e.partner) (named name e))
+
+  closed_none : (o : Option Entry) → AllAskNone (closed_received name link o)
+  closed_none None = tt
+  closed_none (Some e) = if_none (receives_on link e) (received_gone e.partner_closed (named name e)) (gone_none e.partner_closed (named name e))
+
+  pub out_none : (c : Command) (es : List Entry) → AllAskNone (received_out name link c es)
+  out_none (command.Rts receive send l) es = asked_none (entry_at receive send es)
+  out_none (command.Str send receive size) es = asked_none (entry_at send receive es)
+  out_none (command.Cls own foreign) es = closed_none (entry_at own foreign es)
+  out_none command.Nop es = tt
+  out_none (command.All l m n) es = tt
+  out_none (command.Gvb l m n) es = tt
+  out_none (command.Ret l m n) es = tt
+  out_none (command.Inr l) es = tt
+  out_none (command.Ins l) es = tt
+  out_none (command.Eco octet) es = tt
+  out_none (command.Erp octet) es = tt
+  out_none (command.Err code detail) es = tt
+  out_none command.Rst es = tt
+  out_none command.Rrp es = tt
+
+  -- ---- calls that ask
+
+  -- what is asked for is one connection, if at all
+  pub asked_if : (v : Bool) (c : ℕ) (r : Receiver) (k : ℕ) → (all_received (if v then receivers.Ask c ∷ [] else []) r).asked k ≡ (if v then for c true r.asked k else r.asked k)
+  asked_if true c r k = refl
+  asked_if false c r k = refl
+
+  one_asked : (v : Bool) (c : ℕ) (r : Receiver) (k : ℕ) → ((if v then for c true r.asked k else r.asked k) ≡ r.asked k) ⊎ (k ≡ c)
+  one_asked true c r k = by (k == c) refl where
+    by : (v : Bool) → (k == c) ≡ v → (for c true r.asked k ≡ r.asked k) ⊎ (k ≡ c)
+    by true t = inr (eqb-true k c t)
+    by false t = inl (rw t refl)
+  one_asked false c r k = inl refl
+
+-- a number that is asked for newly: of sockets that have no end
+pub record IsNewlyAsked (name : ℕ → ℕ → ℕ) (es : List Entry) (k : ℕ) : Type 0 where
+  pub own : ℕ
+  pub foreign : ℕ
+  pub is : k ≡ name own foreign
+  pub none : entry_at own foreign es ≡ None
+
+module _ (name : ℕ → ℕ → ℕ) (link : ℕ) (q : PairState) (listening : List Listener) (r : Receiver) where
+  abbrev AsksNew : List receivers.Move → Type 0
+  AsksNew ms = (k : ℕ) → ((all_received ms r).asked k ≡ r.asked k) ⊎ IsNewlyAsked name q.entries k
+
+  none_new : (ms : List receivers.Move) → AllAskNone ms → AsksNew ms
+  none_new ms a k = inl (same_asked ms r a k)
+
+  if_new : (own foreign : ℕ) → entry_at own foreign q.entries ≡ None → (v : Bool) (t : Receiver) → ((k : ℕ) → t.asked k ≡ r.asked k)
+      → (k : ℕ) → ((all_received (if v then receivers.Ask (name own foreign) ∷ [] else []) t).asked k ≡ r.asked k) ⊎ IsNewlyAsked name q.entries k
+  if_new own foreign none v t same k = elim (one_asked name link v (name own foreign) t k) [
+    | inl e ↦ inl (asked_if name link v (name own foreign) t k ∙ e ∙ same k)
+    | inr e ↦ inr (record { own = own; foreign = foreign; is = e; none = none })
+  ]
+
+  answer_new : (own foreign z : ℕ) → entry_at own foreign q.entries ≡ None → (l : Option Listener) (o : Option ℕ) → AsksNew (receivers.Hear (words.Str (name own foreign) z) ∷ answers_str link (name own foreign) l o)
+  answer_new own foreign z none None o k = inl refl
+  answer_new own foreign z none (Some l) None k = inl refl
+  answer_new own foreign z none (Some l) (Some other) k = if_new own foreign none (other == link) (receivers.hears (words.Str (name own foreign) z) r) (λ j. refl) k
+
+  str_new : (own foreign z : ℕ) (l : Option Listener) (free : Option ℕ) (o : Option Entry) → entry_at own foreign q.entries ≡ o → AsksNew (str_received link (name own foreign) z l free o)
+  str_new own foreign z l free None found = answer_new own foreign z found l free
+  str_new own foreign z l free (Some e) found = none_new (str_received link (name own foreign) z l free (Some e)) (str_none name link (name own foreign) z l free e)
+
+  opens_new : (own foreign : ℕ) → entry_at own foreign q.entries ≡ None → (o : Option ℕ) → AsksNew (asks_for link (name own foreign) o)
+  opens_new own foreign none None k = inl refl
+  opens_new own foreign none (Some other) k = if_new own foreign none (other == link) r (λ j. refl) k
+
+-- ---- words that were said before the call mean the same after it
+
+module _ (number : ℕ → ℕ → ℕ → ℕ) (tells : IsTelling number) (link : ℕ) (gone : ℕ → ℕ → ℕ) (q : PairState) (listening : List Listener) (r : Receiver) (s : Sender) (k : Call) (allowed : IsAllowed link k q s) where

@@ -1,0 +1,21 @@
+-- How the call of an IMP ends, and what it leaves in the subnet.
+use Rattle.std.proofs.Common.{Bool, Option, Some, Result, Ok, Err, ap}
+use Rattle.leader1822.specs.declared.carrier.CarrierFault.{CarrierFault}
+use Rattle.leader1822.specs.declared.carrier.CarrierFault.TheVariants as fault
+use Rattle.imp_node.specs.State.{State}
+use Rattle.imp_node.specs.Turns.{Turned}
+use Rattle.subnet.specs.Inside.Calling.{CallEnds}
+
+-- an IMP's answer as that of what stands at its place
+pub ends_of_turned : {T : Type 0} (refusal : Option CarrierFault) (grows : Bool) (Gives : T → Type 0) (s t : State) (r : Result T CarrierFault) → Turned refusal grows Gives s t r → CallEnds refusal grows Gives (Some s) (Some t) r
+ends_of_turned refusal grows Gives s t (Ok x) h = h
+ends_of_turned refusal grows Gives s t (Err fault.OutOfMemory) h = (h.0, h.1)
+ends_of_turned refusal grows Gives s t (Err fault.NoSuch) h = (h.0, ap Some h.1)
+ends_of_turned refusal grows Gives s t (Err fault.StillAlive) h = (h.0, ap Some h.1)
+ends_of_turned refusal grows Gives s t (Err fault.IsDown) h = (h.0, ap Some h.1)
+ends_of_turned refusal grows Gives s t (Err fault.IsUp) h = (h.0, ap Some h.1)
+ends_of_turned refusal grows Gives s t (Err fault.Unsettled) h = (h.0, ap Some h.1)
+ends_of_turned refusal grows Gives s t (Err fault.NotOutstanding) h = (h.0, ap Some h.1)
+ends_of_turned refusal grows Gives s t (Err fault.Blocked) h = (h.0, ap Some h.1)
+ends_of_turned refusal grows Gives s t (Err fault.NoRoom) h = (h.0, ap Some h.1)
+ends_of_turned refusal grows Gives s t (Err fault.Stopped) h = (h.0, ap Some h.1)

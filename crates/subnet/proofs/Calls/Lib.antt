@@ -1,0 +1,20 @@
+-- The calls of `Subnet`: what they leave, what hosts see, and when memory may run out. Main lemmas: Working `offer_shown`, `take_shown`, `step_shown`
+-- and `round_shown` (what each call shows), Rounds `quiet_round_sound` (what a quiet round keeps), RoundMemory (when it may need memory), Silence
+-- `not_alive` (a question that finds nothing alive), Opens (a subnet opens).
+pub mod Attempting
+pub mod Carries
+pub mod Carrying
+pub mod Delivering
+pub mod Ending
+pub mod Living
+pub mod Opens
+pub mod Owning
+pub mod Putting
+pub mod RoundMemory
+pub mod Rounds
+pub mod Showing
+pub mod Silence
+pub mod SiteHosts
+pub mod Starts
+pub mod Stopping
+pub mod Working

@@ -1,0 +1,53 @@
+-- A call leaves each IMP that is up with its number, and with memory where it succeeds.
+use Rattle.std.proofs.Common.{◌≡◌, ℕ, ◌<◌, zero, suc, Bool, false, List, [], ◌∷◌, get_or, set, length, Option, Some, None, Result, Ok, Err, OnOk, refl, sym, subst, ◌∙◌, arith}
+use Rattle.std.specs.Prelude.{IfSome}
+use Rattle.leader1822.specs.declared.carrier.CarrierFault.{CarrierFault}
+use Rattle.imp_node.specs.State.{State, ImpTurn, number}
+use Rattle.imp_node.specs.Taking.{to_host, to_host_refusal}
+use Rattle.imp_node.specs.Turns.{to_host_grows}
+use Rattle.subnet.specs.Events.{at_up}
+use Rattle.subnet.specs.Calls.{grows_at}
+use Rattle.subnet.specs.Net.{imp_at}
+use Rattle.subnet.specs.declared.imp_call.ImpCall.{ImpCall}
+use Rattle.subnet.specs.Inside.Calling.{call_turn, IsLive, AreLive, CallEnds, imp_by}
+use Rattle.subnet.proofs.Calls.Owning.{call_own, to_host_own}
+
+-- what holds of each IMP by its place holds after one was set
+pub all_set : {A : Type 0} (P : ℕ → A → Type 0) (xs : List A) (k h : ℕ) (x d : A) → P h (get_or xs h d) → P k x → P h (get_or (set xs k x) h d)
+all_set P [] k h x d old new = old
+all_set P (y ∷ ys) zero zero x d old new = new
+all_set P (y ∷ ys) zero (suc h) x d old new = old
+all_set P (y ∷ ys) (suc k) zero x d old new = old
+all_set P (y ∷ ys) (suc k) (suc h) x d old new = all_set (λ (n : ℕ). P (suc n)) ys k h x d old new
+
+-- an element that is there is read alike with any default
+pub read_alike : {A : Type 0} (xs : List A) (k : ℕ) (a b : A) → k < length xs → get_or xs k a ≡ get_or xs k b
+read_alike [] k a b within = absurd (omega arith)
+read_alike (x ∷ xs) zero a b within = refl
+read_alike (x ∷ xs) (suc k) a b within = read_alike xs k a b (omega arith)
+
+live_by : (i : ℕ) (o : Option State) (call : State → ImpTurn) → ((s : State) → number (call s).state ≡ number s) → IsLive i o → IfSome (imp_by o call) (λ s. s.spent ≡ false) → IsLive i (imp_by o call)
+live_by i None call own live unspent = tt
+live_by i (Some s) call own live unspent = (own s ∙ live.0, unspent)
+
+live_new : (i : ℕ) (o x : Option State) (call : State → ImpTurn) → ((s : State) → number (call s).state ≡ number s) → IsLive i o → x ≡ imp_by o call → IfSome x (λ s. s.spent ≡ false) → IsLive i x
+live_new i o x call own live is unspent =
+    subst (λ (y : Option State). IsLive i y) (sym is) (live_by i o call own live (subst (λ (y : Option State). IfSome y (λ s. s.spent ≡ false)) is unspent))
+
+live_set : (imps : List (Option State)) (i : ℕ) (x : Option State) (call : State → ImpTurn) → ((s : State) → number (call s).state ≡ number s) → AreLive imps → x ≡ imp_by (imp_at imps i) call → IfSome x (λ s. s.spent ≡ false) → AreLive (set imps i x)
+live_set imps i x call own live is unspent = λ h. all_set IsLive imps i h x None (live h) (live_new i (imp_at imps i) x call own (live i) is unspent)
+
+pub live_call : {T : Type 0} (r : Result T CarrierFault) (imps : List (Option State)) (i : ℕ) (x : Option State) (c : ImpCall) (refusal : Option CarrierFault) (grows : Bool) (Q : T → Type 0) → AreLive imps → CallEnds refusal grows (λ (y : T). (x ≡ imp_by (imp_at imps i) (call_turn c)) × Q y) (imp_at imps i) x r → OnOk r (IfSome x (λ s. s.spent ≡ false)) → OnOk r (AreLive (set imps i x))
+live_call (Ok y) imps i x c refusal grows Q live is unspent = live_set imps i x (call_turn c) (call_own c) live is.1.0 unspent
+live_call (Err e) imps i x c refusal grows Q live is unspent = tt
+
+-- a taking
+live_taking : {T : Type 0} (r : Result T CarrierFault) (imps : List (Option State)) (i h : ℕ) (x : Option State) (refusal : Option CarrierFault) (grows : Bool) (P Q : T → Type 0) → AreLive imps → CallEnds refusal grows (λ (y : T). P y × (x ≡ imp_by (imp_at imps i) (λ s. to_host s h)) × Q y) (imp_at imps i) x r → OnOk r (IfSome x (λ s. s.spent ≡ false)) → OnOk r (AreLive (set imps i x))
+live_taking (Ok y) imps i h x refusal grows P Q live is unspent = live_set imps i x (λ s. to_host s h) (λ s. to_host_own s h) live is.1.1 unspent
+live_taking (Err e) imps i h x refusal grows P Q live is unspent = tt
+
+pub live_taking_read : {T : Type 0} (r : Result T CarrierFault) (imps : List (Option State)) (i h : ℕ) (x d : Option State) (P Q : Option State → T → Type 0) → i < length imps → AreLive imps → CallEnds (at_up (get_or imps i d) (λ s. to_host_refusal s h)) (grows_at (get_or imps i d) (λ s. to_host_grows s h)) (λ (y : T). P (get_or imps i d) y × (x ≡ imp_by (get_or imps i d) (λ s. to_host s h)) × Q (get_or imps i d) y) (get_or imps i d) x r → OnOk r (IfSome x (λ s. s.spent ≡ false)) → OnOk r (AreLive (set imps i x))
+live_taking_read {T} r imps i h x d P Q within live is unspent =
+    live_taking r imps i h x (at_up (imp_at imps i) (λ s. to_host_refusal s h)) (grows_at (imp_at imps i) (λ s. to_host_grows s h)) (P (imp_at imps i)) (Q (imp_at imps i)) live
+    (subst (λ (o : Option State). CallEnds (at_up o (λ s. to_host_refusal s h)) (grows_at o (λ s. to_host_grows s h)) (λ (y : T). P o y × (x ≡ imp_by o (λ s. to_host s h)) × Q o y) o x r) (read_alike imps i d None within) is)
+    unspent

@@ -1,0 +1,96 @@
+-- No call changes the number of an IMP.
+use Rattle.std.proofs.Common.{◌≡◌, ℕ, Bool, true, false, List, [], ◌∷◌, Result, Ok, Err, refl, ◌∙◌}
+use Rattle.std.specs.Prelude.{if◌then◌else◌}
+use Rattle.leader1822.specs.declared.address.Flow.{Flow}
+use Rattle.leader1822.specs.declared.crossing.Answer.{Answer}
+use Rattle.leader1822.specs.declared.crossing.Answer.TheVariants as answer
+use Rattle.packetiser.specs.PacketFields.{PacketFields}
+use Rattle.packetiser.specs.declared.packet.PacketKind.{PacketKind}
+use Rattle.packetiser.specs.declared.packet.PacketKind.TheVariants as kind
+use Rattle.imp_channel.specs.Line.{answer_to}
+use Rattle.imp_channel.specs.declared.fault.ChannelFault.{ChannelFault}
+use Rattle.imp_channel.specs.declared.frame.Frame.{Frame}
+use Rattle.imp_channel.specs.declared.line.Received.{Received}
+use Rattle.imp_channel.specs.declared.line.Received.TheVariants as received
+use Rattle.leader1822.specs.declared.message.HostMessage.{HostMessage}
+use Rattle.link_table.specs.declared.source.Release.{Release}
+use Rattle.link_table.specs.declared.source.Release.TheVariants as release
+use Rattle.imp_node.specs.declared.waiting.Message.{Message}
+use Rattle.imp_node.specs.declared.waiting.Told.{Told}
+use Rattle.imp_node.specs.State.{State, ImpTurn, number, host_at, with_host, port_at}
+use Rattle.imp_node.specs.Flows.{answered_by}
+use Rattle.imp_node.specs.Arrival.{Arrival, Passing, Old, Undeliverable, Piece, NoSlot, Whole, Unmarked, Answering, arrival, arrived, arrival_has_room, frame_taken, taken_frame, from_line}
+use Rattle.imp_node.specs.Offering.{Way, Nowhere, Here, Away, way_of, offered}
+use Rattle.imp_node.specs.Stopping.{message_returned, all_returned, stopped}
+use Rattle.imp_node.specs.Taking.{is_from_here, replied, reply_has_room, taken_by, to_host}
+use Rattle.subnet.specs.declared.imp_call.ImpCall.{ImpCall}
+use Rattle.subnet.specs.declared.imp_call.ImpCall.TheVariants as call
+use Rattle.subnet.specs.Inside.Calling.{call_turn}
+
+answered_own : (r : Release) (kind : Answer) (f : Flow) (n : ℕ) (s : State) → number (answered_by r kind f n s) ≡ number s
+answered_own release.Freed kind f n s = refl
+answered_own release.Stale kind f n s = refl
+
+either_own : (b : Bool) (s t u : State) → number t ≡ number s → number u ≡ number s → number (if b then t else u) ≡ number s
+either_own true s t u e h = e
+either_own false s t u e h = h
+
+replied_own : (kind : Answer) (packet : PacketKind) (m : Message) (s : State) → number (replied kind packet m s) ≡ number s
+replied_own kind packet m s = either_own (is_from_here s m) s _ _ (answered_own _ kind m.flow m.number s) refl
+
+arrived_own : (a : Arrival) (p : PacketFields) (s : State) → number (arrived a p s) ≡ number s
+arrived_own Passing p s = refl
+arrived_own Old p s = refl
+arrived_own Undeliverable p s = refl
+arrived_own Piece p s = refl
+arrived_own NoSlot p s = refl
+arrived_own (Whole text) p s = refl
+arrived_own Unmarked p s = refl
+arrived_own (Answering kind) p s = answered_own _ kind _ p.number s
+
+turn_own : (b : Bool) (s : State) (t u : ImpTurn) → number t.state ≡ number s → number u.state ≡ number s → number (if b then t else u).state ≡ number s
+turn_own true s t u e h = e
+turn_own false s t u e h = h
+
+taken_own : (r : Result Received ChannelFault) (k : ℕ) (f : Frame) (s : State) → number (taken_frame r k f s).state ≡ number s
+taken_own (Ok (received.Fresh p)) k f s = turn_own (arrival_has_room (arrival s p) s p) s _ _ (arrived_own (arrival s p) p (frame_taken k f s)) refl
+taken_own (Ok received.Repeat) k f s = refl
+taken_own (Ok received.AckOnly) k f s = refl
+taken_own (Ok (received.Routes distances)) k f s = refl
+taken_own (Err fault) k f s = refl
+
+from_line_own : (s : State) (k : ℕ) (f : Frame) → number (from_line s k f).state ≡ number s
+from_line_own s k f = turn_own (port_at s.ports k).up s _ _ (taken_own (answer_to (port_at s.ports k).line f) k f s) refl
+
+offered_own : (way : Way) (m : HostMessage) (s : State) → number (offered way m s) ≡ number s
+offered_own Nowhere m s = refl
+offered_own Here m s = refl
+offered_own Away m s = refl
+
+taken_by_own : (h : ℕ) (answers : List Told) (queue : List Message) (s : State) → number (taken_by h answers queue s) ≡ number s
+taken_by_own h (told ∷ others) queue s = refl
+taken_by_own h [] (m ∷ others) s = replied_own answer.Rfnm kind.Rfnm m (with_host s h (record (host_at s h) { queue = others }))
+taken_by_own h [] [] s = refl
+
+pub to_host_own : (s : State) (h : ℕ) → number (to_host s h).state ≡ number s
+to_host_own s h = taken_by_own h (host_at s h).answers (host_at s h).queue s
+
+returned_own : (m : Message) (s : State) → number (message_returned m s) ≡ number s
+returned_own m s = either_own (reply_has_room s m) s (replied answer.Dead kind.Dead m s) s (replied_own answer.Dead kind.Dead m s) refl
+
+all_returned_own : (ms : List Message) (s : State) → number (all_returned ms s) ≡ number s
+all_returned_own [] s = refl
+all_returned_own (m ∷ others) s = all_returned_own others (message_returned m s) ∙ returned_own m s
+
+pub call_own : (c : ImpCall) (s : State) → number (call_turn c s).state ≡ number s
+call_own (call.Offer m) s = offered_own (way_of s m.flow) m s
+call_own (call.Arrive k f) s = from_line_own s k f
+call_own call.Resend s = refl
+call_own call.Route s = refl
+call_own (call.EndDown k) s = refl
+call_own (call.EndUp k) s = refl
+call_own (call.GiveUp f) s = refl
+call_own (call.Forget i) s = refl
+call_own (call.Abandon f) s = refl
+call_own (call.HostDown h) s = all_returned_own (host_at s h).queue (stopped s h)
+call_own (call.HostUp h) s = refl

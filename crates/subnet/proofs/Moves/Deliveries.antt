@@ -1,0 +1,414 @@
+-- A frame is delivered.
+use Rattle.std.proofs.Common.{◌≡◌, ℕ, Bool, true, false, List, [], ◌∷◌, ◌++◌, Option, Some, None, Result, Ok, Err, refl, ap, sym, ◌∙◌, subst, inl, inr, ◌==◌, eqb-true, cond, append-nil, All, Contains}
+use Rattle.std.specs.Prelude.{slice_get}
+use Rattle.std.specs.FinMap as finite
+use Rattle.std.specs.List.{flat_map}
+use Rattle.std.proofs.lemmas.List.{map-append}
+use Rattle.std.proofs.lemmas.List.Elements.{All-nil, All-cons, All-head, All-push, All-set, All-weaker, All-contains, All-contains_itself, Contains-append_left}
+use Rattle.bit_messages.specs.Body.{body, text_of}
+use Rattle.bit_messages.proofs.lemmas.{text_of-body}
+use Rattle.leader1822.specs.declared.address.Flow.{Flow}
+use Rattle.leader1822.specs.declared.crossing.Answer.{Answer}
+use Rattle.leader1822.specs.declared.crossing.Answer.TheVariants as answer
+use Rattle.leader1822.specs.declared.event.Direction.{Direction}
+use Rattle.link_table.specs.Flows.{outstanding_in, release_in}
+use Rattle.link_table.specs.Numbers.{is_new}
+use Rattle.link_table.specs.declared.source.Release.{Release}
+use Rattle.link_table.specs.declared.source.Release.TheVariants as release
+use Rattle.link_table.specs.declared.source.Standing.{Standing}
+use Rattle.link_table.specs.declared.source.Standing.TheVariants as standing
+use Rattle.packetiser.specs.PacketFields.{PacketFields, IsPacket, flow_of}
+use Rattle.packetiser.specs.Pieces.{CarriesPieceOf}
+use Rattle.packetiser.specs.Rejoining.{IsRejoined}
+use Rattle.packetiser.specs.Slots as slots
+use Rattle.packetiser.specs.Slots.{IsPieceFor, gathered, joined_pieces}
+use Rattle.packetiser.specs.declared.packet.PacketKind.{PacketKind}
+use Rattle.packetiser.specs.declared.packet.PacketKind.TheVariants as kind
+use Rattle.packetiser.proofs.lemmas.{joined_whole, rejoined}
+use Rattle.imp_channel.specs.Holding.{carried_by}
+use Rattle.imp_channel.specs.Line.{answer_to}
+use Rattle.imp_channel.specs.declared.fault.ChannelFault.{ChannelFault}
+use Rattle.imp_channel.specs.declared.frame.Frame.{Frame}
+use Rattle.imp_channel.specs.declared.line.Received.{Received}
+use Rattle.imp_channel.specs.declared.line.Received.TheVariants as received
+use Rattle.imp_channel.proofs.lemmas.{fresh_carried, received_has}
+use Rattle.flow_law.specs.View.{View, Packet, Queued, Kind}
+use Rattle.flow_law.specs.Moves.{Move, NoteGone, Whole, Freed, Brings, CanNote, Joined, IsTold, view_moved}
+use Rattle.flow_law.proofs.lemmas.{makes_one}
+use Rattle.imp_node.specs.declared.waiting.Message.{Message}
+use Rattle.imp_node.specs.State.{State, ImpTurn, number, host_at, port_at}
+use Rattle.imp_node.specs.Arrival as arrivals
+use Rattle.imp_node.specs.Arrival.{Arrival, Passing, Old, Undeliverable, Piece, NoSlot, Unmarked, Answering, arrival, arrival_has_room, arrived, frame_taken, acknowledged, vector_heard, ignored, taken_frame, from_line}
+use Rattle.imp_node.specs.Contents as contents
+use Rattle.imp_node.specs.Flows.{answer_packet}
+use Rattle.imp_node.specs.Making.{dead_for}
+use Rattle.imp_node.specs.Moves.{IsNewHere, MakesWhole, Tells, ArrivalSays, ArrivalMoves, AnswerMoves, FrameMoves}
+use Rattle.imp_node.specs.Pump.{pump}
+use Rattle.imp_node.specs.Sides.{Sender, Receiver, sender, receiver, ended_with, noted_with, queued_with, IsImp, AllUnmoved, Moved}
+use Rattle.imp_node.proofs.lemmas.{Has, OutgoingHas, PortHas, TurnHas, arrival_says, from_line_has, from_line_imp, from_line_moves, noted_moved, port_has, pump_has, quiet_has}
+use Rattle.subnet.specs.Net.{Net, imp_at, wire_at, port_of, with_turn, frames_on, far_end}
+use Rattle.subnet.specs.Alive.{packets}
+use Rattle.subnet.specs.Events.{at_imp, delivered, deliver}
+use Rattle.subnet.specs.Flows as flows
+use Rattle.subnet.specs.Flows.{Alive, kind_of, packet_of, queued_of, imp_is_up, sender_at, receiver_at, view_of, view}
+use Rattle.subnet.specs.Making.{NothingNew, OnlyNew, dead_made}
+use Rattle.subnet.specs.Sound.{IsAt, IsSound}
+use Rattle.subnet.proofs.Packets.Having.{FrameHas, ImpHas, GotHas, net_itself, content_has, frame_packets, imp_has, wire_has, way_has, got_has}
+use Rattle.subnet.proofs.Packets.HavingByEvents.{brings}
+use Rattle.subnet.proofs.Moves.Offers.{answer_format}
+use Rattle.subnet.proofs.Calls.Silence.{at_host_all}
+use Rattle.subnet.proofs.Moves.Takes.{freed_messages}
+use Rattle.subnet.proofs.Moves.Turns.{Answerable, turn_only, turn_nothing, alive_or_made, set_queue, answerable, source_changed, source_same, destination_changed, destination_same, moved_view, none_cross, followed_turn, silent_turn}
+
+-- ---- what waits after a packet arrived
+
+told_format : (p : PacketFields) → IsPacket p → IsPacket (answer_packet kind.Rfnm (flow_of p) p.number)
+told_format p format = answer_format kind.Rfnm (flow_of p) p.number (record { first = refl; only = refl; empty = refl }) format.source format.destination format.link format.number
+
+arrived_answers : (a : Arrival) (p : PacketFields) (s : State) → IsPacket p → All Answerable (contents.messages s) → All Answerable (contents.messages (arrived a p s))
+arrived_answers Passing p s format all = all
+arrived_answers Old p s format all = all
+arrived_answers Undeliverable p s format all = all
+arrived_answers Piece p s format all = all
+arrived_answers NoSlot p s format all = all
+arrived_answers (arrivals.Whole text) p s format all =
+    let h : ℕ = p.destination.host in
+    let q : Message = record { flow = flow_of p; number = p.number; text = text } in
+    set_queue Answerable s.hosts h (record (host_at s h) { queue = (host_at s h).queue ++ q ∷ [] }) all
+    (All-push Answerable (host_at s h).queue q (at_host_all Answerable s.hosts h all) (told_format p format))
+arrived_answers Unmarked p s format all = all
+arrived_answers (Answering k) p s format all = freed_messages k (flow_of p) p.number s all
+
+-- ---- a packet that arrived, and what its arrival did
+
+-- a turn that a packet which was alive brought about
+record IsBrought (n : Net) (i : ℕ) (s : State) (p : PacketFields) (turn : ImpTurn) : Type 0 where
+  pub at : imp_at n.imps i ≡ Some s
+  pub old : IsImp i s
+  pub new : IsImp i turn.state
+  pub there : Contains (packets n) p
+  pub format : IsPacket p
+  pub answers : All Answerable (contents.messages turn.state)
+
+nothing_only : (n m : Net) → OnlyNew n [] m → NothingNew n m
+nothing_only n m only = subst (λ (ps : List PacketFields). All (Contains ps) (packets m)) (append-nil (packets n)) only
+
+silent_arrival : (n : Net) (i : ℕ) (s : State) (p : PacketFields) (turn : ImpTurn) → IsBrought n i s p turn → AllUnmoved s turn.state → OnlyNew n [] (with_turn i turn n) → IsSound n → IsSound (with_turn i turn n)
+silent_arrival n i s p turn b still only is = silent_turn n i s turn b.at still b.new b.answers (nothing_only n (with_turn i turn n) only) is
+
+alive_here : (n : Net) (p : PacketFields) → Contains (packets n) p → Alive n (flow_of p) (packet_of p)
+alive_here n p there = record { fields = p; there = there; flow = refl; packet = refl }
+
+-- the IMP of a piece's destination
+home : (n : Net) (i : ℕ) (s : State) (p : PacketFields) (turn : ImpTurn) → IsBrought n i s p turn → IsNewHere s p → p.destination.imp ≡ i
+home n i s p turn b new = new.here ∙ b.old.own
+
+can_note : (n : Net) (i : ℕ) (s : State) (p : PacketFields) (turn : ImpTurn) → IsBrought n i s p turn → IsNewHere s p → CanNote (view n (flow_of p)) (Alive n (flow_of p)) (packet_of p)
+can_note n i s p turn b new =
+    let g : Flow = flow_of p in
+    let at : imp_at n.imps g.destination.imp ≡ Some s = ap (imp_at n.imps) (home n i s p turn b new) ∙ b.at in
+    record {
+      there = alive_here n p b.there;
+      new = record {
+        up = ap imp_is_up at;
+        data_packet = ap kind_of new.data_kind;
+        new = ap (λ (o : Option State). is_new (receiver_at o g).kept p.number) at ∙ new.new;
+      };
+    }
+
+-- its number is noted, and the message is gone
+noted_sound : (n : Net) (i : ℕ) (s : State) (p : PacketFields) (turn : ImpTurn) (made : List PacketFields) → IsBrought n i s p turn → IsNewHere s p
+    → Moved s turn.state (flow_of p) (sender s (flow_of p)) (noted_with p.number (receiver s (flow_of p)))
+    → OnlyNew n made (with_turn i turn n) → All (λ q. flow_of q ≡ flow_of p) made → All IsPacket made → All (λ q. IsTold Kind.Dead p.number (packet_of q)) made
+    → IsSound n → IsSound (with_turn i turn n)
+noted_sound n i s p turn made b new moved only of_flow formats dead is =
+    let g : Flow = flow_of p in
+    let next : Net = with_turn i turn n in
+    let move : Move = NoteGone (packet_of p) in
+    followed_turn n i s turn [] g (move ∷ []) made (record {
+      at = b.at;
+      sound = b.new;
+      others = moved.others;
+      crossings = none_cross n.hosts g n.log;
+      only = only;
+      of_flow = of_flow;
+      formats = formats;
+      answers = b.answers;
+      here =
+          makes_one move (view n g) (view next g) (Alive n g) (Alive next g) (can_note n i s p turn b new)
+          (moved_view n i s turn [] g (sender_at (imp_at n.imps g.source.imp) g) (noted_with p.number (receiver_at (imp_at n.imps g.destination.imp) g)) (view n g).box b.at
+          (source_same n.imps i s turn.state g b.at moved.sender)
+          (destination_changed (noted_with p.number) n.imps i s turn.state g b.at (home n i s p turn b new) moved.receiver)
+          refl)
+          (λ x. alive_or_made n next made (IsTold Kind.Dead p.number) g x only dead);
+      shown = refl;
+    }) is
+
+-- it came for a host that is down or not there: Dead is made
+undeliverable_sound : (n : Net) (i : ℕ) (s : State) (p : PacketFields) (turn : ImpTurn) → IsBrought n i s p turn → IsNewHere s p
+    → Moved s turn.state (flow_of p) (sender s (flow_of p)) (noted_with p.number (receiver s (flow_of p)))
+    → OnlyNew n (answer_packet kind.Dead (flow_of p) p.number ∷ []) (with_turn i turn n) → IsSound n → IsSound (with_turn i turn n)
+undeliverable_sound n i s p turn b new moved only is =
+    let g : Flow = flow_of p in
+    let dead : PacketFields = answer_packet kind.Dead g p.number in
+    let format : IsPacket dead = answer_format kind.Dead g p.number (record { first = refl; only = refl; empty = refl }) b.format.source b.format.destination b.format.link b.format.number in
+    let Ours : PacketFields → Type 0 = λ q. flow_of q ≡ g in
+    let Told : PacketFields → Type 0 = λ q. IsTold Kind.Dead p.number (packet_of q) in
+    noted_sound n i s p turn (dead ∷ []) b new moved only
+    (All-cons Ours dead [] refl (All-nil Ours))
+    (All-cons IsPacket dead [] format (All-nil IsPacket))
+    (All-cons Told dead [] (record { kind = refl; number = refl }) (All-nil Told)) is
+
+-- ---- a piece makes its message whole
+
+-- the pieces that are joined are alive, so they are those of any text whose pieces are all that is alive of the message
+whole_joined : (n : Net) (i : ℕ) (s : State) (p : PacketFields) (turn : ImpTurn) (w : List Bool) → IsBrought n i s p turn → MakesWhole s p w → Joined flows.Piece (Alive n (flow_of p)) (packet_of p) (text_of w)
+whole_joined n i s p turn w b makes text pieces =
+    let g : Flow = flow_of p in
+    let ps : List PacketFields = gathered s.slots p in
+    let Held : PacketFields → Type 0 = Contains (packets n) in
+    let r : IsRejoined s.slots p w = rejoined s.slots p w b.old.slots b.format makes.new.data_kind makes.whole in
+    let has : Has Held s = subst (ImpHas Held) b.at (imp_has Held n.imps i (net_itself n).imps) in
+    let all : All Held (slots.packets_in s.slots ++ p ∷ []) = All-push Held (slots.packets_in s.slots) p has.slots b.there in
+    let held : (q : PacketFields) → Contains ps q → Held q = λ q there. All-contains Held (slots.packets_in s.slots ++ p ∷ []) q all (All-contains (Contains (slots.packets_in s.slots ++ p ∷ [])) ps q r.one_message.among there) in
+    let carry : All (CarriesPieceOf (body text)) ps =
+    All-weaker (Contains ps) (CarriesPieceOf (body text))
+    (λ q there. (let of : IsPieceFor g p.number q = All-contains (IsPieceFor g p.number) ps q r.one_message.of_message there in
+    let alive : Alive n g (packet_of q) = record { fields = q; there = held q there; flow = of.flow; packet = refl } in
+    let here : flows.Piece text (packet_of q) = pieces (packet_of q) alive (ap kind_of of.data_kind) of.same_number in
+    let carries : CarriesPieceOf (body text) q = record { there = here.there; flag = here.flag; same = here.same } in
+    carries))
+    ps (All-contains_itself ps) in
+    ap text_of (r.bits ∙ joined_whole (body text) ps carry r.one_message.whole) ∙ text_of-body text
+
+whole_sound : (n : Net) (i : ℕ) (s : State) (p : PacketFields) (turn : ImpTurn) (w text : List Bool) → IsBrought n i s p turn → MakesWhole s p w → text ≡ text_of w
+    → Moved s turn.state (flow_of p) (sender s (flow_of p)) (queued_with (record { flow = flow_of p; number = p.number; text = text }) (noted_with p.number (receiver s (flow_of p))))
+    → OnlyNew n [] (with_turn i turn n) → IsSound n → IsSound (with_turn i turn n)
+whole_sound n i s p turn w text b makes is_text moved only is =
+    let g : Flow = flow_of p in
+    let next : Net = with_turn i turn n in
+    let move : Move = Whole (packet_of p) text in
+    let message : Message = record { flow = g; number = p.number; text = text } in
+    let from : Sender = sender_at (imp_at n.imps g.source.imp) g in
+    let to : Receiver = receiver_at (imp_at n.imps g.destination.imp) g in
+    let joins : Joined flows.Piece (Alive n g) (packet_of p) text = λ other pieces. is_text ∙ whole_joined n i s p turn w b makes other pieces in
+    let waits : view next g ≡ view_of (imp_is_up (imp_at n.imps g.source.imp)) from (imp_is_up (imp_at n.imps g.destination.imp)) (queued_with message (noted_with p.number to)) (view n g).box =
+    moved_view n i s turn [] g from (queued_with message (noted_with p.number to)) (view n g).box b.at
+    (source_same n.imps i s turn.state g b.at moved.sender)
+    (destination_changed (λ (r : Receiver). queued_with message (noted_with p.number r)) n.imps i s turn.state g b.at (home n i s p turn b makes.new) moved.receiver)
+    refl in
+    followed_turn n i s turn [] g (move ∷ []) [] (record {
+      at = b.at;
+      sound = b.new;
+      others = moved.others;
+      crossings = none_cross n.hosts g n.log;
+      only = only;
+      of_flow = All-nil (λ (q : PacketFields). flow_of q ≡ g);
+      formats = All-nil IsPacket;
+      answers = b.answers;
+      here =
+          makes_one move (view n g) (view next g) (Alive n g) (Alive next g)
+          (record { note = can_note n i s p turn b makes.new; joined = joins })
+          (waits ∙ ap (λ (q : List Queued). (let v : View = record (view_moved move (view n g)) { queue = q } in v)) (map-append queued_of to.queue (message ∷ [])))
+          (λ x. alive_or_made n next [] (λ (y : Packet). ⊥) g x only (All-nil (λ (q : PacketFields). ⊥)));
+      shown = refl;
+    }) is
+
+-- ---- an answer comes to its source
+
+brings_of : (k : PacketKind) (a : Answer) → Tells k a → Brings (kind_of k) a
+brings_of kind.Rfnm answer.Rfnm tells = tt
+brings_of kind.Dead answer.Dead tells = tt
+brings_of kind.Data a tells = absurd tells
+brings_of kind.Rfnm answer.Dead tells = absurd tells
+brings_of kind.Rfnm answer.Incomplete tells = absurd tells
+brings_of kind.Dead answer.Rfnm tells = absurd tells
+brings_of kind.Dead answer.Incomplete tells = absurd tells
+
+freed_awaited : (o : Option Standing) (number : ℕ) → release_in number o ≡ release.Freed → outstanding_in o ≡ Some number
+freed_awaited None number e = absurd (cc)
+freed_awaited (Some (standing.Idle l)) number e = absurd (cc)
+freed_awaited (Some (standing.Answered l)) number e = absurd (cc)
+freed_awaited (Some (standing.Outstanding l)) number e = by (l == number) refl e where
+  by : (b : Bool) → (l == number) ≡ b → cond b release.Freed release.Stale ≡ release.Freed → outstanding_in (Some (standing.Outstanding l)) ≡ Some number
+  by true same e = ap Some (eqb-true l number same)
+  by false same e = absurd (cc)
+
+answered_sound : (n : Net) (i : ℕ) (s : State) (p : PacketFields) (turn : ImpTurn) (k : Answer) → IsBrought n i s p turn → p.source.imp ≡ number s → Tells p.kind k → release_in p.number (finite.get s.sources (flow_of p)) ≡ release.Freed
+    → Moved s turn.state (flow_of p) (ended_with k (sender s (flow_of p))) (receiver s (flow_of p)) → OnlyNew n [] (with_turn i turn n) → IsSound n → IsSound (with_turn i turn n)
+answered_sound n i s p turn k b here tells frees moved only is =
+    let g : Flow = flow_of p in
+    let next : Net = with_turn i turn n in
+    let move : Move = Freed (packet_of p) k in
+    let source : g.source.imp ≡ i = here ∙ b.old.own in
+    let at : imp_at n.imps g.source.imp ≡ Some s = ap (imp_at n.imps) source ∙ b.at in
+    followed_turn n i s turn [] g (move ∷ []) [] (record {
+      at = b.at;
+      sound = b.new;
+      others = moved.others;
+      crossings = none_cross n.hosts g n.log;
+      only = only;
+      of_flow = All-nil (λ (q : PacketFields). flow_of q ≡ g);
+      formats = All-nil IsPacket;
+      answers = b.answers;
+      here =
+          makes_one move (view n g) (view next g) (Alive n g) (Alive next g)
+          (record {
+            there = alive_here n p b.there;
+            brings = brings_of p.kind k tells;
+            awaited = ap (λ (o : Option State). (sender_at o g).outstanding) at ∙ freed_awaited (finite.get s.sources g) p.number frees;
+          })
+          (moved_view n i s turn [] g (ended_with k (sender_at (imp_at n.imps g.source.imp) g)) (receiver_at (imp_at n.imps g.destination.imp) g) (view n g).box b.at
+          (source_changed (ended_with k) n.imps i s turn.state g b.at source moved.sender)
+          (destination_same n.imps i s turn.state g b.at moved.receiver)
+          refl)
+          (λ x. alive_or_made n next [] (λ (y : Packet). ⊥) g x only (All-nil (λ (q : PacketFields). ⊥)));
+      shown = refl;
+    }) is
+
+-- ---- an arrival
+
+arrival_sound : (a : Arrival) (n : Net) (i : ℕ) (s : State) (p : PacketFields) (turn : ImpTurn) → IsBrought n i s p turn → ArrivalSays a s p → ArrivalMoves a p s turn.state → OnlyNew n (dead_for a p) (with_turn i turn n)
+    → IsSound n → IsSound (with_turn i turn n)
+arrival_sound Passing n i s p turn b says moves only is = silent_arrival n i s p turn b moves only is
+arrival_sound Old n i s p turn b says moves only is = silent_arrival n i s p turn b moves only is
+arrival_sound Undeliverable n i s p turn b says moves only is = undeliverable_sound n i s p turn b says.0 moves only is
+arrival_sound Piece n i s p turn b says moves only is = silent_arrival n i s p turn b moves only is
+arrival_sound NoSlot n i s p turn b says moves only is = silent_arrival n i s p turn b moves only is
+arrival_sound (arrivals.Whole text) n i s p turn b says moves only is = whole_sound n i s p turn says.0 text b says.1 says.3 moves only is
+arrival_sound Unmarked n i s p turn b says moves only is =
+    noted_sound n i s p turn [] b says.1.new moves only (All-nil (λ (q : PacketFields). flow_of q ≡ flow_of p)) (All-nil IsPacket) (All-nil (λ (q : PacketFields). IsTold Kind.Dead p.number (packet_of q))) is
+arrival_sound (Answering k) n i s p turn b says moves only is = by (release_in p.number (finite.get s.sources (flow_of p))) refl moves where
+  by : (r : Release) → release_in p.number (finite.get s.sources (flow_of p)) ≡ r → AnswerMoves r k (flow_of p) s turn.state → IsSound (with_turn i turn n)
+  by release.Freed frees moved = answered_sound n i s p turn k b says.0 says.1 frees moved only is
+  by release.Stale stale still = silent_arrival n i s p turn b still only is
+
+-- a turn that moves no flow made Dead only if a number was noted, so none
+still_sound : (a : Arrival) (k : ℕ) (f : Frame) (n : Net) (i : ℕ) (s : State) (p : PacketFields) → (let turn : ImpTurn = pump (acknowledged k (frame_taken k f s)) (arrived a p (frame_taken k f s)) in
+    IsBrought n i s p turn → ArrivalSays a s p → AllUnmoved s turn.state → OnlyNew n (dead_for a p) (with_turn i turn n) → IsSound n → IsSound (with_turn i turn n))
+still_sound Passing k f n i s p b says still only is = silent_arrival n i s p _ b still only is
+still_sound Old k f n i s p b says still only is = silent_arrival n i s p _ b still only is
+still_sound Undeliverable k f n i s p b says still only is =
+    let turn : ImpTurn = pump (acknowledged k (frame_taken k f s)) (arrived Undeliverable p (frame_taken k f s)) in
+    let g : Flow = flow_of p in
+    let moved : Moved s turn.state g (sender s g) (noted_with p.number (receiver s g)) = record { sender = (still g).sender; receiver = (noted_moved g p.number s).receiver; others = λ f other. still f } in
+    undeliverable_sound n i s p turn b says.0 moved only is
+still_sound Piece k f n i s p b says still only is = silent_arrival n i s p _ b still only is
+still_sound NoSlot k f n i s p b says still only is = silent_arrival n i s p _ b still only is
+still_sound (arrivals.Whole text) k f n i s p b says still only is = silent_arrival n i s p _ b still only is
+still_sound Unmarked k f n i s p b says still only is = silent_arrival n i s p _ b still only is
+still_sound (Answering x) k f n i s p b says still only is = silent_arrival n i s p _ b still only is
+
+-- ---- a frame
+
+-- what is known of the turn of a frame that is live
+record IsFrame (n : Net) (i : ℕ) (s : State) (f : Frame) (turn : ImpTurn) : Type 0 where
+  pub new : IsImp i turn.state
+  pub moves : FrameMoves f s turn.state
+  pub only : OnlyNew n (dead_made f s) (with_turn i turn n)
+
+-- and of the IMP to which it comes
+record IsLive (n : Net) (i : ℕ) (s : State) (f : Frame) : Type 0 where
+  pub at : imp_at n.imps i ≡ Some s
+  pub old : IsImp i s
+  pub there : FrameHas (Contains (packets n)) f
+  pub sound : IsSound n
+
+-- a turn that only takes acknowledgements and distances, and pumps
+taken_has : (P : PacketFields → Type 0) (k : ℕ) (f : Frame) (s : State) → Has P s → Has P (frame_taken k f s)
+taken_has P k f s h = record {
+  store = h.store;
+  lines = All-set (PortHas P) s.ports k _ (received_has P (port_at s.ports k).line f (port_has P s.ports k h.lines)) h.lines;
+  slots = h.slots;
+}
+
+quiet_frame : (n : Net) (i : ℕ) (s : State) (f : Frame) (turn : ImpTurn) → IsLive n i s f → IsFrame n i s f turn → AllUnmoved s turn.state → contents.messages turn.state ≡ contents.messages s
+    → (Has (Contains (packets n)) s → TurnHas (Contains (packets n)) turn) → IsSound (with_turn i turn n)
+quiet_frame n i s f turn live frame still same has =
+    silent_turn n i s turn live.at still frame.new (subst (All Answerable) (sym same) (answerable n i s live.at live.sound)) (turn_nothing n i s turn live.at has) live.sound
+
+fresh_sound : (n : Net) (i : ℕ) (s : State) (k : ℕ) (f : Frame) (p : PacketFields) → carried_by f.content ≡ p ∷ [] → IsLive n i s f → (let turn : ImpTurn = pump (acknowledged k (frame_taken k f s)) (arrived (arrival s p) p (frame_taken k f s)) in
+    IsFrame n i s f turn → IsSound (with_turn i turn n))
+fresh_sound n i s k f p carried live frame =
+    let turn : ImpTurn = pump (acknowledged k (frame_taken k f s)) (arrived (arrival s p) p (frame_taken k f s)) in
+    let all : All (Contains (packets n)) (p ∷ []) = subst (All (Contains (packets n))) carried (frame_packets (Contains (packets n)) f live.there) in
+    let there : Contains (packets n) p = All-head (Contains (packets n)) p [] all in
+    let format : IsPacket p = All-contains IsPacket (packets n) p live.sound.formats there in
+    let brought : IsBrought n i s p turn = record {
+      at = live.at;
+      old = live.old;
+      new = frame.new;
+      there = there;
+      format = format;
+      answers = arrived_answers (arrival s p) p (frame_taken k f s) format (answerable n i s live.at live.sound);
+    } in
+    let more : OnlyNew n (dead_for (arrival s p) p ++ []) (with_turn i turn n) = subst (λ (ps : List PacketFields). OnlyNew n (flat_map (λ (q : PacketFields). dead_for (arrival s q) q) ps) (with_turn i turn n)) carried frame.only in
+    let only : OnlyNew n (dead_for (arrival s p) p) (with_turn i turn n) = subst (λ (ps : List PacketFields). OnlyNew n ps (with_turn i turn n)) (append-nil (dead_for (arrival s p) p)) more in
+    elim frame.moves [
+      | inl still ↦ still_sound (arrival s p) k f n i s p brought (arrival_says s p) still only live.sound
+      | inr (q, of, moves) ↦ (let same : q ≡ p = first (sym of ∙ carried) in
+          arrival_sound (arrival s p) n i s p turn brought (arrival_says s p) (subst (λ (r : PacketFields). ArrivalMoves (arrival s r) r s turn.state) same moves) only live.sound)
+    ]
+  where
+    first : {q r : PacketFields} → (q ∷ []) ≡ (r ∷ []) → q ≡ r
+    first e = cc
+
+ignored_sound : (n : Net) (i : ℕ) (s : State) (f : Frame) → IsLive n i s f → IsFrame n i s f (ignored s) → IsSound (with_turn i (ignored s) n)
+ignored_sound n i s f live frame =
+    quiet_frame n i s f (ignored s) live frame (λ g. record { sender = refl; receiver = refl }) refl (λ has. record { state = has; frames = All-nil (OutgoingHas (Contains (packets n))) })
+
+frame_sound : (got : Result Received ChannelFault) (n : Net) (i : ℕ) (s : State) (k : ℕ) (f : Frame) → ((p : PacketFields) → got ≡ Ok (received.Fresh p) → carried_by f.content ≡ p ∷ [])
+    → IsLive n i s f → IsFrame n i s f (taken_frame got k f s) → IsSound (with_turn i (taken_frame got k f s) n)
+frame_sound (Ok (received.Fresh p)) n i s k f carried live frame = at (arrival_has_room (arrival s p) s p) frame where
+  at : (room : Bool) → IsFrame n i s f (cond room (pump (acknowledged k (frame_taken k f s)) (arrived (arrival s p) p (frame_taken k f s))) (ignored s))
+      → IsSound (with_turn i (cond room (pump (acknowledged k (frame_taken k f s)) (arrived (arrival s p) p (frame_taken k f s))) (ignored s)) n)
+  at true frame = fresh_sound n i s k f p (carried p refl) live frame
+  at false frame = ignored_sound n i s f live frame
+frame_sound (Ok received.Repeat) n i s k f carried live frame =
+    let P : PacketFields → Type 0 = Contains (packets n) in
+    quiet_frame n i s f (pump (acknowledged k (frame_taken k f s)) (frame_taken k f s)) live frame (λ g. record { sender = refl; receiver = refl }) refl
+    (λ has. pump_has P (acknowledged k (frame_taken k f s)) (frame_taken k f s) (All-cons (OutgoingHas P) _ [] tt (All-nil (OutgoingHas P))) (taken_has P k f s has))
+frame_sound (Ok received.AckOnly) n i s k f carried live frame =
+    let P : PacketFields → Type 0 = Contains (packets n) in
+    quiet_frame n i s f (pump [] (frame_taken k f s)) live frame (λ g. record { sender = refl; receiver = refl }) refl (λ has. quiet_has P (frame_taken k f s) (taken_has P k f s has))
+frame_sound (Ok (received.Routes distances)) n i s k f carried live frame =
+    let P : PacketFields → Type 0 = Contains (packets n) in
+    quiet_frame n i s f (pump [] (vector_heard k distances (frame_taken k f s))) live frame (λ g. record { sender = refl; receiver = refl }) refl
+    (λ has. (let got : Has P (frame_taken k f s) = taken_has P k f s has in quiet_has P (vector_heard k distances (frame_taken k f s)) (record { store = got.store; lines = got.lines; slots = got.slots })))
+frame_sound (Err fault) n i s k f carried live frame = ignored_sound n i s f live frame
+
+line_sound : (n : Net) (i : ℕ) (s : State) (k : ℕ) (f : Frame) → IsLive n i s f → IsSound (with_turn i (from_line s k f) n)
+line_sound n i s k f live =
+    let Held : PacketFields → Type 0 = Contains (packets n) in
+    let carried : All Held (carried_by f.content) = frame_packets Held f live.there in
+    let formats : All IsPacket (carried_by f.content) = All-weaker Held IsPacket (λ p there. All-contains IsPacket (packets n) p live.sound.formats there) (carried_by f.content) carried in
+    let Grown : PacketFields → Type 0 = Contains (packets n ++ dead_made f s) in
+    let got : FrameHas Grown f = content_has Grown f.content (All-weaker Held Grown (λ p there. Contains-append_left (packets n) (dead_made f s) p there) (carried_by f.content) carried) in
+    at (port_at s.ports k).up (record {
+      new = from_line_imp i s k f formats live.old;
+      moves = from_line_moves s k f;
+      only = turn_only n i s (from_line s k f) (dead_made f s) live.at (λ has dead. from_line_has Grown s k f has (brings Grown s f got dead));
+    })
+  where
+    at : (up : Bool) → IsFrame n i s f (cond up (taken_frame (answer_to (port_at s.ports k).line f) k f s) (ignored s))
+        → IsSound (with_turn i (cond up (taken_frame (answer_to (port_at s.ports k).line f) k f s) (ignored s)) n)
+    at true frame = frame_sound (answer_to (port_at s.ports k).line f) n i s k f (λ p is. fresh_carried (port_at s.ports k).line f p is) live frame
+    at false frame = ignored_sound n i s f live frame
+
+-- ---- the event
+
+pub deliver_sound : (n : Net) (l : ℕ) (d : Direction) (k : ℕ) → IsSound n → IsSound (deliver n l d k)
+deliver_sound n l d k is = by (slice_get (frames_on d (wire_at n.lines l)) k) (got_has Held (frames_on d (wire_at n.lines l)) k (way_has Held d (wire_at n.lines l) (wire_has Held n.lines l (net_itself n).lines))) where
+  Held : PacketFields → Type 0
+  Held = Contains (packets n)
+
+  at : (f : Frame) → FrameHas Held f → (o : Option State) → imp_at n.imps (far_end d (wire_at n.lines l)) ≡ o
+      → IsSound (at_imp o (far_end d (wire_at n.lines l)) (λ s. from_line s (port_of n.lines (far_end d (wire_at n.lines l)) l) f) n)
+  at f has None here = is
+  at f has (Some s) here =
+      let i : ℕ = far_end d (wire_at n.lines l) in
+      line_sound n i s (port_of n.lines i l) f (record { at = here; old = subst (IsAt i) here (is.imps i); there = has; sound = is })
+
+  by : (o : Option Frame) → GotHas Held o → IsSound (delivered n l d o)
+  by None has = is
+  by (Some f) has = at f has (imp_at n.imps (far_end d (wire_at n.lines l))) refl

@@ -1,0 +1,144 @@
+-- An IMP forgets the numbers of flows from another one: those flows forget, and no other moves.
+use Rattle.std.proofs.Common.{◌≡◌, ℕ, Bool, true, false, not, List, [], ◌∷◌, Option, Some, None, refl, ap, sym, subst, ◌∙◌, ◌==◌, ◌&&◌, if◌then◌else◌, inl, All}
+use Rattle.std.specs.Prelude.{slice_set}
+use Rattle.std.specs.FinMap as finite
+use Rattle.std.proofs.lemmas.List.Elements.{All-contains}
+use Rattle.leader1822.specs.Mailboxes.{Box, box_of}
+use Rattle.leader1822.specs.declared.address.Flow.{Flow}
+use Rattle.leader1822.specs.declared.carrier.CarrierFault.{CarrierFault}
+use Rattle.leader1822.specs.declared.carrier.CarrierFault.TheVariants as fault
+use Rattle.leader1822.proofs.lemmas.{and_true, guard}
+use Rattle.link_table.specs.Keys.{is_from}
+use Rattle.packetiser.specs.PacketFields.{PacketFields, flow_of}
+use Rattle.packetiser.specs.declared.packet.PacketKind.{PacketKind}
+use Rattle.packetiser.specs.declared.packet.PacketKind.TheVariants as kind
+use Rattle.flow_law.specs.View.{View, Packet, Kind}
+use Rattle.flow_law.specs.Moves.{Move, NoData, after_all, shown_by}
+use Rattle.flow_law.specs.Follows.{Follows, AllFollow}
+use Rattle.flow_law.proofs.lemmas.{makes_one, stays}
+use Rattle.imp_node.specs.State.{State, ImpTurn}
+use Rattle.imp_node.specs.Queries.{is_data, is_data_between, is_message_between}
+use Rattle.imp_node.specs.Sides.{Sender, Receiver, sender, receiver}
+use Rattle.imp_node.specs.Moves.{Becomes}
+use Rattle.imp_node.specs.Stopping.{forget}
+use Rattle.imp_node.proofs.lemmas.{forget_becomes, forget_imp, same_at}
+use Rattle.subnet.specs.Net.{Net, imp_at, with_turn}
+use Rattle.subnet.specs.Alive.{packets, messages_at_imp, has_data}
+use Rattle.subnet.specs.Events.{at_imp, at_up, first_of, accepted, is_imp, forgetting_refusal}
+use Rattle.subnet.specs.Flows.{Piece, Alive, kind_of, imp_is_up, sender_at, receiver_at, view_of, view}
+use Rattle.subnet.specs.Making.{NothingNew}
+use Rattle.subnet.specs.Sound.{IsAt, IsSound}
+use Rattle.subnet.proofs.Packets.HavingByEvents.{forget_nothing}
+use Rattle.subnet.proofs.Moves.QuietCalls.{formats_less}
+use Rattle.subnet.proofs.Calls.Silence.{nowhere}
+use Rattle.subnet.proofs.Moves.Views.{view_parts, alive_less, at_set}
+use Rattle.subnet.proofs.Moves.Turns.{Answerable, set_here}
+use Rattle.subnet.proofs.Moves.ManyFlows.{all_moved, at_end, kept_messages}
+
+-- ---- the moves
+
+-- a flow from there to here
+abbrev goes : ℕ → ℕ → Flow → Bool
+goes at from f = f.destination.imp == at && is_from from f
+
+abbrev moves : ℕ → ℕ → Flow → List Move
+moves at from f = if goes at from f then Move.Forget ∷ [] else []
+
+-- ---- what they need
+
+data_is : (k : PacketKind) → kind_of k ≡ Kind.Data → is_data k ≡ true
+data_is kind.Data same = refl
+data_is kind.Rfnm same = absurd (cc)
+data_is kind.Dead same = absurd (cc)
+
+all_three : (a b c : Bool) → a ≡ true → b ≡ true → c ≡ true → (a && (b && c)) ≡ true
+all_three a b c e f g = rw (e, f, g) refl
+
+no_data : (n : Net) (at from : ℕ) (f : Flow) → All (λ p. is_data_between from at p ≡ false) (packets n) → goes at from f ≡ true → NoData (Alive n f)
+no_data n at from f silent here x a data_kind =
+    let p : PacketFields = a.fields in
+    let both : (f.destination.imp == at) ≡ true × is_from from f ≡ true = and_true (f.destination.imp == at) (is_from from f) here in
+    let missing : is_data_between from at p ≡ false = All-contains (λ (q : PacketFields). is_data_between from at q ≡ false) (packets n) p silent a.there in
+    let found : is_data_between from at p ≡ true =
+    all_three (is_data p.kind) ((flow_of p).source.imp == from) ((flow_of p).destination.imp == at)
+    (data_is p.kind (ap (λ (y : Packet). y.kind) a.packet ∙ data_kind))
+    (ap (λ (g : Flow). g.source.imp == from) a.flow ∙ both.1)
+    (ap (λ (g : Flow). g.destination.imp == at) a.flow ∙ both.0) in
+    let no : true ≡ false = sym found ∙ missing in
+    absurd (cc)
+
+-- ---- what they change
+
+abbrev forgotten : Bool → Receiver → Receiver
+forgotten b r = if b then record r { kept = None } else r
+
+forgotten_is : (b : Bool) (r : Receiver) → (let t : Receiver = record r { kept = if b then None else r.kept } in t ≡ forgotten b r)
+forgotten_is true r = refl
+forgotten_is false r = refl
+
+forgotten_view : (b u w : Bool) (s : Sender) (r : Receiver) (box : Box) → view_of u s w (forgotten b r) box ≡ after_all (if b then Move.Forget ∷ [] else []) (view_of u s w r box)
+forgotten_view true u w s r box = refl
+forgotten_view false u w s r box = refl
+
+new_view : (n : Net) (at from : ℕ) (s : State) (f : Flow) → imp_at n.imps at ≡ Some s → view (with_turn at (forget s from) n) f ≡ after_all (moves at from f) (view n f)
+new_view n at from s f there =
+    let t : State = (forget s from).state in
+    let imps : List (Option State) = slice_set n.imps at (Some t) in
+    let i : ℕ = f.source.imp in
+    let j : ℕ = f.destination.imp in
+    let becomes : Becomes s t f (sender s f) (record (receiver s f) { kept = if is_from from f then None else finite.get s.kept f }) = forget_becomes s from f in
+    let old : receiver_at (imp_at n.imps at) f ≡ receiver s f = ap (λ (o : Option State). receiver_at o f) there in
+    let new : receiver t f ≡ forgotten (is_from from f) (receiver_at (imp_at n.imps at) f) =
+    becomes.receiver ∙ forgotten_is (is_from from f) (receiver s f) ∙ ap (forgotten (is_from from f)) (sym old) in
+    view_parts
+    (imp_is_up (imp_at imps i)) (imp_is_up (imp_at n.imps i))
+    (sender_at (imp_at imps i) f) (sender_at (imp_at n.imps i) f)
+    (imp_is_up (imp_at imps j)) (imp_is_up (imp_at n.imps j))
+    (receiver_at (imp_at imps j) f) (forgotten (goes at from f) (receiver_at (imp_at n.imps j) f))
+    (box_of f n.log)
+    (same_at imp_is_up n.imps at i (Some t) None (ap imp_is_up (sym there)))
+    (same_at (λ (o : Option State). sender_at o f) n.imps at i (Some t) None (becomes.sender ∙ ap (λ (o : Option State). sender_at o f) (sym there)))
+    (same_at imp_is_up n.imps at j (Some t) None (ap imp_is_up (sym there)))
+    (at_end (λ (o : Option State). receiver_at o f) forgotten n.imps at j (Some t) (is_from from f) (λ r. refl) (set_here n.imps at (Some t) s there) new)
+    ∙ forgotten_view (goes at from f) (imp_is_up (imp_at n.imps i)) (imp_is_up (imp_at n.imps j)) (sender_at (imp_at n.imps i) f) (receiver_at (imp_at n.imps j) f) (box_of f n.log)
+
+follows : (b : Bool) (old new : View) (before later : Packet → Type 0) → (b ≡ true → NoData before) → new ≡ after_all (if b then Move.Forget ∷ [] else []) old → ((x : Packet) → later x → before x)
+    → Follows Piece (if b then Move.Forget ∷ [] else []) old new before later
+follows true old new before later need same less = makes_one Move.Forget old new before later (need refl) same (λ x l. inl (less x l))
+follows false old new before later need same less = stays old new before later same less
+
+shown : (b : Bool) (v : View) → [] ≡ shown_by (if b then Move.Forget ∷ [] else []) v
+shown true v = refl
+shown false v = refl
+
+-- ---- the event
+
+forgot : (n : Net) (at from : ℕ) (s : State) → imp_at n.imps at ≡ Some s → has_data n from at ≡ false → IsSound n → IsSound (with_turn at (forget s from) n)
+forgot n at from s there none is =
+    let turn : ImpTurn = forget s from in
+    let m : Net = with_turn at turn n in
+    let silent : All (λ p. is_data_between from at p ≡ false) (packets n) = (nowhere n (is_data_between from at) (is_message_between from at) none).0 in
+    let among : NothingNew n m = subst (λ (o : Option State). NothingNew n (at_imp o at (λ (t : State). forget t from) n)) there (forget_nothing n at from) in
+    let follow : AllFollow Piece n.hosts [] n.log (moves at from) (view n) (view m) (Alive n) (Alive m) = record {
+      follows = λ f. follows (goes at from f) (view n f) (view m f) (Alive n f) (Alive m f) (no_data n at from f silent) (new_view n at from s f there) (λ x. alive_less n m f x among);
+      shown = λ f. shown (goes at from f) (view n f);
+      ups = tt;
+    } in
+    all_moved n m.imps m.lines [] (moves at from) follow
+    (λ k. at_set IsAt n.imps at k (Some turn.state) None (is.imps k) (forget_imp at s from (subst (IsAt at) there (is.imps at))))
+    (formats_less n m among is.formats)
+    (subst (All Answerable) (sym (kept_messages n.imps at (Some turn.state) (ap messages_at_imp (sym there)))) is.answers)
+    is
+
+pub forget_sound : (n : Net) (at from : ℕ) → forgetting_refusal n at from ≡ None → IsSound n → IsSound (at_imp (imp_at n.imps at) at (λ s. forget s from) n)
+forget_sound n at from allowed is =
+    let last : Option CarrierFault = at_up (imp_at n.imps at) accepted in
+    let third : Option CarrierFault = first_of (has_data n from at) fault.StillAlive last in
+    let there : (not (is_imp n at && is_imp n from) ≡ false) × (first_of (at == from) fault.NoSuch third ≡ None) = guard (not (is_imp n at && is_imp n from)) fault.NoSuch (first_of (at == from) fault.NoSuch third) allowed in
+    let other : ((at == from) ≡ false) × (third ≡ None) = guard (at == from) fault.NoSuch third there.1 in
+    let silent : (has_data n from at ≡ false) × (last ≡ None) = guard (has_data n from at) fault.StillAlive last other.1 in
+    by (imp_at n.imps at) refl silent.0
+  where
+    by : (o : Option State) → imp_at n.imps at ≡ o → has_data n from at ≡ false → IsSound (at_imp o at (λ s. forget s from) n)
+    by None here silent = is
+    by (Some s) here silent = forgot n at from s here silent is

@@ -1,0 +1,150 @@
+-- A message is given up.
+use Rattle.std.proofs.Common.{◌≡◌, ◌≢◌, ℕ, zero, suc, Bool, true, false, not, List, [], ◌∷◌, ◌++◌, ◌&&◌, ◌==◌, get_or, set, map, Option, Some, None, refl, ap, sym, ◌∙◌, subst, inl, eq-eqb, All, Contains}
+use Rattle.std.specs.Prelude.{is_none, slice_set}
+use Rattle.std.specs.List.{flat_map}
+use Rattle.std.proofs.lemmas.List.Elements.{All-contains, All-head, All-tail, All-cons, All-nil}
+use Rattle.leader1822.specs.Flow.{same_flow}
+use Rattle.leader1822.specs.Host.{is_host}
+use Rattle.leader1822.specs.declared.address.Flow.{Flow}
+use Rattle.leader1822.specs.declared.carrier.CarrierFault.{CarrierFault}
+use Rattle.leader1822.specs.declared.carrier.CarrierFault.TheVariants as fault
+use Rattle.leader1822.specs.declared.crossing.Answer.TheVariants as answer
+use Rattle.leader1822.proofs.lemmas.{guard, same_flow-refl}
+use Rattle.packetiser.specs.PacketFields.{PacketFields, IsPacket, flow_of}
+use Rattle.packetiser.specs.declared.packet.PacketKind.TheVariants as kind
+use Rattle.flow_law.specs.View.{Packet, Queued}
+use Rattle.flow_law.specs.Moves.{GiveUp, CanGiveUp, view_moved}
+use Rattle.flow_law.specs.Follows.{OneFollows}
+use Rattle.flow_law.proofs.lemmas.{makes_one, one_follows}
+use Rattle.imp_node.specs.declared.waiting.Message.{Message}
+use Rattle.imp_node.specs.State.{State, HostState, ImpTurn, no_host, host_at}
+use Rattle.imp_node.specs.Flows.{answer_packet, given}
+use Rattle.imp_node.specs.Offering.{is_own}
+use Rattle.imp_node.specs.Queries.{outstanding, packet_has}
+use Rattle.imp_node.specs.Sides.{sender, receiver, ended_with, Moved}
+use Rattle.imp_node.specs.Stopping.{give_up, give_up_refusal}
+use Rattle.imp_node.proofs.lemmas.{give_up_imp, give_up_moves, same_at}
+use Rattle.subnet.specs.Net.{Net, imp_at, with_turn}
+use Rattle.subnet.specs.Alive.{packets, messages, is_alive}
+use Rattle.subnet.specs.Events.{at_imp, at_up, first_of, give_up_alive, outstanding_at, giving_up_refusal}
+use Rattle.subnet.specs.Flows.{Piece, Alive, queued_of, imp_is_up, sender_at, receiver_at, view}
+use Rattle.subnet.specs.Making.{NothingNew}
+use Rattle.subnet.specs.Sound.{IsAt, IsSound}
+use Rattle.subnet.proofs.Packets.HavingByEvents.{give_up_nothing}
+use Rattle.subnet.proofs.Moves.QuietCalls.{formats_less}
+use Rattle.subnet.proofs.Calls.Silence.{NotIn, NotOf, not_alive, queue_silent}
+use Rattle.subnet.proofs.Moves.Views.{view_parts, turn_view, alive_less, held_messages, at_set}
+
+-- ---- what the move needs
+
+both_true : (a b : Bool) → a ≡ true → b ≡ true → (a && b) ≡ true
+both_true a b e f = rw (e, f) refl
+
+-- a packet with this number would have been found
+pub no_packet : (n : Net) (f : Flow) (number : ℕ) → All (NotIn f number) (packets n) → (x : Packet) → Alive n f x → x.number ≢ number
+no_packet n f number silent x a same =
+    let p : PacketFields = a.fields in
+    let missing : packet_has f number p ≡ false = All-contains (NotIn f number) (packets n) p silent a.there in
+    let ours : same_flow f (flow_of p) ≡ true = ap (same_flow f) a.flow ∙ same_flow-refl f in
+    let found : packet_has f number p ≡ true = both_true (same_flow f (flow_of p)) (p.number == number) ours (eq-eqb p.number number (ap (λ (y : Packet). y.number) a.packet ∙ same)) in
+    let both : true ≡ false = sym found ∙ missing in
+    absurd (cc)
+
+-- and so would a message in the queue
+no_queued : (number : ℕ) (ms : List Message) → All (λ m. (m.number == number) ≡ false) ms → All (λ q. (q.number == number) ≡ false) (map queued_of ms)
+no_queued number [] all = All-nil (λ (q : Queued). (q.number == number) ≡ false)
+no_queued number (m ∷ ms) all =
+    let Apart : Message → Type 0 = λ x. (x.number == number) ≡ false in
+    All-cons (λ (q : Queued). (q.number == number) ≡ false) (queued_of m) (map queued_of ms) (All-head Apart m ms all) (no_queued number ms (All-tail Apart m ms all))
+
+unread : (n : Net) (f : Flow) (number : ℕ) → All (NotOf f number) (messages n) → (q : Queued) → Contains (view n f).queue q → q.number ≢ number
+unread n f number silent q there same =
+    let missing : (q.number == number) ≡ false = All-contains (λ (r : Queued). (r.number == number) ≡ false) (view n f).queue q (no_queued number (receiver_at (imp_at n.imps f.destination.imp) f).queue (queue_silent n f number silent)) there in
+    let both : true ≡ false = sym (eq-eqb q.number number same) ∙ missing in
+    absurd (cc)
+
+-- ---- what it changes
+
+-- a host gets an answer: its queue stays
+pub given_queue : (hosts : List HostState) (h : ℕ) (x : HostState) → x.queue ≡ (get_or hosts h no_host).queue → flat_map (λ (y : HostState). y.queue) (set hosts h x) ≡ flat_map (λ (y : HostState). y.queue) hosts
+given_queue [] h x same = refl
+given_queue (y ∷ hosts) zero x same = ap (λ (ms : List Message). ms ++ flat_map (λ (z : HostState). z.queue) hosts) same
+given_queue (y ∷ hosts) (suc h) x same = ap (λ (ms : List Message). y.queue ++ ms) (given_queue hosts h x same)
+
+given_up_view : (n : Net) (f : Flow) (s : State) (number : ℕ) → imp_at n.imps f.source.imp ≡ Some s → Moved s (give_up s f).state f (ended_with answer.Incomplete (sender s f)) (receiver s f)
+    → view (with_turn f.source.imp (give_up s f) n) f ≡ view_moved (GiveUp number) (view n f)
+given_up_view n f s number at moved =
+    let i : ℕ = f.source.imp in
+    let j : ℕ = f.destination.imp in
+    let t : State = (give_up s f).state in
+    let imps : List (Option State) = slice_set n.imps i (Some t) in
+    let old : sender_at (imp_at n.imps i) f ≡ sender s f = ap (λ (o : Option State). sender_at o f) at in
+    let here : imp_at imps i ≡ Some t = set_at n.imps i (Some t) s at in
+    let new : sender_at (imp_at imps i) f ≡ ended_with answer.Incomplete (sender_at (imp_at n.imps i) f) =
+    ap (λ (o : Option State). sender_at o f) here ∙ moved.sender ∙ ap (ended_with answer.Incomplete) (sym old) in
+    view_parts
+    (imp_is_up (imp_at imps i)) (imp_is_up (imp_at n.imps i))
+    (sender_at (imp_at imps i) f) (ended_with answer.Incomplete (sender_at (imp_at n.imps i) f))
+    (imp_is_up (imp_at imps j)) (imp_is_up (imp_at n.imps j))
+    (receiver_at (imp_at imps j) f) (receiver_at (imp_at n.imps j) f)
+    (view n f).box
+    (same_at imp_is_up n.imps i i (Some t) None (ap imp_is_up (sym at)))
+    new
+    (same_at imp_is_up n.imps i j (Some t) None (ap imp_is_up (sym at)))
+    (same_at (λ (o : Option State). receiver_at o f) n.imps i j (Some t) None (moved.receiver ∙ ap (λ (o : Option State). receiver_at o f) (sym at)))
+  where
+    set_at : (imps : List (Option State)) (i : ℕ) (o : Option State) (u : State) → imp_at imps i ≡ Some u → imp_at (slice_set imps i o) i ≡ o
+    set_at [] i o u at = absurd (cc)
+    set_at (p ∷ imps) zero o u at = refl
+    set_at (p ∷ imps) (suc i) o u at = set_at imps i o u at
+
+-- ---- the event
+
+given_up_turn : (n : Net) (f : Flow) (s : State) (number : ℕ) → imp_at n.imps f.source.imp ≡ Some s → outstanding s f ≡ Some number → is_alive n f number ≡ false → give_up_refusal s f ≡ None
+    → IsSound n → IsSound (with_turn f.source.imp (give_up s f) n)
+given_up_turn n f s number at awaited dead accepted is =
+    let i : ℕ = f.source.imp in
+    let turn : ImpTurn = give_up s f in
+    let m : Net = with_turn i turn n in
+    let none : All (NotIn f number) (packets n) × All (NotOf f number) (messages n) = not_alive n f number dead in
+    let moved : Moved s turn.state f (ended_with answer.Incomplete (sender s f)) (receiver s f) = give_up_moves s f in
+    let among : NothingNew n m = subst (λ (o : Option State). NothingNew n (at_imp o i (λ (t : State). give_up t f) n)) at (give_up_nothing n i f) in
+    let needs : CanGiveUp (view n f) (Alive n f) number = record {
+      awaited = ap (λ (o : Option State). (sender_at o f).outstanding) at ∙ awaited;
+      no_piece = λ x a piece. no_packet n f number none.0 x a;
+      unread = unread n f number none.1;
+    } in
+    let one : OneFollows Piece [] n.log f (GiveUp number ∷ []) (view n) (view m) (Alive n) (Alive m) = record {
+      here = makes_one (GiveUp number) (view n f) (view m f) (Alive n f) (Alive m f) needs (given_up_view n f s number at moved) (λ x later. inl (alive_less n m f x among later));
+      shown = refl;
+      view = λ g other. turn_view n i s turn g at (moved.others g other);
+      packets = λ g other x. alive_less n m g x among;
+      unseen = λ g other. refl;
+    } in
+    record {
+      flows = one_follows n.hosts [] n.log f (GiveUp number ∷ []) (view n) (view m) (Alive n) (Alive m) tt one is.flows;
+      imps = λ k. at_set IsAt n.imps i k (Some turn.state) None (is.imps k) (give_up_imp i s f accepted (subst (IsAt i) at (is.imps i)));
+      formats = formats_less n m among is.formats;
+      answers = subst (All (λ (q : Message). IsPacket (answer_packet kind.Rfnm q.flow q.number))) (sym (held_messages n.imps i s turn.state at (given_queue s.hosts f.source.host (given (host_at s f.source.host) (record { kind = answer.Incomplete; flow = f })) refl))) is.answers;
+    }
+
+pub give_up_sound : (n : Net) (f : Flow) → giving_up_refusal n f ≡ None → IsSound n → IsSound (at_imp (imp_at n.imps f.source.imp) f.source.imp (λ s. give_up s f) n)
+give_up_sound n f accepted is =
+    let i : ℕ = f.source.imp in
+    let last : Option CarrierFault = at_up (imp_at n.imps i) (λ s. give_up_refusal s f) in
+    let alive : Bool = give_up_alive n f (outstanding_at (imp_at n.imps i) f) in
+    let there : (not (is_host n.hosts f.source) ≡ false) × (first_of alive fault.StillAlive last ≡ None) = guard (not (is_host n.hosts f.source)) fault.NoSuch (first_of alive fault.StillAlive last) accepted in
+    let dead : (alive ≡ false) × (last ≡ None) = guard alive fault.StillAlive last there.1 in
+    by (imp_at n.imps i) refl dead.0 dead.1
+  where
+    named : (s : State) → imp_at n.imps f.source.imp ≡ Some s → give_up_refusal s f ≡ None → (o : Option ℕ) → outstanding s f ≡ o → is_none o ≡ false → give_up_alive n f o ≡ false → IsSound (with_turn f.source.imp (give_up s f) n)
+    named s at own None awaited some dead = absurd (cc)
+    named s at own (Some number) awaited some dead = given_up_turn n f s number at awaited dead own is
+
+    by : (o : Option State) → imp_at n.imps f.source.imp ≡ o → give_up_alive n f (outstanding_at o f) ≡ false → at_up o (λ s. give_up_refusal s f) ≡ None → IsSound (at_imp o f.source.imp (λ s. give_up s f) n)
+    by None at dead own = absurd (cc)
+    by (Some s) at dead own =
+        let last : Option CarrierFault = first_of (is_none (outstanding s f)) fault.NotOutstanding None in
+        let host : (not (is_own s f.source) ≡ false) × (last ≡ None) = guard (not (is_own s f.source)) fault.NoSuch last own in
+        let some : (is_none (outstanding s f) ≡ false) × (let rest : Option CarrierFault = None in rest ≡ None) = guard (is_none (outstanding s f)) fault.NotOutstanding None host.1 in
+        named s at own (outstanding s f) refl some.0 dead

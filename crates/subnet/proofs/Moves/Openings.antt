@@ -1,0 +1,180 @@
+-- A subnet at its opening is sound.
+use Rattle.std.proofs.Common.{◌≡◌, ℕ, zero, suc, ◌+◌, Bool, true, false, List, [], ◌∷◌, ◌++◌, map, get_or, replicate, Option, Some, None, refl, ap, sym, ◌∙◌, subst, All, arith}
+use Rattle.std.specs.Prelude.{nat_lt, slice_index_or, count_by}
+use Rattle.std.specs.FinMap.{get-empty}
+use Rattle.std.specs.List.{flat_map}
+use Rattle.std.proofs.lemmas.Bool.Decides.{nat_tests}
+use Rattle.std.proofs.lemmas.List.Elements.{All-nil, All-cons, All-head}
+use Rattle.leader1822.specs.Flow.{flow_cmp}
+use Rattle.leader1822.specs.Host.{Host, is_host}
+use Rattle.leader1822.specs.Mailboxes.{Box, Mail, opening_mail}
+use Rattle.leader1822.specs.declared.address.Flow.{Flow}
+use Rattle.leader1822.proofs.lemmas.{both_ways}
+use Rattle.link_table.specs.Flows.{last_in, outstanding_in}
+use Rattle.packetiser.specs.PacketFields.{PacketFields, IsPacket}
+use Rattle.packetiser.specs.declared.packet.PacketKind.TheVariants as kind
+use Rattle.flow_law.specs.View.{Packet, mail_now}
+use Rattle.flow_law.specs.Runs.{IsOpening}
+use Rattle.flow_law.proofs.lemmas.{all_open}
+use Rattle.imp_node.specs.declared.waiting.Message.{Message}
+use Rattle.imp_node.specs.declared.waiting.Told.{Told}
+use Rattle.imp_node.specs.State.{State, HostState, up_host, no_host}
+use Rattle.imp_node.specs.State as imp
+use Rattle.imp_node.specs.Flows.{answer_packet}
+use Rattle.imp_node.specs.Sides.{IsImp, answers_of, messages_of}
+use Rattle.imp_node.proofs.lemmas.{opening_imp, start_has}
+use Rattle.subnet.specs.Net.{Net, imp_at, ends_at}
+use Rattle.subnet.specs.Alive.{packets, messages_at_imp}
+use Rattle.subnet.specs.Flows.{Alive, imp_is_up, sender_at, receiver_at, queued_of, view}
+use Rattle.subnet.specs.Opening.{Ends, empty_wire, opened_imp, opened_from, opening_subnet, host_there, AreHosts}
+use Rattle.subnet.specs.Sound.{IsAt, IsSound}
+use Rattle.subnet.proofs.Packets.Having.{FrameHas, WireHas, ImpHas, NetHas, net_packets, net_at}
+
+-- ---- IMPs by their places
+
+opened_at : (i : ℕ) (sites : List (Option ℕ)) (ports : ℕ → ℕ) (k : ℕ) → imp_at (opened_from i sites ports) k ≡ opened_imp (i + k) (slice_index_or sites k None) (ports (i + k))
+opened_at i [] ports k = refl
+opened_at i (site ∷ sites) ports zero = let same : i ≡ i + 0 = omega arith in ap (λ (j : ℕ). opened_imp j site (ports j)) same
+opened_at i (site ∷ sites) ports (suc k) =
+    let same : i + 1 + k ≡ i + suc k = omega arith in
+    opened_at (i + 1) sites ports k ∙ ap (λ (j : ℕ). opened_imp j (slice_index_or sites k None) (ports j)) same
+
+opened_is : (k j : ℕ) (site : Option ℕ) (ports : ℕ) → j ≡ k → IsAt k (opened_imp j site ports)
+opened_is k j None ports same = tt
+opened_is k j (Some hosts) ports same = subst (λ (i : ℕ). IsImp i (imp.opening_node j hosts ports)) same (opening_imp j hosts ports)
+
+-- ---- hosts
+
+below_both : (h count : ℕ) → nat_lt h count ≡ nat_lt (suc h) (suc count)
+below_both h count = both_ways (nat_lt h count) (nat_lt (suc h) (suc count)) (λ e. grind (arith, nat_tests, e)) (λ e. grind (arith, nat_tests, e))
+
+up_there : (count h : ℕ) → (get_or (replicate count up_host) h no_host).up ≡ nat_lt h count
+up_there zero h = both_ways false (nat_lt h 0) (λ e. absurd (cc)) (λ e. grind (arith, nat_tests, e))
+up_there (suc count) zero = both_ways true (nat_lt 0 (suc count)) (λ e. grind (arith, nat_tests)) (λ e. refl)
+up_there (suc count) (suc h) = up_there count h ∙ below_both h count
+
+no_answers : (count h : ℕ) → (get_or (replicate count up_host) h no_host).answers ≡ []
+no_answers zero h = refl
+no_answers (suc count) zero = refl
+no_answers (suc count) (suc h) = no_answers count h
+
+no_queue : (count h : ℕ) → (get_or (replicate count up_host) h no_host).queue ≡ []
+no_queue zero h = refl
+no_queue (suc count) zero = refl
+no_queue (suc count) (suc h) = no_queue count h
+
+none_waits : (count : ℕ) → flat_map (λ (h : HostState). h.queue) (replicate count up_host) ≡ []
+none_waits zero = refl
+none_waits (suc count) = none_waits count
+
+no_messages : (i : ℕ) (sites : List (Option ℕ)) (ports : ℕ → ℕ) → flat_map messages_at_imp (opened_from i sites ports) ≡ []
+no_messages i [] ports = refl
+no_messages i (None ∷ sites) ports = no_messages (i + 1) sites ports
+no_messages i (Some count ∷ sites) ports = ap (λ (ms : List Message). ms ++ flat_map messages_at_imp (opened_from (i + 1) sites ports)) (none_waits count) ∙ no_messages (i + 1) sites ports
+
+-- ---- one flow
+
+opened_last : (j : ℕ) (site : Option ℕ) (ports : ℕ) (f : Flow) → (sender_at (opened_imp j site ports) f).last ≡ None
+opened_last j None ports f = refl
+opened_last j (Some hosts) ports f = ap last_in (get-empty flow_cmp f)
+
+opened_outstanding : (j : ℕ) (site : Option ℕ) (ports : ℕ) (f : Flow) → (sender_at (opened_imp j site ports) f).outstanding ≡ None
+opened_outstanding j None ports f = refl
+opened_outstanding j (Some hosts) ports f = ap outstanding_in (get-empty flow_cmp f)
+
+opened_answers : (j : ℕ) (site : Option ℕ) (ports : ℕ) (f : Flow) → (sender_at (opened_imp j site ports) f).answers ≡ []
+opened_answers j None ports f = refl
+opened_answers j (Some hosts) ports f = ap (λ (told : List Told). answers_of f told) (no_answers hosts f.source.host)
+
+opened_queue : (j : ℕ) (site : Option ℕ) (ports : ℕ) (f : Flow) → map queued_of (receiver_at (opened_imp j site ports) f).queue ≡ []
+opened_queue j None ports f = refl
+opened_queue j (Some hosts) ports f = ap (λ (ms : List Message). map queued_of (messages_of f ms)) (no_queue hosts f.destination.host)
+
+opened_source : (j : ℕ) (site : Option ℕ) (ports : ℕ) (f : Flow) → (sender_at (opened_imp j site ports) f).source ≡ host_there site f.source.host
+opened_source j None ports f = refl
+opened_source j (Some hosts) ports f = up_there hosts f.source.host
+
+opened_destination : (j : ℕ) (site : Option ℕ) (ports : ℕ) (f : Flow) → (receiver_at (opened_imp j site ports) f).destination ≡ host_there site f.destination.host
+opened_destination j None ports f = refl
+opened_destination j (Some hosts) ports f = up_there hosts f.destination.host
+
+opened_home : (j : ℕ) (site : Option ℕ) (ports : ℕ) (f : Flow) → (sender_at (opened_imp j site ports) f).source ≡ true → imp_is_up (opened_imp j site ports) ≡ true
+opened_home j None ports f up = up
+opened_home j (Some hosts) ports f up = refl
+
+same_mail : (a b c d : Bool) (x : Box) → a ≡ b → c ≡ d → (let m : Mail = record { source = a; destination = c; box = x } in let k : Mail = record { source = b; destination = d; box = x } in m ≡ k)
+same_mail a b c d x e f = rw (e, f) refl
+
+-- ---- packets
+
+opened_has : (P : PacketFields → Type 0) (i : ℕ) (sites : List (Option ℕ)) (ports : ℕ → ℕ) → All (ImpHas P) (opened_from i sites ports)
+opened_has P i [] ports = All-nil (ImpHas P)
+opened_has P i (site ∷ sites) ports = All-cons (ImpHas P) (opened_imp i site (ports i)) (opened_from (i + 1) sites ports) (one site) (opened_has P (i + 1) sites ports) where
+  one : (s : Option ℕ) → ImpHas P (opened_imp i s (ports i))
+  one None = tt
+  one (Some hosts) = start_has P i hosts (ports i)
+
+wires_have_none : (P : PacketFields → Type 0) (ends : List Ends) → All (WireHas P) (map empty_wire ends)
+wires_have_none P [] = All-nil (WireHas P)
+wires_have_none P (e ∷ ends) = All-cons (WireHas P) (empty_wire e) (map empty_wire ends) (record { forward = All-nil (FrameHas P); back = All-nil (FrameHas P) }) (wires_have_none P ends)
+
+opening_has : (P : PacketFields → Type 0) (hosts : List Host) (sites : List (Option ℕ)) (ends : List Ends) → NetHas P (opening_subnet hosts sites ends)
+opening_has P hosts sites ends = record { imps = opened_has P 0 sites (λ i. count_by (ends_at i) (map empty_wire ends)); lines = wires_have_none P ends }
+
+nothing_alive : (hosts : List Host) (sites : List (Option ℕ)) (ends : List Ends) (f : Flow) (x : Packet) → Alive (opening_subnet hosts sites ends) f x → ⊥
+nothing_alive hosts sites ends f x a = net_at (λ (p : PacketFields). ⊥) (opening_subnet hosts sites ends) (opening_has (λ (p : PacketFields). ⊥) hosts sites ends) a.fields a.there
+
+-- what every packet of a list has that none has: there is none
+none_of : (ps : List PacketFields) → All (λ p. ⊥) ps → ps ≡ []
+none_of [] all = refl
+none_of (p ∷ ps) all = absurd (All-head (λ (q : PacketFields). ⊥) p ps all)
+
+pub opening_empty : (hosts : List Host) (sites : List (Option ℕ)) (ends : List Ends) → packets (opening_subnet hosts sites ends) ≡ []
+opening_empty hosts sites ends =
+    let n : Net = opening_subnet hosts sites ends in
+    none_of (packets n) (net_packets (λ (p : PacketFields). ⊥) n (opening_has (λ (p : PacketFields). ⊥) hosts sites ends))
+
+-- ---- the subnet
+
+flow_opens : (hosts : List Host) (sites : List (Option ℕ)) (ends : List Ends) (f : Flow) → IsOpening (view (opening_subnet hosts sites ends) f)
+flow_opens hosts sites ends f =
+    let ports : ℕ → ℕ = λ k. count_by (ends_at k) (map empty_wire ends) in
+    let i : ℕ = f.source.imp in
+    let j : ℕ = f.destination.imp in
+    let here : Option ℕ = slice_index_or sites i None in
+    let there : Option ℕ = slice_index_or sites j None in
+    let from : imp_at (opened_from 0 sites ports) i ≡ opened_imp (0 + i) here (ports (0 + i)) = opened_at 0 sites ports i in
+    let to : imp_at (opened_from 0 sites ports) j ≡ opened_imp (0 + j) there (ports (0 + j)) = opened_at 0 sites ports j in
+    record {
+      last = ap (λ (o : Option State). (sender_at o f).last) from ∙ opened_last (0 + i) here (ports (0 + i)) f;
+      outstanding = ap (λ (o : Option State). (sender_at o f).outstanding) from ∙ opened_outstanding (0 + i) here (ports (0 + i)) f;
+      answers = ap (λ (o : Option State). (sender_at o f).answers) from ∙ opened_answers (0 + i) here (ports (0 + i)) f;
+      queue = ap (λ (o : Option State). map queued_of (receiver_at o f).queue) to ∙ opened_queue (0 + j) there (ports (0 + j)) f;
+      box = refl;
+      home = λ up. ap imp_is_up from ∙ opened_home (0 + i) here (ports (0 + i)) f (ap (λ (o : Option State). (sender_at o f).source) (sym from) ∙ up);
+    }
+
+mail_opens : (hosts : List Host) (sites : List (Option ℕ)) (ends : List Ends) → AreHosts hosts sites → (f : Flow) → mail_now (view (opening_subnet hosts sites ends) f) ≡ opening_mail hosts f
+mail_opens hosts sites ends are f =
+    let ports : ℕ → ℕ = λ k. count_by (ends_at k) (map empty_wire ends) in
+    let i : ℕ = f.source.imp in
+    let j : ℕ = f.destination.imp in
+    let here : Option ℕ = slice_index_or sites i None in
+    let there : Option ℕ = slice_index_or sites j None in
+    let from : imp_at (opened_from 0 sites ports) i ≡ opened_imp (0 + i) here (ports (0 + i)) = opened_at 0 sites ports i in
+    let to : imp_at (opened_from 0 sites ports) j ≡ opened_imp (0 + j) there (ports (0 + j)) = opened_at 0 sites ports j in
+    same_mail (view (opening_subnet hosts sites ends) f).source (is_host hosts f.source) (view (opening_subnet hosts sites ends) f).destination (is_host hosts f.destination) Box.Empty
+    (ap (λ (o : Option State). (sender_at o f).source) from ∙ opened_source (0 + i) here (ports (0 + i)) f ∙ sym (are f.source))
+    (ap (λ (o : Option State). (receiver_at o f).destination) to ∙ opened_destination (0 + j) there (ports (0 + j)) f ∙ sym (are f.destination))
+
+pub opening_sound : (hosts : List Host) (sites : List (Option ℕ)) (ends : List Ends) → AreHosts hosts sites → IsSound (opening_subnet hosts sites ends)
+opening_sound hosts sites ends are =
+    let n : Net = opening_subnet hosts sites ends in
+    let ports : ℕ → ℕ = λ k. count_by (ends_at k) (map empty_wire ends) in
+    let Answerable : Message → Type 0 = λ q. IsPacket (answer_packet kind.Rfnm q.flow q.number) in
+    record {
+      flows = all_open hosts (view n) (Alive n) (record { opening = flow_opens hosts sites ends; mail = mail_opens hosts sites ends are }) (nothing_alive hosts sites ends);
+      imps = λ k. subst (IsAt k) (sym (opened_at 0 sites ports k)) (opened_is k (0 + k) (slice_index_or sites k None) (ports (0 + k)) (omega arith));
+      formats = net_packets IsPacket n (opening_has IsPacket hosts sites ends);
+      answers = subst (All Answerable) (sym (no_messages 0 sites ports)) (All-nil Answerable);
+    }

@@ -1,0 +1,191 @@
+-- A property of every packet of a subnet: what holds of all packets before an event, and of what the event makes, holds of all
+-- packets after it.
+use Rattle.std.proofs.Common.{ℕ, zero, suc, ◌+◌, ◌==◌, Bool, true, false, List, [], ◌∷◌, ◌++◌, Option, Some, None, cond, All, Contains, take, drop, length}
+use Rattle.std.specs.Prelude.{nat_lt, slice_get}
+use Rattle.std.specs.List.{flat_map}
+use Rattle.std.proofs.lemmas.List.Elements.{All-nil, All-cons, All-head, All-tail, All-append, All-push, All-set, All-take, All-drop, All-contains, All-contains_itself}
+use Rattle.leader1822.specs.declared.event.Direction.{Direction}
+use Rattle.leader1822.specs.declared.event.Direction.TheVariants as way
+use Rattle.packetiser.specs.PacketFields.{PacketFields}
+use Rattle.imp_channel.specs.Holding.{carried_by}
+use Rattle.imp_channel.specs.declared.frame.Content.{Content}
+use Rattle.imp_channel.specs.declared.frame.Content.TheVariants as content
+use Rattle.imp_channel.specs.declared.frame.Frame.{Frame}
+use Rattle.imp_channel.proofs.lemmas.{ContentHas}
+use Rattle.imp_node.specs.declared.outgoing.Outgoing.{Outgoing}
+use Rattle.imp_node.specs.State.{State, ImpTurn}
+use Rattle.imp_node.proofs.lemmas.{All_left, All_right, Has, OutgoingHas, TurnHas, has_packets, packets_has}
+use Rattle.subnet.specs.Net.{Net, Wire, imp_at, wire_at, line_places, line_from, followed_by, with_frame, put_on, put_one, put_all, with_turn, frames_on, without_at, dropping}
+use Rattle.subnet.specs.Alive.{packets_on, packets_on_wire, packets_at_imp, packets}
+use Rattle.subnet.specs.Events.{drop_frame}
+
+-- ---- the property
+
+abbrev pub FrameHas : (PacketFields → Type 0) → Frame → Type 0
+FrameHas P f = ContentHas P f.content
+
+abbrev pub FramesHave : (PacketFields → Type 0) → List Frame → Type 0
+FramesHave P frames = All (FrameHas P) frames
+
+pub record WireHas (P : PacketFields → Type 0) (w : Wire) : Type 0 where
+  pub forward : FramesHave P w.forward
+  pub back : FramesHave P w.back
+
+abbrev pub ImpHas : (PacketFields → Type 0) → Option State → Type 0
+ImpHas P None = Unit {0}
+ImpHas P (Some s) = Has P s
+
+-- every packet of a subnet
+pub record NetHas (P : PacketFields → Type 0) (n : Net) : Type 0 where
+  pub imps : All (ImpHas P) n.imps
+  pub lines : All (WireHas P) n.lines
+
+-- ---- the packets as a list have it, and the other way
+
+content_packets : (P : PacketFields → Type 0) (c : Content) → ContentHas P c → All P (carried_by c)
+content_packets P (content.Packet carried) here = All-cons P carried.packet [] here (All-nil P)
+content_packets P content.Nothing here = All-nil P
+content_packets P (content.Routes distances) here = All-nil P
+
+pub content_has : (P : PacketFields → Type 0) (c : Content) → All P (carried_by c) → ContentHas P c
+content_has P (content.Packet carried) all = All-head P carried.packet [] all
+content_has P content.Nothing all = tt
+content_has P (content.Routes distances) all = tt
+
+pub frame_packets : (P : PacketFields → Type 0) (f : Frame) → FrameHas P f → All P (carried_by f.content)
+frame_packets P f has = content_packets P f.content has
+
+frames_packets : (P : PacketFields → Type 0) (frames : List Frame) → FramesHave P frames → All P (packets_on frames)
+frames_packets P [] has = All-nil P
+frames_packets P (f ∷ frames) has =
+    All-append P (carried_by f.content) (packets_on frames) (content_packets P f.content (All-head (FrameHas P) f frames has)) (frames_packets P frames (All-tail (FrameHas P) f frames has))
+
+frames_have : (P : PacketFields → Type 0) (frames : List Frame) → All P (packets_on frames) → FramesHave P frames
+frames_have P [] all = All-nil (FrameHas P)
+frames_have P (f ∷ frames) all =
+    All-cons (FrameHas P) f frames (content_has P f.content (All_left P (carried_by f.content) (packets_on frames) all)) (frames_have P frames (All_right P (carried_by f.content) (packets_on frames) all))
+
+wires_packets : (P : PacketFields → Type 0) (lines : List Wire) → All (WireHas P) lines → All P (flat_map packets_on_wire lines)
+wires_packets P [] has = All-nil P
+wires_packets P (w ∷ ws) has =
+    let here : WireHas P w = All-head (WireHas P) w ws has in
+    All-append P (packets_on_wire w) (flat_map packets_on_wire ws)
+    (All-append P (packets_on w.forward) (packets_on w.back) (frames_packets P w.forward here.forward) (frames_packets P w.back here.back))
+    (wires_packets P ws (All-tail (WireHas P) w ws has))
+
+wires_have : (P : PacketFields → Type 0) (lines : List Wire) → All P (flat_map packets_on_wire lines) → All (WireHas P) lines
+wires_have P [] all = All-nil (WireHas P)
+wires_have P (w ∷ ws) all =
+    let here : All P (packets_on_wire w) = All_left P (packets_on_wire w) (flat_map packets_on_wire ws) all in
+    All-cons (WireHas P) w ws
+    (record {
+      forward = frames_have P w.forward (All_left P (packets_on w.forward) (packets_on w.back) here);
+      back = frames_have P w.back (All_right P (packets_on w.forward) (packets_on w.back) here);
+    })
+    (wires_have P ws (All_right P (packets_on_wire w) (flat_map packets_on_wire ws) all))
+
+imp_packets : (P : PacketFields → Type 0) (o : Option State) → ImpHas P o → All P (packets_at_imp o)
+imp_packets P None has = All-nil P
+imp_packets P (Some s) has = packets_has P s has
+
+imps_packets : (P : PacketFields → Type 0) (imps : List (Option State)) → All (ImpHas P) imps → All P (flat_map packets_at_imp imps)
+imps_packets P [] has = All-nil P
+imps_packets P (o ∷ imps) has =
+    All-append P (packets_at_imp o) (flat_map packets_at_imp imps) (imp_packets P o (All-head (ImpHas P) o imps has)) (imps_packets P imps (All-tail (ImpHas P) o imps has))
+
+one_imp_has : (P : PacketFields → Type 0) (o : Option State) → All P (packets_at_imp o) → ImpHas P o
+one_imp_has P None all = tt
+one_imp_has P (Some s) all = has_packets P s all
+
+imps_have : (P : PacketFields → Type 0) (imps : List (Option State)) → All P (flat_map packets_at_imp imps) → All (ImpHas P) imps
+imps_have P [] all = All-nil (ImpHas P)
+imps_have P (o ∷ imps) all =
+    All-cons (ImpHas P) o imps (one_imp_has P o (All_left P (packets_at_imp o) (flat_map packets_at_imp imps) all)) (imps_have P imps (All_right P (packets_at_imp o) (flat_map packets_at_imp imps) all))
+
+pub net_packets : (P : PacketFields → Type 0) (n : Net) → NetHas P n → All P (packets n)
+net_packets P n h = All-append P (flat_map packets_at_imp n.imps) (flat_map packets_on_wire n.lines) (imps_packets P n.imps h.imps) (wires_packets P n.lines h.lines)
+
+pub packets_net : (P : PacketFields → Type 0) (n : Net) → All P (packets n) → NetHas P n
+packets_net P n all = record {
+  imps = imps_have P n.imps (All_left P (flat_map packets_at_imp n.imps) (flat_map packets_on_wire n.lines) all);
+  lines = wires_have P n.lines (All_right P (flat_map packets_at_imp n.imps) (flat_map packets_on_wire n.lines) all);
+}
+
+-- each packet of a subnet is one of its packets
+pub net_itself : (n : Net) → NetHas (Contains (packets n)) n
+net_itself n = packets_net (Contains (packets n)) n (All-contains_itself (packets n))
+
+pub net_at : (P : PacketFields → Type 0) (n : Net) → NetHas P n → (p : PacketFields) → Contains (packets n) p → P p
+net_at P n h p there = All-contains P (packets n) p (net_packets P n h) there
+
+-- ---- IMPs and lines by their places
+
+pub imp_has : (P : PacketFields → Type 0) (imps : List (Option State)) (i : ℕ) → All (ImpHas P) imps → ImpHas P (imp_at imps i)
+imp_has P [] i has = tt
+imp_has P (o ∷ imps) zero has = All-head (ImpHas P) o imps has
+imp_has P (o ∷ imps) (suc i) has = imp_has P imps i (All-tail (ImpHas P) o imps has)
+
+pub wire_has : (P : PacketFields → Type 0) (lines : List Wire) (l : ℕ) → All (WireHas P) lines → WireHas P (wire_at lines l)
+wire_has P [] l has = record { forward = All-nil (FrameHas P); back = All-nil (FrameHas P) }
+wire_has P (w ∷ ws) zero has = All-head (WireHas P) w ws has
+wire_has P (w ∷ ws) (suc l) has = wire_has P ws l (All-tail (WireHas P) w ws has)
+
+pub way_has : (P : PacketFields → Type 0) (d : Direction) (w : Wire) → WireHas P w → FramesHave P (frames_on d w)
+way_has P way.Forward w has = has.forward
+way_has P way.Back w has = has.back
+
+-- the frame at a place, if there is one
+abbrev pub GotHas : (PacketFields → Type 0) → Option Frame → Type 0
+GotHas P None = Unit {0}
+GotHas P (Some f) = FrameHas P f
+
+pub got_has : (P : PacketFields → Type 0) (frames : List Frame) (k : ℕ) → FramesHave P frames → GotHas P (slice_get frames k)
+got_has P [] k has = tt
+got_has P (f ∷ frames) zero has = All-head (FrameHas P) f frames has
+got_has P (f ∷ frames) (suc k) has = got_has P frames k (All-tail (FrameHas P) f frames has)
+
+-- ---- frames are put on lines
+
+followed_has : (P : PacketFields → Type 0) (frames : List Frame) (f : Frame) → FramesHave P frames → FrameHas P f → FramesHave P (followed_by frames f)
+followed_has P frames f has here = at (nat_lt (length frames) line_places) where
+  at : (b : Bool) → FramesHave P (cond b (frames ++ f ∷ []) frames)
+  at true = All-push (FrameHas P) frames f has here
+  at false = has
+
+with_frame_has : (P : PacketFields → Type 0) (i : ℕ) (f : Frame) (w : Wire) → WireHas P w → FrameHas P f → WireHas P (with_frame i f w)
+with_frame_has P i f w has here = at (w.a == i) where
+  at : (b : Bool) → (let one : Wire = record w { forward = followed_by w.forward f } in let other : Wire = record w { back = followed_by w.back f } in WireHas P (cond b one other))
+  at true = record { forward = followed_has P w.forward f has.forward here; back = has.back }
+  at false = record { forward = has.forward; back = followed_has P w.back f has.back here }
+
+put_on_has : (P : PacketFields → Type 0) (lines : List Wire) (i : ℕ) (f : Frame) (l : Option ℕ) → All (WireHas P) lines → FrameHas P f → All (WireHas P) (put_on lines i f l)
+put_on_has P lines i f None has here = has
+put_on_has P lines i f (Some l) has here = All-set (WireHas P) lines l (with_frame i f (wire_at lines l)) (with_frame_has P i f (wire_at lines l) (wire_has P lines l has) here) has
+
+put_all_has : (P : PacketFields → Type 0) (lines : List Wire) (i : ℕ) (outs : List Outgoing) → All (WireHas P) lines → All (OutgoingHas P) outs → All (WireHas P) (put_all lines i outs)
+put_all_has P lines i [] has all = has
+put_all_has P lines i (out ∷ outs) has all =
+    put_all_has P (put_one lines i out) i outs (put_on_has P lines i out.frame (line_from 0 lines i out.port) has (All-head (OutgoingHas P) out outs all)) (All-tail (OutgoingHas P) out outs all)
+
+-- ---- calls of IMPs
+
+pub with_turn_has : (P : PacketFields → Type 0) (i : ℕ) (turn : ImpTurn) (n : Net) → NetHas P n → TurnHas P turn → NetHas P (with_turn i turn n)
+with_turn_has P i turn n h t = record {
+  imps = All-set (ImpHas P) n.imps i (Some turn.state) t.state h.imps;
+  lines = put_all_has P n.lines i turn.frames h.lines t.frames;
+}
+
+-- ---- frames are dropped, and IMPs stop and start
+
+without_has : (P : PacketFields → Type 0) (k : ℕ) (frames : List Frame) → FramesHave P frames → FramesHave P (without_at k frames)
+without_has P k frames has = All-append (FrameHas P) (take k frames) (drop (k + 1) frames) (All-take (FrameHas P) k frames has) (All-drop (FrameHas P) (k + 1) frames has)
+
+dropping_has : (P : PacketFields → Type 0) (d : Direction) (k : ℕ) (w : Wire) → WireHas P w → WireHas P (dropping d k w)
+dropping_has P way.Forward k w has = record { forward = without_has P k w.forward has.forward; back = has.back }
+dropping_has P way.Back k w has = record { forward = has.forward; back = without_has P k w.back has.back }
+
+pub dropped_has : (P : PacketFields → Type 0) (n : Net) (l : ℕ) (d : Direction) (k : ℕ) → NetHas P n → NetHas P (drop_frame n l d k)
+dropped_has P n l d k h = record {
+  imps = h.imps;
+  lines = All-set (WireHas P) n.lines l (dropping d k (wire_at n.lines l)) (dropping_has P d k (wire_at n.lines l) (wire_has P n.lines l h.lines)) h.lines;
+}

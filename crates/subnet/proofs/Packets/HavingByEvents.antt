@@ -1,0 +1,168 @@
+-- A property of every packet, over each event.
+use Rattle.std.proofs.Common.{ℕ, List, [], ◌∷◌, ◌++◌, Option, Some, None, All, Contains}
+use Rattle.std.specs.Prelude.{slice_get, count_by}
+use Rattle.std.specs.List.{flat_map}
+use Rattle.std.proofs.lemmas.List.Elements.{All-nil, All-cons, All-set, All-weaker, All-contains_itself, Contains-append_left, Contains-append_right}
+use Rattle.leader1822.specs.Host.{Host}
+use Rattle.leader1822.specs.declared.address.Flow.{Flow}
+use Rattle.leader1822.specs.declared.crossing.Crossing.{Crossing}
+use Rattle.leader1822.specs.declared.crossing.Crossing.TheVariants as crossing
+use Rattle.leader1822.specs.declared.event.Direction.{Direction}
+use Rattle.leader1822.specs.declared.message.HostMessage.{HostMessage}
+use Rattle.packetiser.specs.PacketFields.{PacketFields}
+use Rattle.imp_channel.specs.Holding.{carried_by}
+use Rattle.imp_channel.specs.declared.frame.Content.{Content}
+use Rattle.imp_channel.specs.declared.frame.Content.TheVariants as content
+use Rattle.imp_channel.specs.declared.frame.Frame.{Frame}
+use Rattle.imp_channel.proofs.lemmas.{ContentHas}
+use Rattle.imp_node.specs.State.{State, ImpTurn}
+use Rattle.imp_node.specs.State as imp
+use Rattle.imp_node.specs.Arrival.{arrival, from_line}
+use Rattle.imp_node.specs.Offering.{from_host}
+use Rattle.imp_node.specs.Taking.{to_host}
+use Rattle.imp_node.specs.Lines.{resend, route, end_down, end_up}
+use Rattle.imp_node.specs.Stopping.{give_up, forget, abandon, host_down, host_up}
+use Rattle.imp_node.specs.Making.{dead_for, from_host_makes, from_line_makes, to_host_makes, host_down_makes}
+use Rattle.imp_node.proofs.lemmas.{Has, TurnHas, abandon_has, end_down_has, end_up_has, forget_has, from_host_has, from_line_has, give_up_has, host_down_has, host_up_has, resend_has, route_has, start_has, to_host_has}
+use Rattle.subnet.specs.Net.{Net, imp_at, wire_at, ends_at, port_of, frames_on, far_end}
+use Rattle.subnet.specs.Alive.{packets}
+use Rattle.subnet.specs.Events.{at_imp, logging, offer_out, taken_by_host, crossings_of, take_in, delivered, deliver, drop_frame, host_stopped, host_started, started_imp, hosts_at, site_at, imp_started, imp_stopped}
+use Rattle.subnet.specs.Making.{NothingNew, OnlyNew, made_at, offer_makes, take_makes, stop_makes, dead_made, frame_makes, deliver_makes}
+use Rattle.subnet.proofs.Packets.Having.{FrameHas, ImpHas, NetHas, GotHas, net_packets, packets_net, net_itself, imp_has, wire_has, way_has, got_has, with_turn_has, dropped_has}
+
+-- ---- a call of one IMP
+
+logged_has : (P : PacketFields → Type 0) (entries : List Crossing) (n : Net) → NetHas P n → NetHas P (logging entries n)
+logged_has P entries n h = record { imps = h.imps; lines = h.lines }
+
+-- one that makes packets
+making_has : (P : PacketFields → Type 0) (o : Option State) (i : ℕ) (call : State → ImpTurn) (makes : State → List PacketFields) (n : Net)
+    → NetHas P n → ImpHas P o → All P (made_at o makes) → ((s : State) → Has P s → All P (makes s) → TurnHas P (call s)) → NetHas P (at_imp o i call n)
+making_has P None i call makes n h has made each = h
+making_has P (Some s) i call makes n h has made each = with_turn_has P i (call s) n h (each s has made)
+
+-- one that makes none
+call_has : (P : PacketFields → Type 0) (o : Option State) (i : ℕ) (call : State → ImpTurn) (n : Net) → NetHas P n → ImpHas P o → ((s : State) → Has P s → TurnHas P (call s)) → NetHas P (at_imp o i call n)
+call_has P None i call n h has each = h
+call_has P (Some s) i call n h has each = with_turn_has P i (call s) n h (each s has)
+
+quiet_call_has : (P : PacketFields → Type 0) (n : Net) (i : ℕ) (call : State → ImpTurn) → NetHas P n → ((s : State) → Has P s → TurnHas P (call s)) → NetHas P (at_imp (imp_at n.imps i) i call n)
+quiet_call_has P n i call h each = call_has P (imp_at n.imps i) i call n h (imp_has P n.imps i h.imps) each
+
+-- ---- the events that make packets
+
+offer_has : (P : PacketFields → Type 0) (n : Net) (m : HostMessage) → NetHas P n → All P (offer_makes n m) → NetHas P (offer_out n m)
+offer_has P n m h made =
+    let i : ℕ = m.flow.source.imp in
+    logged_has P (crossing.Out m ∷ []) (at_imp (imp_at n.imps i) i (λ s. from_host s m) n)
+    (making_has P (imp_at n.imps i) i (λ s. from_host s m) (λ s. from_host_makes s m) n h (imp_has P n.imps i h.imps) made (λ s has cut. from_host_has P s m has cut))
+
+take_has : (P : PacketFields → Type 0) (n : Net) (h : Host) → NetHas P n → All P (take_makes n h) → NetHas P (take_in n h)
+take_has P n h has made =
+    logged_has P (crossings_of (taken_by_host n h)) (at_imp (imp_at n.imps h.imp) h.imp (λ s. to_host s h.host) n)
+    (making_has P (imp_at n.imps h.imp) h.imp (λ s. to_host s h.host) (λ s. to_host_makes s h.host) n has (imp_has P n.imps h.imp has.imps) made (λ s here rfnm. to_host_has P s h.host here rfnm))
+
+stop_has : (P : PacketFields → Type 0) (n : Net) (h : Host) → NetHas P n → All P (stop_makes n h) → NetHas P (host_stopped n h)
+stop_has P n h has made =
+    logged_has P (crossing.Down h ∷ []) (at_imp (imp_at n.imps h.imp) h.imp (λ s. host_down s h.host) n)
+    (making_has P (imp_at n.imps h.imp) h.imp (λ s. host_down s h.host) (λ s. host_down_makes s h.host) n has (imp_has P n.imps h.imp has.imps) made (λ s here dead. host_down_has P s h.host here dead))
+
+-- a frame brings its packet, and what that makes
+pub brings : (P : PacketFields → Type 0) (s : State) (f : Frame) → FrameHas P f → All P (dead_made f s) → All P (from_line_makes s f)
+brings P s f has dead = at f.content has dead where
+  at : (c : Content) → ContentHas P c → All P (flat_map (λ p. dead_for (arrival s p) p) (carried_by c)) → All P (flat_map (λ p. p ∷ dead_for (arrival s p) p) (carried_by c))
+  at (content.Packet carried) here dead = All-cons P carried.packet (dead_for (arrival s carried.packet) carried.packet ++ []) here dead
+  at content.Nothing here dead = All-nil P
+  at (content.Routes distances) here dead = All-nil P
+
+delivered_has : (P : PacketFields → Type 0) (n : Net) (l : ℕ) (d : Direction) (o : Option Frame)
+    → NetHas P n → GotHas P o → All P (frame_makes (imp_at n.imps (far_end d (wire_at n.lines l))) o) → NetHas P (delivered n l d o)
+delivered_has P n l d None h got made = h
+delivered_has P n l d (Some f) h got made =
+    let i : ℕ = far_end d (wire_at n.lines l) in
+    making_has P (imp_at n.imps i) i (λ s. from_line s (port_of n.lines i l) f) (dead_made f) n h (imp_has P n.imps i h.imps) made
+    (λ s has dead. from_line_has P s (port_of n.lines i l) f has (brings P s f got dead))
+
+deliver_has : (P : PacketFields → Type 0) (n : Net) (l : ℕ) (d : Direction) (k : ℕ) → NetHas P n → All P (deliver_makes n l d k) → NetHas P (deliver n l d k)
+deliver_has P n l d k h made =
+    delivered_has P n l d (slice_get (frames_on d (wire_at n.lines l)) k) h
+    (got_has P (frames_on d (wire_at n.lines l)) k (way_has P d (wire_at n.lines l) (wire_has P n.lines l h.lines))) made
+
+-- ---- hosts and IMPs that start, and IMPs that stop
+
+start_host_has : (P : PacketFields → Type 0) (n : Net) (h : Host) → NetHas P n → NetHas P (host_started n h)
+start_host_has P n h has =
+    logged_has P (crossing.Up h ∷ []) (at_imp (imp_at n.imps h.imp) h.imp (λ s. host_up s h.host) n)
+    (quiet_call_has P n h.imp (λ s. host_up s h.host) has (λ s here. host_up_has P s h.host here))
+
+started_has : (P : PacketFields → Type 0) (i hosts ports : ℕ) → Has P (started_imp i hosts ports)
+started_has P i hosts ports = let h : Has P (imp.opening_node i hosts ports) = start_has P i hosts ports in record { store = h.store; lines = h.lines; slots = h.slots }
+
+start_imp_has : (P : PacketFields → Type 0) (n : Net) (i : ℕ) → NetHas P n → NetHas P (imp_started n i)
+start_imp_has P n i h =
+    let s : State = started_imp i (hosts_at (site_at n i)) (count_by (ends_at i) n.lines) in
+    record { imps = All-set (ImpHas P) n.imps i (Some s) (started_has P i (hosts_at (site_at n i)) (count_by (ends_at i) n.lines)) h.imps; lines = h.lines }
+
+stop_imp_has : (P : PacketFields → Type 0) (n : Net) (i : ℕ) → NetHas P n → NetHas P (imp_stopped n i)
+stop_imp_has P n i h = record { imps = All-set (ImpHas P) n.imps i None tt h.imps; lines = h.lines }
+
+-- ---- the packets as lists
+
+keeps : (n m : Net) → (NetHas (Contains (packets n)) n → NetHas (Contains (packets n)) m) → NothingNew n m
+keeps n m has = net_packets (Contains (packets n)) m (has (net_itself n))
+
+makes_only : (n m : Net) (made : List PacketFields) → (NetHas (Contains (packets n ++ made)) n → All (Contains (packets n ++ made)) made → NetHas (Contains (packets n ++ made)) m) → OnlyNew n made m
+makes_only n m made has =
+    let P : PacketFields → Type 0 = Contains (packets n ++ made) in
+    let old : All P (packets n) = All-weaker (Contains (packets n)) P (λ p there. Contains-append_left (packets n) made p there) (packets n) (All-contains_itself (packets n)) in
+    let new : All P made = All-weaker (Contains made) P (λ p there. Contains-append_right (packets n) made p there) made (All-contains_itself made) in
+    net_packets P m (has (packets_net P n old) new)
+
+pub offer_only : (n : Net) (m : HostMessage) → OnlyNew n (offer_makes n m) (offer_out n m)
+offer_only n m = makes_only n (offer_out n m) (offer_makes n m) (offer_has (Contains (packets n ++ offer_makes n m)) n m)
+
+pub take_only : (n : Net) (h : Host) → OnlyNew n (take_makes n h) (take_in n h)
+take_only n h = makes_only n (take_in n h) (take_makes n h) (take_has (Contains (packets n ++ take_makes n h)) n h)
+
+pub stop_only : (n : Net) (h : Host) → OnlyNew n (stop_makes n h) (host_stopped n h)
+stop_only n h = makes_only n (host_stopped n h) (stop_makes n h) (stop_has (Contains (packets n ++ stop_makes n h)) n h)
+
+pub deliver_only : (n : Net) (l : ℕ) (d : Direction) (k : ℕ) → OnlyNew n (deliver_makes n l d k) (deliver n l d k)
+deliver_only n l d k = makes_only n (deliver n l d k) (deliver_makes n l d k) (deliver_has (Contains (packets n ++ deliver_makes n l d k)) n l d k)
+
+-- a call of one IMP that makes none
+calls_nothing : (n : Net) (i : ℕ) (call : State → ImpTurn) → ((s : State) → Has (Contains (packets n)) s → TurnHas (Contains (packets n)) (call s)) → NothingNew n (at_imp (imp_at n.imps i) i call n)
+calls_nothing n i call each = keeps n (at_imp (imp_at n.imps i) i call n) (λ h. quiet_call_has (Contains (packets n)) n i call h each)
+
+pub drop_nothing : (n : Net) (l : ℕ) (d : Direction) (k : ℕ) → NothingNew n (drop_frame n l d k)
+drop_nothing n l d k = keeps n (drop_frame n l d k) (dropped_has (Contains (packets n)) n l d k)
+
+pub resend_nothing : (n : Net) (i : ℕ) → NothingNew n (at_imp (imp_at n.imps i) i resend n)
+resend_nothing n i = calls_nothing n i resend (resend_has (Contains (packets n)))
+
+pub route_nothing : (n : Net) (i : ℕ) → NothingNew n (at_imp (imp_at n.imps i) i route n)
+route_nothing n i = calls_nothing n i route (route_has (Contains (packets n)))
+
+pub end_down_nothing : (n : Net) (i k : ℕ) → NothingNew n (at_imp (imp_at n.imps i) i (λ s. end_down s k) n)
+end_down_nothing n i k = calls_nothing n i (λ s. end_down s k) (λ s h. end_down_has (Contains (packets n)) s k h)
+
+pub end_up_nothing : (n : Net) (i k : ℕ) → NothingNew n (at_imp (imp_at n.imps i) i (λ s. end_up s k) n)
+end_up_nothing n i k = calls_nothing n i (λ s. end_up s k) (λ s h. end_up_has (Contains (packets n)) s k h)
+
+pub give_up_nothing : (n : Net) (i : ℕ) (f : Flow) → NothingNew n (at_imp (imp_at n.imps i) i (λ s. give_up s f) n)
+give_up_nothing n i f = calls_nothing n i (λ s. give_up s f) (λ s h. give_up_has (Contains (packets n)) s f h)
+
+pub forget_nothing : (n : Net) (i from : ℕ) → NothingNew n (at_imp (imp_at n.imps i) i (λ s. forget s from) n)
+forget_nothing n i from = calls_nothing n i (λ s. forget s from) (λ s h. forget_has (Contains (packets n)) s from h)
+
+pub abandon_nothing : (n : Net) (i : ℕ) (f : Flow) → NothingNew n (at_imp (imp_at n.imps i) i (λ s. abandon s f) n)
+abandon_nothing n i f = calls_nothing n i (λ s. abandon s f) (λ s h. abandon_has (Contains (packets n)) s f h)
+
+pub start_host_nothing : (n : Net) (h : Host) → NothingNew n (host_started n h)
+start_host_nothing n h = keeps n (host_started n h) (start_host_has (Contains (packets n)) n h)
+
+pub start_imp_nothing : (n : Net) (i : ℕ) → NothingNew n (imp_started n i)
+start_imp_nothing n i = keeps n (imp_started n i) (start_imp_has (Contains (packets n)) n i)
+
+pub stop_imp_nothing : (n : Net) (i : ℕ) → NothingNew n (imp_stopped n i)
+stop_imp_nothing n i = keeps n (imp_stopped n i) (stop_imp_has (Contains (packets n)) n i)

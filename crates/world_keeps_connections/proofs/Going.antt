@@ -1,0 +1,267 @@
+-- Each life of the book that goes on is known to its user.
+use Rattle.std.proofs.Common.{◌≡◌, inl, inr, ℕ, zero, suc, ◌<◌, Bool, true, false, not, ◌&&◌, ◌==◌, if◌then◌else◌, List, [], ◌∷◌, ◌++◌, length, get_or, refl, sym, subst, ◌∙◌, eq-eqb, arith}
+use Rattle.std.proofs.lemmas.Bool.{eqb-true}
+use Rattle.std.specs.List.{Contains}
+use Rattle.leader1822.specs.Host.{Host, same_host}
+use Rattle.leader1822.specs.Mailboxes as mail
+use Rattle.leader1822.specs.declared.crossing.Crossing.{Crossing}
+use Rattle.leader1822.specs.declared.crossing.Crossing.TheVariants as crossing
+use Rattle.leader1822.proofs.lemmas.{same_host-refl, same_host-true}
+use Rattle.host_pairs.specs.declared.notice.Notice.{Notice}
+use Rattle.host_pairs.specs.declared.notice.Notice.TheVariants as notice
+use Rattle.host_pairs.proofs.lemmas.{both}
+use Rattle.sockets.specs.declared.request.Request.{Request}
+use Rattle.sockets.specs.declared.request.Request.TheVariants as request
+use Rattle.pairing_law.specs.Partners.{IsIn}
+use Rattle.pairing_law.specs.Sides.{Life}
+use Rattle.host_keeps_pairing.specs.Known.{all_known, known_after}
+use Rattle.net_sim.specs.Book.{Kept, all_told, carried, changed_when, life_ended, granted, lives_asked, lives_at, lives_between, lives_on, lives_told, lives_with, new_life, returned, book_told, where_it}
+use Rattle.net_sim.specs.declared.life.Life as book
+use Rattle.net_sim.specs.Story.{Moment, Crossed, Asked}
+use Rattle.net_sim.specs.Timeline.{IsTimeline, crossings_of}
+use Rattle.net_sim.specs.Told.{kept_by, kept_in, notices_by}
+use Rattle.world_keeps_pairing.specs.Lives.{is_between, life_of}
+use Rattle.world_keeps_connections.specs.Users.{known_in}
+
+never : (b : Bool) → (b && false) ≡ true → ⊥
+never true e = absurd (let r : false ≡ true = e in cc)
+never false e = absurd (let r : false ≡ true = e in cc)
+
+clash : (b : Bool) → b ≡ true → b ≡ false → ⊥
+clash b e f = absurd (let r : true ≡ false = sym e ∙ f in cc)
+
+not_off : (b : Bool) → not b ≡ true → b ≡ false
+not_off true e = absurd (let r : false ≡ true = e in cc)
+not_off false e = refl
+
+-- an opening upon what is known, where it is of these ends
+abbrev upon : Bool → Bool → Life → List Life → List Life
+upon b c l k = if b then (if c then l ∷ k else k) else k
+
+module _ (origin : ℕ → ℕ) (h p : Host) (own foreign : ℕ) where
+  -- a life of these ends that goes on
+  abbrev pub goes : book.Life → Bool
+  goes x = is_between h p own foreign x && not x.ended
+
+  -- each of them is known
+  abbrev pub AreKnown : List Life → List book.Life → Type 0
+  AreKnown k [] = Unit {0}
+  AreKnown k (x ∷ lives) = (goes x ≡ true → IsIn (life_of origin x) k) × AreKnown k lives
+
+  join : (k : List Life) (xs ys : List book.Life) → AreKnown k xs → AreKnown k ys → AreKnown k (xs ++ ys)
+  join k [] ys a b = b
+  join k (x ∷ xs) ys a b = (a.0, join k xs ys a.1 b)
+
+  more : (l : Life) (k : List Life) (xs : List book.Life) → AreKnown k xs → AreKnown (l ∷ k) xs
+  more l k [] a = tt
+  more l k (x ∷ xs) a = (λ e. inr (a.0 e), more l k xs a.1)
+
+  -- what a life has that goes on
+  record Has (x : book.Life) : Type 0 where
+    host : h ≡ x.host
+    peer : p ≡ x.peer
+    socket : x.socket ≡ own
+    foreign_is : x.foreign ≡ foreign
+    on : x.ended ≡ false
+
+  has : (x : book.Life) → goes x ≡ true → Has x
+  has x e =
+      let a : (is_between h p own foreign x ≡ true) × (not x.ended ≡ true) = both (is_between h p own foreign x) (not x.ended) e in
+      let b : (same_host h x.host ≡ true) × ((same_host p x.peer && (x.socket == own && x.foreign == foreign)) ≡ true) = both (same_host h x.host) (same_host p x.peer && (x.socket == own && x.foreign == foreign)) a.0 in
+      let c : (same_host p x.peer ≡ true) × ((x.socket == own && x.foreign == foreign) ≡ true) = both (same_host p x.peer) (x.socket == own && x.foreign == foreign) b.1 in
+      let d : ((x.socket == own) ≡ true) × ((x.foreign == foreign) ≡ true) = both (x.socket == own) (x.foreign == foreign) c.1 in
+      record { host = same_host-true h x.host b.0; peer = same_host-true p x.peer c.0; socket = eqb-true x.socket own d.0; foreign_is = eqb-true x.foreign foreign d.1; on = not_off x.ended a.1 }
+
+  -- ---- changes of lives
+
+  abbrev Keeps : (book.Life → book.Life) → Type 0
+  Keeps change = (x : book.Life) → goes (change x) ≡ true → (goes x ≡ true) × (life_of origin (change x) ≡ life_of origin x)
+
+  where_keeps : (test : book.Life → Bool) (change : book.Life → book.Life) (k : List Life) (xs : List book.Life) → Keeps change → AreKnown k xs → AreKnown k (where_it test change xs)
+  where_keeps test change k [] keeps a = tt
+  where_keeps test change k (x ∷ xs) keeps a = (by (test x), where_keeps test change k xs keeps a.1) where
+    by : (b : Bool) → goes (changed_when b change x) ≡ true → IsIn (life_of origin (changed_when b change x)) k
+    by true e = subst (λ (l : Life). IsIn l k) (sym (keeps x e).1) (a.0 (keeps x e).0)
+    by false e = a.0 e
+
+  -- lives that all end
+  where_ends : (test : book.Life → Bool) (xs : List book.Life) → ((x : book.Life) → goes x ≡ true → test x ≡ true) → AreKnown [] (where_it test life_ended xs)
+  where_ends test [] all = tt
+  where_ends test (x ∷ xs) all = (by (test x) refl, where_ends test xs all) where
+    by : (b : Bool) → test x ≡ b → goes (changed_when b life_ended x) ≡ true → IsIn (life_of origin (changed_when b life_ended x)) []
+    by true e g = absurd (never (is_between h p own foreign x) g)
+    by false e g = absurd (clash (test x) (all x g) e)
+
+  ended_keeps : Keeps life_ended
+  ended_keeps x e = absurd (never (is_between h p own foreign x) e)
+
+  same_if : (b : Bool) (k : List Life) (xs : List book.Life) → AreKnown k xs → AreKnown (if b then k else k) xs
+  same_if true k xs a = a
+  same_if false k xs a = a
+
+  -- ---- notices
+
+  opened_by : (g q : Host) (socket other a b : ℕ) (k : List Life) (lives : List book.Life) → AreKnown k lives → (c d : Bool) → same_host h g ≡ c → (same_host p q && (socket == own && other == foreign)) ≡ d
+      → AreKnown (upon c d (record { own = a; partner = origin b }) k) (lives ++ new_life g socket q other a b ∷ [])
+  opened_by g q socket other a b k lives known true true e f = join (record { own = a; partner = origin b } ∷ k) lives (new_life g socket q other a b ∷ []) (more (record { own = a; partner = origin b }) k lives known) ((λ i. inl refl), tt)
+  opened_by g q socket other a b k lives known true false e f =
+      join k lives (new_life g socket q other a b ∷ []) known
+      ((λ i. absurd (clash (same_host p q && (socket == own && other == foreign)) (both (same_host h g) (same_host p q && (socket == own && other == foreign)) (both (is_between h p own foreign (new_life g socket q other a b)) true i).0).1 f)), tt)
+  opened_by g q socket other a b k lives known false d e f =
+      join k lives (new_life g socket q other a b ∷ []) known
+      ((λ i. absurd (clash (same_host h g) (both (same_host h g) (same_host p q && (socket == own && other == foreign)) (both (is_between h p own foreign (new_life g socket q other a b)) true i).0).0 e)), tt)
+
+  host_is : (g : Host) (x : book.Life) → same_host h g ≡ true → Has x → same_host g x.host ≡ true
+  host_is g x e i = subst (λ (y : Host). same_host y x.host ≡ true) (sym i.host ∙ same_host-true h g e) (same_host-refl x.host)
+
+  peer_is : (q : Host) (x : book.Life) → same_host p q ≡ true → Has x → same_host q x.peer ≡ true
+  peer_is q x e i = subst (λ (y : Host). same_host y x.peer ≡ true) (sym i.peer ∙ same_host-true p q e) (same_host-refl x.peer)
+
+  ended_by : (g q : Host) (socket other : ℕ) (k : List Life) (lives : List book.Life) → AreKnown k lives → (c d : Bool) → same_host h g ≡ c → (same_host p q && (socket == own && other == foreign)) ≡ d
+      → AreKnown (if c then (if d then [] else k) else k) (where_it (lives_between g socket q other) life_ended lives)
+  ended_by g q socket other k lives known true true e f =
+      where_ends (lives_between g socket q other) lives
+      (λ x i.
+      (let has_it : Has x = has x i in
+      let a : (same_host p q ≡ true) × ((socket == own && other == foreign) ≡ true) = both (same_host p q) (socket == own && other == foreign) f in
+      let b : ((socket == own) ≡ true) × ((other == foreign) ≡ true) = both (socket == own) (other == foreign) a.1 in
+      let c : (x.socket == socket) ≡ true = eq-eqb x.socket socket (has_it.socket ∙ sym (eqb-true socket own b.0)) in
+      let d : (x.foreign == other) ≡ true = eq-eqb x.foreign other (has_it.foreign_is ∙ sym (eqb-true other foreign b.1)) in
+      let hosts : same_host g x.host ≡ true = host_is g x e has_it in
+      let peers : same_host q x.peer ≡ true = peer_is q x a.0 has_it in
+      let on : x.ended ≡ false = has_it.on in
+      rw (hosts, c, on, peers, d) refl))
+  ended_by g q socket other k lives known true false e f = where_keeps (lives_between g socket q other) life_ended k lives ended_keeps known
+  ended_by g q socket other k lives known false d e f = where_keeps (lives_between g socket q other) life_ended k lives ended_keeps known
+
+  reset_by : (g q : Host) (k : List Life) (lives : List book.Life) → AreKnown k lives → (c d : Bool) → same_host h g ≡ c → same_host p q ≡ d → AreKnown (if c then (if d then [] else k) else k) (where_it (lives_with g q) life_ended lives)
+  reset_by g q k lives known true true e f =
+      where_ends (lives_with g q) lives
+      (λ x i.
+      (let has_it : Has x = has x i in
+      let hosts : same_host g x.host ≡ true = host_is g x e has_it in
+      let peers : same_host q x.peer ≡ true = peer_is q x f has_it in
+      let on : x.ended ≡ false = has_it.on in
+      rw (hosts, peers, on) refl))
+  reset_by g q k lives known true false e f = where_keeps (lives_with g q) life_ended k lives ended_keeps known
+  reset_by g q k lives known false d e f = where_keeps (lives_with g q) life_ended k lives ended_keeps known
+
+  told_known : (g : Host) (n : Notice) (k : List Life) (lives : List book.Life) → AreKnown k lives → AreKnown (if same_host h g then known_after origin p own foreign n k else k) (lives_told g n lives)
+  told_known g (notice.Opened socket q other a b) k lives known = opened_by g q socket other a b k lives known (same_host h g) (same_host p q && (socket == own && other == foreign)) refl refl
+  told_known g (notice.Ended socket q other) k lives known = ended_by g q socket other k lives known (same_host h g) (same_host p q && (socket == own && other == foreign)) refl refl
+  told_known g (notice.PairReset q) k lives known = reset_by g q k lives known (same_host h g) (same_host p q) refl refl
+  told_known g (notice.Sent socket bits) k lives known = same_if (same_host h g) k (where_it (lives_at g socket) (carried bits) lives) (where_keeps (lives_at g socket) (carried bits) k lives (λ x e. (e, refl)) known)
+  told_known g (notice.Arrived socket bits) k lives known = same_if (same_host h g) k (where_it (lives_at g socket) (carried bits) lives) (where_keeps (lives_at g socket) (carried bits) k lives (λ x e. (e, refl)) known)
+  told_known g (notice.Returned socket messages bits) k lives known = same_if (same_host h g) k (where_it (lives_at g socket) (returned messages bits) lives) (where_keeps (lives_at g socket) (returned messages bits) k lives (λ x e. (e, refl)) known)
+  told_known g (notice.Ready q) k lives known = same_if (same_host h g) k lives known
+  told_known g (notice.ContactFailed q) k lives known = same_if (same_host h g) k lives known
+  told_known g (notice.Interrupt socket) k lives known = same_if (same_host h g) k lives known
+  told_known g (notice.Echoed q octet) k lives known = same_if (same_host h g) k lives known
+  told_known g (notice.RemoteError q code detail) k lives known = same_if (same_host h g) k lives known
+
+  all_told_by : (g : Host) (b : Bool) → same_host h g ≡ b → (ns : List Notice) (k : List Life) (kept : Kept) → AreKnown k kept.book.lives → AreKnown (if b then all_known origin p own foreign ns k else k) (all_told g ns kept).book.lives
+  all_told_by g b e [] k kept known = same_if b k kept.book.lives known
+  all_told_by g true e (n ∷ ns) k kept known =
+      all_told_by g true e ns (known_after origin p own foreign n k) (book_told g n kept)
+      (subst (λ (c : Bool). AreKnown (if c then known_after origin p own foreign n k else k) (lives_told g n kept.book.lives)) e (told_known g n k kept.book.lives known))
+  all_told_by g false e (n ∷ ns) k kept known =
+      all_told_by g false e ns k (book_told g n kept)
+      (subst (λ (c : Bool). AreKnown (if c then known_after origin p own foreign n k else k) (lives_told g n kept.book.lives)) e (told_known g n k kept.book.lives known))
+
+  asked_known : (g : Host) (r : Request) (k : List Life) (lives : List book.Life) → AreKnown k lives → AreKnown k (lives_asked g r lives)
+  asked_known g (request.Grant socket messages bits) k lives known = where_keeps (lives_at g socket) (granted messages bits) k lives (λ x e. (e, refl)) known
+  asked_known g (request.Contact q) k lives known = known
+  asked_known g (request.Listen socket size) k lives known = known
+  asked_known g (request.OpenSend q mine yours size) k lives known = known
+  asked_known g (request.OpenReceive q mine yours) k lives known = known
+  asked_known g (request.Send socket bits) k lives known = known
+  asked_known g (request.AskBack socket messages bits) k lives known = known
+  asked_known g (request.Interrupt socket) k lives known = known
+  asked_known g (request.Close socket) k lives known = known
+  asked_known g (request.Echo q octet) k lives known = known
+
+  -- a host that stops ends its lives
+  down_by : (g : Host) (k : List Life) (lives : List book.Life) → AreKnown k lives → (b : Bool) → same_host h g ≡ b → AreKnown (if b then [] else k) (where_it (lives_on g) life_ended lives)
+  down_by g k lives known true e =
+      where_ends (lives_on g) lives
+      (λ x i. (let has_it : Has x = has x i in let hosts : same_host g x.host ≡ true = host_is g x e has_it in let on : x.ended ≡ false = has_it.on in rw (hosts, on) refl))
+  down_by g k lives known false e = where_keeps (lives_on g) life_ended k lives ended_keeps known
+
+  -- ---- moments
+
+  abbrev Lives_in : List Moment → List book.Life
+  Lives_in moments = (kept_in moments).book.lives
+
+  abbrev known : List Moment → List Life
+  known moments = known_in origin h p own foreign moments
+
+  -- a host that is down has no lives
+  pub record Follows (hosts : List Host) (moments : List Moment) : Type 0 where
+    pub are : AreKnown (known_in origin h p own foreign moments) (kept_in moments).book.lives
+    pub idle : mail.is_up hosts h (crossings_of moments) ≡ false → AreKnown [] (kept_in moments).book.lives
+
+  -- something is done by a host that is up
+  acts : (hosts : List Host) (g : Host) (ns : List Notice) (k : List Life) (kept : Kept) (log : List Crossing) → mail.is_up hosts g log ≡ true → AreKnown k kept.book.lives → (mail.is_up hosts h log ≡ false → AreKnown [] kept.book.lives)
+      → AreKnown (if same_host h g then all_known origin p own foreign ns k else k) (all_told g ns kept).book.lives × (mail.is_up hosts h log ≡ false → AreKnown [] (all_told g ns kept).book.lives)
+  acts hosts g ns k kept log up known idle = (all_told_by g (same_host h g) refl ns k kept known, λ down. off down (same_host h g) refl) where
+    off : mail.is_up hosts h log ≡ false → (b : Bool) → same_host h g ≡ b → AreKnown [] (all_told g ns kept).book.lives
+    off down true e = absurd (clash (mail.is_up hosts h log) (subst (λ (y : Host). mail.is_up hosts y log ≡ true) (sym (same_host-true h g e)) up) down)
+    off down false e = all_told_by g false e ns [] kept (idle down)
+
+  down_follows : (hosts : List Host) (g : Host) (moments : List Moment) → Follows hosts moments → Follows hosts (Crossed (crossing.Down g) ∷ moments)
+  down_follows hosts g moments old = record { are = down_by g (known moments) (Lives_in moments) old.are (same_host h g) refl; idle = off (same_host h g) refl } where
+    off : (c : Bool) → same_host h g ≡ c → (if c then false else mail.is_up hosts h (crossings_of moments)) ≡ false → AreKnown [] (where_it (lives_on g) life_ended (Lives_in moments))
+    off true f down = down_by g (known moments) (Lives_in moments) old.are true f
+    off false f down = down_by g [] (Lives_in moments) (old.idle down) false f
+
+  -- a host that starts was down
+  up_follows : (hosts : List Host) (g : Host) (moments : List Moment) → mail.is_up hosts g (crossings_of moments) ≡ false → Follows hosts moments → Follows hosts (Crossed (crossing.Up g) ∷ moments)
+  up_follows hosts g moments was old = record { are = on (same_host h g) refl; idle = off (same_host h g) refl } where
+    on : (b : Bool) → same_host h g ≡ b → AreKnown (if b then [] else known moments) (Lives_in moments)
+    on true e = old.idle (subst (λ (y : Host). mail.is_up hosts y (crossings_of moments) ≡ false) (sym (same_host-true h g e)) was)
+    on false e = old.are
+
+    off : (b : Bool) → same_host h g ≡ b → (if b then true else mail.is_up hosts h (crossings_of moments)) ≡ false → AreKnown [] (Lives_in moments)
+    off true e down = absurd (let r : true ≡ false = down in cc)
+    off false e down = old.idle down
+
+  pub follows : (hosts : List Host) (moments : List Moment) → mail.IsRun hosts (crossings_of moments) → IsTimeline hosts moments → Follows hosts moments
+  follows hosts [] run time = record { are = tt; idle = λ down. tt }
+  follows hosts (Crossed (crossing.Out m) ∷ moments) run time =
+      let old : Follows hosts moments = follows hosts moments run.1 time.1 in
+      let r : AreKnown (if same_host h m.flow.source then all_known origin p own foreign (notices_by (Crossed (crossing.Out m)) moments) (known moments) else known moments) (Lives_in (Crossed (crossing.Out m) ∷ moments))
+      × (mail.is_up hosts h (crossings_of moments) ≡ false → AreKnown [] (Lives_in (Crossed (crossing.Out m) ∷ moments))) =
+      acts hosts m.flow.source (notices_by (Crossed (crossing.Out m)) moments) (known moments) (kept_by (Crossed (crossing.Out m)) (kept_in moments)) (crossings_of moments) run.0.0 old.are old.idle in
+      record { are = r.0; idle = r.1 }
+  follows hosts (Crossed (crossing.In m) ∷ moments) run time =
+      let old : Follows hosts moments = follows hosts moments run.1 time.1 in
+      let r : AreKnown (if same_host h m.flow.destination then all_known origin p own foreign (notices_by (Crossed (crossing.In m)) moments) (known moments) else known moments) (Lives_in (Crossed (crossing.In m) ∷ moments))
+      × (mail.is_up hosts h (crossings_of moments) ≡ false → AreKnown [] (Lives_in (Crossed (crossing.In m) ∷ moments))) =
+      acts hosts m.flow.destination (notices_by (Crossed (crossing.In m)) moments) (known moments) (kept_by (Crossed (crossing.In m)) (kept_in moments)) (crossings_of moments) run.0.0 old.are old.idle in
+      record { are = r.0; idle = r.1 }
+  follows hosts (Crossed (crossing.Answer kind f) ∷ moments) run time =
+      let old : Follows hosts moments = follows hosts moments run.1 time.1 in
+      let r : AreKnown (if same_host h f.source then all_known origin p own foreign (notices_by (Crossed (crossing.Answer kind f)) moments) (known moments) else known moments) (Lives_in (Crossed (crossing.Answer kind f) ∷ moments))
+      × (mail.is_up hosts h (crossings_of moments) ≡ false → AreKnown [] (Lives_in (Crossed (crossing.Answer kind f) ∷ moments))) =
+      acts hosts f.source (notices_by (Crossed (crossing.Answer kind f)) moments) (known moments) (kept_by (Crossed (crossing.Answer kind f)) (kept_in moments)) (crossings_of moments) run.0.0 old.are old.idle in
+      record { are = r.0; idle = r.1 }
+  follows hosts (Crossed (crossing.Down g) ∷ moments) run time = down_follows hosts g moments (follows hosts moments run.1 time.1)
+  follows hosts (Crossed (crossing.Up g) ∷ moments) run time = up_follows hosts g moments run.0.1 (follows hosts moments run.1 time.1)
+  follows hosts (Asked g r ∷ moments) run time =
+      let old : Follows hosts moments = follows hosts moments run time.1 in
+      let next : AreKnown (if same_host h g then all_known origin p own foreign (notices_by (Asked g r) moments) (known moments) else known moments) (Lives_in (Asked g r ∷ moments))
+      × (mail.is_up hosts h (crossings_of moments) ≡ false → AreKnown [] (Lives_in (Asked g r ∷ moments))) =
+      acts hosts g (notices_by (Asked g r) moments) (known moments) (kept_by (Asked g r) (kept_in moments)) (crossings_of moments) time.0.0 (asked_known g r (known moments) (Lives_in moments) old.are) (λ down. asked_known g r [] (Lives_in moments) (old.idle down)) in
+      record { are = next.0; idle = next.1 }
+
+  -- ---- one of the lives
+
+  at_place : (x : book.Life) (n : ℕ) (k : List Life) (xs : List book.Life) → n < length xs → get_or xs n x ≡ x → goes x ≡ true → AreKnown k xs → IsIn (life_of origin x) k
+  at_place x n k [] lt e g known = absurd (omega (arith, lt))
+  at_place x zero k (y ∷ xs) lt e g known = subst (λ (z : book.Life). goes z ≡ true → IsIn (life_of origin z) k) e known.0 g
+  at_place x (suc n) k (y ∷ xs) lt e g known = at_place x n k xs (omega (arith, lt)) e g known.1
+
+  pub life_known : (hosts : List Host) (moments : List Moment) → mail.IsRun hosts (crossings_of moments) → IsTimeline hosts moments → (x : book.Life) → Contains (kept_in moments).book.lives x → is_between h p own foreign x ≡ true → x.ended ≡ false
+      → IsIn (life_of origin x) (known_in origin h p own foreign moments)
+  life_known hosts moments run time x there between on =
+      at_place x there.0 (known_in origin h p own foreign moments) (kept_in moments).book.lives there.1 there.2 (rw (between, on) refl) (follows hosts moments run time).are

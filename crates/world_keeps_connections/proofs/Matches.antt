@@ -1,0 +1,62 @@
+-- Lives of the book that go on at both ends of the same sockets match.
+use Rattle.std.proofs.Common.{◌≡◌, ℕ, true, false, ◌==◌, List, Option, Some, None, IsSome, refl, ap, sym, subst, ◌∙◌, eq-eqb}
+use Rattle.std.specs.List.{Contains}
+use Rattle.leader1822.specs.Host.{Host, same_host}
+use Rattle.leader1822.specs.Mailboxes as mail
+use Rattle.leader1822.proofs.lemmas.{same_host-refl}
+use Rattle.ncp_control.specs.Numbers.{is_send_socket}
+use Rattle.host_keeps_pairing.specs.Known.{ArePartners}
+use Rattle.leader1822.specs.Calls.{Seen}
+use Rattle.leader1822.specs.declared.crossing.Crossing.{Crossing}
+use Rattle.net_sim.specs.Clean.{HaveAddresses, IsLawful}
+use Rattle.net_sim.specs.World.{WorldState}
+use Rattle.world_keeps_pairing.proofs.lemmas.{between_itself, book_lives, book_run, life_matches, partner_named, served_in}
+use Rattle.net_sim.specs.Safe.{Match, before, control_flow, last_out, named, own_request, receives, sends}
+use Rattle.net_sim.specs.Story.{Moment}
+use Rattle.net_sim.specs.Timeline.{IsTimeline, crossings_of}
+use Rattle.net_sim.specs.Told.{kept_in}
+use Rattle.net_sim.specs.declared.life.Life as book
+use Rattle.net_sim.proofs.lemmas.{Coupled, coupled}
+use Rattle.world_keeps_pairing.specs.Free.{origin_in, place_or}
+use Rattle.world_keeps_pairing.specs.Lives.{is_between, life_of}
+use Rattle.world_keeps_connections.specs.Users.{AreOpposite}
+use Rattle.world_keeps_connections.proofs.Going.{life_known}
+use Rattle.world_keeps_connections.proofs.Users.{known_partners}
+
+-- the request that a place tells
+request_is : (o : Option ℕ) (x y : book.Life) → IsSome (named x o) → place_or 0 o ≡ y.own_stamp → x.foreign ≡ y.socket → y.foreign ≡ x.socket → named x o ≡ Some (own_request y)
+request_is None x y some e f g = absurd (let r : false ≡ true = some in cc)
+request_is (Some n) x y some e f g =
+    ap (λ (k : ℕ). Some (record { place = k; own = x.foreign; foreign = x.socket })) e
+    ∙ ap (λ (k : ℕ). Some (record { place = y.own_stamp; own = k; foreign = x.socket })) f
+    ∙ ap (λ (k : ℕ). Some (record { place = y.own_stamp; own = y.socket; foreign = k })) (sym g)
+
+between : (x y : book.Life) → AreOpposite x y → is_between x.peer x.host x.foreign x.socket y ≡ true
+between x y o =
+    let a : same_host x.peer y.host ≡ true = subst (λ (z : Host). same_host x.peer z ≡ true) o.0 (same_host-refl x.peer) in
+    let b : same_host x.host y.peer ≡ true = subst (λ (z : Host). same_host x.host z ≡ true) (sym o.1) (same_host-refl x.host) in
+    let c : (y.socket == x.foreign) ≡ true = eq-eqb y.socket x.foreign (sym o.2) in
+    let d : (y.foreign == x.socket) ≡ true = eq-eqb y.foreign x.socket o.3 in
+    rw (a, b, c, d) refl
+
+pub live_match : (hosts : List Host) (moments : List Moment) → HaveAddresses hosts → mail.IsRun hosts (crossings_of moments) → IsTimeline hosts moments → (x y : book.Life) → Contains (kept_in moments).book.lives x → Contains (kept_in moments).book.lives y
+    → x.ended ≡ false → y.ended ≡ false → AreOpposite x y → receives x ≡ true → sends y ≡ true → Match (crossings_of moments) x y
+live_match hosts moments addresses run time x y here there on also o receiving sending =
+    let k : Coupled hosts moments = coupled hosts addresses moments run time in
+    let odd : is_send_socket x.foreign ≡ true = ap is_send_socket o.2 ∙ sending in
+    let partners : ArePartners (life_of (origin_in (crossings_of moments) x.host x.peer) x) (life_of (origin_in (crossings_of moments) x.peer x.host) y) =
+    known_partners hosts moments addresses run time x.host x.peer (record { receive = x.socket; send = x.foreign }) receiving odd
+    (life_of (origin_in (crossings_of moments) x.host x.peer) x) (life_of (origin_in (crossings_of moments) x.peer x.host) y)
+    (life_known (origin_in (crossings_of moments) x.host x.peer) x.host x.peer x.socket x.foreign hosts moments run time x here (between_itself x) on)
+    (life_known (origin_in (crossings_of moments) x.peer x.host) x.peer x.host x.foreign x.socket hosts moments run time y there (between x y o) also) in
+    life_matches hosts moments k.story k.run run (served_in hosts moments time) x y here there receiving
+    (request_is (last_out (control_flow x.peer x.host) (before x.partner_stamp (crossings_of moments))) x y (partner_named hosts moments k.story k.run run (served_in hosts moments time) x here) partners.0 o.2 o.3)
+
+-- ---- over a carrier
+
+pub world_match : {C : Type 0} (seen : C → Seen) (hosts : List Host) (w : WorldState C) → IsLawful seen hosts w → (x y : book.Life) → Contains w.kept.book.lives x → Contains w.kept.book.lives y
+    → x.ended ≡ false → y.ended ≡ false → AreOpposite x y → receives x ≡ true → sends y ≡ true → Match w.kept.book.crossings x y
+world_match seen hosts w lawful x y here there on also o receiving sending =
+    subst (λ (log : List Crossing). Match log x y) (sym lawful.whole.crossings)
+    (live_match hosts lawful.whole.moments lawful.addresses (book_run seen hosts w lawful) lawful.whole.timeline x y (subst (λ (lives : List book.Life). Contains lives x) (book_lives seen hosts w lawful) here)
+    (subst (λ (lives : List book.Life). Contains lives y) (book_lives seen hosts w lawful) there) on also o receiving sending)

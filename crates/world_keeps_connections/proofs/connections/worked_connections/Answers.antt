@@ -1,0 +1,44 @@
+use Rattle.std.proofs.Common.{◌≡◌, true, false, Some, None, refl, sym, ◌∙◌, arith}
+use Rattle.host_services.specs.declared.report.Report.TheVariants as report
+use Rattle.icp.specs.declared.outcome.Outcome.TheVariants as outcome
+use Rattle.net_sim.specs.Safe.{own_request}
+use Rattle.sockets.specs.Worked.{first, second}
+use Rattle.world_keeps_connections.specs.WorkedConnections.{server_sends}
+use Rattle.world_keeps_connections.proofs.connections.worked_connections.Goals as goal
+
+pub returns-clause-over : goal.returns-clause-over
+returns-clause-over c = λ book a b own other x e k. let both : true ≡ false = sym e ∙ k.live in absurd (cc)
+
+pub returns-clause-socket : goal.returns-clause-socket
+returns-clause-socket c = λ book a b other x e k. let both : 101 ≡ 100 = sym e ∙ k.socket in omega (arith, both)
+
+pub returns-clause-foreign : goal.returns-clause-foreign
+returns-clause-foreign c = λ book a b own x e k. let both : 18 ≡ 19 = sym e ∙ k.foreign in omega (arith, both)
+
+pub returns-clause-odd : goal.returns-clause-odd
+returns-clause-odd c = λ book server user u x y z t k. let both : false ≡ true = k.even_base in absurd (cc)
+
+pub returns-clause-joined : goal.returns-clause-joined
+returns-clause-joined c = record {
+  served = record { entry = record { host = first; notices = 2; report = report.Server (outcome.Done 100 101) }; there = (0, omega arith, refl); by = refl; report = refl };
+  asked = record { entry = record { host = second; notices = 4; report = report.User (outcome.Done 18 19) }; there = (1, omega arith, refl); by = refl; report = refl };
+  even_base = refl;
+  even_own = refl;
+  server_hears = record { there = (0, omega arith, refl); host = refl; socket = refl; peer = refl; foreign = refl; live = refl };
+  server_speaks = record { there = (1, omega arith, refl); host = refl; socket = refl; peer = refl; foreign = refl; live = refl };
+  user_hears = record { there = (2, omega arith, refl); host = refl; socket = refl; peer = refl; foreign = refl; live = refl };
+  user_speaks = record { there = (3, omega arith, refl); host = refl; socket = refl; peer = refl; foreign = refl; live = refl };
+}
+
+pub returns-clause-pairs : goal.returns-clause-pairs
+returns-clause-pairs c = (
+  record { receiving = refl; sending = refl; peers = (refl, refl); sockets = (refl, refl); asked = refl; answered = refl },
+  record { receiving = refl; sending = refl; peers = (refl, refl); sockets = (refl, refl); asked = refl; answered = refl },
+)
+
+pub returns-clause-others : goal.returns-clause-others
+returns-clause-others c =
+    (λ m. let both : 101 ≡ 19 = m.sockets.0 in omega (arith, both), λ m. let both : 19 ≡ 101 = m.sockets.0 in omega (arith, both))
+
+pub returns-clause-older : goal.returns-clause-older
+returns-clause-older c = λ m. let both : None ≡ Some (own_request server_sends) = m.asked in absurd (cc)

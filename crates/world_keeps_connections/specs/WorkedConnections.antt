@@ -1,0 +1,30 @@
+-- A small book in which an initial connection is finished: words for worked examples.
+use Rattle.std.specs.Prelude.{[], ◌∷◌}
+use Rattle.host_pairs.specs.declared.notice.Notice.TheVariants as notice
+use Rattle.host_services.specs.declared.report.Report.TheVariants as report
+use Rattle.icp.specs.declared.outcome.Outcome.TheVariants as outcome
+use Rattle.net_sim.specs.Book.{Kept, all_crossed, all_reported, new_life, opening_kept, book_told}
+use Rattle.net_sim.specs.declared.life.Life.{Life}
+use Rattle.net_sim.specs.Worked.{crossings}
+use Rattle.sockets.specs.Worked.{first, second}
+
+-- the first host is the server, with base 100, and the second the user, with socket 16. The server's two requests went out at place 0, and
+-- were taken at place 1; the user's went out at place 2, and were taken at place 4
+abbrev pub joined_kept : Kept
+joined_kept =
+    all_reported (record { host = first; notices = 2; report = report.Server (outcome.Done 100 101) } ∷ record { host = second; notices = 4; report = report.User (outcome.Done 18 19) } ∷ [])
+    (book_told second (notice.Opened 19 first 100 2 1) (book_told second (notice.Opened 18 first 101 2 1)
+    (book_told first (notice.Opened 101 second 18 0 4) (book_told first (notice.Opened 100 second 19 0 4) (all_crossed crossings opening_kept)))))
+
+-- the four ends
+abbrev pub server_receives : Life
+server_receives = new_life first 100 second 19 0 4
+
+abbrev pub server_sends : Life
+server_sends = new_life first 101 second 18 0 4
+
+abbrev pub user_receives : Life
+user_receives = new_life second 18 first 101 2 1
+
+abbrev pub user_sends : Life
+user_sends = new_life second 19 first 100 2 1

@@ -1,0 +1,109 @@
+-- What all lives of a world's moments have, by what each socket of each host has.
+use Rattle.std.proofs.Common.{◌≡◌, inl, inr, ℕ, ◌<◌, Bool, true, false, List, [], ◌∷◌, ◌++◌, length, slice_index_or, zero, suc, refl, ap, sym, subst, eq-eqb, arith}
+use Rattle.std.specs.List.{Contains}
+use Rattle.leader1822.specs.Calls.{Seen}
+use Rattle.leader1822.specs.Host.{Host, same_host}
+use Rattle.leader1822.specs.Mailboxes as mail
+use Rattle.leader1822.specs.declared.crossing.Crossing.{Crossing}
+use Rattle.leader1822.proofs.lemmas.{run_below, same_host-refl}
+use Rattle.sockets.specs.Pairs.{pair_with}
+use Rattle.net_sim.specs.declared.life.Life.{Life}
+use Rattle.net_sim.specs.Book.{Kept}
+use Rattle.net_sim.specs.Clean.{HaveAddresses, IsLawful}
+use Rattle.net_sim.specs.Safe.{AreHanded, IsGranted, receives}
+use Rattle.net_sim.specs.Story.{Moment, program}
+use Rattle.net_sim.specs.Timeline.{IsTimeline, crossings_of}
+use Rattle.net_sim.specs.Told.{kept_in}
+use Rattle.net_sim.specs.World.{WorldState}
+use Rattle.world_keeps_lives.specs.Lives.{EachIn, EachOn, HasOpenEnd, IsLifeOf, IsOwned, NoneOf, at_socket, mine_on}
+use Rattle.world_keeps_lives.proofs.Books.{One, each_weaker}
+use Rattle.world_keeps_lives.proofs.Hosts.{Holds}
+use Rattle.world_keeps_lives.proofs.Moments.{held}
+
+-- ---- lists
+
+abbrev Any : Life → List Bool → Type 0
+Any x t = Unit {0}
+
+own_socket : (x : Life) → at_socket x.host x.socket x ≡ true
+own_socket x = rw (same_host-refl x.host, eq-eqb x.socket x.socket refl) refl
+
+found_from : (a : Host) (k : ℕ) (P : Life → List Bool → Type 0) (lives : List Life) (handed : List (List Bool)) (x : Life) (i : ℕ) → i < length lives → slice_index_or lives i x ≡ x → EachOn a k P lives handed
+    → (t : List Bool) × (at_socket a k x ≡ true → One P x t)
+found_from a k P [] handed x i less is e = absurd (omega (arith, less))
+found_from a k P (y ∷ lives) [] x i less is e = absurd e
+found_from a k P (y ∷ lives) (t ∷ handed) x zero less is e = (t, subst (λ (z : Life). at_socket a k z ≡ true → One P z t) is e.0)
+found_from a k P (y ∷ lives) (t ∷ handed) x (suc i) less is e = found_from a k P lives handed x i (omega (arith, less)) is e.1
+
+found : (a : Host) (k : ℕ) (P : Life → List Bool → Type 0) (lives : List Life) (handed : List (List Bool)) (x : Life) → Contains lives x → EachOn a k P lives handed → (t : List Bool) × (at_socket a k x ≡ true → One P x t)
+found a k P lives handed x there e = found_from a k P lives handed x there.0 there.1 there.2 e
+
+all_handed : (lives : List Life) (handed : List (List Bool)) → ((a : Host) (k : ℕ) → EachOn a k Any lives handed) → AreHanded lives handed
+all_handed [] [] e = refl
+all_handed [] (t ∷ handed) e = absurd (e (record { imp = 0; host = 0 }) 0)
+all_handed (x ∷ lives) [] e = absurd (e (record { imp = 0; host = 0 }) 0)
+all_handed (x ∷ lives) (t ∷ handed) e = ((λ s. ((e x.host x.socket).0 (own_socket x)).0.front s), all_handed lives handed (λ a k. (e a k).1))
+
+-- ---- moments
+
+module _ (hosts : List Host) (moments : List Moment) (addresses : HaveAddresses hosts) (run : mail.IsRun hosts (crossings_of moments)) (time : IsTimeline hosts moments) where
+  pub holds : (a : Host) (k : ℕ) → Holds a k (program a moments) (kept_in moments)
+  holds a k = held a k hosts addresses moments run time
+
+  any : (a : Host) (k : ℕ) → EachIn a k Any (kept_in moments)
+  any a k = elim (holds a k).socket [
+    | inl f ↦ each_weaker a k NoneOf Any (kept_in moments).book.lives (kept_in moments).handed (λ x t there i. tt) f.lives
+    | inr o ↦ each_weaker a k (IsLifeOf o.peer o.end) Any (kept_in moments).book.lives (kept_in moments).handed (λ x t there i. tt) o.lives
+  ]
+
+  pub handed : AreHanded (kept_in moments).book.lives (kept_in moments).handed
+  handed = all_handed (kept_in moments).book.lives (kept_in moments).handed any
+
+  pub taken : (receiver : Life) → Contains (kept_in moments).book.lives receiver → receives receiver ≡ true → IsGranted receiver receiver.messages (length receiver.bits)
+  taken x there r =
+      let f : (t : List Bool) × (at_socket x.host x.socket x ≡ true → One Any x t) = found x.host x.socket Any (kept_in moments).book.lives (kept_in moments).handed x there (any x.host x.socket) in
+      (f.1 (own_socket x)).0.within r
+
+  pub live : (x : Life) → Contains (kept_in moments).book.lives x → x.ended ≡ false → HasOpenEnd (program x.host moments) x
+  live x there goes = elim (holds x.host x.socket).socket [
+    | inl f ↦
+        (let i : (t : List Bool) × (at_socket x.host x.socket x ≡ true → One NoneOf x t) = found x.host x.socket NoneOf (kept_in moments).book.lives (kept_in moments).handed x there f.lives in
+        absurd ((i.1 (own_socket x)).1 goes))
+    | inr o ↦
+        (let i : (t : List Bool) × (at_socket x.host x.socket x ≡ true → One (IsLifeOf o.peer o.end) x t) = found x.host x.socket (IsLifeOf o.peer o.end) (kept_in moments).book.lives (kept_in moments).handed x there o.lives in
+        its o i.0 ((i.1 (own_socket x)).1 goes))
+  ] where
+    its : (o : IsOwned x.host x.socket (program x.host moments) (kept_in moments)) → (t : List Bool) → IsLifeOf o.peer o.end x t → HasOpenEnd (program x.host moments) x
+    its o t i = record {
+      end = o.end;
+      one = subst (λ (g : Host). mine_on x.socket (pair_with g (program x.host moments).peers).entries ≡ o.end ∷ []) (sym i.peers) o.one;
+      others = λ g off. o.others g (subst (λ (h : Host). same_host g h ≡ false) i.peers off);
+      foreign = i.foreign;
+      own = i.own;
+      partner = i.partner;
+    }
+
+-- ---- worlds
+
+module _ {C : Type 0} (seen : C → Seen) (hosts : List Host) (w : WorldState C) (lawful : IsLawful seen hosts w) where
+  book_run : mail.IsRun hosts (crossings_of lawful.whole.moments)
+  book_run =
+      let all : mail.IsRun hosts (lawful.booked.unbooked ++ w.kept.book.crossings) = subst (λ (xs : List Crossing). mail.IsRun hosts xs) lawful.booked.book lawful.run in
+      subst (λ (xs : List Crossing). mail.IsRun hosts xs) lawful.whole.crossings (run_below hosts lawful.booked.unbooked w.kept.book.crossings all)
+
+  book_lives : w.kept.book.lives ≡ (kept_in lawful.whole.moments).book.lives
+  book_lives = ap (λ (k : Kept). k.book.lives) lawful.whole.kept
+
+  book_handed : w.kept.handed ≡ (kept_in lawful.whole.moments).handed
+  book_handed = ap (λ (k : Kept). k.handed) lawful.whole.kept
+
+  pub world_handed : AreHanded w.kept.book.lives w.kept.handed
+  world_handed =
+      subst (λ (lives : List Life). AreHanded lives w.kept.handed) (sym book_lives)
+      (subst (λ (ts : List (List Bool)). AreHanded (kept_in lawful.whole.moments).book.lives ts) (sym book_handed) (handed hosts lawful.whole.moments lawful.addresses book_run lawful.whole.timeline))
+
+  pub world_taken : (receiver : Life) → Contains w.kept.book.lives receiver → receives receiver ≡ true → IsGranted receiver receiver.messages (length receiver.bits)
+  world_taken x there r = taken hosts lawful.whole.moments lawful.addresses book_run lawful.whole.timeline x (subst (λ (lives : List Life). Contains lives x) book_lives there) r
+
+  pub world_live : (x : Life) → Contains w.kept.book.lives x → x.ended ≡ false → HasOpenEnd (program x.host lawful.whole.moments) x
+  world_live x there goes = live hosts lawful.whole.moments lawful.addresses book_run lawful.whole.timeline x (subst (λ (lives : List Life). Contains lives x) book_lives there) goes

@@ -1,0 +1,14 @@
+pub mod Ends
+pub mod Books
+pub mod Desks
+pub mod Steps
+pub mod Takes
+pub mod Goes
+pub mod Turns
+pub mod Hosts
+pub mod Owners
+pub mod Asks
+pub mod Moments
+pub mod Laws
+pub mod Rows
+pub mod lemmas

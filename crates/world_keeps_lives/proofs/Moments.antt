@@ -1,0 +1,164 @@
+-- One socket of a host, over all moments of a world.
+use Rattle.std.proofs.Common.{◌≡◌, inl, inr, ℕ, ◌==◌, Bool, true, false, if◌then◌else◌, List, [], ◌∷◌, None, refl, sym, subst}
+use Rattle.leader1822.specs.Host.{Host, same_host}
+use Rattle.leader1822.specs.Mailboxes as mail
+use Rattle.leader1822.specs.declared.crossing.Crossing.{Crossing}
+use Rattle.leader1822.specs.declared.crossing.Crossing.TheVariants as crossing
+use Rattle.leader1822.specs.declared.crossing.Inbound.TheVariants as inbound
+use Rattle.leader1822.proofs.lemmas.{same_host-refl, same_host-true}
+use Rattle.host_pairs.specs.declared.notice.Notice.{Notice}
+use Rattle.host_pairs.proofs.lemmas.{both}
+use Rattle.host_keeps_ranges.proofs.lemmas.{pair_range}
+use Rattle.sockets.specs.Accepting.{accepted}
+use Rattle.sockets.specs.Pairs.{NcpState, opening_state, pair_with}
+use Rattle.sockets.specs.Requests.{refusal, served, served_notices}
+use Rattle.sockets.specs.Sending.{offered}
+use Rattle.sockets.specs.declared.request.Request.{Request}
+use Rattle.sockets.specs.declared.request.Request.TheVariants as request
+use Rattle.net_sim.specs.declared.life.Life.{Life}
+use Rattle.net_sim.specs.Book.{Kept, all_told, asked, crossed, granted, lives_at, lives_on, opening_kept}
+use Rattle.net_sim.specs.Clean.{HaveAddresses}
+use Rattle.net_sim.specs.Story.{Asked, Crossed, Moment, places, program}
+use Rattle.net_sim.specs.Timeline.{IsTimeline, crossings_of}
+use Rattle.net_sim.specs.Told.{kept_in}
+use Rattle.net_sim.proofs.lemmas.{Coupled, coupled}
+use Rattle.world_keeps_pairing.specs.Free.{origin_in}
+use Rattle.world_keeps_pairing.proofs.lemmas.{AllTied, all_tied, are_origins, programs_ranged, served_in}
+use Rattle.world_keeps_lives.specs.Lives.{EachIn, IsLifeOf, NoneOf, at_socket}
+use Rattle.world_keeps_lives.proofs.Books.{all_away, away_at, each_apart, each_ended, each_ending, each_handed}
+use Rattle.world_keeps_lives.proofs.Desks.{clash}
+use Rattle.world_keeps_lives.proofs.Hosts.{HasEnds, Holds, answer_holds, message_holds, offer_holds}
+use Rattle.world_keeps_lives.proofs.Asks.{holds_same, request_holds}
+
+-- ---- what is known of all moments
+
+pub has_ends : (hosts : List Host) (moments : List Moment) → HaveAddresses hosts → mail.IsRun hosts (crossings_of moments) → IsTimeline hosts moments → (a p : Host) → HasEnds (origin_in (crossings_of moments) a p) (pair_with p (program a moments).peers)
+has_ends hosts moments addresses run time a p own foreign two = elim two [
+  | inl r ↦ (_, ((tied hosts moments addresses run time).tied a p).receiver (record { receive = own; send = foreign }) (r.0, r.1))
+  | inr s ↦ (_, ((tied hosts moments addresses run time).tied p a).sender (record { receive = foreign; send = own }) (s.1, s.0))
+] where
+  tied : (hosts : List Host) (moments : List Moment) → HaveAddresses hosts → mail.IsRun hosts (crossings_of moments) → IsTimeline hosts moments → AllTied (origin_in (crossings_of moments)) moments
+  tied hosts moments addresses run time =
+      let c : Coupled hosts moments = coupled hosts addresses moments run time in
+      all_tied hosts (origin_in (crossings_of moments)) moments (are_origins 0 (crossings_of moments) [] moments refl) c.story c.run (served_in hosts moments time)
+
+-- a host that isn't up has a program that does nothing
+idle_if : (a h : Host) (up : Bool) (s new : NcpState) → up ≡ false → (same_host a h ≡ true → up ≡ true) → s ≡ opening_state a → (if same_host a h then new else s) ≡ opening_state a
+idle_if a h up s new down needs is = by (same_host a h) refl where
+  by : (b : Bool) → same_host a h ≡ b → (if b then new else s) ≡ opening_state a
+  by true e = clash _ up (needs e) down
+  by false e = is
+
+up_at : (hosts : List Host) (a h : Host) (log : List Crossing) → mail.is_up hosts h log ≡ true → same_host a h ≡ true → mail.is_up hosts a log ≡ true
+up_at hosts a h log up e = subst (λ (g : Host). mail.is_up hosts g log ≡ true) (sym (same_host-true a h e)) up
+
+idle_program : (hosts : List Host) (a : Host) (moments : List Moment) → mail.IsRun hosts (crossings_of moments) → IsTimeline hosts moments → mail.is_up hosts a (crossings_of moments) ≡ false → program a moments ≡ opening_state a
+idle_program hosts a [] run time down = refl
+idle_program hosts a (Crossed (crossing.Out m) ∷ moments) run time down =
+    idle_if a m.flow.source (mail.is_up hosts a (crossings_of moments)) (program a moments) _ down (up_at hosts a m.flow.source (crossings_of moments) run.0.0) (idle_program hosts a moments run.1 time.1 down)
+idle_program hosts a (Crossed (crossing.In m) ∷ moments) run time down =
+    idle_if a m.flow.destination (mail.is_up hosts a (crossings_of moments)) (program a moments) _ down (up_at hosts a m.flow.destination (crossings_of moments) run.0.0) (idle_program hosts a moments run.1 time.1 down)
+idle_program hosts a (Crossed (crossing.Answer kind f) ∷ moments) run time down =
+    idle_if a f.source (mail.is_up hosts a (crossings_of moments)) (program a moments) _ down (up_at hosts a f.source (crossings_of moments) run.0.0) (idle_program hosts a moments run.1 time.1 down)
+idle_program hosts a (Crossed (crossing.Down h) ∷ moments) run time down = by (idle_program hosts a moments run.1 time.1) (same_host a h) refl down where
+  by : (mail.is_up hosts a (crossings_of moments) ≡ false → program a moments ≡ opening_state a) → (b : Bool) → same_host a h ≡ b → (if b then false else mail.is_up hosts a (crossings_of moments)) ≡ false → (if b then opening_state a else program a moments) ≡ opening_state a
+  by rest true e d = refl
+  by rest false e d = rest d
+idle_program hosts a (Crossed (crossing.Up h) ∷ moments) run time down = by (idle_program hosts a moments run.1 time.1) (same_host a h) refl down where
+  by : (mail.is_up hosts a (crossings_of moments) ≡ false → program a moments ≡ opening_state a) → (b : Bool) → same_host a h ≡ b → (if b then true else mail.is_up hosts a (crossings_of moments)) ≡ false → (if b then opening_state a else program a moments) ≡ opening_state a
+  by rest true e d = refl
+  by rest false e d = rest d
+idle_program hosts a (Asked h r ∷ moments) run time down =
+    idle_if a h (mail.is_up hosts a (crossings_of moments)) (program a moments) _ down (up_at hosts a h (crossings_of moments) time.0.0) (idle_program hosts a moments run time.1 down)
+
+module _ (a : Host) (k : ℕ) where
+  -- a program that starts
+  opening_holds : (κ : Kept) → EachIn a k NoneOf κ → Holds a k (opening_state a) κ
+  opening_holds κ e = record { steady = record { refusing = λ p. tt; idle = λ p i. refl }; socket = inl (record { none = λ p. refl; lives = e }) }
+
+  -- all lives of a host end with it
+  down_lives : (P : Life → List Bool → Type 0) (κ : Kept) → EachIn a k P κ → EachIn a k NoneOf (crossed (crossing.Down a) κ)
+  down_lives P κ e = each_ended a k (lives_on a) P NoneOf κ.book.lives κ.handed (λ x t there goes i. all x there goes) e where
+    all : (x : Life) → at_socket a k x ≡ true → x.ended ≡ false → lives_on a x ≡ true
+    all x there goes = let host : same_host a x.host ≡ true = (both (same_host a x.host) (x.socket == k) there).0 in rw (host, goes) refl
+
+  ended_holds : (s : NcpState) (κ : Kept) → Holds a k s κ → Holds a k (opening_state a) (crossed (crossing.Down a) κ)
+  ended_holds s κ h = elim h.socket [
+    | inl f ↦ opening_holds (crossed (crossing.Down a) κ) (down_lives NoneOf κ f.lives)
+    | inr o ↦ opening_holds (crossed (crossing.Down a) κ) (down_lives (IsLifeOf o.peer o.end) κ o.lives)
+  ]
+
+  -- what another host's user asks for
+  asked_away : (h : Host) (r : Request) (κ : Kept) → same_host h a ≡ false → (P : Life → List Bool → Type 0) → EachIn a k P κ → EachIn a k P (asked h r κ)
+  asked_away h (request.Contact p) κ off P e = e
+  asked_away h (request.Listen socket size) κ off P e = e
+  asked_away h (request.OpenSend p own foreign size) κ off P e = e
+  asked_away h (request.OpenReceive p own foreign) κ off P e = e
+  asked_away h (request.Send socket bits) κ off P e =
+      each_handed a k (lives_at h socket) bits P P κ.book.lives κ.handed (λ x t there on o. absurd (away_at a k h socket x off there on)) (λ x t there out o. o) e
+  asked_away h (request.Grant socket messages bits) κ off P e = each_apart a k (lives_at h socket) (granted messages bits) P κ.book.lives κ.handed (λ x. refl) (λ x. away_at a k h socket x off) e
+  asked_away h (request.AskBack socket messages bits) κ off P e = e
+  asked_away h (request.Interrupt socket) κ off P e = e
+  asked_away h (request.Close socket) κ off P e = e
+  asked_away h (request.Echo p octet) κ off P e = e
+
+  -- another host
+  away : (h : Host) (ns : List Notice) (s : NcpState) (κ next : Kept) → same_host a h ≡ false → ((P : Life → List Bool → Type 0) → EachIn a k P κ → EachIn a k P next) → Holds a k s κ → Holds a k s (all_told h ns next)
+  away h ns s κ next off w e = holds_same a k s κ (all_told h ns next) (λ P i. all_away a k P h ns next (turned (same_host h a) refl) (w P i)) e where
+    turned : (b : Bool) → same_host h a ≡ b → b ≡ false
+    turned true f = clash (true ≡ false) (same_host a h) (subst (λ (g : Host). same_host g h ≡ true) (same_host-true h a f) (same_host-refl h)) off
+    turned false f = refl
+
+  -- one host or another acts
+  acts : (h : Host) (ns : Host → List Notice) (s new : NcpState) (κ : Kept) (next : Host → Kept) → (same_host a h ≡ true → Holds a k new (all_told a (ns a) (next a))) → (same_host a h ≡ false → (P : Life → List Bool → Type 0) → EachIn a k P κ → EachIn a k P (next h))
+      → Holds a k s κ → Holds a k (if same_host a h then new else s) (all_told h (ns h) (next h))
+  acts h ns s new κ next here there e = by (same_host a h) refl where
+    by : (b : Bool) → same_host a h ≡ b → Holds a k (if b then new else s) (all_told h (ns h) (next h))
+    by true f = subst (λ (g : Host). Holds a k new (all_told g (ns g) (next g))) (same_host-true a h f) (here f)
+    by false f = away h (ns h) s κ (next h) f (there f) e
+
+  -- what crosses is added
+  crossed_holds : (s : NcpState) (c : Crossing) (κ : Kept) → ((P : Life → List Bool → Type 0) → EachIn a k P κ → EachIn a k P (crossed c κ)) → Holds a k s κ → Holds a k s (crossed c κ)
+  crossed_holds s c κ w h = holds_same a k s κ (crossed c κ) w h
+
+  pub held : (hosts : List Host) → HaveAddresses hosts → (moments : List Moment) → mail.IsRun hosts (crossings_of moments) → IsTimeline hosts moments → Holds a k (program a moments) (kept_in moments)
+  held hosts addresses [] run time = opening_holds opening_kept tt
+  held hosts addresses (Crossed (crossing.Out m) ∷ moments) run time =
+      let old : Holds a k (program a moments) (kept_in moments) = held hosts addresses moments run.1 time.1 in
+      acts m.flow.source (λ h. (offered (program h moments) (places moments)).1) (program a moments) (offered (program a moments) (places moments)).0 (kept_in moments) (λ h. crossed (crossing.Out m) (kept_in moments))
+      (λ e. offer_holds a k (program a moments) (places moments) (crossed (crossing.Out m) (kept_in moments)) ((coupled hosts addresses moments run.1 time.1).order a)
+      (λ p. (pair_range p (program a moments).peers (programs_ranged moments (served_in hosts moments time.1) a).pairs).commands)
+      (λ p. (origin_in (crossings_of moments) a p, has_ends hosts moments addresses run.1 time.1 a p))
+      (crossed_holds (program a moments) (crossing.Out m) (kept_in moments) (λ P i. i) old))
+      (λ f P i. i) old
+  held hosts addresses (Crossed (crossing.In m) ∷ moments) run time =
+      let old : Holds a k (program a moments) (kept_in moments) = held hosts addresses moments run.1 time.1 in
+      acts m.flow.destination (λ h. (accepted (program h moments) (inbound.Message m) (places moments)).1) (program a moments) (accepted (program a moments) (inbound.Message m) (places moments)).0 (kept_in moments) (λ h. crossed (crossing.In m) (kept_in moments))
+      (λ e. message_holds a k (program a moments) m (places moments) (crossed (crossing.In m) (kept_in moments)) (crossed_holds (program a moments) (crossing.In m) (kept_in moments) (λ P i. i) old))
+      (λ f P i. i) old
+  held hosts addresses (Crossed (crossing.Answer kind f) ∷ moments) run time =
+      let old : Holds a k (program a moments) (kept_in moments) = held hosts addresses moments run.1 time.1 in
+      acts f.source (λ h. (accepted (program h moments) (inbound.Answer kind f) (places moments)).1) (program a moments) (accepted (program a moments) (inbound.Answer kind f) (places moments)).0 (kept_in moments) (λ h. crossed (crossing.Answer kind f) (kept_in moments))
+      (λ e. answer_holds a k (program a moments) kind f (places moments) (crossed (crossing.Answer kind f) (kept_in moments)) (crossed_holds (program a moments) (crossing.Answer kind f) (kept_in moments) (λ P i. i) old))
+      (λ g P i. i) old
+  held hosts addresses (Crossed (crossing.Down h) ∷ moments) run time =
+      let old : Holds a k (program a moments) (kept_in moments) = held hosts addresses moments run.1 time.1 in
+      acts h (λ g. []) (program a moments) (opening_state a) (kept_in moments) (λ g. crossed (crossing.Down g) (kept_in moments)) (λ e. ended_holds (program a moments) (kept_in moments) old)
+      (λ f P i. each_ending a k (lives_on h) P (kept_in moments).book.lives (kept_in moments).handed i) old
+  held hosts addresses (Crossed (crossing.Up h) ∷ moments) run time =
+      let old : Holds a k (program a moments) (kept_in moments) = held hosts addresses moments run.1 time.1 in
+      acts h (λ g. []) (program a moments) (opening_state a) (kept_in moments) (λ g. crossed (crossing.Up h) (kept_in moments))
+      (λ e. let down : mail.is_up hosts a (crossings_of moments) ≡ false = subst (λ (g : Host). mail.is_up hosts g (crossings_of moments) ≡ false) (sym (same_host-true a h e)) run.0.1 in
+      crossed_holds (opening_state a) (crossing.Up h) (kept_in moments) (λ P i. i) (subst (λ (s : NcpState). Holds a k s (kept_in moments)) (idle_program hosts a moments run.1 time.1 down) old))
+      (λ f P i. i) old
+  held hosts addresses (Asked h r ∷ moments) run time =
+      let old : Holds a k (program a moments) (kept_in moments) = held hosts addresses moments run time.1 in
+      acts h (λ g. served_notices (program g moments) r) (program a moments) (served (program a moments) r) (kept_in moments) (λ g. asked g r (kept_in moments))
+      (λ e. request_holds a k (program a moments) r (kept_in moments) ((coupled hosts addresses moments run time.1).order a)
+      (subst (λ (g : Host). refusal (program g moments) r ≡ None) (sym (same_host-true a h e)) time.0.2) old)
+      (λ f. asked_away h r (kept_in moments) (off f)) old where
+        off : same_host a h ≡ false → same_host h a ≡ false
+        off f = by (same_host h a) refl where
+          by : (b : Bool) → same_host h a ≡ b → b ≡ false
+          by true e = clash (true ≡ false) (same_host a h) (subst (λ (g : Host). same_host g h ≡ true) (same_host-true h a e) (same_host-refl h)) f
+          by false e = refl

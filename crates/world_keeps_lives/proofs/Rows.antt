@@ -1,0 +1,110 @@
+-- Ends, lives and programs, computed.
+use Rattle.std.proofs.Common.{◌≡◌, ℕ, true, false, List, [], ◌∷◌, Option, Some, None, refl, ap, ◌∙◌, arith}
+use Rattle.host_pairs.specs.Asked.{with_more_bits}
+use Rattle.host_pairs.specs.Commands as commands
+use Rattle.host_pairs.specs.Commands.{asked_on_link, asked_with_size}
+use Rattle.host_pairs.specs.Entries.{receiving_end, sending_end}
+use Rattle.host_pairs.specs.Parcels.{asked_at}
+use Rattle.host_pairs.specs.declared.entry.Entry.{Entry}
+use Rattle.sockets.specs.Pairs.{opening_state}
+use Rattle.sockets.specs.Worked.{first, second}
+use Rattle.net_sim.specs.declared.life.Life.{Life}
+use Rattle.net_sim.specs.Book.{carried, life_ended, granted, new_life, opening_kept, returned}
+use Rattle.world_keeps_lives.specs.Worked.{worked_end, with_one}
+use Rattle.world_keeps_lives.specs.Lives.{EachOn, HasOpenEnd, IsFreeSocket, IsFresh, IsLifeOf, IsOwned, IsSafe, IsSteady, NoneOf}
+
+pub row_early : IsFresh (with_more_bits (true ∷ []) (sending_end 33 16 8)) → ⊥
+row_early h = absurd (let r : true ∷ [] ≡ [] = (h refl).0 in cc)
+
+pub row_granted : IsFresh (commands.granted 1 5 (receiving_end 16 33 5)) → ⊥
+row_granted h = absurd (let r : 1 ≡ 0 = ap (λ a. a.messages) (h refl).1 in omega (arith, r))
+
+abbrev sender : Life
+sender = new_life first 33 second 16 6 10
+
+abbrev receiver : Life
+receiver = new_life first 16 second 33 6 10
+
+pub row_sent : IsSafe (carried (true ∷ []) (new_life first 33 second 16 6 10)) (true ∷ false ∷ [])
+row_sent = record { front = λ s. (false ∷ [], refl); within = λ r. absurd (let q : false ≡ true = r in cc) }
+
+pub row_more : IsSafe (carried (true ∷ []) (new_life first 33 second 16 6 10)) [] → ⊥
+row_more h = absurd (let r : true ∷ (h.front refl).0 ≡ [] = (h.front refl).1 in cc)
+
+pub row_others : IsSafe (carried (true ∷ []) (new_life first 33 second 16 6 10)) (false ∷ true ∷ []) → ⊥
+row_others h = absurd (let r : true ∷ (h.front refl).0 ≡ false ∷ true ∷ [] = (h.front refl).1 in cc)
+
+pub row_taken : IsSafe (carried (true ∷ []) (granted 1 5 (new_life first 16 second 33 6 10))) []
+row_taken = record { front = λ s. absurd (let q : false ≡ true = s in cc); within = λ r. record { messages = omega arith; bits = omega arith } }
+
+pub row_ungranted : IsSafe (carried (true ∷ []) (granted 0 5 (new_life first 16 second 33 6 10))) [] → ⊥
+row_ungranted h = absurd (omega (arith, (h.within refl).messages))
+
+pub row_longer : IsSafe (carried (true ∷ []) (granted 1 0 (new_life first 16 second 33 6 10))) [] → ⊥
+row_longer h = absurd (omega (arith, (h.within refl).bits))
+
+pub row_returned : IsSafe (carried (true ∷ []) (returned 1 0 (granted 1 5 (new_life first 16 second 33 6 10)))) [] → ⊥
+row_returned h = absurd (omega (arith, (h.within refl).messages))
+
+pub row_gone : EachOn first 16 NoneOf (life_ended (new_life first 16 second 33 6 10) ∷ []) ([] ∷ [])
+row_gone = (
+  (λ there. (record { front = λ s. absurd (let q : false ≡ true = s in cc); within = λ r. record { messages = omega arith; bits = omega arith } }, λ goes. absurd (let q : true ≡ false = goes in cc))),
+  tt,
+)
+
+pub row_goes : EachOn first 16 NoneOf (new_life first 16 second 33 6 10 ∷ []) ([] ∷ []) → ⊥
+row_goes h = (h.0 refl).1 refl
+
+pub row_life : IsLifeOf second worked_end (new_life first 16 second 33 6 10) []
+row_life = record {
+  peers = refl;
+  foreign = refl;
+  own = refl;
+  partner = refl;
+  waits = λ o s. refl;
+  left = λ r. record { messages = omega arith; bits = omega arith };
+}
+
+number_of : Option ℕ → ℕ
+number_of None = 0
+number_of (Some n) = n
+
+pub row_stamp : IsLifeOf second worked_end (new_life first 16 second 33 7 10) [] → ⊥
+unfolding number_of
+row_stamp h = absurd (let r : 6 ≡ 7 = ap number_of h.own in omega (arith, r))
+
+pub row_waits : IsLifeOf second (with_more_bits (true ∷ []) (asked_on_link 10 5 (asked_at 6 (sending_end 33 16 8)))) (new_life first 33 second 16 6 10) [] → ⊥
+row_waits h = absurd (let r : [] ≡ true ∷ [] = h.waits refl refl in cc)
+
+pub row_left : IsLifeOf second (commands.granted 1 5 worked_end) (new_life first 16 second 33 6 10) [] → ⊥
+row_left h = absurd (omega (arith, (h.left refl).messages))
+
+first_or : Entry → List Entry → Entry
+first_or d [] = d
+first_or d (e ∷ es) = e
+
+pub row_open : HasOpenEnd with_one (new_life first 16 second 33 6 10)
+row_open = record { end = worked_end; one = refl; others = λ other off. rw off refl; foreign = refl; own = refl; partner = refl }
+
+pub row_other : HasOpenEnd with_one (new_life first 16 second 33 7 10) → ⊥
+unfolding first_or number_of
+row_other h = absurd (
+    let same : worked_end ≡ h.end = ap (first_or worked_end) h.one in
+    let r : 6 ≡ 7 = ap (λ (e : Entry). number_of e.asked) same ∙ ap number_of h.own in
+    omega (arith, r)
+    )
+
+pub row_turned : HasOpenEnd with_one (new_life first 33 second 16 6 10) → ⊥
+row_turned h = absurd (let r : [] ≡ h.end ∷ [] = h.one in cc)
+
+pub row_free : IsFreeSocket first 16 (opening_state first) opening_kept
+row_free = record { none = λ p. refl; lives = tt }
+
+pub row_taken_up : IsFreeSocket first 16 with_one opening_kept → ⊥
+row_taken_up h = absurd (let r : worked_end ∷ [] ≡ [] = h.none second in cc)
+
+pub row_unowned : IsOwned first 16 (opening_state first) opening_kept → ⊥
+row_unowned h = absurd (let r : [] ≡ h.end ∷ [] = h.one in cc)
+
+pub row_steady : IsSteady (opening_state first)
+row_steady = record { refusing = λ p. tt; idle = λ p i. refl }

@@ -1,0 +1,51 @@
+use Rattle.std.proofs.Common.{refl}
+use Rattle.world_keeps_lives.proofs.Rows.{row_goes, row_gone, row_left, row_life, row_longer, row_more, row_others, row_returned, row_sent, row_stamp, row_taken, row_ungranted, row_waits}
+use Rattle.world_keeps_lives.proofs.law.worked_lives.Goals as goal
+
+pub returns-clause-sent : goal.returns-clause-sent
+returns-clause-sent c = row_sent
+
+pub returns-clause-more : goal.returns-clause-more
+returns-clause-more c = row_more
+
+pub returns-clause-others : goal.returns-clause-others
+returns-clause-others c = row_others
+
+pub returns-clause-taken : goal.returns-clause-taken
+returns-clause-taken c = row_taken
+
+pub returns-clause-ungranted : goal.returns-clause-ungranted
+returns-clause-ungranted c = row_ungranted
+
+pub returns-clause-longer : goal.returns-clause-longer
+returns-clause-longer c = row_longer
+
+pub returns-clause-returned : goal.returns-clause-returned
+returns-clause-returned c = row_returned
+
+pub returns-clause-here : goal.returns-clause-here
+returns-clause-here c = refl
+
+pub returns-clause-elsewhere : goal.returns-clause-elsewhere
+returns-clause-elsewhere c = (refl, refl)
+
+pub returns-clause-gone : goal.returns-clause-gone
+returns-clause-gone c = row_gone
+
+pub returns-clause-goes : goal.returns-clause-goes
+returns-clause-goes c = row_goes
+
+pub returns-clause-unequal : goal.returns-clause-unequal
+returns-clause-unequal c = λ h. h
+
+pub returns-clause-life : goal.returns-clause-life
+returns-clause-life c = row_life
+
+pub returns-clause-stamp : goal.returns-clause-stamp
+returns-clause-stamp c = row_stamp
+
+pub returns-clause-waits : goal.returns-clause-waits
+returns-clause-waits c = row_waits
+
+pub returns-clause-left : goal.returns-clause-left
+returns-clause-left c = row_left

@@ -1,0 +1,12 @@
+-- The lemmas of this crate that others may use: the proofs of headline and world_keeps_streams do. All others in proofs/ are its own.
+pub use Rattle.world_keeps_lives.proofs.Books.{all_told_append}
+pub use Rattle.world_keeps_lives.proofs.Desks.{AreAside, At, Elsewhere, IsLess, Near, Place, at_aside, clash, not_so, open_mine, open_parts}
+pub use Rattle.world_keeps_lives.proofs.Ends.{IsRefusing, found_changed, none_changed, refusing_found}
+pub use Rattle.world_keeps_lives.proofs.Goes.{IsOfTwo, Waits, all_go}
+pub use Rattle.world_keeps_lives.proofs.Hosts.{Holds, commands_take, same_turned, waits}
+pub use Rattle.world_keeps_lives.proofs.Laws.{live, taken, world_handed, world_taken}
+pub use Rattle.world_keeps_lives.proofs.Moments.{has_ends, held}
+pub use Rattle.world_keeps_lives.proofs.Owners.{owner_found}
+pub use Rattle.world_keeps_lives.proofs.Steps.{called_less, closed_less, good_queued, heard_less, sent_less}
+pub use Rattle.world_keeps_lives.proofs.Takes.{G, good_data, good_taken}
+pub use Rattle.world_keeps_lives.proofs.Turns.{GoodTurn, good_ready, good_reset}

@@ -1,0 +1,109 @@
+//! What a host's own program promises of its lives. The functions here do nothing: each clause is a law.
+
+ghost use Rattle.std.specs.Prelude.{◌≡◌, ◌⊎◌, ℕ, true, false, List, [], ◌∷◌, length};
+ghost use Rattle.std.specs.List.{Contains};
+ghost use Rattle.leader1822.specs.Host.{Host};
+ghost use Rattle.leader1822.specs.Mailboxes as mail;
+ghost use Rattle.net_sim.specs.declared.life.Life.{Life};
+ghost use Rattle.net_sim.specs.Clean.{HaveAddresses, IsLawful};
+ghost use Rattle.net_sim.specs.Safe.{AreHanded, IsGranted, receives};
+ghost use Rattle.net_sim.specs.Story.{Moment, program};
+ghost use Rattle.net_sim.specs.Timeline.{IsTimeline, crossings_of};
+ghost use Rattle.net_sim.specs.Told.{kept_in};
+ghost use Rattle.net_sim.specs.World.{WorldState};
+ghost use Rattle.host_pairs.specs.Asked.{with_more_bits};
+ghost use Rattle.host_pairs.specs.Commands as commands;
+ghost use Rattle.host_pairs.specs.Entries.{receiving_end, refused_end, sending_end};
+ghost use Rattle.host_pairs.specs.Parcels.{asked_at};
+ghost use Rattle.host_pairs.specs.declared.entry.Closing.TheVariants as closing;
+ghost use Rattle.sockets.specs.Pairs.{opening_state};
+ghost use Rattle.sockets.specs.Worked.{first, second};
+ghost use Rattle.net_sim.specs.Book.{carried, life_ended, granted, new_life, opening_kept, returned};
+ghost use Rattle.world_keeps_lives.specs.Lives.{AreRefusing, EachOn, HasOpenEnd, IsFreeSocket, IsFresh, IsLifeOf, IsOwned, IsSafe, IsSteady, NoneOf, at_socket, mine_on};
+ghost use Rattle.world_keeps_lives.specs.Worked.{worked_end, with_one};
+
+use leader1822::Carrier;
+
+/// What each host has, over every list of moments in which what crosses is a run of the mailboxes.
+pub fn programs()
+    // each of its sockets is free, or has one end of the host's own, whose lives are all that go on there
+    ensures sockets { (hosts : List Host) (moments : List Moment) → HaveAddresses hosts → mail.IsRun hosts (crossings_of moments) → IsTimeline hosts moments → (h : Host) (socket : ℕ) → IsFreeSocket h socket (program h moments) (kept_in moments) ⊎ IsOwned h socket (program h moments) (kept_in moments) }
+
+    // ends that aren't its own refuse, and pairs that aren't through a reset have none
+    ensures steady { (hosts : List Host) (moments : List Moment) → HaveAddresses hosts → mail.IsRun hosts (crossings_of moments) → IsTimeline hosts moments → (h : Host) → IsSteady (program h moments) }
+
+    // a life that goes on is that of the one end on its socket
+    ensures live { (hosts : List Host) (moments : List Moment) → HaveAddresses hosts → mail.IsRun hosts (crossings_of moments) → IsTimeline hosts moments → (x : Life) → Contains (kept_in moments).book.lives x → x.ended ≡ false → HasOpenEnd (program x.host moments) x }
+
+    // what a receiving life took, with what was returned, is within what it granted
+    ensures taken { (hosts : List Host) (moments : List Moment) → HaveAddresses hosts → mail.IsRun hosts (crossings_of moments) → IsTimeline hosts moments → (receiver : Life) → Contains (kept_in moments).book.lives receiver → receives receiver ≡ true → IsGranted receiver receiver.messages (length receiver.bits) }
+
+    // what each sending life sent is a prefix of what was handed over in it
+    ensures handed { (hosts : List Host) (moments : List Moment) → HaveAddresses hosts → mail.IsRun hosts (crossings_of moments) → IsTimeline hosts moments → AreHanded (kept_in moments).book.lives (kept_in moments).handed }
+{}
+
+/// The same of the book of every world, whatever its carrier is made of: the two clauses of the safe book that are about one host
+/// alone, and the end of each life that goes on, in the program that comes of the world's moments.
+pub fn worlds<C: Carrier>()
+    ensures live { (hosts : List Host) (w : WorldState C) → (lawful : IsLawful C.seen hosts w) → (x : Life) → Contains w.kept.book.lives x → x.ended ≡ false → HasOpenEnd (program x.host lawful.whole.moments) x }
+    ensures taken { (hosts : List Host) (w : WorldState C) → IsLawful C.seen hosts w → (receiver : Life) → Contains w.kept.book.lives receiver → receives receiver ≡ true → IsGranted receiver receiver.messages (length receiver.bits) }
+    ensures handed { (hosts : List Host) (w : WorldState C) → IsLawful C.seen hosts w → AreHanded w.kept.book.lives w.kept.handed }
+{}
+
+/// Ends.
+pub fn worked_ends()
+    // on a new end nothing waits and nothing is granted; an end that isn't open has neither bits nor counters
+    ensures fresh { IsFresh (sending_end 33 16 8) }
+    ensures early { IsFresh (with_more_bits (true ∷ []) (sending_end 33 16 8)) → ⊥ }
+    ensures granted { IsFresh (commands.granted 1 5 (receiving_end 16 33 5)) → ⊥ }
+
+    // that of a request which is refused isn't this host's own, nor are those on other sockets on this one
+    ensures mine { mine_on 33 (refused_end 33 16 9 ∷ sending_end 33 18 8 ∷ sending_end 35 18 8 ∷ []) ≡ sending_end 33 18 8 ∷ [] }
+    ensures refusing { AreRefusing (refused_end 33 16 9 ∷ sending_end 35 18 8 ∷ []) }
+    ensures kept { AreRefusing (record (refused_end 33 16 9) { closing = closing.No } ∷ []) → ⊥ }
+{}
+
+/// Lives of host `first`, which sends from socket 33 and receives on 16.
+pub fn worked_lives()
+    // what was sent is a prefix of what was handed over; not of less, and not of other bits
+    ensures sent { IsSafe (carried (true ∷ []) (new_life first 33 second 16 6 10)) (true ∷ false ∷ []) }
+    ensures more { IsSafe (carried (true ∷ []) (new_life first 33 second 16 6 10)) [] → ⊥ }
+    ensures others { IsSafe (carried (true ∷ []) (new_life first 33 second 16 6 10)) (false ∷ true ∷ []) → ⊥ }
+
+    // what was taken is granted, and wasn't returned
+    ensures taken { IsSafe (carried (true ∷ []) (granted 1 5 (new_life first 16 second 33 6 10))) [] }
+    ensures ungranted { IsSafe (carried (true ∷ []) (granted 0 5 (new_life first 16 second 33 6 10))) [] → ⊥ }
+    ensures longer { IsSafe (carried (true ∷ []) (granted 1 0 (new_life first 16 second 33 6 10))) [] → ⊥ }
+    ensures returned { IsSafe (carried (true ∷ []) (returned 1 0 (granted 1 5 (new_life first 16 second 33 6 10)))) [] → ⊥ }
+
+    // one that has ended is still of its socket, and of no other socket or host
+    ensures here { at_socket first 16 (life_ended (new_life first 16 second 33 6 10)) ≡ true }
+    ensures elsewhere { (at_socket second 16 (new_life first 16 second 33 6 10) ≡ false) × (at_socket first 18 (new_life first 16 second 33 6 10) ≡ false) }
+
+    // where none goes on, those that have ended are safe; each has what was handed over in it
+    ensures gone { EachOn first 16 NoneOf (life_ended (new_life first 16 second 33 6 10) ∷ []) ([] ∷ []) }
+    ensures goes { EachOn first 16 NoneOf (new_life first 16 second 33 6 10 ∷ []) ([] ∷ []) → ⊥ }
+    ensures unequal { EachOn first 16 NoneOf [] ([] ∷ []) → ⊥ }
+
+    // a life is that of the end with its two stamps
+    ensures life { IsLifeOf second worked_end (new_life first 16 second 33 6 10) [] }
+    ensures stamp { IsLifeOf second worked_end (new_life first 16 second 33 7 10) [] → ⊥ }
+
+    // what waits on it was handed over, and what is left of its grants was granted
+    ensures waits { IsLifeOf second (with_more_bits (true ∷ []) (commands.asked_on_link 10 5 (asked_at 6 (sending_end 33 16 8)))) (new_life first 33 second 16 6 10) [] → ⊥ }
+    ensures left { IsLifeOf second (commands.granted 1 5 worked_end) (new_life first 16 second 33 6 10) [] → ⊥ }
+{}
+
+/// A program with one open end, and one that starts.
+pub fn worked_programs()
+    // the life that begins with its two requests, and no other, is that of its end
+    ensures open { HasOpenEnd with_one (new_life first 16 second 33 6 10) }
+    ensures other { HasOpenEnd with_one (new_life first 16 second 33 7 10) → ⊥ }
+    ensures turned { HasOpenEnd with_one (new_life first 33 second 16 6 10) → ⊥ }
+
+    // a program that starts has each socket free
+    ensures free { IsFreeSocket first 16 (opening_state first) opening_kept }
+    ensures taken_up { IsFreeSocket first 16 with_one opening_kept → ⊥ }
+    ensures unowned { IsOwned first 16 (opening_state first) opening_kept → ⊥ }
+    ensures steady { IsSteady (opening_state first) }
+{}

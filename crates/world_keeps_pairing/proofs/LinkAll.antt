@@ -1,0 +1,71 @@
+-- Links are free at each moment of two programs.
+use Rattle.std.proofs.Common.{◌≡◌, Bool, true, false, if◌then◌else◌, List, [], ◌∷◌, None, refl, ap, sym, subst, ◌∙◌}
+use Rattle.leader1822.specs.Host.{Host, same_host}
+use Rattle.leader1822.specs.declared.address.Flow.{Flow}
+use Rattle.leader1822.specs.declared.crossing.Answer.{Answer}
+use Rattle.leader1822.specs.declared.crossing.Crossing.TheVariants as crossing
+use Rattle.leader1822.specs.declared.crossing.Inbound.TheVariants as inbound
+use Rattle.host_pairs.specs.Pair.{PairState}
+use Rattle.sockets.specs.Accepting.{accepted}
+use Rattle.sockets.specs.Pairs.{NcpState, opening_state, pair_with}
+use Rattle.sockets.specs.Requests.{refusal, served}
+use Rattle.sockets.specs.declared.request.Request.{Request}
+use Rattle.pairing_law.specs.Links.{Receiver, Sender, Step}
+use Rattle.pairing_law.specs.Places.{placed_event}
+use Rattle.reset_law.specs.Events.{Event}
+use Rattle.reset_law.specs.Stays as stay
+use Rattle.net_sim.specs.Projection.{event_by, event_of}
+use Rattle.net_sim.specs.Story.{Asked, Crossed, Moment, events_of, places, program}
+use Rattle.net_sim.proofs.lemmas.{by_request}
+use Rattle.world_keeps_pairing.specs.Free.{law_events}
+use Rattle.world_keeps_pairing.specs.Steps.{all_said, heard_in, steps, words_of}
+use Rattle.world_keeps_pairing.proofs.Claims.{Claim, heard_claims, said_claims}
+use Rattle.world_keeps_pairing.proofs.LinkCalls.{LinksOf, answer_links, request_links}
+use Rattle.world_keeps_pairing.proofs.LinkMoments.{heard_next, said_next}
+
+-- a host's ends with a peer have the links that were said and heard
+abbrev pub Linked : Host → Host → List Moment → Type 0
+Linked a b moments = LinksOf (said_claims (steps a b (law_events moments))) (heard_claims (steps b a (law_events moments))) (pair_with b (program a moments).peers)
+
+-- ---- moments that say nothing of these two
+
+pub heard_nothing : (stays : Bool) (xs : List Step) → heard_in stays Sender [] xs ≡ xs
+heard_nothing true xs = refl
+heard_nothing false xs = refl
+
+pub as_before : (a b : Host) (e : Event) (older : List Event) (q : PairState) → stay.said_by a b 0 e ≡ [] → stay.heard_by b a 0 e ≡ [] → LinksOf (said_claims (steps a b older)) (heard_claims (steps b a older)) q
+    → LinksOf (said_claims (steps a b (e ∷ older))) (heard_claims (steps b a (e ∷ older))) q
+as_before a b e older q said heard h =
+    let s : said_claims (steps a b (e ∷ older)) ≡ said_claims (steps a b older) =
+    said_next a b e older ∙ ap (λ (ts : List (List Bool)). said_claims (all_said Receiver (words_of Receiver ts) (steps a b older))) said in
+    let t : heard_claims (steps b a (e ∷ older)) ≡ heard_claims (steps b a older) =
+    heard_next b a e older ∙ ap (λ (ts : List (List Bool)). heard_claims (heard_in (stay.stays a b older) Sender (words_of Receiver ts) (steps b a older))) heard ∙ ap heard_claims (heard_nothing (stay.stays a b older) (steps b a older)) in
+    subst (λ (cs : List Claim). LinksOf cs (heard_claims (steps b a (e ∷ older))) q) (sym s) (subst (λ (cs : List Claim). LinksOf (said_claims (steps a b older)) cs q) (sym t) h)
+
+pub if_links : (said taken : List Claim) (b : Host) (c : Bool) (t old : NcpState) → (c ≡ true → LinksOf said taken (pair_with b t.peers)) → LinksOf said taken (pair_with b old.peers) → LinksOf said taken (pair_with b (if c then t else old).peers)
+if_links said taken b true t old k h = k refl
+if_links said taken b false t old k h = h
+
+pub down_links : (a b g : Host) (moments : List Moment) → Linked a b moments → Linked a b (Crossed (crossing.Down g) ∷ moments)
+down_links a b g moments h =
+    as_before a b (placed_event (event_of (crossing.Down g)) (events_of moments)) (law_events moments) (pair_with b (program a (Crossed (crossing.Down g) ∷ moments)).peers) refl refl
+    (if_links _ _ b (same_host a g) (opening_state a) (program a moments) (λ e. record { sends = tt; names = tt; own = tt; single = λ l. tt }) h)
+
+pub up_links : (a b g : Host) (moments : List Moment) → Linked a b moments → Linked a b (Crossed (crossing.Up g) ∷ moments)
+up_links a b g moments h =
+    as_before a b (placed_event (event_of (crossing.Up g)) (events_of moments)) (law_events moments) (pair_with b (program a (Crossed (crossing.Up g) ∷ moments)).peers) refl refl
+    (if_links _ _ b (same_host a g) (opening_state a) (program a moments) (λ e. record { sends = tt; names = tt; own = tt; single = λ l. tt }) h)
+
+pub told_links : (a b : Host) (kind : Answer) (f : Flow) (moments : List Moment) → Linked a b moments → Linked a b (Crossed (crossing.Answer kind f) ∷ moments)
+told_links a b kind f moments h =
+    as_before a b (placed_event (event_of (crossing.Answer kind f)) (events_of moments)) (law_events moments) (pair_with b (program a (Crossed (crossing.Answer kind f) ∷ moments)).peers) refl refl
+    (if_links _ _ b (same_host a f.source) (accepted (program a moments) (inbound.Answer kind f) (places moments)).0 (program a moments)
+    (λ e. answer_links (said_claims (steps a b (law_events moments))) (heard_claims (steps b a (law_events moments))) (program a moments) kind f (places moments) b h) h)
+
+pub asked_links : (a b g : Host) (r : Request) (moments : List Moment) → (same_host a g ≡ true → refusal (program a moments) r ≡ None) → Linked a b moments → Linked a b (Asked g r ∷ moments)
+asked_links a b g r moments ok h =
+    as_before a b (placed_event (event_by g r) (events_of moments)) (law_events moments) (pair_with b (program a (Asked g r ∷ moments)).peers)
+    (by_request (λ e. stay.said_by a b 0 (placed_event e (events_of moments)) ≡ []) g r (λ peer. refl) refl)
+    (by_request (λ e. stay.heard_by b a 0 (placed_event e (events_of moments)) ≡ []) g r (λ peer. refl) refl)
+    (if_links _ _ b (same_host a g) (served (program a moments) r) (program a moments)
+    (λ e. request_links (said_claims (steps a b (law_events moments))) (heard_claims (steps b a (law_events moments))) (program a moments) r b (ok e) h) h)

@@ -1,0 +1,220 @@
+-- What orders say at one pair of sockets, by words and by marks.
+use Rattle.std.proofs.Common.{◌≡◌, ℕ, ◌%◌, ◌==◌, Bool, true, false, ◌&&◌, if◌then◌else◌, List, [], ◌∷◌, ◌++◌, refl, ap, sym, ◌∙◌, arith}
+use Rattle.std.proofs.lemmas.Bool.{eqb-true}
+use Rattle.std.proofs.lemmas.List.{append-nil}
+use Rattle.ncp_control.specs.Numbers.{is_receive_socket, is_send_socket}
+use Rattle.ncp_control.specs.declared.command.Command.TheVariants as command
+use Rattle.host_pairs.specs.Control.{Order, Legal, Wrong, orders_of}
+use Rattle.host_pairs.proofs.lemmas.{both}
+use Rattle.host_keeps_ranges.specs.Ranges.{IsOrder, AreOrders}
+use Rattle.host_keeps_ranges.proofs.lemmas.{text_good}
+use Rattle.host_keeps_pairing.specs.Words.{mark_in, marks_in}
+use Rattle.host_keeps_pairing.specs.Spoken.{untagged}
+use Rattle.host_keeps_pairing.proofs.lemmas.{eqb-sym, untagged_is}
+use Rattle.pairing_law.specs.Marks.{Mark, Ask, Close}
+use Rattle.pairing_law.specs.Places.{tagged}
+use Rattle.pairing_law.specs.Links.{Sockets, same, Word, Who, Receiver, Sender}
+use Rattle.pairing_law.proofs.lemmas.{at, put}
+use Rattle.world_keeps_pairing.specs.Steps.{word, word_by, words_by, words_of}
+use Rattle.world_keeps_pairing.proofs.Sides.{at_texts}
+
+-- a receiving socket and a sending one
+abbrev pub IsPair : Sockets → Type 0
+IsPair s = (is_receive_socket s.receive ≡ true) × (is_send_socket s.send ≡ true)
+
+abbrev pub own_of : Who → Sockets → ℕ
+own_of Receiver s = s.receive
+own_of Sender s = s.send
+
+abbrev pub foreign_of : Who → Sockets → ℕ
+foreign_of Receiver s = s.send
+foreign_of Sender s = s.receive
+
+pub and_turned : (s t : Bool) → (s && t) ≡ (t && s)
+and_turned true true = refl
+and_turned true false = refl
+and_turned false true = refl
+and_turned false false = refl
+
+pub even_odd : (n : ℕ) → is_receive_socket n ≡ true → is_send_socket n ≡ true → ⊥
+even_odd n e o = let a : n % 2 ≡ 0 = eqb-true (n % 2) 0 e in let b : n % 2 ≡ 1 = eqb-true (n % 2) 1 o in absurd (omega (arith, a, b))
+
+-- sockets of which one is another's sort aren't these
+apart_by : (m n a b : ℕ) → (m ≡ a → ⊥) → (c : Bool) → (m == a && n == b) ≡ c → c ≡ false
+apart_by m n a b never true e = absurd (never (eqb-true m a (both (m == a) (n == b) e).0))
+apart_by m n a b never false e = refl
+
+apart : (m n a b : ℕ) → (m ≡ a → ⊥) → (m == a && n == b) ≡ false
+apart m n a b never = apart_by m n a b never (m == a && n == b) refl
+
+pub at_join : (s : Sockets) (xs ys : List Word) → at s (xs ++ ys) ≡ at s xs ++ at s ys
+at_join s [] ys = refl
+at_join s (w ∷ xs) ys = by (same s w.sockets) (at_join s xs ys) where
+  by : (b : Bool) → at s (xs ++ ys) ≡ at s xs ++ at s ys → put b w.mark (at s (xs ++ ys)) ≡ put b w.mark (at s xs) ++ at s ys
+  by true h = ap (λ (l : List Mark). w.mark ∷ l) h
+  by false h = h
+
+module _ (s : Sockets) (pair : IsPair s) where
+  word_at : (r n link : ℕ) (m : Mark) (b c : Bool) → (is_receive_socket r && is_send_socket n) ≡ b → (r == s.receive && n == s.send) ≡ c
+      → at s (if b then record { sockets = record { receive = r; send = n }; link = link; mark = m } ∷ [] else []) ≡ (if c then m ∷ [] else [])
+  word_at r n link m true c e f =
+      let is : (s.receive == r && s.send == n) ≡ c = ap (λ (t : Bool). t && s.send == n) (eqb-sym s.receive r) ∙ ap (λ (t : Bool). r == s.receive && t) (eqb-sym s.send n) ∙ f in
+      ap (λ (t : Bool). if t then m ∷ [] else []) is
+  word_at r n link m false true e f =
+      let h : ((r == s.receive) ≡ true) × ((n == s.send) ≡ true) = both (r == s.receive) (n == s.send) f in
+      let er : is_receive_socket r ≡ true = ap is_receive_socket (eqb-true r s.receive h.0) ∙ pair.0 in
+      let en : is_send_socket n ≡ true = ap is_send_socket (eqb-true n s.send h.1) ∙ pair.1 in
+      absurd (let no : true ≡ false = sym (ap (λ (t : Bool). t && is_send_socket n) er ∙ en) ∙ e in cc)
+  word_at r n link m false false e f = refl
+
+  at_word : (r n link : ℕ) (m : Mark) → at s (word r n link m) ≡ (if r == s.receive && n == s.send then m ∷ [] else [])
+  at_word r n link m = word_at r n link m (is_receive_socket r && is_send_socket n) (r == s.receive && n == s.send) refl refl
+
+  when_turned : (m : Mark) (a b : Bool) → (if a && b then m ∷ [] else []) ≡ (if b && a then m ∷ [] else [])
+  when_turned m a b = ap (λ (t : Bool). if t then m ∷ [] else []) (and_turned a b)
+
+  -- what one order says
+  pub order_at : (who : Who) (place : ℕ) (o : Order) → IsOrder o → at s (word_by who place o) ≡ mark_in place (own_of who s) (foreign_of who s) o
+  order_at Receiver place (Wrong code octets) h = refl
+  order_at Receiver place (Legal (command.Rts r n link)) h = at_word r n link (Ask place)
+  order_at Receiver place (Legal (command.Str n r size)) h =
+      ap (λ (t : Bool). if t then Ask place ∷ [] else []) (sym (apart n r s.receive s.send (λ e. even_odd n (ap is_receive_socket e ∙ pair.0) h.1)))
+  order_at Receiver place (Legal (command.Cls own foreign)) h = at_word own foreign 0 Close
+  order_at Receiver place (Legal command.Nop) h = refl
+  order_at Receiver place (Legal (command.All link messages bits)) h = refl
+  order_at Receiver place (Legal (command.Gvb link messages bits)) h = refl
+  order_at Receiver place (Legal (command.Ret link messages bits)) h = refl
+  order_at Receiver place (Legal (command.Inr link)) h = refl
+  order_at Receiver place (Legal (command.Ins link)) h = refl
+  order_at Receiver place (Legal (command.Eco octet)) h = refl
+  order_at Receiver place (Legal (command.Erp octet)) h = refl
+  order_at Receiver place (Legal (command.Err code detail)) h = refl
+  order_at Receiver place (Legal command.Rst) h = refl
+  order_at Receiver place (Legal command.Rrp) h = refl
+  order_at Sender place (Wrong code octets) h = refl
+  order_at Sender place (Legal (command.Rts r n link)) h =
+      ap (λ (t : Bool). if t then Ask place ∷ [] else []) (sym (apart r n s.send s.receive (λ e. even_odd r h.1 (ap is_send_socket e ∙ pair.1))))
+  order_at Sender place (Legal (command.Str n r size)) h = at_word r n 0 (Ask place) ∙ when_turned (Ask place) (r == s.receive) (n == s.send)
+  order_at Sender place (Legal (command.Cls own foreign)) h = at_word foreign own 0 Close ∙ when_turned Close (foreign == s.receive) (own == s.send)
+  order_at Sender place (Legal command.Nop) h = refl
+  order_at Sender place (Legal (command.All link messages bits)) h = refl
+  order_at Sender place (Legal (command.Gvb link messages bits)) h = refl
+  order_at Sender place (Legal (command.Ret link messages bits)) h = refl
+  order_at Sender place (Legal (command.Inr link)) h = refl
+  order_at Sender place (Legal (command.Ins link)) h = refl
+  order_at Sender place (Legal (command.Eco octet)) h = refl
+  order_at Sender place (Legal (command.Erp octet)) h = refl
+  order_at Sender place (Legal (command.Err code detail)) h = refl
+  order_at Sender place (Legal command.Rst) h = refl
+  order_at Sender place (Legal command.Rrp) h = refl
+
+  orders_at : (who : Who) (place : ℕ) (orders : List Order) → AreOrders orders → at s (words_by who place orders) ≡ marks_in place (own_of who s) (foreign_of who s) orders
+  orders_at who place [] h = refl
+  orders_at who place (o ∷ orders) h =
+      at_join s (word_by who place o) (words_by who place orders)
+      ∙ ap (λ (l : List Mark). l ++ at s (words_by who place orders)) (order_at who place o h.0)
+      ∙ ap (λ (l : List Mark). mark_in place (own_of who s) (foreign_of who s) o ++ l) (orders_at who place orders h.1)
+
+  -- what a text says that carries its place
+  pub text_at : (who : Who) (place : ℕ) (text : List Bool) → at_texts s who (tagged place text ∷ []) ≡ marks_in place (own_of who s) (foreign_of who s) (orders_of text)
+  text_at who place text =
+      ap (at s) (append-nil (words_by who (untagged (tagged place text)).0 (orders_of (untagged (tagged place text)).1)))
+      ∙ ap (λ (parts : ℕ × List Bool). at s (words_by who parts.0 (orders_of parts.1))) (untagged_is place text)
+      ∙ orders_at who place (orders_of text) (text_good text)
+
+-- ---- all words are of a receiving socket and a sending one
+
+abbrev pub AllPairs : List Word → Type 0
+AllPairs [] = Unit {0}
+AllPairs (w ∷ ws) = IsPair w.sockets × AllPairs ws
+
+pairs_join : (xs ys : List Word) → AllPairs xs → AllPairs ys → AllPairs (xs ++ ys)
+pairs_join [] ys h k = k
+pairs_join (x ∷ xs) ys h k = (h.0, pairs_join xs ys h.1 k)
+
+word_pairs : (r n link : ℕ) (m : Mark) → AllPairs (word r n link m)
+word_pairs r n link m = by (is_receive_socket r && is_send_socket n) refl where
+  by : (b : Bool) → (is_receive_socket r && is_send_socket n) ≡ b → AllPairs (if b then record { sockets = record { receive = r; send = n }; link = link; mark = m } ∷ [] else [])
+  by true e = (both (is_receive_socket r) (is_send_socket n) e, tt)
+  by false e = tt
+
+pub order_pairs : (who : Who) (place : ℕ) (o : Order) → AllPairs (word_by who place o)
+order_pairs Receiver place (Wrong code octets) = tt
+order_pairs Receiver place (Legal (command.Rts r n link)) = word_pairs r n link (Ask place)
+order_pairs Receiver place (Legal (command.Str n r size)) = tt
+order_pairs Receiver place (Legal (command.Cls own foreign)) = word_pairs own foreign 0 Close
+order_pairs Receiver place (Legal command.Nop) = tt
+order_pairs Receiver place (Legal (command.All link messages bits)) = tt
+order_pairs Receiver place (Legal (command.Gvb link messages bits)) = tt
+order_pairs Receiver place (Legal (command.Ret link messages bits)) = tt
+order_pairs Receiver place (Legal (command.Inr link)) = tt
+order_pairs Receiver place (Legal (command.Ins link)) = tt
+order_pairs Receiver place (Legal (command.Eco octet)) = tt
+order_pairs Receiver place (Legal (command.Erp octet)) = tt
+order_pairs Receiver place (Legal (command.Err code detail)) = tt
+order_pairs Receiver place (Legal command.Rst) = tt
+order_pairs Receiver place (Legal command.Rrp) = tt
+order_pairs Sender place (Wrong code octets) = tt
+order_pairs Sender place (Legal (command.Rts r n link)) = tt
+order_pairs Sender place (Legal (command.Str n r size)) = word_pairs r n 0 (Ask place)
+order_pairs Sender place (Legal (command.Cls own foreign)) = word_pairs foreign own 0 Close
+order_pairs Sender place (Legal command.Nop) = tt
+order_pairs Sender place (Legal (command.All link messages bits)) = tt
+order_pairs Sender place (Legal (command.Gvb link messages bits)) = tt
+order_pairs Sender place (Legal (command.Ret link messages bits)) = tt
+order_pairs Sender place (Legal (command.Inr link)) = tt
+order_pairs Sender place (Legal (command.Ins link)) = tt
+order_pairs Sender place (Legal (command.Eco octet)) = tt
+order_pairs Sender place (Legal (command.Erp octet)) = tt
+order_pairs Sender place (Legal (command.Err code detail)) = tt
+order_pairs Sender place (Legal command.Rst) = tt
+order_pairs Sender place (Legal command.Rrp) = tt
+
+orders_pairs : (who : Who) (place : ℕ) (orders : List Order) → AllPairs (words_by who place orders)
+orders_pairs who place [] = tt
+orders_pairs who place (o ∷ orders) = pairs_join (word_by who place o) (words_by who place orders) (order_pairs who place o) (orders_pairs who place orders)
+
+pub texts_pairs : (who : Who) (texts : List (List Bool)) → AllPairs (words_of who texts)
+texts_pairs who [] = tt
+texts_pairs who (x ∷ texts) = pairs_join (words_by who (untagged x).0 (orders_of (untagged x).1)) (words_of who texts) (orders_pairs who (untagged x).0 (orders_of (untagged x).1)) (texts_pairs who texts)
+
+-- ---- all requests of a message are told by its place
+
+abbrev pub AllAt : ℕ → List Mark → Type 0
+AllAt place [] = Unit {0}
+AllAt place (Ask p ∷ ms) = (p ≡ place) × AllAt place ms
+AllAt place (Close ∷ ms) = AllAt place ms
+
+at_append : (place : ℕ) (xs ys : List Mark) → AllAt place xs → AllAt place ys → AllAt place (xs ++ ys)
+at_append place [] ys h k = k
+at_append place (Ask p ∷ xs) ys h k = (h.0, at_append place xs ys h.1 k)
+at_append place (Close ∷ xs) ys h k = at_append place xs ys h k
+
+ask_at : (place : ℕ) (b : Bool) → AllAt place (if b then Ask place ∷ [] else [])
+ask_at place true = (refl, tt)
+ask_at place false = tt
+
+close_at : (place : ℕ) (b : Bool) → AllAt place (if b then Close ∷ [] else [])
+close_at place true = tt
+close_at place false = tt
+
+mark_at : (place own foreign : ℕ) (o : Order) → AllAt place (mark_in place own foreign o)
+mark_at place own foreign (Wrong code octets) = tt
+mark_at place own foreign (Legal (command.Rts r n link)) = ask_at place (r == own && n == foreign)
+mark_at place own foreign (Legal (command.Str n r size)) = ask_at place (n == own && r == foreign)
+mark_at place own foreign (Legal (command.Cls a b)) = close_at place (a == own && b == foreign)
+mark_at place own foreign (Legal command.Nop) = tt
+mark_at place own foreign (Legal (command.All link messages bits)) = tt
+mark_at place own foreign (Legal (command.Gvb link messages bits)) = tt
+mark_at place own foreign (Legal (command.Ret link messages bits)) = tt
+mark_at place own foreign (Legal (command.Inr link)) = tt
+mark_at place own foreign (Legal (command.Ins link)) = tt
+mark_at place own foreign (Legal (command.Eco octet)) = tt
+mark_at place own foreign (Legal (command.Erp octet)) = tt
+mark_at place own foreign (Legal (command.Err code detail)) = tt
+mark_at place own foreign (Legal command.Rst) = tt
+mark_at place own foreign (Legal command.Rrp) = tt
+
+pub marks_at : (place own foreign : ℕ) (orders : List Order) → AllAt place (marks_in place own foreign orders)
+marks_at place own foreign [] = tt
+marks_at place own foreign (o ∷ orders) = at_append place (mark_in place own foreign o) (marks_in place own foreign orders) (mark_at place own foreign o) (marks_at place own foreign orders)

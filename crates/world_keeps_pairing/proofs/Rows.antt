@@ -1,0 +1,28 @@
+-- Steps, computed.
+use Rattle.std.proofs.Common.{◌≡◌, [], ◌∷◌, refl}
+use Rattle.bit_messages.specs.Octets.{octets_of}
+use Rattle.host_keeps_pairing.specs.Spoken.{asking, reset_of_two}
+use Rattle.host_pairs.specs.Control.{orders_of}
+use Rattle.leader1822.specs.declared.crossing.Crossing.TheVariants as crossing
+use Rattle.leader1822.specs.declared.message.HostMessage.{HostMessage}
+use Rattle.ncp_control.specs.Reading.{command_of, read_of}
+use Rattle.net_sim.specs.Safe.{control_flow}
+use Rattle.pairing_law.specs.Example.{first_sockets}
+use Rattle.pairing_law.specs.Links.{Receiver, Says, Sender, heard_words}
+use Rattle.pairing_law.specs.Marks.{Ask, Close}
+use Rattle.pairing_law.specs.Places.{tagged}
+use Rattle.reset_law.specs.Events.{In, Other, Out}
+use Rattle.reset_law.specs.Example.{one, two}
+use Rattle.world_keeps_pairing.specs.Free.{origin_in}
+use Rattle.world_keeps_pairing.specs.Steps.{steps}
+
+pub row_said : steps one two (Out one two 0 (Other (tagged 5 asking)) ∷ reset_of_two) ≡ Says Receiver (record { sockets = first_sockets; link = 0; mark = Close }) ∷ Says Receiver (record { sockets = first_sockets; link = 2; mark = Ask 5 }) ∷ steps one two reset_of_two
+unfolding octets_of orders_of read_of command_of
+row_said = refl
+
+pub row_heard : heard_words Sender (steps one two (In one two 0 (Other (tagged 5 asking)) ∷ reset_of_two)) ≡ record { sockets = first_sockets; link = 0; mark = Close } ∷ record { sockets = first_sockets; link = 2; mark = Ask 5 } ∷ []
+unfolding octets_of orders_of read_of command_of
+row_heard = refl
+
+pub row_origin : (out : HostMessage) → out.flow ≡ control_flow two one → origin_in (crossing.Out out ∷ crossing.In out ∷ crossing.Out out ∷ crossing.Down two ∷ []) one two 2 ≡ 1
+row_origin out is = rw is refl

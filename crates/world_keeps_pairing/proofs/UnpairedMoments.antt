@@ -1,0 +1,81 @@
+-- All moments: two sockets that both receive or both send have no end and no life.
+use Rattle.std.proofs.Common.{◌≡◌, ℕ, ◌≤◌, List, [], ◌∷◌, None, sym, subst, arith}
+use Rattle.leader1822.specs.Host.{Host}
+use Rattle.leader1822.specs.Mailboxes as mail
+use Rattle.leader1822.specs.declared.crossing.Crossing.TheVariants as crossing
+use Rattle.leader1822.specs.declared.message.HostMessage.{HostMessage}
+use Rattle.leader1822.proofs.lemmas.{same_host-true, waits_with}
+use Rattle.host_keeps_ranges.specs.Ranges.{IsRanged}
+use Rattle.sockets.specs.Requests.{refusal}
+use Rattle.host_pairs.specs.Parcels.{link_for, text_for}
+use Rattle.host_keeps_pairing.proofs.lemmas.{opening_has}
+use Rattle.reset_law.specs.Pairs.{pair}
+use Rattle.reset_law.specs.Runs.{IsRun}
+use Rattle.net_sim.specs.Story.{Moment, Crossed, Asked, IsNext, IsStory, events_of, places, program}
+use Rattle.net_sim.specs.Timeline.{crossings_of}
+use Rattle.net_sim.proofs.lemmas.{story_agrees}
+use Rattle.world_keeps_pairing.specs.Free.{TakesFreeAt}
+use Rattle.world_keeps_pairing.proofs.Served.{AreServed}
+use Rattle.world_keeps_pairing.proofs.LinkRun.{AllTied, all_tied, takes}
+use Rattle.world_keeps_pairing.proofs.Origins.{served_below}
+use Rattle.world_keeps_pairing.proofs.Programs.{out_may, read_marks}
+use Rattle.world_keeps_pairing.proofs.Tied.{AreOrigins, programs_ranged}
+use Rattle.world_keeps_pairing.proofs.Unpaired.{AllSilent, IsSilent, IsUnpaired, unpaired_turned, unsaid, waiting_silent}
+use Rattle.world_keeps_pairing.proofs.UnpairedRun.{IsBare, answer_bare, asked_bare, down_bare, in_bare, out_bare, up_bare}
+
+pub record AllBare (origin : Host → Host → ℕ → ℕ) (moments : List Moment) : Type 0 where
+  pub bare : (a b : Host) (own foreign : ℕ) → IsUnpaired own foreign → IsBare (origin a b) own foreign a b moments
+  pub silent : AllSilent (crossings_of moments)
+
+module _ (origin : Host → Host → ℕ → ℕ) (moments : List Moment) (ranged : (h : Host) → IsRanged (program h moments)) (old : AllBare origin moments) where
+  -- a message that goes out says nothing of such sockets, since its host has no end of theirs
+  out_silent : (m : HostMessage) → IsStory (Crossed (crossing.Out m) ∷ moments) → IsSilent m.flow.link.0 m.text
+  out_silent m story = λ own foreign place u.
+      let n : IsNext (program m.flow.source moments) m = story.0 in
+      let zero : 0 ≤ place = omega arith in
+      subst (λ (y : HostMessage). read_marks place own foreign y.flow.link.0 y.text ≡ []) (sym n.message)
+      (unsaid own foreign place (link_for n.parcel) (text_for n.peer.pair n.parcel) 0 u
+      (out_may (origin m.flow.source n.peer.host) own foreign (program m.flow.source moments) place n.peer n.parcel (pair m.flow.source n.peer.host (events_of moments)) _ 0 n.order n.next (ranged m.flow.source)
+      (story_agrees moments m.flow.source n.peer.host story.1) zero (old.bare m.flow.source n.peer.host own foreign u).0))
+
+  silent_turn : (x : Moment) → IsStory (x ∷ moments) → AllSilent (crossings_of (x ∷ moments))
+  silent_turn (Crossed (crossing.Out m)) story = (out_silent m story, old.silent)
+  silent_turn (Crossed (crossing.In m)) story = old.silent
+  silent_turn (Crossed (crossing.Answer kind f)) story = old.silent
+  silent_turn (Crossed (crossing.Down g)) story = old.silent
+  silent_turn (Crossed (crossing.Up g)) story = old.silent
+  silent_turn (Asked g r) story = old.silent
+
+  -- nor does one that is taken, since it went out
+  in_silent : (hosts : List Host) (m : HostMessage) → mail.IsRun hosts (crossings_of (Crossed (crossing.In m) ∷ moments)) → IsSilent m.flow.link.0 m.text
+  in_silent hosts m run =
+      let w : (place : ℕ) × (mail.box_of m.flow (crossings_of moments) ≡ mail.Waiting place m.text) = waits_with (mail.box_of m.flow (crossings_of moments)) m.text run.0.1 in
+      waiting_silent m.flow w.0 m.text (crossings_of moments) old.silent w.1
+
+  bare_turn : (hosts : List Host) (x : Moment) → IsStory (x ∷ moments) → mail.IsRun hosts (crossings_of (x ∷ moments)) → AreServed (x ∷ moments) → TakesFreeAt x moments → (a b : Host) (own foreign : ℕ) → IsUnpaired own foreign → IsBare (origin a b) own foreign a b (x ∷ moments)
+  bare_turn hosts (Crossed (crossing.Out m)) story run served free a b own foreign u =
+      out_bare (origin a b) own foreign a b m moments story (ranged a) (out_silent m story own foreign (places moments) u) (old.bare a b own foreign u)
+  bare_turn hosts (Crossed (crossing.In m)) story run served free a b own foreign u =
+      in_bare (origin a b) own foreign a b m moments story free (in_silent hosts m run foreign own (origin a b (places moments)) (unpaired_turned own foreign u)) (old.bare a b own foreign u)
+  bare_turn hosts (Crossed (crossing.Answer kind f)) story run served free a b own foreign u = answer_bare (origin a b) own foreign a b kind f moments (old.bare a b own foreign u)
+  bare_turn hosts (Crossed (crossing.Down g)) story run served free a b own foreign u = down_bare (origin a b) own foreign a b g moments (old.bare a b own foreign u)
+  bare_turn hosts (Crossed (crossing.Up g)) story run served free a b own foreign u = up_bare (origin a b) own foreign a b g moments (old.bare a b own foreign u)
+  bare_turn hosts (Asked g r) story run served free a b own foreign u =
+      asked_bare (origin a b) own foreign a b g r moments (λ e. subst (λ (y : Host). refusal (program y moments) r ≡ None) (sym (same_host-true a g e)) served.0) (old.bare a b own foreign u)
+
+mail_below : (hosts : List Host) (x : Moment) (moments : List Moment) → mail.IsRun hosts (crossings_of (x ∷ moments)) → mail.IsRun hosts (crossings_of moments)
+mail_below hosts (Crossed c) moments run = run.1
+mail_below hosts (Asked g r) moments run = run
+
+pub all_bare : (hosts : List Host) (origin : Host → Host → ℕ → ℕ) (moments : List Moment) → AreOrigins origin moments → IsStory moments → IsRun hosts (events_of moments) → mail.IsRun hosts (crossings_of moments) → AreServed moments → AllBare origin moments
+all_bare hosts origin [] from story run mails served = record { bare = λ a b own foreign u. (opening_has (origin a b) own foreign a b, tt); silent = tt }
+all_bare hosts origin (x ∷ moments) from story run mails served =
+    let below : AreServed moments = served_below x moments served in
+    let old : AllBare origin moments = all_bare hosts origin moments from.1 story.1 run.2 (mail_below hosts x moments mails) below in
+    let t : AllTied origin moments = all_tied hosts origin moments from.1 story.1 run.2 below in
+    let ranged : (h : Host) → IsRanged (program h moments) = programs_ranged moments below in
+    let free : TakesFreeAt x moments = takes origin hosts programs_ranged x moments story run ranged from.0 t in
+    record {
+      bare = bare_turn origin moments ranged old hosts x story mails served free;
+      silent = silent_turn origin moments ranged old x story;
+    }

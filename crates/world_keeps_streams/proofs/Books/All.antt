@@ -1,0 +1,47 @@
+-- What a safe book asks of all lives of a world: what was taken has a source, and what was sent is granted.
+use Rattle.std.proofs.Common.{◌≡◌, true, List, [], length}
+use Rattle.std.specs.List.{Contains}
+use Rattle.leader1822.specs.Calls.{Seen}
+use Rattle.leader1822.specs.Host.{Host}
+use Rattle.leader1822.specs.Mailboxes as mail
+use Rattle.net_sim.specs.Clean.{HaveAddresses, IsLawful}
+use Rattle.net_sim.specs.Safe.{IsGranted, Match, Source, receives}
+use Rattle.net_sim.specs.Story.{Moment}
+use Rattle.net_sim.specs.Timeline.{IsTimeline, crossings_of}
+use Rattle.net_sim.specs.Told.{kept_in}
+use Rattle.net_sim.specs.World.{WorldState}
+use Rattle.net_sim.specs.declared.life.Life.{Life}
+use Rattle.world_keeps_streams.proofs.Carried.World.{carries_numbered, carries_turned}
+use Rattle.world_keeps_streams.proofs.Books.Books as books
+use Rattle.world_keeps_streams.proofs.Books.Given.{Lives, given}
+use Rattle.world_keeps_streams.proofs.Lives.Leaves.{leaves, none_begins}
+use Rattle.world_keeps_streams.proofs.Lives.Present.{lives}
+use Rattle.world_keeps_streams.proofs.Books.Run.{Given}
+use Rattle.world_keeps_streams.proofs.Requests.Sides.{Heard, Own}
+
+module _ (hosts : List Host) where
+  -- the lives of two hosts
+  two_lives : (a b : Host) → Lives hosts a b
+  two_lives a b =
+      lives hosts a b (λ ms l. carries_numbered hosts l.0 a b ms l.1 l.2) (λ ms l. carries_turned hosts l.0 b a ms l.1 l.2) (none_begins hosts a b) (none_begins hosts b a) (leaves hosts a b) (leaves hosts b a)
+
+  all_given : (a b : Host) → Given hosts a b (Own a b) (Heard a b)
+  all_given a b = given hosts a b (two_lives a b)
+
+  -- ---- moments
+
+  module _ (moments : List Moment) (addresses : HaveAddresses hosts) (run : mail.IsRun hosts (crossings_of moments)) (time : IsTimeline hosts moments) where
+    pub source : (receiver : Life) → Contains (kept_in moments).book.lives receiver → receives receiver ≡ true → (receiver.bits ≡ [] → ⊥) → Source (crossings_of moments) (kept_in moments).book.lives receiver
+    source x there q some = books.source hosts Own Heard all_given moments (addresses, run, time) x there q some
+
+    pub sent : (receiver sender : Life) → Contains (kept_in moments).book.lives receiver → Contains (kept_in moments).book.lives sender → Match (crossings_of moments) receiver sender → IsGranted receiver sender.messages (length sender.bits)
+    sent x s here there m = books.sent hosts Own Heard all_given moments (addresses, run, time) x s here there m
+
+  -- ---- worlds
+
+  module _ {C : Type 0} (seen : C → Seen) (w : WorldState C) (lawful : IsLawful seen hosts w) where
+    pub world_source : (receiver : Life) → Contains w.kept.book.lives receiver → receives receiver ≡ true → (receiver.bits ≡ [] → ⊥) → Source w.kept.book.crossings w.kept.book.lives receiver
+    world_source x there q some = books.world_source hosts Own Heard all_given seen w lawful x there q some
+
+    pub world_sent : (receiver sender : Life) → Contains w.kept.book.lives receiver → Contains w.kept.book.lives sender → Match w.kept.book.crossings receiver sender → IsGranted receiver sender.messages (length sender.bits)
+    world_sent x s here there m = books.world_sent hosts Own Heard all_given seen w lawful x s here there m

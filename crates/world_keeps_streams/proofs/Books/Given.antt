@@ -1,0 +1,70 @@
+-- What a safe book asks of two hosts, but for their lives: requests and streams.
+use Rattle.std.proofs.Common.{◌≡◌, ℕ, suc, ◌==◌, ◌≤◌, true, false, List, [], ◌∷◌, refl}
+use Rattle.std.proofs.lemmas.Bool.{ne_eqb}
+use Rattle.leader1822.specs.Host.{Host}
+use Rattle.host_keeps_streams.specs.Histories.{numbered, receiver_now, sender_now}
+use Rattle.host_keeps_streams.proofs.lemmas.{numbered_tells}
+use Rattle.reset_law.specs.Stays as stay
+use Rattle.net_sim.specs.Safe.{receives, sends}
+use Rattle.net_sim.specs.Story.{Moment, event_in, events_of}
+use Rattle.net_sim.specs.declared.life.Life.{Life}
+use Rattle.world_keeps_streams.specs.Calls.{own_calls, numbered_by_peer}
+use Rattle.world_keeps_streams.proofs.Lives.Lists.{IsOf}
+use Rattle.world_keeps_streams.proofs.Requests.Now.{Counts}
+use Rattle.world_keeps_streams.proofs.Requests.Placed.{heard_law_on, matched_law, own_law_on}
+use Rattle.world_keeps_streams.proofs.Books.Run.{Given}
+use Rattle.world_keeps_streams.proofs.Requests.Sides.{Heard, Lawful, Own, lives_in}
+use Rattle.world_keeps_streams.proofs.Books.Starts.{starts}
+use Rattle.world_keeps_streams.proofs.Books.Whole.{present_in, Away, Receives, Sends, HasReceives, HasSends}
+use Rattle.world_keeps_streams.proofs.Heard.Calls.{heard_calls}
+use Rattle.world_keeps_streams.proofs.Steps.Joined.{Joined, Keeps}
+use Rattle.world_keeps_streams.proofs.Steps.JoinedAll as joint
+use Rattle.world_keeps_streams.proofs.Steps.Joining.{Goes}
+use Rattle.world_keeps_streams.proofs.Stays.Meets.{meets}
+use Rattle.world_keeps_streams.proofs.Steps.Streams.{all_allowed}
+
+-- ---- the requests of ends that are there
+
+-- a program heard as many CLS as it has seen connections go, and one more where the end that is there heard one
+pub counts : (hosts : List Host) (ms : List Moment) → Lawful hosts ms → (a b : Host) → Counts a b ms
+counts hosts ms l a b = heard_calls numbered numbered_tells 1 hosts l.0 ms l.1 l.2 a b (all_allowed hosts l.0 1 refl a b ms l.1 l.2)
+
+-- ---- the streams
+
+off : (n : ℕ) → (suc n == 0) ≡ false
+off n = ne_eqb (suc n) 0 (λ e. absurd (cc))
+
+pub goes_on : (hosts : List Host) (a b : Host) (y : Moment) (ms : List Moment) → Lawful hosts (y ∷ ms) → stay.begins a b (event_in y) (events_of ms) ≡ false → (n : ℕ) (j : Joined a b (suc n) ms)
+    → (k : Joined a b (suc n) (y ∷ ms)) × Keeps (stay.stays a b (events_of (y ∷ ms))) (stay.stays b a (events_of (y ∷ ms))) j.x k.x
+goes_on hosts a b y ms l none n j = let g : Goes a b (suc n) y ms j = joint.goes (suc n) (off n) hosts l.0 a b y ms l.1 l.2 j none in (g.joined, g.keeps_x)
+
+meets_at : (hosts : List Host) (a b : Host) (y : Moment) (ms : List Moment) → Lawful hosts (y ∷ ms) → stay.begins a b (event_in y) (events_of ms) ≡ true → (n : ℕ) → Joined a b (suc n) (y ∷ ms)
+meets_at hosts a b y ms l new n = meets (suc n) (off n) hosts l.0 a b y ms l.1 l.2 new
+
+-- ---- so what is left is asked of lives
+
+pub record Lives (hosts : List Host) (a b : Host) : Type 0 where
+  -- of a host that stays
+  pub carried_r : (ms : List Moment) → Lawful hosts ms → stay.stays a b (events_of ms) ≡ true → (x : Life) → IsOf x (present_in a b ms) → x.host ≡ a → x.peer ≡ b → receives x ≡ true → Receives a b (Own a b) (Heard a b) ms x
+  pub carried_s : (ms : List Moment) → Lawful hosts ms → stay.stays b a (events_of ms) ≡ true → (s : Life) → IsOf s (present_in a b ms) → s.host ≡ b → s.peer ≡ a → sends s ≡ true → Sends a b (Own a b) (Heard a b) ms s
+  pub taken_by : (ms : List Moment) → Lawful hosts ms → stay.stays a b (events_of ms) ≡ true → (n c : ℕ) → 1 ≤ ((receiver_now numbered b (suc n) (own_calls a b ms)).granted c).messages → HasReceives a b (Own a b) (Heard a b) ms n c
+  pub sent_by : (ms : List Moment) → Lawful hosts ms → stay.stays b a (events_of ms) ≡ true → (n c : ℕ) → ((sender_now numbered_by_peer a (suc n) (own_calls b a ms)).sent c ≡ [] → ⊥) → HasSends a b (Own a b) (Heard a b) ms n c
+  -- and of one that leaves, or has left
+  pub away_r : (y : Moment) (ms : List Moment) → Lawful hosts (y ∷ ms) → stay.stays a b (events_of (y ∷ ms)) ≡ false → Away a b (lives_in ms) (lives_in (y ∷ ms))
+  pub away_s : (y : Moment) (ms : List Moment) → Lawful hosts (y ∷ ms) → stay.stays b a (events_of (y ∷ ms)) ≡ false → Away b a (lives_in ms) (lives_in (y ∷ ms))
+
+pub given : (hosts : List Host) (a b : Host) → Lives hosts a b → Given hosts a b (Own a b) (Heard a b)
+given hosts a b v = record {
+  own_on = own_law_on hosts a b;
+  heard_on = heard_law_on hosts a b;
+  matched = matched_law hosts a b;
+  starts = starts a b;
+  meets = meets_at hosts a b;
+  goes = goes_on hosts a b;
+  carried_r = v.carried_r;
+  carried_s = v.carried_s;
+  taken_by = v.taken_by;
+  sent_by = v.sent_by;
+  away_r = v.away_r;
+  away_s = v.away_s;
+}

@@ -1,0 +1,170 @@
+-- Each call of a world's programs finds byte sizes that are octets and not zero.
+use Rattle.std.proofs.Common.{◌≡◌, ℕ, ◌==◌, ◌&&◌, IsTrue, not, Bool, true, false, if◌then◌else◌, List, [], ◌∷◌, ◌++◌, take, Option, Some, None, refl, ap, sym, subst, ◌∙◌}
+use Rattle.leader1822.specs.Host.{Host, same_host}
+use Rattle.leader1822.specs.Mailboxes as mail
+use Rattle.leader1822.specs.declared.crossing.Crossing.TheVariants as crossing
+use Rattle.leader1822.proofs.lemmas.{same_host-true}
+use Rattle.ncp_control.specs.Numbers.{is_byte_size, is_receive_socket, is_send_socket}
+use Rattle.ncp_control.specs.declared.command.Command.{Command}
+use Rattle.host_pairs.specs.Commands.{desk_taken}
+use Rattle.host_pairs.specs.Control.{Legal, Order, Wrong, error, orders_of}
+use Rattle.host_pairs.specs.Desk.{desk_of, listens_on, command_queued}
+use Rattle.host_pairs.specs.Entries.{is_busy}
+use Rattle.host_pairs.specs.Pair.{PairState}
+use Rattle.host_pairs.specs.Parcels as parcel
+use Rattle.host_pairs.specs.Parcels.{Parcel, command_gone, with_connections}
+use Rattle.host_pairs.specs.Phases.{is_ready}
+use Rattle.host_pairs.specs.Turn.{TurnState, order_taken, with_desk}
+use Rattle.host_pairs.specs.declared.entry.Entry.{Entry}
+use Rattle.host_pairs.specs.declared.listener.Listener.{Listener}
+use Rattle.host_keeps_ranges.specs.Ranges.{AreOrders, AreSizes, IsAsked, IsPair, IsRanged}
+use Rattle.host_keeps_ranges.proofs.lemmas.{Ranged, pair_range, ranged_error, ranged_taken, text_good}
+use Rattle.host_keeps_pairing.specs.Hearing.{AreJoint}
+use Rattle.host_keeps_pairing.proofs.lemmas.{ready_when}
+use Rattle.host_keeps_streams.specs.Histories as calls
+use Rattle.host_keeps_streams.specs.Histories.{AsksBack, Call, Closes, Gives, Grants, Hears, OpensReceiver, OpensSender, Says, Takes}
+use Rattle.sockets.specs.Accepting.{turn_of}
+use Rattle.sockets.specs.Pairs.{NcpState, owner_of, pair_with}
+use Rattle.sockets.specs.Requests.{is_taken, refusal}
+use Rattle.sockets.specs.Sending.{next_in}
+use Rattle.sockets.specs.declared.peer.Peer.{Peer}
+use Rattle.sockets.specs.declared.request.Request.{Request}
+use Rattle.sockets.specs.declared.request.Request.TheVariants as request
+use Rattle.net_sim.specs.Clean.{HaveAddresses}
+use Rattle.net_sim.specs.Projection.{IsApart, message_on}
+use Rattle.net_sim.specs.Story.{Asked, Crossed, IsStory, Moment, event_in, events_of, places, program}
+use Rattle.net_sim.specs.Timeline.{Happens, IsTimeline, crossings_of}
+use Rattle.net_sim.proofs.lemmas.{coupled}
+use Rattle.world_keeps_pairing.specs.Steps.{keeps}
+use Rattle.world_keeps_pairing.proofs.lemmas.{AText, AnRrp, AnRst, Sort, plain_joint, programs_ranged, served_in, sort_of}
+use Rattle.world_keeps_streams.specs.Calls.{called, calls_by, commands_said, message_calls, next_calls, orders_heard, own_calls, owner_calls, parcel_calls, request_calls}
+use Rattle.world_keeps_streams.proofs.Calls.Chain.{chain, mail_below}
+use Rattle.world_keeps_streams.proofs.Calls.MayAsk.{AreSized}
+use Rattle.world_keeps_streams.proofs.Calls.Moved.{not_first, true_is}
+use Rattle.world_keeps_streams.proofs.Calls.Sizes.{AllSizes, HasSize, history_sized, is_size, sizes_append}
+
+-- ---- a message
+
+abbrev DeskRanged : TurnState → Type 0
+DeskRanged t = Ranged (desk_of t.pair t.listening)
+
+module _ (peer : Host) (stamp : ℕ) where
+  heard_sizes : (orders : List Order) (t : TurnState) (older : List calls.Moment) → AreJoint orders → AreOrders orders → is_ready t.pair.phase ≡ true → DeskRanged t → AllSizes older → AllSizes (orders_heard peer stamp orders t older)
+  heard_sizes [] t older joint legal ready r h = h
+  heard_sizes (Legal c ∷ orders) t older joint legal ready r h =
+      let next : order_taken peer stamp (Legal c) t ≡ with_desk t (desk_taken peer t.pair.busy stamp c (desk_of t.pair t.listening)) = ready_when peer stamp (Legal c) t joint.0 ready in
+      let now : Ranged (desk_taken peer t.pair.busy stamp c (desk_of t.pair t.listening)) = ranged_taken peer t.pair.busy stamp c (desk_of t.pair t.listening) legal.0 r in
+      heard_sizes orders (order_taken peer stamp (Legal c) t) (called (Hears stamp 0 c) t.pair t.listening ∷ older) joint.1 legal.1 (ap (λ (u : TurnState). is_ready u.pair.phase) next ∙ ready)
+      (subst (λ (u : TurnState). DeskRanged u) (sym next) (record { ends = now.ends; commands = now.commands; sizes = now.sizes })) ((legal.0, r.sizes), h)
+  heard_sizes (Wrong code octets ∷ orders) t older joint legal ready r h =
+      let next : order_taken peer stamp (Wrong code octets) t ≡ with_desk t (command_queued (error code octets) (desk_of t.pair t.listening)) = ready_when peer stamp (Wrong code octets) t joint.0 ready in
+      let now : Ranged (command_queued (error code octets) (desk_of t.pair t.listening)) = ranged_error code octets (desk_of t.pair t.listening) legal.0.0 legal.0.1 r in
+      heard_sizes orders (order_taken peer stamp (Wrong code octets) t) older joint.1 legal.1 (ap (λ (u : TurnState). is_ready u.pair.phase) next ∙ ready)
+      (subst (λ (u : TurnState). DeskRanged u) (sym next) (record { ends = now.ends; commands = now.commands; sizes = now.sizes })) h
+
+  message_sizes : (link : ℕ) (text : List Bool) (t : TurnState) → IsApart link text (message_on link text) → DeskRanged t → AllSizes (message_calls peer stamp link text t)
+  message_sizes link text t apart r = by (is_ready t.pair.phase) (link == 0) refl refl where
+    control : is_ready t.pair.phase ≡ true → (link == 0) ≡ true → Sort link text → AllSizes (orders_heard peer stamp (orders_of text) t [])
+    control ready zero (AnRst z orders is) = subst (λ (os : List Order). AllSizes (orders_heard peer stamp os t [])) (sym orders) ((tt, r.sizes), tt)
+    control ready zero (AnRrp z orders is) = subst (λ (os : List Order). AllSizes (orders_heard peer stamp os t [])) (sym orders) ((tt, r.sizes), tt)
+    control ready zero (AText is) = heard_sizes (orders_of text) t [] (plain_joint (orders_of text) (subst (λ n. IsApart link text n) is apart zero)) (text_good text) ready r tt
+
+    by : (b z : Bool) → is_ready t.pair.phase ≡ b → (link == 0) ≡ z → AllSizes (if b then (if z then orders_heard peer stamp (orders_of text) t [] else called (Takes link text) t.pair t.listening ∷ []) else [])
+    by false z e f = tt
+    by true false e f = ((tt, r.sizes), tt)
+    by true true e f = control e f (sort_of link text)
+
+  -- ---- what goes out
+
+  said_sizes : (cs : List Command) (q : PairState) (listening : List Listener) (older : List calls.Moment) → AreSizes listening → AllSizes older → AllSizes (commands_said peer stamp cs q listening older)
+  said_sizes [] q listening older sizes h = h
+  said_sizes (c ∷ cs) q listening older sizes h =
+      said_sizes cs (with_connections q (command_gone peer stamp c (desk_of q listening))) listening (called (Says stamp c) q listening ∷ older) sizes ((tt, sizes), h)
+
+  parcel_sizes : (x : Parcel) (q : PairState) (listening : List Listener) → AreSizes listening → AllSizes (parcel_calls peer stamp x q listening)
+  parcel_sizes parcel.Reset q listening sizes = tt
+  parcel_sizes parcel.Reply q listening sizes = tt
+  parcel_sizes (parcel.Commands count) q listening sizes = said_sizes (take count q.queue) q listening [] sizes tt
+  parcel_sizes (parcel.Bytes e size count) q listening sizes = ((tt, sizes), tt)
+
+  next_sizes : (listening : List Listener) (o : Option (Peer × Parcel)) → AreSizes listening → AllSizes (next_calls peer stamp listening o)
+  next_sizes listening None sizes = tt
+  next_sizes listening (Some (g, x)) sizes = by (same_host peer g.host) where
+    by : (d : Bool) → AllSizes (if d then parcel_calls peer stamp x g.pair listening else [])
+    by true = parcel_sizes x g.pair listening sizes
+    by false = tt
+
+-- ---- what a user asks for
+
+module _ (s : NcpState) (b : Host) (sizes : AreSizes s.listening) where
+  if_sizes : (k : Call) → HasSize k → (c : Bool) → AllSizes (if c then called k (pair_with b s.peers) s.listening ∷ [] else [])
+  if_sizes k is true = ((is, sizes), tt)
+  if_sizes k is false = tt
+
+  owner_sizes : (k : Entry → Call) → ((e : Entry) → HasSize (k e)) → (o : Option (Host × Entry)) → AllSizes (owner_calls b k (pair_with b s.peers) s.listening o)
+  owner_sizes k is None = tt
+  owner_sizes k is (Some (g, e)) = if_sizes (k e) (is e) (same_host b g)
+
+  request_sizes : (r : Request) → refusal s r ≡ None → IsAsked r → AllSizes (request_calls b s r)
+  unfolding refusal
+  request_sizes (request.Contact peer) may is = tt
+  request_sizes (request.Listen socket size) may is = tt
+  request_sizes (request.OpenSend peer own foreign size) may is =
+      let first : (not (is_ready (pair_with peer s.peers).phase) ≡ false) × _ = not_first (not (is_ready (pair_with peer s.peers).phase)) _ _ may in
+      let second : (not (is_send_socket own && is_receive_socket foreign) ≡ false) × _ = not_first (not (is_send_socket own && is_receive_socket foreign)) _ _ first.1 in
+      let sized : IsTrue (is_byte_size size) = true_is (is_byte_size size) (not_first (not (is_byte_size size)) _ _ (not_first (is_taken s peer own foreign) _ _ second.1).1).0 in
+      if_sizes (OpensSender own foreign size) (is_size size is.2 sized) (same_host b peer)
+  request_sizes (request.OpenReceive peer own foreign) may is = if_sizes (OpensReceiver own foreign) tt (same_host b peer)
+  request_sizes (request.Send socket bits) may is = owner_sizes (Gives socket bits) (λ e. tt) (owner_of socket s.peers)
+  request_sizes (request.Grant socket messages bits) may is = owner_sizes (Grants socket messages bits) (λ e. tt) (owner_of socket s.peers)
+  request_sizes (request.AskBack socket messages bits) may is = owner_sizes (AsksBack socket messages bits) (λ e. tt) (owner_of socket s.peers)
+  request_sizes (request.Interrupt socket) may is = tt
+  request_sizes (request.Close socket) may is = by (listens_on socket s.listening) where
+    by : (c : Bool) → AllSizes (if c then [] else owner_calls b (Closes socket) (pair_with b s.peers) s.listening (owner_of socket s.peers))
+    by true = tt
+    by false = owner_sizes (Closes socket) (λ e. tt) (owner_of socket s.peers)
+  request_sizes (request.Echo peer octet) may is = tt
+
+-- ---- moments
+
+module _ (hosts : List Host) (a b : Host) (moments : List Moment) (ranged : (h : Host) → IsRanged (program h moments)) where
+  desk_ranged : DeskRanged (turn_of (program a moments) b)
+  desk_ranged =
+      let p : IsPair (pair_with b (program a moments).peers) = pair_range b (program a moments).peers (ranged a).pairs in
+      record { ends = p.ends; commands = p.commands; sizes = (ranged a).sizes }
+
+  calls_sizes : (x : Moment) → IsStory (x ∷ moments) → Happens hosts x moments → AllSizes (calls_by a b x moments)
+  calls_sizes (Crossed (crossing.Out m)) story happens = by (same_host a m.flow.source) where
+    by : (d : Bool) → AllSizes (if d then next_calls b (places moments) (program a moments).listening (next_in (program a moments).peers) else [])
+    by true = next_sizes b (places moments) (program a moments).listening (next_in (program a moments).peers) (ranged a).sizes
+    by false = tt
+  calls_sizes (Crossed (crossing.In m)) story happens = by (same_host a m.flow.destination && same_host b m.flow.source) where
+    by : (d : Bool) → AllSizes (if d then message_calls b (places moments) m.flow.link.0 m.text (turn_of (program a moments) b) else [])
+    by true = message_sizes b (places moments) m.flow.link.0 m.text (turn_of (program a moments) b) story.0 desk_ranged
+    by false = tt
+  calls_sizes (Crossed (crossing.Answer kind f)) story happens = by (same_host a f.source && same_host b f.destination) (is_busy (pair_with b (program a moments).peers).busy f.link.0) where
+    by : (d e : Bool) → AllSizes (if d then (if e then called (calls.Answered f.link.0) (pair_with b (program a moments).peers) (program a moments).listening ∷ [] else []) else [])
+    by true true = ((tt, (ranged a).sizes), tt)
+    by true false = tt
+    by false e = tt
+  calls_sizes (Crossed (crossing.Down h)) story happens = tt
+  calls_sizes (Crossed (crossing.Up h)) story happens = tt
+  calls_sizes (Asked h r) story happens = by (same_host a h) refl where
+    by : (d : Bool) → same_host a h ≡ d → AllSizes (if d then request_calls b (program a moments) r else [])
+    by true e = request_sizes (program a moments) b (ranged a).sizes r (subst (λ (g : Host). refusal (program g moments) r ≡ None) (sym (same_host-true a h e)) happens.2) happens.3
+    by false e = tt
+
+own_sizes : (hosts : List Host) → HaveAddresses hosts → (moments : List Moment) → mail.IsRun hosts (crossings_of moments) → IsTimeline hosts moments → (a b : Host) → AllSizes (own_calls a b moments)
+own_sizes hosts addresses [] run time a b = tt
+own_sizes hosts addresses (x ∷ moments) run time a b = by (own_sizes hosts addresses moments (mail_below hosts x moments run) time.1 a b) (keeps a b (event_in x) (events_of moments)) where
+  now : AllSizes (calls_by a b x moments)
+  now = calls_sizes hosts a b moments (programs_ranged moments (served_in hosts moments time.1)) x (coupled hosts addresses (x ∷ moments) run time).story time.0
+
+  by : AllSizes (own_calls a b moments) → (k : Bool) → AllSizes (if k then calls_by a b x moments ++ own_calls a b moments else [])
+  by old true = sizes_append (calls_by a b x moments) (own_calls a b moments) now old
+  by old false = tt
+
+-- the ends of a host know their byte sizes so
+pub all_sized : (hosts : List Host) → HaveAddresses hosts → (moments : List Moment) → mail.IsRun hosts (crossings_of moments) → IsTimeline hosts moments → (a b : Host) → AreSized (pair_with b (program a moments).peers).entries
+all_sized hosts addresses moments run time a b =
+    subst (λ (es : List Entry). AreSized es) (chain hosts addresses moments run time a b).1 (history_sized b (own_calls a b moments) (chain hosts addresses moments run time a b).0 (own_sizes hosts addresses moments run time a b))

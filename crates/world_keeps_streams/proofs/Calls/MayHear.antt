@@ -1,0 +1,105 @@
+-- What a host hears of a peer may be heard, over all moments.
+use Rattle.std.proofs.Common.{◌≡◌, ℕ, ◌==◌, ◌&&◌, Bool, true, false, if◌then◌else◌, List, [], ◌∷◌, refl, sym, subst}
+use Rattle.leader1822.specs.Host.{Host}
+use Rattle.leader1822.specs.Mailboxes as mail
+use Rattle.leader1822.specs.declared.crossing.Crossing.TheVariants as crossing
+use Rattle.leader1822.specs.declared.message.HostMessage.{HostMessage}
+use Rattle.leader1822.proofs.lemmas.{same_host-refl, waits_with}
+use Rattle.ncp_control.specs.Numbers.{is_receive_socket, is_send_socket}
+use Rattle.host_pairs.specs.Control.{Order, orders_of}
+use Rattle.host_pairs.specs.Phases.{is_ready}
+use Rattle.host_pairs.proofs.lemmas.{both}
+use Rattle.host_keeps_ranges.proofs.lemmas.{text_good}
+use Rattle.host_keeps_pairing.specs.Ends.{HasEnd}
+use Rattle.host_keeps_pairing.specs.Hearing.{AreJoint}
+use Rattle.host_keeps_pairing.specs.Words.{AllFit, marks_in}
+use Rattle.host_keeps_streams.specs.Histories.{Takes}
+use Rattle.pairing_law.specs.Ends.{End, nothing}
+use Rattle.pairing_law.specs.Links.{Receiver, Sender, Sockets}
+use Rattle.pairing_law.specs.Marks.{Mark}
+use Rattle.reset_law.specs.Events.{Message}
+use Rattle.reset_law.specs.Runs.{IsRun}
+use Rattle.sockets.specs.Accepting.{turn_of}
+use Rattle.sockets.specs.Pairs.{pair_with}
+use Rattle.net_sim.specs.Projection.{IsApart}
+use Rattle.net_sim.specs.Story.{Crossed, IsStory, Moment, events_of, places, program}
+use Rattle.net_sim.specs.Timeline.{crossings_of}
+use Rattle.world_keeps_pairing.specs.Free.{TakesFreeAt}
+use Rattle.world_keeps_pairing.proofs.lemmas.{AText, AllBare, AllTied, AnRrp, AnRst, AreOrigins, IsSilent, IsUnpaired, Side_of, Sort, plain_joint, receiver_hears, sender_hears, sort_of, unpaired_turned, waiting_silent}
+use Rattle.world_keeps_streams.specs.Calls.{called, message_calls, orders_heard}
+use Rattle.world_keeps_streams.proofs.Calls.May.{AllMay}
+use Rattle.world_keeps_streams.proofs.Calls.MayTurns.{AreSilent, Fits, heard_may}
+
+-- two sockets are a receiving and a sending one, or the other way, or neither
+by_kind : (P : Type 0) (own foreign : ℕ) → ((is_receive_socket own ≡ true) → (is_send_socket foreign ≡ true) → P) → ((is_send_socket own ≡ true) → (is_receive_socket foreign ≡ true) → P) → (IsUnpaired own foreign → P) → P
+by_kind P own foreign first second third = by (is_receive_socket own && is_send_socket foreign) (is_send_socket own && is_receive_socket foreign) refl refl where
+  by : (c d : Bool) → (is_receive_socket own && is_send_socket foreign) ≡ c → (is_send_socket own && is_receive_socket foreign) ≡ d → P
+  by true d e f = let k : (is_receive_socket own ≡ true) × (is_send_socket foreign ≡ true) = both (is_receive_socket own) (is_send_socket foreign) e in first k.0 k.1
+  by false true e f = let k : (is_send_socket own ≡ true) × (is_receive_socket foreign ≡ true) = both (is_send_socket own) (is_receive_socket foreign) f in second k.0 k.1
+  by false false e f = third (e, f)
+
+-- ---- the ends of any two sockets
+
+module _ (hosts : List Host) (origin : Host → Host → ℕ → ℕ) (moments : List Moment) (t : AllTied origin moments) (bare : AllBare origin moments) where
+  pub has_end : (a b : Host) (own foreign : ℕ) → (x : End) × HasEnd (origin a b) own foreign (pair_with b (program a moments).peers) x
+  has_end a b own foreign =
+      by_kind ((x : End) × HasEnd (origin a b) own foreign (pair_with b (program a moments).peers) x) own foreign
+      (λ e f. ((Side_of (record { receive = own; send = foreign }) (e, f) Receiver a b (origin a b) moments).end, (t.tied a b).receiver (record { receive = own; send = foreign }) (e, f)))
+      (λ e f. ((Side_of (record { receive = foreign; send = own }) (f, e) Sender a b (origin a b) moments).end, (t.tied b a).sender (record { receive = foreign; send = own }) (f, e)))
+      (λ u. (nothing, (bare.bare a b own foreign u).0))
+
+-- ---- a message
+
+module _ (hosts : List Host) (origin : Host → Host → ℕ → ℕ) (m : HostMessage) (moments : List Moment) (mails : mail.IsRun hosts (crossings_of (Crossed (crossing.In m) ∷ moments))) (story : IsStory (Crossed (crossing.In m) ∷ moments))
+    (run : IsRun hosts (events_of (Crossed (crossing.In m) ∷ moments))) (from : AreOrigins origin (Crossed (crossing.In m) ∷ moments)) (t : AllTied origin moments) (next : AllTied origin (Crossed (crossing.In m) ∷ moments))
+    (bare : AllBare origin moments) (free : TakesFreeAt (Crossed (crossing.In m)) moments) where
+  silent : IsSilent m.flow.link.0 m.text
+  silent =
+      let w : (place : ℕ) × (mail.box_of m.flow (crossings_of moments) ≡ mail.Waiting place m.text) = waits_with (mail.box_of m.flow (crossings_of moments)) m.text mails.0.1 in
+      waiting_silent m.flow w.0 m.text (crossings_of moments) bare.silent w.1
+
+  silent_orders : (m.flow.link.0 == 0) ≡ true → AreSilent (origin m.flow.destination m.flow.source) (orders_of m.text)
+  silent_orders zero = λ own foreign place u. subst (λ (z : Bool). (if z then marks_in place own foreign (orders_of m.text) else []) ≡ []) zero (silent own foreign place u)
+
+  fits_all : (m.flow.link.0 == 0) ≡ true → is_ready (pair_with m.flow.source (program m.flow.destination moments).peers).phase ≡ true → AreJoint (orders_of m.text)
+      → (own foreign : ℕ) → Fits (origin m.flow.destination m.flow.source) m.flow.source (places moments) (orders_of m.text) (turn_of (program m.flow.destination moments) m.flow.source) own foreign
+  fits_all zero ready joint own foreign =
+      by_kind (Fits (origin m.flow.destination m.flow.source) m.flow.source (places moments) (orders_of m.text) (turn_of (program m.flow.destination moments) m.flow.source) own foreign) own foreign
+      (λ e f.
+      let s : Sockets = record { receive = own; send = foreign } in (
+        (Side_of (record { receive = own; send = foreign }) (e, f) Receiver m.flow.destination m.flow.source (origin m.flow.destination m.flow.source) moments).end,
+        (t.tied m.flow.destination m.flow.source).receiver (record { receive = own; send = foreign }) (e, f),
+        ((receiver_hears hosts origin m.flow.destination m.flow.source (Crossed (crossing.In m)) moments from.0 free (record { receive = own; send = foreign }) (e, f) m story run refl
+            (same_host-refl m.flow.destination) (same_host-refl m.flow.source) (next.tied m.flow.destination m.flow.source).steps).0 ready zero joint).1,
+      ))
+      (λ e f. (
+        (Side_of (record { receive = foreign; send = own }) (f, e) Sender m.flow.destination m.flow.source (origin m.flow.destination m.flow.source) moments).end,
+        (t.tied m.flow.source m.flow.destination).sender (record { receive = foreign; send = own }) (f, e),
+        ((sender_hears hosts origin m.flow.source m.flow.destination (Crossed (crossing.In m)) moments from.0 free (record { receive = foreign; send = own }) (f, e) m story run refl
+            (same_host-refl m.flow.destination) (same_host-refl m.flow.source) (next.tied m.flow.source m.flow.destination).steps).0 ready zero joint).1,
+      ))
+      (λ u. (
+        nothing,
+        (bare.bare m.flow.destination m.flow.source own foreign u).0,
+        subst (λ (ms : List Mark). AllFit ms nothing) (sym (silent_orders zero foreign own (origin m.flow.destination m.flow.source (places moments)) (unpaired_turned own foreign u))) tt,
+      ))
+
+  abbrev Heard : List Order → Type 0
+  Heard orders = AllMay (orders_heard m.flow.source (places moments) orders (turn_of (program m.flow.destination moments) m.flow.source) [])
+
+  control_may : (m.flow.link.0 == 0) ≡ true → is_ready (pair_with m.flow.source (program m.flow.destination moments).peers).phase ≡ true → Sort m.flow.link.0 m.text → Heard (orders_of m.text)
+  control_may zero ready (AnRst z orders is) = subst (λ (os : List Order). Heard os) (sym orders) ((tt, tt, tt, tt), tt)
+  control_may zero ready (AnRrp z orders is) = subst (λ (os : List Order). Heard os) (sym orders) ((tt, tt, tt, tt), tt)
+  control_may zero ready (AText is) =
+      let joint : AreJoint (orders_of m.text) = plain_joint (orders_of m.text) (subst (λ (n : Message). IsApart m.flow.link.0 m.text n) is story.0 zero) in
+      heard_may (origin m.flow.destination m.flow.source) m.flow.source (places moments) (orders_of m.text) (turn_of (program m.flow.destination moments) m.flow.source) [] joint (text_good m.text) (silent_orders zero) (free ready zero) ready
+      (fits_all zero ready joint) tt
+
+  pub message_may : AllMay (message_calls m.flow.source (places moments) m.flow.link.0 m.text (turn_of (program m.flow.destination moments) m.flow.source))
+  message_may = by (is_ready (pair_with m.flow.source (program m.flow.destination moments).peers).phase) (m.flow.link.0 == 0) refl refl where
+    by : (r z : Bool) → is_ready (pair_with m.flow.source (program m.flow.destination moments).peers).phase ≡ r → (m.flow.link.0 == 0) ≡ z
+        → AllMay (if r then (if z then orders_heard m.flow.source (places moments) (orders_of m.text) (turn_of (program m.flow.destination moments) m.flow.source) []
+        else called (Takes m.flow.link.0 m.text) (turn_of (program m.flow.destination moments) m.flow.source).pair (turn_of (program m.flow.destination moments) m.flow.source).listening ∷ []) else [])
+    by false z e f = tt
+    by true false e f = (tt, tt)
+    by true true e f = control_may f e (sort_of m.flow.link.0 m.text)

@@ -1,0 +1,165 @@
+-- The lives of a host with one peer beside the calls of its program, and what comes of it for the host's book.
+use Rattle.std.proofs.Common.{◌≡◌, inl, inr, ℕ, zero, suc, ◌<◌, ◌==◌, ◌||◌, Bool, true, false, if◌then◌else◌, List, [], ◌∷◌, ◌++◌, drop, length, slice_index_or, Some, refl, ap, sym, ◌∙◌, subst, eq-eqb, arith}
+use Rattle.std.proofs.lemmas.Bool.{eqb-true}
+use Rattle.std.specs.List.{Contains}
+use Rattle.leader1822.specs.Host.{Host}
+use Rattle.host_pairs.specs.Entries.{entry_at}
+use Rattle.host_pairs.specs.declared.entry.Entry.{Entry}
+use Rattle.host_pairs.proofs.lemmas.{both}
+use Rattle.host_keeps_streams.specs.Histories as calls
+use Rattle.host_keeps_streams.specs.Histories.{AreAllowed, IsHistory, IsTelling, ends_after, gone_now, receiver_now, sender_now}
+use Rattle.host_keeps_streams.proofs.lemmas.{Holds, holds_now, name_of}
+use Rattle.host_keeps_streams.specs.Names.{AreApart, is_among, named, numbers}
+use Rattle.pairing_law.specs.Marks.{Ask, Asks, Close, Mark}
+use Rattle.sockets.specs.Pairs.{pair_with}
+use Rattle.net_sim.specs.declared.life.Life.{Life}
+use Rattle.net_sim.specs.Safe.{receives, sends}
+use Rattle.net_sim.specs.Story.{Moment, event_in, events_of, program}
+use Rattle.net_sim.specs.Told.{kept_in}
+use Rattle.world_keeps_lives.specs.Lives.{AreRefusing}
+use Rattle.world_keeps_pairing.specs.Steps.{keeps}
+use Rattle.world_keeps_streams.specs.Calls.{own_calls}
+use Rattle.world_keeps_streams.proofs.Deeds.Effects.{Among}
+use Rattle.world_keeps_streams.proofs.Deeds.Kinds.{deed_of}
+use Rattle.world_keeps_streams.proofs.Deeds.Law.{receiver_by}
+use Rattle.world_keeps_streams.proofs.Deeds.Sent.{sender_by}
+use Rattle.world_keeps_streams.proofs.Deeds.Told.{After}
+use Rattle.world_keeps_streams.proofs.Deeds.Ends.{Fits, call_does}
+use Rattle.world_keeps_streams.proofs.Carried.Step.{AreOwned, CarriedOn, Carry, IsBlank, Lives}
+use Rattle.world_keeps_streams.proofs.Carried.All.{carry_next}
+use Rattle.world_keeps_streams.proofs.Heard.Ends.{heard_ends}
+use Rattle.world_keeps_streams.proofs.Heard.Lists.{heard_list, mark_heard}
+use Rattle.world_keeps_streams.proofs.Calls.May.{AllMay}
+
+-- ---- calls
+
+-- the request of its partner was heard by these calls, where so many CLS were heard before it; if they follow one another and may be made
+abbrev pub Named : (ℕ → ℕ → ℕ → ℕ) → Host → List calls.Moment → ℕ → ℕ → ℕ → ℕ → Type 0
+Named number b cs own foreign g v = (link : ℕ) → IsHistory b cs → AreAllowed number b link cs → AllMay cs → (origin : ℕ → ℕ) → Asks g (origin v) (heard_list origin foreign own cs)
+
+-- these lives are beside the laws after these calls, which left these ends
+abbrev pub CarryIn : Host → Host → (ℕ → ℕ → ℕ → ℕ) → List calls.Moment → List Entry → List Life → Type 0
+CarryIn a b number cs es lives = Carry (Named number b cs) a b number (gone_now b cs) es (λ link. receiver_now number b link cs) (λ link. sender_now number b link cs) lives
+
+-- where nothing was called, and nothing lives
+pub carry_none : (a b : Host) (number : ℕ → ℕ → ℕ → ℕ) → CarryIn a b number [] [] []
+carry_none a b number = record {
+  all = λ x there host peer. absurd there;
+  takes = λ link other c. inl (record { taken = refl; granted_messages = refl; granted_bits = refl; returned_messages = refl; returned_bits = refl });
+  sends = λ link other c. inl refl;
+  opens = λ e there mine o. absurd there;
+  linked = λ e there. absurd there;
+}
+
+asks_after : (k p : ℕ) (ms w : List Mark) → Asks k p w → Asks k p (ms ++ w)
+asks_after k p [] w a = a
+asks_after k p (Ask q ∷ ms) w a = inr (asks_after k p ms w a)
+asks_after k p (Close ∷ ms) w a = asks_after k p ms w a
+
+among_number : (name : ℕ → ℕ → ℕ) (es : List Entry) (e : Entry) → Among e es → is_among (named name e) (numbers name es) ≡ true
+among_number name [] e there = absurd there
+among_number name (y ∷ ys) e (inl is) = rw (eq-eqb (named name y) (named name e) (ap (λ (z : Entry). named name z) is)) refl
+among_number name (y ∷ ys) e (inr there) = by (named name y == named name e) (among_number name ys e there) where
+  by : (v : Bool) → is_among (named name e) (numbers name ys) ≡ true → (v || is_among (named name e) (numbers name ys)) ≡ true
+  by true t = refl
+  by false t = t
+
+found_among : (name : ℕ → ℕ → ℕ) (es : List Entry) → AreApart (numbers name es) → (e : Entry) → Among e es → entry_at e.own e.foreign es ≡ Some e
+found_among name [] apart e there = absurd there
+found_among name (y ∷ ys) apart e (inl is) = subst (λ (z : Entry). entry_at z.own z.foreign (y ∷ ys) ≡ Some z) is (rw (eq-eqb y.own y.own refl, eq-eqb y.foreign y.foreign refl) refl)
+found_among name (y ∷ ys) apart e (inr there) = by (y.own == e.own) (y.foreign == e.foreign) refl refl (found_among name ys apart.1 e there) where
+  by : (v w : Bool) → (y.own == e.own) ≡ v → (y.foreign == e.foreign) ≡ w → entry_at e.own e.foreign ys ≡ Some e → entry_at e.own e.foreign (y ∷ ys) ≡ Some e
+  by true true f g rest =
+      let same : named name y ≡ named name e = ap (λ (n : ℕ). name n y.foreign) (eqb-true y.own e.own f) ∙ ap (λ (n : ℕ). name e.own n) (eqb-true y.foreign e.foreign g) in
+      let in_rest : is_among (named name y) (numbers name ys) ≡ true = ap (λ (n : ℕ). is_among n (numbers name ys)) same ∙ among_number name ys e there in
+      absurd (let both : true ≡ false = sym in_rest ∙ apart.0 in cc)
+  by true false f g rest = rw (f, g) rest
+  by false w f g rest = rw f rest
+
+-- one call more: `fits` is what it needs, and each life that goes on is that of the one own end on its socket, before it and after it
+pub call_next : (number : ℕ → ℕ → ℕ → ℕ) (tells : IsTelling number) (a b : Host) (cs : List calls.Moment) (m : calls.Moment) (lives : List Life)
+    → ((link : ℕ) → (link == 0) ≡ false → Holds number tells link (gone_now b cs) m.pair.entries (receiver_now number b link cs) (sender_now number b link cs))
+    → AreRefusing m.pair.entries → Fits m.call m.pair → AreOwned a b m.pair.entries lives → AreOwned a b (ends_after b m) (After a b (deed_of m.call m.pair) lives)
+    → CarryIn a b number cs m.pair.entries lives → CarryIn a b number (m ∷ cs) (ends_after b m) (After a b (deed_of m.call m.pair) lives)
+call_next number tells a b cs m lives holds refusing fits old now c =
+    carry_next (Named number b cs) (Named number b (m ∷ cs)) (λ own foreign g v n link i allowed may origin. asks_after g (origin v) (mark_heard origin foreign own m.call) (heard_list origin foreign own cs) (n link i.1 allowed.1 may.1 origin)) number tells a b (gone_now b cs) m.pair.entries (λ link. receiver_now number b link cs) (λ link. sender_now number b link cs) (deed_of m.call m.pair) (ends_after b m)
+    (λ link. receiver_now number b link (m ∷ cs)) (λ link. sender_now number b link (m ∷ cs)) lives
+    (call_does (name_of number (gone_now b cs)) b m.pair m.listening refusing (holds 2 refl).sound.apart m.call fits)
+    (λ link other. receiver_by (name_of number (gone_now b cs)) link m.call m.pair m.listening (receiver_now number b link cs) (holds link other).received)
+    (λ link. sender_by (name_of number (gone_now b cs)) link m.call m.pair m.listening (sender_now number b link cs)) old now c
+    (λ e there v has link i allowed may origin. heard_ends origin number tells b link (m ∷ cs) i allowed may e.own e.foreign e v (found_among (name_of number (gone_now b (m ∷ cs))) (ends_after b m) (holds_now number tells b link (m ∷ cs) i allowed).sound.apart e there) has)
+
+-- ---- elements of a list
+
+contains_among : {A : Type 0} (xs : List A) (x : A) → Contains xs x → Among x xs
+contains_among {A} xs x h = from xs h.0 h.1 h.2 where
+  from : (xs : List A) (i : ℕ) → i < length xs → slice_index_or xs i x ≡ x → Among x xs
+  from [] i less is = absurd (omega (arith, less))
+  from (y ∷ ys) zero less is = inl is
+  from (y ∷ ys) (suc i) less is = inr (from ys i (omega (arith, less)) is)
+
+pub among_contains : {A : Type 0} (xs : List A) (x : A) → Among x xs → Contains xs x
+among_contains [] x h = absurd h
+among_contains (y ∷ ys) x (inl s) = (0, omega arith, s)
+among_contains (y ∷ ys) x (inr s) = let k : Contains ys x = among_contains ys x s in (suc k.0, omega (arith, k.1), k.2)
+
+-- ---- a host's book
+
+-- so many lives stood in the book where `a` dropped its ends with `b` last
+abbrev pub since : Host → Host → List Moment → ℕ
+since a b [] = 0
+since a b (x ∷ ms) = if keeps a b (event_in x) (events_of ms) then since a b ms else length (kept_in (x ∷ ms)).book.lives
+
+-- the lives since then
+abbrev pub recent : Host → Host → List Moment → List Life
+recent a b ms = drop (since a b ms) (kept_in ms).book.lives
+
+-- what is to hold after all moments
+abbrev pub Carries : (ℕ → ℕ → ℕ → ℕ) → Host → Host → List Moment → Type 0
+Carries number a b ms = CarryIn a b number (own_calls a b ms) (pair_with b (program a ms).peers).entries (recent a b ms)
+
+-- a life since then, beside the law of its link
+pub record Carried (number : ℕ → ℕ → ℕ → ℕ) (a b : Host) (ms : List Moment) (x : Life) : Type 0 where
+  pub link : ℕ
+  pub gone : ℕ
+  pub on : CarriedOn (Named number b (own_calls a b ms)) number (gone_now b (own_calls a b ms)) (pair_with b (program a ms).peers).entries (λ l. receiver_now number b l (own_calls a b ms)) (λ l. sender_now number b l (own_calls a b ms)) link gone x
+
+-- one of a connection on a link
+pub record CarriedAs (number : ℕ → ℕ → ℕ → ℕ) (a b : Host) (ms : List Moment) (link c : ℕ) (x : Life) : Type 0 where
+  pub there : Contains (drop (since a b ms) (kept_in ms).book.lives) x
+  pub host : x.host ≡ a
+  pub peer : x.peer ≡ b
+  pub carried : Carried number a b ms x
+  pub link_is : carried.link ≡ link
+  pub number_is : number x.socket x.foreign carried.gone ≡ c
+
+module _ (number : ℕ → ℕ → ℕ → ℕ) (a b : Host) (ms : List Moment) (holds : Carries number a b ms) where
+  pub carried : (x : Life) → Contains (drop (since a b ms) (kept_in ms).book.lives) x → x.host ≡ a → x.peer ≡ b → Carried number a b ms x
+  carried x there host peer =
+      let k : (link : ℕ) × (g : ℕ) × _ = holds.all x (contains_among (recent a b ms) x there) host peer in
+      record { link = k.0; gone = k.1; on = k.2 }
+
+  as_carried : (link c : ℕ) → (l : Lives (Named number b (own_calls a b ms)) a b number (gone_now b (own_calls a b ms)) (pair_with b (program a ms).peers).entries (λ l. receiver_now number b l (own_calls a b ms)) (λ l. sender_now number b l (own_calls a b ms)) (recent a b ms) link c)
+      → CarriedAs number a b ms link c l.life
+  as_carried link c l = record {
+    there = among_contains (recent a b ms) l.life l.there;
+    host = l.host;
+    peer = l.peer;
+    carried = record { link = link; gone = l.gone_before; on = l.carried };
+    link_is = refl;
+    number_is = l.is;
+  }
+
+  -- what was granted or taken has a life
+  pub taken_by : (link : ℕ) → (link == 0) ≡ false → (c : ℕ) → (IsBlank c (receiver_now number b link (own_calls a b ms)) → ⊥) → (x : Life) × CarriedAs number a b ms link c x × (receives x ≡ true)
+  taken_by link other c some = elim (holds.takes link other c) [
+    | inl u ↦ absurd (some u)
+    | inr l ↦ (l.0.life, as_carried link c l.0, l.1)
+  ]
+
+  -- and so has what was sent
+  pub sent_by : (link : ℕ) → (link == 0) ≡ false → (c : ℕ) → ((sender_now number b link (own_calls a b ms)).sent c ≡ [] → ⊥) → (x : Life) × CarriedAs number a b ms link c x × (sends x ≡ true)
+  sent_by link other c some = elim (holds.sends link other c) [
+    | inl u ↦ absurd (some u)
+    | inr l ↦ (l.0.life, as_carried link c l.0, l.1)
+  ]

@@ -1,0 +1,15 @@
+-- What a host heard of two sockets by its calls, as marks of the law of pairing: the newest first.
+use Rattle.std.proofs.Common.{ℕ, List, [], ◌∷◌, ◌++◌}
+use Rattle.host_keeps_pairing.specs.Words.{mark_of}
+use Rattle.host_keeps_streams.specs.Histories as calls
+use Rattle.host_keeps_streams.specs.Histories.{Call, Hears}
+use Rattle.pairing_law.specs.Marks.{Mark}
+
+-- what a command of the peer says of them, the peer's own socket first. A request is told by the place where its message went out
+abbrev pub mark_heard : (ℕ → ℕ) → ℕ → ℕ → Call → List Mark
+mark_heard origin foreign own (Hears stamp said c) = mark_of (origin stamp) foreign own c
+mark_heard origin foreign own k = []
+
+abbrev pub heard_list : (ℕ → ℕ) → ℕ → ℕ → List calls.Moment → List Mark
+heard_list origin foreign own [] = []
+heard_list origin foreign own (m ∷ ms) = mark_heard origin foreign own m.call ++ heard_list origin foreign own ms

@@ -1,0 +1,11 @@
+pub mod Calls
+pub mod Stays
+pub mod Steps
+pub mod Deeds
+pub mod Carried
+pub mod Moments
+pub mod Heard
+pub mod Lives
+pub mod Requests
+pub mod Books
+pub mod lemmas

@@ -1,0 +1,200 @@
+-- The lives of a host that leaves its peer, or has left, end and do nothing else.
+use Rattle.std.proofs.Common.{◌≡◌, ◌⊎◌, inl, inr, ℕ, ◌==◌, ◌&&◌, Bool, true, false, List, [], ◌∷◌, filter, Option, Some, None, refl, ap, sym, subst, ◌∙◌, eq-eqb}
+use Rattle.leader1822.specs.Host.{Host, same_host}
+use Rattle.leader1822.specs.declared.crossing.Crossing.TheVariants as crossing
+use Rattle.leader1822.specs.declared.message.HostMessage.{HostMessage}
+use Rattle.leader1822.proofs.lemmas.{same_host-true}
+use Rattle.ncp_control.specs.Numbers.{is_receive_socket, is_send_socket}
+use Rattle.host_pairs.specs.Entries.{is_at}
+use Rattle.host_pairs.specs.Phases.{is_ready}
+use Rattle.host_pairs.specs.declared.entry.Entry.{Entry}
+use Rattle.host_pairs.proofs.lemmas.{both}
+use Rattle.host_keeps_pairing.specs.Ends.{HasEnd, at, end_of, is_past, standing}
+use Rattle.host_keeps_pairing.specs.Words.{marks}
+use Rattle.pairing_law.specs.Ends.{End, nothing}
+use Rattle.pairing_law.proofs.lemmas.{takes_in_stay}
+use Rattle.reset_law.specs.Events.{Event, Idle, In, Message, Other, Out, Reply, Reset, Send, Take, are, when}
+use Rattle.reset_law.specs.Pairs.{MaySend, pair_moved, pair}
+use Rattle.reset_law.specs.Phases as law
+use Rattle.reset_law.specs.Runs.{IsRun}
+use Rattle.reset_law.specs.Stays as stay
+use Rattle.reset_law.proofs.lemmas.{ready_phase}
+use Rattle.sockets.specs.Pairs.{pair_with}
+use Rattle.sockets.specs.declared.request.Request.{Request}
+use Rattle.sockets.specs.declared.request.Request.TheVariants as request
+use Rattle.net_sim.specs.Book.{life_ended}
+use Rattle.net_sim.specs.Projection.{IsApart, message_on}
+use Rattle.net_sim.specs.Story.{Moment, Crossed, Asked, event_in, events_of, places, program}
+use Rattle.net_sim.specs.Timeline.{crossings_of}
+use Rattle.net_sim.specs.Told.{host_in, notices_by}
+use Rattle.net_sim.specs.declared.life.Life.{Life}
+use Rattle.net_sim.proofs.lemmas.{Coupled}
+use Rattle.world_keeps_lives.proofs.lemmas.{clash}
+use Rattle.world_keeps_pairing.specs.Free.{origin_in}
+use Rattle.world_keeps_pairing.specs.Steps.{keeps}
+use Rattle.world_keeps_pairing.proofs.lemmas.{AText, AnRrp, AnRst, IsUnpaired, Sort, all_bare, are_origins, served_in, sort_of}
+use Rattle.world_keeps_streams.proofs.Calls.Chain.{ready_both}
+use Rattle.world_keeps_streams.proofs.Deeds.Effects.{Among, among_kept, among_mapped}
+use Rattle.world_keeps_streams.proofs.Lives.Away.{away, away_still}
+use Rattle.world_keeps_streams.proofs.Lives.LeavesLists.{AllFine, Bare, IsFineBy, bare_elsewhere, bare_fine, none_of, quiet_of}
+use Rattle.world_keeps_streams.proofs.Lives.LeavesTold.{AllUnasked, answer_fine, away_message, idle_fine, offer_fine, reply_fine, request_fine, reset_fine}
+use Rattle.world_keeps_streams.proofs.Lives.Left.{no_partner, partner_none, stands_as}
+use Rattle.world_keeps_streams.proofs.Lives.Lists.{IsOf, grown}
+use Rattle.world_keeps_streams.proofs.Books.Run.{below}
+use Rattle.world_keeps_streams.proofs.Requests.Sides.{Lawful, coupled_in, lives_in}
+use Rattle.world_keeps_streams.proofs.Books.Whole.{Away}
+use Rattle.world_keeps_streams.proofs.Stays.Resets.{leaves_by, stays_ready}
+
+-- ---- a host that doesn't stay has taken no request of the peer for any end
+
+unpaired_none : (hosts : List Host) (ms : List Moment) → Lawful hosts ms → (h p : Host) (e : Entry) (t : ℕ) → Among e (pair_with p (program h ms).peers).entries → IsUnpaired e.own e.foreign → e.partner ≡ Some t → ⊥
+unpaired_none hosts ms l h p e t there u partner =
+    let c : Coupled hosts ms = coupled_in hosts ms l in
+    let bare : HasEnd (origin_in (crossings_of ms) h p) e.own e.foreign (pair_with p (program h ms).peers) nothing
+    = ((all_bare hosts (origin_in (crossings_of ms)) ms (are_origins 0 (crossings_of ms) [] ms refl) c.story c.run l.1 (served_in hosts ms l.2)).bare h p e.own e.foreign u).0 in
+    let own : (e.own == e.own) ≡ true = eq-eqb e.own e.own refl in
+    let foreign : (e.foreign == e.foreign) ≡ true = eq-eqb e.foreign e.foreign refl in
+    let here : is_at e.own e.foreign e ≡ true = (rw (own, foreign) refl) in
+    let is : (nothing ≡ end_of (origin_in (crossings_of ms) h p) (standing e)) × (is_past (standing e) ≡ false)
+    = stands_as (origin_in (crossings_of ms) h p) 0 (at e.own e.foreign (pair_with p (program h ms).peers).entries) (marks 0 e.own e.foreign (pair_with p (program h ms).peers).queue) nothing (standing e) (bare.ends 0)
+    (among_mapped standing (filter (is_at e.own e.foreign) (pair_with p (program h ms).peers).entries) e (among_kept (is_at e.own e.foreign) (pair_with p (program h ms).peers).entries e there here)) in
+    partner_none (origin_in (crossings_of ms) h p) (standing e) t partner is.1 (ap (λ (x : End). x.partner) (sym is.0))
+
+module _ (hosts : List Host) (ms : List Moment) (l : Lawful hosts ms) (h p : Host) (left : stay.stays h p (events_of ms) ≡ false) where
+  pub unasked : AllUnasked (pair_with p (program h ms).peers).entries
+  unasked e there = by e.partner refl where
+    some : (t : ℕ) → e.partner ≡ Some t → (v w : Bool) → (is_receive_socket e.own && is_send_socket e.foreign) ≡ v → (is_send_socket e.own && is_receive_socket e.foreign) ≡ w → ⊥
+    some t partner true w f g = no_partner hosts ms l h p left e.own e.foreign (inl (both (is_receive_socket e.own) (is_send_socket e.foreign) f)) e t there refl refl partner
+    some t partner false true f g = no_partner hosts ms l h p left e.own e.foreign (inr (both (is_send_socket e.own) (is_receive_socket e.foreign) g)) e t there refl refl partner
+    some t partner false false f g = unpaired_none hosts ms l h p e t there (f, g) partner
+
+    by : (o : Option ℕ) → e.partner ≡ o → e.partner ≡ None
+    by None e = e
+    by (Some t) f = absurd (some t f (is_receive_socket e.own && is_send_socket e.foreign) (is_send_socket e.own && is_receive_socket e.foreign) refl refl)
+
+-- ---- moments with which a stay goes on
+
+module _ (h p : Host) (events : List Event) (ready : stay.ready h p events ≡ true) where
+  still : (e : Event) → stay.ready h p (e ∷ events) ≡ true → stay.takes_reset h p e ≡ false → keeps h p e events ≡ true
+  still e r k = (rw (r, k) refl)
+
+  keeps_idle : keeps h p Idle events ≡ true
+  keeps_idle = still Idle ready refl
+
+  keeps_text : (x y : Host) (l : ℕ) (text : List Bool) → keeps h p (In x y l (Other text)) events ≡ true
+  keeps_text x y l text = still (In x y l (Other text)) (by (are h p y x)) refl where
+    by : (v : Bool) → stay.is_ready (pair_moved (when v (Take (Other text))) (pair h p events)).phase ≡ true
+    by true = ready
+    by false = ready
+
+  -- its next RST waits for a contact
+  keeps_out : (hosts : List Host) (y : Host) (l : ℕ) (m : Message) → IsRun hosts (Out h y l m ∷ events) → keeps h p (Out h y l m) events ≡ true
+  keeps_out hosts y l m run = still (Out h y l m) (by (are h p h y) refl m run.1) refl where
+    by : (v : Bool) → are h p h y ≡ v → (n : Message) → MaySend (pair h y events) l n → stay.is_ready (pair_moved (when v (Send l n)) (pair h p events)).phase ≡ true
+    by false e n may = ready
+    by true e Reply may = ready
+    by true e (Other text) may = ready
+    by true e Reset may =
+        let peer : p ≡ y = same_host-true p y (both (same_host h h) (same_host p y) e).1 in
+        let want : (pair h p events).phase ≡ law.Want = ap (λ (x : Host). (pair h x events).phase) peer ∙ may.1 in
+        clash _ (stay.is_ready (pair h p events).phase) ready (ap stay.is_ready want)
+
+-- ---- what the host of a moment is told by it, where it doesn't stay with a peer after it
+
+module _ (hosts : List Host) (p : Host) where
+  abbrev IsFine : Bool → Moment → List Moment → Type 0
+  IsFine calm y ms = IsFineBy calm y × AllFine calm p (notices_by y ms)
+
+  out_here : (calm : Bool) (m : HostMessage) (ms : List Moment) → Lawful hosts (Crossed (crossing.Out m) ∷ ms) → stay.stays m.flow.source p (events_of (Crossed (crossing.Out m) ∷ ms)) ≡ false → stay.stays m.flow.source p (events_of ms) ≡ calm
+      → IsFine calm (Crossed (crossing.Out m)) ms
+  out_here true m ms l left before =
+      let c : Coupled hosts (Crossed (crossing.Out m) ∷ ms) = coupled_in hosts (Crossed (crossing.Out m) ∷ ms) l in
+      clash _ (keeps m.flow.source p (event_in (Crossed (crossing.Out m))) (events_of ms))
+      (keeps_out m.flow.source p (events_of ms) (stays_ready (events_of ms) m.flow.source p before) hosts m.flow.destination m.flow.link.0 (message_on m.flow.link.0 m.text) c.run)
+      (leaves_by m.flow.source p (event_in (Crossed (crossing.Out m))) (events_of ms) before left)
+  out_here false m ms l left before =
+      let old : Lawful hosts ms = below hosts (Crossed (crossing.Out m)) ms l in
+      (tt, offer_fine false p (program m.flow.source ms) (places ms) refl ((coupled_in hosts ms old).order m.flow.source) (unasked hosts ms old m.flow.source p before))
+
+  text_here : (calm : Bool) (m : HostMessage) (ms : List Moment) → Lawful hosts (Crossed (crossing.In m) ∷ ms) → stay.stays m.flow.destination p (events_of (Crossed (crossing.In m) ∷ ms)) ≡ false → stay.stays m.flow.destination p (events_of ms) ≡ calm
+      → message_on m.flow.link.0 m.text ≡ Other m.text → IsFine calm (Crossed (crossing.In m)) ms
+  text_here true m ms l left before is =
+      clash _ (keeps m.flow.destination p (In m.flow.source m.flow.destination m.flow.link.0 (Other m.text)) (events_of ms))
+      (keeps_text m.flow.destination p (events_of ms) (stays_ready (events_of ms) m.flow.destination p before) m.flow.source m.flow.destination m.flow.link.0 m.text)
+      (subst (λ (n : Message). keeps m.flow.destination p (In m.flow.source m.flow.destination m.flow.link.0 n) (events_of ms) ≡ false) is (leaves_by m.flow.destination p (event_in (Crossed (crossing.In m))) (events_of ms) before left))
+  text_here false m ms l left before is = (tt, by (same_host m.flow.source p) refl (is_ready (pair_with m.flow.source (program m.flow.destination ms).peers).phase) refl) where
+    in_stay : same_host m.flow.source p ≡ true → is_ready (pair_with m.flow.source (program m.flow.destination ms).peers).phase ≡ true → ⊥
+    in_stay e r =
+        let c : Coupled hosts (Crossed (crossing.In m) ∷ ms) = coupled_in hosts (Crossed (crossing.In m) ∷ ms) l in
+        let run : IsRun hosts (In m.flow.source m.flow.destination m.flow.link.0 (Other m.text) ∷ events_of ms) = subst (λ (n : Message). IsRun hosts (In m.flow.source m.flow.destination m.flow.link.0 n ∷ events_of ms)) is c.run in
+        let ready : stay.ready m.flow.destination m.flow.source (events_of ms) ≡ true = ready_both m.flow.destination m.flow.source ms c.story.1 ∙ r in
+        let stays : stay.stays m.flow.destination m.flow.source (events_of ms) ≡ true
+        = takes_in_stay hosts (events_of ms) m.flow.source m.flow.destination m.flow.link.0 m.text run (ready_phase (pair m.flow.destination m.flow.source (events_of ms)).phase ready) in
+        clash ⊥ (stay.stays m.flow.destination p (events_of ms)) (subst (λ (g : Host). stay.stays m.flow.destination g (events_of ms) ≡ true) (same_host-true m.flow.source p e) stays) before
+
+    by : (v : Bool) → same_host m.flow.source p ≡ v → (r : Bool) → is_ready (pair_with m.flow.source (program m.flow.destination ms).peers).phase ≡ r → AllFine false p (notices_by (Crossed (crossing.In m)) ms)
+    by false e r f = away_message false p (program m.flow.destination ms) (places ms) refl m e
+    by true e true f = absurd (in_stay e f)
+    by true e false f =
+        let apart : IsApart m.flow.link.0 m.text (message_on m.flow.link.0 m.text) = (coupled_in hosts (Crossed (crossing.In m) ∷ ms) l).story.0 in
+        idle_fine false p (program m.flow.destination ms) (places ms) m (subst (λ (n : Message). IsApart m.flow.link.0 m.text n) is apart) f
+
+  in_here : (calm : Bool) (m : HostMessage) (ms : List Moment) → Lawful hosts (Crossed (crossing.In m) ∷ ms) → stay.stays m.flow.destination p (events_of (Crossed (crossing.In m) ∷ ms)) ≡ false → stay.stays m.flow.destination p (events_of ms) ≡ calm
+      → IsFine calm (Crossed (crossing.In m)) ms
+  in_here calm m ms l left before = by (sort_of m.flow.link.0 m.text) where
+    by : Sort m.flow.link.0 m.text → IsFine calm (Crossed (crossing.In m)) ms
+    by (AnRst zero orders is) = (tt, reset_fine calm p (program m.flow.destination ms) (places ms) m zero orders)
+    by (AnRrp zero orders is) = (tt, reply_fine calm p (program m.flow.destination ms) (places ms) m zero orders)
+    by (AText is) = text_here calm m ms l left before is
+
+  -- a grant leaves a stay as it is
+  grant_here : (calm : Bool) (h : Host) (events : List Event) → stay.stays h p (Idle ∷ events) ≡ false → stay.stays h p events ≡ calm → calm ≡ false
+  grant_here true h events left before =
+      clash (true ≡ false) (keeps h p Idle events) (keeps_idle h p events (stays_ready events h p before)) (leaves_by h p Idle events before left)
+  grant_here false h events left before = refl
+
+  asked_here : (calm : Bool) (h : Host) (r : Request) (ms : List Moment) → stay.stays h p (events_of (Asked h r ∷ ms)) ≡ false → stay.stays h p (events_of ms) ≡ calm → IsFineBy calm (Asked h r)
+  asked_here calm h (request.Grant socket messages bits) ms left before = grant_here calm h (events_of ms) left before
+  asked_here calm h (request.Contact peer) ms left before = tt
+  asked_here calm h (request.Listen socket size) ms left before = tt
+  asked_here calm h (request.OpenSend peer mine yours size) ms left before = tt
+  asked_here calm h (request.OpenReceive peer mine yours) ms left before = tt
+  asked_here calm h (request.Send socket bits) ms left before = tt
+  asked_here calm h (request.AskBack socket messages bits) ms left before = tt
+  asked_here calm h (request.Interrupt socket) ms left before = tt
+  asked_here calm h (request.Close socket) ms left before = tt
+  asked_here calm h (request.Echo peer octet) ms left before = tt
+
+  fine_here : (calm : Bool) (y : Moment) (ms : List Moment) → Lawful hosts (y ∷ ms) → stay.stays (host_in y) p (events_of (y ∷ ms)) ≡ false → stay.stays (host_in y) p (events_of ms) ≡ calm → IsFine calm y ms
+  fine_here calm (Crossed (crossing.Out m)) ms l left before = out_here calm m ms l left before
+  fine_here calm (Crossed (crossing.In m)) ms l left before = in_here calm m ms l left before
+  fine_here calm (Crossed (crossing.Answer kind f)) ms l left before = (tt, answer_fine calm p (program f.source ms) (places ms) kind f)
+  fine_here calm (Crossed (crossing.Down g)) ms l left before = (tt, tt)
+  fine_here calm (Crossed (crossing.Up g)) ms l left before = (tt, tt)
+  fine_here calm (Asked g r) ms l left before = (asked_here calm g r ms left before, request_fine calm p (program g ms) (places ms) r)
+
+-- ---- so its lives with the peer end and do nothing else, and none begins
+
+module _ (hosts : List Host) (h p : Host) (y : Moment) (ms : List Moment) (l : Lawful hosts (y ∷ ms)) (left : stay.stays h p (events_of (y ∷ ms)) ≡ false) where
+  bare : (calm : Bool) → stay.stays h p (events_of ms) ≡ calm → Bare calm h p (lives_in ms) (lives_in (y ∷ ms))
+  bare calm before = by (same_host (host_in y) h) refl where
+    by : (v : Bool) → same_host (host_in y) h ≡ v → Bare calm h p (lives_in ms) (lives_in (y ∷ ms))
+    by false e = bare_elsewhere calm h p y ms e
+    by true e =
+        let is : host_in y ≡ h = same_host-true (host_in y) h e in
+        let fine : IsFineBy calm y × AllFine calm p (notices_by y ms)
+        = fine_here hosts p calm y ms l (subst (λ (g : Host). stay.stays g p (events_of (y ∷ ms)) ≡ false) (sym is) left) (subst (λ (g : Host). stay.stays g p (events_of ms) ≡ calm) (sym is) before) in
+        bare_fine calm h p y ms fine.0 fine.1
+
+  pub none_begins : (x : Life) → IsOf x (grown y ms).more → x.host ≡ h → x.peer ≡ p → ⊥
+  none_begins = none_of (stay.stays h p (events_of ms)) h p y ms (bare (stay.stays h p (events_of ms)) refl)
+
+  -- where it stayed before
+  pub quiet : stay.stays h p (events_of ms) ≡ true → (x : Life) → IsOf x (lives_in ms) → x.host ≡ h → x.peer ≡ p → ((grown y ms).change x ≡ x) ⊎ ((grown y ms).change x ≡ life_ended x)
+  quiet before x i f k = quiet_of true h p y ms (bare true before) refl x i f k
+
+  pub leaves : Away h p (lives_in ms) (lives_in (y ∷ ms))
+  leaves = by (stay.stays h p (events_of ms)) refl where
+    by : (v : Bool) → stay.stays h p (events_of ms) ≡ v → Away h p (lives_in ms) (lives_in (y ∷ ms))
+    by true before = away hosts h p y ms l left none_begins (quiet before)
+    by false before = away_still hosts h p y ms l left none_begins before

@@ -1,0 +1,126 @@
+-- A host that stays and owes an RRP has said nothing since its stay began; so a text fails only where its sender leaves.
+use Rattle.std.proofs.Common.{◌≡◌, ◌≢◌, ◌⊎◌, ℕ, Bool, true, false, not, ◌&&◌, List, [], ◌∷◌, Some, None, refl, ap, sym, ◌∙◌, inl, inr}
+use Rattle.leader1822.specs.Host.{Host, same_host}
+use Rattle.leader1822.specs.declared.crossing.Answer.{Answer}
+use Rattle.leader1822.specs.declared.crossing.Answer.TheVariants as answer
+use Rattle.reset_law.specs.Phases.{Phase, Closed, Want, Gone, Heard, Ready, failed_phase}
+use Rattle.reset_law.specs.Events.{Message, Reset, Reply, Other, Event, Contact, Out, In, Told, Down, Up, Idle, Call, Send, Take, Hear, Begin, when, are, place}
+use Rattle.reset_law.specs.Boxes.{Box, Empty, Waiting, Put, Fetch, Clear, ClearAll, at_link, boxes}
+use Rattle.reset_law.specs.Pairs.{Plain, kind_of, Pair, MaySend, pair_moved, pair}
+use Rattle.reset_law.specs.Invariant.{kind_in}
+use Rattle.reset_law.specs.Runs.{IsRun}
+use Rattle.reset_law.specs.Stays.{is_ready, ready, begins, takes_reset, stays}
+use Rattle.reset_law.proofs.lemmas.{NoPlain, at, begin_quiet, carry, contradicts, plain_fetched, plain_if}
+use Rattle.world_keeps_pairing.specs.Steps.{keeps}
+use Rattle.world_keeps_streams.proofs.Stays.Resets.{stays_on}
+
+plain_cleared : (bs : ℕ → Box) (l : ℕ) → NoPlain bs → NoPlain (at_link bs l Empty)
+plain_cleared bs l h k e = elim (at bs l Empty k) [
+  | inl t ↦ (let both : None ≡ Some Plain = ap kind_in (sym t.1) ∙ e in absurd (cc))
+  | inr t ↦ h k (ap kind_in (sym t.1) ∙ e)
+]
+
+plain_put : (bs : ℕ → Box) (l here : ℕ) (m : Message) → Some (kind_of m) ≢ Some Plain → NoPlain bs → NoPlain (at_link bs l (Waiting here m))
+plain_put bs l here m signal h k e = elim (at bs l (Waiting here m) k) [
+  | inl t ↦ signal (ap kind_in (sym t.1) ∙ e)
+  | inr t ↦ h k (ap kind_in (sym t.1) ∙ e)
+]
+
+-- what a host that owes an RRP sends is no text
+sends_signal : (l : ℕ) (m : Message) (p : Pair) → p.owed ≡ true → MaySend p l m → Some (kind_of m) ≢ Some Plain
+sends_signal l Reset p owed may e = absurd (cc)
+sends_signal l Reply p owed may e = absurd (cc)
+sends_signal l (Other text) p owed may e = contradicts p.owed owed may.1
+
+-- ---- but for an RST that is taken nothing makes a host owe
+
+owed_call : (t : Bool) (p : Pair) → (pair_moved (when t Call) p).owed ≡ true → p.owed ≡ true
+owed_call true p e = e
+owed_call false p e = e
+
+owed_begin : (t : Bool) (p : Pair) → (pair_moved (when t Begin) p).owed ≡ true → p.owed ≡ true
+owed_begin true p e = absurd (cc)
+owed_begin false p e = e
+
+owed_sent : (t : Bool) (l : ℕ) (m : Message) (p : Pair) → (pair_moved (when t (Send l m)) p).owed ≡ true → p.owed ≡ true
+owed_sent true l Reset p e = e
+owed_sent true l Reply p e = absurd (cc)
+owed_sent true l (Other text) p e = e
+owed_sent false l m p e = e
+
+owed_told : (t : Bool) (l : ℕ) (k : Answer) (p : Pair) → (pair_moved (when t (Hear l k)) p).owed ≡ true → p.owed ≡ true
+owed_told true l answer.Rfnm p e = e
+owed_told true l answer.Dead p e = e
+owed_told true l answer.Incomplete p e = e
+owed_told false l k p e = e
+
+owed_taken : (t : Bool) (m : Message) (p : Pair) → (m ≡ Reset → t ≡ false) → (pair_moved (when t (Take m)) p).owed ≡ true → p.owed ≡ true
+owed_taken true Reset p none e = let no : true ≡ false = none refl in absurd (cc)
+owed_taken true Reply p none e = e
+owed_taken true (Other text) p none e = e
+owed_taken false m p none e = e
+
+not_taken : (a b x y : Host) (l : ℕ) (m : Message) → takes_reset a b (In x y l m) ≡ false → m ≡ Reset → are a b y x ≡ false
+not_taken a b x y l Reset e is = e
+not_taken a b x y l Reply e is = absurd (cc)
+not_taken a b x y l (Other text) e is = absurd (cc)
+
+no_reset : (s t : Bool) → (s && not t) ≡ true → t ≡ false
+no_reset true true e = absurd (cc)
+no_reset true false e = refl
+no_reset false t e = absurd (cc)
+
+-- ---- one event of a stay
+
+abbrev OwesSilent : Host → Host → List Event → Type 0
+OwesSilent a b events = (pair a b events).owed ≡ true → NoPlain (boxes a b events)
+
+owes_step : (hosts : List Host) (e : Event) (events : List Event) → IsRun hosts (e ∷ events) → (a b : Host) → takes_reset a b e ≡ false → OwesSilent a b events → OwesSilent a b (e ∷ events)
+owes_step hosts (Contact x y) events r a b none h owed = h (owed_call (are a b x y) (pair a b events) owed)
+owes_step hosts (Out x y l m) events r a b none h owed =
+    let old : (pair a b events).owed ≡ true = owed_sent (are a b x y) l m (pair a b events) owed in
+    plain_if (are a b x y) (Put l m) (place events) (boxes a b events)
+    (λ e. plain_put (boxes a b events) l (place events) m (sends_signal l m (pair a b events) old (carry (λ v w. MaySend (pair v w events) l m) a b x y e r.1)) (h old)) (h old)
+owes_step hosts (In x y l m) events r a b none h owed =
+    let old : (pair a b events).owed ≡ true = owed_taken (are a b y x) m (pair a b events) (not_taken a b x y l m none) owed in
+    plain_if (are a b x y) (Fetch l) (place events) (boxes a b events) (λ e. plain_fetched (boxes a b events) l (h old)) (h old)
+owes_step hosts (Told x y l k) events r a b none h owed =
+    let old : (pair a b events).owed ≡ true = owed_told (are a b x y) l k (pair a b events) owed in
+    plain_if (are a b x y) (Clear l) (place events) (boxes a b events) (λ e. plain_cleared (boxes a b events) l (h old)) (h old)
+owes_step hosts (Down x) events r a b none h owed = h (owed_begin (same_host a x) (pair a b events) owed)
+owes_step hosts (Up x) events r a b none h owed =
+    plain_if (same_host a x) ClearAll (place events) (boxes a b events) (λ e k plain. absurd (cc)) (h (owed_begin (same_host a x) (pair a b events) owed))
+owes_step hosts Idle events r a b none h owed = h owed
+
+owes_silent : (hosts : List Host) (events : List Event) → IsRun hosts events → (a b : Host) → stays a b events ≡ true → (pair a b events).owed ≡ true → NoPlain (boxes a b events)
+owes_silent hosts [] r a b s owed = absurd (cc)
+owes_silent hosts (e ∷ events) r a b s owed = by (begins a b e events) refl (owes_silent hosts events r.2 a b) where
+  by : (t : Bool) → begins a b e events ≡ t → (stays a b events ≡ true → OwesSilent a b events) → NoPlain (boxes a b (e ∷ events))
+  by true begun rest = (begin_quiet hosts e events r a b begun).0
+  by false old rest =
+      let kept : (keeps a b e events ≡ true) × (stays a b events ≡ true) = stays_on a b e events s old in
+      owes_step hosts e events r a b (no_reset (ready a b (e ∷ events)) (takes_reset a b e) kept.0) (rest kept.1) owed
+
+-- ---- answers
+
+failed_owed : (ph : Phase) (owed : Bool) → is_ready (failed_phase ph owed) ≡ true → owed ≡ true
+failed_owed ph true e = refl
+failed_owed Closed false e = absurd (cc)
+failed_owed Want false e = absurd (cc)
+failed_owed (Gone early) false e = absurd (cc)
+failed_owed Heard false e = absurd (cc)
+failed_owed Ready false e = absurd (cc)
+
+told_owed : (t : Bool) (l : ℕ) (k : Answer) (p : Pair) → t ≡ true → is_ready (pair_moved (when t (Hear l k)) p).phase ≡ true → (k ≡ answer.Rfnm) ⊎ (p.owed ≡ true)
+told_owed true l answer.Rfnm p is e = inl refl
+told_owed true l answer.Dead p is e = inr (failed_owed p.phase p.owed e)
+told_owed true l answer.Incomplete p is e = inr (failed_owed p.phase p.owed e)
+told_owed false l k p is e = absurd (cc)
+
+-- an answer about a text after which its sender is still ready is the RFNM
+pub told_rfnm : (hosts : List Host) (x y : Host) (l : ℕ) (k : Answer) (events : List Event) → IsRun hosts (Told x y l k ∷ events) → (a b : Host) → are a b x y ≡ true → stays a b events ≡ true
+    → ready a b (Told x y l k ∷ events) ≡ true → kind_in (boxes a b events l) ≡ Some Plain → k ≡ answer.Rfnm
+told_rfnm hosts x y l k events r a b same s now plain = elim (told_owed (are a b x y) l k (pair a b events) same now) [
+  | inl is ↦ is
+  | inr owed ↦ absurd (owes_silent hosts events r.2 a b s owed l plain)
+]

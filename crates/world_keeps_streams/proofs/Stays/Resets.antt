@@ -1,0 +1,125 @@
+-- What the law of resets says of a stay: how it begins, who says what in it, and what is outstanding.
+use Rattle.std.proofs.Common.{◌≡◌, ◌≢◌, ℕ, Bool, true, false, not, ◌&&◌, ◌||◌, ◌==◌, List, [], ◌∷◌, Option, Some, None, is_some, refl, ap, sym, ◌∙◌, eq-eqb}
+use Rattle.leader1822.specs.Host.{Host}
+use Rattle.host_pairs.specs.Entries.{is_busy}
+use Rattle.host_pairs.specs.Pair.{PairState}
+use Rattle.reset_law.specs.Events.{Reset, Reply, Other, Event, Out, is_up}
+use Rattle.reset_law.specs.Boxes.{Box, Empty, Waiting, Taken, boxes}
+use Rattle.reset_law.specs.Pairs.{Kind, Rst, Rrp, Plain, pair}
+use Rattle.reset_law.specs.Invariant.{kind_in, is_signal}
+use Rattle.reset_law.specs.Runs.{IsRun}
+use Rattle.reset_law.specs.Stays.{ready, joint, begins, takes_reset, stays}
+use Rattle.reset_law.proofs.lemmas.{NoPlain, alone_run, begin_quiet, contradicts, joint_stays, phase_ready, ready_phase, ready_up, sound_run}
+use Rattle.reset_law.proofs.lemmas.Stays as stays_proofs
+use Rattle.net_sim.specs.Projection.{Agrees}
+use Rattle.world_keeps_pairing.specs.Steps.{keeps}
+use Rattle.world_keeps_streams.proofs.Steps.Joined.{commands_in}
+
+-- ---- who stays is ready
+
+pub stays_ready : (events : List Event) (a b : Host) → stays a b events ≡ true → ready a b events ≡ true
+stays_ready events a b s = stays_proofs.stays_ready events a b s
+
+-- who says something outside of a stay has a peer that isn't in one
+pub out_alone : (hosts : List Host) (a b : Host) (l : ℕ) (text : List Bool) (events : List Event) → IsRun hosts (Out a b l (Other text) ∷ events) → stays a b events ≡ false → stays b a events ≡ false
+out_alone hosts a b l text events r left = by (stays b a events) refl where
+  by : (v : Bool) → stays b a events ≡ v → stays b a events ≡ false
+  by false e = e
+  by true e =
+      let both : joint a b events ≡ true = rw (phase_ready (pair a b events).phase r.1.0, stays_ready events b a e) refl in
+      absurd (contradicts (stays a b events) (joint_stays hosts events r.2 a b both) left)
+
+-- ---- events with which a stay goes on, or ends
+
+stays_parts : (t r k s : Bool) → (t || (r && not k && s)) ≡ true → t ≡ false → ((r && not k) ≡ true) × (s ≡ true)
+stays_parts true r k s e f = absurd (cc)
+stays_parts false true true s e f = absurd (cc)
+stays_parts false true false s e f = (refl, e)
+stays_parts false false k s e f = absurd (cc)
+
+-- a stay that goes on was one before, and is kept
+pub stays_on : (a b : Host) (e : Event) (events : List Event) → stays a b (e ∷ events) ≡ true → begins a b e events ≡ false → (keeps a b e events ≡ true) × (stays a b events ≡ true)
+stays_on a b e events s old = stays_parts (begins a b e events) (ready a b (e ∷ events)) (takes_reset a b e) (stays a b events) s old
+
+pub goes_on : (a b : Host) (e : Event) (events : List Event) → keeps a b e events ≡ true → stays a b events ≡ true → stays a b (e ∷ events) ≡ true
+goes_on a b e events k s = by (begins a b e events) (ready a b (e ∷ events)) (takes_reset a b e) (stays a b events) k s where
+  by : (t r k s : Bool) → (r && not k) ≡ true → s ≡ true → (t || (r && not k && s)) ≡ true
+  by true r k s e f = refl
+  by false true true s e f = absurd (cc)
+  by false true false s e f = f
+  by false false k s e f = absurd (cc)
+
+pub leaves_by : (a b : Host) (e : Event) (events : List Event) → stays a b events ≡ true → stays a b (e ∷ events) ≡ false → keeps a b e events ≡ false
+leaves_by a b e events s left = by (keeps a b e events) refl where
+  by : (v : Bool) → keeps a b e events ≡ v → keeps a b e events ≡ false
+  by false k = k
+  by true k = absurd (contradicts (stays a b (e ∷ events)) (goes_on a b e events k s) left)
+
+-- outside of a stay nothing but its beginning leads into one
+pub stays_out : (a b : Host) (e : Event) (events : List Event) → stays a b events ≡ false → begins a b e events ≡ false → stays a b (e ∷ events) ≡ false
+stays_out a b e events left old = by (begins a b e events) (ready a b (e ∷ events)) (takes_reset a b e) (stays a b events) old left where
+  by : (t r k s : Bool) → t ≡ false → s ≡ false → (t || (r && not k && s)) ≡ false
+  by true r k s e f = absurd (cc)
+  by false true true s e f = refl
+  by false true false s e f = f
+  by false false k s e f = refl
+
+pub begins_stays : (a b : Host) (e : Event) (events : List Event) → begins a b e events ≡ true → stays a b (e ∷ events) ≡ true
+begins_stays a b e events begun = by (begins a b e events) begun where
+  by : (t : Bool) → t ≡ true → (t || (ready a b (e ∷ events) && not (takes_reset a b e) && stays a b events)) ≡ true
+  by true f = refl
+  by false f = absurd (cc)
+
+-- ---- what is outstanding where a stay begins
+
+pub empty_kind : (x : Box) → kind_in x ≡ None → x ≡ Empty
+empty_kind Empty e = refl
+empty_kind (Waiting p m) e = absurd (cc)
+empty_kind (Taken p m) e = absurd (cc)
+
+no_commands : (x : Box) → kind_in x ≢ Some Plain → commands_in x ≡ []
+no_commands Empty none = refl
+no_commands (Waiting p Reset) none = refl
+no_commands (Waiting p Reply) none = refl
+no_commands (Waiting p (Other text)) none = absurd (none refl)
+no_commands (Taken p m) none = refl
+
+-- on a connection's link nothing is outstanding but texts
+away_empty : (hosts : List Host) (events : List Event) → IsRun hosts events → (a b : Host) (l : ℕ) → (l == 0) ≡ false → kind_in (boxes a b events l) ≢ Some Plain → boxes a b events l ≡ Empty
+away_empty hosts events r a b l off none = empty_kind (boxes a b events l) (by (kind_in (boxes a b events l)) refl) where
+  signal : (k : Kind) → is_signal (Some k) ≡ true → kind_in (boxes a b events l) ≡ Some k → ⊥
+  signal k is e = contradicts (l == 0) (eq-eqb l 0 ((alone_run hosts events r a b).on_zero l (ap is_signal e ∙ is))) off
+
+  by : (k : Option Kind) → kind_in (boxes a b events l) ≡ k → kind_in (boxes a b events l) ≡ None
+  by None e = e
+  by (Some Plain) e = absurd (none e)
+  by (Some Rst) e = absurd (signal Rst refl e)
+  by (Some Rrp) e = absurd (signal Rrp refl e)
+
+pub free_links : (hosts : List Host) (e : Event) (events : List Event) → IsRun hosts (e ∷ events) → (a b : Host) → begins a b e events ≡ true → (l : ℕ) → (l == 0) ≡ false
+    → (boxes a b (e ∷ events) l ≡ Empty) × (boxes b a (e ∷ events) l ≡ Empty)
+free_links hosts e events r a b begun l off =
+    let q : NoPlain (boxes a b (e ∷ events)) × NoPlain (boxes b a (e ∷ events)) = begin_quiet hosts e events r a b begun in
+    (away_empty hosts (e ∷ events) r a b l off (q.0 l), away_empty hosts (e ∷ events) r b a l off (q.1 l))
+
+pub free_control : (hosts : List Host) (e : Event) (events : List Event) → IsRun hosts (e ∷ events) → (a b : Host) → begins a b e events ≡ true
+    → (commands_in (boxes a b (e ∷ events) 0) ≡ []) × (commands_in (boxes b a (e ∷ events) 0) ≡ [])
+free_control hosts e events r a b begun =
+    let q : NoPlain (boxes a b (e ∷ events)) × NoPlain (boxes b a (e ∷ events)) = begin_quiet hosts e events r a b begun in
+    (no_commands (boxes a b (e ∷ events) 0) (q.0 0), no_commands (boxes b a (e ∷ events) 0) (q.1 0))
+
+-- ---- what a host that is up knows of its boxes
+
+box_free : (hosts : List Host) (events : List Event) → IsRun hosts events → (a b : Host) → is_up hosts a events ≡ true → (l : ℕ) → (pair a b events).out l ≡ None → boxes a b events l ≡ Empty
+box_free hosts events r a b up l none = empty_kind (boxes a b events l) (sym ((sound_run hosts events r a b up).outstanding.boxed l) ∙ none)
+
+-- the same, by its program
+pub box_busy : (hosts : List Host) (events : List Event) → IsRun hosts events → (a b : Host) → is_up hosts a events ≡ true → (q : PairState) → Agrees q (pair a b events) → (l : ℕ) → is_busy q.busy l ≡ false → boxes a b events l ≡ Empty
+box_busy hosts events r a b up q agrees l free = box_free hosts events r a b up l (by ((pair a b events).out l) refl) where
+  by : (o : Option Kind) → (pair a b events).out l ≡ o → (pair a b events).out l ≡ None
+  by None e = e
+  by (Some k) e = absurd (contradicts (is_busy q.busy l) (sym (agrees.busy l) ∙ ap is_some e) free)
+
+-- a host that is ready is up
+pub up_ready : (hosts : List Host) (events : List Event) → IsRun hosts events → (a b : Host) → ready a b events ≡ true → is_up hosts a events ≡ true
+up_ready hosts events r a b e = ready_up hosts events r a b (ready_phase (pair a b events).phase e)

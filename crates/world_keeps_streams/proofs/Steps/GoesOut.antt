@@ -1,0 +1,81 @@
+-- What a host that doesn't stay leaves in its boxes; and what a host that stays knows of them.
+use Rattle.std.proofs.Common.{◌≡◌, ◌⊎◌, inl, inr, ℕ, Bool, true, false, ◌&&◌, List, ◌++◌, refl, ap, sym, subst, ◌∙◌}
+use Rattle.leader1822.specs.Host.{Host}
+use Rattle.ncp_control.specs.declared.command.Command.{Command}
+use Rattle.stream_law.specs.Streams.{Stream}
+use Rattle.host_pairs.specs.Entries.{is_busy}
+use Rattle.host_pairs.specs.Phases as program_phases
+use Rattle.host_pairs.specs.declared.phase.Phase as host
+use Rattle.host_pairs.specs.declared.phase.Phase.TheVariants as phase
+use Rattle.host_keeps_streams.specs.Histories.{IsTelling}
+use Rattle.reset_law.specs.Boxes.{Box, Empty, boxes}
+use Rattle.reset_law.specs.Pairs.{pair}
+use Rattle.reset_law.specs.Runs.{IsRun}
+use Rattle.reset_law.specs.Stays as stay
+use Rattle.sockets.specs.Pairs.{pair_with}
+use Rattle.net_sim.specs.Projection.{Agrees, phase_of}
+use Rattle.net_sim.specs.Story.{Moment, IsStory, events_of, program}
+use Rattle.net_sim.proofs.lemmas.{story_agrees}
+use Rattle.pair_keeps_streams.proofs.lemmas.{Free, Joint, Lies, Party, Post, Steps}
+use Rattle.world_keeps_streams.proofs.Steps.Held.{Acted, acted_out, side}
+use Rattle.world_keeps_streams.proofs.Steps.Joined.{commands_in, post_in}
+use Rattle.world_keeps_streams.proofs.Stays.Resets.{box_busy, stays_ready, up_ready}
+
+-- ---- phases
+
+phases_same : (ph : host.Phase) → stay.is_ready (phase_of ph) ≡ program_phases.is_ready ph
+phases_same phase.Closed = refl
+phases_same phase.Want = refl
+phases_same (phase.Gone early) = refl
+phases_same phase.Heard = refl
+phases_same phase.Ready = refl
+
+pub ready_as : (h p : Host) (moments : List Moment) → IsStory moments → stay.ready h p (events_of moments) ≡ program_phases.is_ready (pair_with p (program h moments).peers).phase
+ready_as h p moments story =
+    let a : Agrees (pair_with p (program h moments).peers) (pair h p (events_of moments)) = story_agrees moments h p story in
+    ap stay.is_ready a.phase ∙ phases_same (pair_with p (program h moments).peers).phase
+
+pub ready_phase : (ph : host.Phase) → program_phases.is_ready ph ≡ true → ph ≡ phase.Ready
+ready_phase phase.Ready e = refl
+ready_phase phase.Closed e = absurd (let no : false ≡ true = e in cc)
+ready_phase phase.Want e = absurd (let no : false ≡ true = e in cc)
+ready_phase (phase.Gone early) e = absurd (let no : false ≡ true = e in cc)
+ready_phase phase.Heard e = absurd (let no : false ≡ true = e in cc)
+
+and_first : (s t : Bool) → (s && t) ≡ true → s ≡ true
+and_first true t e = refl
+and_first false t e = absurd (let no : false ≡ true = e in cc)
+
+-- where a link is free by the program nothing is outstanding
+pub box_is_free : (hosts : List Host) (h p : Host) (moments : List Moment) → IsRun hosts (events_of moments) → IsStory moments → stay.stays h p (events_of moments) ≡ true
+    → (l : ℕ) → is_busy (pair_with p (program h moments).peers).busy l ≡ false → boxes h p (events_of moments) l ≡ Empty
+box_is_free hosts h p moments run story s l free =
+    box_busy hosts (events_of moments) run h p (up_ready hosts (events_of moments) run h p (stays_ready (events_of moments) h p s))
+    (pair_with p (program h moments).peers) (story_agrees moments h p story) l free
+
+-- ---- boxes of a host that has left
+
+-- a message of it is gone, or is as it was
+abbrev pub IsCleared : Box → Box → Type 0
+IsCleared old new = (new ≡ old) ⊎ (new ≡ Empty)
+
+module _ (number other : ℕ → ℕ → ℕ → ℕ) (tells : IsTelling number) (others : IsTelling other) (link : ℕ) (steps : Steps number other tells others link) (h p : Host) (moments : List Moment) (b : Party) (x y : Stream) (left : stay.stays h p (events_of moments) ≡ false) where
+  abbrev OutJoint : List Command → Post → Type 0
+  OutJoint pending post = Joint number other tells others link x y (side h p moments pending post) b
+
+  posted_out : (pending : List Command) (post post' : Post) → OutJoint pending post → (post' ≡ post) ⊎ ((text : List Bool) → post' ≡ Lies text → ⊥) → OutJoint pending post'
+  posted_out pending post post' j (inl is) = subst (λ (o : Post). OutJoint pending o) (sym is) j
+  posted_out pending post post' j (inr none) = steps.gone_post x y (side h p moments pending post) b j left post' none
+
+  cleared_post : (old new : Box) → IsCleared old new → (post_in new ≡ post_in old) ⊎ ((text : List Bool) → post_in new ≡ Lies text → ⊥)
+  cleared_post old new (inl is) = inl (ap post_in is)
+  cleared_post old new (inr is) = inr (λ text e. absurd (let no : Free ≡ Lies text = sym (ap post_in is) ∙ e in cc))
+
+  pub out_cleared : (old new old_link new_link : Box) (rest : List Command) → IsCleared old new → IsCleared old_link new_link → OutJoint (commands_in old ++ rest) (post_in old_link)
+      → Acted number other tells others link h p moments (commands_in new) (post_in new_link) b x y
+  out_cleared old new old_link new_link rest (inl is) c j =
+      acted_out number other tells others link h p moments (commands_in new) rest (post_in new_link) b x y left
+      (subst (λ (k : Box). OutJoint (commands_in k ++ rest) (post_in new_link)) (sym is) (posted_out (commands_in old ++ rest) (post_in old_link) (post_in new_link) j (cleared_post old_link new_link c)))
+  out_cleared old new old_link new_link rest (inr is) c j =
+      acted_out number other tells others link h p moments (commands_in new) (commands_in old ++ rest) (post_in new_link) b x y left
+      (subst (λ (k : Box). OutJoint (commands_in k ++ (commands_in old ++ rest)) (post_in new_link)) (sym is) (posted_out (commands_in old ++ rest) (post_in old_link) (post_in new_link) j (cleared_post old_link new_link c)))

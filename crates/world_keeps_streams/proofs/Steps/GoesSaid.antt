@@ -1,0 +1,192 @@
+-- What goes out of a host that stays keeps two streams of a link beside its program.
+use Rattle.std.proofs.Common.{◌≡◌, ℕ, zero, suc, ◌==◌, Bool, true, false, not, ◌&&◌, if◌then◌else◌, List, [], ◌∷◌, ◌++◌, map, take, drop, Option, Some, None, is_some, refl, ap, sym, subst, ◌∙◌}
+use Rattle.leader1822.specs.Host.{Host}
+use Rattle.ncp_control.specs.declared.command.Command.{Command}
+use Rattle.ncp_control.specs.declared.command.Command.TheVariants as command
+use Rattle.stream_law.specs.Streams.{Stream}
+use Rattle.host_pairs.specs.Allowed.{MayGo}
+use Rattle.host_pairs.specs.Control.{Order, Legal, orders_of}
+use Rattle.host_pairs.specs.Desk.{DeskState, desk_of}
+use Rattle.host_pairs.specs.Entries.{is_busy, is_link, sends_on}
+use Rattle.host_pairs.specs.Pair.{PairState}
+use Rattle.host_pairs.specs.Parcels as parcel
+use Rattle.host_pairs.specs.Parcels.{Parcel, command_gone, commands_gone, link_for, link_of, next_of, pair_after, parcel_gone, text_for, with_connections}
+use Rattle.host_pairs.specs.declared.entry.Entry.{Entry}
+use Rattle.host_pairs.specs.declared.listener.Listener.{Listener}
+use Rattle.host_pairs.specs.declared.phase.Phase.{Phase}
+use Rattle.host_pairs.specs.declared.phase.Phase.TheVariants as phase
+use Rattle.host_pairs.proofs.lemmas.{what_goes}
+use Rattle.host_keeps_ranges.specs.Ranges.{IsReadBack}
+use Rattle.host_keeps_streams.specs.Histories as calls
+use Rattle.host_keeps_streams.specs.Histories.{IsTelling, Says}
+use Rattle.pair_keeps_streams.proofs.lemmas.{Free, Party, Post, Steps}
+use Rattle.reset_law.specs.Boxes.{Box, Empty, Waiting}
+use Rattle.reset_law.specs.Events.{Other}
+use Rattle.reset_law.specs.Pairs.{Pair}
+use Rattle.net_sim.specs.Projection.{Agrees, ArePlain, control_message, message_on}
+use Rattle.net_sim.proofs.lemmas.{says_reply}
+use Rattle.world_keeps_pairing.proofs.lemmas.{data_away}
+use Rattle.host_keeps_pairing.proofs.lemmas.{eqb-sym}
+use Rattle.world_keeps_streams.specs.Calls.{called, commands_said, parcel_calls}
+use Rattle.world_keeps_streams.proofs.Steps.Going.{Goes, Here, bytes_here, no_bytes_here, renamed, says_here, stays_as, then_goes}
+use Rattle.world_keeps_streams.proofs.Steps.Joined.{commands_in, commands_of_message, legal_in, post_in, post_of_message}
+use Rattle.world_keeps_streams.proofs.Calls.Leads.{gone_same}
+use Rattle.world_keeps_streams.proofs.Calls.MayCalls.{MayCalls}
+
+-- ---- commands one after another
+
+module _ (peer : Host) (stamp : ℕ) where
+  gone_queue : (c : Command) (d : DeskState) → (command_gone peer stamp c d).queue ≡ d.queue
+  gone_queue command.Nop d = refl
+  gone_queue (command.Rts receive send link) d = refl
+  gone_queue (command.Str send receive size) d = refl
+  gone_queue (command.Cls own foreign) d = refl
+  gone_queue (command.All link messages bits) d = refl
+  gone_queue (command.Gvb link messages bits) d = refl
+  gone_queue (command.Ret link messages bits) d = refl
+  gone_queue (command.Inr link) d = refl
+  gone_queue (command.Ins link) d = refl
+  gone_queue (command.Eco octet) d = refl
+  gone_queue (command.Erp octet) d = refl
+  gone_queue (command.Err code detail) d = refl
+  gone_queue command.Rst d = refl
+  gone_queue command.Rrp d = refl
+
+  all_queue : (cs : List Command) (d : DeskState) → (commands_gone peer stamp cs d).queue ≡ d.queue
+  all_queue [] d = refl
+  all_queue (c ∷ cs) d = all_queue cs (command_gone peer stamp c d) ∙ gone_queue c d
+
+  -- the pair after them, but for what is taken off its queue
+  abbrev said_pair : List Command → PairState → List Listener → PairState
+  said_pair [] q listening = q
+  said_pair (c ∷ cs) q listening = said_pair cs (with_connections q (command_gone peer stamp c (desk_of q listening))) listening
+
+  said_queue : (cs : List Command) (q : PairState) (listening : List Listener) → (said_pair cs q listening).queue ≡ q.queue
+  said_queue [] q listening = refl
+  said_queue (c ∷ cs) q listening = said_queue cs (with_connections q (command_gone peer stamp c (desk_of q listening))) listening ∙ gone_queue c (desk_of q listening)
+
+  said_ends : (cs : List Command) (q : PairState) (listening : List Listener) (d : DeskState) → d.entries ≡ q.entries → (said_pair cs q listening).entries ≡ (commands_gone peer stamp cs d).entries
+  said_ends [] q listening d is = sym is
+  said_ends (c ∷ cs) q listening d is =
+      said_ends cs (with_connections q (command_gone peer stamp c (desk_of q listening))) listening (command_gone peer stamp c d) (gone_same peer stamp c d (desk_of q listening) is)
+
+  said_under : (cs : List Command) (q : PairState) (listening : List Listener) (older : List calls.Moment) → MayCalls (commands_said peer stamp cs q listening older) → MayCalls older
+  said_under [] q listening older m = m
+  said_under (c ∷ cs) q listening older m =
+      (said_under cs (with_connections q (command_gone peer stamp c (desk_of q listening))) listening (called (Says stamp c) q listening ∷ older) m).1
+
+-- ---- what is read
+
+legal_all : (cs : List Command) → legal_in (map Legal cs) ≡ cs
+legal_all [] = refl
+legal_all (c ∷ cs) = ap (λ (l : List Command). c ∷ l) (legal_all cs)
+
+plain_take : (n : ℕ) (cs : List Command) → ArePlain cs → ArePlain (take n cs)
+plain_take zero cs h = tt
+plain_take (suc n) [] h = tt
+plain_take (suc n) (c ∷ cs) h = (h.0, plain_take n cs h.1)
+
+plain_message : (text : List Bool) (cs : List Command) → ArePlain cs → control_message text (map Legal cs) ≡ Other text
+plain_message text [] h = refl
+plain_message text (c ∷ []) h = rw (h.0.0, h.0.1) refl
+plain_message text (c ∷ d ∷ cs) h = refl
+
+take_drop : (n : ℕ) (cs : List Command) → cs ≡ take n cs ++ drop n cs
+take_drop zero cs = refl
+take_drop (suc n) [] = refl
+take_drop (suc n) (c ∷ cs) = ap (λ (l : List Command). c ∷ l) (take_drop n cs)
+
+sends_as : (o : Option ℕ) (link : ℕ) → is_some o ≡ true → is_link link o ≡ (link_of o == link)
+sends_as None link e = absurd (let no : false ≡ true = e in cc)
+sends_as (Some l) link e = refl
+
+never_ready : (P : Type 0) (ph : Phase) → ph ≡ phase.Want → ph ≡ phase.Ready → P
+never_ready P ph e f = absurd (let no : phase.Want ≡ phase.Ready = sym e ∙ f in cc)
+
+module _ (number other : ℕ → ℕ → ℕ → ℕ) (tells : IsTelling number) (others : IsTelling other) (link : ℕ) (off : (link == 0) ≡ false) (steps : Steps number other tells others link) (p : Host) (stamp here : ℕ) (own : List calls.Moment) (listening : List Listener) (b : Party) where
+  said_run : (post : Post) (cs : List Command) (q : PairState) (older : List calls.Moment) (front : List Command) (x y : Stream) → MayCalls (commands_said p stamp cs q listening older) → Here number other tells others link p (older ++ own) q front post b x y
+      → Goes number other tells others link p (commands_said p stamp cs q listening older ++ own) (said_pair p stamp cs q listening) front post b x y
+  said_run post [] q older front x y may h = stays_as number other tells others link p (older ++ own) q front post b x y h
+  said_run post (c ∷ cs) q older front x y may h =
+      let next : PairState = with_connections q (command_gone p stamp c (desk_of q listening)) in
+      let one : Goes number other tells others link p (called (Says stamp c) q listening ∷ (older ++ own)) (with_connections q (command_gone p stamp c (desk_of q listening))) front post b x y =
+      says_here number other tells others link p (older ++ own) q front post b x y h steps listening stamp c
+      (said_under p stamp cs (with_connections q (command_gone p stamp c (desk_of q listening))) listening (called (Says stamp c) q listening ∷ older) may).0
+      (with_connections q (command_gone p stamp c (desk_of q listening))) refl (sym (gone_queue p stamp c (desk_of q listening))) in
+      then_goes number other tells others link p (called (Says stamp c) q listening ∷ (older ++ own)) (commands_said p stamp (c ∷ cs) q listening older ++ own) (with_connections q (command_gone p stamp c (desk_of q listening)))
+      (said_pair p stamp cs (with_connections q (command_gone p stamp c (desk_of q listening))) listening) front front post post b b x y one
+      (λ first second g. said_run post cs (with_connections q (command_gone p stamp c (desk_of q listening))) (called (Says stamp c) q listening ∷ older) front first second may g)
+
+  module _ (q : PairState) (x y : Stream) (control at : Box) (h : Here number other tells others link p own q (commands_in control) (post_in at) b x y) (agrees : (law : Pair) × Agrees q law) (ready : q.phase ≡ phase.Ready) where
+    abbrev After : Parcel → Type 0
+    After g =
+        Goes number other tells others link p (parcel_calls p stamp g q listening ++ own) (pair_after g q (parcel_gone p stamp q.busy g (desk_of q listening)))
+        (commands_in (if 0 == link_for g then Waiting here (message_on (link_for g) (text_for q g)) else control)) (post_in (if link == link_for g then Waiting here (message_on (link_for g) (text_for q g)) else at)) b x y
+
+    reply_goes : 0 == 0 ≡ true → control ≡ Empty → After parcel.Reply
+    reply_goes e empty =
+        let nothing : commands_in control ≡ commands_of_message (message_on 0 (text_for q parcel.Reply)) = ap commands_in empty ∙ sym (ap commands_of_message (says_reply q)) in
+        rw off (stays_as number other tells others link p own (pair_after parcel.Reply q (parcel_gone p stamp q.busy parcel.Reply (desk_of q listening))) (commands_of_message (message_on 0 (text_for q parcel.Reply))) (post_in at) b x y
+        (renamed number other tells others link p own q (pair_after parcel.Reply q (parcel_gone p stamp q.busy parcel.Reply (desk_of q listening))) (commands_in control) (commands_of_message (message_on 0 (text_for q parcel.Reply))) (post_in at) b x y h refl
+        (ap (λ (cs : List Command). cs ++ q.queue) nothing)))
+
+    commands_go : (count : ℕ) → control ≡ Empty → orders_of (text_for q (parcel.Commands count)) ≡ map Legal (take count q.queue) → MayCalls (commands_said p stamp (take count q.queue) q listening []) → After (parcel.Commands count)
+    commands_go count empty back may =
+        let text : List Bool = text_for q (parcel.Commands count) in
+        let is : message_on 0 (text_for q (parcel.Commands count)) ≡ Other (text_for q (parcel.Commands count)) =
+        ap (λ (os : List Order). control_message (text_for q (parcel.Commands count)) os) back ∙ plain_message (text_for q (parcel.Commands count)) (take count q.queue) (plain_take count q.queue agrees.1.plain) in
+        let said : commands_of_message (message_on 0 (text_for q (parcel.Commands count))) ≡ take count q.queue = ap commands_of_message is ∙ ap legal_in back ∙ legal_all (take count q.queue) in
+        let run : Goes number other tells others link p (commands_said p stamp (take count q.queue) q listening [] ++ own) (said_pair p stamp (take count q.queue) q listening) (commands_in control) (post_in at) b x y =
+        said_run (post_in at) (take count q.queue) q [] (commands_in control) x y may h in
+        let ends : (said_pair p stamp (take count q.queue) q listening).entries ≡ (pair_after (parcel.Commands count) q (parcel_gone p stamp q.busy (parcel.Commands count) (desk_of q listening))).entries = said_ends p stamp (take count q.queue) q listening (desk_of q listening) refl in
+        let queue : commands_in control ++ (said_pair p stamp (take count q.queue) q listening).queue ≡ commands_of_message (message_on 0 (text_for q (parcel.Commands count))) ++ (pair_after (parcel.Commands count) q (parcel_gone p stamp q.busy (parcel.Commands count) (desk_of q listening))).queue =
+        ap (λ (z : Box). commands_in z ++ (said_pair p stamp (take count q.queue) q listening).queue) empty ∙ said_queue p stamp (take count q.queue) q listening ∙ take_drop count q.queue
+        ∙ ap (λ (cs : List Command). cs ++ drop count q.queue) (sym said)
+        ∙ ap (λ (cs : List Command). commands_of_message (message_on 0 (text_for q (parcel.Commands count))) ++ drop count cs) (sym (all_queue p stamp (take count q.queue) (desk_of q listening))) in
+        rw off (record {
+          first = run.first;
+          second = run.second;
+          here = renamed number other tells others link p (commands_said p stamp (take count q.queue) q listening [] ++ own) (said_pair p stamp (take count q.queue) q listening)
+              (pair_after (parcel.Commands count) q (parcel_gone p stamp q.busy (parcel.Commands count) (desk_of q listening))) (commands_in control) (commands_of_message (message_on 0 (text_for q (parcel.Commands count)))) (post_in at) b run.first run.second run.here ends queue;
+          sender = run.sender;
+          receiver = run.receiver;
+        })
+
+    bytes_go : (e : Entry) (size count : ℕ) → next_of q ≡ Some (parcel.Bytes e size count) → (is_busy q.busy link ≡ false → post_in at ≡ Free) → MayCalls (parcel_calls p stamp (parcel.Bytes e size count) q listening) → After (parcel.Bytes e size count)
+    bytes_go e size count n room may = by (link == link_of e.link) refl where
+      goes : MayGo q (parcel.Bytes e size count)
+      goes = what_goes q (parcel.Bytes e size count) n
+
+      away : (link_of e.link == 0) ≡ false
+      away = data_away q e size count agrees.1.linked goes.1.linked n
+
+      on_link : sends_on link e ≡ (link == link_of e.link)
+      on_link = ap (λ (t : Bool). not t && is_link link e.link) goes.1.sends ∙ sends_as e.link link goes.1.linked ∙ eqb-sym (link_of e.link) link
+
+      is : message_on (link_of e.link) (text_for q (parcel.Bytes e size count)) ≡ Other (text_for q (parcel.Bytes e size count))
+      is = rw away refl
+
+      apart : (0 == link_of e.link) ≡ false
+      apart = eqb-sym 0 (link_of e.link) ∙ away
+
+      by : (v : Bool) → (link == link_of e.link) ≡ v
+          → Goes number other tells others link p (parcel_calls p stamp (parcel.Bytes e size count) q listening ++ own) (pair_after (parcel.Bytes e size count) q (parcel_gone p stamp q.busy (parcel.Bytes e size count) (desk_of q listening)))
+          (commands_in (if 0 == link_of e.link then Waiting here (message_on (link_of e.link) (text_for q (parcel.Bytes e size count))) else control))
+          (post_in (if v then Waiting here (message_on (link_of e.link) (text_for q (parcel.Bytes e size count))) else at)) b x y
+      by true f =
+          rw apart
+          (subst (λ (o : Post). Goes number other tells others link p (parcel_calls p stamp (parcel.Bytes e size count) q listening ++ own) (pair_after (parcel.Bytes e size count) q (parcel_gone p stamp q.busy (parcel.Bytes e size count) (desk_of q listening))) (commands_in control) o b x y)
+          (sym (ap post_of_message is))
+          (bytes_here number other tells others link p own q (commands_in control) (post_in at) b x y h steps listening stamp e size count n may.0.1 (on_link ∙ f) room
+          (pair_after (parcel.Bytes e size count) q (parcel_gone p stamp q.busy (parcel.Bytes e size count) (desk_of q listening))) refl refl))
+      by false f =
+          rw apart
+          (no_bytes_here number other tells others link p own q (commands_in control) (post_in at) b x y h steps listening stamp e size count n (on_link ∙ f)
+          (pair_after (parcel.Bytes e size count) q (parcel_gone p stamp q.busy (parcel.Bytes e size count) (desk_of q listening))) refl refl)
+
+    -- whatever goes out next
+    pub parcel_goes : (g : Parcel) → next_of q ≡ Some g → IsReadBack q g → (0 == link_for g ≡ true → control ≡ Empty) → (is_busy q.busy link ≡ false → post_in at ≡ Free) → MayCalls (parcel_calls p stamp g q listening) → After g
+    parcel_goes parcel.Reset n back empty room may = never_ready (After parcel.Reset) q.phase (what_goes q parcel.Reset n).wanted ready
+    parcel_goes parcel.Reply n back empty room may = reply_goes refl (empty refl)
+    parcel_goes (parcel.Commands count) n back empty room may = commands_go count (empty refl) back may
+    parcel_goes (parcel.Bytes e size count) n back empty room may = bytes_go e size count n room may

@@ -1,0 +1,89 @@
+-- The two programs of a pair of hosts of a world on one link, beside two runs of the law of streams.
+use Rattle.std.proofs.Common.{◌≡◌, ℕ, Bool, true, false, List, [], ◌∷◌, ◌++◌}
+use Rattle.leader1822.specs.Host.{Host}
+use Rattle.ncp_control.specs.declared.command.Command.{Command}
+use Rattle.reset_law.specs.Boxes as reset
+use Rattle.reset_law.specs.Boxes.{boxes}
+use Rattle.reset_law.specs.Events.{Message, Other, Reset, Reply}
+use Rattle.reset_law.specs.Stays as stay
+use Rattle.stream_law.specs.Streams.{Stream}
+use Rattle.stream_law.specs.Within.{IsFront}
+use Rattle.host_pairs.specs.Control.{Order, Legal, Wrong, orders_of}
+use Rattle.host_keeps_streams.specs.Histories.{AreAllowed, IsTelling, gone_now, numbered, receiver_now, sender_now}
+use Rattle.host_keeps_streams.proofs.lemmas.{numbered_tells}
+use Rattle.sockets.specs.Pairs.{pair_with}
+use Rattle.net_sim.specs.Story.{Moment, events_of, program}
+use Rattle.pair_keeps_streams.proofs.lemmas.{Fetched, Free, Joint, Lies, Party, Post}
+use Rattle.world_keeps_streams.specs.Calls.{own_calls}
+pub use Rattle.world_keeps_streams.specs.Calls.{numbered_by_peer}
+
+pub turned_tells : IsTelling numbered_by_peer
+turned_tells = record {
+  own = λ a b g c d h e. numbered_tells.foreign b a g d c h e;
+  foreign = λ a b g c d h e. numbered_tells.own b a g d c h e;
+  gone = λ a b g c d h e. numbered_tells.gone b a g d c h e;
+}
+
+-- ---- what lies in a box
+
+abbrev pub legal_in : List Order → List Command
+legal_in [] = []
+legal_in (Legal c ∷ orders) = c ∷ legal_in orders
+legal_in (Wrong code octets ∷ orders) = legal_in orders
+
+abbrev pub commands_of_message : Message → List Command
+commands_of_message (Other text) = legal_in (orders_of text)
+commands_of_message Reset = []
+commands_of_message Reply = []
+
+-- the commands that wait to be taken
+abbrev pub commands_in : reset.Box → List Command
+commands_in reset.Empty = []
+commands_in (reset.Waiting place m) = commands_of_message m
+commands_in (reset.Taken place m) = []
+
+abbrev pub post_of_message : Message → Post
+post_of_message (Other text) = Lies text
+post_of_message Reset = Free
+post_of_message Reply = Free
+
+abbrev pub post_in : reset.Box → Post
+post_in reset.Empty = Free
+post_in (reset.Waiting place m) = post_of_message m
+post_in (reset.Taken place m) = Fetched
+
+-- ---- the two hosts
+
+-- host `a` beside `b`. Behind what waits to be taken stands `rest`: what waits in its program, while it stays
+abbrev pub party : Host → Host → ℕ → List Command → List Moment → Party
+party a b link rest moments = record {
+  stays = stay.stays a b (events_of moments);
+  gone = gone_now b (own_calls a b moments);
+  entries = (pair_with b (program a moments).peers).entries;
+  pending = commands_in (boxes a b (events_of moments) 0) ++ rest;
+  post = post_in (boxes a b (events_of moments) link);
+}
+
+pub record Joined (a b : Host) (link : ℕ) (moments : List Moment) : Type 0 where
+  pub x : Stream
+  pub y : Stream
+  pub rest_a : List Command
+  pub rest_b : List Command
+  pub joint : Joint numbered numbered_by_peer numbered_tells turned_tells link x y (party a b link rest_a moments) (party b a link rest_b moments)
+  pub queue_a : stay.stays a b (events_of moments) ≡ true → rest_a ≡ (pair_with b (program a moments).peers).queue
+  pub queue_b : stay.stays b a (events_of moments) ≡ true → rest_b ≡ (pair_with a (program b moments).peers).queue
+  -- the streams are those of the calls that the two made
+  pub received_a : stay.stays a b (events_of moments) ≡ true → x.receiver ≡ receiver_now numbered b link (own_calls a b moments)
+  pub sent_a : stay.stays a b (events_of moments) ≡ true → y.sender ≡ sender_now numbered b link (own_calls a b moments)
+  pub received_b : stay.stays b a (events_of moments) ≡ true → y.receiver ≡ receiver_now numbered_by_peer a link (own_calls b a moments)
+  pub sent_b : stay.stays b a (events_of moments) ≡ true → x.sender ≡ sender_now numbered_by_peer a link (own_calls b a moments)
+  -- and each of these calls might be made
+  pub allowed_a : stay.stays a b (events_of moments) ≡ true → AreAllowed numbered b link (own_calls a b moments)
+  pub allowed_b : stay.stays b a (events_of moments) ≡ true → AreAllowed numbered_by_peer a link (own_calls b a moments)
+
+-- what is kept of a stream after its receiver has left: it may take what lies there still, but grants and gets back nothing; and after its sender has
+pub record Keeps (receiver_stays sender_stays : Bool) (old new : Stream) : Type 0 where
+  pub granted : receiver_stays ≡ false → (c : ℕ) → new.receiver.granted c ≡ old.receiver.granted c
+  pub returned : receiver_stays ≡ false → (c : ℕ) → new.receiver.returned c ≡ old.receiver.returned c
+  pub taken : receiver_stays ≡ false → (c : ℕ) → IsFront (old.receiver.taken c) (new.receiver.taken c)
+  pub sent : sender_stays ≡ false → (c : ℕ) → new.sender.sent c ≡ old.sender.sent c

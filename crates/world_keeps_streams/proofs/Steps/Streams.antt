@@ -1,0 +1,73 @@
+-- What two programs of a world that stay together have of each link, as the law of streams has it.
+use Rattle.std.proofs.Common.{◌≡◌, ℕ, ◌==◌, true, false, List, subst}
+use Rattle.leader1822.specs.Host.{Host}
+use Rattle.leader1822.specs.Mailboxes as mail
+use Rattle.host_pairs.specs.declared.entry.Entry.{Entry}
+use Rattle.host_keeps_streams.specs.Ends.{HasReceiver}
+use Rattle.host_keeps_streams.specs.Histories.{AreAllowed, gone_now, name_now, numbered, receiver_now, sender_now}
+use Rattle.host_keeps_streams.specs.Names.{IsSending}
+use Rattle.host_keeps_streams.proofs.lemmas.{Holds, holds_now, numbered_tells}
+use Rattle.stream_law.specs.Receivers.{Receiver}
+use Rattle.stream_law.specs.Senders.{Sender}
+use Rattle.stream_law.specs.Within.{AreGranted, IsFront, IsSafe}
+use Rattle.reset_law.specs.Stays as stay
+use Rattle.sockets.specs.Pairs.{pair_with}
+use Rattle.net_sim.specs.Clean.{HaveAddresses}
+use Rattle.net_sim.specs.Story.{Moment, events_of, program}
+use Rattle.net_sim.specs.Timeline.{IsTimeline, crossings_of}
+use Rattle.world_keeps_streams.specs.Calls.{own_calls, numbered_by_peer}
+use Rattle.world_keeps_streams.proofs.Calls.Allowed.{may_calls}
+use Rattle.world_keeps_streams.proofs.Calls.Chain.{Chained, chain}
+use Rattle.world_keeps_streams.proofs.Books.Streams.{safe_inv}
+use Rattle.world_keeps_streams.proofs.Steps.Joined.{Joined}
+use Rattle.world_keeps_streams.proofs.Steps.JoinedAll.{joined}
+use Rattle.world_keeps_streams.proofs.Calls.MayAll.{allowed}
+
+module _ (hosts : List Host) (addresses : HaveAddresses hosts) (link : ℕ) (off : (link == 0) ≡ false) (a b : Host) where
+  -- each call since a host dropped its ends might be made
+  pub all_allowed : (moments : List Moment) → mail.IsRun hosts (crossings_of moments) → IsTimeline hosts moments → AreAllowed numbered b link (own_calls a b moments)
+  all_allowed = allowed numbered link hosts addresses a b (λ moments run time. (joined link off hosts addresses a b moments run time).allowed_a) (λ x moments run time. may_calls hosts addresses x moments run time a b)
+
+  -- so the program's ends are the law's
+  all_hold : (moments : List Moment) → mail.IsRun hosts (crossings_of moments) → IsTimeline hosts moments
+      → Holds numbered numbered_tells link (gone_now b (own_calls a b moments)) (pair_with b (program a moments).peers).entries (receiver_now numbered b link (own_calls a b moments)) (sender_now numbered b link (own_calls a b moments))
+  all_hold moments run time =
+      let c : Chained a b moments = chain hosts addresses moments run time a b in
+      subst (λ (es : List Entry). Holds numbered numbered_tells link (gone_now b (own_calls a b moments)) es (receiver_now numbered b link (own_calls a b moments)) (sender_now numbered b link (own_calls a b moments))) c.1
+      (holds_now numbered numbered_tells b link (own_calls a b moments) c.0 (all_allowed moments run time))
+
+  pub has_receiver : (moments : List Moment) → mail.IsRun hosts (crossings_of moments) → IsTimeline hosts moments
+      → HasReceiver (name_now numbered b (own_calls a b moments)) link (pair_with b (program a moments).peers).entries (receiver_now numbered b link (own_calls a b moments))
+  has_receiver moments run time = (all_hold moments run time).received
+
+  pub has_sender : (moments : List Moment) → mail.IsRun hosts (crossings_of moments) → IsTimeline hosts moments
+      → IsSending (name_now numbered b (own_calls a b moments)) link (pair_with b (program a moments).peers).entries (sender_now numbered b link (own_calls a b moments))
+  has_sender moments run time = (all_hold moments run time).sent
+
+  -- ---- while both stay
+
+  module _ (moments : List Moment) (run : mail.IsRun hosts (crossings_of moments)) (time : IsTimeline hosts moments) (mine : stay.stays a b (events_of moments) ≡ true) (theirs : stay.stays b a (events_of moments) ≡ true) (c : ℕ) where
+    j : Joined a b link moments
+    j = joined link off hosts addresses a b moments run time
+
+    received : (joined link off hosts addresses a b moments run time).x.receiver ≡ receiver_now numbered b link (own_calls a b moments)
+    received = (joined link off hosts addresses a b moments run time).received_a mine
+
+    sent : (joined link off hosts addresses a b moments run time).x.sender ≡ sender_now numbered_by_peer a link (own_calls b a moments)
+    sent = (joined link off hosts addresses a b moments run time).sent_b theirs
+
+    safe : IsSafe (joined link off hosts addresses a b moments run time).x c
+    safe = safe_inv (joined link off hosts addresses a b moments run time).x (joined link off hosts addresses a b moments run time).joint.inv_x c
+
+    pub both_front : IsFront ((receiver_now numbered b link (own_calls a b moments)).taken c) ((sender_now numbered_by_peer a link (own_calls b a moments)).sent c)
+    both_front =
+        subst (λ (s : Sender). IsFront ((receiver_now numbered b link (own_calls a b moments)).taken c) (s.sent c)) sent
+        (subst (λ (r : Receiver). IsFront (r.taken c) ((joined link off hosts addresses a b moments run time).x.sender.sent c)) received safe.front)
+
+    pub both_taken : AreGranted ((receiver_now numbered b link (own_calls a b moments)).taken c) ((receiver_now numbered b link (own_calls a b moments)).returned c) ((receiver_now numbered b link (own_calls a b moments)).granted c)
+    both_taken = subst (λ (r : Receiver). AreGranted (r.taken c) (r.returned c) (r.granted c)) received safe.taken
+
+    pub both_sent : AreGranted ((sender_now numbered_by_peer a link (own_calls b a moments)).sent c) ((receiver_now numbered b link (own_calls a b moments)).returned c) ((receiver_now numbered b link (own_calls a b moments)).granted c)
+    both_sent =
+        subst (λ (s : Sender). AreGranted (s.sent c) ((receiver_now numbered b link (own_calls a b moments)).returned c) ((receiver_now numbered b link (own_calls a b moments)).granted c)) sent
+        (subst (λ (r : Receiver). AreGranted ((joined link off hosts addresses a b moments run time).x.sender.sent c) (r.returned c) (r.granted c)) received safe.sent)

@@ -1,0 +1,84 @@
+//! What two programs of a world do on each link. The functions here do nothing: each clause is a law.
+
+ghost use Rattle.std.specs.Prelude.{◌≡◌, ℕ, ◌==◌, true, false, List, [], ◌∷◌, None, Some, length};
+ghost use Rattle.std.specs.List.{Contains};
+ghost use Rattle.leader1822.specs.Host.{Host};
+ghost use Rattle.leader1822.specs.Mailboxes as mail;
+ghost use Rattle.host_keeps_streams.specs.Ends.{HasReceiver};
+ghost use Rattle.host_keeps_streams.specs.Histories.{AreAllowed, IsHistory, ends_now, name_now, numbered, receiver_now, sender_now};
+ghost use Rattle.host_keeps_streams.specs.Names.{IsSending};
+ghost use Rattle.stream_law.specs.Within.{AreGranted, IsFront};
+ghost use Rattle.reset_law.specs.Stays as stay;
+ghost use Rattle.sockets.specs.Pairs.{pair_with};
+ghost use Rattle.sockets.specs.Worked as dialogue;
+ghost use Rattle.sockets.specs.declared.request.Request.TheVariants as request;
+ghost use Rattle.net_sim.specs.declared.life.Life.{Life};
+ghost use Rattle.net_sim.specs.Clean.{HaveAddresses, IsLawful};
+ghost use Rattle.net_sim.specs.Safe.{IsGranted, Match, Source, receives};
+ghost use Rattle.net_sim.specs.Story.{Asked, Moment, events_of, program};
+ghost use Rattle.net_sim.specs.Timeline.{IsTimeline, crossings_of};
+ghost use Rattle.net_sim.specs.Told.{kept_in};
+ghost use Rattle.net_sim.specs.World.{WorldState};
+ghost use Rattle.net_sim.specs.WorkedMoments.{connected};
+ghost use Rattle.world_keeps_streams.specs.Calls.{own_calls, numbered_by_peer};
+
+use leader1822::Carrier;
+
+/// What each host's program does with a peer, over every list of moments in which what crosses is a run of the mailboxes.
+pub fn programs()
+    // its calls since it dropped its ends with the peer last follow one another, and lead to the ends that it has
+    ensures calls { (hosts : List Host) (moments : List Moment) → HaveAddresses hosts → mail.IsRun hosts (crossings_of moments) → IsTimeline hosts moments → (a b : Host) → IsHistory b (own_calls a b moments) × (ends_now b (own_calls a b moments) ≡ (pair_with b (program a moments).peers).entries) }
+
+    // each of them may be made, on each link of a connection: what the laws of one host's calls ask for is so
+    ensures allowed { (hosts : List Host) (moments : List Moment) → HaveAddresses hosts → mail.IsRun hosts (crossings_of moments) → IsTimeline hosts moments → (a b : Host) (link : ℕ) → (link == 0) ≡ false → AreAllowed numbered b link (own_calls a b moments) }
+
+    // so what the program has on the link is what the law of streams has there
+    ensures receiver { (hosts : List Host) (moments : List Moment) → HaveAddresses hosts → mail.IsRun hosts (crossings_of moments) → IsTimeline hosts moments → (a b : Host) (link : ℕ) → (link == 0) ≡ false → HasReceiver (name_now numbered b (own_calls a b moments)) link (pair_with b (program a moments).peers).entries (receiver_now numbered b link (own_calls a b moments)) }
+    ensures sender { (hosts : List Host) (moments : List Moment) → HaveAddresses hosts → mail.IsRun hosts (crossings_of moments) → IsTimeline hosts moments → (a b : Host) (link : ℕ) → (link == 0) ≡ false → IsSending (name_now numbered b (own_calls a b moments)) link (pair_with b (program a moments).peers).entries (sender_now numbered b link (own_calls a b moments)) }
+{}
+
+/// Two programs that stay together since both were through a reset, link by link and connection by connection. A connection is told by its two sockets
+/// and how many connections of theirs are over, which both count alike.
+pub fn streams()
+    // what the one has taken in a connection is a prefix of what the other has sent in it
+    ensures front { (hosts : List Host) (moments : List Moment) → HaveAddresses hosts → mail.IsRun hosts (crossings_of moments) → IsTimeline hosts moments → (a b : Host) (link : ℕ) → (link == 0) ≡ false → stay.stays a b (events_of moments) ≡ true → stay.stays b a (events_of moments) ≡ true → (c : ℕ) → IsFront ((receiver_now numbered b link (own_calls a b moments)).taken c) ((sender_now numbered_by_peer a link (own_calls b a moments)).sent c) }
+
+    // with what was returned, what was taken is within what was granted, and so is what was sent
+    ensures taken { (hosts : List Host) (moments : List Moment) → HaveAddresses hosts → mail.IsRun hosts (crossings_of moments) → IsTimeline hosts moments → (a b : Host) (link : ℕ) → (link == 0) ≡ false → stay.stays a b (events_of moments) ≡ true → stay.stays b a (events_of moments) ≡ true → (c : ℕ) → AreGranted ((receiver_now numbered b link (own_calls a b moments)).taken c) ((receiver_now numbered b link (own_calls a b moments)).returned c) ((receiver_now numbered b link (own_calls a b moments)).granted c) }
+    ensures sent { (hosts : List Host) (moments : List Moment) → HaveAddresses hosts → mail.IsRun hosts (crossings_of moments) → IsTimeline hosts moments → (a b : Host) (link : ℕ) → (link == 0) ≡ false → stay.stays a b (events_of moments) ≡ true → stay.stays b a (events_of moments) ≡ true → (c : ℕ) → AreGranted ((sender_now numbered_by_peer a link (own_calls b a moments)).sent c) ((receiver_now numbered b link (own_calls a b moments)).returned c) ((receiver_now numbered b link (own_calls a b moments)).granted c) }
+{}
+
+/// The lives of a book, over every list of moments in which what crosses is a run of the mailboxes.
+pub fn lives()
+    // what a receiving life took is a prefix of what its one partner sent: where it took any bit there is one
+    ensures source { (hosts : List Host) (moments : List Moment) → HaveAddresses hosts → mail.IsRun hosts (crossings_of moments) → IsTimeline hosts moments → (receiver : Life) → Contains (kept_in moments).book.lives receiver → receives receiver ≡ true → (receiver.bits ≡ [] → ⊥) → Source (crossings_of moments) (kept_in moments).book.lives receiver }
+
+    // what a sending life sent that it matches, with what was returned, is within what it granted
+    ensures sent { (hosts : List Host) (moments : List Moment) → HaveAddresses hosts → mail.IsRun hosts (crossings_of moments) → IsTimeline hosts moments → (receiver sender : Life) → Contains (kept_in moments).book.lives receiver → Contains (kept_in moments).book.lives sender → Match (crossings_of moments) receiver sender → IsGranted receiver sender.messages (length sender.bits) }
+{}
+
+/// The same of the book of every world, whatever its carrier is made of.
+pub fn worlds<C: Carrier>()
+    ensures source { (hosts : List Host) (w : WorldState C) → IsLawful C.seen hosts w → (receiver : Life) → Contains w.kept.book.lives receiver → receives receiver ≡ true → (receiver.bits ≡ [] → ⊥) → Source w.kept.book.crossings w.kept.book.lives receiver }
+    ensures sent { (hosts : List Host) (w : WorldState C) → IsLawful C.seen hosts w → (receiver sender : Life) → Contains w.kept.book.lives receiver → Contains w.kept.book.lives sender → Match w.kept.book.crossings receiver sender → IsGranted receiver sender.messages (length sender.bits) }
+{}
+
+/// The calls of two programs: the first asks for a connection, and the second's socket listens. Here a connection is told by its receiving socket.
+pub fn worked_calls()
+    ensures none { (a b : Host) → own_calls a b [] ≡ [] }
+
+    // the first host hears an RRP, asks for its end, says its RTS and hears the STR; and what it has on link 2 is the end of that connection
+    ensures first { (length (own_calls dialogue.first dialogue.second connected) ≡ 4) × ((receiver_now (λ own foreign gone. own) dialogue.second 2 (own_calls dialogue.first dialogue.second connected)).end ≡ Some 16) }
+
+    // the second has it too, with the sockets turned
+    ensures second { (sender_now (λ own foreign gone. foreign) dialogue.first 2 (own_calls dialogue.second dialogue.first connected)).end ≡ Some 16 }
+
+    // on another link neither has an end
+    ensures elsewhere { (receiver_now (λ own foreign gone. own) dialogue.second 3 (own_calls dialogue.first dialogue.second connected)).end ≡ None }
+
+    // a contact drops all ends with the peer, and so all calls
+    ensures contact { own_calls dialogue.first dialogue.second (Asked dialogue.first (request.Contact dialogue.second) ∷ connected) ≡ [] }
+
+    // both count alike
+    ensures turned { (own foreign gone : ℕ) → numbered_by_peer own foreign gone ≡ numbered foreign own gone }
+{}

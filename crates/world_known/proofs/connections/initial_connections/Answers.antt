@@ -1,8 +1,0 @@
-use Rattle.world_known.proofs.Paired.{to_server, to_user}
-use Rattle.world_known.proofs.connections.initial_connections.Goals as goal
-
-pub returns-clause-to_user : goal.returns-clause-to_user
-returns-clause-to_user g c = λ hosts w lawful server user s u a b d e k. to_user g.C.Carrier.seen hosts w lawful server user s u a b d e k
-
-pub returns-clause-to_server : goal.returns-clause-to_server
-returns-clause-to_server g c = λ hosts w lawful server user s u a b d e k. to_server g.C.Carrier.seen hosts w lawful server user s u a b d e k

@@ -1,8 +1,0 @@
-use Rattle.world_streams.proofs.FinalAll.{world_sent, world_source}
-use Rattle.world_streams.proofs.law.worlds.Goals as goal
-
-pub returns-clause-source : goal.returns-clause-source
-returns-clause-source g c hosts w lawful receiver there q some = world_source hosts g.C.Carrier.seen w lawful receiver there q some
-
-pub returns-clause-sent : goal.returns-clause-sent
-returns-clause-sent g c hosts w lawful receiver sender here there m = world_sent hosts g.C.Carrier.seen w lawful receiver sender here there m

@@ -1,0 +1,159 @@
+"""Each link, source and name in the documents is there, and crates reach into each other only as they should (seconds).
+
+Checks what the documents name: each link leads to a file, each source that is named by its path exists, and each name
+that the claims about a crate have stands in the code.
+
+crates/NAME/CLAIMS.md is about the crate in whose folder it lies. What it says before its heading `How it was attacked` is what
+is proved or not. Each name there between backquotes, or its last part if it is a path, has to be declared in src/ or specs/ of
+that crate, or of one that it stands on: as a function, a type, a variant, a constant, a clause or a definition. `law::NAME` has
+to be a function of that crate's module law, and the name of a file a file of the crate or of the repository. Below that heading
+so it is with the definitions in the tables; the rows beside them have to be functions of a crate of tests, or of that crate, or
+stored inputs of cases/; and each other name has to be one of these, or that of a planted bug of the crate.
+
+docs/PROVED.md names each clause behind the path of its call, `CRATE::..::CALL`, and leads to the claims of each crate.
+"""
+
+import functools
+import glob
+import os
+import re
+
+from parts import ROOT
+
+DECLARED = re.compile(
+    r"\bimpl(?:<[^>]*>)? +(?:\w+::)*(\w+)"
+    r"|\b(?:fn|struct|enum|trait|const|ensures|requires|ghost|abbrev pub|record|data|pub(?= \w+ :)) +(\w+)"
+    r"|^ +([A-Z]\w*)[,({ ]",
+    re.MULTILINE,
+)
+
+
+@functools.cache
+def text_of(path):
+    with open(path, encoding="utf-8") as file:
+        return file.read()
+
+
+def missing_files():
+    """Links of the documents that lead to no file, and sources that are named and do not exist."""
+    pages = [f"{ROOT}/README.md", f"{ROOT}/CONTRIBUTING.md", f"{ROOT}/docs/*.md", f"{ROOT}/crates/*/CLAIMS.md"]
+    for page in sorted(it for some in pages for it in glob.glob(some)):
+        for link in re.findall(r"\]\(([^)#]+)[^)]*\)", text_of(page)):
+            if "://" not in link and not os.path.exists(os.path.join(os.path.dirname(page), link)):
+                yield f"{os.path.relpath(page, ROOT)}: no file {link}"
+        for name in re.findall(r"`([\w/]+/[\w/]+\.(?:rt|antt))`", text_of(page)):
+            if not any(glob.glob(f"{ROOT}/{at}{name}") for at in ("", "crates/", "crates/*/")):
+                yield f"{os.path.relpath(page, ROOT)}: no source {name}"
+
+
+def stands_on(crate):
+    """The libraries that crates.txt names for a crate."""
+    return re.search(rf"^{crate}:(.*)$", text_of(f"{ROOT}/crates.txt"), re.MULTILINE)[1].split()
+
+
+@functools.cache
+def crates_of_tests():
+    """The crates that hold tests only."""
+    return sorted(os.path.basename(it) for it in glob.glob(f"{ROOT}/crates/*_tests"))
+
+
+@functools.cache
+def declared_in(crate):
+    """The names that a crate's src/ and specs/ declare, and the functions of its module law."""
+    files = [it for part in ("src", "specs") for it in glob.glob(f"{ROOT}/crates/{crate}/{part}/**/*.*", recursive=True)]
+    names = {name for it in files for found in DECLARED.findall(text_of(it)) for name in found}
+    return names, {name for it in files if "/src/law" in it for name in re.findall(r"pub fn (\w+)", text_of(it))}
+
+
+def crates_with_claims():
+    """The crates that have something to claim: all of crates.txt but those of tests."""
+    crates = re.findall(r"^(\w+):", text_of(f"{ROOT}/crates.txt"), re.MULTILINE)
+    return [it for it in crates if it not in crates_of_tests()]
+
+
+def missing_claims():
+    """Crates without claims, and claims to which docs/PROVED.md doesn't lead."""
+    top = text_of(f"{ROOT}/docs/PROVED.md")
+    for crate in crates_with_claims():
+        if not os.path.exists(f"{ROOT}/crates/{crate}/CLAIMS.md"):
+            yield f"crates/{crate}: no CLAIMS.md"
+        if f"](../crates/{crate}/CLAIMS.md)" not in top:
+            yield f"docs/PROVED.md: no link to the claims of {crate}"
+
+
+def claims_of(crate):
+    """What a crate's claims say is proved or not, and how they were attacked."""
+    path = f"{ROOT}/crates/{crate}/CLAIMS.md"
+    claimed, _, attacked = (text_of(path) if os.path.exists(path) else "").partition("\n## How it was attacked\n")
+    return claimed, attacked
+
+
+def names_in(text):
+    return re.findall(r"`([^`\n]+)`", text)
+
+
+def is_row(name, crate):
+    return any(is_known(name, it) for it in (*crates_of_tests(), crate)) or os.path.exists(f"{ROOT}/cases/{name}")
+
+
+def is_planted_bug(name, crate):
+    return any(os.path.exists(f"{ROOT}/crates/{crate}/{at}/{name}.edit") for at in ("must-fail", "wrong-bodies"))
+
+
+def unknown_attacks(crate, attacked):
+    """Names of what attacks a crate's contracts that the code does not have."""
+    table = re.compile(r"^\| ([^|]*) \| ([^|]*) \|.*\|$", re.MULTILINE)
+    for definition, row in table.findall(attacked):
+        for name in re.findall(r"`([\w:]+)`", definition):
+            if not is_known(name, crate):
+                yield f"the code has no `{name}`"
+        for name in re.findall(r"`([a-z][\w:]*_[\w:]*)`", row):
+            if not is_row(name, crate):
+                yield f"no row is called `{name}`"
+    for name in names_in(table.sub("", attacked)):
+        if not is_row(name, crate) and not is_planted_bug(name, crate):
+            yield f"neither the code nor a planted bug is called `{name}`"
+
+
+def unknown_names():
+    """Names in the claims of the crates that the code does not have."""
+    for crate in crates_with_claims():
+        claimed, attacked = claims_of(crate)
+        unknown = [f"the code has no `{it}`" for it in names_in(claimed) if not is_known(it, crate)]
+        for what in (*unknown, *unknown_attacks(crate, attacked)):
+            yield f"crates/{crate}/CLAIMS.md: {what}"
+
+
+def unknown_clauses():
+    """Names in docs/PROVED.md that the code does not have: each stands behind a path that begins with its crate."""
+    for line in text_of(f"{ROOT}/docs/PROVED.md").splitlines():
+        crate = None
+        for name in names_in(line):
+            first = name.split("::")[0]
+            crate = first if os.path.isdir(f"{ROOT}/crates/{first}") else crate
+            if crate and not is_known(name, crate):
+                yield f"docs/PROVED.md: {crate} has no `{name}`"
+
+
+def is_known(name, crate):
+    if not re.fullmatch(r"[\w:]+", name) and not re.fullmatch(r"[\w./-]+", name):
+        return True  # no name, but words of another kind
+    if "/" in name or "." in name:
+        return any(os.path.exists(f"{ROOT}/{at}/{name}") for at in (".", "crates", f"crates/{crate}"))
+    first, *rest = name.split("::")
+    if rest and os.path.isdir(f"{ROOT}/crates/{first}"):
+        return is_known("::".join(rest), first)
+    names, laws = declared_in(crate)
+    if first == "law" and rest:
+        return rest[-1] in laws
+    below = stands_on(crate)
+    is_declared = name.split("::")[-1] in names.union(*(declared_in(it)[0] for it in below))
+    is_there = os.path.exists(f"{ROOT}/{name}") or os.path.isdir(f"{ROOT}/crates/{name}")
+    return is_declared or name in below or is_there or name.startswith("-")
+
+
+def main():
+    wrong = [*missing_files(), *missing_claims(), *unknown_names(), *unknown_clauses()]
+    print(*wrong, sep="\n", end="\n" if wrong else "")
+    print(f"check docs: {len(wrong)} wrong" if wrong else "check docs: each link, source and name is there")
+    return 1 if wrong else 0

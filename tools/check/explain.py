@@ -1,0 +1,453 @@
+"""./explain ties each event to what it printed, and names the cause of each refusal (a minute).
+
+Checks what ./explain tells.
+
+- The lines that it ties to each event are those that the independent model of the rules in tools/check/model.py prints for it, on
+  inputs made by chance. So are, in plain networks, the messages of which it says that they still wait.
+- Of a refused event of an example it tells the cause that is written here by hand.
+- Of a refused script line or topology it names a cause exactly if that model refuses it, and for inputs written
+  here by hand it names the cause that is meant.
+- In networks with host programs it names a cause for each bad line, and has a sentence for each line that is printed there.
+- In subnets the independent model, from which the sentences about the inside are, prints what the program prints, event by
+  event; each event that prints nothing has a sentence. What it says of lines written here by hand is what is written beside
+  them. Where it names the next event that clears what stands in the way of a refused one, these events, one after the other, do.
+- What messages say is what is written here by hand, octets and words.
+- Without a kept program it tells the same.
+- README's table and the charts in README and docs/ are what it tells and draws, and README's changes to the examples do what it
+  says.
+
+It wants the program that ./build or .ci/run keeps.
+"""
+
+import copy
+import random
+import re
+from collections import Counter
+
+from parts import ROOT, loaded
+
+
+explain, model, subnets = loaded("explain"), loaded("tools/check/model.py"), loaded("tools/check/subnet.py")
+
+from decode import text_in_words  # noqa: E402 (explain has put tools/ on the path)
+from inside import Inside  # noqa: E402
+from script_rules import read_line  # noqa: E402
+
+# a script line, and words of the cause that is meant
+BAD_LINES = [
+    (b"jump", "`jump` is no event"),
+    (b"tak 0/1", "Is `take` meant?"),
+    (b"Take 0/1", "Is `take` meant?"),
+    (b"%", "a second one is no event"),
+    (b"take 0/1\r", "carriage return"),
+    (b"take\t0/1", "no printable ASCII"),
+    (b"take  0/1", "single spaces"),
+    (b"take 0/1 ", "single spaces"),
+    (b" ", "single spaces"),
+    (b"take", "is followed by 1 word: take H. Here are 0"),
+    (b"out 0/1 0/2 5 0", "is followed by 5 words: out S D N BITS OCTETS. Here are 4"),
+    (b"take 1", "`1` is no host"),
+    (b"take 4/1", "out of range: the host's number is 0 to 3"),
+    (b"take 0/64", "out of range: the IMP's number is 1 to 63"),
+    (b"take 0/0", "out of range: the IMP's number is 1 to 63"),
+    (b"take 00/1", "without sign and leading zeros"),
+    (b"giveup 0/1 0/2 256", "out of range: the link is 0 to 255"),
+    (b"giveup 0/1 0/2 +1", "without sign and leading zeros"),
+    (b"giveup 0/1 0/2 4294967301", "out of range: the link is 0 to 255"),
+    (b"out 0/1 0/2 5 8064 " + b"FF" * 1008, "out of range: the number of bits is 0 to 8063"),
+    (b"out 0/1 0/2 5 0 00", "A text of no bits is written `0 -`"),
+    (b"out 0/1 0/2 5 8 -", "`-` stands for no octets, but 8 bits are asked for"),
+    (b"out 0/1 0/2 5 8 ff", "small letters are not read"),
+    (b"out 0/1 0/2 5 8 FFF", "8 bits fill 1 octet, which are 2 hexadecimal digits. Here are 3"),
+    (b"out 0/1 0/2 5 24 4142", "24 bits fill 3 octets, which are 6 hexadecimal digits. Here are 4"),
+    (b"out 0/1 0/2 5 16 FF", "16 bits fill 2 octets, which are 4 hexadecimal digits. Here are 2"),
+    (b"out 0/1 0/2 5 8 FFFF", "8 bits fill 1 octet, which are 2 hexadecimal digits. Here are 4"),
+    (b"out 0/1 0/2 5 8 FG", "hexadecimal digits, 0 to 9 and A to F"),
+    (b"out 0/1 0/2 5 08 FF", "without sign and leading zeros"),
+    (b"out 0/1 0/2 256 0 -", "out of range: the link is 0 to 255"),
+    (b"impdown 64", "out of range: the IMP's number is 1 to 63"),
+    (b"resend", "is followed by 1 word: resend I. Here are 0"),
+    (b"enddown 1 4294967296", "out of range: the line's number is 0 to 4294967295"),
+    (b"deliver 0 * 0", "`*` is no direction"),
+    (b"drop 0 - 01", "without sign and leading zeros"),
+    (b"forget 1 0", "out of range: the IMP's number is 1 to 63"),
+    (b"abandon 0/1 0/64 5", "out of range: the IMP's number is 1 to 63"),
+    (b"calm", "is followed by 1 word: calm ROUNDS. Here are 0"),
+    (b"calm 01", "without sign and leading zeros"),
+    (b"calm 4294967296", "out of range: the number of rounds is 0 to 4294967295"),
+    (b"offer 0/1", "`offer` is an event of networks with host programs"),
+    (b"out 0/1 0/2 5 7 FF", "7 bits leave the last 1 bit of the last octet over, which has to be zero"),
+    (b"out 0/1 0/2 5 1 FF", "1 bit leaves the last 7 bits of the last octet over, which have to be zero"),
+]
+
+# an example, the line of a refused event in it, and words of the cause that is meant
+REFUSALS = [
+    ("first-message", 13, "That of line 11 waits for host 0/2: `take 0/2`"),
+    ("two-flows", 18, "That of line 12 waits for host 0/2: `take 0/2`"),
+    ("no-such-host", 11, "no host 0/3: there is none at IMP 3"),
+    ("no-such-host", 12, "no host 0/3: there is none at IMP 3"),
+    ("no-such-host", 18, "no host 3/2: at IMP 2 there is 0/2 alone"),
+    ("a-message-given-up", 25, "the message of line 22 was answered in line 24"),
+    ("a-host-stops-and-starts", 13, "Host 0/2 is down already, since line 12"),
+    ("a-host-stops-and-starts", 21, "a message that it sent (line 17) waited"),
+    ("a-host-stops-and-starts", 25, "host 0/1 sent nothing to 0/2 on link 5 since it started in line 24"),
+    ("a-host-stops-and-starts", 27, "Host 0/2 is up already, since line 16"),
+    ("a-host-stops-and-starts", 28, "no host 0/3: there is none at IMP 3"),
+]
+
+# an example, the change that README proposes, the line that is then to be seen, and what it prints
+CHANGES = [
+    ("first-message", lambda lines: [*lines[:12], *lines[13:], lines[12]], 17, ["out 0/1 0/2 5 8"]),
+    ("a-message-given-up", lambda lines: [*lines[:23], *lines[24:]], 24, []),
+    ("rerouted-over-a-triangle", lambda lines: [*lines[:-1], b"enddown 1 1", lines[-1]], 28, ["in 0/1 0/2 5 8"]),
+    ("a-connection-and-its-book", lambda lines: [*lines[:16], *lines[17:]], 20, ["refused NoSuchSocket"]),
+]
+
+# an example, the line of an event in it, and words of what is told of the inside
+INSIDES = [
+    ("first-message", 13, "That of line 11 waits for host 0/2"),
+    ("no-route-is-dead-at-once", 13, "No IMP knows a way yet: put `calm 1` first."),
+    ("rerouted-over-a-triangle", 25, "IMP 1 sends message 0 of flow 0/1 0/2 5 to IMP 3 on line 1."),
+    ("an-rfnm-is-lost", 16, "Message 0 of flow 0/1 0/2 9 arrives at IMP 2 from IMP 1, over line 0. The message is whole and now waits for host 0/2."),
+    ("an-rfnm-is-lost", 17, "IMP 1 still holds it, not acknowledged, and sends it again at `resend 1`."),
+    ("an-rfnm-is-lost", 18, "It acknowledges message 0 of flow 0/1 0/2 9."),
+    ("an-rfnm-is-lost", 22, "Still alive: the RFNM for message 0 of flow 0/1 0/2 9, in channel 0 of line 0 at IMP 2"),
+    ("an-rfnm-is-lost", 26, "No way is left for the RFNM for message 0 of flow 0/1 0/2 9: dropped."),
+    ("a-repeat-is-taken-once", 18, "It came before, so it is only acknowledged again."),
+    ("abandon-frees-a-slot", 15, "The message is not whole yet: a slot holds 1 of its pieces."),
+    ("an-imp-comes-up-when-its-past-is-gone", 22, "IMP 2 still keeps the last numbers of flows from IMP 1. The next event to clear it: `forget 2 1`."),
+    ("arpanet-of-december-1969", 43, "No way leads from IMP 4 to IMP 1"),
+]
+
+# the link and the octets of a text, and what it says
+TEXTS = [
+    (0, "00080001000C", "RST"),
+    (0, "00080001000D", "RRP"),
+    (0, "0008000A0001000000100000002105", "RTS 16 from 33 on link 5"),
+    (0, "0008000A0002000000210000001008", "STR 33 to 16, bytes of 8 bits"),
+    (0, "0008000900030000001000000021", "CLS 16 33"),
+    (0, "0008000800040500020000" + "0064", "ALL 2 messages, 100 bits on link 5"),
+    (0, "000800040005054080", "GVB 64/128 of the messages, 128/128 of the bits on link 5"),
+    (0, "0008000800060500010000" + "0001", "RET 1 message, 1 bit on link 5"),
+    (0, "00080005000705" + "0805" + "00", "INR on link 5, INS on link 5, NOP"),
+    (0, "0008000400" + "0907" + "0A07", "ECO 7, ERP 7"),
+    (0, "0008000C00" + "0B04" + "0300000010000000" + "2100", "ERR 4 (no such socket), quoting CLS 16 33"),
+    (0, "0008000C00" + "0B01" + "0E" + "00" * 9, "ERR 1 (illegal code), quoting 0E000000000000000000"),
+    (0, "0008000200" + "0C0E", "RST, code 14, which no command has"),
+    (0, "0008000200" + "0101", "RTS cut off after 2 octets"),
+    (0, "0008000A00" + "01" + "00000011" + "00000022" + "01", "RTS 17 from 34 on link 1 (erroneous: 17 is a send socket; 34 is a receive socket; link 1 is never connected)"),
+    (0, "0007000100" + "0C", "malformed: commands in bytes of 7 bits, and they have to be of 8"),
+    (0, "0008007900" + "00" * 121, "malformed: 121 octets of commands, and there may be 120"),
+    (0, "00080000", "malformed: 32 bits, fewer than the 40 of a header"),
+    (2, "0008000700" + "48454C4C4F0D0A", "7 bytes of 8 bits: HELLO\\r\\n"),
+    (2, "0020000100" + "00000064", "1 byte of 32 bits: 00000064"),
+    (2, "0008000500" + "4142", "malformed: its header announces 5 bytes of 8 bits, and 16 bits follow"),
+    (2, "0008000000", "0 bytes of 8 bits"),
+]
+
+# the example whose dialogue is told line by line
+DIALOGUE = "from-a-terminal-to-a-server"
+
+ONLY_RAW = "Only raw networks"  # no cause of a program that runs hosts' programs too
+GOOD = b'carrier = "plain"\nraw = true\n[[imp]]\nid = 1\nhosts = 1\n'
+# what stands before the script, and words of the cause that is meant
+BAD_TOPOLOGIES = [
+    (GOOD, "No line is exactly `%`"),
+    (GOOD + b"% \n", "Line 6 has other octets beside it"),
+    (GOOD + b"%\r\n", "Line 6 has other octets beside it"),
+    (GOOD + b"# \xff\n%\n", "not UTF-8: see line 6"),
+    (GOOD + b"imp\n%\n", "no TOML document"),
+    (b"raw = false\n[[imp]]\nid = 1\nhosts = 1\n%\n", ONLY_RAW),
+    (b'carrier = "plain"\n[[imp]]\nid = 1\nhosts = 1\n%\n', ONLY_RAW),
+    (b'carrier = "plain"\nraw = true\n%\n', "1 to 16 IMPs"),
+    (b'carrier = "plain"\nraw = true\nimps = 3\n%\n', "no key `imps`"),
+    (GOOD + b"[[imp]]\nid = 1\nhosts = 1\n%\n", "Two IMPs"),
+    (b'carrier = "plain"\nraw = "true"\n[[imp]]\nid = 1\nhosts = 1\n%\n', "`raw` is `true` or `false`"),
+    (GOOD + b"[[imp]]\nid = 2\n%\n", "exactly the keys id and hosts; here it has id"),
+    (GOOD + b"[[imp]]\nid = 2\nhosts = 5\n%\n", "whole number from 0 to 4"),
+    (GOOD + b"[[imp]]\nid = 2\nhosts = true\n%\n", "whole number from 0 to 4"),
+    (GOOD + b"[[line]]\na = 1\nb = 2\n%\n", "from 1 to 2 does not join"),
+    (GOOD + b"[[imp]]\nid = 2\nhosts = 1\n[[line]]\na = 1\nb = 2\n[[line]]\na = 2\nb = 1\n%\n", "Two lines join"),
+    (GOOD + b"[[imp]]\nid = 2\nhosts = 1\n[[line]]\na = 1\nb = 2\n[[line]]\na = 1\nb = 2\n%\n", "Two lines join"),
+    (GOOD + b"[[imp]]\nid = 2\nhosts = 1\n[[line]]\na = 1\nb = 2\nc = 1\n%\n", "exactly the keys a and b; here it has a, b, c"),
+    (GOOD + b"[[line]]\na = 1\nb = 1\n%\n", "from 1 to 1 does not join"),
+    (GOOD + b"[[imp]]\nid = 0\nhosts = 1\n%\n", "whole number from 1 to 16"),
+    (GOOD + b"[[imp]]\nid = 17\nhosts = 1\n%\n", "whole number from 1 to 16"),
+    (GOOD + b"[[imp]]\nid = 257\nhosts = 1\n%\n", "whole number from 1 to 16"),
+    (GOOD + b"[[imp]]\nid = -1\nhosts = 1\n%\n", "whole number from 1 to 16"),
+    (GOOD + b"[[imp]]\nid = 2.0\nhosts = 1\n%\n", "whole number from 1 to 16"),
+    (GOOD + b"[[imp]]\nid = 2\nhosts = 1\nlines = 1\n%\n", "exactly the keys id and hosts"),
+    (b'carrier = "plain"\nraw = true\nimp = []\n%\n', "1 to 16 IMPs"),
+    (b'carrier = "Plain"\nraw = true\n[[imp]]\nid = 1\nhosts = 1\n%\n', "There are two carriers"),
+    (GOOD + b"".join(b"[[imp]]\nid = %d\nhosts = 1\n[[line]]\na = 1\nb = %d\n" % (it, it) for it in range(2, 8)) + b"%\n", "more than five lines"),
+    (b"#" * 1_048_600, "At most 1048576 are read"),
+]
+
+
+class Wrong(Exception):
+    """What differs."""
+
+
+def same(found, wanted, what):
+    if found != wanted:
+        raise Wrong(f"{what}\nfound  {found}\nwanted {wanted}")
+
+
+def check_ties(program, seeds):
+    """What each event prints, and what still waits after it, against the independent model."""
+    events = 0
+    for seed in range(seeds):
+        chance = random.Random(seed)
+        network = model.some_network(chance)
+        lines = [it for it in model.some_script(chance, network) if " 8064 " not in it][:60]
+        try:
+            asked = [model.read_line(it) for it in lines]
+        except model.BadLine:
+            continue
+        if not model.network_is_good(network):
+            continue
+        given = explain.Input("\n".join([model.spelled(network), "%", *lines]).encode("latin-1"))
+        status, said, told = explain.replay(given, program)
+        same((status, said), (0, ""), f"input {seed}")
+        boxes, past, told = model.opened(network), explain.Past(explain.hosts_of(given)), iter(told)
+        for event in filter(None, asked):
+            boxes.printed.clear()
+            boxes.happen(*event)
+            number, words, printed = next(told)
+            same(printed, boxes.printed, f"input {seed}, line {number}: {words}")
+            for output in printed or [None]:
+                past.see(number, words, output)
+            events += 1
+            if network[0] != "plain":
+                continue
+            waiting = {flow for flow, sent in past.sent.items() if sent.waits}
+            same(waiting, {tuple(model.spell_flow(flow).split(" ")) for flow, _ in boxes.messages}, f"input {seed}: what waits after line {number}")
+    print(f"check explain: {events} events, each tied to what it printed")
+
+
+def example(name):
+    with open(f"{ROOT}/examples/{name}", "rb") as file:
+        return explain.Input(file.read())
+
+
+def check_refusals(program):
+    """Of each refused event of the examples the cause that is meant is told."""
+    meant, found = {(name, number): words for name, number, words in REFUSALS}, 0
+    for name in sorted({name for name, _, _ in REFUSALS}):
+        given = example(name)
+        _, _, told = explain.replay(given, program)
+        lines = list(explain.telling(given, told))
+        for at, line in enumerate(lines):
+            if "prints: refused" in line:
+                number = int(lines[at - 1].split(" ")[0])
+                same(meant.get((name, number), "a cause written by hand") in lines[at + 1], True, f"{name}, line {number}: {lines[at + 1]}")
+                found += 1
+    same(found, len(REFUSALS), "the refused events of the examples")
+    print(f"check explain: {found} refused events of the examples, each with its cause")
+
+
+def check_inside(program, seeds):
+    """What is told of the inside of subnets: by hand, by the program's output, and by doing what it says."""
+    for name, number, words in INSIDES:
+        lines = list(explain.telling(example(name), explain.replay(example(name), program)[2]))
+        (at,) = [at for at, line in enumerate(lines) if re.match(f" *{number}  ", line)]
+        told = [line for line in lines[at + 1 :] if line.startswith("    ")][: next((k for k, line in enumerate(lines[at + 1 :]) if not line.startswith("    ")), None)]
+        same(words in " ".join(told), True, f"{name}, line {number}: {told}")
+    for link, octets, words in TEXTS:
+        same(text_in_words(link, bytes.fromhex(octets), 4 * len(octets)), words, f"the text {octets}")
+    found, cleared = Counter(), 0
+    for seed in range(seeds):
+        chance = subnets.Chance(seed, False)
+        lines, goes = [], Inside(("subnet", True, chance.imps, chance.ends))
+        chance.subnet = goes.subnet
+        outputs = []
+        for event in (it for it in (chance.event() for _ in range(60)) if it[0] != "alive"):
+            told = goes.happen(event)
+            lines.append(line_of(event))
+            outputs.append(told.printed)
+            found["silent"] += not told.printed
+            same(bool(told.sentences) or bool(told.printed) or event[0] == "calm", True, f"network {seed}: a sentence for {lines[-1]}")
+            if told.printed and told.printed[-1].startswith("refused "):
+                found[told.printed[-1]] += 1
+                same(bool(told.sentences), True, f"network {seed}: a sentence for {lines[-1]}, {told.printed}")
+                cleared += clears(goes, event, told)
+        given = explain.Input("\n".join([model.spelled(("subnet", True, chance.imps, chance.ends)), "%", *lines]).encode())
+        same([printed for _, _, printed in explain.replay(given, program)[2]], outputs, f"network {seed}")
+    wanted = {"refused " + it for it in ("NoSuch", "IsDown", "IsUp", "StillAlive", "Blocked", "NotOutstanding")}
+    same(wanted - {*found}, set(), "refusals that come about")
+    print(f"check explain: {found.total()} events in subnets that print nothing or are refused, each with sentences; {cleared} refused ones cleared as they say")
+
+
+def clears(goes, event, told):
+    """Does what the sentences about a refused event say, again and again, until it is refused for this cause no more."""
+    refusal = told.printed[-1]
+    if refusal.split(" ")[1] not in ("StillAlive", "Unsettled", "Blocked", "NoRoom"):
+        return 0
+    goes = copy.deepcopy(goes)
+    for _ in range(400):
+        named = re.findall("`([^`]*)`", " ".join(told.sentences))
+        same(bool(named), True, f"an event that clears {line_of(event)}: {told.sentences}")
+        done = goes.happen(read_line(named[-1]))
+        same([it for it in done.printed if it.startswith("refused ")], [], f"the event {named[-1]}, which is named for {line_of(event)}")
+        told = goes.happen(event)
+        if told.printed[-1:] != [refusal]:
+            return 1
+    raise Wrong(f"{line_of(event)} stays {refusal} after 400 events")
+
+
+def line_of(event):
+    """An event as a script line."""
+    kind, *parts = event
+    words = [kind]
+    for part in parts:
+        if isinstance(part, tuple):
+            words.append(model.spell_flow(part) if len(part) == 3 else f"{part[0]}/{part[1]}")
+        elif kind == "out":
+            digits = f"{int(part.ljust(-(-len(part) // 8) * 8, '0'), 2):0{2 * -(-len(part) // 8)}X}" if part else "-"
+            words.append(f"{len(part)} {digits}")
+        else:
+            words.append(str(part))
+    return " ".join(words)
+
+
+def check_full_store(program):
+    """An IMP whose store is full refuses, and says what makes room."""
+    script = ["calm 1", *(f"out 0/1 0/2 {link} 8063 {'00' * 1008}" for link in range(2, 7))]
+    network = ("subnet", True, [(1, 1), (2, 1)], [(1, 2)])
+    goes = Inside(network)
+    told = [goes.happen(read_line(it)) for it in script]
+    same(told[-1].printed, ["refused NoRoom"], "a fifth message of eight packets")
+    same("IMP 1 holds 32 packets in its store and channels, 32 at most, and the message has 8." in told[-1].sentences, True, told[-1].sentences)
+    clears(goes, read_line(script[-1]), told[-1])
+    given = explain.Input("\n".join([model.spelled(network), "%", *script]).encode())
+    same([printed for _, _, printed in explain.replay(given, program)[2]], [it.printed for it in told], "a full store")
+
+
+def check_causes(program, seeds):
+    """A cause is named exactly where the independent model refuses, and the one that is meant."""
+    for line, words in BAD_LINES:
+        given = explain.Input(GOOD + b"%\ntake 0/1\n" + line + b"\n")
+        status, said, _ = explain.replay(given, program)
+        same((status, said), (2, "arpasim: bad script line 2\n"), line)
+        same(words in explain.diagnose(given, said), True, f"{line}: {explain.diagnose(given, said)}")
+    runs = model.what_it_runs(model.Kept(program))
+    for octets, words in BAD_TOPOLOGIES:
+        if words == ONLY_RAW and "worlds" in runs:
+            continue
+        given = explain.Input(octets)
+        status, said, _ = explain.replay(given, program)
+        same((status, said), (1, "arpasim: bad topology\n"), octets[-80:])
+        same(words in explain.diagnose(given, said), True, f"{octets[-80:]}: {explain.diagnose(given, said)}")
+    bad = 0
+    for seed in range(seeds):
+        chance = random.Random(seed)
+        network = model.some_network(chance)
+        if not network[1] and "worlds" in runs:
+            network = network[0], True, *network[2:]
+        is_refused = explain.wrong_with_topology(explain.Input(f"{model.spelled(network)}\n%\n".encode())) is not None
+        same(is_refused, not model.network_is_good(network), f"the topology {network}")
+        bad += is_refused
+        for line in model.some_script(chance, network)[:20]:
+            line = model.changed(chance, line) if line and line[0] != "#" else line
+            try:
+                model.read_line(line)
+                is_bad = False
+            except model.BadLine:
+                is_bad = True
+            octets = line.encode("latin-1")
+            why = explain.is_event(octets) and explain.wrong_with_line(octets)
+            same(bool(why), is_bad, f"the line {line!r}: {why}")
+            bad += is_bad
+    print(f"check explain: a cause named for {len(BAD_LINES) + len(BAD_TOPOLOGIES)} inputs written by hand and for {bad} made by chance")
+
+
+def check_worlds(seeds):
+    """In networks with host programs: a cause is named for each bad line and for no other, and each output has its sentence."""
+    lines, bad, outputs = 0, 0, Counter()
+    for seed in range(seeds):
+        chance = random.Random(seed)
+        _, script = model.some_script_of_world(seed)
+        for line in script.lines[:60]:
+            line = model.changed(chance, line) if chance.random() < 0.5 else line
+            try:
+                model.read_line(line, raw=False)
+                is_bad = False
+            except model.BadLine:
+                is_bad = True
+            octets = line.encode("latin-1")
+            why = explain.is_event(octets) and explain.wrong_with_line(octets, raw=False)
+            same(bool(why), is_bad, f"the line {line!r} of a network with host programs: {why}")
+            lines, bad = lines + 1, bad + is_bad
+        for words in (output.split(" ") for output in script.world.printed + script.world.end_of_book()):
+            is_told = words[1] in {**explain.IN_A_HOST, **explain.IN_A_SUBNET} if words[0] == "refused" else explain.crossing(words)
+            same(bool(is_told), True, f"a sentence for {words}")
+            outputs[words[0]] += 1
+    print(f"check explain: {lines} lines of host programs, {bad} of them bad; {outputs.total()} outputs of {len(outputs)} kinds, each with a sentence")
+
+
+def table(document, head):
+    """The rows of a document's table with this head, each cell as the words in it that are code."""
+    rows = document.split(f"| {head} |\n", 1)[1].split("\n\n", 1)[0].splitlines()[1:]
+    return [[re.findall(r"`([^`]*)`", cell) for cell in row.split("|")[1:3]] for row in rows]
+
+
+def check_readme(program):
+    """README's table of the first message and the changes that it proposes, and the chart and the table in docs/."""
+    with open(f"{ROOT}/README.md", encoding="utf-8") as file:
+        readme = file.read()
+    given = example("first-message")
+    _, _, told = explain.replay(given, program)
+    rows = [(words, printed) for (words,), printed in table(readme, "Script line | Printed | What happened")]
+    same(rows, [(" ".join(words), printed) for _, words, printed in told], "README's table of the first message")
+    with open(f"{ROOT}/docs/program.md", encoding="utf-8") as file:
+        same(f"```mermaid\n{explain.chart(given, told)}\n```" in file.read(), True, f"the chart in docs/program.md is not\n{explain.chart(given, told)}")
+    for page, name in (("README.md", DIALOGUE), ("docs/lessons.md", "lo-of-login")):
+        drawn = explain.short_chart(example(name), explain.replay(example(name), program)[2])
+        with open(f"{ROOT}/{page}", encoding="utf-8") as file:
+            text = file.read()
+        same((f"```mermaid\n{drawn}\n```" in text, f"`./explain --chart --short < examples/{name}`" in text), (True, True), f"the chart in {page} is not\n{drawn}")
+    with open(f"{ROOT}/docs/lessons.md", encoding="utf-8") as file:
+        check_dialogue(program, table(file.read(), "Script line | Printed, among other lines | What happened"))
+    same(re.findall(r"^- \[(.*)\]\(examples/", readme, re.MULTILINE), [*(name for name, *_ in CHANGES), DIALOGUE], "README's changes to the examples")
+    for name, change, number, printed in CHANGES:
+        _, _, told = explain.replay(explain.Input(b"\n".join(change(example(name).lines[:-1]))), program)
+        same([it for at, _, it in told if at == number], [printed], f"{name}, changed as README says, line {number}")
+    same(explain.replay(given, None), explain.replay(given, program), "the first message without a kept program")
+    print("check explain: README's table and changes, and the chart and the dialogue in docs/, are what it tells, with a kept program and without")
+
+
+def check_dialogue(program, rows):
+    """The script of the dialogue is the lines of these rows, after a calm, and prints what each row names, in its order. README's changes to it do as they say."""
+    given = example(DIALOGUE)
+    _, _, told = explain.replay(given, program)
+    *rows, (_, ends) = rows
+    same([line for lines, _ in rows for line in lines], [" ".join(words) for _, words, _ in told[1:]], "the script of a dialogue in docs/lessons.md")
+    same([line for line in explain.lives(given, program) if line in ends], ends if program else [], "the life in the book of a dialogue")
+    told = iter(told[1:])
+    for lines, printed in rows:
+        output = [line for _, (_, _, part) in zip(lines, told) for line in part]
+        same([line for line in output if line in printed], printed, f"the dialogue, at {lines[0]}")
+    lines = given.lines[:-1]
+    _, _, told = explain.replay(explain.Input(b"\n".join([*lines, b"type 0/1 ", b"calm 40"])), program)
+    same("line 0/1 " in told[-1][2], True, "README's empty line at the terminal")
+    _, _, told = explain.replay(explain.Input(b"\n".join(it for it in lines if it != b"contact 0/1 0/2")), program)
+    same([printed for _, words, printed in told if words[0] == "user"], [["failed user 0/1 local"]], "README's user without a contact")
+
+
+def main():
+    program = explain.kept_program()
+    if not program:
+        print("check explain: there is no program of these sources: ./build makes it")
+        return 1
+    try:
+        check_ties(program, 60)
+        check_refusals(program)
+        check_inside(program, 60)
+        check_full_store(program)
+        check_causes(program, 400)
+        check_worlds(100)
+        check_readme(program)
+    except Wrong as what:
+        print(f"check explain: {what}")
+        return 1
+    return 0
