@@ -11,15 +11,25 @@ so it is with the definitions in the tables; the rows beside them have to be fun
 stored inputs of cases/; and each other name has to be one of these, or that of a planted bug of the crate.
 
 docs/PROVED.md names each clause behind the path of its call, `CRATE::..::CALL`, and leads to the claims of each crate.
+
+Then it counts what hides borders and what is dead, each against its limit: imports that reach into another crate's proofs/
+beside its module lemmas, names of proofs/ that are declared `pub` and stand nowhere else, and folders of proofs/ with too many entries.
 """
 
 import functools
 import glob
 import os
 import re
+from collections import Counter
 
 from parts import ROOT
 
+MOST_REACHING = 0  # imports into another crate's proofs/ beside lemmas
+MOST_DEAD = 0  # names of proofs/ that are declared `pub` and stand nowhere else
+MOST_ENTRIES = 40  # of a folder of proofs/
+# files that the checker asks for by their names, and what each crate lends to others
+ASKED_FOR = ("Answers.antt", "Invariants.antt", "Proof.antt", "Lib.antt")
+TOKEN = re.compile(r"[^\s(){}\[\],.;:@`\"]+")
 DECLARED = re.compile(
     r"\bimpl(?:<[^>]*>)? +(?:\w+::)*(\w+)"
     r"|\b(?:fn|struct|enum|trait|const|ensures|requires|ghost|abbrev pub|record|data|pub(?= \w+ :)) +(\w+)"
@@ -152,8 +162,63 @@ def is_known(name, crate):
     return is_declared or name in below or is_there or name.startswith("-")
 
 
+def sources(pattern="crates/*"):
+    """The sources of all crates, by their paths."""
+    found = glob.glob(f"{ROOT}/{pattern}/**/*.*", recursive=True)
+    return sorted(it for it in found if it.endswith((".rt", ".antt")) and "/out/" not in it)
+
+
+def reaching():
+    """The imports that reach into another crate's proofs/ beside its module lemmas."""
+    crates = {os.path.basename(it) for it in glob.glob(f"{ROOT}/crates/*")}
+    for path in sources():
+        own = os.path.relpath(path, f"{ROOT}/crates").split("/")[0]
+        for crate, part in re.findall(r"\bRattle\.(\w+)\.proofs\.(\w+)", text_of(path)):
+            if crate in crates and crate != own and part.lower() != "lemmas":
+                yield f"{os.path.relpath(path, ROOT)}: it reaches into {crate}/proofs beside lemmas"
+
+
+def dead():
+    """The names that a file of proofs/ declares as `pub`, and that stand nowhere else in the sources, or in their own file beyond what they are."""
+    text = {path: re.sub(r"(?m)(^|\s)--( .*|-*)$", "", text_of(path)) if path.endswith(".antt") else text_of(path) for path in sources()}
+    counts = {path: Counter(TOKEN.findall(it)) for path, it in text.items()}
+    total = sum(counts.values(), Counter())
+    for path, it in text.items():
+        if "/proofs/" not in path or os.path.basename(path) in ASKED_FOR:
+            continue
+        for name in re.findall(r"(?m)^ *(?:(?:pattern|unfoldable|abbrev) )*pub (?:(?:pattern|unfoldable|abbrev) )*([^\s(){}\[\],.;:@`\"◌]+) : ", it):
+            if total[name] > counts[path][name]:
+                continue
+            # what it is: its type, and the clauses below, which begin with its name
+            itself = len(re.findall(rf"(?m)^ *(?:\w+ )*{re.escape(name)}(?=\s|$)", it))
+            if total[name] <= itself:
+                yield f"{os.path.relpath(path, ROOT)}: nothing cites `{name}`"
+
+
+def crowded():
+    """The folders of proofs/ with too many entries."""
+    for folder in {part for path in sources("crates/*/proofs") for part in parents(path)}:
+        if (count := len(os.listdir(folder))) > MOST_ENTRIES:
+            yield f"{os.path.relpath(folder, ROOT)}: {count} entries, of at most {MOST_ENTRIES}"
+
+
+def parents(path):
+    """The folders of a file, up to proofs/."""
+    while os.path.basename(path) != "proofs":
+        path = os.path.dirname(path)
+        yield path
+
+
+def over_limits():
+    """What is above the limits, after a line that tells the counts."""
+    kinds = ("imports into another crate's proofs/ beside lemmas", [*reaching()], MOST_REACHING), ("names that nothing cites", [*dead()], MOST_DEAD), ("crowded folders", sorted(crowded()), 0)
+    print("check docs:", ", ".join(f"{len(found)} {what}" for what, found, _ in kinds))
+    for _, found, most in kinds:
+        yield from found if len(found) > most else []
+
+
 def main():
-    wrong = [*missing_files(), *missing_claims(), *unknown_names(), *unknown_clauses()]
+    wrong = [*missing_files(), *missing_claims(), *unknown_names(), *unknown_clauses(), *over_limits()]
     print(*wrong, sep="\n", end="\n" if wrong else "")
-    print(f"check docs: {len(wrong)} wrong" if wrong else "check docs: each link, source and name is there")
+    print(f"check docs: {len(wrong)} wrong" if wrong else "check docs: each link, source and name is there, and each count within its limit")
     return 1 if wrong else 0

@@ -16,7 +16,7 @@ Checks what ./explain tells.
 - README's table and the charts in README and docs/ are what it tells and draws, and README's changes to the examples do what it
   says.
 
-It wants the program that ./build or .ci/run keeps.
+It takes the proved program, or where ./build has not made that the one that was built without proofs.
 """
 
 import copy

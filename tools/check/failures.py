@@ -10,7 +10,8 @@ are left out, since each of their octets would be a run.
 Then it runs the program on an input that never ends, and on one of two million octets, of which it may read 1,048,577; and
 with an output that takes nothing.
 
-It wants the program that ./build or .ci/run keeps, and a C compiler for tools/failing.c, which is loaded before the C
+It takes the proved program, or where ./build has not made that the one that was built without proofs, whose allocations can't be
+made to fail so. It wants a C compiler for tools/failing.c, which is loaded before the C
 library. Without a compiler it says that nothing was tried, and where the variable CI is set it fails.
 """
 

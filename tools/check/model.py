@@ -11,7 +11,7 @@ plainest spelling.
 Networks with host programs are tried as far as the program runs them, which it is asked first: their scripts are made event by
 event, by looking at what the model has come to (tools/world_chance.py), and it is counted what they came to.
 
-It wants the program that ./build or .ci/run keeps. With `--try`, and perhaps the folder of another clone of the repository, it
+It takes the proved program, or where ./build has not made that the one that was built without proofs. With `--try`, and perhaps the folder of another clone of the repository, it
 takes the program that `rt try` builds without proofs, and fewer inputs, since that one is slow.
 """
 

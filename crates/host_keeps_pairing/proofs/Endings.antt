@@ -121,7 +121,7 @@ module _ (origin : ℕ → ℕ) (own foreign : ℕ) where
       → Knows (all_known origin peer own foreign (answered_turn peer kind link t).notices k) (kept_in (answered_turn peer kind link t).pair x)
   answered_knows peer answer.Rfnm link t x k none h knows =
       after_none peer t.notices [] k (kept_in (answered_turn peer answer.Rfnm link t).pair x) none
-      (knows_kept (answered_turn peer answer.Rfnm link t).pair x k (λ e. h.idle (rfnm_idle origin own foreign (link == 0) t.pair.phase e)) knows)
+      (knows_kept (answered_turn peer answer.Rfnm link t).pair x k (λ e. h.idle (rfnm_idle (link == 0) t.pair.phase e)) knows)
   answered_knows peer answer.Incomplete link t x k none h knows = failing_knows peer (record t { pair = freed link t.pair }) x k none h.idle knows
   answered_knows peer answer.Dead link t x k none h knows = failing_knows peer (record t { pair = freed link t.pair }) x k none h.idle knows
 

@@ -16,6 +16,7 @@ use Rattle.host_pairs.specs.Parcels as parcel
 use Rattle.host_pairs.specs.Parcels.{Parcel, asked_at, bits_gone, cls_sent, command_gone, commands_gone, link_of, may_send_on, pair_after, parcel_gone, request_gone}
 use Rattle.host_pairs.specs.declared.entry.Entry.{Entry}
 use Rattle.host_pairs.specs.declared.listener.Listener.{Listener}
+use Rattle.host_pairs.proofs.lemmas.{all_gone_queue}
 use Rattle.host_keeps_pairing.specs.Words.{MayAllGo, all_gone, mark_of, marks}
 use Rattle.host_keeps_pairing.specs.Ends.{Standing, at, HasEnd, Stand}
 use Rattle.host_keeps_pairing.proofs.Lists.{are, marks_append, at_quiet}
@@ -25,28 +26,6 @@ use Rattle.host_keeps_pairing.proofs.Stands.{asks_at, closes_now, may_all, stand
 pub all_gone_append : (ms ns : List Mark) (x : End) → all_gone (ms ++ ns) x ≡ all_gone ns (all_gone ms x)
 all_gone_append [] ns x = refl
 all_gone_append (m ∷ ms) ns x = all_gone_append ms ns (gone m x)
-
--- ---- the queue while commands go out
-
-gone_queue : (peer : Host) (stamp : ℕ) (c : Command) (d : DeskState) → (command_gone peer stamp c d).queue ≡ d.queue
-gone_queue peer stamp command.Nop d = refl
-gone_queue peer stamp (command.Rts receive send link) d = refl
-gone_queue peer stamp (command.Str send receive size) d = refl
-gone_queue peer stamp (command.Cls own foreign) d = refl
-gone_queue peer stamp (command.All link messages bits) d = refl
-gone_queue peer stamp (command.Gvb link messages bits) d = refl
-gone_queue peer stamp (command.Ret link messages bits) d = refl
-gone_queue peer stamp (command.Inr link) d = refl
-gone_queue peer stamp (command.Ins link) d = refl
-gone_queue peer stamp (command.Eco octet) d = refl
-gone_queue peer stamp (command.Erp octet) d = refl
-gone_queue peer stamp (command.Err code detail) d = refl
-gone_queue peer stamp command.Rst d = refl
-gone_queue peer stamp command.Rrp d = refl
-
-all_gone_queue : (peer : Host) (stamp : ℕ) (cs : List Command) (d : DeskState) → (commands_gone peer stamp cs d).queue ≡ d.queue
-all_gone_queue peer stamp [] d = refl
-all_gone_queue peer stamp (c ∷ cs) d = all_gone_queue peer stamp cs (command_gone peer stamp c d) ∙ gone_queue peer stamp c d
 
 module _ (origin : ℕ → ℕ) (own foreign place : ℕ) where
   -- there is an end where something waits

@@ -1,7 +1,7 @@
 -- What a user asks for, at one pair of sockets.
-use Rattle.std.proofs.Common.{◌≡◌, ◌⊎◌, inl, inr, ℕ, Bool, true, false, not, ◌||◌, ◌&&◌, if◌then◌else◌, cond, List, [], ◌∷◌, Option, Some, None, is_some, refl, sym, subst}
+use Rattle.std.proofs.Common.{◌≡◌, ◌⊎◌, inl, inr, ℕ, Bool, true, false, not, ◌&&◌, if◌then◌else◌, cond, List, [], ◌∷◌, Option, Some, None, is_some, refl, sym, subst}
 use Rattle.leader1822.specs.Host.{Host, same_host}
-use Rattle.leader1822.proofs.lemmas.{same_host-true}
+use Rattle.leader1822.proofs.lemmas.{or_false, same_host-true}
 use Rattle.ncp_control.specs.Numbers.{is_receive_socket, is_send_socket}
 use Rattle.ncp_control.specs.declared.command.Command.{Command}
 use Rattle.ncp_control.specs.declared.command.Command.TheVariants as command
@@ -50,17 +50,9 @@ not_first : (test : Bool) (f : NcpFault) (others : Option NcpFault) → first_if
 not_first true f others e = absurd (cc)
 not_first false f others e = (refl, e)
 
-neither : (a b : Bool) → (a || b) ≡ false → (a ≡ false) × (b ≡ false)
-neither true b e = absurd (cc)
-neither false b e = (refl, e)
-
 none_is : {A : Type 0} (o : Option A) → is_some o ≡ false → o ≡ None
 none_is None e = refl
 none_is (Some x) e = absurd (cc)
-
-true_is : (b : Bool) → not b ≡ false → b ≡ true
-true_is true e = refl
-true_is false e = absurd (cc)
 
 -- ---- an end that is called off
 
@@ -186,7 +178,7 @@ module _ (origin : ℕ → ℕ) (own foreign : ℕ) where
   contact_drops s peer h x a false e = subst (λ (q : PairState). HasEnd origin own foreign q x) (sym (others_stay peer h (contacted (pair_with peer s.peers)) s.peers e)) a
 
   untaken : (s : NcpState) (peer : Host) (a b : ℕ) → is_taken s peer a b ≡ false → entry_at a b (pair_with peer s.peers).entries ≡ None
-  untaken s peer a b e = none_is (entry_at a b (pair_with peer s.peers).entries) (neither (is_used s a) (is_some (entry_at a b (pair_with peer s.peers).entries)) e).1
+  untaken s peer a b e = none_is (entry_at a b (pair_with peer s.peers).entries) (or_false (is_used s a) (is_some (entry_at a b (pair_with peer s.peers).entries)) e).1
 
   send_untaken : (s : NcpState) (peer : Host) (a b size : ℕ) → open_send_refusal s peer a b size ≡ None → entry_at a b (pair_with peer s.peers).entries ≡ None
   send_untaken s peer a b size e = untaken s peer a b (not_first (is_taken s peer a b) _ _ (not_first (not (is_send_socket a && is_receive_socket b)) _ _ (not_first (not (is_ready (pair_with peer s.peers).phase)) _ _ e).1).1).0

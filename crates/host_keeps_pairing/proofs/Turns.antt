@@ -62,6 +62,24 @@ orders_idle peer stamp (o ∷ os) t e idle =
 pub ready_when : (peer : Host) (stamp : ℕ) (o : Order) (t : TurnState) → IsJoint o → is_ready t.pair.phase ≡ true → order_taken peer stamp o t ≡ with_desk t (work_of peer t.pair.busy stamp o (desk_of t.pair t.listening))
 ready_when peer stamp o t e ready = order_when peer stamp o t e ∙ ap (λ (b : Bool). if b then with_desk t (work_of peer t.pair.busy stamp o (desk_of t.pair t.listening)) else t) ready
 
+-- a pair that is not ready after an RRP was not ready before it
+pub reply_idle : (ph : Phase) → is_ready (reply_phase ph) ≡ false → is_ready ph ≡ false
+reply_idle phase.Closed e = refl
+reply_idle phase.Want e = refl
+reply_idle (phase.Gone early) e = refl
+reply_idle phase.Heard e = refl
+reply_idle phase.Ready e = absurd (cc)
+
+-- a pair that is not ready after an RFNM was not ready before it
+pub rfnm_idle : (zero : Bool) (ph : Phase) → is_ready (if zero then taken_phase ph else ph) ≡ false → is_ready ph ≡ false
+rfnm_idle false ph e = e
+rfnm_idle true phase.Closed e = refl
+rfnm_idle true phase.Want e = refl
+rfnm_idle true (phase.Gone true) e = refl
+rfnm_idle true (phase.Gone false) e = refl
+rfnm_idle true phase.Heard e = refl
+rfnm_idle true phase.Ready e = absurd (cc)
+
 module _ (origin : ℕ → ℕ) (own foreign : ℕ) where
   -- a desk that is done, at a pair that is ready
   done : (t : TurnState) (d : DeskState) (x : End) → is_ready t.pair.phase ≡ true → AreEnd true origin own foreign d.entries d.queue x → HasEnd origin own foreign (with_desk t d).pair x
@@ -102,13 +120,6 @@ module _ (origin : ℕ → ℕ) (own foreign : ℕ) where
   pub emptied : (q : PairState) → HasEnd origin own foreign (record q { entries = []; queue = [] }) nothing
   emptied q = record { ends = λ place. (refl, refl); idle = λ e. refl }
 
-  reply_idle : (ph : Phase) → is_ready (reply_phase ph) ≡ false → is_ready ph ≡ false
-  reply_idle phase.Closed e = refl
-  reply_idle phase.Want e = refl
-  reply_idle (phase.Gone early) e = refl
-  reply_idle phase.Heard e = refl
-  reply_idle phase.Ready e = absurd (cc)
-
   pub after_reset : (peer : Host) (t : TurnState) → HasEnd origin own foreign (reset_taken peer t).pair nothing
   after_reset peer t = record { ends = λ place. (refl, refl); idle = λ e. refl }
 
@@ -122,15 +133,6 @@ module _ (origin : ℕ → ℕ) (own foreign : ℕ) where
     by false e = h
 
   -- ---- answers
-
-  pub rfnm_idle : (zero : Bool) (ph : Phase) → is_ready (if zero then taken_phase ph else ph) ≡ false → is_ready ph ≡ false
-  rfnm_idle false ph e = e
-  rfnm_idle true phase.Closed e = refl
-  rfnm_idle true phase.Want e = refl
-  rfnm_idle true (phase.Gone true) e = refl
-  rfnm_idle true (phase.Gone false) e = refl
-  rfnm_idle true phase.Heard e = refl
-  rfnm_idle true phase.Ready e = absurd (cc)
 
   after_settled : (t : TurnState) (x : End) → HasEnd origin own foreign t.pair x → HasEnd origin own foreign (settled_turn t).pair x
   after_settled t x h = record { ends = λ place. on_settled origin own foreign place true t.pair.busy (desk_of t.pair t.listening) x (h.ends place); idle = h.idle }

@@ -8,4 +8,4 @@ pub use Rattle.host_keeps_pairing.proofs.Passes.{one_gone}
 pub use Rattle.host_keeps_pairing.proofs.Requests.{request_keeps}
 pub use Rattle.host_keeps_pairing.proofs.Stands.{heads, live_end, plain, stand_asked}
 pub use Rattle.host_keeps_pairing.proofs.Told.{answer_other, data_told, idle_other, message_tells, offer_tells, rrp_other, rst_other}
-pub use Rattle.host_keeps_pairing.proofs.Turns.{fit_first, one_order, orders_idle, ready_when, same_kept, work_of}
+pub use Rattle.host_keeps_pairing.proofs.Turns.{fit_first, one_order, orders_idle, ready_when, reply_idle, rfnm_idle, same_kept, work_of}

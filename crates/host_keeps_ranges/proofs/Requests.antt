@@ -1,6 +1,7 @@
 -- What a user asks for keeps the numbers in their ranges.
 use Rattle.std.proofs.Common.{◌≡◌, ℕ, Bool, true, false, not, ◌&&◌, if◌then◌else◌, List, [], ◌∷◌, ◌++◌, find, Option, Some, None, IsTrue, refl, arith}
 use Rattle.leader1822.specs.Host.{Host}
+use Rattle.leader1822.proofs.lemmas.{not_false}
 use Rattle.ncp_control.specs.Command.{IsCommand, IsOctet, IsWord}
 use Rattle.ncp_control.specs.Numbers.{is_byte_size, is_connection_link, is_receive_socket, is_send_socket}
 use Rattle.ncp_control.specs.declared.command.Command.{Command}
@@ -31,10 +32,6 @@ use Rattle.host_keeps_ranges.proofs.Calls.{pair_range, with_range}
 not_first : (test : Bool) (f : NcpFault) (others : Option NcpFault) → first_if test f others ≡ None → (test ≡ false) × (others ≡ None)
 not_first true f others e = absurd (cc)
 not_first false f others e = (refl, e)
-
-true_is : (b : Bool) → not b ≡ false → b ≡ true
-true_is true e = refl
-true_is false e = absurd (cc)
 
 -- ---- the end of a socket
 
@@ -103,18 +100,18 @@ pub request_ranged : (s : NcpState) (r : Request) → refusal s r ≡ None → I
 unfolding served refusal
 request_ranged s (request.Contact peer) ok is h = peer_range s peer (contacted (pair_with peer s.peers)) h (record { ends = tt; commands = tt })
 request_ranged s (request.Listen socket size) ok is h =
-    let sized : IsTrue (is_byte_size size) = true_is (is_byte_size size) (not_first (not (is_byte_size size)) _ _ (not_first (is_used s socket) _ _ ok).1).0 in
+    let sized : IsTrue (is_byte_size size) = not_false (is_byte_size size) (not_first (not (is_byte_size size)) _ _ (not_first (is_used s socket) _ _ ok).1).0 in
     record { pairs = h.pairs; sizes = sizes_more s.listening (record { socket = socket; size = size }) h.sizes (is, sized) }
 request_ranged s (request.OpenSend peer own foreign size) ok is h =
     let first : (not (is_ready (pair_with peer s.peers).phase) ≡ false) × (_ ≡ None) = not_first (not (is_ready (pair_with peer s.peers).phase)) _ _ ok in
     let second : (not (is_send_socket own && is_receive_socket foreign) ≡ false) × (_ ≡ None) = not_first (not (is_send_socket own && is_receive_socket foreign)) _ _ first.1 in
-    let sized : IsTrue (is_byte_size size) = true_is (is_byte_size size) (not_first (not (is_byte_size size)) _ _ (not_first (is_taken s peer own foreign) _ _ second.1).1).0 in
-    let kinds : (is_send_socket own ≡ true) × (is_receive_socket foreign ≡ true) = both (is_send_socket own) (is_receive_socket foreign) (true_is (is_send_socket own && is_receive_socket foreign) second.0) in
+    let sized : IsTrue (is_byte_size size) = not_false (is_byte_size size) (not_first (not (is_byte_size size)) _ _ (not_first (is_taken s peer own foreign) _ _ second.1).1).0 in
+    let kinds : (is_send_socket own ≡ true) × (is_receive_socket foreign ≡ true) = both (is_send_socket own) (is_receive_socket foreign) (not_false (is_send_socket own && is_receive_socket foreign) second.0) in
     peer_range s peer _ h (requested_range (sending_end own foreign size) (command.Str own foreign size) (pair_with peer s.peers) (sending_range own foreign size is.0 is.1) (is.0, kinds.0, is.1, kinds.1, is.2, sized) (pair_range peer s.peers h.pairs))
 request_ranged s (request.OpenReceive peer own foreign) ok is h =
     let first : (not (is_ready (pair_with peer s.peers).phase) ≡ false) × (_ ≡ None) = not_first (not (is_ready (pair_with peer s.peers).phase)) _ _ ok in
     let second : (not (is_receive_socket own && is_send_socket foreign) ≡ false) × (_ ≡ None) = not_first (not (is_receive_socket own && is_send_socket foreign)) _ _ first.1 in
-    let kinds : (is_receive_socket own ≡ true) × (is_send_socket foreign ≡ true) = both (is_receive_socket own) (is_send_socket foreign) (true_is (is_receive_socket own && is_send_socket foreign) second.0) in
+    let kinds : (is_receive_socket own ≡ true) × (is_send_socket foreign ≡ true) = both (is_receive_socket own) (is_send_socket foreign) (not_false (is_receive_socket own && is_send_socket foreign) second.0) in
     peer_range s peer _ h (receiver_range own foreign (free_link (pair_with peer s.peers).entries) (pair_with peer s.peers) is.0 kinds.0 is.1 kinds.1 (λ l f. free_is_link (pair_with peer s.peers).entries l f) (pair_range peer s.peers h.pairs))
 request_ranged s (request.Send socket bits) ok is h =
     owned_range s (owner_of socket s.peers) (λ e. with_end socket (with_more_bits bits)) (owner_range socket s.peers h.pairs)

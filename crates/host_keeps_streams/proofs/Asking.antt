@@ -1,6 +1,7 @@
 -- What a user asks of an open end.
-use Rattle.std.proofs.Common.{◌≡◌, ℕ, ◌+◌, ◌≤◌, Bool, true, false, ◌||◌, nat_lt, List, [], ◌∷◌, filter, find, Some, refl, ap, sym, subst, ◌∙◌, inl, inr}
+use Rattle.std.proofs.Common.{◌≡◌, ℕ, ◌+◌, ◌≤◌, Bool, true, false, nat_lt, List, [], ◌∷◌, filter, find, Some, refl, ap, sym, subst, ◌∙◌, inl, inr}
 use Rattle.std.proofs.lemmas.Bool.{ltb-false}
+use Rattle.leader1822.proofs.lemmas.{or_false}
 use Rattle.ncp_control.specs.Allocation as counters
 use Rattle.ncp_control.specs.declared.allocation.Allocation.{Allocation}
 use Rattle.stream_law.specs.Receivers as receivers
@@ -15,14 +16,10 @@ use Rattle.host_keeps_streams.proofs.Lists.{away}
 use Rattle.host_keeps_streams.proofs.Receivers.{open_same, own_receiver}
 use Rattle.host_keeps_streams.proofs.Senders.{own_sender}
 
-or_parts : (a b : Bool) → (a || b) ≡ false → (a ≡ false) × (b ≡ false)
-or_parts true b e = absurd (cc)
-or_parts false b e = (refl, e)
-
 -- what doesn't pass the counters fits in them
 fits : (a : Allocation) (m n : ℕ) → passes a m n ≡ false → (a.messages + m ≤ 65535) × (a.bits + n ≤ 4294967295)
 fits a m n e =
-    let p : (nat_lt 65535 (a.messages + m) ≡ false) × (nat_lt 4294967295 (a.bits + n) ≡ false) = or_parts (nat_lt 65535 (a.messages + m)) (nat_lt 4294967295 (a.bits + n)) e in
+    let p : (nat_lt 65535 (a.messages + m) ≡ false) × (nat_lt 4294967295 (a.bits + n) ≡ false) = or_false (nat_lt 65535 (a.messages + m)) (nat_lt 4294967295 (a.bits + n)) e in
     (ltb-false 65535 (a.messages + m) p.0, ltb-false 4294967295 (a.bits + n) p.1)
 
 module _ (name : ℕ → ℕ → ℕ) (link socket : ℕ) (e : Entry) (es : List Entry) (own : find (is_mine_on socket) es ≡ Some e) where

@@ -1,6 +1,7 @@
 -- Receiving ends that close.
-use Rattle.std.proofs.Common.{◌≡◌, ℕ, Bool, true, false, not, ◌||◌, List, [], ◌∷◌, map, filter, find, Option, Some, None, refl, ap, sym, subst, ◌∙◌}
+use Rattle.std.proofs.Common.{◌≡◌, ℕ, Bool, true, false, not, List, [], ◌∷◌, map, filter, find, Option, Some, None, refl, ap, sym, subst, ◌∙◌}
 use Rattle.leader1822.specs.Host.{Host}
+use Rattle.leader1822.proofs.lemmas.{or_false}
 use Rattle.ncp_control.specs.declared.command.Command.TheVariants as command
 use Rattle.stream_law.specs.Words as words
 use Rattle.stream_law.specs.Receivers as receivers
@@ -37,10 +38,6 @@ not_called closing.No e = refl
 not_called closing.Due e = absurd (cc)
 not_called closing.Queued e = absurd (cc)
 not_called closing.Sent e = absurd (cc)
-
-pub or_parts : (a b : Bool) → (a || b) ≡ false → (a ≡ false) × (b ≡ false)
-or_parts true b e = absurd (cc)
-or_parts false b e = (refl, e)
 
 received_drained : (busy : List ℕ) (e : Entry) → is_receiving e ≡ true → is_drained busy e ≡ true
 received_drained busy e there = rw there refl
@@ -79,7 +76,7 @@ module _ (name : ℕ → ℕ → ℕ) (link : ℕ) where
       let k : IsReceiver (name e.own e.foreign) e r × (filter (receives_on link) (changed_first (is_mine_on socket) called_off q.entries) ≡ called_off e ∷ [])
       = own_receiver name link (is_mine_on socket) called_off e q.entries r found on on h in
       let i : IsReceiver (name e.own e.foreign) e r = k.0 in
-      let no : e.closing ≡ closing.No = not_called e.closing (or_parts (is_called_off e.closing) e.partner_closed live).0 in
+      let no : e.closing ≡ closing.No = not_called e.closing (or_false (is_called_off e.closing) e.partner_closed live).0 in
       let now : shut_one q.busy (called_off e) ≡ record e { closing = closing.Queued } = close_now q.busy (called_off e) (rw no refl) (received_drained q.busy e (received_is link e on)) in
       let list : filter (receives_on link) (map (shut_one q.busy) (changed_first (is_mine_on socket) called_off q.entries)) ≡ record e { closing = closing.Queued } ∷ []
       = filter_map (receives_on link) (shut_one q.busy) (changed_first (is_mine_on socket) called_off q.entries) (λ x. refl) ∙ ap (λ (xs : List Entry). map (shut_one q.busy) xs) k.1 ∙ ap (λ (x : Entry). x ∷ []) now in (

@@ -1,6 +1,7 @@
 -- Sending ends that close.
 use Rattle.std.proofs.Common.{◌≡◌, ℕ, Bool, true, false, ◌==◌, if◌then◌else◌, List, [], ◌∷◌, map, filter, find, Option, Some, None, refl, ap, sym, subst, ◌∙◌, inl, inr, eq-eqb}
 use Rattle.leader1822.specs.Host.{Host}
+use Rattle.leader1822.proofs.lemmas.{or_false}
 use Rattle.ncp_control.specs.declared.command.Command.TheVariants as command
 use Rattle.stream_law.specs.Words as words
 use Rattle.stream_law.specs.Words.{for}
@@ -21,7 +22,7 @@ use Rattle.host_keeps_streams.specs.Closings.{all_sent, MayAllSend, sent_close, 
 use Rattle.host_keeps_streams.specs.Ends.{IsSender, NoneOpen, AreSender, HasSender}
 use Rattle.host_keeps_streams.proofs.Lists.{away, filter_both, filter_map, sent_is, unlike}
 use Rattle.host_keeps_streams.proofs.Senders.{own_sender}
-use Rattle.host_keeps_streams.proofs.Ending.{shut_one, stays, close_now, not_called, or_parts}
+use Rattle.host_keeps_streams.proofs.Ending.{shut_one, stays, close_now, not_called}
 
 pub due_open : (v : Closing) → is_due v ≡ true → has_cls v ≡ false
 due_open closing.No e = absurd (cc)
@@ -111,7 +112,7 @@ module _ (name : ℕ → ℕ → ℕ) (link : ℕ) where
       → MayAllSend (sent_close (must_close q.busy (called_off e)) (name e.own e.foreign)) s × HasSender name link (closed_end socket q).entries (all_sent (sent_close (must_close q.busy (called_off e)) (name e.own e.foreign)) s)
   close_sends socket q e s found on live h =
       let k : AreSender name (e ∷ []) s × (filter (sends_on link) (changed_first (is_mine_on socket) called_off q.entries) ≡ called_off e ∷ []) = own_sender name link (is_mine_on socket) called_off e q.entries s found on on h in
-      let p : (is_called_off e.closing ≡ false) × (e.partner_closed ≡ false) = or_parts (is_called_off e.closing) e.partner_closed live in
+      let p : (is_called_off e.closing ≡ false) × (e.partner_closed ≡ false) = or_false (is_called_off e.closing) e.partner_closed live in
       let no : e.closing ≡ closing.No = not_called e.closing p.0 in
       let off : AreSender name (called_off e ∷ []) s = elim k.0 [
         | inl i ↦ inl (record { end = i.end; opened = i.opened; shut = i.shut; closed = i.closed ∙ called no; size = i.size; allocation = i.allocation; live = alive no })

@@ -97,7 +97,7 @@ bits_there text h is =
 shut_takes : (z : ℕ) (bits : List Bool) (r : Receiver) (c : ℕ) → receivers.is_open c r ≡ false → receivers.takes z bits (Some c) r ≡ r
 shut_takes z bits r c e = rw e refl
 
-accept_same : (c : ℕ) (x : Entry) (r : Receiver) (h : DataHeader) (bits : List Bool) → IsReceiver c x r → is_open x ≡ true → length bits ≡ data_bits h
+pub accept_same : (c : ℕ) (x : Entry) (r : Receiver) (h : DataHeader) (bits : List Bool) → IsReceiver c x r → is_open x ≡ true → length bits ≡ data_bits h
     → (receivers.is_open c r && words.is_size h.size (r.size c) && covers r.allocation (length bits)) ≡ is_acceptable x h
 accept_same c x r h bits i o e =
     ap (λ (v : Bool). v && words.is_size h.size (r.size c) && covers r.allocation (length bits)) (open_same c x r i ∙ o)
@@ -108,6 +108,9 @@ accept_same c x r h bits i o e =
       size_same : (z : Option ℕ) → (words.is_size h.size z && covers x.allocation (data_bits h)) ≡ (is_size h.size z && is_covered (data_bits h) x.allocation)
       size_same None = refl
       size_same (Some z) = refl
+
+pub back_same : (m n : ℕ) (c : ℕ) (x : Entry) (r : Receiver) → IsReceiver c x r → is_open x ≡ true → (receivers.is_open c r && holds r.allocation m n) ≡ (nat_le m x.allocation.messages && nat_le n x.allocation.bits)
+back_same m n c x r i o = ap (λ (v : Bool). v && holds r.allocation m n) (open_same c x r i ∙ o) ∙ ap (λ (a : Allocation). holds a m n) i.allocation
 
 none_told : (d : DeskState) → d.notices ≡ [] → (ms : List (List Bool)) → ms ++ arrivals d.notices ≡ ms
 none_told d silent ms = ap (λ (ns : List Notice). ms ++ arrivals ns) silent ∙ append-nil ms
@@ -163,9 +166,6 @@ module _ (name : ℕ → ℕ → ℕ) (link : ℕ) where
 
   shut_back : (m n : ℕ) (r : Receiver) (c : ℕ) → receivers.is_open c r ≡ false → receivers.takes_back m n (Some c) r ≡ r
   shut_back m n r c e = rw e refl
-
-  back_same : (m n : ℕ) (c : ℕ) (x : Entry) (r : Receiver) → IsReceiver c x r → is_open x ≡ true → (receivers.is_open c r && holds r.allocation m n) ≡ (nat_le m x.allocation.messages && nat_le n x.allocation.bits)
-  back_same m n c x r i o = ap (λ (v : Bool). v && holds r.allocation m n) (open_same c x r i ∙ o) ∙ ap (λ (a : Allocation). holds a m n) i.allocation
 
   back_by : (m n : ℕ) (d : DeskState) (r : Receiver) (x : Entry) → find (receives_on link) d.entries ≡ Some x → filter (receives_on link) d.entries ≡ x ∷ [] → IsReceiver (name x.own x.foreign) x r
       → (v : Bool) → (nat_le m x.allocation.messages && nat_le n x.allocation.bits) ≡ v → (receivers.is_open (name x.own x.foreign) r && holds r.allocation m n) ≡ v

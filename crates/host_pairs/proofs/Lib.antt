@@ -1,6 +1,7 @@
 pub mod ControlLemmas
 pub mod EntryLemmas
 pub mod FoundLemmas
+pub mod GoingLemmas
 pub mod GoneLemmas
 pub mod NoticeLemmas
 pub mod OpeningLemmas

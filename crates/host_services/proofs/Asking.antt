@@ -1,12 +1,11 @@
 -- What services ask for.
-use Rattle.std.proofs.Common.{◌≡◌, ℕ, ◌+◌, ◌==◌, ◌&&◌, if◌then◌else◌, is_none, is_some, min, nat_lt, take, Bool, true, false, List, [], ◌∷◌, ◌++◌, Option, Some, None, length, All, refl, ap, sym, ◌∙◌, subst, arith, get_or, ◌<◌, ◌%◌, ◌≤◌, nat_le, inl, inr}
+use Rattle.std.proofs.Common.{◌≡◌, ℕ, ◌+◌, ◌==◌, ◌&&◌, if◌then◌else◌, is_none, is_some, min, nat_lt, take, Bool, true, false, List, [], ◌∷◌, ◌++◌, Option, Some, None, length, All, refl, ap, sym, ◌∙◌, subst, arith, ◌%◌, ◌≤◌, nat_le}
 use Rattle.std.specs.List.{fold}
 use Rattle.std.specs.Option.{option_or}
 use Rattle.std.proofs.Math.Nat.{min-le_right}
-use Rattle.std.proofs.lemmas.Bool.{cases_lt}
 use Rattle.std.proofs.lemmas.Bool.Decides.{nat_tests}
-use Rattle.std.proofs.lemmas.List.{append-nil, append_assoc, get_or_past}
-use Rattle.std.proofs.lemmas.List.Elements.{All-append, All-cons, All-head, All-nil, All-tail, All-take}
+use Rattle.std.proofs.lemmas.List.{append-nil, append_assoc}
+use Rattle.std.proofs.lemmas.List.Elements.{All-append, All-cons, All-head, All-nil, All-tail}
 use Rattle.std.proofs.lemmas.List.Sums.{fold-append}
 use Rattle.leader1822.specs.Host.{Host, IsAddress}
 use Rattle.host_pairs.specs.declared.notice.Notice.{Notice}
@@ -26,6 +25,7 @@ use Rattle.bit_messages.specs.Octets.{octets_of}
 use Rattle.bit_messages.proofs.lemmas.{octets_below}
 use Rattle.ncp_control.specs.Command.{IsDouble, IsOctet, IsWord}
 use Rattle.ncp_control.specs.Numbers.{is_receive_socket, is_send_socket}
+use Rattle.ncp_control.proofs.lemmas.{word_below}
 use Rattle.sockets.specs.Pairs.{NcpState}
 use Rattle.sockets.specs.Requests.{refusal, served}
 use Rattle.sockets.specs.declared.fault.NcpFault.{NcpFault}
@@ -186,22 +186,10 @@ told_fine s base true is word even =
     ((closes s.own, (asks_to_receive s.peer s.receive (base + 1) is.0 is.1 (word_above base word even), (asks_to_send s.peer s.send base 8 is.0 is.2 word (omega arith), tt))), is)
 told_fine s base false is word even = ((closes s.own, tt), is)
 
--- what four octets say is a number of four octets
-octet_at : (octets : List ℕ) (k : ℕ) → All IsOctet octets → get_or octets k 0 < 256
-octet_at octets k small = elim (cases_lt k (length octets)) [
-  | inl there ↦ small k 0 there
-  | inr past ↦ rw (get_or_past octets k 0 past) (omega arith)
-]
-
-word_said : (bits : List Bool) → IsWord (socket_of bits)
-word_said bits =
-    let cells : All IsOctet (take 4 (octets_of bits)) = All-take IsOctet 4 (octets_of bits) (octets_below bits) in
-    omega (arith, octet_at (take 4 (octets_of bits)) 0 cells, octet_at (take 4 (octets_of bits)) 1 cells, octet_at (take 4 (octets_of bits)) 2 cells, octet_at (take 4 (octets_of bits)) 3 cells)
-
 joined_fine : (s : UserState) (bits : List Bool) (b : Bool) → IsUser s
     → UserFine s (if b then passed (record s { bits = bits }) else user_told (record s { bits = [] }) (socket_of (take 32 bits)))
 joined_fine s bits true is = (tt, is)
-joined_fine s bits false is = told_fine (record s { bits = [] }) (socket_of (take 32 bits)) (is_receive_socket (socket_of (take 32 bits))) is (word_said (take 32 bits)) refl
+joined_fine s bits false is = told_fine (record s { bits = [] }) (socket_of (take 32 bits)) (is_receive_socket (socket_of (take 32 bits))) is (word_below (octets_of (take 32 bits)) 0 (octets_below (take 32 bits))) refl
 
 heard_fine : (s : UserState) (o : Option (List Bool)) → IsUser s → UserFine s (user_heard s o)
 heard_fine s None is = (tt, is)

@@ -50,7 +50,7 @@ from_host_has P s m h made = quiet_has P (offered (way_of s m.flow) m s) (offere
 
 -- ---- from_line
 
-taken_has : (P : PacketFields → Type 0) (k : ℕ) (f : Frame) (s : State) → Has P s → Has P (frame_taken k f s)
+pub taken_has : (P : PacketFields → Type 0) (k : ℕ) (f : Frame) (s : State) → Has P s → Has P (frame_taken k f s)
 taken_has P k f s h = record {
   store = h.store;
   lines = All-set (PortHas P) s.ports k _ (received_has P (port_at s.ports k).line f (port_has P s.ports k h.lines)) h.lines;
@@ -131,7 +131,7 @@ returned_has P m s h made = at (reply_has_room s m) where
   at false = h
 
 -- a reply doesn't change the IMP's number, so what the next ones make stays the same
-returned_number : (m : Message) (s : State) → number (message_returned m s) ≡ number s
+pub returned_number : (m : Message) (s : State) → number (message_returned m s) ≡ number s
 returned_number m s = at (reply_has_room s m) (is_from_here s m) (release_in m.number (finite.get s.sources m.flow)) where
   at : (room here : Bool) (r : Release) → number (cond room (cond here (answered_by r answer.Dead m.flow m.number s) (stored (answer_packet kind.Dead m.flow m.number) s)) s) ≡ number s
   at true true release.Freed = refl

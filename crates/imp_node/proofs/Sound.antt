@@ -43,7 +43,7 @@ use Rattle.imp_node.proofs.SidesOfCalls.{arrival_says}
 -- ---- the hosts of an IMP
 
 -- what holds of each element by its place holds after one was set
-at_set : {A : Type 0} (P : ℕ → A → Type 0) (xs : List A) (k h : ℕ) (x d : A) → P h (get_or xs h d) → P k x → P h (get_or (set xs k x) h d)
+pub at_set : {A : Type 0} (P : ℕ → A → Type 0) (xs : List A) (k h : ℕ) (x d : A) → P h (get_or xs h d) → P k x → P h (get_or (set xs k x) h d)
 at_set P [] k h x d old new = old
 at_set P (y ∷ ys) zero zero x d old new = new
 at_set P (y ∷ ys) zero (suc h) x d old new = old
@@ -137,7 +137,7 @@ offered_imp imp Here m s from to is =
     (record { own = is.own; live = is.live; answers = is.answers; queues = is.queues; slots = is.slots })
 offered_imp imp Away m s from to is = record { own = is.own; live = is.live; answers = is.answers; queues = is.queues; slots = is.slots }
 
-here_imp : (s : State) (f : Flow) → way_of s f ≡ Here → f.destination.imp ≡ number s
+pub here_imp : (s : State) (f : Flow) → way_of s f ≡ Here → f.destination.imp ≡ number s
 here_imp s f is = elim (cases_Bool (f.destination.imp == number s)) [
   | inl own ↦ eqb-true f.destination.imp (number s) own
   | inr other ↦ elim (cases_Bool (has_route s f.destination.imp)) [
@@ -238,12 +238,12 @@ host_up_imp imp s h is = pumped_imp imp [] _ (with_host_imp imp s h (record (hos
 
 -- ---- at the opening
 
-opening_answers : (count h : ℕ) → (get_or (replicate count up_host) h no_host).answers ≡ []
+pub opening_answers : (count h : ℕ) → (get_or (replicate count up_host) h no_host).answers ≡ []
 opening_answers zero h = refl
 opening_answers (suc count) zero = refl
 opening_answers (suc count) (suc h) = opening_answers count h
 
-opening_queue : (count h : ℕ) → (get_or (replicate count up_host) h no_host).queue ≡ []
+pub opening_queue : (count h : ℕ) → (get_or (replicate count up_host) h no_host).queue ≡ []
 opening_queue zero h = refl
 opening_queue (suc count) zero = refl
 opening_queue (suc count) (suc h) = opening_queue count h

@@ -14,7 +14,7 @@ use Rattle.leader1822.specs.declared.address.Flow.{Flow}
 use Rattle.link_table.specs.Keys.{flow_cmp}
 use Rattle.link_table.specs.Flows.{Sources, outstanding_in, is_outstanding_from, has_outstanding}
 use Rattle.link_table.specs.declared.source.Standing.{Standing}
-use Rattle.leader1822.proofs.lemmas.{exact_flows, flows_total}
+use Rattle.leader1822.proofs.lemmas.{exact_flows, flows_total, or_false}
 
 both : (a b : Bool) → a ≡ true → b ≡ true → (a && b) ≡ true
 both true b e f = f
@@ -109,12 +109,8 @@ found {V} test (e ∷ es) sorted some = by (test e) refl some (found test es (se
 none_found : {V : Type 0} (test : Flow × V → Bool) (es : List (Flow × V)) (f : Flow) (v : V) → list_any test es ≡ false → find flow_cmp f es ≡ Some v → test (f, v) ≡ false
 none_found test [] f v none at = absurd (cc)
 none_found {V} test (e ∷ es) f v none at = by (eq_by_cmp flow_cmp f e.0) refl at (none_found test es f v) where
-  neither : (a b : Bool) → (a || b) ≡ false → (a ≡ false) × (b ≡ false)
-  neither true b h = absurd (cc)
-  neither false b h = (refl, h)
-
   parts : (test e ≡ false) × (list_any test es ≡ false)
-  parts = neither (test e) (list_any test es) none
+  parts = or_false (test e) (list_any test es) none
 
   by : (b : Bool) → eq_by_cmp flow_cmp f e.0 ≡ b → cond b (Some e.1) (find flow_cmp f es) ≡ Some v → (list_any test es ≡ false → find flow_cmp f es ≡ Some v → test (f, v) ≡ false)
       → test (f, v) ≡ false

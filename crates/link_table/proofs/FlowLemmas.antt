@@ -14,7 +14,7 @@ use Rattle.link_table.specs.Flows.{Sources, changed, changed_from, begun, flow_a
 use Rattle.link_table.specs.Keys.{flow_cmp, is_from, drop_from, has_from}
 use Rattle.link_table.specs.declared.source.Standing.{Standing}
 use Rattle.link_table.specs.declared.source.Standing.TheVariants as standing
-use Rattle.leader1822.proofs.lemmas.{exact_flows, flows_total}
+use Rattle.leader1822.proofs.lemmas.{exact_flows, flows_total, or_false}
 use Rattle.link_table.specs.Flows.{last_of}
 use Rattle.link_table.specs.Numbers.{modulus}
 use Rattle.link_table.proofs.NumberLemmas.{next_in, some_number}
@@ -113,15 +113,11 @@ get_dropped m imp g =
       turned true = refl
       turned false = refl
 
-neither : (a b : Bool) → (a || b) ≡ false → (a ≡ false) × (b ≡ false)
-neither true b e = absurd (cc)
-neither false b e = (refl, e)
-
 -- a flow from an IMP stands in no list in which none is from there
 apart : (imp : ℕ) (g : Flow) (fs : List Flow) → is_from imp g ≡ true → list_any (is_from imp) fs ≡ false → list_any (eq_by_cmp flow_cmp g) fs ≡ false
 apart imp g [] from none = refl
 apart imp g (f ∷ fs) from none =
-    let parts : (is_from imp f ≡ false) × (list_any (is_from imp) fs ≡ false) = neither (is_from imp f) (list_any (is_from imp) fs) none in
+    let parts : (is_from imp f ≡ false) × (list_any (is_from imp) fs ≡ false) = or_false (is_from imp f) (list_any (is_from imp) fs) none in
     by (eq_by_cmp flow_cmp g f) refl parts.0 (apart imp g fs from parts.1) where
       by : (b : Bool) → eq_by_cmp flow_cmp g f ≡ b → is_from imp f ≡ false → list_any (eq_by_cmp flow_cmp g) fs ≡ false → (b || list_any (eq_by_cmp flow_cmp g) fs) ≡ false
       by true e other rest = (let same : is_from imp g ≡ is_from imp f = ap (is_from imp) (exact_flows g f (equal_from (flow_cmp g f) e)) in absurd (cc))

@@ -238,7 +238,7 @@ double_below octets place small =
     let cells : All IsOctet (take 2 (drop place octets)) = All-take IsOctet 2 (drop place octets) (All-drop IsOctet place octets small) in
     omega (arith, read_below (take 2 (drop place octets)) 0 cells, read_below (take 2 (drop place octets)) 1 cells)
 
-word_below : (octets : List ℕ) (place : ℕ) → All IsOctet octets → IsWord (number_at w32 octets place)
+pub word_below : (octets : List ℕ) (place : ℕ) → All IsOctet octets → IsWord (number_at w32 octets place)
 word_below octets place small =
     let cells : All IsOctet (take 4 (drop place octets)) = All-take IsOctet 4 (drop place octets) (All-drop IsOctet place octets small) in
     omega (arith, read_below (take 4 (drop place octets)) 0 cells, read_below (take 4 (drop place octets)) 1 cells, read_below (take 4 (drop place octets)) 2 cells, read_below (take 4 (drop place octets)) 3 cells)

@@ -9,6 +9,7 @@ use Rattle.std.proofs.Common.{length-drop}
 use Rattle.bit_messages.specs.Octets.{octets_of, bits_of, spare_bits}
 use Rattle.bit_messages.proofs.lemmas.{bits_again, length-bits_of, octets_again}
 use Rattle.leader1822.specs.Host.{Host, address_octet}
+use Rattle.leader1822.proofs.lemmas.{not_false}
 use Rattle.packetiser.specs.PacketFields.{PacketFields, IsPacket, IsPacketHost, IsPiece, IsAnswer, Carries}
 use Rattle.packetiser.specs.Format.{spelling, read_of, kind_octet, kind_of, host_of, is_address, is_short, is_not_canonical, is_bad_length, bit_count, octet_count, is_data, is_last, place_of, place_octet, fields_of}
 use Rattle.packetiser.specs.declared.packet.PacketKind.{PacketKind}
@@ -44,10 +45,6 @@ seven false false true d e f g h = absurd (cc)
 seven false false false true e f g h = absurd (cc)
 seven false false false false true f g h = absurd (cc)
 seven false false false false false true g h = absurd (cc)
-
-not_false : (b : Bool) → not b ≡ false → b ≡ true
-not_false true e = refl
-not_false false e = absurd (cc)
 
 not_true : (b : Bool) → (b ≡ true → ⊥) → b ≡ false
 not_true true e = absurd (e refl)

@@ -1,6 +1,7 @@
 -- Where ends close: by an answer, by a user, or by a CLS of the peer.
 use Rattle.std.proofs.Common.{◌≡◌, ℕ, ◌==◌, ◌&&◌, not, Bool, true, false, if◌then◌else◌, List, [], ◌∷◌, ◌++◌, map, filter, find, Option, Some, None, refl, ap, sym, subst, ◌∙◌}
 use Rattle.leader1822.specs.Host.{Host}
+use Rattle.leader1822.proofs.lemmas.{or_false}
 use Rattle.ncp_control.specs.declared.command.Command.{Command}
 use Rattle.stream_law.specs.Words as words
 use Rattle.stream_law.specs.Words.{Word}
@@ -19,7 +20,7 @@ use Rattle.host_keeps_streams.specs.Closings.{all_received, received_close}
 use Rattle.host_keeps_streams.specs.Ends.{AreReceiver, HasReceiver}
 use Rattle.host_keeps_streams.specs.Moves.{closes, closes_on, cls_received, cls_sent, of_end, on_link, told_on}
 use Rattle.host_keeps_streams.specs.Names.{named, numbers, AreApart}
-use Rattle.host_keeps_streams.proofs.lemmas.{apart_changed, away, due_cls, name_of, not_called, not_received, or_parts, own_name, own_receiver, received_is, shut_one, stays}
+use Rattle.host_keeps_streams.proofs.lemmas.{apart_changed, away, due_cls, name_of, not_called, not_received, own_name, own_receiver, received_is, shut_one, stays}
 use Rattle.pair_keeps_streams.specs.Words.{plain, received_words, sent_words}
 use Rattle.pair_keeps_streams.proofs.Joint.{AreLinked}
 use Rattle.pair_keeps_streams.proofs.Queues.{Told, changed_alike, kept_same, silent}
@@ -72,7 +73,7 @@ module _ (number : ℕ → ℕ → ℕ → ℕ) (link : ℕ) (gone : ℕ → ℕ
 
   module _ (busy : List ℕ) (socket : ℕ) (e : Entry) (found : find (is_mine_on socket) es ≡ Some e) (fresh : was_closed e ≡ false) (s : Sender) where
     due_now : is_due (close_due e.closing) ≡ true
-    due_now = ap (λ (v : Closing). is_due (close_due v)) (not_called e.closing (or_parts _ e.partner_closed fresh).0)
+    due_now = ap (λ (v : Closing). is_due (close_due v)) (not_called e.closing (or_false _ e.partner_closed fresh).0)
 
     must_now : is_receiving e ≡ true → must_close busy (called_off e) ≡ true
     must_now i = let d : is_due (close_due e.closing) ≡ true = due_now in rw (d, i) refl

@@ -8,3 +8,4 @@ pub use Rattle.pair_keeps_streams.proofs.Parting.{IsWordless, mirror, opened}
 pub use Rattle.pair_keeps_streams.proofs.Queues.{AreSeparate, Stays, at_changed, kept_if, separate, sweep_found}
 pub use Rattle.pair_keeps_streams.proofs.StepAsks.{IsAsking}
 pub use Rattle.pair_keeps_streams.proofs.StepHears.{IsHeard}
+pub use Rattle.pair_keeps_streams.proofs.Streams.{receives_receiver, receives_sender, sends_receiver, sends_sender}

@@ -12,7 +12,7 @@ use Rattle.reset_law.specs.Monitor.{monitor}
 use Rattle.reset_law.specs.Invariant.{kind_in, is_signal, InGone, InHeard, Shape, Sound}
 use Rattle.reset_law.specs.Runs.{IsRun}
 use Rattle.reset_law.specs.Stays.{is_ready, ready, joint, begins, takes_reset, stays}
-use Rattle.reset_law.proofs.lemmas.{at, carry, contradicts, down_pair, phase_ready, ready_phase, ready_taken, ready_up, reset_unready, sound_run, stays_ready, still_ready, turned_about}
+use Rattle.reset_law.proofs.lemmas.{at, carry, contradicts, down_pair, phase_ready, ready_phase, ready_taken, ready_up, reply_from, reset_unready, sound_run, stays_ready, still_ready, turned_about}
 
 -- ---- an RST that was taken
 
@@ -209,16 +209,6 @@ has_left hosts (Up x ∷ events) r v w h = stays_left (Up x) events v w h (inr (
 has_left hosts (Idle ∷ events) r v w h = stays_left Idle events v w h (inr (has_left hosts events r.2 v w h))
 
 -- ---- how a stay begins
-
-reply_from : (t : Bool) (p : Pair) → (pair_moved (when t (Take Reply)) p).phase ≡ Ready → (p.phase ≡ Heard) ⊎ (p.phase ≡ Ready)
-reply_from true p e = by p.phase e where
-  by : (ph : Phase) → reply_phase ph ≡ Ready → (ph ≡ Heard) ⊎ (ph ≡ Ready)
-  by Closed e = absurd (cc)
-  by Want e = absurd (cc)
-  by (Gone early) e = absurd (cc)
-  by Heard e = inl refl
-  by Ready e = inr refl
-reply_from false p e = inr e
 
 reply_begun : (t : Bool) (p : Pair) → p.begun ≡ false → (pair_moved (when t (Take Reply)) p).begun ≡ false
 reply_begun true p e = e

@@ -11,12 +11,12 @@ use Rattle.pairing_law.proofs.Joint.{Joined}
 use Rattle.pairing_law.proofs.Runs.{joined_run}
 use Rattle.pairing_law.proofs.Seen.{put, at, at_older, BothSeen, seen}
 
-same_is : (s t : Sockets) → same s t ≡ true → s ≡ t
+pub same_is : (s t : Sockets) → same s t ≡ true → s ≡ t
 same_is s t e =
     let h : ((s.receive == t.receive) ≡ true) × ((s.send == t.send) ≡ true) = and_both (s.receive == t.receive) (s.send == t.send) e in
     ap (λ (r : ℕ). record { receive = r; send = s.send }) (eqb-true s.receive t.receive h.0) ∙ ap (λ (n : ℕ). record { receive = t.receive; send = n }) (eqb-true s.send t.send h.1)
 
-same_self : (s : Sockets) → same s s ≡ true
+pub same_self : (s : Sockets) → same s s ≡ true
 same_self s = rw (eq-eqb s.receive s.receive refl, eq-eqb s.send s.send refl) refl
 
 -- ---- a list of steps is a list of events for each pair of sockets
@@ -67,7 +67,7 @@ asks_put true (Ask p) k q word a = inr a
 asks_put true Close k q word a = a
 asks_put false m k q word a = a
 
-among_asks : (t : Sockets) (link q : ℕ) (words : List Word) → IsAmong (record { sockets = t; link = link; mark = Ask q }) words → (k : ℕ) × Asks k q (at t words)
+pub among_asks : (t : Sockets) (link q : ℕ) (words : List Word) → IsAmong (record { sockets = t; link = link; mark = Ask q }) words → (k : ℕ) × Asks k q (at t words)
 among_asks t link q [] i = absurd i
 among_asks t link q (w ∷ words) (inl e) =
     subst (λ (v : Word). (k : ℕ) × Asks k q (put (same t v.sockets) v.mark (at t words))) e

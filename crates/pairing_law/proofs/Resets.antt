@@ -1,5 +1,5 @@
 -- What the law of resets gives: a host that is through a reset takes a text only in a stay.
-use Rattle.std.proofs.Common.{◌≡◌, ◌≢◌, ℕ, Bool, true, false, not, ◌&&◌, ◌||◌, List, [], ◌∷◌, Some, refl, ap, sym, subst, ◌∙◌, inl, inr}
+use Rattle.std.proofs.Common.{◌≡◌, ℕ, Bool, true, false, not, ◌&&◌, ◌||◌, List, [], ◌∷◌, Some, refl, ap, sym, subst, ◌∙◌, inl, inr}
 use Rattle.leader1822.specs.Host.{Host, same_host}
 use Rattle.reset_law.specs.Phases.{Ready}
 use Rattle.reset_law.specs.Events.{Message, Reset, Reply, Other, Event, Contact, Out, In, Told, Down, Up, Idle, Call, Send, Hear, Begin, when, are, place}
@@ -9,7 +9,7 @@ use Rattle.reset_law.specs.Monitor.{monitor}
 use Rattle.reset_law.specs.Invariant.{kind_in, is_signal}
 use Rattle.reset_law.specs.Runs.{IsRun}
 use Rattle.reset_law.specs.Stays.{ready, joint, begins, takes_reset, stays}
-use Rattle.reset_law.proofs.lemmas.{NoPlain, alone_run, at, carry, contradicts, joint_stays, phase_ready, plain_alone, plain_fetched, plain_if, ready_taken, still_ready, turned_about}
+use Rattle.reset_law.proofs.lemmas.{NoPlain, alone_run, at, carry, contradicts, joint_stays, not_waiting, phase_ready, plain_alone, plain_fetched, plain_if, ready_taken, still_ready, turned_about}
 
 goes_on : (t r k s : Bool) → r ≡ true → k ≡ false → s ≡ true → (t || (r && not k && s)) ≡ true
 goes_on true r k s e f g = refl
@@ -24,11 +24,6 @@ Waits bs S = (l p : ℕ) (text : List Bool) → bs l ≡ Waiting p (Other text) 
 
 waits_map : (bs : ℕ → Box) (S T : Type 0) → (S → T) → Waits bs S → Waits bs T
 waits_map bs S T f h l p text e = f (h l p text e)
-
-not_waiting : (x : Box) (p : ℕ) (m : Message) → fetched x ≢ Waiting p m
-not_waiting Empty p m e = absurd (cc)
-not_waiting (Waiting q n) p m e = absurd (cc)
-not_waiting (Taken q n) p m e = absurd (cc)
 
 waits_fetched : (bs : ℕ → Box) (l : ℕ) (S : Type 0) → Waits bs S → Waits (at_link bs l (fetched (bs l))) S
 waits_fetched bs l S h k p text e = elim (at bs l (fetched (bs l)) k) [

@@ -2,7 +2,7 @@
 pub use Rattle.pairing_law.proofs.Balance.{Balanced, count}
 pub use Rattle.pairing_law.proofs.Begins.{Fresh, begins_fresh}
 pub use Rattle.pairing_law.proofs.Joint.{Half, Joined, turned}
-pub use Rattle.pairing_law.proofs.Linked.{joined_at, run_at, unused}
+pub use Rattle.pairing_law.proofs.Linked.{among_asks, joined_at, run_at, same_is, same_self, unused}
 pub use Rattle.pairing_law.proofs.Lives.{Stands, Stood, every_in}
 pub use Rattle.pairing_law.proofs.Open.{open_match}
 pub use Rattle.pairing_law.proofs.Placed.{pair_same, placed_front, placed_run, stays_same}

@@ -109,7 +109,7 @@ is_done (Ok done) told goes = refl
 is_done (Err f) told goes = absurd (false≢true (sym goes ∙ told))
 
 -- crossings in turn
-grown_more : (old mid new cs ds : List Crossing) → mid ≡ reverse cs ++ old → new ≡ reverse ds ++ mid → new ≡ reverse (cs ++ ds) ++ old
+pub grown_more : (old mid new cs ds : List Crossing) → mid ≡ reverse cs ++ old → new ≡ reverse ds ++ mid → new ≡ reverse (cs ++ ds) ++ old
 grown_more old mid new cs ds h k = k ∙ ap (λ log. reverse ds ++ log) h ∙ sym (append_assoc (reverse ds) (reverse cs) old) ∙ ap (λ log. log ++ old) (sym (reverse-append cs ds))
 
 written_more : (a b c : Option (List ℕ)) (cs ds : List Crossing) → Appends a b (output (shown_crossings cs)) → Appends b c (output (shown_crossings ds)) → Appends a c (output (shown_crossings (cs ++ ds)))

@@ -110,7 +110,7 @@ still_ready false part here p m plain e = (e, refl)
 abbrev IsFresh : (ℕ → Box) → Option ℕ → Type 0
 IsFresh bs o = (l p : ℕ) (text : List Bool) → bs l ≡ Waiting p (Other text) → IsAfter p o
 
-not_waiting : (x : Box) (p : ℕ) (m : Message) → fetched x ≢ Waiting p m
+pub not_waiting : (x : Box) (p : ℕ) (m : Message) → fetched x ≢ Waiting p m
 not_waiting Empty p m e = absurd (cc)
 not_waiting (Waiting q n) p m e = absurd (cc)
 not_waiting (Taken q n) p m e = absurd (cc)

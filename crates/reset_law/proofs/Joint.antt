@@ -11,7 +11,7 @@ use Rattle.reset_law.specs.Monitor.{Monitor, monitor}
 use Rattle.reset_law.specs.Invariant.{kind_in, is_signal, Outstanding, Shape, Sound}
 use Rattle.reset_law.specs.Runs.{IsRun}
 use Rattle.reset_law.specs.Stays.{is_ready, ready, waits_in}
-use Rattle.reset_law.proofs.Links.{at}
+use Rattle.reset_law.proofs.Links.{at, fetched_kind}
 use Rattle.reset_law.proofs.Runs.{carry, IsAlone, sound_run, alone_run, ready_up}
 use Rattle.reset_law.proofs.Fresh.{turned_about, still_ready, ready_taken}
 
@@ -78,24 +78,19 @@ nothing_waits (Waiting p Reply) no_plain = refl
 nothing_waits (Waiting p (Other text)) no_plain = absurd (no_plain refl)
 nothing_waits (Taken p m) no_plain = refl
 
-fetched_kind : (x : Box) → kind_in (fetched x) ≡ kind_in x
-fetched_kind Empty = refl
-fetched_kind (Waiting p m) = refl
-fetched_kind (Taken p m) = refl
-
 pub plain_fetched : (bs : ℕ → Box) (l : ℕ) → NoPlain bs → NoPlain (at_link bs l (fetched (bs l)))
 plain_fetched bs l h k e = elim (at bs l (fetched (bs l)) k) [
   | inl t ↦ h l (sym (fetched_kind (bs l)) ∙ ap kind_in (sym t.1) ∙ e)
   | inr t ↦ h k (ap kind_in (sym t.1) ∙ e)
 ]
 
-plain_cleared : (bs : ℕ → Box) (l : ℕ) → NoPlain bs → NoPlain (at_link bs l Empty)
+pub plain_cleared : (bs : ℕ → Box) (l : ℕ) → NoPlain bs → NoPlain (at_link bs l Empty)
 plain_cleared bs l h k e = elim (at bs l Empty k) [
   | inl t ↦ (let both : None ≡ Some Plain = ap kind_in (sym t.1) ∙ e in absurd (cc))
   | inr t ↦ h k (ap kind_in (sym t.1) ∙ e)
 ]
 
-plain_put : (bs : ℕ → Box) (l here : ℕ) (m : Message) → Some (kind_of m) ≢ Some Plain → NoPlain bs → NoPlain (at_link bs l (Waiting here m))
+pub plain_put : (bs : ℕ → Box) (l here : ℕ) (m : Message) → Some (kind_of m) ≢ Some Plain → NoPlain bs → NoPlain (at_link bs l (Waiting here m))
 plain_put bs l here m signal h k e = elim (at bs l (Waiting here m) k) [
   | inl t ↦ signal (ap kind_in (sym t.1) ∙ e)
   | inr t ↦ h k (ap kind_in (sym t.1) ∙ e)
@@ -126,23 +121,23 @@ plain_alone bs l m alone waits signal k e =
 
 -- ---- who owes an RRP to a host that is ready has said nothing to it
 
-owed_sent : (t : Bool) (l : ℕ) (m : Message) (p : Pair) → (pair_moved (when t (Send l m)) p).owed ≡ true → (p.owed ≡ true) × ((t ≡ true) → m ≢ Reply)
+pub owed_sent : (t : Bool) (l : ℕ) (m : Message) (p : Pair) → (pair_moved (when t (Send l m)) p).owed ≡ true → (p.owed ≡ true) × ((t ≡ true) → m ≢ Reply)
 owed_sent true l Reset p e = (e, (λ t same. absurd (cc)))
 owed_sent true l Reply p e = absurd (cc)
 owed_sent true l (Other text) p e = (e, (λ t same. absurd (cc)))
 owed_sent false l m p e = (e, (λ t. absurd (cc)))
 
-owed_told : (t : Bool) (l : ℕ) (k : Answer) (p : Pair) → (pair_moved (when t (Hear l k)) p).owed ≡ true → p.owed ≡ true
+pub owed_told : (t : Bool) (l : ℕ) (k : Answer) (p : Pair) → (pair_moved (when t (Hear l k)) p).owed ≡ true → p.owed ≡ true
 owed_told true l answer.Rfnm p e = e
 owed_told true l answer.Dead p e = e
 owed_told true l answer.Incomplete p e = e
 owed_told false l k p e = e
 
-owed_call : (t : Bool) (p : Pair) → (pair_moved (when t Call) p).owed ≡ true → p.owed ≡ true
+pub owed_call : (t : Bool) (p : Pair) → (pair_moved (when t Call) p).owed ≡ true → p.owed ≡ true
 owed_call true p e = e
 owed_call false p e = e
 
-owed_begin : (t : Bool) (p : Pair) → (pair_moved (when t Begin) p).owed ≡ true → p.owed ≡ true
+pub owed_begin : (t : Bool) (p : Pair) → (pair_moved (when t Begin) p).owed ≡ true → p.owed ≡ true
 owed_begin true p e = absurd (cc)
 owed_begin false p e = e
 
@@ -153,7 +148,7 @@ owed_taken true (Other text) p e = inl e
 owed_taken false m p e = inl e
 
 -- what a host that owes an RRP sends is no plain message
-sends_signal : (l : ℕ) (m : Message) (p : Pair) → p.owed ≡ true → MaySend p l m → Some (kind_of m) ≢ Some Plain
+pub sends_signal : (l : ℕ) (m : Message) (p : Pair) → p.owed ≡ true → MaySend p l m → Some (kind_of m) ≢ Some Plain
 sends_signal l Reset p owed may e = absurd (cc)
 sends_signal l Reply p owed may e = absurd (cc)
 sends_signal l (Other text) p owed may e = contradicts p.owed owed may.1

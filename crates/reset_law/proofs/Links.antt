@@ -21,7 +21,7 @@ pub boxed_at : (out : ℕ → Option Kind) (boxes : ℕ → Box) (l : ℕ) (x : 
 boxed_at out boxes l x h k = ap (λ (o : Option Kind). if k == l then kind_in x else o) (h k) ∙ kinds (k == l) x (boxes k)
 
 -- a message that is taken is still outstanding
-fetched_kind : (x : Box) → kind_in (fetched x) ≡ kind_in x
+pub fetched_kind : (x : Box) → kind_in (fetched x) ≡ kind_in x
 fetched_kind Empty = refl
 fetched_kind (Waiting p m) = refl
 fetched_kind (Taken p m) = refl

@@ -9,7 +9,7 @@ use Rattle.reset_law.specs.Pairs.{Pair, MaySend, opening_pair, pair_moved, pair}
 use Rattle.reset_law.specs.Monitor.{Monitor, monitored, monitor}
 use Rattle.reset_law.specs.Invariant.{kind_in, is_signal, Outstanding, Sound}
 use Rattle.reset_law.specs.Runs.{IsRun}
-use Rattle.reset_law.proofs.Links.{at}
+use Rattle.reset_law.proofs.Links.{at, fetched_kind}
 use Rattle.reset_law.proofs.Steps.{sound_opening, sound_contact, sound_reset_sent, sound_reply_sent, sound_other_sent, sound_reset_taken, sound_reply_taken, sound_fetched}
 use Rattle.reset_law.proofs.Answers.{sound_told}
 
@@ -98,7 +98,7 @@ pub record IsAlone (bs : ℕ → Box) : Type 0 where
   pub on_zero : (k : ℕ) → is_signal (kind_in (bs k)) ≡ true → k ≡ 0
   pub empty : is_signal (kind_in (bs 0)) ≡ true → (k : ℕ) → k ≢ 0 → bs k ≡ Empty
 
-empty_kind : (x : Box) → kind_in x ≡ None → x ≡ Empty
+pub empty_kind : (x : Box) → kind_in x ≡ None → x ≡ Empty
 empty_kind Empty e = refl
 empty_kind (Waiting p m) e = absurd (cc)
 empty_kind (Taken p m) e = absurd (cc)
@@ -118,11 +118,6 @@ record IsLess (new old : ℕ → Box) : Type 0 where
 
 alone_less : (new old : ℕ → Box) → IsLess new old → IsAlone old → IsAlone new
 alone_less new old less h = record { on_zero = λ k signal. h.on_zero k (less.signal k signal); empty = λ signal k away. less.empty k (h.empty (less.signal 0 signal) k away) }
-
-fetched_kind : (x : Box) → kind_in (fetched x) ≡ kind_in x
-fetched_kind Empty = refl
-fetched_kind (Waiting p m) = refl
-fetched_kind (Taken p m) = refl
 
 fetched_empty : (x : Box) → x ≡ Empty → fetched x ≡ Empty
 fetched_empty x e = ap fetched e

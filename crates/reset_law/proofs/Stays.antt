@@ -21,7 +21,7 @@ use Rattle.reset_law.proofs.Words.{Tells, tells_as, tells_all, front_longer, tel
 
 -- ---- how a stay begins
 
-reply_from : (t : Bool) (p : Pair) → (pair_moved (when t (Take Reply)) p).phase ≡ Ready → (p.phase ≡ Heard) ⊎ (p.phase ≡ Ready)
+pub reply_from : (t : Bool) (p : Pair) → (pair_moved (when t (Take Reply)) p).phase ≡ Ready → (p.phase ≡ Heard) ⊎ (p.phase ≡ Ready)
 reply_from true p e = by p.phase e where
   by : (ph : Phase) → reply_phase ph ≡ Ready → (ph ≡ Heard) ⊎ (ph ≡ Ready)
   by Closed e = absurd (cc)

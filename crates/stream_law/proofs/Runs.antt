@@ -97,15 +97,15 @@ granted_as x h c ms less =
     let n : total Bits ms ≡ message_bits ms = total_bits ms in
     record { in_messages = omega (arith, a, k, m); in_bits = omega (arith, b, l, n) }
 
+pub safe_inv : (x : Stream) → Inv x → (c : ℕ) → IsSafe x c
+safe_inv x h c = record {
+  front = h.fronts c;
+  taken = granted_as x h c (x.receiver.taken c) (λ u. total_front u (x.receiver.taken c) (x.sender.sent c) (h.fronts c));
+  sent = granted_as x h c (x.sender.sent c) (λ u. omega arith);
+}
+
 pub safe_run : (events : List Event) (c : ℕ) → IsRun events → IsSafe (stream events) c
-safe_run events c run =
-    let x : Stream = stream events in
-    let h : Inv (stream events) = inv_run events run in
-    record {
-      front = h.fronts c;
-      taken = granted_as (stream events) h c ((stream events).receiver.taken c) (λ u. total_front u ((stream events).receiver.taken c) ((stream events).sender.sent c) (h.fronts c));
-      sent = granted_as (stream events) h c ((stream events).sender.sent c) (λ u. omega arith);
-    }
+safe_run events c run = safe_inv (stream events) (inv_run events run) c
 
 pub fresh_run : (x : Stream) → Inv x → x.receiver.end ≡ None → NothingLeft x
 fresh_run x h none = record {

@@ -1,8 +1,9 @@
 -- What a user asks for, at one socket of the host.
-use Rattle.std.proofs.Common.{◌≡◌, inl, inr, ℕ, ◌==◌, ◌&&◌, ◌||◌, Bool, true, false, not, if◌then◌else◌, List, [], ◌∷◌, ◌++◌, map, find, length, Option, Some, None, is_some, refl, ap, sym, subst, ◌∙◌, arith}
+use Rattle.std.proofs.Common.{◌≡◌, inl, inr, ℕ, ◌==◌, ◌&&◌, Bool, true, false, not, if◌then◌else◌, List, [], ◌∷◌, ◌++◌, map, find, length, Option, Some, None, is_some, refl, ap, sym, subst, ◌∙◌, arith}
 use Rattle.std.proofs.lemmas.Bool.{eqb-true}
 use Rattle.std.proofs.lemmas.List.{append-nil, append_assoc}
 use Rattle.leader1822.specs.Host.{Host}
+use Rattle.leader1822.proofs.lemmas.{not_false, or_false}
 use Rattle.ncp_control.specs.Numbers.{is_receive_socket, is_send_socket}
 use Rattle.ncp_control.specs.declared.command.Command.{Command}
 use Rattle.ncp_control.specs.declared.command.Command.TheVariants as command
@@ -43,14 +44,6 @@ use Rattle.world_keeps_lives.proofs.Turns.{cleared_on}
 not_first : (test : Bool) (f : NcpFault) (others : Option NcpFault) → first_if test f others ≡ None → (test ≡ false) × (others ≡ None)
 not_first true f others e = absurd (cc)
 not_first false f others e = (refl, e)
-
-neither : (a b : Bool) → (a || b) ≡ false → (a ≡ false) × (b ≡ false)
-neither true b e = absurd (cc)
-neither false b e = (refl, e)
-
-true_is : (b : Bool) → not b ≡ false → b ≡ true
-true_is true e = refl
-true_is false e = absurd (cc)
 
 -- ---- accounts
 
@@ -134,14 +127,14 @@ module _ (a : Host) (k : ℕ) where
 
     silent : (ls : List Listener) → (l.socket == k) ≡ false → listens_on k ls ≡ false → listens_on k (ls ++ l ∷ []) ≡ false
     silent [] away e = rw away refl
-    silent (x ∷ ls) away e = let p : ((x.socket == k) ≡ false) × (listens_on k ls ≡ false) = neither (x.socket == k) (listens_on k ls) e in rw p.0 (silent ls away p.1)
+    silent (x ∷ ls) away e = let p : ((x.socket == k) ≡ false) × (listens_on k ls ≡ false) = or_false (x.socket == k) (listens_on k ls) e in rw p.0 (silent ls away p.1)
 
   unlistened : (ls : List Listener) (j : ℕ) → listens_on k ls ≡ false → listens_on k (without_listener j ls) ≡ false
   unlistened [] j e = e
-  unlistened (x ∷ ls) j e = by (unlistened ls j (neither (x.socket == k) (listens_on k ls) e).1) (x.socket == j) refl where
+  unlistened (x ∷ ls) j e = by (unlistened ls j (or_false (x.socket == k) (listens_on k ls) e).1) (x.socket == j) refl where
     by : listens_on k (without_listener j ls) ≡ false → (b : Bool) → (x.socket == j) ≡ b → listens_on k (without_listener j (x ∷ ls)) ≡ false
     by rest true f = rw f rest
-    by rest false f = rw (f, (neither (x.socket == k) (listens_on k ls) e).0) rest
+    by rest false f = rw (f, (or_false (x.socket == k) (listens_on k ls) e).0) rest
 
   unlisten_holds : (s : NcpState) (j : ℕ) (κ : Kept) → Holds a k s κ → Holds a k (record s { listening = without_listener j s.listening }) κ
   unlisten_holds s j κ h = record {
@@ -196,7 +189,7 @@ module _ (a : Host) (k : ℕ) where
       | inr o ↦ absurd (unused a k s κ (subst (λ (n : ℕ). is_used s n ≡ false) (eqb-true e.own k f) off) o)
       | inl r ↦
           (let ms : mine_on k ((pair_with p s.peers).entries ++ e ∷ []) ≡ e ∷ [] = grown true f ∙ ap (λ (ys : List Entry). ys ++ e ∷ []) (r.none p) in
-          let silent : listens_on k s.listening ≡ false = (neither (listens_on k s.listening) (is_some (owner_of k s.peers)) (subst (λ (n : ℕ). is_used s n ≡ false) (eqb-true e.own k f) off)).0 in
+          let silent : listens_on k s.listening ≡ false = (or_false (listens_on k s.listening) (is_some (owner_of k s.peers)) (subst (λ (n : ℕ). is_used s n ≡ false) (eqb-true e.own k f) off)).0 in
           let on : At a k Near p (e ∷ []) false κ = (fresh, each_weaker a k NoneOf (IsLifeOf p e) κ.book.lives κ.handed (λ x t there none. absurd none) r.lives) in
           let d : Done a k Near p (requested e c (pair_with p s.peers)) (listens_on k s.listening) κ = record {
             refusing = refuses (h.steady.refusing p);
@@ -255,7 +248,7 @@ module _ (a : Host) (k : ℕ) where
   send_holds s socket bits κ None f order may h = absurd (cc)
   send_holds s socket bits κ (Some (g, e)) f order may h =
       let found : find (is_mine_on socket) (pair_with g s.peers).entries ≡ Some e = owner_found socket s.peers g e order f in
-      let opened : has_opened e ≡ true = open_opened e (true_is (is_open e) (not_first (not (is_open e)) _ _ may).0) in
+      let opened : has_opened e ≡ true = open_opened e (not_false (is_open e) (not_first (not (is_open e)) _ _ may).0) in
       let own : e.own ≡ socket = own_is socket e (split (is_mine_on socket) (λ y. y) (pair_with g s.peers).entries e found).passes in
       open_holds s g socket (with_more_bits bits) (λ q. q) e κ (asked a (request.Send socket bits) κ) found refl (λ e r. r) (λ q. (refl, refl))
       (λ is m l i. at_handed m g e socket bits l κ (asked a (request.Send socket bits) κ) (subst (λ (n : ℕ). (n == k) ≡ true) own (both e.mine (e.own == k) is).1) opened refl refl i)
@@ -266,7 +259,7 @@ module _ (a : Host) (k : ℕ) where
   grant_holds s socket messages bits κ None f order may h = absurd (cc)
   grant_holds s socket messages bits κ (Some (g, e)) f order may h =
       let found : find (is_mine_on socket) (pair_with g s.peers).entries ≡ Some e = owner_found socket s.peers g e order f in
-      let opened : has_opened e ≡ true = open_opened e (true_is (is_open e) (not_first (not (is_open e)) _ _ may).0) in
+      let opened : has_opened e ≡ true = open_opened e (not_false (is_open e) (not_first (not (is_open e)) _ _ may).0) in
       let own : e.own ≡ socket = own_is socket e (split (is_mine_on socket) (λ y. y) (pair_with g s.peers).entries e found).passes in
       open_holds s g socket (granted messages bits) (commanded (command.All (link_of e.link) messages bits)) e κ (asked a (request.Grant socket messages bits) κ) found refl (λ e r. r) (λ q. (refl, refl))
       (λ is m l i. at_here a k m g (book.granted messages bits) e (granted messages bits e) l κ (asked a (request.Grant socket messages bits) κ) is opened (λ x. refl)
@@ -279,15 +272,15 @@ module _ (a : Host) (k : ℕ) where
   used_send : (s : NcpState) (p : Host) (own foreign size : ℕ) → open_send_refusal s p own foreign size ≡ None → (is_ready (pair_with p s.peers).phase ≡ true) × (is_used s own ≡ false)
   used_send s p own foreign size e =
       let first : (not (is_ready (pair_with p s.peers).phase) ≡ false) × _ = not_first (not (is_ready (pair_with p s.peers).phase)) _ _ e in (
-        true_is (is_ready (pair_with p s.peers).phase) first.0,
-        (neither (is_used s own) (is_some (entry_at own foreign (pair_with p s.peers).entries)) (not_first (is_taken s p own foreign) _ _ (not_first (not (is_send_socket own && is_receive_socket foreign)) _ _ first.1).1).0).0,
+        not_false (is_ready (pair_with p s.peers).phase) first.0,
+        (or_false (is_used s own) (is_some (entry_at own foreign (pair_with p s.peers).entries)) (not_first (is_taken s p own foreign) _ _ (not_first (not (is_send_socket own && is_receive_socket foreign)) _ _ first.1).1).0).0,
       )
 
   used_receive : (s : NcpState) (p : Host) (own foreign : ℕ) → open_receive_refusal s p own foreign ≡ None → (is_ready (pair_with p s.peers).phase ≡ true) × (is_used s own ≡ false)
   used_receive s p own foreign e =
       let first : (not (is_ready (pair_with p s.peers).phase) ≡ false) × _ = not_first (not (is_ready (pair_with p s.peers).phase)) _ _ e in (
-        true_is (is_ready (pair_with p s.peers).phase) first.0,
-        (neither (is_used s own) (is_some (entry_at own foreign (pair_with p s.peers).entries)) (not_first (is_taken s p own foreign) _ _ (not_first (not (is_receive_socket own && is_send_socket foreign)) _ _ first.1).1).0).0,
+        not_false (is_ready (pair_with p s.peers).phase) first.0,
+        (or_false (is_used s own) (is_some (entry_at own foreign (pair_with p s.peers).entries)) (not_first (is_taken s p own foreign) _ _ (not_first (not (is_receive_socket own && is_send_socket foreign)) _ _ first.1).1).0).0,
       )
 
   receive_holds : (s : NcpState) (p : Host) (own foreign : ℕ) (κ : Kept) → (is_ready (pair_with p s.peers).phase ≡ true) × (is_used s own ≡ false) → (o : Option ℕ) → Holds a k s κ → Holds a k (with_peer s p (receiver_requested own foreign o)) κ

@@ -2,6 +2,7 @@
 use Rattle.std.proofs.Common.{◌≡◌, ℕ, ◌+◌, ◌==◌, ◌&&◌, ◌||◌, Bool, true, false, not, if◌then◌else◌, List, [], ◌∷◌, ◌++◌, map, find, Option, Some, None, is_some, length, refl, ap, sym, subst, ◌∙◌}
 use Rattle.std.proofs.lemmas.Bool.{eqb-true}
 use Rattle.leader1822.specs.Host.{Host}
+use Rattle.leader1822.proofs.lemmas.{or_false}
 use Rattle.host_pairs.specs.Entries.{changed_first, has_cls, is_ending, is_mine_on, is_open}
 use Rattle.host_pairs.specs.Desk.{listener_on, listens_on, without_listener}
 use Rattle.host_pairs.specs.declared.entry.Entry.{Entry}
@@ -26,10 +27,6 @@ pub not_so : (b : Bool) → not b ≡ true → b ≡ false
 not_so true e = absurd (cc)
 not_so false e = refl
 
-neither : (a b : Bool) → (a || b) ≡ false → (a ≡ false) × (b ≡ false)
-neither true b e = absurd (cc)
-neither false b e = (refl, e)
-
 -- ---- open ends
 
 pub record IsAnOpen (e : Entry) : Type 0 where
@@ -42,7 +39,7 @@ pub open_parts : (e : Entry) → is_open e ≡ true → IsAnOpen e
 open_parts e o =
     let p : (has_opened e ≡ true) × (not (is_ending e) ≡ true) = both (has_opened e) (not (is_ending e)) o in
     let q : (is_some e.asked ≡ true) × (is_some e.partner ≡ true) = both (is_some e.asked) (is_some e.partner) p.0 in
-    let r : (has_cls e.closing ≡ false) × (e.partner_closed ≡ false) = neither (has_cls e.closing) e.partner_closed (not_so (is_ending e) p.1) in
+    let r : (has_cls e.closing ≡ false) × (e.partner_closed ≡ false) = or_false (has_cls e.closing) e.partner_closed (not_so (is_ending e) p.1) in
     record { asked = q.0; partner = q.1; unclosed = r.0; unheard = r.1 }
 
 pub open_opened : (e : Entry) → is_open e ≡ true → has_opened e ≡ true

@@ -36,7 +36,7 @@ abbrev pub Waits : (ℕ → ℕ) → List Entry → List Command → List Comman
 Waits origin entries commands behind = (own foreign : ℕ) → IsOfTwo own foreign → (x : End) × Stand true origin 0 (at own foreign entries) (marks 0 own foreign commands ++ marks 0 own foreign behind) x
 
 -- an end whose request waits hasn't asked
-unasked_by : (origin : ℕ → ℕ) (s : Standing) (rest : List Standing) (words : List Mark) (x : End) → Stand true origin 0 (s ∷ rest) (Ask 0 ∷ words) x → s.asked ≡ None
+pub unasked_by : (origin : ℕ → ℕ) (s : Standing) (rest : List Standing) (words : List Mark) (x : End) → Stand true origin 0 (s ∷ rest) (Ask 0 ∷ words) x → s.asked ≡ None
 unasked_by origin s [] words x h = elim (heads 0 s.mine s.asked s.closing (Ask 0) words h.1) [
   | inl r ↦ r.unasked
   | inr r ↦ absurd (let q : Ask 0 ≡ Close = r.mark in cc)

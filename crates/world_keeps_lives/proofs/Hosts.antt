@@ -1,5 +1,5 @@
 -- What comes in to a host and what goes out of it, at one of its sockets.
-use Rattle.std.proofs.Common.{◌≡◌, ◌⊎◌, inl, inr, ℕ, ◌*◌, Bool, true, false, if◌then◌else◌, cond, List, [], ◌∷◌, take, drop, Option, Some, None, zero, suc, refl, ap, sym, subst, ◌∙◌}
+use Rattle.std.proofs.Common.{◌≡◌, ◌⊎◌, inl, inr, ℕ, ◌*◌, Bool, true, false, if◌then◌else◌, cond, List, [], ◌∷◌, take, drop, Option, Some, None, refl, ap, sym, subst, ◌∙◌}
 use Rattle.std.proofs.lemmas.List.{take-append-drop}
 use Rattle.leader1822.specs.Host.{Host, same_host}
 use Rattle.leader1822.specs.declared.address.Flow.{Flow}
@@ -34,6 +34,7 @@ use Rattle.sockets.specs.Sending.{next_in, offered, offered_by}
 use Rattle.sockets.specs.declared.peer.Peer.{Peer}
 use Rattle.sockets.proofs.lemmas.{next_is, next_pair, pair_changed}
 use Rattle.net_sim.specs.Book.{Kept, all_told}
+use Rattle.world_keeps_pairing.proofs.lemmas.{some_commands}
 use Rattle.world_keeps_lives.specs.Lives.{AreRefusing, EachIn, IsFreeSocket, IsLifeOf, IsOwned, IsSteady, mine_on}
 use Rattle.world_keeps_lives.proofs.Desks.{At, Elsewhere, Near, Place, clash}
 use Rattle.world_keeps_lives.proofs.Takes.{G}
@@ -206,11 +207,6 @@ all_listening : (p : Host) (stamp : ℕ) (cs : List Command) (d : DeskState) →
 all_listening p stamp [] d = refl
 all_listening p stamp (c ∷ cs) d = all_listening p stamp cs (command_gone p stamp c d) ∙ gone_listening p stamp c d
 
-pub commands_take : (n : ℕ) (cs : List Command) → AreCommands cs → AreCommands (take n cs)
-commands_take zero cs h = tt
-commands_take (suc n) [] h = tt
-commands_take (suc n) (c ∷ cs) h = (h.0, commands_take n cs h.1)
-
 -- each end of any two sockets still has to say what waits
 abbrev pub HasEnds : (ℕ → ℕ) → PairState → Type 0
 HasEnds origin q = (own foreign : ℕ) → IsOfTwo own foreign → (x : End) × HasEnd origin own foreign q x
@@ -235,7 +231,7 @@ module _ (a : Host) (k : ℕ) (s : NcpState) (stamp : ℕ) (κ : Kept) (g : Peer
   goes origin parcel.Reply m may next is has d = record { refusing = d.refusing; idle = d.idle; on = d.on }
   goes origin (parcel.Commands count) m may next is has d =
       let done : G a k m g.host κ (commands_gone g.host stamp (take count g.pair.queue) (desk_of g.pair s.listening)) =
-      all_go a k m g.host κ origin stamp (take count g.pair.queue) (drop count g.pair.queue) (desk_of g.pair s.listening) (commands_take count g.pair.queue is) (waits origin g.pair count has) (record { refusing = d.refusing; on = d.on }) in
+      all_go a k m g.host κ origin stamp (take count g.pair.queue) (drop count g.pair.queue) (desk_of g.pair s.listening) (some_commands count g.pair.queue is) (waits origin g.pair count has) (record { refusing = d.refusing; on = d.on }) in
       let still : (commands_gone g.host stamp (take count g.pair.queue) (desk_of g.pair s.listening)).listening ≡ s.listening = all_listening g.host stamp (take count g.pair.queue) (desk_of g.pair s.listening) in
       record {
         refusing = done.refusing;

@@ -10,7 +10,7 @@ use Rattle.host_pairs.specs.Commands.{desk_taken}
 use Rattle.host_pairs.specs.Control.{Legal, Order, Wrong, error, orders_of}
 use Rattle.host_pairs.specs.Data.{data_taken}
 use Rattle.host_pairs.specs.Desk.{DeskState, desk_of, listens_on, command_queued, settled}
-use Rattle.host_pairs.specs.Phases.{is_ready, reply_phase, taken_phase}
+use Rattle.host_pairs.specs.Phases.{is_ready, taken_phase}
 use Rattle.host_pairs.specs.Turn.{TurnState, answered_turn, closed, command_taken, failed, failed_by, freed, if_ready, is_gone, message_taken, order_taken, orders_taken, reply_notices, reply_taken, reset_notices, reset_taken, settled_turn, with_desk}
 use Rattle.host_pairs.specs.Entries.{closed_when, must_close}
 use Rattle.host_pairs.specs.declared.entry.Entry.{Entry}
@@ -20,6 +20,7 @@ use Rattle.host_pairs.specs.declared.notice.Notice.{Notice}
 use Rattle.host_pairs.specs.declared.notice.Notice.TheVariants as notice
 use Rattle.host_pairs.specs.declared.phase.Phase.{Phase}
 use Rattle.host_pairs.specs.declared.phase.Phase.TheVariants as phase
+use Rattle.host_keeps_pairing.proofs.lemmas.{reply_idle, rfnm_idle}
 use Rattle.net_sim.specs.declared.life.Life.{Life}
 use Rattle.net_sim.specs.Book.{Kept, all_told, lives_with}
 use Rattle.world_keeps_lives.specs.Lives.{AreRefusing, IsLifeOf, NoneOf, at_socket, mine_on}
@@ -102,14 +103,6 @@ module _ (a : Host) (k : ℕ) (m : Place) (p : Host) (k0 : Kept) where
       told_by phase.Heard e = none_gone [] t tt (idle phase.Heard e refl) h
       told_by phase.Ready e = cleared_on (mine_on k t.pair.entries) (listens_on k t.listening) (all_told a t.notices k0) h.on
 
-  -- a phase that isn't ready after it wasn't before
-  reply_idle : (ph : Phase) → is_ready (reply_phase ph) ≡ false → is_ready ph ≡ false
-  reply_idle phase.Closed e = refl
-  reply_idle phase.Want e = refl
-  reply_idle (phase.Gone early) e = refl
-  reply_idle phase.Heard e = refl
-  reply_idle phase.Ready e = absurd (cc)
-
   reply_aside : (ph : Phase) → AreAside a k (reply_notices p ph)
   reply_aside phase.Closed = tt
   reply_aside phase.Want = tt
@@ -170,15 +163,6 @@ module _ (a : Host) (k : ℕ) (m : Place) (p : Host) (k0 : Kept) where
         idle = λ i. ap (λ (es : List Entry). map (λ e. closed_when (must_close t.pair.busy e) e) es) (h.idle i);
         on = subst (λ (κ : Kept). At a k m p (mine_on k (settled t.pair.busy (desk_of t.pair t.listening)).entries) (listens_on k t.listening) κ) (sym (all_told_append a t.notices [] k0)) done.on;
       }
-
-  rfnm_idle : (zero : Bool) (ph : Phase) → is_ready (if zero then taken_phase ph else ph) ≡ false → is_ready ph ≡ false
-  rfnm_idle false ph e = e
-  rfnm_idle true phase.Closed e = refl
-  rfnm_idle true phase.Want e = refl
-  rfnm_idle true (phase.Gone true) e = refl
-  rfnm_idle true (phase.Gone false) e = refl
-  rfnm_idle true phase.Heard e = refl
-  rfnm_idle true phase.Ready e = absurd (cc)
 
   fails : (ph : Phase) (t : TurnState) → t.pair.phase ≡ ph → GoodTurn t → GoodTurn (failed_by p ph t)
   fails phase.Closed t e h = h

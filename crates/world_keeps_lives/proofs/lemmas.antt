@@ -2,8 +2,8 @@
 pub use Rattle.world_keeps_lives.proofs.Books.{all_told_append}
 pub use Rattle.world_keeps_lives.proofs.Desks.{AreAside, At, Elsewhere, IsLess, Near, Place, at_aside, clash, not_so, open_mine, open_parts}
 pub use Rattle.world_keeps_lives.proofs.Ends.{IsRefusing, found_changed, none_changed, refusing_found}
-pub use Rattle.world_keeps_lives.proofs.Goes.{IsOfTwo, Waits, all_go}
-pub use Rattle.world_keeps_lives.proofs.Hosts.{Holds, commands_take, same_turned, waits}
+pub use Rattle.world_keeps_lives.proofs.Goes.{IsOfTwo, Waits, all_go, unasked_by}
+pub use Rattle.world_keeps_lives.proofs.Hosts.{Holds, same_turned, waits}
 pub use Rattle.world_keeps_lives.proofs.Laws.{live, taken, world_handed, world_taken}
 pub use Rattle.world_keeps_lives.proofs.Moments.{has_ends, held}
 pub use Rattle.world_keeps_lives.proofs.Owners.{owner_found}

@@ -52,7 +52,7 @@ named_by x (Some place) name e =
     }
 
 -- a place that is told by the number after it where there is none
-place_there : (n : ℕ) (o : Option ℕ) → place_or (suc n) o ≡ n → o ≡ Some n
+pub place_there : (n : ℕ) (o : Option ℕ) → place_or (suc n) o ≡ n → o ≡ Some n
 place_there n None e = absurd (omega (arith, e))
 place_there n (Some k) e = ap (λ (j : ℕ). Some j) e
 
@@ -82,7 +82,7 @@ not_owned p y [] none i e = i
 not_owned p y (v ∷ lives) none (inl i) e = none.0 (ap (λ (l : Life). l.own) (sym i) ∙ e)
 not_owned p y (v ∷ lives) none (inr i) e = not_owned p y lives none.1 i e
 
-one_own : (x y : Life) (lives : List Life) → OwnOnce lives → IsIn x lives → IsIn y lives → x.own ≡ y.own → x ≡ y
+pub one_own : (x y : Life) (lives : List Life) → OwnOnce lives → IsIn x lives → IsIn y lives → x.own ≡ y.own → x ≡ y
 one_own x y [] once i j e = absurd i
 one_own x y (v ∷ lives) once (inl i) (inl j) e = i ∙ sym j
 one_own x y (v ∷ lives) once (inl i) (inr j) e = absurd (not_owned v.own y lives once.0 j (sym e ∙ ap (λ (l : Life). l.own) i))

@@ -1,14 +1,13 @@
 -- Which link the last request of a receiver named, for each pair of sockets.
-use Rattle.std.proofs.Common.{◌≡◌, ◌⊎◌, inl, inr, ℕ, ◌<◌, ◌≤◌, ◌==◌, Bool, true, false, if◌then◌else◌, List, [], ◌∷◌, Option, Some, None, refl, ap, sym, subst, ◌∙◌, eq-eqb, arith}
-use Rattle.std.proofs.lemmas.Bool.{eqb-true}
+use Rattle.std.proofs.Common.{◌≡◌, ◌⊎◌, inl, inr, ℕ, ◌<◌, ◌≤◌, Bool, true, false, if◌then◌else◌, List, [], ◌∷◌, Option, Some, None, refl, ap, sym, subst, ◌∙◌, arith}
 use Rattle.host_pairs.proofs.lemmas.{both}
 use Rattle.pairing_law.specs.Ends.{End, nothing, fits, gone, mark_taken}
-use Rattle.pairing_law.specs.Marks.{Mark, Ask, Close, closes, Asks}
+use Rattle.pairing_law.specs.Marks.{Mark, Ask, Close, Asks}
 use Rattle.pairing_law.specs.Sides as sides
-use Rattle.pairing_law.specs.Sides.{Side, One, Two, Say, says, hears}
-use Rattle.pairing_law.specs.Links.{Sockets, same, Word, Who, Receiver, Sender, Step, Says, Hears, Leaves, Meets, receiver, sender, events_at, with_event, stays, said_words, heard_words, IsAmong, AreSteps}
+use Rattle.pairing_law.specs.Sides.{One, Two, Say}
+use Rattle.pairing_law.specs.Links.{Sockets, same, Word, Receiver, Sender, Step, Says, Hears, Leaves, Meets, receiver, sender, events_at, with_event, stays, said_words, heard_words, IsAmong, AreSteps}
 use Rattle.pairing_law.specs.Links as links
-use Rattle.pairing_law.proofs.lemmas.{BothSeen, Joined, at, below_asks, joined_at, joined_fits, joined_run, put, run_at, seen, turned}
+use Rattle.pairing_law.proofs.lemmas.{BothSeen, Joined, among_asks, at, below_asks, joined_at, joined_fits, joined_run, run_at, same_is, same_self, seen, turned}
 
 -- a request for a pair of sockets named a link
 pub record Claim : Type 0 where
@@ -41,14 +40,6 @@ heard_claims (Says who w ∷ xs) = heard_claims xs
 heard_claims (Leaves who ∷ xs) = heard_claims xs
 heard_claims (Meets ∷ xs) = heard_claims xs
 
-pub same_true : (s t : Sockets) → same s t ≡ true → s ≡ t
-same_true s t e =
-    let h : ((s.receive == t.receive) ≡ true) × ((s.send == t.send) ≡ true) = both (s.receive == t.receive) (s.send == t.send) e in
-    ap (λ (r : ℕ). record { receive = r; send = s.send }) (eqb-true s.receive t.receive h.0) ∙ ap (λ (n : ℕ). record { receive = t.receive; send = n }) (eqb-true s.send t.send h.1)
-
-pub same_self : (s : Sockets) → same s s ≡ true
-same_self s = rw (eq-eqb s.receive s.receive refl, eq-eqb s.send s.send refl) refl
-
 abbrev word_of : Sockets → ℕ → ℕ → Word
 word_of t link p = record { sockets = t; link = link; mark = Ask p }
 
@@ -56,18 +47,6 @@ some_same : (p q : ℕ) → Some p ≡ Some q → p ≡ q
 some_same p q e = cc
 
 -- ---- a request among all words went out below
-
-asks_put : (here : Bool) (m : Mark) (k q : ℕ) (word : List Mark) → Asks k q word → Asks k q (put here m word)
-asks_put true (Ask p) k q word a = inr a
-asks_put true Close k q word a = a
-asks_put false m k q word a = a
-
-among_asks : (t : Sockets) (link q : ℕ) (words : List Word) → IsAmong (record { sockets = t; link = link; mark = Ask q }) words → (k : ℕ) × Asks k q (at t words)
-among_asks t link q [] i = absurd i
-among_asks t link q (w ∷ words) (inl e) =
-    subst (λ (v : Word). (k : ℕ) × Asks k q (put (same t v.sockets) v.mark (at t words))) e
-    (closes (at t words), subst (λ (b : Bool). Asks (closes (at t words)) q (put b (Ask q) (at t words))) (sym (same_self t)) (inl (refl, refl)))
-among_asks t link q (w ∷ words) (inr i) = let a : (k : ℕ) × Asks k q (at t words) = among_asks t link q words i in (a.0, asks_put (same t w.sockets) w.mark a.0 q (at t words) a.1)
 
 among_below : (t : Sockets) (xs : List Step) → AreSteps xs → (link q : ℕ) → IsAmong (record { sockets = t; link = link; mark = Ask q }) (said_words Receiver xs) → q < (receiver t xs).next
 among_below t xs r link q i =
@@ -108,7 +87,7 @@ says_last : (t : Sockets) (w : Word) (xs : List Step) → AreSteps (Says Receive
     → ((sides.both (with_event (links.when b (One (Say m))) (events_at t xs))).one.end.asked ≡ Some p) → IsAmong (word_of t link p) (if stays Receiver xs then w ∷ said_words Receiver xs else said_words Receiver xs)
     → last_link t (claimed m w.sockets w.link (said_claims xs)) ≡ Some link
 says_last t w xs r p link k true e (Ask q) f asked among =
-    let is : t ≡ w.sockets = same_true t w.sockets e in
+    let is : t ≡ w.sockets = same_is t w.sockets e in
     let same_place : q ≡ p = some_same q p asked in
     let found : last_link t (claimed (Ask q) w.sockets w.link (said_claims xs)) ≡ Some w.link = rw e refl in
     elim (in_if (stays Receiver xs) w (record { sockets = t; link = link; mark = Ask p }) (said_words Receiver xs) among) [
@@ -177,7 +156,7 @@ heard_among : (t : Sockets) (w : Word) (xs : List Step) → AreSteps (Hears Send
     → (fits m (sender t xs).end ≡ true ⊎ (b ≡ false)) → ((sides.both (with_event (links.when b (Two (sides.Hear m))) (events_at t xs))).two.end.partner ≡ Some p) → last_link t (claimed m w.sockets w.link (heard_claims xs)) ≡ Some link
     → IsAmong (record { sockets = t; link = link; mark = Ask p }) (w ∷ heard_words Sender xs)
 heard_among t w xs r p link k true e (Ask q) f (inl fit) partner last =
-    let is : t ≡ w.sockets = same_true t w.sockets e in
+    let is : t ≡ w.sockets = same_is t w.sockets e in
     let now : (if fits (Ask q) (sender t xs).end then mark_taken (Ask q) (sender t xs).end else (sender t xs).end).partner ≡ Some p = partner in
     let place : Some q ≡ Some p = ap (λ (c : Bool). (if c then mark_taken (Ask q) (sender t xs).end else (sender t xs).end).partner) (sym fit) ∙ now in
     let found : Some w.link ≡ Some link = ap (λ (c : Bool). if c then Some w.link else last_link t (heard_claims xs)) (sym e) ∙ last in

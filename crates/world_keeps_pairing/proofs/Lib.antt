@@ -4,7 +4,6 @@ pub mod Served
 pub mod Legal
 pub mod Marks
 pub mod Moves
-pub mod Away
 pub mod Programs
 pub mod Turns
 pub mod Moments

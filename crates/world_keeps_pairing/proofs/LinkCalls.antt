@@ -5,7 +5,7 @@ use Rattle.leader1822.specs.declared.address.Flow.{Flow}
 use Rattle.leader1822.specs.declared.crossing.Answer.{Answer}
 use Rattle.leader1822.specs.declared.crossing.Answer.TheVariants as answer
 use Rattle.leader1822.specs.declared.crossing.Inbound.TheVariants as inbound
-use Rattle.leader1822.proofs.lemmas.{same_host-true}
+use Rattle.leader1822.proofs.lemmas.{or_false, same_host-true}
 use Rattle.ncp_control.specs.Numbers.{is_receive_socket, is_send_socket}
 use Rattle.ncp_control.specs.declared.command.Command.{Command}
 use Rattle.ncp_control.specs.declared.command.Command.TheVariants as command
@@ -53,10 +53,6 @@ not_first : (test : Bool) (f : NcpFault) (others : Option NcpFault) → first_if
 not_first true f others e = absurd (let no : Some f ≡ None = e in cc)
 not_first false f others e = (refl, e)
 
-neither : (a b : Bool) → (a || b) ≡ false → (a ≡ false) × (b ≡ false)
-neither true b e = absurd (let no : true ≡ false = e in cc)
-neither false b e = (refl, e)
-
 not_off : (b : Bool) → not b ≡ false → b ≡ true
 not_off true e = refl
 not_off false e = absurd (let no : true ≡ false = e in cc)
@@ -101,7 +97,7 @@ module _ (said taken : List Claim) where
   close_links s socket h k false e = rw e (owner_links s (owner_of socket s.peers) (λ y. closed_end socket) h (λ y q. closed_links socket q) k)
 
   untaken : (s : NcpState) (peer : Host) (a b : ℕ) → is_taken s peer a b ≡ false → entry_at a b (pair_with peer s.peers).entries ≡ None
-  untaken s peer a b e = none_is (entry_at a b (pair_with peer s.peers).entries) (neither (is_used s a) (is_some (entry_at a b (pair_with peer s.peers).entries)) e).1
+  untaken s peer a b e = none_is (entry_at a b (pair_with peer s.peers).entries) (or_false (is_used s a) (is_some (entry_at a b (pair_with peer s.peers).entries)) e).1
 
   mute_interrupt : (e : Entry) (claims : List Claim) → claim_of (interrupt_of e) claims ≡ claims
   mute_interrupt e claims = by (is_receiving e) where

@@ -6,12 +6,12 @@ use Rattle.ncp_control.specs.declared.command.Command.{Command}
 use Rattle.ncp_control.specs.declared.command.Command.TheVariants as command
 use Rattle.host_pairs.specs.Allowed.{MayGo}
 use Rattle.host_pairs.specs.Control.{Legal, Order, orders_of}
-use Rattle.host_pairs.specs.Desk.{DeskState, desk_of}
+use Rattle.host_pairs.specs.Desk.{desk_of}
 use Rattle.host_pairs.specs.Pair.{PairState}
 use Rattle.host_pairs.specs.Parcels as parcel
-use Rattle.host_pairs.specs.Parcels.{Parcel, bits_gone, command_gone, commands_gone, link_for, link_of, may_send_on, next_of, pair_after, parcel_gone, text_for}
+use Rattle.host_pairs.specs.Parcels.{Parcel, bits_gone, commands_gone, link_for, link_of, may_send_on, next_of, pair_after, parcel_gone, text_for}
 use Rattle.host_pairs.specs.declared.listener.Listener.{Listener}
-use Rattle.host_pairs.proofs.lemmas.{what_goes}
+use Rattle.host_pairs.proofs.lemmas.{all_gone_queue, what_goes}
 use Rattle.host_keeps_ranges.specs.Ranges.{AreCommands, IsReadBack}
 use Rattle.host_keeps_pairing.specs.Spoken.{untagged}
 use Rattle.host_keeps_pairing.specs.Words.{MayAllGo}
@@ -23,9 +23,9 @@ use Rattle.reset_law.specs.Events.{Message, Out}
 use Rattle.reset_law.specs.Pairs.{Pair}
 use Rattle.reset_law.specs.Stays as stay
 use Rattle.net_sim.specs.Projection.{Agrees, message_on}
+use Rattle.net_sim.proofs.lemmas.{data_away}
 use Rattle.world_keeps_pairing.specs.Free.{NameFree}
 use Rattle.world_keeps_pairing.specs.Steps.{all_said, words_by, words_of}
-use Rattle.world_keeps_pairing.proofs.Away.{data_away}
 use Rattle.world_keeps_pairing.proofs.Claims.{Claim, said_claims}
 use Rattle.world_keeps_pairing.proofs.LinkCalls.{LinksOf}
 use Rattle.world_keeps_pairing.proofs.LinkGoes.{Receives}
@@ -35,29 +35,7 @@ use Rattle.world_keeps_pairing.proofs.Marks.{AllPairs, IsPair}
 use Rattle.world_keeps_pairing.proofs.Messages.{are_same}
 use Rattle.world_keeps_pairing.proofs.Programs.{AnRrp, AnRst, AText, Sort, sort_of}
 
--- ---- the queue while commands go out
-
-gone_queue : (peer : Host) (stamp : ℕ) (c : Command) (d : DeskState) → (command_gone peer stamp c d).queue ≡ d.queue
-gone_queue peer stamp command.Nop d = refl
-gone_queue peer stamp (command.Rts a b c) d = refl
-gone_queue peer stamp (command.Str a b c) d = refl
-gone_queue peer stamp (command.Cls a b) d = refl
-gone_queue peer stamp (command.All a b c) d = refl
-gone_queue peer stamp (command.Gvb a b c) d = refl
-gone_queue peer stamp (command.Ret a b c) d = refl
-gone_queue peer stamp (command.Inr a) d = refl
-gone_queue peer stamp (command.Ins a) d = refl
-gone_queue peer stamp (command.Eco a) d = refl
-gone_queue peer stamp (command.Erp a) d = refl
-gone_queue peer stamp (command.Err a b) d = refl
-gone_queue peer stamp command.Rst d = refl
-gone_queue peer stamp command.Rrp d = refl
-
-all_gone_queue : (peer : Host) (stamp : ℕ) (cs : List Command) (d : DeskState) → (commands_gone peer stamp cs d).queue ≡ d.queue
-all_gone_queue peer stamp [] d = refl
-all_gone_queue peer stamp (c ∷ cs) d = all_gone_queue peer stamp cs (command_gone peer stamp c d) ∙ gone_queue peer stamp c d
-
-some_commands : (n : ℕ) (cs : List Command) → AreCommands cs → AreCommands (take n cs)
+pub some_commands : (n : ℕ) (cs : List Command) → AreCommands cs → AreCommands (take n cs)
 some_commands zero cs h = tt
 some_commands (suc n) [] h = tt
 some_commands (suc n) (c ∷ cs) h = (h.0, some_commands n cs h.1)

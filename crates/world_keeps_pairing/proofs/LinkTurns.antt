@@ -23,10 +23,10 @@ use Rattle.pairing_law.specs.Ends.{End, fits}
 use Rattle.pairing_law.specs.Marks.{Mark, Ask, Close}
 use Rattle.pairing_law.specs.Sides.{Side}
 use Rattle.pairing_law.specs.Links.{Sockets, Word, Receiver, Sender, Step, Hears, sender, AreSteps}
-use Rattle.pairing_law.proofs.lemmas.{put, unused}
+use Rattle.pairing_law.proofs.lemmas.{put, same_self, unused}
 use Rattle.pairing_law.proofs.lemmas.Seen as words
 use Rattle.world_keeps_pairing.specs.Steps.{all_heard, word_by, words_by}
-use Rattle.world_keeps_pairing.proofs.Claims.{Claim, heard_claims, last_link, partner_among, same_self}
+use Rattle.world_keeps_pairing.proofs.Claims.{Claim, heard_claims, last_link, partner_among}
 use Rattle.world_keeps_pairing.proofs.LinkDesks.{Linked, linked_other, linked_wrong, rts_linked}
 use Rattle.world_keeps_pairing.proofs.Local.{AllOff, Each, Links, One, SendsBy, all_claims}
 use Rattle.world_keeps_pairing.proofs.Marks.{IsPair, order_at}

@@ -9,7 +9,8 @@ use Rattle.host_pairs.specs.Entries.{changed_at, changed_first, entry_at, is_at,
 use Rattle.host_pairs.specs.declared.entry.Entry.{Entry}
 use Rattle.host_pairs.proofs.lemmas.{both}
 use Rattle.pairing_law.specs.Links.{Sockets, same}
-use Rattle.world_keeps_pairing.proofs.Claims.{Claim, last_link, same_self, same_true}
+use Rattle.pairing_law.proofs.lemmas.{same_is, same_self}
+use Rattle.world_keeps_pairing.proofs.Claims.{Claim, last_link}
 
 -- ---- requests that wait
 
@@ -244,7 +245,7 @@ links_said said taken own foreign link es off h = record {
   names = each_both (λ e. is_at own foreign e ≡ false) (ReceivesBy said) (ReceivesBy (record { sockets = record { receive = own; send = foreign }; link = link } ∷ said)) es
       (λ e away k even mine l last. k even mine l
       (sym (skip_claim (record { receive = own; send = foreign }) (record { receive = e.own; send = e.foreign }) link said
-      (λ on. (let is : record { receive = e.own; send = e.foreign } ≡ record { receive = own; send = foreign } = same_true _ _ on in
+      (λ on. (let is : record { receive = e.own; send = e.foreign } ≡ record { receive = own; send = foreign } = same_is _ _ on in
       not_at own foreign e away (ap (λ (s : Sockets). s.receive) is) (ap (λ (s : Sockets). s.send) is)))) ∙ last)) off h.names;
   own = h.own;
   single = h.single;
@@ -257,7 +258,7 @@ links_heard said taken own foreign link es off h = record {
       (λ e away k l on. (let j : (is_some e.partner ≡ true) × (last_link (record { receive = e.foreign; send = e.own }) taken ≡ Some l) × (is_receive_socket e.foreign ≡ true) = k l on in (
         j.0,
         skip_claim (record { receive = foreign; send = own }) (record { receive = e.foreign; send = e.own }) link taken
-            (λ same. (let is : record { receive = e.foreign; send = e.own } ≡ record { receive = foreign; send = own } = same_true _ _ same in
+            (λ same. (let is : record { receive = e.foreign; send = e.own } ≡ record { receive = foreign; send = own } = same_is _ _ same in
             not_at own foreign e away (ap (λ (s : Sockets). s.send) is) (ap (λ (s : Sockets). s.receive) is)))
             ∙ j.1,
         j.2,
@@ -312,7 +313,7 @@ links_linked said taken own foreign link change es odd even is one h = record {
       (λ e away k l on. (let j : (is_some e.partner ≡ true) × (last_link (record { receive = e.foreign; send = e.own }) taken ≡ Some l) × (is_receive_socket e.foreign ≡ true) = k l on in (
         j.0,
         skip_claim (record { receive = foreign; send = own }) (record { receive = e.foreign; send = e.own }) link taken
-            (λ same. (let s : record { receive = e.foreign; send = e.own } ≡ record { receive = foreign; send = own } = same_true _ _ same in
+            (λ same. (let s : record { receive = e.foreign; send = e.own } ≡ record { receive = foreign; send = own } = same_is _ _ same in
             not_at own foreign e away (ap (λ (s : Sockets). s.send) s) (ap (λ (s : Sockets). s.receive) s)))
             ∙ j.1,
         j.2,

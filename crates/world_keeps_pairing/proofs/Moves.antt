@@ -1,13 +1,13 @@
 -- What one of two hosts may say, and that what it hears fits.
-use Rattle.std.proofs.Common.{◌≡◌, ℕ, ◌+◌, ◌≤◌, Bool, true, false, if◌then◌else◌, List, [], ◌∷◌, refl, ap, sym, subst, ◌∙◌, eq-eqb, arith}
+use Rattle.std.proofs.Common.{◌≡◌, ℕ, ◌+◌, ◌≤◌, Bool, true, false, if◌then◌else◌, List, [], ◌∷◌, refl, ap, sym, subst, ◌∙◌, arith}
 use Rattle.host_keeps_pairing.specs.Words.{AllFit, MayAllGo, all_gone, all_taken}
 use Rattle.pairing_law.specs.Ends.{End, fits, mark_taken}
 use Rattle.pairing_law.specs.Marks.{Mark, Ask, Close}
 use Rattle.pairing_law.specs.Sides as sides
-use Rattle.pairing_law.specs.Sides.{Side, both, says, hears, leaves, meets, One, Two, Say, above, IsRun}
-use Rattle.pairing_law.specs.Links.{Sockets, same, Word, Who, Receiver, Sender, Step, Says, Hears, Leaves, Meets, receiver, sender, events_at, with_event, NamesFree, AreSteps}
+use Rattle.pairing_law.specs.Sides.{Side, both, says, hears, One, Two, Say, IsRun}
+use Rattle.pairing_law.specs.Links.{Sockets, same, Word, Who, Receiver, Sender, Step, Says, Hears, receiver, sender, events_at, with_event, AreSteps}
 use Rattle.pairing_law.specs.Links as links
-use Rattle.pairing_law.proofs.lemmas.{at, joined_fits, joined_run, put, run_at, turned}
+use Rattle.pairing_law.proofs.lemmas.{at, joined_fits, joined_run, put, run_at, same_self, turned}
 use Rattle.world_keeps_pairing.specs.Steps.{all_said, all_heard}
 use Rattle.world_keeps_pairing.specs.Free.{NameFree}
 use Rattle.world_keeps_pairing.proofs.Sides.{all_says, all_hears, hears_if, left_if, met_if}
@@ -47,9 +47,6 @@ met_next true x = refl
 met_next false x = refl
 
 -- ---- what may be said
-
-same_self : (s : Sockets) → same s s ≡ true
-same_self s = rw (eq-eqb s.receive s.receive refl, eq-eqb s.send s.send refl) refl
 
 may_first : (b : Bool) (m : Mark) (ms : List Mark) (e : End) (next : ℕ) → b ≡ true → MayAllGo (put b m ms) e next → MayAllGo (m ∷ ms) e next
 may_first true m ms e next is h = h

@@ -32,7 +32,7 @@ use Rattle.pairing_law.specs.Marks.{Mark}
 use Rattle.reset_law.specs.Events.{Message, Reset, Reply, Other}
 use Rattle.reset_law.specs.Pairs.{Pair}
 use Rattle.net_sim.specs.Projection.{Agrees, AllPlain, IsApart, IsPlain, is_alone, is_rst, is_rrp, message_on}
-use Rattle.world_keeps_pairing.proofs.Away.{data_away}
+use Rattle.net_sim.proofs.lemmas.{data_away}
 
 -- ---- what a text is for a reset
 

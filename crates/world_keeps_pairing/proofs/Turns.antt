@@ -34,7 +34,7 @@ other Sender = Receiver
 
 -- ---- phases
 
-phases_same : (ph : host.Phase) → stay.is_ready (phase_of ph) ≡ program_phases.is_ready ph
+pub phases_same : (ph : host.Phase) → stay.is_ready (phase_of ph) ≡ program_phases.is_ready ph
 phases_same phase.Closed = refl
 phases_same phase.Want = refl
 phases_same (phase.Gone early) = refl

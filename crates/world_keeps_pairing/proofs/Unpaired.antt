@@ -18,6 +18,7 @@ use Rattle.host_keeps_ranges.proofs.lemmas.{text_good}
 use Rattle.host_keeps_pairing.specs.Words.{MayAllGo, mark_in, marks_in}
 use Rattle.pairing_law.specs.Ends.{nothing}
 use Rattle.pairing_law.specs.Marks.{Mark, Ask, Close}
+use Rattle.net_sim.proofs.lemmas.{cleared_waits, fetched_waits}
 use Rattle.world_keeps_pairing.proofs.Marks.{and_turned}
 use Rattle.world_keeps_pairing.proofs.Programs.{read_marks}
 
@@ -117,16 +118,6 @@ text_in (mail.Waiting place text) = text
 text_in (mail.Taken place text) = text
 
 module _ (f : Flow) (p : ℕ) (text : List Bool) where
-  fetched_waits : (box : mail.Box) (b : Bool) → (if b then mail.fetched box else box) ≡ mail.Waiting p text → box ≡ mail.Waiting p text
-  fetched_waits mail.Empty true is = is
-  fetched_waits (mail.Waiting place kept) true is = absurd (let no : mail.Taken place kept ≡ mail.Waiting p text = is in cc)
-  fetched_waits (mail.Taken place kept) true is = is
-  fetched_waits box false is = is
-
-  cleared_waits : (box : mail.Box) (b : Bool) → (if b then mail.Empty else box) ≡ mail.Waiting p text → box ≡ mail.Waiting p text
-  cleared_waits box true is = absurd (let no : mail.Empty ≡ mail.Waiting p text = is in cc)
-  cleared_waits box false is = is
-
   put_silent : (m : HostMessage) (here : ℕ) (box : mail.Box) → IsSilent m.flow.link.0 m.text → (box ≡ mail.Waiting p text → IsSilent f.link.0 text) → (b : Bool) → same_flow f m.flow ≡ b → (if b then mail.Waiting here m.text else box) ≡ mail.Waiting p text → IsSilent f.link.0 text
   put_silent m here box said rest true e is =
       let same : f ≡ m.flow = same_flow-true f m.flow e in
@@ -137,7 +128,7 @@ module _ (f : Flow) (p : ℕ) (text : List Bool) where
   pub waiting_silent : (log : List Crossing) → AllSilent log → mail.box_of f log ≡ mail.Waiting p text → IsSilent f.link.0 text
   waiting_silent [] all is = absurd (let no : mail.Empty ≡ mail.Waiting p text = is in cc)
   waiting_silent (crossing.Out m ∷ log) all is = put_silent m _ (mail.box_of f log) all.0 (λ e. waiting_silent log all.1 e) (same_flow f m.flow) refl is
-  waiting_silent (crossing.In m ∷ log) all is = waiting_silent log all (fetched_waits (mail.box_of f log) (same_flow f m.flow) is)
-  waiting_silent (crossing.Answer kind g ∷ log) all is = waiting_silent log all (cleared_waits (mail.box_of f log) (same_flow f g) is)
+  waiting_silent (crossing.In m ∷ log) all is = waiting_silent log all (fetched_waits (mail.box_of f log) p text (same_flow f m.flow) is)
+  waiting_silent (crossing.Answer kind g ∷ log) all is = waiting_silent log all (cleared_waits (mail.box_of f log) p text (same_flow f g) is)
   waiting_silent (crossing.Down h ∷ log) all is = waiting_silent log all is
-  waiting_silent (crossing.Up h ∷ log) all is = waiting_silent log all (cleared_waits (mail.box_of f log) (same_host f.source h) is)
+  waiting_silent (crossing.Up h ∷ log) all is = waiting_silent log all (cleared_waits (mail.box_of f log) p text (same_host f.source h) is)

@@ -1,7 +1,7 @@
 -- The lemmas of this crate that others may use: the proofs of headline, world_keeps_connections, world_keeps_lives and world_keeps_streams do. All others in proofs/ are its own.
-pub use Rattle.world_keeps_pairing.proofs.Away.{data_away}
-pub use Rattle.world_keeps_pairing.proofs.BookPartners.{life_in, life_matches, life_paired, partner_named, safe_partners}
+pub use Rattle.world_keeps_pairing.proofs.BookPartners.{life_in, life_matches, life_paired, one_own, partner_named, place_there, safe_partners}
 pub use Rattle.world_keeps_pairing.proofs.LifeLists.{between_itself, in_among, told_in}
+pub use Rattle.world_keeps_pairing.proofs.LinkGone.{some_commands}
 pub use Rattle.world_keeps_pairing.proofs.LinkRun.{AllTied, all_tied, heard_off_in, takes}
 pub use Rattle.world_keeps_pairing.proofs.LinkTurns.{odd_send, send_odd}
 pub use Rattle.world_keeps_pairing.proofs.LivesAmong.{by_sockets, lives_among}
@@ -13,7 +13,7 @@ pub use Rattle.world_keeps_pairing.proofs.Programs.{AText, AnRrp, AnRst, Sort, p
 pub use Rattle.world_keeps_pairing.proofs.Served.{AreServed, served_in}
 pub use Rattle.world_keeps_pairing.proofs.Sides.{Unheard, all_hears, all_says, at_texts, before, half, hears_if, left_if, met_if, receiver_half, sender_half, unheard}
 pub use Rattle.world_keeps_pairing.proofs.Tied.{AreOrigins, IsOrigin, programs_ranged, receiver_hears, sender_hears}
-pub use Rattle.world_keeps_pairing.proofs.Turns.{heard_is, other, ready_is}
+pub use Rattle.world_keeps_pairing.proofs.Turns.{heard_is, other, phases_same, ready_is}
 pub use Rattle.world_keeps_pairing.proofs.Unpaired.{IsSilent, IsUnpaired, unpaired_turned, waiting_silent}
 pub use Rattle.world_keeps_pairing.proofs.UnpairedMoments.{AllBare, all_bare}
 pub use Rattle.world_keeps_pairing.proofs.Worlds.{book_lives, book_run, world_alone, world_partners}

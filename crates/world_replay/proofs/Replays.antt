@@ -2,14 +2,13 @@
 use Rattle.std.proofs.Common.{◌≡◌, ℕ, ◌+◌, true, false, List, [], ◌∷◌, ◌++◌, drop, length, reverse, Option, Result, Ok, Err, OnOk, refl, ap, sym, subst, ◌∙◌, arith}
 use Rattle.std.proofs.lemmas.List.{append_assoc, append-nil, append_cancel_left, append_cancel_right, drop_at, length-append, length-reverse, reverse-append, reverse-reverse}
 use Rattle.std.specs.Io.KnownBytes.{Appends}
-use Rattle.leader1822.specs.declared.crossing.Crossing.{Crossing}
 use Rattle.net_sim.specs.Book.{Kept}
 use Rattle.net_sim.specs.Carriers.{shown}
 use Rattle.net_sim.specs.World as world
 use Rattle.net_sim.specs.World.{Calls, WorldState, stops}
 use Rattle.net_sim.specs.declared.event.WorldFault.{WorldFault}
 use Rattle.replay.specs.InTurn.{HappensOnce, ShowsFront}
-use Rattle.replay.proofs.lemmas.{appends_more, ends_front, in_turn_once}
+use Rattle.replay.proofs.lemmas.{appends_more, ends_front, grown_more, in_turn_once}
 use Rattle.replay.specs.Settled.{AreSettled, Grows}
 use Rattle.world_script.specs.declared.event.WorldEvent.{WorldEvent}
 use Rattle.world_script.specs.declared.event.WorldEvent.TheVariants as event
@@ -114,9 +113,6 @@ stops_front {C} calls settled old (event.Calm rounds) new other part whole h k =
 no_crossing : (r : Result (Unit {0}) WorldFault) → crossings_of (shown_refusal r) ≡ []
 no_crossing (Ok done) = refl
 no_crossing (Err f) = refl
-
-grown_more : (old mid new cs ds : List Crossing) → mid ≡ reverse cs ++ old → new ≡ reverse ds ++ mid → new ≡ reverse (cs ++ ds) ++ old
-grown_more old mid new cs ds h k = k ∙ ap (λ log. reverse ds ++ log) h ∙ sym (append_assoc (reverse ds) (reverse cs) old) ∙ ap (λ log. log ++ old) (sym (reverse-append cs ds))
 
 happens_shows : {C : Type 0} (calls : Calls C) (old : WorldState C) (e : WorldEvent) (new : WorldState C) (shown : List Shown) → Happens calls old e new shown → new.kept.book.crossings ≡ reverse (crossings_of shown) ++ old.kept.book.crossings
 happens_shows calls old e new shown h =

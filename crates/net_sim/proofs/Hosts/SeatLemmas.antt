@@ -1,8 +1,9 @@
 -- Where a host sits.
-use Rattle.std.proofs.Common.{◌≡◌, ℕ, ◌<◌, Bool, true, false, ◌||◌, not, is_some, cond, List, [], ◌∷◌, length, Option, Some, None, Result, find, slice_index_or, refl, ap, sym, subst, ◌∙◌}
+use Rattle.std.proofs.Common.{◌≡◌, ℕ, ◌<◌, Bool, true, false, not, is_some, cond, List, [], ◌∷◌, length, Option, Some, None, Result, find, slice_index_or, refl, ap, sym, subst, ◌∙◌}
 use Rattle.std.specs.List.{position}
 use Rattle.std.proofs.lemmas.List.{get_or_default}
 use Rattle.leader1822.specs.Host.{Host, same_host, is_host}
+use Rattle.leader1822.proofs.lemmas.{or_false}
 use Rattle.host_pairs.proofs.lemmas.{one_changed, one_found}
 use Rattle.sockets.proofs.lemmas.{same_host-true}
 use Rattle.host_pairs.specs.Entries.{changed_first}
@@ -18,11 +19,6 @@ found_by test x y rest false e k h = k h
 found_passes : (test : Seat → Bool) (seats : List Seat) (y : Seat) → find test seats ≡ Some y → test y ≡ true
 found_passes test [] y h = absurd (cc)
 found_passes test (x ∷ seats) y h = found_by test x y (find test seats) (test x) refl (found_passes test seats y) h
-
--- a host that isn't among these isn't seated
-or_false : (a b : Bool) → (a || b) ≡ false → (a ≡ false) × (b ≡ false)
-or_false true b h = absurd (cc)
-or_false false b h = (refl, h)
 
 pub absent : (h : Host) (p : Option NcpState) (seats : List Seat) → is_host (hosts_of seats) h ≡ false → seated h p seats ≡ seats
 absent h p [] away = refl

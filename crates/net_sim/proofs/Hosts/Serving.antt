@@ -1,17 +1,13 @@
 -- A host's services stand where its seat stands.
 use Rattle.std.proofs.Common.{◌≡◌, ℕ, zero, suc, ◌<◌, Bool, true, false, ◌||◌, List, [], ◌∷◌, length, Option, Some, slice_index_or, refl, ap, sym, subst, ◌∙◌, arith}
 use Rattle.leader1822.specs.Host.{Host, same_host, is_host}
-use Rattle.leader1822.proofs.lemmas.{same_host-refl}
+use Rattle.leader1822.proofs.lemmas.{or_false, same_host-refl}
 use Rattle.sockets.specs.Pairs.{NcpState}
 use Rattle.host_services.specs.Services.{ServicesState}
 use Rattle.net_sim.specs.Inside.Parts.{IsOnce, Serves, Sits, hosts_of, hosts_served}
 use Rattle.net_sim.specs.World.{ServiceSeat, Seat, services_of, serviced}
 
 -- ---- a host that is none of these
-
-or_false : (a b : Bool) → (a || b) ≡ false → (a ≡ false) × (b ≡ false)
-or_false true b h = absurd (cc)
-or_false false b h = (refl, h)
 
 not_there : (h : Host) (x : ServicesState) (all : List ServiceSeat) → is_host (hosts_served all) h ≡ false → serviced h x all ≡ all
 not_there h x [] away = refl

@@ -14,10 +14,9 @@ use Rattle.reset_law.specs.Boxes.{Box, Empty, Waiting, Taken}
 use Rattle.reset_law.specs.Events as reset
 use Rattle.reset_law.specs.Events.{Message, Other, In}
 use Rattle.reset_law.specs.Pairs.{Pair, pair}
-use Rattle.reset_law.specs.Phases.{Phase, Closed, Want, Gone, Heard, Ready}
 use Rattle.reset_law.specs.Runs.{IsRun, WaitsAfterClean}
-use Rattle.reset_law.specs.Stays.{IsFront, heard_in_stay, is_ready, said_in_stay}
-use Rattle.reset_law.proofs.lemmas.{clean_run, heard_front}
+use Rattle.reset_law.specs.Stays.{IsFront, heard_in_stay, said_in_stay}
+use Rattle.reset_law.proofs.lemmas.{clean_run, heard_front, ready_phase}
 use Rattle.net_sim.specs.Book.{Called}
 use Rattle.net_sim.specs.Clean.{HaveAddresses, IsFresh, IsLawful, IsText, is_through}
 use Rattle.net_sim.specs.Projection.{Agrees, event_of}
@@ -47,13 +46,13 @@ out_by f m p text log rest true e is =
       place_of (mail.Taken place kept) = place
 out_by f m p text log rest false e is = let before : mail.box_of f log ≡ mail.Waiting p text = rw e at is in rw e (rest before)
 
-fetched_waits : (box : mail.Box) (p : ℕ) (text : List Bool) (b : Bool) → (if b then mail.fetched box else box) ≡ mail.Waiting p text → box ≡ mail.Waiting p text
+pub fetched_waits : (box : mail.Box) (p : ℕ) (text : List Bool) (b : Bool) → (if b then mail.fetched box else box) ≡ mail.Waiting p text → box ≡ mail.Waiting p text
 fetched_waits mail.Empty p text true is = is
 fetched_waits (mail.Waiting place kept) p text true is = absurd (let no : mail.Taken place kept ≡ mail.Waiting p text = is in cc)
 fetched_waits (mail.Taken place kept) p text true is = is
 fetched_waits box p text false is = is
 
-cleared_waits : (box : mail.Box) (p : ℕ) (text : List Bool) (b : Bool) → (if b then mail.Empty else box) ≡ mail.Waiting p text → box ≡ mail.Waiting p text
+pub cleared_waits : (box : mail.Box) (p : ℕ) (text : List Bool) (b : Bool) → (if b then mail.Empty else box) ≡ mail.Waiting p text → box ≡ mail.Waiting p text
 cleared_waits box p text true is = absurd (let no : mail.Empty ≡ mail.Waiting p text = is in cc)
 cleared_waits box p text false is = is
 
@@ -102,13 +101,6 @@ module _ {C : Type 0} (seen : C → Seen) (hosts : List Host) (w : WorldState C)
       let same : pair a b (events_in contacts log) ≡ pair a b (events_of lawful.whole.moments) = ap (λ (es : List reset.Event). pair a b es) book_events ∙ pair_told a b lawful.whole.moments in
       subst (λ (p : Pair). Agrees (pair_with b (program a lawful.whole.moments).peers) p) (sym same) (story_agrees lawful.whole.moments a b book_coupled.story)
 
-  ready_is : (ph : Phase) → is_ready ph ≡ true → ph ≡ Ready
-  ready_is Closed e = absurd (cc)
-  ready_is Want e = absurd (cc)
-  ready_is (Gone early) e = absurd (cc)
-  ready_is Heard e = absurd (cc)
-  ready_is Ready e = refl
-
   pub book_clean : (newer older : List Crossing) (m : HostMessage) → log ≡ newer ++ crossing.In m ∷ older → IsText m → is_through m.flow.destination m.flow.source contacts older ≡ true → IsFresh m contacts older
   book_clean newer older m parts plain through =
       let all : IsRun hosts (events_in contacts (newer ++ crossing.In m ∷ older)) = subst (λ (xs : List Crossing). IsRun hosts (events_in contacts xs)) parts book_run in
@@ -116,7 +108,7 @@ module _ {C : Type 0} (seen : C → Seen) (hosts : List Host) (w : WorldState C)
       let run : IsRun hosts (In m.flow.source m.flow.destination m.flow.link.0 (Other m.text) ∷ events_in contacts older) =
       subst (λ (x : Message). IsRun hosts (In m.flow.source m.flow.destination m.flow.link.0 x ∷ events_in contacts older)) plain here in
       let waits : WaitsAfterClean m.flow.source m.flow.destination m.flow.link.0 m.text (events_in contacts older) =
-      clean_run hosts (events_in contacts older) m.flow.source m.flow.destination m.flow.link.0 m.text run (ready_is (pair m.flow.destination m.flow.source (events_in contacts older)).phase through) in
+      clean_run hosts (events_in contacts older) m.flow.source m.flow.destination m.flow.link.0 m.text run (ready_phase (pair m.flow.destination m.flow.source (events_in contacts older)).phase through) in
       let box : seen_box m.flow.link.0 (mail.box_of m.flow older) ≡ Waiting waits.place (Other m.text) = sym (box_in m.flow.source m.flow.destination contacts older m.flow.link.0) ∙ waits.waits in
       let kept : (text : List Bool) × (mail.box_of m.flow older ≡ mail.Waiting waits.place text) = seen_waiting m.flow.link.0 (mail.box_of m.flow older) waits.place (Other m.text) box in
       record { place = waits.place; out = waiting_out m.flow waits.place kept.0 older kept.1; after = waits.after }

@@ -5,6 +5,7 @@ use Rattle.std.proofs.lemmas.List.{length-append, length-take-le}
 use Rattle.std.proofs.lemmas.List.Folds.{list_any-append}
 use Rattle.bit_messages.specs.Octets.{octets_of}
 use Rattle.leader1822.specs.Host.{Host}
+use Rattle.leader1822.proofs.lemmas.{or_false as either_false}
 use Rattle.ncp_control.specs.declared.command.Command.{Command}
 use Rattle.ncp_control.specs.declared.command.Command.TheVariants as command
 use Rattle.ncp_control.specs.declared.data_header.DataHeader.{DataHeader}
@@ -110,11 +111,6 @@ strays e = on_control e.link
 
 abbrev pub AreKept : (Entry → Entry) → Type 0
 AreKept change = Keeps asks change × Keeps strays change
-
--- the lowest free link is a connection's
-either_false : (a b : Bool) → (a || b) ≡ false → (a ≡ false) × (b ≡ false)
-either_false true b e = absurd (cc)
-either_false false b e = (refl, e)
 
 abbrev number_or : ℕ → Option ℕ → ℕ
 number_or d None = d

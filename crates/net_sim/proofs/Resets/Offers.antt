@@ -26,7 +26,7 @@ use Rattle.sockets.specs.declared.peer.Peer.{Peer}
 use Rattle.host_pairs.specs.declared.phase.Phase as host
 use Rattle.host_pairs.specs.declared.phase.Phase.TheVariants as phase
 use Rattle.sockets.proofs.lemmas.{next_is, next_pair}
-use Rattle.host_pairs.proofs.lemmas.{both, what_goes}
+use Rattle.host_pairs.proofs.lemmas.{all_gone_queue, both, what_goes}
 use Rattle.reset_law.specs.Boxes.{at_link}
 use Rattle.reset_law.specs.Events.{Message, Reset, Reply, Other, Send, part_of}
 use Rattle.reset_law.specs.Pairs.{Pair, Kind, IsFreePair, pair_moved, pair_sent}
@@ -76,7 +76,7 @@ pub says_reply : (q : PairState) → message_on 0 (text_for q parcel.Reply) ≡ 
 unfolding orders_of octets_of read_of command_of
 says_reply q = refl
 
-plain_take : (n : ℕ) (cs : List Command) → ArePlain cs → ArePlain (take n cs)
+pub plain_take : (n : ℕ) (cs : List Command) → ArePlain cs → ArePlain (take n cs)
 plain_take zero cs h = tt
 plain_take (suc n) [] h = tt
 plain_take (suc n) (c ∷ cs) h = (h.0, plain_take n cs h.1)
@@ -208,32 +208,12 @@ away_by q e link none some f true control =
     absurd (let there : has_control q.entries ≡ true = any_found strays (may_send_on q.busy link) q.entries e (stray_by e.link some control) f in let both : true ≡ false = sym there ∙ none in cc)
 away_by q e link none some f false control = refl
 
-data_away : (q : PairState) (e : Entry) (size count : ℕ) → has_control q.entries ≡ false → is_some e.link ≡ true → next_of q ≡ Some (parcel.Bytes e size count) → (link_of e.link == 0) ≡ false
+pub data_away : (q : PairState) (e : Entry) (size count : ℕ) → has_control q.entries ≡ false → is_some e.link ≡ true → next_of q ≡ Some (parcel.Bytes e size count) → (link_of e.link == 0) ≡ false
 data_away q e size count none some n =
     data_found ((link_of e.link == 0) ≡ false) e size count q (λ link f. away_by q e link none some f (link_of e.link == 0) refl)
     (program.is_want q.phase) q.owed (program.is_ready q.phase) refl refl refl n
 
--- ---- the queue while commands go out
-
-gone_queue : (peer : Host) (stamp : ℕ) (c : Command) (d : DeskState) → (command_gone peer stamp c d).queue ≡ d.queue
-gone_queue peer stamp command.Nop d = refl
-gone_queue peer stamp (command.Rts receive send link) d = refl
-gone_queue peer stamp (command.Str send receive size) d = refl
-gone_queue peer stamp (command.Cls own foreign) d = refl
-gone_queue peer stamp (command.All link messages bits) d = refl
-gone_queue peer stamp (command.Gvb link messages bits) d = refl
-gone_queue peer stamp (command.Ret link messages bits) d = refl
-gone_queue peer stamp (command.Inr link) d = refl
-gone_queue peer stamp (command.Ins link) d = refl
-gone_queue peer stamp (command.Eco octet) d = refl
-gone_queue peer stamp (command.Erp octet) d = refl
-gone_queue peer stamp (command.Err code detail) d = refl
-gone_queue peer stamp command.Rst d = refl
-gone_queue peer stamp command.Rrp d = refl
-
-all_gone_queue : (peer : Host) (stamp : ℕ) (cs : List Command) (d : DeskState) → (commands_gone peer stamp cs d).queue ≡ d.queue
-all_gone_queue peer stamp [] d = refl
-all_gone_queue peer stamp (c ∷ cs) d = all_gone_queue peer stamp cs (command_gone peer stamp c d) ∙ gone_queue peer stamp c d
+-- ---- the links of connections while commands go out
 
 request_linked : (peer : Host) (stamp own foreign : ℕ) (d : DeskState) → has_control (request_gone peer stamp own foreign d).entries ≡ true → has_control d.entries ≡ true
 request_linked peer stamp own foreign d h = any_changed strays (is_at own foreign) (asked_at stamp) (λ x k. k) d.entries h

@@ -5,20 +5,13 @@ use Rattle.leader1822.specs.declared.carrier.CarrierFault.{CarrierFault}
 use Rattle.imp_node.specs.State.{State, ImpTurn, number}
 use Rattle.imp_node.specs.Taking.{to_host, to_host_refusal}
 use Rattle.imp_node.specs.Turns.{to_host_grows}
+use Rattle.imp_node.proofs.lemmas.{at_set}
 use Rattle.subnet.specs.Events.{at_up}
 use Rattle.subnet.specs.Calls.{grows_at}
 use Rattle.subnet.specs.Net.{imp_at}
 use Rattle.subnet.specs.declared.imp_call.ImpCall.{ImpCall}
 use Rattle.subnet.specs.Inside.Calling.{call_turn, IsLive, AreLive, CallEnds, imp_by}
 use Rattle.subnet.proofs.Calls.Owning.{call_own, to_host_own}
-
--- what holds of each IMP by its place holds after one was set
-pub all_set : {A : Type 0} (P : ℕ → A → Type 0) (xs : List A) (k h : ℕ) (x d : A) → P h (get_or xs h d) → P k x → P h (get_or (set xs k x) h d)
-all_set P [] k h x d old new = old
-all_set P (y ∷ ys) zero zero x d old new = new
-all_set P (y ∷ ys) zero (suc h) x d old new = old
-all_set P (y ∷ ys) (suc k) zero x d old new = old
-all_set P (y ∷ ys) (suc k) (suc h) x d old new = all_set (λ (n : ℕ). P (suc n)) ys k h x d old new
 
 -- an element that is there is read alike with any default
 pub read_alike : {A : Type 0} (xs : List A) (k : ℕ) (a b : A) → k < length xs → get_or xs k a ≡ get_or xs k b
@@ -35,7 +28,7 @@ live_new i o x call own live is unspent =
     subst (λ (y : Option State). IsLive i y) (sym is) (live_by i o call own live (subst (λ (y : Option State). IfSome y (λ s. s.spent ≡ false)) is unspent))
 
 live_set : (imps : List (Option State)) (i : ℕ) (x : Option State) (call : State → ImpTurn) → ((s : State) → number (call s).state ≡ number s) → AreLive imps → x ≡ imp_by (imp_at imps i) call → IfSome x (λ s. s.spent ≡ false) → AreLive (set imps i x)
-live_set imps i x call own live is unspent = λ h. all_set IsLive imps i h x None (live h) (live_new i (imp_at imps i) x call own (live i) is unspent)
+live_set imps i x call own live is unspent = λ h. at_set IsLive imps i h x None (live h) (live_new i (imp_at imps i) x call own (live i) is unspent)
 
 pub live_call : {T : Type 0} (r : Result T CarrierFault) (imps : List (Option State)) (i : ℕ) (x : Option State) (c : ImpCall) (refusal : Option CarrierFault) (grows : Bool) (Q : T → Type 0) → AreLive imps → CallEnds refusal grows (λ (y : T). (x ≡ imp_by (imp_at imps i) (call_turn c)) × Q y) (imp_at imps i) x r → OnOk r (IfSome x (λ s. s.spent ≡ false)) → OnOk r (AreLive (set imps i x))
 live_call (Ok y) imps i x c refusal grows Q live is unspent = live_set imps i x (call_turn c) (call_own c) live is.1.0 unspent

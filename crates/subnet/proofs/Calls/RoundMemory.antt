@@ -7,6 +7,7 @@ use Rattle.std.proofs.lemmas.Bool.{or_from}
 use Rattle.std.proofs.lemmas.List.{set-get_or}
 use Rattle.leader1822.specs.declared.event.Direction.{Direction}
 use Rattle.leader1822.specs.declared.event.Direction.TheVariants as way
+use Rattle.leader1822.proofs.lemmas.{or_false}
 use Rattle.packetiser.specs.PacketFields.{PacketFields}
 use Rattle.routing.specs.RouteTable.{Table, next_of, vector_of}
 use Rattle.imp_channel.specs.Line.{End, submitted}
@@ -18,13 +19,13 @@ use Rattle.imp_node.specs.Pump.{Pumped, target, sent_on, packet_sent, pumped, pu
 use Rattle.imp_node.specs.Lines.{told_from, route, resent_from, resend}
 use Rattle.imp_node.specs.Arrival.{from_line, ignored}
 use Rattle.imp_node.specs.Turns.{resend_grows, route_grows, from_line_grows}
+use Rattle.imp_node.proofs.lemmas.{at_set}
 use Rattle.subnet.specs.Net.{Net, Wire, no_wire, imp_at, wire_at, frames_on, far_end, dropping, put_all, port_of, with_turn}
 use Rattle.subnet.specs.Flows.{imp_is_up}
 use Rattle.subnet.specs.Calls.{grows_at, copy_grows, delivered_grows, brings_bits, round_grows}
 use Rattle.subnet.specs.Events.{at_imp, delivered, drop_frame, refreshed}
 use Rattle.subnet.specs.declared.imp_call.ImpCall.TheVariants as call
 use Rattle.subnet.specs.Inside.Calling.{call_turn, call_grows, carried_first}
-use Rattle.subnet.proofs.Calls.Living.{all_set}
 
 -- ---- small facts
 
@@ -32,11 +33,6 @@ use Rattle.subnet.proofs.Calls.Living.{all_set}
 only_where : (a b : Bool) → (a ≡ false → b ≡ false) → b ≡ true → a ≡ true
 only_where true b none grows = refl
 only_where false b none grows = let untrue : b ≡ false = none refl in cc
-
-neither : (a b : Bool) → (a || b) ≡ false → (a ≡ false) × (b ≡ false)
-neither false false none = (refl, refl)
-neither false true none = cc
-neither true b none = cc
 
 and_none : (a b : Bool) → b ≡ false → (a && b) ≡ false
 and_none true b none = none
@@ -57,14 +53,14 @@ both_empty (x ∷ xs) ys none = cc
 -- no element passes a test
 none_at : {A : Type 0} (test : A → Bool) (xs : List A) (k : ℕ) (d : A) → test d ≡ false → list_any test xs ≡ false → test (get_or xs k d) ≡ false
 none_at test [] k d not none = not
-none_at test (x ∷ xs) zero d not none = (neither (test x) (list_any test xs) none).0
-none_at test (x ∷ xs) (suc k) d not none = none_at test xs k d not (neither (test x) (list_any test xs) none).1
+none_at test (x ∷ xs) zero d not none = (or_false (test x) (list_any test xs) none).0
+none_at test (x ∷ xs) (suc k) d not none = none_at test xs k d not (or_false (test x) (list_any test xs) none).1
 
 none_set : {A : Type 0} (test : A → Bool) (xs : List A) (k : ℕ) (y : A) → test y ≡ false → list_any test xs ≡ false → list_any test (set xs k y) ≡ false
 none_set test [] k y not none = refl
-none_set test (x ∷ xs) zero y not none = or_from (test y) (list_any test xs) not (neither (test x) (list_any test xs) none).1
+none_set test (x ∷ xs) zero y not none = or_from (test y) (list_any test xs) not (or_false (test x) (list_any test xs) none).1
 none_set test (x ∷ xs) (suc k) y not none =
-    or_from (test x) (list_any test (set xs k y)) (neither (test x) (list_any test xs) none).0 (none_set test xs k y not (neither (test x) (list_any test xs) none).1)
+    or_from (test x) (list_any test (set xs k y)) (or_false (test x) (list_any test xs) none).0 (none_set test xs k y not (or_false (test x) (list_any test xs) none).1)
 
 tested_alike : {A : Type 0} (f g : A → Bool) (xs : List A) → ((x : A) → f x ≡ g x) → list_any f xs ≡ list_any g xs
 tested_alike f g [] alike = refl
@@ -130,13 +126,13 @@ ends_down distances k (port ∷ ports) none =
 none_told : (distances : List ℕ) (k : ℕ) (ports : List Port) → list_any (λ port. port.up) ports ≡ false → told_from distances k ports ≡ []
 none_told distances k [] down = refl
 none_told distances k (port ∷ ports) down =
-    let each : (port.up ≡ false) × (list_any (λ port. port.up) ports ≡ false) = neither port.up (list_any (λ port. port.up) ports) down in
+    let each : (port.up ≡ false) × (list_any (λ port. port.up) ports ≡ false) = or_false port.up (list_any (λ port. port.up) ports) down in
     rw each.0 (none_told distances (k + 1) ports each.1)
 
 none_resent : (k : ℕ) (ports : List Port) → list_any (λ port. port.up) ports ≡ false → resent_from k ports ≡ []
 none_resent k [] down = refl
 none_resent k (port ∷ ports) down =
-    let each : (port.up ≡ false) × (list_any (λ port. port.up) ports ≡ false) = neither port.up (list_any (λ port. port.up) ports) down in
+    let each : (port.up ≡ false) × (list_any (λ port. port.up) ports ≡ false) = or_false port.up (list_any (λ port. port.up) ports) down in
     rw each.0 (none_resent (k + 1) ports each.1)
 
 silent : (s : State) → route_grows s ≡ false → IsSilent s
@@ -168,11 +164,11 @@ stays_silent first s quiet =
 -- ---- a subnet whose quiet rounds want none: each IMP that is up is silent, and no frame with bits goes to one
 
 silent_at : (n : Net) (i : ℕ) → round_grows n ≡ false → grows_at (imp_at n.imps i) route_grows ≡ false
-silent_at n i none = none_at (λ (imp : Option State). grows_at imp route_grows) n.imps i None refl (neither (list_any (λ (imp : Option State). grows_at imp route_grows) n.imps) _ none).0
+silent_at n i none = none_at (λ (imp : Option State). grows_at imp route_grows) n.imps i None refl (or_false (list_any (λ (imp : Option State). grows_at imp route_grows) n.imps) _ none).0
 
 up_alike : (imps : List (Option State)) (i : ℕ) (s after : State) → imp_at imps i ≡ Some s → (j : ℕ) → imp_is_up (imp_at (set imps i (Some after)) j) ≡ imp_is_up (imp_at imps j)
 up_alike imps i s after at = λ j.
-    all_set (λ (h : ℕ) (o : Option State). imp_is_up o ≡ imp_is_up (imp_at imps h)) imps i j (Some after) None refl (ap imp_is_up (sym at))
+    at_set (λ (h : ℕ) (o : Option State). imp_is_up o ≡ imp_is_up (imp_at imps h)) imps i j (Some after) None refl (ap imp_is_up (sym at))
 
 brought_alike : (imps others : List (Option State)) → ((j : ℕ) → imp_is_up (imp_at others j) ≡ imp_is_up (imp_at imps j)) → (w : Wire) → brings_bits others w ≡ brings_bits imps w
 brought_alike imps others alike w =
@@ -182,7 +178,7 @@ brought_alike imps others alike w =
 -- one silent IMP in place of another
 with_silent : (n : Net) (i : ℕ) (s after : State) → imp_at n.imps i ≡ Some s → IsSilent after → round_grows n ≡ false → round_grows (record n { imps = set n.imps i (Some after) }) ≡ false
 with_silent n i s after at quiet none =
-    let each : (list_any (λ (imp : Option State). grows_at imp route_grows) n.imps ≡ false) × (list_any (brings_bits n.imps) n.lines ≡ false) = neither _ _ none in
+    let each : (list_any (λ (imp : Option State). grows_at imp route_grows) n.imps ≡ false) × (list_any (brings_bits n.imps) n.lines ≡ false) = or_false _ _ none in
     or_from _ _
     (none_set (λ (imp : Option State). grows_at imp route_grows) n.imps i (Some after) (wants_none (route after).frames (silent_route after quiet)) each.0)
     (tested_alike (brings_bits (set n.imps i (Some after))) (brings_bits n.imps) n.lines (brought_alike n.imps (set n.imps i (Some after)) (up_alike n.imps i s after at)) ∙ each.1)
@@ -228,17 +224,17 @@ no_frame_brought : (imps : List (Option State)) → brings_bits imps no_wire ≡
 no_frame_brought imps = or_from _ _ (and_none (imp_is_up (imp_at imps 0)) false refl) (and_none (imp_is_up (imp_at imps 0)) false refl)
 
 wire_quiet : (n : Net) (l : ℕ) → round_grows n ≡ false → brings_bits n.imps (wire_at n.lines l) ≡ false
-wire_quiet n l none = none_at (brings_bits n.imps) n.lines l no_wire (no_frame_brought n.imps) (neither _ (list_any (brings_bits n.imps) n.lines) none).1
+wire_quiet n l none = none_at (brings_bits n.imps) n.lines l no_wire (no_frame_brought n.imps) (or_false _ (list_any (brings_bits n.imps) n.lines) none).1
 
 no_bits : (imps : List (Option State)) (w : Wire) (d : Direction) → brings_bits imps w ≡ false → imp_is_up (imp_at imps (far_end d w)) ≡ true → list_any copy_grows (frames_on d w) ≡ false
-no_bits imps w way.Forward none up = and_told (imp_is_up (imp_at imps w.b)) (list_any copy_grows w.forward) up (neither _ _ none).0
-no_bits imps w way.Back none up = and_told (imp_is_up (imp_at imps w.a)) (list_any copy_grows w.back) up (neither _ _ none).1
+no_bits imps w way.Forward none up = and_told (imp_is_up (imp_at imps w.b)) (list_any copy_grows w.forward) up (or_false _ _ none).0
+no_bits imps w way.Back none up = and_told (imp_is_up (imp_at imps w.a)) (list_any copy_grows w.back) up (or_false _ _ none).1
 
 copies_none : (frames : List Frame) (k : ℕ) (f : Frame) → slice_get frames k ≡ Some f → list_any copy_grows frames ≡ false → copy_grows f ≡ false
 copies_none [] k f there none = cc
 copies_none (g ∷ frames) zero f there none =
-    let first : g ≡ f = cc in ap copy_grows (sym first) ∙ (neither (copy_grows g) (list_any copy_grows frames) none).0
-copies_none (g ∷ frames) (suc k) f there none = copies_none frames k f there (neither (copy_grows g) (list_any copy_grows frames) none).1
+    let first : g ≡ f = cc in ap copy_grows (sym first) ∙ (or_false (copy_grows g) (list_any copy_grows frames) none).0
+copies_none (g ∷ frames) (suc k) f there none = copies_none frames k f there (or_false (copy_grows g) (list_any copy_grows frames) none).1
 
 -- at an end that is down a frame is ignored
 end_ignores : (s : State) (k : ℕ) (f : Frame) → IsSilent s → from_line s k f ≡ ignored s
@@ -276,7 +272,7 @@ delivered_same n l d (Some f) none =
 
 first_dropped : (frames : List Frame) → list_any copy_grows frames ≡ false → list_any copy_grows (take 0 frames ++ drop 1 frames) ≡ false
 first_dropped [] none = refl
-first_dropped (f ∷ frames) none = (neither (copy_grows f) (list_any copy_grows frames) none).1
+first_dropped (f ∷ frames) none = (or_false (copy_grows f) (list_any copy_grows frames) none).1
 
 still_none : (up : Bool) (frames : List Frame) → (up && list_any copy_grows frames) ≡ false → (up && list_any copy_grows (take 0 frames ++ drop 1 frames)) ≡ false
 still_none true frames none = first_dropped frames none
@@ -284,15 +280,15 @@ still_none false frames none = refl
 
 dropped_quiet : (imps : List (Option State)) (d : Direction) (w : Wire) → brings_bits imps w ≡ false → brings_bits imps (dropping d 0 w) ≡ false
 dropped_quiet imps way.Forward w none =
-    let each : ((imp_is_up (imp_at imps w.b) && list_any copy_grows w.forward) ≡ false) × ((imp_is_up (imp_at imps w.a) && list_any copy_grows w.back) ≡ false) = neither _ _ none in
+    let each : ((imp_is_up (imp_at imps w.b) && list_any copy_grows w.forward) ≡ false) × ((imp_is_up (imp_at imps w.a) && list_any copy_grows w.back) ≡ false) = or_false _ _ none in
     or_from _ _ (still_none (imp_is_up (imp_at imps w.b)) w.forward each.0) each.1
 dropped_quiet imps way.Back w none =
-    let each : ((imp_is_up (imp_at imps w.b) && list_any copy_grows w.forward) ≡ false) × ((imp_is_up (imp_at imps w.a) && list_any copy_grows w.back) ≡ false) = neither _ _ none in
+    let each : ((imp_is_up (imp_at imps w.b) && list_any copy_grows w.forward) ≡ false) × ((imp_is_up (imp_at imps w.a) && list_any copy_grows w.back) ≡ false) = or_false _ _ none in
     or_from _ _ each.0 (still_none (imp_is_up (imp_at imps w.a)) w.back each.1)
 
 lost_quiet : (n : Net) (l : ℕ) (d : Direction) → round_grows n ≡ false → round_grows (drop_frame n l d 0) ≡ false
 lost_quiet n l d none =
-    let each : (list_any (λ (imp : Option State). grows_at imp route_grows) n.imps ≡ false) × (list_any (brings_bits n.imps) n.lines ≡ false) = neither _ _ none in
+    let each : (list_any (λ (imp : Option State). grows_at imp route_grows) n.imps ≡ false) × (list_any (brings_bits n.imps) n.lines ≡ false) = or_false _ _ none in
     or_from _ _ each.0 (none_set (brings_bits n.imps) n.lines l (dropping d 0 (wire_at n.lines l)) (dropped_quiet n.imps d (wire_at n.lines l) (wire_quiet n l none)) each.1)
 
 pub carried_earlier : (l : ℕ) (d : Direction) (n m : Net) → m ≡ carried_first l d n → round_grows m ≡ true → round_grows n ≡ true

@@ -7,11 +7,11 @@ use Rattle.std.proofs.Math.Seq.{take-length}
 use Rattle.imp_node.specs.State.{State, HostState, number, host_at, no_host, up_host, opening_node}
 use Rattle.imp_node.specs.Queries as queries
 use Rattle.imp_node.specs.Stopping.{host_down}
+use Rattle.imp_node.proofs.lemmas.{at_set}
 use Rattle.subnet.specs.Net.{Wire, Net, ends_at, port_of}
 use Rattle.subnet.specs.Alive.{says}
 use Rattle.subnet.specs.Events.{started_imp, hosts_at, is_imp}
 use Rattle.subnet.specs.Inside.Calling.{IsLive, AreLive}
-use Rattle.subnet.proofs.Calls.Living.{all_set}
 
 -- ---- hosts that go down one after another
 
@@ -91,4 +91,4 @@ beside_other i at (Some s) live other =
     rw foreign refl
 
 pub started_lives : (imps : List (Option State)) (i hosts ports : ℕ) → AreLive imps → AreLive (set imps i (Some (started_imp i hosts ports)))
-started_lives imps i hosts ports live = λ h. all_set IsLive imps i h (Some (started_imp i hosts ports)) None (live h) (refl, refl)
+started_lives imps i hosts ports live = λ h. at_set IsLive imps i h (Some (started_imp i hosts ports)) None (live h) (refl, refl)

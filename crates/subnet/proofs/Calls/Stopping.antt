@@ -7,13 +7,13 @@ use Rattle.std.proofs.lemmas.List.{reverse-append, reverse-reverse, length-rever
 use Rattle.leader1822.specs.declared.crossing.Crossing.{Crossing}
 use Rattle.leader1822.specs.declared.crossing.Crossing.TheVariants as crossing
 use Rattle.imp_node.specs.State.{State, HostState, no_host}
+use Rattle.imp_node.proofs.lemmas.{at_set}
 use Rattle.subnet.specs.Calls.{grows_at, has_host_up}
 use Rattle.subnet.specs.Events.{downs_from, downs_at}
 use Rattle.subnet.specs.Inside.Calling.{IsLive, AreLive, down_of, downs_in_order}
-use Rattle.subnet.proofs.Calls.Living.{all_set}
 
 pub stopped_lives : (imps : List (Option State)) (i : ℕ) → AreLive imps → AreLive (set imps i None)
-stopped_lives imps i live = λ h. all_set IsLive imps i h None None (live h) tt
+stopped_lives imps i live = λ h. at_set IsLive imps i h None None (live h) tt
 
 drop_past : (hosts : List HostState) (k : ℕ) → length hosts ≤ k → drop k hosts ≡ []
 drop_past [] zero past = refl

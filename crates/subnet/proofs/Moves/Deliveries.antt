@@ -4,7 +4,7 @@ use Rattle.std.specs.Prelude.{slice_get}
 use Rattle.std.specs.FinMap as finite
 use Rattle.std.specs.List.{flat_map}
 use Rattle.std.proofs.lemmas.List.{map-append}
-use Rattle.std.proofs.lemmas.List.Elements.{All-nil, All-cons, All-head, All-push, All-set, All-weaker, All-contains, All-contains_itself, Contains-append_left}
+use Rattle.std.proofs.lemmas.List.Elements.{All-nil, All-cons, All-head, All-push, All-weaker, All-contains, All-contains_itself, Contains-append_left}
 use Rattle.bit_messages.specs.Body.{body, text_of}
 use Rattle.bit_messages.proofs.lemmas.{text_of-body}
 use Rattle.leader1822.specs.declared.address.Flow.{Flow}
@@ -31,7 +31,7 @@ use Rattle.imp_channel.specs.declared.fault.ChannelFault.{ChannelFault}
 use Rattle.imp_channel.specs.declared.frame.Frame.{Frame}
 use Rattle.imp_channel.specs.declared.line.Received.{Received}
 use Rattle.imp_channel.specs.declared.line.Received.TheVariants as received
-use Rattle.imp_channel.proofs.lemmas.{fresh_carried, received_has}
+use Rattle.imp_channel.proofs.lemmas.{fresh_carried}
 use Rattle.flow_law.specs.View.{View, Packet, Queued, Kind}
 use Rattle.flow_law.specs.Moves.{Move, NoteGone, Whole, Freed, Brings, CanNote, Joined, IsTold, view_moved}
 use Rattle.flow_law.proofs.lemmas.{makes_one}
@@ -45,7 +45,7 @@ use Rattle.imp_node.specs.Making.{dead_for}
 use Rattle.imp_node.specs.Moves.{IsNewHere, MakesWhole, Tells, ArrivalSays, ArrivalMoves, AnswerMoves, FrameMoves}
 use Rattle.imp_node.specs.Pump.{pump}
 use Rattle.imp_node.specs.Sides.{Sender, Receiver, sender, receiver, ended_with, noted_with, queued_with, IsImp, AllUnmoved, Moved}
-use Rattle.imp_node.proofs.lemmas.{Has, OutgoingHas, PortHas, TurnHas, arrival_says, from_line_has, from_line_imp, from_line_moves, noted_moved, port_has, pump_has, quiet_has}
+use Rattle.imp_node.proofs.lemmas.{Has, OutgoingHas, TurnHas, arrival_says, from_line_has, from_line_imp, from_line_moves, noted_moved, pump_has, quiet_has, taken_has}
 use Rattle.subnet.specs.Net.{Net, imp_at, wire_at, port_of, with_turn, frames_on, far_end}
 use Rattle.subnet.specs.Alive.{packets}
 use Rattle.subnet.specs.Events.{at_imp, delivered, deliver}
@@ -315,13 +315,6 @@ record IsLive (n : Net) (i : ℕ) (s : State) (f : Frame) : Type 0 where
   pub sound : IsSound n
 
 -- a turn that only takes acknowledgements and distances, and pumps
-taken_has : (P : PacketFields → Type 0) (k : ℕ) (f : Frame) (s : State) → Has P s → Has P (frame_taken k f s)
-taken_has P k f s h = record {
-  store = h.store;
-  lines = All-set (PortHas P) s.ports k _ (received_has P (port_at s.ports k).line f (port_has P s.ports k h.lines)) h.lines;
-  slots = h.slots;
-}
-
 quiet_frame : (n : Net) (i : ℕ) (s : State) (f : Frame) (turn : ImpTurn) → IsLive n i s f → IsFrame n i s f turn → AllUnmoved s turn.state → contents.messages turn.state ≡ contents.messages s
     → (Has (Contains (packets n)) s → TurnHas (Contains (packets n)) turn) → IsSound (with_turn i turn n)
 quiet_frame n i s f turn live frame still same has =

@@ -21,7 +21,7 @@ use Rattle.imp_node.specs.Queries.{is_data, is_data_between, is_message_between}
 use Rattle.imp_node.specs.Sides.{Sender, Receiver, sender, receiver}
 use Rattle.imp_node.specs.Moves.{Becomes}
 use Rattle.imp_node.specs.Stopping.{forget}
-use Rattle.imp_node.proofs.lemmas.{forget_becomes, forget_imp, same_at}
+use Rattle.imp_node.proofs.lemmas.{at_set, forget_becomes, forget_imp, same_at}
 use Rattle.subnet.specs.Net.{Net, imp_at, with_turn}
 use Rattle.subnet.specs.Alive.{packets, messages_at_imp, has_data}
 use Rattle.subnet.specs.Events.{at_imp, at_up, first_of, accepted, is_imp, forgetting_refusal}
@@ -31,7 +31,7 @@ use Rattle.subnet.specs.Sound.{IsAt, IsSound}
 use Rattle.subnet.proofs.Packets.HavingByEvents.{forget_nothing}
 use Rattle.subnet.proofs.Moves.QuietCalls.{formats_less}
 use Rattle.subnet.proofs.Calls.Silence.{nowhere}
-use Rattle.subnet.proofs.Moves.Views.{view_parts, alive_less, at_set}
+use Rattle.subnet.proofs.Moves.Views.{view_parts, alive_less}
 use Rattle.subnet.proofs.Moves.Turns.{Answerable, set_here}
 use Rattle.subnet.proofs.Moves.ManyFlows.{all_moved, at_end, kept_messages}
 

@@ -23,7 +23,7 @@ use Rattle.imp_node.specs.Offering.{is_own}
 use Rattle.imp_node.specs.Queries.{outstanding, packet_has}
 use Rattle.imp_node.specs.Sides.{sender, receiver, ended_with, Moved}
 use Rattle.imp_node.specs.Stopping.{give_up, give_up_refusal}
-use Rattle.imp_node.proofs.lemmas.{give_up_imp, give_up_moves, same_at}
+use Rattle.imp_node.proofs.lemmas.{at_set, give_up_imp, give_up_moves, same_at}
 use Rattle.subnet.specs.Net.{Net, imp_at, with_turn}
 use Rattle.subnet.specs.Alive.{packets, messages, is_alive}
 use Rattle.subnet.specs.Events.{at_imp, at_up, first_of, give_up_alive, outstanding_at, giving_up_refusal}
@@ -33,7 +33,7 @@ use Rattle.subnet.specs.Sound.{IsAt, IsSound}
 use Rattle.subnet.proofs.Packets.HavingByEvents.{give_up_nothing}
 use Rattle.subnet.proofs.Moves.QuietCalls.{formats_less}
 use Rattle.subnet.proofs.Calls.Silence.{NotIn, NotOf, not_alive, queue_silent}
-use Rattle.subnet.proofs.Moves.Views.{view_parts, turn_view, alive_less, held_messages, at_set}
+use Rattle.subnet.proofs.Moves.Views.{view_parts, turn_view, alive_less, held_messages}
 
 -- ---- what the move needs
 

@@ -18,7 +18,6 @@ use Rattle.leader1822.specs.declared.crossing.Crossing.TheVariants as crossing
 use Rattle.leader1822.proofs.lemmas.{and_true, guard, not_false, same_flow-refl, same_flow-true, same_host-refl, same_host-true}
 use Rattle.link_table.specs.Flows.{release_in}
 use Rattle.link_table.specs.declared.source.Release.{Release}
-use Rattle.link_table.specs.declared.source.Release.TheVariants as release
 use Rattle.packetiser.specs.PacketFields.{PacketFields, IsPacket, flow_of}
 use Rattle.packetiser.specs.declared.packet.PacketKind.TheVariants as kind
 use Rattle.flow_law.specs.View.{View, Packet, Queued}
@@ -30,7 +29,7 @@ use Rattle.flow_law.proofs.lemmas.{down_shown, queued_alone, queued_awaited}
 use Rattle.imp_node.specs.declared.waiting.Message.{Message}
 use Rattle.imp_node.specs.State.{State, ImpTurn, no_host, number, host_at, is_up, is_there}
 use Rattle.imp_node.specs.Contents as contents
-use Rattle.imp_node.specs.Flows.{answer_packet, answered_by, freed}
+use Rattle.imp_node.specs.Flows.{answer_packet, freed}
 use Rattle.imp_node.specs.Making.{reply_for, host_down_makes}
 use Rattle.imp_node.specs.Pump.{stored}
 use Rattle.imp_node.specs.Queries.{outstanding}
@@ -38,7 +37,7 @@ use Rattle.imp_node.specs.Sides.{IsImp, Sender, Receiver, sender, receiver, mess
 use Rattle.imp_node.specs.Moves.{sender_told, source_down, destination_down}
 use Rattle.imp_node.specs.Stopping.{message_returned, all_returned, stopped, host_down, host_down_refusal}
 use Rattle.imp_node.specs.Taking.{is_from_here, reply_has_room}
-use Rattle.imp_node.proofs.lemmas.{freed_with, host_down_imp, returned_moves, same_at, stopped_becomes}
+use Rattle.imp_node.proofs.lemmas.{at_set, freed_with, host_down_imp, returned_moves, returned_number, same_at, stopped_becomes}
 use Rattle.subnet.specs.Net.{Net, imp_at, with_turn}
 use Rattle.subnet.specs.Alive.{packets}
 use Rattle.subnet.specs.Events.{at_imp, at_up, at_host_refusal, logging, host_stopped}
@@ -49,18 +48,10 @@ use Rattle.subnet.proofs.Packets.HavingByEvents.{stop_only}
 use Rattle.subnet.proofs.Calls.Silence.{at_host_all}
 use Rattle.subnet.proofs.Moves.Takes.{freed_messages}
 use Rattle.subnet.proofs.Moves.Turns.{Answerable, set_here, set_queue, set_messages, answerable, source_changed}
-use Rattle.subnet.proofs.Moves.Views.{view_parts, at_set}
+use Rattle.subnet.proofs.Moves.Views.{view_parts}
 use Rattle.subnet.proofs.Moves.ManyFlows.{all_moved, at_end, at_end_if}
 
 -- ---- messages are given back, one after another
-
-returned_number : (m : Message) (s : State) → number (message_returned m s) ≡ number s
-returned_number m s = at (reply_has_room s m) (is_from_here s m) (release_in m.number (finite.get s.sources m.flow)) where
-  at : (room here : Bool) (r : Release) → number (cond room (cond here (answered_by r answer.Dead m.flow m.number s) (stored (answer_packet kind.Dead m.flow m.number) s)) s) ≡ number s
-  at true true release.Freed = refl
-  at true true release.Stale = refl
-  at true false r = refl
-  at false here r = refl
 
 returned_answers : (m : Message) (s : State) → All Answerable (contents.messages s) → All Answerable (contents.messages (message_returned m s))
 returned_answers m s all = at (reply_has_room s m) (is_from_here s m) where

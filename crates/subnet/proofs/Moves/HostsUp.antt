@@ -20,7 +20,7 @@ use Rattle.imp_node.specs.State.{State, HostState, ImpTurn, host_at, is_up, is_t
 use Rattle.imp_node.specs.Sides.{IsImp, Sender, Receiver, sender, receiver}
 use Rattle.imp_node.specs.Moves.{Becomes, source_up, destination_up}
 use Rattle.imp_node.specs.Stopping.{own_host, host_up, host_up_refusal}
-use Rattle.imp_node.proofs.lemmas.{host_up_becomes, host_up_imp, same_at}
+use Rattle.imp_node.proofs.lemmas.{at_set, host_up_becomes, host_up_imp, same_at}
 use Rattle.subnet.specs.Net.{Net, imp_at, with_turn}
 use Rattle.subnet.specs.Alive.{messages_at_imp}
 use Rattle.subnet.specs.Events.{at_imp, at_up, at_host_refusal, logging, host_started}
@@ -30,7 +30,7 @@ use Rattle.subnet.specs.Sound.{IsAt, IsSound}
 use Rattle.subnet.proofs.Moves.GivingUp.{given_queue}
 use Rattle.subnet.proofs.Packets.HavingByEvents.{start_host_nothing}
 use Rattle.subnet.proofs.Moves.QuietCalls.{formats_less}
-use Rattle.subnet.proofs.Moves.Views.{view_parts, alive_less, at_set}
+use Rattle.subnet.proofs.Moves.Views.{view_parts, alive_less}
 use Rattle.subnet.proofs.Moves.Turns.{Answerable, set_here}
 use Rattle.subnet.proofs.Moves.ManyFlows.{all_moved, at_end, kept_messages}
 

@@ -18,6 +18,7 @@ use Rattle.flow_law.specs.Local.{stopped_host}
 use Rattle.flow_law.proofs.lemmas.{all_follow, down_shown, makes_one, stays}
 use Rattle.imp_node.specs.State.{State, HostState, no_host}
 use Rattle.imp_node.specs.Sides.{Sender, Receiver}
+use Rattle.imp_node.proofs.lemmas.{at_set}
 use Rattle.subnet.specs.Net.{Net, imp_at}
 use Rattle.subnet.specs.Events.{at_up, accepted, is_imp, imp_refusal, downs_from, downs_at, imp_stopped}
 use Rattle.subnet.specs.Flows.{Piece, Alive, no_sender, no_receiver, imp_is_up, sender_at, receiver_at, view_of, view}
@@ -25,7 +26,7 @@ use Rattle.subnet.specs.Making.{NothingNew}
 use Rattle.subnet.specs.Sound.{IsAt, IsSound}
 use Rattle.subnet.proofs.Packets.HavingByEvents.{stop_imp_nothing}
 use Rattle.subnet.proofs.Moves.QuietCalls.{formats_less}
-use Rattle.subnet.proofs.Moves.Views.{view_parts, alive_less, at_set}
+use Rattle.subnet.proofs.Moves.Views.{view_parts, alive_less}
 use Rattle.subnet.proofs.Moves.Turns.{Answerable, set_here}
 use Rattle.subnet.proofs.Moves.ManyFlows.{at_end, and_true_is, set_all}
 

@@ -22,7 +22,7 @@ use Rattle.imp_node.specs.State.{State, HostState, no_host, host_at}
 use Rattle.imp_node.specs.State as imp
 use Rattle.imp_node.specs.Queries.{is_at_end, packet_touches, message_touches}
 use Rattle.imp_node.specs.Sides.{IsImp, Sender, Receiver, sender, receiver, answers_of, messages_of}
-use Rattle.imp_node.proofs.lemmas.{opening_imp, same_at, same_receiver, same_sender}
+use Rattle.imp_node.proofs.lemmas.{at_set, opening_imp, same_at, same_receiver, same_sender}
 use Rattle.subnet.specs.Net.{Net, imp_at, ends_at}
 use Rattle.subnet.specs.Alive.{packets, messages, messages_at_imp, has_flow, is_remembered}
 use Rattle.subnet.specs.Events.{first_of, is_imp, site_at, hosts_at, started_imp, starting_refusal, imp_started}
@@ -32,7 +32,7 @@ use Rattle.subnet.specs.Sound.{IsAt, IsSound}
 use Rattle.subnet.proofs.Packets.HavingByEvents.{start_imp_nothing}
 use Rattle.subnet.proofs.Moves.QuietCalls.{formats_less}
 use Rattle.subnet.proofs.Calls.Silence.{nowhere, host_queue, queue_all}
-use Rattle.subnet.proofs.Moves.Views.{view_parts, alive_less, at_set}
+use Rattle.subnet.proofs.Moves.Views.{view_parts, alive_less}
 use Rattle.subnet.proofs.Moves.Turns.{Answerable}
 use Rattle.subnet.proofs.Moves.ManyFlows.{all_moved, at_end, kept_messages, and_true_is}
 

@@ -1,6 +1,5 @@
 -- A message is offered.
-use Rattle.std.proofs.Common.{arith, ◌≡◌, ℕ, ◌+◌, ◌<◌, ◌≤◌, ◌==◌, Bool, true, false, not, List, [], ◌∷◌, ◌++◌, length, Option, Some, None, refl, ap, sym, ◌∙◌, subst, inl, inr, eqb-true, All, Contains}
-use Rattle.std.proofs.lemmas.Bool.{cases_Bool}
+use Rattle.std.proofs.Common.{arith, ◌≡◌, ℕ, ◌+◌, ◌<◌, ◌≤◌, ◌==◌, Bool, true, false, not, List, [], ◌∷◌, ◌++◌, length, Option, Some, None, refl, ap, sym, ◌∙◌, subst, All, Contains}
 use Rattle.std.proofs.lemmas.List.{map-append}
 use Rattle.std.proofs.lemmas.List.Elements.{All-nil, All-push, All-weaker, All-contains, All-contains_itself}
 use Rattle.std.specs.FinMap as finite
@@ -42,9 +41,8 @@ use Rattle.imp_node.specs.Making.{cut_for}
 use Rattle.imp_node.specs.Moves.{OfferMoves}
 use Rattle.imp_node.specs.Offering.{Way, Nowhere, Here, Away, way_of, way_has_room, is_own, goes, begins, offered, from_host, from_host_refusal}
 use Rattle.imp_node.specs.Queries.{last}
-use Rattle.imp_node.specs.Room.{has_route}
 use Rattle.imp_node.specs.Sides.{Sender, Receiver, sender, receiver, answers_of, begun_with, told_with, noted_with, queued_with, IsImp}
-use Rattle.imp_node.proofs.lemmas.{from_host_has, from_host_imp, from_host_moves}
+use Rattle.imp_node.proofs.lemmas.{from_host_has, from_host_imp, from_host_moves, here_imp}
 use Rattle.subnet.specs.Net.{Net, imp_at, with_turn}
 use Rattle.subnet.specs.Alive.{packets, is_alive}
 use Rattle.subnet.specs.Events.{at_imp, at_up, first_of, logging, alive_behind, offer_alive, offer_refusal, offer_out}
@@ -148,15 +146,6 @@ number_free n s g at is away dead l lasts x alive =
     no_packet n g (oldest l) (not_alive n g (oldest l) gone).0 x alive
 
 -- ---- where a message goes
-
-way_here : (s : State) (f : Flow) → way_of s f ≡ Here → f.destination.imp ≡ number s
-way_here s f is = elim (cases_Bool (f.destination.imp == number s)) [
-  | inl own ↦ eqb-true f.destination.imp (number s) own
-  | inr other ↦ elim (cases_Bool (has_route s f.destination.imp)) [
-    | inl there ↦ let no : Away ≡ Here = rw (other, there) at is in cc
-    | inr none ↦ let no : Nowhere ≡ Here = rw (other, none) at is in cc
-  ]
-]
 
 -- ---- what waits after it
 
@@ -277,7 +266,7 @@ within n s m o is carriable moved sound =
     let message : ℕ → Message = λ j. record { flow = g; number = j; text = m.text } in
     let from : Sender = sender_at (imp_at n.imps i) g in
     let to : Receiver = receiver_at (imp_at n.imps g.destination.imp) g in
-    let here : g.destination.imp ≡ i = way_here s g is ∙ o.imp.own in
+    let here : g.destination.imp ≡ i = here_imp s g is ∙ o.imp.own in
     let only : OnlyNew n [] (with_turn i (from_host s m) n) = offer_only n i s m Here o.at is in
     let waits : view next g ≡ view_of (imp_is_up (imp_at n.imps i)) (begun_with k from) (imp_is_up (imp_at n.imps g.destination.imp)) (queued_with (message k) (noted_with k to)) (Box.Waiting (length n.log) m.text) =
     moved_view n i s (from_host s m) entries g (begun_with k from) (queued_with (message k) (noted_with k to)) (Box.Waiting (length n.log) m.text) o.at

@@ -22,7 +22,7 @@ use Rattle.imp_node.specs.State.{State, HostState, up_host, no_host}
 use Rattle.imp_node.specs.State as imp
 use Rattle.imp_node.specs.Flows.{answer_packet}
 use Rattle.imp_node.specs.Sides.{IsImp, answers_of, messages_of}
-use Rattle.imp_node.proofs.lemmas.{opening_imp, start_has}
+use Rattle.imp_node.proofs.lemmas.{opening_answers, opening_imp, opening_queue, start_has}
 use Rattle.subnet.specs.Net.{Net, imp_at, ends_at}
 use Rattle.subnet.specs.Alive.{packets, messages_at_imp}
 use Rattle.subnet.specs.Flows.{Alive, imp_is_up, sender_at, receiver_at, queued_of, view}
@@ -53,16 +53,6 @@ up_there zero h = both_ways false (nat_lt h 0) (λ e. absurd (cc)) (λ e. grind 
 up_there (suc count) zero = both_ways true (nat_lt 0 (suc count)) (λ e. grind (arith, nat_tests)) (λ e. refl)
 up_there (suc count) (suc h) = up_there count h ∙ below_both h count
 
-no_answers : (count h : ℕ) → (get_or (replicate count up_host) h no_host).answers ≡ []
-no_answers zero h = refl
-no_answers (suc count) zero = refl
-no_answers (suc count) (suc h) = no_answers count h
-
-no_queue : (count h : ℕ) → (get_or (replicate count up_host) h no_host).queue ≡ []
-no_queue zero h = refl
-no_queue (suc count) zero = refl
-no_queue (suc count) (suc h) = no_queue count h
-
 none_waits : (count : ℕ) → flat_map (λ (h : HostState). h.queue) (replicate count up_host) ≡ []
 none_waits zero = refl
 none_waits (suc count) = none_waits count
@@ -84,11 +74,11 @@ opened_outstanding j (Some hosts) ports f = ap outstanding_in (get-empty flow_cm
 
 opened_answers : (j : ℕ) (site : Option ℕ) (ports : ℕ) (f : Flow) → (sender_at (opened_imp j site ports) f).answers ≡ []
 opened_answers j None ports f = refl
-opened_answers j (Some hosts) ports f = ap (λ (told : List Told). answers_of f told) (no_answers hosts f.source.host)
+opened_answers j (Some hosts) ports f = ap (λ (told : List Told). answers_of f told) (opening_answers hosts f.source.host)
 
 opened_queue : (j : ℕ) (site : Option ℕ) (ports : ℕ) (f : Flow) → map queued_of (receiver_at (opened_imp j site ports) f).queue ≡ []
 opened_queue j None ports f = refl
-opened_queue j (Some hosts) ports f = ap (λ (ms : List Message). map queued_of (messages_of f ms)) (no_queue hosts f.destination.host)
+opened_queue j (Some hosts) ports f = ap (λ (ms : List Message). map queued_of (messages_of f ms)) (opening_queue hosts f.destination.host)
 
 opened_source : (j : ℕ) (site : Option ℕ) (ports : ℕ) (f : Flow) → (sender_at (opened_imp j site ports) f).source ≡ host_there site f.source.host
 opened_source j None ports f = refl

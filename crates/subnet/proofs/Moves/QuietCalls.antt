@@ -12,14 +12,14 @@ use Rattle.imp_node.specs.Flows.{answer_packet}
 use Rattle.imp_node.specs.Lines.{resend, route, end_down, end_up}
 use Rattle.imp_node.specs.Stopping.{abandon}
 use Rattle.imp_node.specs.Sides.{IsImp, AllUnmoved}
-use Rattle.imp_node.proofs.lemmas.{abandon_imp, abandon_unmoved, end_down_imp, end_down_unmoved, end_up_imp, end_up_unmoved, resend_imp, resend_unmoved, route_imp, route_unmoved}
+use Rattle.imp_node.proofs.lemmas.{abandon_imp, abandon_unmoved, at_set, end_down_imp, end_down_unmoved, end_up_imp, end_up_unmoved, resend_imp, resend_unmoved, route_imp, route_unmoved}
 use Rattle.subnet.specs.Net.{Net, imp_at, with_turn}
 use Rattle.subnet.specs.Alive.{packets}
 use Rattle.subnet.specs.Events.{at_imp, drop_frame}
 use Rattle.subnet.specs.Flows.{Alive, view}
 use Rattle.subnet.specs.Making.{NothingNew}
 use Rattle.subnet.specs.Sound.{IsAt, IsSound}
-use Rattle.subnet.proofs.Moves.Views.{turn_view, alive_less, same_messages, at_set}
+use Rattle.subnet.proofs.Moves.Views.{turn_view, alive_less, same_messages}
 use Rattle.subnet.proofs.Packets.HavingByEvents.{drop_nothing, resend_nothing, route_nothing, end_down_nothing, end_up_nothing, abandon_nothing}
 
 -- packets that were there are by the format

@@ -23,7 +23,7 @@ use Rattle.imp_node.specs.State.{State, HostState, ImpTurn}
 use Rattle.imp_node.specs.Contents as contents
 use Rattle.imp_node.specs.Flows.{answer_packet}
 use Rattle.imp_node.specs.Sides.{Sender, Receiver, sender, receiver, IsImp, Unmoved}
-use Rattle.imp_node.proofs.lemmas.{Has, TurnHas, same_at}
+use Rattle.imp_node.proofs.lemmas.{Has, TurnHas, at_set, same_at}
 use Rattle.subnet.specs.Net.{Net, imp_at, with_turn}
 use Rattle.subnet.specs.Alive.{packets, messages_at_imp}
 use Rattle.subnet.specs.Events.{logging}
@@ -33,7 +33,7 @@ use Rattle.subnet.specs.Sound.{IsAt, IsSound}
 use Rattle.subnet.proofs.Packets.Having.{ImpHas, NetHas, net_packets, packets_net, net_itself, imp_has, with_turn_has}
 use Rattle.subnet.proofs.Moves.QuietCalls.{formats_less}
 use Rattle.subnet.proofs.Calls.Silence.{parts_left, parts_right, at_imp_all}
-use Rattle.subnet.proofs.Moves.Views.{turn_view, alive_less, at_set}
+use Rattle.subnet.proofs.Moves.Views.{turn_view, alive_less}
 
 -- ---- the packets after a turn
 

@@ -1,5 +1,5 @@
 -- What stands of each flow after a call of one IMP.
-use Rattle.std.proofs.Common.{◌≡◌, ℕ, zero, suc, Bool, List, [], ◌∷◌, ◌++◌, get_or, set, Option, Some, None, refl, ap, sym, ◌∙◌, Contains}
+use Rattle.std.proofs.Common.{◌≡◌, ℕ, zero, suc, Bool, List, [], ◌∷◌, ◌++◌, Option, Some, None, refl, ap, sym, ◌∙◌, Contains}
 use Rattle.std.specs.Prelude.{slice_set}
 use Rattle.std.specs.List.{flat_map}
 use Rattle.std.proofs.lemmas.List.Elements.{All-contains}
@@ -48,11 +48,3 @@ held_messages (o ∷ imps) (suc i) s t at same = ap (λ (ms : List Message). mes
 -- so does one that leaves its hosts alone
 pub same_messages : (imps : List (Option State)) (i : ℕ) (s t : State) → imp_at imps i ≡ Some s → t.hosts ≡ s.hosts → flat_map messages_at_imp (slice_set imps i (Some t)) ≡ flat_map messages_at_imp imps
 same_messages imps i s t at same = held_messages imps i s t at (ap (λ (hosts : List HostState). flat_map (λ (h : HostState). h.queue) hosts) same)
-
--- what holds of each element by its place holds after one was set
-pub at_set : {A : Type 0} (P : ℕ → A → Type 0) (xs : List A) (k h : ℕ) (x d : A) → P h (get_or xs h d) → P k x → P h (get_or (set xs k x) h d)
-at_set P [] k h x d old new = old
-at_set P (y ∷ ys) zero zero x d old new = new
-at_set P (y ∷ ys) zero (suc h) x d old new = old
-at_set P (y ∷ ys) (suc k) zero x d old new = old
-at_set P (y ∷ ys) (suc k) (suc h) x d old new = at_set (λ (n : ℕ). P (suc n)) ys k h x d old new

@@ -3,6 +3,7 @@ use Rattle.std.proofs.Common.{◌≡◌, ◌⊎◌, inl, inr, ℕ, suc, ◌+◌,
 use Rattle.leader1822.specs.Host.{Host}
 use Rattle.ncp_control.specs.declared.allocation.Allocation.{Allocation}
 use Rattle.stream_law.specs.Within.{IsSafe, message_bits}
+use Rattle.stream_law.proofs.lemmas.{safe_inv}
 use Rattle.host_keeps_streams.specs.Histories.{numbered}
 use Rattle.host_keeps_streams.proofs.lemmas.{numbered_tells}
 use Rattle.net_sim.specs.Safe as book
@@ -14,7 +15,7 @@ use Rattle.world_keeps_streams.proofs.Steps.Joined.{Joined}
 use Rattle.world_keeps_streams.proofs.Carried.Streams.{all_bits}
 use Rattle.world_keeps_streams.proofs.Lives.Lists.{IsOf, of_drop}
 use Rattle.world_keeps_streams.proofs.Requests.Sides.{lives_in}
-use Rattle.world_keeps_streams.proofs.Books.Streams.{safe_inv, all_bits_length, front_bits, front_on, front_none, fronts_none}
+use Rattle.world_keeps_streams.proofs.Books.Streams.{all_bits_length, front_bits, front_on, front_none, fronts_none}
 use Rattle.world_keeps_streams.proofs.Books.Whole.{since, present_in, PresentR, PresentS, HasR, HasS, Whole}
 
 module _ (a b : Host) (Own Heard : List Moment → ℕ → ℕ → ℕ → ℕ → Type 0) (ms : List Moment) where

@@ -1,30 +1,9 @@
--- What the law of streams promises of two streams that keep its invariant; and bits of messages.
-use Rattle.std.proofs.Common.{◌≡◌, ℕ, ◌+◌, ◌≤◌, Bool, List, [], ◌∷◌, ◌++◌, length, refl, ap, sym, ◌∙◌, arith}
+-- Bits of messages, and prefixes of them.
+use Rattle.std.proofs.Common.{◌≡◌, ℕ, ◌+◌, Bool, List, [], ◌∷◌, ◌++◌, length, refl, ap, sym, ◌∙◌}
 use Rattle.std.proofs.lemmas.List.{append_assoc, length-append}
 use Rattle.net_sim.specs.Safe as book
-use Rattle.stream_law.specs.Streams.{Stream}
-use Rattle.stream_law.specs.Within.{message_bits, AreGranted, IsFront, IsSafe}
-use Rattle.stream_law.proofs.lemmas.{Account, Bits, Counter, Inv, Messages, total, total_bits, total_front, total_messages}
+use Rattle.stream_law.specs.Within.{message_bits, IsFront}
 use Rattle.world_keeps_streams.proofs.Carried.Streams.{all_bits}
-
-granted_as : (x : Stream) → Inv x → (c : ℕ) (ms : List (List Bool)) → ((u : Counter) → total u ms ≤ total u (x.sender.sent c)) → AreGranted ms (x.receiver.returned c) (x.receiver.granted c)
-granted_as x h c ms less =
-    let a : Account Messages c x.receiver x.sender x.to_sender x.to_receiver = h.account Messages c in
-    let b : Account Bits c x.receiver x.sender x.to_sender x.to_receiver = h.account Bits c in
-    let k : total Messages ms ≤ total Messages (x.sender.sent c) = less Messages in
-    let l : total Bits ms ≤ total Bits (x.sender.sent c) = less Bits in
-    let m : total Messages ms ≡ length ms = total_messages ms in
-    let n : total Bits ms ≡ message_bits ms = total_bits ms in
-    record { in_messages = omega (arith, a, k, m); in_bits = omega (arith, b, l, n) }
-
-pub safe_inv : (x : Stream) → Inv x → (c : ℕ) → IsSafe x c
-safe_inv x h c = record {
-  front = h.fronts c;
-  taken = granted_as x h c (x.receiver.taken c) (λ u. total_front u (x.receiver.taken c) (x.sender.sent c) (h.fronts c));
-  sent = granted_as x h c (x.sender.sent c) (λ u. omega arith);
-}
-
--- ---- bits
 
 all_bits_append : (xs ys : List (List Bool)) → all_bits (xs ++ ys) ≡ all_bits xs ++ all_bits ys
 all_bits_append [] ys = refl

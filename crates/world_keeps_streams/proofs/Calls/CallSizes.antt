@@ -3,7 +3,7 @@ use Rattle.std.proofs.Common.{◌≡◌, ℕ, ◌==◌, ◌&&◌, IsTrue, not, B
 use Rattle.leader1822.specs.Host.{Host, same_host}
 use Rattle.leader1822.specs.Mailboxes as mail
 use Rattle.leader1822.specs.declared.crossing.Crossing.TheVariants as crossing
-use Rattle.leader1822.proofs.lemmas.{same_host-true}
+use Rattle.leader1822.proofs.lemmas.{not_false, same_host-true}
 use Rattle.ncp_control.specs.Numbers.{is_byte_size, is_receive_socket, is_send_socket}
 use Rattle.ncp_control.specs.declared.command.Command.{Command}
 use Rattle.host_pairs.specs.Commands.{desk_taken}
@@ -40,7 +40,7 @@ use Rattle.world_keeps_pairing.proofs.lemmas.{AText, AnRrp, AnRst, Sort, plain_j
 use Rattle.world_keeps_streams.specs.Calls.{called, calls_by, commands_said, message_calls, next_calls, orders_heard, own_calls, owner_calls, parcel_calls, request_calls}
 use Rattle.world_keeps_streams.proofs.Calls.Chain.{chain, mail_below}
 use Rattle.world_keeps_streams.proofs.Calls.MayAsk.{AreSized}
-use Rattle.world_keeps_streams.proofs.Calls.Moved.{not_first, true_is}
+use Rattle.world_keeps_streams.proofs.Calls.Moved.{not_first}
 use Rattle.world_keeps_streams.proofs.Calls.Sizes.{AllSizes, HasSize, history_sized, is_size, sizes_append}
 
 -- ---- a message
@@ -112,7 +112,7 @@ module _ (s : NcpState) (b : Host) (sizes : AreSizes s.listening) where
   request_sizes (request.OpenSend peer own foreign size) may is =
       let first : (not (is_ready (pair_with peer s.peers).phase) ≡ false) × _ = not_first (not (is_ready (pair_with peer s.peers).phase)) _ _ may in
       let second : (not (is_send_socket own && is_receive_socket foreign) ≡ false) × _ = not_first (not (is_send_socket own && is_receive_socket foreign)) _ _ first.1 in
-      let sized : IsTrue (is_byte_size size) = true_is (is_byte_size size) (not_first (not (is_byte_size size)) _ _ (not_first (is_taken s peer own foreign) _ _ second.1).1).0 in
+      let sized : IsTrue (is_byte_size size) = not_false (is_byte_size size) (not_first (not (is_byte_size size)) _ _ (not_first (is_taken s peer own foreign) _ _ second.1).1).0 in
       if_sizes (OpensSender own foreign size) (is_size size is.2 sized) (same_host b peer)
   request_sizes (request.OpenReceive peer own foreign) may is = if_sizes (OpensReceiver own foreign) tt (same_host b peer)
   request_sizes (request.Send socket bits) may is = owner_sizes (Gives socket bits) (λ e. tt) (owner_of socket s.peers)

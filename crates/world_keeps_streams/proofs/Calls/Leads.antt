@@ -13,14 +13,14 @@ use Rattle.host_pairs.specs.Desk.{DeskState, desk_of, command_queued, settled}
 use Rattle.host_pairs.specs.Pair.{PairState}
 use Rattle.host_pairs.specs.Parcels as parcel
 use Rattle.host_pairs.specs.Parcels.{Parcel, command_gone, commands_gone, pair_after, parcel_gone, with_connections}
-use Rattle.host_pairs.specs.Phases.{is_ready, reply_phase, rfnm_phase, taken_phase}
+use Rattle.host_pairs.specs.Phases.{is_ready, rfnm_phase}
 use Rattle.host_pairs.specs.Turn.{TurnState, answered_turn, failed_by, freed, is_gone, message_taken, order_taken, orders_taken, settled_turn, with_desk}
 use Rattle.host_pairs.specs.declared.entry.Entry.{Entry}
 use Rattle.host_pairs.specs.declared.listener.Listener.{Listener}
 use Rattle.host_pairs.specs.declared.phase.Phase.{Phase}
 use Rattle.host_pairs.specs.declared.phase.Phase.TheVariants as phase
 use Rattle.host_keeps_pairing.specs.Hearing.{AreJoint}
-use Rattle.host_keeps_pairing.proofs.lemmas.{orders_idle, ready_when, work_of}
+use Rattle.host_keeps_pairing.proofs.lemmas.{orders_idle, ready_when, reply_idle, rfnm_idle, work_of}
 use Rattle.host_keeps_streams.specs.Histories as calls
 use Rattle.host_keeps_streams.specs.Histories.{Answered, Call, Hears, IsHistory, Says, Sends, Takes, ends_by, ends_now}
 use Rattle.reset_law.specs.Events.{Message, Reset, Reply, Other}
@@ -60,13 +60,6 @@ is_reset Reply = false
 is_reset (Other text) = false
 
 -- ---- a message
-
-reply_idle : (ph : Phase) → is_ready (reply_phase ph) ≡ false → is_ready ph ≡ false
-reply_idle phase.Closed e = refl
-reply_idle phase.Want e = refl
-reply_idle (phase.Gone early) e = refl
-reply_idle phase.Heard e = refl
-reply_idle phase.Ready e = absurd (cc)
 
 module _ (peer : Host) (stamp : ℕ) where
   heard_leads : (orders : List Order) (t : TurnState) (older base : List calls.Moment) → AreJoint orders → is_ready t.pair.phase ≡ true → IsHistory peer (older ++ base) → ends_now peer (older ++ base) ≡ t.pair.entries
@@ -133,15 +126,6 @@ module _ (peer : Host) (stamp : ℕ) where
     message_turned apart = by_sort (link == 0) (is_ready t.pair.phase) refl refl apart (sort_of link text)
 
 -- ---- an answer
-
-rfnm_idle : (zero : Bool) (ph : Phase) → is_ready (if zero then taken_phase ph else ph) ≡ false → is_ready ph ≡ false
-rfnm_idle false ph e = e
-rfnm_idle true phase.Closed e = refl
-rfnm_idle true phase.Want e = refl
-rfnm_idle true (phase.Gone true) e = refl
-rfnm_idle true (phase.Gone false) e = refl
-rfnm_idle true phase.Heard e = refl
-rfnm_idle true phase.Ready e = absurd (cc)
 
 settled_none : (busy : List ℕ) (es : List Entry) (cs : List Command) (listening : List Listener) → (es ≡ []) × (cs ≡ [])
     → ((settled busy (record { entries = es; queue = cs; listening = listening; notices = [] })).entries ≡ []) × ((settled busy (record { entries = es; queue = cs; listening = listening; notices = [] })).queue ≡ [])

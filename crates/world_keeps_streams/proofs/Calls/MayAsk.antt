@@ -1,8 +1,8 @@
 -- What a user asks for, and what goes out next, may be done.
-use Rattle.std.proofs.Common.{◌≡◌, ℕ, zero, suc, ◌*◌, ◌<◌, ◌≤◌, ◌^◌, ◌&&◌, ◌||◌, not, Bool, true, false, if◌then◌else◌, List, [], ◌∷◌, take, drop, find, Option, Some, None, is_some, refl, ap, sym, subst, ◌∙◌, arith}
+use Rattle.std.proofs.Common.{◌≡◌, ℕ, zero, suc, ◌*◌, ◌<◌, ◌≤◌, ◌^◌, ◌&&◌, not, Bool, true, false, if◌then◌else◌, List, [], ◌∷◌, take, drop, find, Option, Some, None, is_some, refl, ap, sym, subst, ◌∙◌, arith}
 use Rattle.std.proofs.lemmas.List.{take-append-drop}
 use Rattle.leader1822.specs.Host.{Host, same_host}
-use Rattle.leader1822.proofs.lemmas.{same_host-true}
+use Rattle.leader1822.proofs.lemmas.{not_false, or_false, same_host-true}
 use Rattle.ncp_control.specs.Numbers.{is_receive_socket, is_send_socket}
 use Rattle.ncp_control.specs.declared.command.Command.{Command}
 use Rattle.host_pairs.specs.Asked.{passes}
@@ -34,7 +34,7 @@ use Rattle.world_keeps_pairing.proofs.lemmas.{send_odd}
 use Rattle.world_keeps_streams.specs.Calls.{called, owner_calls, parcel_calls, request_calls}
 use Rattle.world_keeps_streams.proofs.Calls.May.{AllMay, MayCall}
 use Rattle.world_keeps_streams.proofs.Calls.MayTurns.{said_may}
-use Rattle.world_keeps_streams.proofs.Calls.Moved.{not_first, true_is}
+use Rattle.world_keeps_streams.proofs.Calls.Moved.{not_first}
 
 -- ---- byte sizes
 
@@ -96,10 +96,6 @@ is_none : (o : Option Entry) → is_some o ≡ false → o ≡ None
 is_none None e = refl
 is_none (Some x) e = absurd (cc)
 
-neither : (a b : Bool) → (a || b) ≡ false → (a ≡ false) × (b ≡ false)
-neither true b e = absurd (cc)
-neither false b e = (refl, e)
-
 module _ (s : NcpState) (b : Host) where
   owner_may : (socket : ℕ) (o : Option (Host × Entry)) (k : Entry → Call) → AreInOrder s.peers → owner_of socket s.peers ≡ o
       → ((g : Host) (e : Entry) → o ≡ Some (g, e) → find (is_mine_on socket) (pair_with b s.peers).entries ≡ Some e → MayCall (k e) (pair_with b s.peers)) → AllMay (owner_calls b k (pair_with b s.peers) s.listening o)
@@ -112,7 +108,7 @@ module _ (s : NcpState) (b : Host) where
     by false t = tt
 
   open_parts : (others : Entry → Option NcpFault) (g : Host) (e : Entry) → on_open others (Some (g, e)) ≡ None → (is_open e ≡ true) × (others e ≡ None)
-  open_parts others g e h = let r : (not (is_open e) ≡ false) × (others e ≡ None) = not_first (not (is_open e)) _ _ h in (true_is (is_open e) r.0, r.1)
+  open_parts others g e h = let r : (not (is_open e) ≡ false) × (others e ≡ None) = not_first (not (is_open e)) _ _ h in (not_false (is_open e) r.0, r.1)
 
   if_same : (g : Host) (k : Call) → (b ≡ g → MayCall k (pair_with b s.peers)) → (c : Bool) → same_host b g ≡ c → AllMay (if c then called k (pair_with b s.peers) s.listening ∷ [] else [])
   if_same g k may true e = (may (same_host-true b g e), tt)
@@ -131,30 +127,30 @@ module _ (s : NcpState) (b : Host) where
   request_may (request.OpenSend peer own foreign size) order may =
       let first : (not (is_ready (pair_with peer s.peers).phase) ≡ false) × _ = not_first (not (is_ready (pair_with peer s.peers).phase)) _ _ may in
       let second : (not (is_send_socket own && is_receive_socket foreign) ≡ false) × _ = not_first (not (is_send_socket own && is_receive_socket foreign)) _ _ first.1 in
-      let kinds : (is_send_socket own ≡ true) × (is_receive_socket foreign ≡ true) = both (is_send_socket own) (is_receive_socket foreign) (true_is (is_send_socket own && is_receive_socket foreign) second.0) in
-      let free : is_some (entry_at own foreign (pair_with peer s.peers).entries) ≡ false = (neither (is_used s own) _ (not_first (is_taken s peer own foreign) _ _ second.1).0).1 in
+      let kinds : (is_send_socket own ≡ true) × (is_receive_socket foreign ≡ true) = both (is_send_socket own) (is_receive_socket foreign) (not_false (is_send_socket own && is_receive_socket foreign) second.0) in
+      let free : is_some (entry_at own foreign (pair_with peer s.peers).entries) ≡ false = (or_false (is_used s own) _ (not_first (is_taken s peer own foreign) _ _ second.1).0).1 in
       if_same peer (OpensSender own foreign size)
       (λ is. (kinds.0, kinds.1, subst (λ (h : Host). entry_at own foreign (pair_with h s.peers).entries ≡ None) (sym is) (is_none (entry_at own foreign (pair_with peer s.peers).entries) free))) (same_host b peer) refl
   request_may (request.OpenReceive peer own foreign) order may =
       let first : (not (is_ready (pair_with peer s.peers).phase) ≡ false) × _ = not_first (not (is_ready (pair_with peer s.peers).phase)) _ _ may in
       let second : (not (is_receive_socket own && is_send_socket foreign) ≡ false) × _ = not_first (not (is_receive_socket own && is_send_socket foreign)) _ _ first.1 in
-      let kinds : (is_receive_socket own ≡ true) × (is_send_socket foreign ≡ true) = both (is_receive_socket own) (is_send_socket foreign) (true_is (is_receive_socket own && is_send_socket foreign) second.0) in
-      let free : is_some (entry_at own foreign (pair_with peer s.peers).entries) ≡ false = (neither (is_used s own) _ (not_first (is_taken s peer own foreign) _ _ second.1).0).1 in
+      let kinds : (is_receive_socket own ≡ true) × (is_send_socket foreign ≡ true) = both (is_receive_socket own) (is_send_socket foreign) (not_false (is_receive_socket own && is_send_socket foreign) second.0) in
+      let free : is_some (entry_at own foreign (pair_with peer s.peers).entries) ≡ false = (or_false (is_used s own) _ (not_first (is_taken s peer own foreign) _ _ second.1).0).1 in
       if_same peer (OpensReceiver own foreign)
       (λ is. (kinds.0, kinds.1, subst (λ (h : Host). entry_at own foreign (pair_with h s.peers).entries ≡ None) (sym is) (is_none (entry_at own foreign (pair_with peer s.peers).entries) free))) (same_host b peer) refl
   request_may (request.Send socket bits) order may =
       let first : (not (is_send_socket socket) ≡ false) × _ = not_first (not (is_send_socket socket)) _ _ may in
-      owner_may socket (owner_of socket s.peers) (Gives socket bits) order refl (λ g e f found. (found, send_odd socket (true_is (is_send_socket socket) first.0)))
+      owner_may socket (owner_of socket s.peers) (Gives socket bits) order refl (λ g e f found. (found, send_odd socket (not_false (is_send_socket socket) first.0)))
   request_may (request.Grant socket messages bits) order may =
       let first : (not (is_receive_socket socket) ≡ false) × (on_open (grant_fault messages bits) (owner_of socket s.peers) ≡ None) = not_first (not (is_receive_socket socket)) _ _ may in
       owner_may socket (owner_of socket s.peers) (Grants socket messages bits) order refl
       (λ g e f found.
       let parts : (is_open e ≡ true) × (grant_fault messages bits e ≡ None) = open_parts (grant_fault messages bits) g e (subst (λ (o : Option (Host × Entry)). on_open (grant_fault messages bits) o ≡ None) f first.1) in
-      (found, true_is (is_receive_socket socket) first.0, parts.0, (not_first (passes e.allocation messages bits) _ _ (not_first (was_closed e) _ _ parts.1).1).0))
+      (found, not_false (is_receive_socket socket) first.0, parts.0, (not_first (passes e.allocation messages bits) _ _ (not_first (was_closed e) _ _ parts.1).1).0))
   request_may (request.AskBack socket messages bits) order may =
       let first : (not (is_receive_socket socket) ≡ false) × (on_open closing_fault (owner_of socket s.peers) ≡ None) = not_first (not (is_receive_socket socket)) _ _ may in
       owner_may socket (owner_of socket s.peers) (AsksBack socket messages bits) order refl
-      (λ g e f found. (found, (open_parts closing_fault g e (subst (λ (o : Option (Host × Entry)). on_open closing_fault o ≡ None) f first.1)).0, true_is (is_receive_socket socket) first.0))
+      (λ g e f found. (found, (open_parts closing_fault g e (subst (λ (o : Option (Host × Entry)). on_open closing_fault o ≡ None) f first.1)).0, not_false (is_receive_socket socket) first.0))
   request_may (request.Interrupt socket) order may = tt
   request_may (request.Close socket) order may = closes_may socket order (listens_on socket s.listening) may
   request_may (request.Echo peer octet) order may = tt

@@ -5,7 +5,7 @@ use Rattle.leader1822.specs.declared.address.Flow.{Flow}
 use Rattle.leader1822.specs.declared.crossing.Answer.{Answer}
 use Rattle.leader1822.specs.declared.crossing.Inbound.TheVariants as inbound
 use Rattle.leader1822.specs.declared.message.HostMessage.{HostMessage}
-use Rattle.leader1822.proofs.lemmas.{same_host-true}
+use Rattle.leader1822.proofs.lemmas.{not_false, same_host-true}
 use Rattle.ncp_control.specs.declared.command.Command.TheVariants as command
 use Rattle.host_pairs.specs.Asked.{closed_end, commanded, contacted, interrupt_of, receiver_requested, requested, with_end, with_more_bits}
 use Rattle.host_pairs.specs.Commands.{granted}
@@ -91,10 +91,6 @@ pub not_first : (test : Bool) (f : NcpFault) (others : Option NcpFault) → firs
 not_first true f others e = absurd (cc)
 not_first false f others e = (refl, e)
 
-pub true_is : (b : Bool) → not b ≡ false → b ≡ true
-true_is true e = refl
-true_is false e = absurd (cc)
-
 pub found_some : (P : Type 0) (test : Entry → Bool) (es : List Entry) (e : Entry) → find test es ≡ Some e → es ≡ [] → P
 found_some P test es e f none = absurd (let r : None ≡ Some e = rw none at f in cc)
 
@@ -176,10 +172,10 @@ module _ (s : NcpState) (b : Host) where
   request_moved (request.Listen socket size) order may = same_turned b (pair_with b s.peers) (pair_with b s.peers) refl (λ i. i)
   request_moved (request.OpenSend peer own foreign size) order may =
       peer_moved peer (requested (sending_end own foreign size) (command.Str own foreign size)) (λ h. called (OpensSender own foreign size) (pair_with h s.peers) s.listening ∷ [])
-      (ready_turned peer (OpensSender own foreign size) (requested (sending_end own foreign size) (command.Str own foreign size) (pair_with peer s.peers)) (true_is _ (not_first (not (is_ready (pair_with peer s.peers).phase)) _ _ may).0) refl refl)
+      (ready_turned peer (OpensSender own foreign size) (requested (sending_end own foreign size) (command.Str own foreign size) (pair_with peer s.peers)) (not_false _ (not_first (not (is_ready (pair_with peer s.peers).phase)) _ _ may).0) refl refl)
   request_moved (request.OpenReceive peer own foreign) order may =
       peer_moved peer (receiver_requested own foreign (free_link (pair_with peer s.peers).entries)) (λ h. called (OpensReceiver own foreign) (pair_with h s.peers) s.listening ∷ [])
-      (ready_turned peer (OpensReceiver own foreign) (receiver_requested own foreign (free_link (pair_with peer s.peers).entries) (pair_with peer s.peers)) (true_is _ (not_first (not (is_ready (pair_with peer s.peers).phase)) _ _ may).0)
+      (ready_turned peer (OpensReceiver own foreign) (receiver_requested own foreign (free_link (pair_with peer s.peers).entries) (pair_with peer s.peers)) (not_false _ (not_first (not (is_ready (pair_with peer s.peers).phase)) _ _ may).0)
       (receiver_phase own foreign (free_link (pair_with peer s.peers).entries) (pair_with peer s.peers)) refl)
   request_moved (request.Send socket bits) order may = owner_moved socket (owner_of socket s.peers) (λ e. with_end socket (with_more_bits bits)) (Gives socket bits) order refl (λ e q. refl) (λ g e q. refl)
   request_moved (request.Grant socket messages bits) order may =
@@ -190,4 +186,4 @@ module _ (s : NcpState) (b : Host) where
   request_moved (request.Close socket) order may = closed_moved socket order
   request_moved (request.Echo peer octet) order may =
       peer_quiet peer (commanded (command.Eco octet))
-      (same_turned peer (pair_with peer s.peers) _ refl (λ i j. clash _ (is_ready (pair_with peer s.peers).phase) (true_is _ (not_first (not (is_ready (pair_with peer s.peers).phase)) _ _ may).0) j))
+      (same_turned peer (pair_with peer s.peers) _ refl (λ i j. clash _ (is_ready (pair_with peer s.peers).phase) (not_false _ (not_first (not (is_ready (pair_with peer s.peers).phase)) _ _ may).0) j))

@@ -5,10 +5,10 @@ use Rattle.ncp_control.specs.Command.{IsCommand}
 use Rattle.ncp_control.specs.declared.command.Command.{Command}
 use Rattle.ncp_control.specs.declared.command.Command.TheVariants as command
 use Rattle.pairing_law.specs.Ends.{End}
-use Rattle.pairing_law.specs.Marks.{Ask, Close, Mark}
+use Rattle.pairing_law.specs.Marks.{Ask, Mark}
 use Rattle.host_keeps_pairing.specs.Ends.{Stand, Standing, at, standing}
 use Rattle.host_keeps_pairing.specs.Words.{mark_of, marks}
-use Rattle.host_keeps_pairing.proofs.lemmas.{Found, found_at, heads, marks_append, one_gone}
+use Rattle.host_keeps_pairing.proofs.lemmas.{Found, found_at, marks_append, one_gone}
 use Rattle.host_keeps_ranges.specs.Ranges.{AreCommands}
 use Rattle.host_pairs.specs.Desk.{DeskState, desk_of, listens_on}
 use Rattle.host_pairs.specs.Entries.{entry_at}
@@ -21,7 +21,7 @@ use Rattle.host_keeps_streams.specs.Histories as calls
 use Rattle.host_keeps_streams.specs.Histories.{AreAllowed, IsHistory, IsTelling, Says}
 use Rattle.net_sim.specs.declared.life.Life.{Life}
 use Rattle.net_sim.specs.Book.{Kept, all_told}
-use Rattle.world_keeps_lives.proofs.lemmas.{G, IsOfTwo, Place, Waits, all_go, all_told_append}
+use Rattle.world_keeps_lives.proofs.lemmas.{G, IsOfTwo, Place, Waits, all_go, all_told_append, unasked_by}
 use Rattle.world_keeps_streams.specs.Calls.{called, commands_said}
 use Rattle.world_keeps_streams.proofs.Deeds.Effects.{all_lives}
 use Rattle.world_keeps_streams.proofs.Deeds.Kinds.{says}
@@ -31,14 +31,6 @@ use Rattle.world_keeps_streams.proofs.Carried.Step.{AreOwned}
 use Rattle.world_keeps_streams.proofs.Carried.Calls.{CarryIn}
 use Rattle.world_keeps_streams.proofs.Carried.Owned.{IsAway, after_dropped, all_longer, owned_dropped, owned_of, told_lives}
 use Rattle.world_keeps_streams.proofs.Carried.Heard.{AllAllowed, call_more}
-
--- an end whose request waits hasn't asked
-unasked_by : (origin : ℕ → ℕ) (s : Standing) (rest : List Standing) (words : List Mark) (x : End) → Stand true origin 0 (s ∷ rest) (Ask 0 ∷ words) x → s.asked ≡ None
-unasked_by origin s [] words x h = elim (heads 0 s.mine s.asked s.closing (Ask 0) words h.1) [
-  | inl r ↦ r.unasked
-  | inr r ↦ absurd (let q : Ask 0 ≡ Close = r.mark in cc)
-]
-unasked_by origin s (t ∷ rest) words x h = absurd h
 
 unasked : (origin : ℕ → ℕ) (own foreign : ℕ) (entries : List Entry) (words : List Mark) (x : End) (e : Entry) → Stand true origin 0 (at own foreign entries) ((if own == own && foreign == foreign then Ask 0 ∷ [] else []) ++ words) x → entry_at own foreign entries ≡ Some e → e.asked ≡ None
 unasked origin own foreign entries words x e h f =

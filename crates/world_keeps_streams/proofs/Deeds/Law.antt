@@ -3,7 +3,6 @@ use Rattle.std.proofs.Common.{◌≡◌, ℕ, ◌*◌, ◌==◌, ◌&&◌, not, 
 use Rattle.std.proofs.lemmas.Bool.{eqb-true}
 use Rattle.std.specs.List.{list_any}
 use Rattle.ncp_control.specs.Allocation as counters
-use Rattle.ncp_control.specs.declared.allocation.Allocation.{Allocation}
 use Rattle.ncp_control.specs.DataHeader.{data_bits, header_of}
 use Rattle.ncp_control.specs.declared.command.Command.{Command}
 use Rattle.ncp_control.specs.declared.command.Command.TheVariants as command
@@ -13,9 +12,9 @@ use Rattle.stream_law.specs.Words.{for, covers, holds}
 use Rattle.stream_law.specs.Receivers as receivers
 use Rattle.stream_law.specs.Receivers.{Receiver}
 use Rattle.host_pairs.specs.Commands.{Found, Unconnected, Ending, Open, asked_on_link, asked_with_size, found_in}
-use Rattle.host_pairs.specs.Data.{data_of, is_acceptable, is_covered}
+use Rattle.host_pairs.specs.Data.{data_of, is_acceptable}
 use Rattle.host_pairs.specs.Desk.{desk_of, listener_on}
-use Rattle.host_pairs.specs.Entries.{changed_at, closed_by_partner, closed_when, entry_at, free_link, is_ending, is_open, is_receiving, is_size, must_close, receives_on, sends_on}
+use Rattle.host_pairs.specs.Entries.{changed_at, closed_by_partner, closed_when, entry_at, free_link, is_ending, is_open, is_receiving, must_close, receives_on, sends_on}
 use Rattle.host_pairs.specs.Pair.{PairState}
 use Rattle.host_pairs.specs.Parcels.{asked_at}
 use Rattle.host_pairs.specs.declared.entry.Closing.{Closing}
@@ -23,11 +22,11 @@ use Rattle.host_pairs.specs.declared.entry.Closing.TheVariants as closing
 use Rattle.host_pairs.specs.declared.entry.Entry.{Entry}
 use Rattle.host_pairs.specs.declared.listener.Listener.{Listener}
 use Rattle.host_keeps_streams.specs.Closings.{all_received, received_close, received_gone, received_open}
-use Rattle.host_keeps_streams.specs.Ends.{HasReceiver, IsReceiver}
+use Rattle.host_keeps_streams.specs.Ends.{HasReceiver}
 use Rattle.host_keeps_streams.specs.Histories.{Call, Hears, Takes, Says, Sends, Answered, OpensReceiver, OpensSender, Grants, AsksBack, Gives, Closes, received_at}
 use Rattle.host_keeps_streams.specs.Moves.{answers_str, asks_for, cls_received, closed_received, asked_received, data_received, on_link, received_by, received_out, str_received}
 use Rattle.host_keeps_streams.specs.Names.{named}
-use Rattle.host_keeps_streams.proofs.lemmas.{at_link, bits_there, find_passes, open_same, other_receives}
+use Rattle.host_keeps_streams.proofs.lemmas.{accept_same, at_link, back_same, bits_there, find_passes, other_receives}
 use Rattle.world_keeps_streams.proofs.Deeds.Effects as deeds
 use Rattle.world_keeps_streams.proofs.Deeds.Effects.{Deed, Receives, at_receiver}
 use Rattle.world_keeps_streams.proofs.Deeds.Kinds.{arrives, arrives_if, closings, deed_of, hears, matches, opens, opens_by, returns, says, sweeps}
@@ -223,18 +222,6 @@ module _ (name : ℕ → ℕ → ℕ) (link : ℕ) where
     by false true = v
     by false false = u
 
-  accept_same : (c : ℕ) (x : Entry) (r : Receiver) (h : DataHeader) (bits : List Bool) → IsReceiver c x r → is_open x ≡ true → length bits ≡ data_bits h
-      → (receivers.is_open c r && words.is_size h.size (r.size c) && covers r.allocation (length bits)) ≡ is_acceptable x h
-  accept_same c x r h bits i o e =
-      ap (λ (v : Bool). v && words.is_size h.size (r.size c) && covers r.allocation (length bits)) (open_same c x r i ∙ o)
-      ∙ ap (λ (z : Option ℕ). words.is_size h.size z && covers r.allocation (length bits)) i.size
-      ∙ ap (λ (a : Allocation). words.is_size h.size x.size && covers a (length bits)) i.allocation
-      ∙ ap (λ (n : ℕ). words.is_size h.size x.size && covers x.allocation n) e
-      ∙ size_same x.size where
-        size_same : (z : Option ℕ) → (words.is_size h.size z && covers x.allocation (data_bits h)) ≡ (is_size h.size z && is_covered (data_bits h) x.allocation)
-        size_same None = refl
-        size_same (Some z) = refl
-
   -- what the law has at a connection that is its end's
   for_same : {A : Type 0} (x : Entry) (f : ℕ → A) (g : A → A) → receives_on link x ≡ true → (k : ℕ)
       → for (named name x) (g (f (named name x))) f k ≡ (if at_receiver name link k x then g (f k) else f k)
@@ -268,9 +255,6 @@ module _ (name : ℕ → ℕ → ℕ) (link : ℕ) where
         (off_found (arrives text) (find (receives_on l) es) tt tt
         (λ x f. subst (λ (o : Option DataHeader). IsOff (arrives_if x text o)) (sym is)
         (off_if (is_acceptable x h) (deeds.Arrives x (data_of (data_bits h) text)) deeds.Nothing (other_receives link l e x (find_passes (receives_on l) x es f)) tt)))
-
-  back_same : (m n : ℕ) (c : ℕ) (x : Entry) (r : Receiver) → IsReceiver c x r → is_open x ≡ true → (receivers.is_open c r && holds r.allocation m n) ≡ (nat_le m x.allocation.messages && nat_le n x.allocation.bits)
-  back_same m n c x r i o = ap (λ (v : Bool). v && holds r.allocation m n) (open_same c x r i ∙ o) ∙ ap (λ (a : Allocation). holds a m n) i.allocation
 
   backs_by : (m n : ℕ) (r : Receiver) (x : Entry) → receives_on link x ≡ true → (v : Bool) → (nat_le m x.allocation.messages && nat_le n x.allocation.bits) ≡ v
       → (receivers.is_open (named name x) r && holds r.allocation m n) ≡ v

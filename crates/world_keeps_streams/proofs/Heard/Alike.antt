@@ -31,6 +31,7 @@ use Rattle.pairing_law.proofs.lemmas.{Fresh, begins_fresh, stays_same}
 use Rattle.reset_law.specs.Boxes.{Box, Waiting, boxes}
 use Rattle.reset_law.specs.Events.{Event, In, Message, Other, Reply, Reset}
 use Rattle.reset_law.specs.Stays as stay
+use Rattle.reset_law.proofs.lemmas.{stays_ready}
 use Rattle.sockets.specs.Accepting.{turn_of}
 use Rattle.sockets.specs.Pairs.{NcpState, owner_of, pair_with}
 use Rattle.sockets.specs.Sending.{next_in}
@@ -52,7 +53,7 @@ use Rattle.world_keeps_streams.proofs.Requests.Sides.{begins_same}
 use Rattle.world_keeps_streams.proofs.Heard.Lists.{heard_list, mark_heard}
 use Rattle.world_keeps_streams.proofs.Stays.Meets.{solo_there}
 use Rattle.world_keeps_streams.proofs.Stays.Quiet.{Asks, IsSolo, Quiet, Replied, Told}
-use Rattle.world_keeps_streams.proofs.Stays.Resets.{stays_on, stays_ready}
+use Rattle.world_keeps_streams.proofs.Stays.Resets.{stays_on}
 
 -- ---- lists of marks
 

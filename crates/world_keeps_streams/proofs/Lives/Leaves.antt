@@ -18,7 +18,7 @@ use Rattle.reset_law.specs.Pairs.{MaySend, pair_moved, pair}
 use Rattle.reset_law.specs.Phases as law
 use Rattle.reset_law.specs.Runs.{IsRun}
 use Rattle.reset_law.specs.Stays as stay
-use Rattle.reset_law.proofs.lemmas.{ready_phase}
+use Rattle.reset_law.proofs.lemmas.{ready_phase, stays_ready}
 use Rattle.sockets.specs.Pairs.{pair_with}
 use Rattle.sockets.specs.declared.request.Request.{Request}
 use Rattle.sockets.specs.declared.request.Request.TheVariants as request
@@ -43,7 +43,7 @@ use Rattle.world_keeps_streams.proofs.Lives.Lists.{IsOf, grown}
 use Rattle.world_keeps_streams.proofs.Books.Run.{below}
 use Rattle.world_keeps_streams.proofs.Requests.Sides.{Lawful, coupled_in, lives_in}
 use Rattle.world_keeps_streams.proofs.Books.Whole.{Away}
-use Rattle.world_keeps_streams.proofs.Stays.Resets.{leaves_by, stays_ready}
+use Rattle.world_keeps_streams.proofs.Stays.Resets.{leaves_by}
 
 -- ---- a host that doesn't stay has taken no request of the peer for any end
 

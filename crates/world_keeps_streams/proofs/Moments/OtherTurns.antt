@@ -15,13 +15,14 @@ use Rattle.host_pairs.specs.Data.{data_of, data_taken, is_acceptable}
 use Rattle.host_pairs.specs.Desk.{DeskState, desk_of, listens_on, command_queued}
 use Rattle.host_pairs.specs.Entries.{changed_at, entry_at, is_ending, is_mine_on, is_open, receives_on, sends_on}
 use Rattle.host_pairs.specs.Pair.{PairState}
-use Rattle.host_pairs.specs.Phases.{is_ready, reply_phase}
+use Rattle.host_pairs.specs.Phases.{is_ready}
 use Rattle.host_pairs.specs.Turn.{TurnState, answered_turn, command_taken, failed, failed_by, freed, if_ready, is_gone, message_taken, order_taken, orders_taken, reply_notices, reply_taken, reset_notices, reset_taken, settled_turn, with_desk}
 use Rattle.host_pairs.specs.declared.entry.Entry.{Entry}
 use Rattle.host_pairs.specs.declared.notice.Notice.{Notice}
 use Rattle.host_pairs.specs.declared.notice.Notice.TheVariants as notice
 use Rattle.host_pairs.specs.declared.phase.Phase.{Phase}
 use Rattle.host_pairs.specs.declared.phase.Phase.TheVariants as phase
+use Rattle.host_keeps_pairing.proofs.lemmas.{reply_idle}
 use Rattle.host_keeps_streams.specs.Histories.{Call, Hears, Takes}
 use Rattle.net_sim.specs.declared.life.Life.{Life}
 use Rattle.net_sim.specs.Book.{Kept, all_told}
@@ -190,13 +191,6 @@ module _ (a b p : Host) (off : same_host p b ≡ false) where
       (λ k. ((placed k).0, (placed k).1, good_reset a k (placed k).0 p κ t (placed k).2)),
       told_more t.notices (reset_notices p t.pair.phase) (named_alike a b p off (reset_notices p t.pair.phase) (reset_named t.pair.phase) (Lives t.notices)),
     )
-
-    reply_idle : (ph : Phase) → is_ready (reply_phase ph) ≡ false → is_ready ph ≡ false
-    reply_idle phase.Closed e = refl
-    reply_idle phase.Want e = refl
-    reply_idle (phase.Gone early) e = refl
-    reply_idle phase.Heard e = refl
-    reply_idle phase.Ready e = absurd (cc)
 
     reply_aside : (k : ℕ) (ph : Phase) → AreAside a k (reply_notices p ph)
     reply_aside k phase.Closed = tt

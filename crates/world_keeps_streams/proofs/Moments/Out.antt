@@ -29,10 +29,10 @@ use Rattle.net_sim.specs.Story.{Crossed, IsNext, IsStory, Moment, event_in, even
 use Rattle.net_sim.specs.Timeline.{IsTimeline, crossings_of}
 use Rattle.net_sim.specs.Told.{kept_in}
 use Rattle.net_sim.proofs.lemmas.{coupled}
-use Rattle.world_keeps_lives.proofs.lemmas.{GoodTurn, Place, commands_take, has_ends, held, waits}
+use Rattle.world_keeps_lives.proofs.lemmas.{GoodTurn, Place, has_ends, held, waits}
 use Rattle.world_keeps_pairing.specs.Free.{origin_in}
 use Rattle.world_keeps_pairing.specs.Steps.{keeps}
-use Rattle.world_keeps_pairing.proofs.lemmas.{programs_ranged, served_in}
+use Rattle.world_keeps_pairing.proofs.lemmas.{programs_ranged, served_in, some_commands}
 use Rattle.world_keeps_streams.specs.Calls.{called, calls_by, commands_said, own_calls, parcel_calls}
 use Rattle.world_keeps_streams.proofs.Calls.Chain.{chain, mail_below}
 use Rattle.world_keeps_streams.proofs.Deeds.Effects.{Among, all_lives}
@@ -151,7 +151,7 @@ module _ (number : ℕ → ℕ → ℕ → ℕ) (tells : IsTelling number) (host
         (subst (λ (ls : List Life). CarryIn a b number (Said count) (Gone (parcel.Commands count)).entries ls) (sym (ap (λ (ls : List Life). drop (since a b ms) ls) (told ∙ sym (told_lives a (Gone (parcel.Commands count)).notices (kept_in ms)))))
         (said_all number tells a b (kept_in ms) (since a b ms) (origin_in (crossings_of ms) a b) (places ms) (take count (pair_with b (program a ms).peers).queue) (drop count (pair_with b (program a ms).peers).queue)
         (pair_with b (program a ms).peers) (program a ms).listening [] (own_calls a b ms)
-        (commands_take count (pair_with b (program a ms).peers).queue (pair_range b (program a ms).peers (programs_ranged ms (served_in hosts ms time.1) a).pairs).commands)
+        (some_commands count (pair_with b (program a ms).peers).queue (pair_range b (program a ms).peers (programs_ranged ms (served_in hosts ms time.1) a).pairs).commands)
         (waits (origin_in (crossings_of ms) a b) (pair_with b (program a ms).peers) count (has_ends hosts ms addresses below time.1 a b)) placed (since_within a b ms) history may c)))) where
           all : calls_by a b (Crossed (crossing.Out m)) ms ++ own_calls a b ms ≡ Said count
           all =

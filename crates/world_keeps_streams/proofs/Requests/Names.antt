@@ -1,10 +1,10 @@
 -- A life's partner's request stays the same while more crosses; and two lives of one connection match.
-use Rattle.std.proofs.Common.{◌≡◌, inl, inr, ℕ, suc, true, false, List, [], ◌∷◌, ◌++◌, Option, Some, None, IsSome, refl, ap, sym, subst, ◌∙◌, arith}
+use Rattle.std.proofs.Common.{◌≡◌, ℕ, suc, true, false, List, [], ◌++◌, Option, Some, None, IsSome, refl, ap, sym, subst, ◌∙◌}
 use Rattle.std.specs.List.{Contains}
 use Rattle.leader1822.specs.Host.{Host}
 use Rattle.leader1822.specs.declared.crossing.Crossing.{Crossing}
 use Rattle.pairing_law.specs.Links.{events_at}
-use Rattle.pairing_law.specs.Partners.{IsIn, NoneOwns, OwnOnce}
+use Rattle.pairing_law.specs.Partners.{IsIn, OwnOnce}
 use Rattle.pairing_law.specs.Sides.{Life}
 use Rattle.pairing_law.proofs.lemmas.{run_at, safe_run}
 use Rattle.net_sim.specs.declared.life.Life as book
@@ -15,26 +15,8 @@ use Rattle.net_sim.proofs.lemmas.{Coupled}
 use Rattle.world_keeps_pairing.specs.Free.{law_events, origin_in, origin_or, place_or}
 use Rattle.world_keeps_pairing.specs.Lives.{life_of, openings, with_lives}
 use Rattle.world_keeps_pairing.specs.Steps.{steps}
-use Rattle.world_keeps_pairing.proofs.lemmas.{all_tied, are_origins, between_itself, by_sockets, in_among, life_matches, lives_among, partner_named, safe_partners, served_in, told_in}
+use Rattle.world_keeps_pairing.proofs.lemmas.{all_tied, are_origins, between_itself, by_sockets, in_among, life_matches, lives_among, one_own, partner_named, place_there, safe_partners, served_in, told_in}
 use Rattle.world_keeps_streams.proofs.Requests.Sides.{Lawful, Own, Heard, coupled_in, lives_in, same_request}
-
--- ---- an opening is known by its own request
-
-not_owned : (p : ℕ) (y : Life) (lives : List Life) → NoneOwns p lives → IsIn y lives → y.own ≡ p → ⊥
-not_owned p y [] none i e = i
-not_owned p y (v ∷ lives) none (inl i) e = none.0 (ap (λ (l : Life). l.own) (sym i) ∙ e)
-not_owned p y (v ∷ lives) none (inr i) e = not_owned p y lives none.1 i e
-
-one_own : (x y : Life) (lives : List Life) → OwnOnce lives → IsIn x lives → IsIn y lives → x.own ≡ y.own → x ≡ y
-one_own x y [] once i j e = absurd i
-one_own x y (v ∷ lives) once (inl i) (inl j) e = i ∙ sym j
-one_own x y (v ∷ lives) once (inl i) (inr j) e = absurd (not_owned v.own y lives once.0 j (sym e ∙ ap (λ (l : Life). l.own) i))
-one_own x y (v ∷ lives) once (inr i) (inl j) e = absurd (not_owned v.own x lives once.0 i (e ∙ ap (λ (l : Life). l.own) j))
-one_own x y (v ∷ lives) once (inr i) (inr j) e = one_own x y lives once.1 i j e
-
-place_there : (n : ℕ) (o : Option ℕ) → place_or (suc n) o ≡ n → o ≡ Some n
-place_there n None e = absurd (omega (arith, e))
-place_there n (Some k) e = ap (λ (j : ℕ). Some j) e
 
 some_place : (x : book.Life) (o : Option ℕ) → IsSome (named x o) → (p : ℕ) × (o ≡ Some p)
 some_place x None i = absurd (let none : false ≡ true = i in cc)

@@ -1,58 +1,20 @@
 -- A host that stays and owes an RRP has said nothing since its stay began; so a text fails only where its sender leaves.
-use Rattle.std.proofs.Common.{◌≡◌, ◌≢◌, ◌⊎◌, ℕ, Bool, true, false, not, ◌&&◌, List, [], ◌∷◌, Some, None, refl, ap, sym, ◌∙◌, inl, inr}
+use Rattle.std.proofs.Common.{◌≡◌, ◌⊎◌, ℕ, Bool, true, false, not, ◌&&◌, List, [], ◌∷◌, Some, refl, inl, inr}
 use Rattle.leader1822.specs.Host.{Host, same_host}
 use Rattle.leader1822.specs.declared.crossing.Answer.{Answer}
 use Rattle.leader1822.specs.declared.crossing.Answer.TheVariants as answer
 use Rattle.reset_law.specs.Phases.{Phase, Closed, Want, Gone, Heard, Ready, failed_phase}
-use Rattle.reset_law.specs.Events.{Message, Reset, Reply, Other, Event, Contact, Out, In, Told, Down, Up, Idle, Call, Send, Take, Hear, Begin, when, are, place}
-use Rattle.reset_law.specs.Boxes.{Box, Empty, Waiting, Put, Fetch, Clear, ClearAll, at_link, boxes}
-use Rattle.reset_law.specs.Pairs.{Plain, kind_of, Pair, MaySend, pair_moved, pair}
+use Rattle.reset_law.specs.Events.{Message, Reset, Reply, Other, Event, Contact, Out, In, Told, Down, Up, Idle, Take, Hear, when, are, place}
+use Rattle.reset_law.specs.Boxes.{Put, Fetch, Clear, ClearAll, boxes}
+use Rattle.reset_law.specs.Pairs.{Plain, Pair, MaySend, pair_moved, pair}
 use Rattle.reset_law.specs.Invariant.{kind_in}
 use Rattle.reset_law.specs.Runs.{IsRun}
 use Rattle.reset_law.specs.Stays.{is_ready, ready, begins, takes_reset, stays}
-use Rattle.reset_law.proofs.lemmas.{NoPlain, at, begin_quiet, carry, contradicts, plain_fetched, plain_if}
+use Rattle.reset_law.proofs.lemmas.{NoPlain, begin_quiet, carry, owed_begin, owed_call, owed_sent, owed_told, plain_cleared, plain_fetched, plain_if, plain_put, sends_signal}
 use Rattle.world_keeps_pairing.specs.Steps.{keeps}
 use Rattle.world_keeps_streams.proofs.Stays.Resets.{stays_on}
 
-plain_cleared : (bs : ℕ → Box) (l : ℕ) → NoPlain bs → NoPlain (at_link bs l Empty)
-plain_cleared bs l h k e = elim (at bs l Empty k) [
-  | inl t ↦ (let both : None ≡ Some Plain = ap kind_in (sym t.1) ∙ e in absurd (cc))
-  | inr t ↦ h k (ap kind_in (sym t.1) ∙ e)
-]
-
-plain_put : (bs : ℕ → Box) (l here : ℕ) (m : Message) → Some (kind_of m) ≢ Some Plain → NoPlain bs → NoPlain (at_link bs l (Waiting here m))
-plain_put bs l here m signal h k e = elim (at bs l (Waiting here m) k) [
-  | inl t ↦ signal (ap kind_in (sym t.1) ∙ e)
-  | inr t ↦ h k (ap kind_in (sym t.1) ∙ e)
-]
-
--- what a host that owes an RRP sends is no text
-sends_signal : (l : ℕ) (m : Message) (p : Pair) → p.owed ≡ true → MaySend p l m → Some (kind_of m) ≢ Some Plain
-sends_signal l Reset p owed may e = absurd (cc)
-sends_signal l Reply p owed may e = absurd (cc)
-sends_signal l (Other text) p owed may e = contradicts p.owed owed may.1
-
 -- ---- but for an RST that is taken nothing makes a host owe
-
-owed_call : (t : Bool) (p : Pair) → (pair_moved (when t Call) p).owed ≡ true → p.owed ≡ true
-owed_call true p e = e
-owed_call false p e = e
-
-owed_begin : (t : Bool) (p : Pair) → (pair_moved (when t Begin) p).owed ≡ true → p.owed ≡ true
-owed_begin true p e = absurd (cc)
-owed_begin false p e = e
-
-owed_sent : (t : Bool) (l : ℕ) (m : Message) (p : Pair) → (pair_moved (when t (Send l m)) p).owed ≡ true → p.owed ≡ true
-owed_sent true l Reset p e = e
-owed_sent true l Reply p e = absurd (cc)
-owed_sent true l (Other text) p e = e
-owed_sent false l m p e = e
-
-owed_told : (t : Bool) (l : ℕ) (k : Answer) (p : Pair) → (pair_moved (when t (Hear l k)) p).owed ≡ true → p.owed ≡ true
-owed_told true l answer.Rfnm p e = e
-owed_told true l answer.Dead p e = e
-owed_told true l answer.Incomplete p e = e
-owed_told false l k p e = e
 
 owed_taken : (t : Bool) (m : Message) (p : Pair) → (m ≡ Reset → t ≡ false) → (pair_moved (when t (Take m)) p).owed ≡ true → p.owed ≡ true
 owed_taken true Reset p none e = let no : true ≡ false = none refl in absurd (cc)
@@ -78,7 +40,7 @@ OwesSilent a b events = (pair a b events).owed ≡ true → NoPlain (boxes a b e
 owes_step : (hosts : List Host) (e : Event) (events : List Event) → IsRun hosts (e ∷ events) → (a b : Host) → takes_reset a b e ≡ false → OwesSilent a b events → OwesSilent a b (e ∷ events)
 owes_step hosts (Contact x y) events r a b none h owed = h (owed_call (are a b x y) (pair a b events) owed)
 owes_step hosts (Out x y l m) events r a b none h owed =
-    let old : (pair a b events).owed ≡ true = owed_sent (are a b x y) l m (pair a b events) owed in
+    let old : (pair a b events).owed ≡ true = (owed_sent (are a b x y) l m (pair a b events) owed).0 in
     plain_if (are a b x y) (Put l m) (place events) (boxes a b events)
     (λ e. plain_put (boxes a b events) l (place events) m (sends_signal l m (pair a b events) old (carry (λ v w. MaySend (pair v w events) l m) a b x y e r.1)) (h old)) (h old)
 owes_step hosts (In x y l m) events r a b none h owed =

@@ -19,8 +19,7 @@ use Rattle.host_keeps_streams.specs.Histories as calls
 use Rattle.host_keeps_streams.specs.Histories.{Call, Hears, Says, Answered, AreAllowed, IsAllowed, IsTelling, ends_by, ends_now, gone_by, gone_now, name_now, receiver_now, sender_now, received_at, sent_at, is_out}
 use Rattle.host_keeps_streams.specs.Moves.{closes}
 use Rattle.host_keeps_streams.proofs.lemmas.{name_of}
-use Rattle.pair_keeps_streams.proofs.lemmas.{Fetched, Free, IsAsking, IsPairedCall, IsPosted, IsWordless, Joint, Party, Post, Stepped, Steps, after, queue_by, sends, x_after, y_after}
-use Rattle.world_keeps_streams.proofs.Steps.Going.{receives_receiver, receives_sender, sends_receiver, sends_sender}
+use Rattle.pair_keeps_streams.proofs.lemmas.{Fetched, Free, IsAsking, IsPairedCall, IsPosted, IsWordless, Joint, Party, Post, Stepped, Steps, after, queue_by, receives_receiver, receives_sender, sends, sends_receiver, sends_sender, x_after, y_after}
 
 -- ---- such calls
 

@@ -9,16 +9,10 @@ use Rattle.reset_law.specs.Pairs.{Kind, Rst, Rrp, Plain, pair}
 use Rattle.reset_law.specs.Invariant.{kind_in, is_signal}
 use Rattle.reset_law.specs.Runs.{IsRun}
 use Rattle.reset_law.specs.Stays.{ready, joint, begins, takes_reset, stays}
-use Rattle.reset_law.proofs.lemmas.{NoPlain, alone_run, begin_quiet, contradicts, joint_stays, phase_ready, ready_phase, ready_up, sound_run}
-use Rattle.reset_law.proofs.lemmas.Stays as stays_proofs
+use Rattle.reset_law.proofs.lemmas.{NoPlain, alone_run, begin_quiet, contradicts, empty_kind, joint_stays, phase_ready, ready_phase, ready_up, sound_run, stays_ready}
 use Rattle.net_sim.specs.Projection.{Agrees}
 use Rattle.world_keeps_pairing.specs.Steps.{keeps}
 use Rattle.world_keeps_streams.proofs.Steps.Joined.{commands_in}
-
--- ---- who stays is ready
-
-pub stays_ready : (events : List Event) (a b : Host) → stays a b events ≡ true → ready a b events ≡ true
-stays_ready events a b s = stays_proofs.stays_ready events a b s
 
 -- who says something outside of a stay has a peer that isn't in one
 pub out_alone : (hosts : List Host) (a b : Host) (l : ℕ) (text : List Bool) (events : List Event) → IsRun hosts (Out a b l (Other text) ∷ events) → stays a b events ≡ false → stays b a events ≡ false
@@ -71,11 +65,6 @@ begins_stays a b e events begun = by (begins a b e events) begun where
   by false f = absurd (cc)
 
 -- ---- what is outstanding where a stay begins
-
-pub empty_kind : (x : Box) → kind_in x ≡ None → x ≡ Empty
-empty_kind Empty e = refl
-empty_kind (Waiting p m) e = absurd (cc)
-empty_kind (Taken p m) e = absurd (cc)
 
 no_commands : (x : Box) → kind_in x ≢ Some Plain → commands_in x ≡ []
 no_commands Empty none = refl

@@ -26,7 +26,7 @@ use Rattle.reset_law.specs.Invariant.{kind_in, is_signal}
 use Rattle.reset_law.specs.Pairs.{Plain, Pair, pair_moved, pair}
 use Rattle.reset_law.specs.Runs.{IsRun}
 use Rattle.reset_law.specs.Stays as stay
-use Rattle.reset_law.proofs.lemmas.{alone_run}
+use Rattle.reset_law.proofs.lemmas.{alone_run, stays_ready}
 use Rattle.sockets.specs.Accepting.{accepted, turn_of}
 use Rattle.sockets.specs.Pairs.{NcpState, opening_state, pair_with}
 use Rattle.sockets.proofs.lemmas.{answer_leaves}
@@ -38,7 +38,6 @@ use Rattle.world_keeps_streams.proofs.Steps.Going.{Goes, answered_here, elsewher
 use Rattle.world_keeps_streams.proofs.Steps.GoesOut.{IsCleared, box_is_free, out_cleared, ready_as, ready_phase}
 use Rattle.world_keeps_streams.proofs.Steps.Held.{Acted, Held, HereIn, act_by}
 use Rattle.world_keeps_streams.proofs.Steps.Joined.{commands_in, post_in}
-use Rattle.world_keeps_streams.proofs.Stays.Resets.{stays_ready}
 use Rattle.world_keeps_streams.proofs.Stays.Owing.{told_rfnm}
 
 kept_start : (t : Bool) (q : Pair) → (stay.is_ready (pair_moved (when t Begin) q).phase && not false) ≡ true → t ≡ false

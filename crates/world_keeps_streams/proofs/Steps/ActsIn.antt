@@ -29,6 +29,7 @@ use Rattle.reset_law.specs.Boxes.{Box, Waiting, Taken, Fetch, WaitsWith, fetched
 use Rattle.reset_law.specs.Events.{In, Message, Reset, Reply, Other, are, place, when}
 use Rattle.reset_law.specs.Runs.{IsRun}
 use Rattle.reset_law.specs.Stays as stay
+use Rattle.reset_law.proofs.lemmas.{stays_ready}
 use Rattle.sockets.specs.Accepting.{accepted, turn_of}
 use Rattle.sockets.specs.Pairs.{NcpState, pair_with}
 use Rattle.sockets.proofs.lemmas.{message_leaves}
@@ -44,7 +45,6 @@ use Rattle.world_keeps_streams.proofs.Steps.GoesOut.{ready_as}
 use Rattle.world_keeps_streams.proofs.Steps.Held.{Acted, Held, HereIn, act_by, acted_out, left_held, side}
 use Rattle.world_keeps_streams.proofs.Steps.Joined.{commands_in, commands_of_message, legal_in, post_in}
 use Rattle.world_keeps_streams.proofs.Calls.MayCalls.{MayCalls}
-use Rattle.world_keeps_streams.proofs.Stays.Resets.{stays_ready}
 
 pub taken_there : (s : NcpState) (m : HostMessage) (stamp : ℕ) → same_host s.own m.flow.destination ≡ true
     → pair_with m.flow.source (accepted s (inbound.Message m) stamp).0.peers ≡ (message_taken m.flow.source stamp m.flow.link.0 m.text (turn_of s m.flow.source)).pair

@@ -21,6 +21,7 @@ use Rattle.reset_law.specs.Events.{Message, Reset, Reply, Other, Out, Send, are,
 use Rattle.reset_law.specs.Pairs.{Pair, pair_moved, pair}
 use Rattle.reset_law.specs.Runs.{IsRun}
 use Rattle.reset_law.specs.Stays as stay
+use Rattle.reset_law.proofs.lemmas.{stays_ready}
 use Rattle.sockets.specs.Pairs.{NcpState, pair_with}
 use Rattle.sockets.specs.Sending.{next_in, offered}
 use Rattle.sockets.specs.declared.peer.Peer.{Peer}
@@ -37,7 +38,7 @@ use Rattle.world_keeps_streams.proofs.Steps.GoesSaid.{parcel_goes}
 use Rattle.world_keeps_streams.proofs.Steps.Held.{Acted, Held, HereIn, act_by, acted_out, side}
 use Rattle.world_keeps_streams.proofs.Steps.Joined.{commands_in, post_in}
 use Rattle.world_keeps_streams.proofs.Calls.MayCalls.{MayCalls}
-use Rattle.world_keeps_streams.proofs.Stays.Resets.{leaves_by, stays_ready}
+use Rattle.world_keeps_streams.proofs.Stays.Resets.{leaves_by}
 
 clash : (P : Type 0) (t : Bool) → t ≡ true → t ≡ false → P
 clash P true e f = absurd (let no : true ≡ false = f in cc)

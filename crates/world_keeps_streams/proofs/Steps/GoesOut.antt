@@ -12,23 +12,18 @@ use Rattle.reset_law.specs.Boxes.{Box, Empty, boxes}
 use Rattle.reset_law.specs.Pairs.{pair}
 use Rattle.reset_law.specs.Runs.{IsRun}
 use Rattle.reset_law.specs.Stays as stay
+use Rattle.reset_law.proofs.lemmas.{stays_ready}
 use Rattle.sockets.specs.Pairs.{pair_with}
-use Rattle.net_sim.specs.Projection.{Agrees, phase_of}
+use Rattle.net_sim.specs.Projection.{Agrees}
 use Rattle.net_sim.specs.Story.{Moment, IsStory, events_of, program}
 use Rattle.net_sim.proofs.lemmas.{story_agrees}
 use Rattle.pair_keeps_streams.proofs.lemmas.{Free, Joint, Lies, Party, Post, Steps}
+use Rattle.world_keeps_pairing.proofs.lemmas.{phases_same}
 use Rattle.world_keeps_streams.proofs.Steps.Held.{Acted, acted_out, side}
 use Rattle.world_keeps_streams.proofs.Steps.Joined.{commands_in, post_in}
-use Rattle.world_keeps_streams.proofs.Stays.Resets.{box_busy, stays_ready, up_ready}
+use Rattle.world_keeps_streams.proofs.Stays.Resets.{box_busy, up_ready}
 
 -- ---- phases
-
-phases_same : (ph : host.Phase) → stay.is_ready (phase_of ph) ≡ program_phases.is_ready ph
-phases_same phase.Closed = refl
-phases_same phase.Want = refl
-phases_same (phase.Gone early) = refl
-phases_same phase.Heard = refl
-phases_same phase.Ready = refl
 
 pub ready_as : (h p : Host) (moments : List Moment) → IsStory moments → stay.ready h p (events_of moments) ≡ program_phases.is_ready (pair_with p (program h moments).peers).phase
 ready_as h p moments story =

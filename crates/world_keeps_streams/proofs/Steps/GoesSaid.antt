@@ -24,8 +24,7 @@ use Rattle.reset_law.specs.Boxes.{Box, Empty, Waiting}
 use Rattle.reset_law.specs.Events.{Other}
 use Rattle.reset_law.specs.Pairs.{Pair}
 use Rattle.net_sim.specs.Projection.{Agrees, ArePlain, control_message, message_on}
-use Rattle.net_sim.proofs.lemmas.{says_reply}
-use Rattle.world_keeps_pairing.proofs.lemmas.{data_away}
+use Rattle.net_sim.proofs.lemmas.{data_away, plain_take, says_reply}
 use Rattle.host_keeps_pairing.proofs.lemmas.{eqb-sym}
 use Rattle.world_keeps_streams.specs.Calls.{called, commands_said, parcel_calls}
 use Rattle.world_keeps_streams.proofs.Steps.Going.{Goes, Here, bytes_here, no_bytes_here, renamed, says_here, stays_as, then_goes}
@@ -80,11 +79,6 @@ module _ (peer : Host) (stamp : ℕ) where
 legal_all : (cs : List Command) → legal_in (map Legal cs) ≡ cs
 legal_all [] = refl
 legal_all (c ∷ cs) = ap (λ (l : List Command). c ∷ l) (legal_all cs)
-
-plain_take : (n : ℕ) (cs : List Command) → ArePlain cs → ArePlain (take n cs)
-plain_take zero cs h = tt
-plain_take (suc n) [] h = tt
-plain_take (suc n) (c ∷ cs) h = (h.0, plain_take n cs h.1)
 
 plain_message : (text : List Bool) (cs : List Command) → ArePlain cs → control_message text (map Legal cs) ≡ Other text
 plain_message text [] h = refl

@@ -9,7 +9,7 @@ use Rattle.stream_law.specs.Receivers as receivers
 use Rattle.stream_law.specs.Receivers.{Receiver}
 use Rattle.stream_law.specs.Senders as senders
 use Rattle.stream_law.specs.Senders.{Sender}
-use Rattle.stream_law.specs.Streams.{Stream, Receives, Sends, happens}
+use Rattle.stream_law.specs.Streams.{Stream}
 use Rattle.host_pairs.specs.Data.{data_text}
 use Rattle.host_pairs.specs.Entries.{is_busy, sends_on}
 use Rattle.host_pairs.specs.Pair.{PairState}
@@ -21,25 +21,8 @@ use Rattle.host_keeps_streams.specs.Formed.{FindsFree, HasSaid}
 use Rattle.host_keeps_streams.specs.Histories as calls
 use Rattle.host_keeps_streams.specs.Histories.{Call, Hears, Takes, Says, Answered, AreAllowed, IsAllowed, IsTelling, ends_by, gone_by, gone_now, is_out, received_at, receiver_now, sender_now, sent_at}
 use Rattle.host_keeps_streams.proofs.lemmas.{name_of}
-use Rattle.pair_keeps_streams.proofs.lemmas.{Fetched, Free, IsAsking, IsFirst, IsHeard, IsPaired, IsPairedCall, IsWordless, Joint, Lies, Party, Post, Stepped, Steps, finds_free, queue_by, receives, sends, x_after, y_after}
+use Rattle.pair_keeps_streams.proofs.lemmas.{Fetched, Free, IsAsking, IsFirst, IsHeard, IsPaired, IsPairedCall, IsWordless, Joint, Lies, Party, Post, Stepped, Steps, finds_free, queue_by, receives, receives_receiver, receives_sender, sends, sends_receiver, sends_sender, x_after, y_after}
 use Rattle.world_keeps_streams.specs.Calls.{called}
-
--- moves upon a stream
-pub receives_receiver : (ms : List receivers.Move) (x : Stream) → (receives ms x).receiver ≡ all_received ms x.receiver
-receives_receiver [] x = refl
-receives_receiver (m ∷ ms) x = receives_receiver ms (happens (Receives m) x)
-
-pub receives_sender : (ms : List receivers.Move) (x : Stream) → (receives ms x).sender ≡ x.sender
-receives_sender [] x = refl
-receives_sender (m ∷ ms) x = receives_sender ms (happens (Receives m) x)
-
-pub sends_sender : (ms : List senders.Move) (y : Stream) → (sends ms y).sender ≡ all_sent ms y.sender
-sends_sender [] y = refl
-sends_sender (m ∷ ms) y = sends_sender ms (happens (Sends m) y)
-
-pub sends_receiver : (ms : List senders.Move) (y : Stream) → (sends ms y).receiver ≡ y.receiver
-sends_receiver [] y = refl
-sends_receiver (m ∷ ms) y = sends_receiver ms (happens (Sends m) y)
 
 -- a host that stays with a peer: what waits to be taken of it, and behind that what waits in its program
 abbrev pub standing : Host → List calls.Moment → PairState → List Command → Post → Party

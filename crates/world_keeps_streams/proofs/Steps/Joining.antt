@@ -15,11 +15,10 @@ use Rattle.net_sim.specs.Story.{Moment, events_of}
 use Rattle.world_keeps_streams.proofs.Steps.Held.{Acted, Held, side}
 use Rattle.world_keeps_streams.proofs.Steps.Joined.{Joined, Keeps, commands_in, party, post_in, numbered_by_peer, turned_tells}
 
--- a moment more, and what is kept of both streams
+-- a moment more, and what is kept of the first of the two streams; what is kept of the other is this of the two the other way round
 pub record Goes (a b : Host) (link : ℕ) (x : Moment) (moments : List Moment) (old : Joined a b link moments) : Type 0 where
   pub joined : Joined a b link (x ∷ moments)
   pub keeps_x : Keeps (stay.stays a b (events_of (x ∷ moments))) (stay.stays b a (events_of (x ∷ moments))) old.x joined.x
-  pub keeps_y : Keeps (stay.stays b a (events_of (x ∷ moments))) (stay.stays a b (events_of (x ∷ moments))) old.y joined.y
 
 -- the two seen the other way
 pub record Mirrors (link : ℕ) : Type 0 where
@@ -75,11 +74,5 @@ module _ (link : ℕ) (mirrors : Mirrors link) (a b : Host) (x : Moment) (moment
           returned = λ e c. ap (λ (r : Receiver). r.returned c) two.receiver ∙ one.returned e c;
           taken = λ e c. subst (λ (r : Receiver). IsFront (old.x.receiver.taken c) (r.taken c)) (sym two.receiver) (one.taken e c);
           sent = λ e c. two.said e c ∙ ap (λ (u : Sender). u.sent c) one.sender;
-        };
-        keeps_y = record {
-          granted = λ e c. two.granted e c ∙ ap (λ (r : Receiver). r.granted c) one.receiver;
-          returned = λ e c. two.returned e c ∙ ap (λ (r : Receiver). r.returned c) one.receiver;
-          taken = λ e c. subst (λ (r : Receiver). IsFront (r.taken c) (two.first.receiver.taken c)) one.receiver (two.taken e c);
-          sent = λ e c. ap (λ (u : Sender). u.sent c) two.sender ∙ one.said e c;
         };
       }

@@ -10,6 +10,7 @@ use Rattle.host_keeps_streams.proofs.lemmas.{Holds, holds_now, numbered_tells}
 use Rattle.stream_law.specs.Receivers.{Receiver}
 use Rattle.stream_law.specs.Senders.{Sender}
 use Rattle.stream_law.specs.Within.{AreGranted, IsFront, IsSafe}
+use Rattle.stream_law.proofs.lemmas.{safe_inv}
 use Rattle.reset_law.specs.Stays as stay
 use Rattle.sockets.specs.Pairs.{pair_with}
 use Rattle.net_sim.specs.Clean.{HaveAddresses}
@@ -18,7 +19,6 @@ use Rattle.net_sim.specs.Timeline.{IsTimeline, crossings_of}
 use Rattle.world_keeps_streams.specs.Calls.{own_calls, numbered_by_peer}
 use Rattle.world_keeps_streams.proofs.Calls.Allowed.{may_calls}
 use Rattle.world_keeps_streams.proofs.Calls.Chain.{Chained, chain}
-use Rattle.world_keeps_streams.proofs.Books.Streams.{safe_inv}
 use Rattle.world_keeps_streams.proofs.Steps.Joined.{Joined}
 use Rattle.world_keeps_streams.proofs.Steps.JoinedAll.{joined}
 use Rattle.world_keeps_streams.proofs.Calls.MayAll.{allowed}
