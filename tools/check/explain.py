@@ -8,12 +8,18 @@ Checks what ./explain tells.
 - Of a refused script line or topology it names a cause exactly if that model refuses it, and for inputs written
   here by hand it names the cause that is meant.
 - In networks with host programs it names a cause for each bad line, and has a sentence for each line that is printed there.
+- In subnets the independent model, from which the sentences about the inside are, prints what the program prints, event by
+  event; each event that prints nothing has a sentence. What it says of lines written here by hand is what is written beside
+  them. Where it names the next event that clears what stands in the way of a refused one, these events, one after the other, do.
+- What messages say is what is written here by hand, octets and words.
 - Without a kept program it tells the same.
-- README's table and chart of the first message are what it tells, and README's changes to the examples do what it says.
+- README's table and the charts in README and docs/ are what it tells and draws, and README's changes to the examples do what it
+  says.
 
 It takes the proved program, or where ./build has not made that the one that was built without proofs.
 """
 
+import copy
 import random
 import re
 from collections import Counter
@@ -21,7 +27,11 @@ from collections import Counter
 from parts import ROOT, loaded
 
 
-explain, model = loaded("explain"), loaded("tools/check/model.py")
+explain, model, subnets = loaded("explain"), loaded("tools/check/model.py"), loaded("tools/check/subnet.py")
+
+from decode import text_in_words  # noqa: E402 (explain has put tools/ on the path)
+from inside import Inside  # noqa: E402
+from script_rules import read_line  # noqa: E402
 
 # a script line, and words of the cause that is meant
 BAD_LINES = [
@@ -91,6 +101,48 @@ CHANGES = [
     ("a-message-given-up", lambda lines: [*lines[:23], *lines[24:]], 24, []),
     ("rerouted-over-a-triangle", lambda lines: [*lines[:-1], b"enddown 1 1", lines[-1]], 28, ["in 0/1 0/2 5 8"]),
     ("a-connection-and-its-book", lambda lines: [*lines[:16], *lines[17:]], 20, ["refused NoSuchSocket"]),
+]
+
+# an example, the line of an event in it, and words of what is told of the inside
+INSIDES = [
+    ("first-message", 13, "That of line 11 waits for host 0/2"),
+    ("no-route-is-dead-at-once", 13, "No IMP knows a way yet: put `calm 1` first."),
+    ("rerouted-over-a-triangle", 25, "IMP 1 sends message 0 of flow 0/1 0/2 5 to IMP 3 on line 1."),
+    ("an-rfnm-is-lost", 16, "Message 0 of flow 0/1 0/2 9 arrives at IMP 2 from IMP 1, over line 0. The message is whole and now waits for host 0/2."),
+    ("an-rfnm-is-lost", 17, "IMP 1 still holds it, not acknowledged, and sends it again at `resend 1`."),
+    ("an-rfnm-is-lost", 18, "It acknowledges message 0 of flow 0/1 0/2 9."),
+    ("an-rfnm-is-lost", 22, "Still alive: the RFNM for message 0 of flow 0/1 0/2 9, in channel 0 of line 0 at IMP 2"),
+    ("an-rfnm-is-lost", 26, "No way is left for the RFNM for message 0 of flow 0/1 0/2 9: dropped."),
+    ("a-repeat-is-taken-once", 18, "It came before, so it is only acknowledged again."),
+    ("abandon-frees-a-slot", 15, "The message is not whole yet: a slot holds 1 of its pieces."),
+    ("an-imp-comes-up-when-its-past-is-gone", 22, "IMP 2 still keeps the last numbers of flows from IMP 1. The next event to clear it: `forget 2 1`."),
+    ("arpanet-of-december-1969", 43, "No way leads from IMP 4 to IMP 1"),
+]
+
+# the link and the octets of a text, and what it says
+TEXTS = [
+    (0, "00080001000C", "RST"),
+    (0, "00080001000D", "RRP"),
+    (0, "0008000A0001000000100000002105", "RTS 16 from 33 on link 5"),
+    (0, "0008000A0002000000210000001008", "STR 33 to 16, bytes of 8 bits"),
+    (0, "0008000900030000001000000021", "CLS 16 33"),
+    (0, "0008000800040500020000" + "0064", "ALL 2 messages, 100 bits on link 5"),
+    (0, "000800040005054080", "GVB 64/128 of the messages, 128/128 of the bits on link 5"),
+    (0, "0008000800060500010000" + "0001", "RET 1 message, 1 bit on link 5"),
+    (0, "00080005000705" + "0805" + "00", "INR on link 5, INS on link 5, NOP"),
+    (0, "0008000400" + "0907" + "0A07", "ECO 7, ERP 7"),
+    (0, "0008000C00" + "0B04" + "0300000010000000" + "2100", "ERR 4 (no such socket), quoting CLS 16 33"),
+    (0, "0008000C00" + "0B01" + "0E" + "00" * 9, "ERR 1 (illegal code), quoting 0E000000000000000000"),
+    (0, "0008000200" + "0C0E", "RST, code 14, which no command has"),
+    (0, "0008000200" + "0101", "RTS cut off after 2 octets"),
+    (0, "0008000A00" + "01" + "00000011" + "00000022" + "01", "RTS 17 from 34 on link 1 (erroneous: 17 is a send socket; 34 is a receive socket; link 1 is never connected)"),
+    (0, "0007000100" + "0C", "malformed: commands in bytes of 7 bits, and they have to be of 8"),
+    (0, "0008007900" + "00" * 121, "malformed: 121 octets of commands, and there may be 120"),
+    (0, "00080000", "malformed: 32 bits, fewer than the 40 of a header"),
+    (2, "0008000700" + "48454C4C4F0D0A", "7 bytes of 8 bits: HELLO\\r\\n"),
+    (2, "0020000100" + "00000064", "1 byte of 32 bits: 00000064"),
+    (2, "0008000500" + "4142", "malformed: its header announces 5 bytes of 8 bits, and 16 bits follow"),
+    (2, "0008000000", "0 bytes of 8 bits"),
 ]
 
 # the example whose dialogue is told line by line
@@ -194,6 +246,83 @@ def check_refusals(program):
     print(f"check explain: {found} refused events of the examples, each with its cause")
 
 
+def check_inside(program, seeds):
+    """What is told of the inside of subnets: by hand, by the program's output, and by doing what it says."""
+    for name, number, words in INSIDES:
+        lines = list(explain.telling(example(name), explain.replay(example(name), program)[2]))
+        (at,) = [at for at, line in enumerate(lines) if re.match(f" *{number}  ", line)]
+        told = [line for line in lines[at + 1 :] if line.startswith("    ")][: next((k for k, line in enumerate(lines[at + 1 :]) if not line.startswith("    ")), None)]
+        same(words in " ".join(told), True, f"{name}, line {number}: {told}")
+    for link, octets, words in TEXTS:
+        same(text_in_words(link, bytes.fromhex(octets), 4 * len(octets)), words, f"the text {octets}")
+    found, cleared = Counter(), 0
+    for seed in range(seeds):
+        chance = subnets.Chance(seed, False)
+        lines, goes = [], Inside(("subnet", True, chance.imps, chance.ends))
+        chance.subnet = goes.subnet
+        outputs = []
+        for event in (it for it in (chance.event() for _ in range(60)) if it[0] != "alive"):
+            told = goes.happen(event)
+            lines.append(line_of(event))
+            outputs.append(told.printed)
+            found["silent"] += not told.printed
+            same(bool(told.sentences) or bool(told.printed) or event[0] == "calm", True, f"network {seed}: a sentence for {lines[-1]}")
+            if told.printed and told.printed[-1].startswith("refused "):
+                found[told.printed[-1]] += 1
+                same(bool(told.sentences), True, f"network {seed}: a sentence for {lines[-1]}, {told.printed}")
+                cleared += clears(goes, event, told)
+        given = explain.Input("\n".join([model.spelled(("subnet", True, chance.imps, chance.ends)), "%", *lines]).encode())
+        same([printed for _, _, printed in explain.replay(given, program)[2]], outputs, f"network {seed}")
+    wanted = {"refused " + it for it in ("NoSuch", "IsDown", "IsUp", "StillAlive", "Blocked", "NotOutstanding")}
+    same(wanted - {*found}, set(), "refusals that come about")
+    print(f"check explain: {found.total()} events in subnets that print nothing or are refused, each with sentences; {cleared} refused ones cleared as they say")
+
+
+def clears(goes, event, told):
+    """Does what the sentences about a refused event say, again and again, until it is refused for this cause no more."""
+    refusal = told.printed[-1]
+    if refusal.split(" ")[1] not in ("StillAlive", "Unsettled", "Blocked", "NoRoom"):
+        return 0
+    goes = copy.deepcopy(goes)
+    for _ in range(400):
+        named = re.findall("`([^`]*)`", " ".join(told.sentences))
+        same(bool(named), True, f"an event that clears {line_of(event)}: {told.sentences}")
+        done = goes.happen(read_line(named[-1]))
+        same([it for it in done.printed if it.startswith("refused ")], [], f"the event {named[-1]}, which is named for {line_of(event)}")
+        told = goes.happen(event)
+        if told.printed[-1:] != [refusal]:
+            return 1
+    raise Wrong(f"{line_of(event)} stays {refusal} after 400 events")
+
+
+def line_of(event):
+    """An event as a script line."""
+    kind, *parts = event
+    words = [kind]
+    for part in parts:
+        if isinstance(part, tuple):
+            words.append(model.spell_flow(part) if len(part) == 3 else f"{part[0]}/{part[1]}")
+        elif kind == "out":
+            digits = f"{int(part.ljust(-(-len(part) // 8) * 8, '0'), 2):0{2 * -(-len(part) // 8)}X}" if part else "-"
+            words.append(f"{len(part)} {digits}")
+        else:
+            words.append(str(part))
+    return " ".join(words)
+
+
+def check_full_store(program):
+    """An IMP whose store is full refuses, and says what makes room."""
+    script = ["calm 1", *(f"out 0/1 0/2 {link} 8063 {'00' * 1008}" for link in range(2, 7))]
+    network = ("subnet", True, [(1, 1), (2, 1)], [(1, 2)])
+    goes = Inside(network)
+    told = [goes.happen(read_line(it)) for it in script]
+    same(told[-1].printed, ["refused NoRoom"], "a fifth message of eight packets")
+    same("IMP 1 holds 32 packets in its store and channels, 32 at most, and the message has 8." in told[-1].sentences, True, told[-1].sentences)
+    clears(goes, read_line(script[-1]), told[-1])
+    given = explain.Input("\n".join([model.spelled(network), "%", *script]).encode())
+    same([printed for _, _, printed in explain.replay(given, program)[2]], [it.printed for it in told], "a full store")
+
+
 def check_causes(program, seeds):
     """A cause is named exactly where the independent model refuses, and the one that is meant."""
     for line, words in BAD_LINES:
@@ -272,6 +401,11 @@ def check_readme(program):
     same(rows, [(" ".join(words), printed) for _, words, printed in told], "README's table of the first message")
     with open(f"{ROOT}/docs/program.md", encoding="utf-8") as file:
         same(f"```mermaid\n{explain.chart(given, told)}\n```" in file.read(), True, f"the chart in docs/program.md is not\n{explain.chart(given, told)}")
+    for page, name in (("README.md", DIALOGUE), ("docs/lessons.md", "lo-of-login")):
+        drawn = explain.short_chart(example(name), explain.replay(example(name), program)[2])
+        with open(f"{ROOT}/{page}", encoding="utf-8") as file:
+            text = file.read()
+        same((f"```mermaid\n{drawn}\n```" in text, f"`./explain --chart --short < examples/{name}`" in text), (True, True), f"the chart in {page} is not\n{drawn}")
     with open(f"{ROOT}/docs/lessons.md", encoding="utf-8") as file:
         check_dialogue(program, table(file.read(), "Script line | Printed, among other lines | What happened"))
     same(re.findall(r"^- \[(.*)\]\(examples/", readme, re.MULTILINE), [*(name for name, *_ in CHANGES), DIALOGUE], "README's changes to the examples")
@@ -308,6 +442,8 @@ def main():
     try:
         check_ties(program, 60)
         check_refusals(program)
+        check_inside(program, 60)
+        check_full_store(program)
         check_causes(program, 400)
         check_worlds(100)
         check_readme(program)

@@ -1,0 +1,44 @@
+"""The independent model beside the program: what it adds to the lines that the program prints."""
+
+import sys
+
+from decode import raw_text_in_words, text_in_words
+from inside import Inside, TooLong
+from script_rules import read_line
+
+
+class Said:
+    """What the model adds to an event: for each printed line what its message says, and sentences about the inside."""
+
+    def __init__(self, printed, texts=None, sentences=()):
+        self.texts, self.sentences = texts or [""] * len(printed), " ".join(sentences)
+
+
+def said(network, told):
+    """What the model adds to each event. From an event on for which it prints other lines it adds nothing."""
+    model, every = Inside(network), []
+    for number, words, printed in told:
+        found = found_of(model, number, words, printed, network[1]) if model else None
+        model = model if found else None
+        every.append(Said(printed, [what_it_says(it, line, network[1]) for it, line in zip(found.texts, printed)], found.sentences) if found else Said(printed))
+    return every
+
+
+def found_of(model, number, words, printed, raw):
+    """What the model tells of an event; None where it prints other lines than the program did, or can't follow."""
+    try:
+        found = model.happen(read_line(" ".join(words), raw))
+    except TooLong:
+        print(f"explain: from line {number} on there are too many rounds for the independent model; nothing is told of the inside there", file=sys.stderr)
+        return None
+    if found.printed != printed:
+        print(f"explain: the independent model prints other lines at line {number}; nothing is told of the inside from there on", file=sys.stderr)
+        return None
+    return found
+
+
+def what_it_says(text, line, raw):
+    """What a message says, in words; nothing for a line without a message."""
+    if text is None:
+        return ""
+    return (raw_text_in_words(*text) if text[1] else "") if raw else text_in_words(int(line.split(" ")[3]), *text)

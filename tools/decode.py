@@ -1,0 +1,139 @@
+"""What the text of a host's message says, in words.
+
+`text_in_words` reads a text as hosts with programs read it: a header, then commands on link 0 and bytes of data on every
+other link. `raw_text_in_words` is for raw networks, where a script sends what it likes. Header and commands are split by
+the independent model of a host's program, so that one place alone knows their forms.
+"""
+
+from host_rules import ALL, CLS, CONTROL_TEXT, ECO, ERP, ERR, GVB, HEADER, INR, INS, LENGTHS, LINKS, NOP, RET, RRP, RST, RTS, STR
+from host_rules import bits_of, read_numbers, split
+from imp_rules import octets as octets_of
+
+NAMES = {
+    NOP: "NOP", RTS: "RTS", STR: "STR", CLS: "CLS", ALL: "ALL", GVB: "GVB", RET: "RET",
+    INR: "INR", INS: "INS", ECO: "ECO", ERP: "ERP", ERR: "ERR", RST: "RST", RRP: "RRP",
+}  # fmt: skip
+ERRORS = {1: "illegal code", 2: "short", 3: "erroneous", 4: "no such socket", 5: "link not connected"}
+SHOWN = 60  # so many characters or hexadecimal digits of data are shown
+
+
+def count(number, noun):
+    return f"{number} {noun}" if number == 1 else f"{number} {noun}s"
+
+
+# ---- whole texts
+
+
+def text_in_words(link, octets, bits):
+    """What a text of so many bits says, which lies in these octets and came on this link."""
+    text = bits_of(octets)[:bits]
+    parts = split(text)
+    if parts is None:
+        return malformed(text)
+    size, number, following = parts
+    if link != 0:
+        return data_in_words(size, number, following[: size * number])
+    if size != 8:
+        return f"malformed: commands in bytes of {count(size, 'bit')}, and they have to be of 8"
+    if number > CONTROL_TEXT:
+        return f"malformed: {number} octets of commands, and there may be {CONTROL_TEXT}"
+    return ", ".join(commands_in_words(octets_of(following[: 8 * number]))) or "no commands"
+
+
+def malformed(text):
+    """Why a text has no header, or ends before what its header announces."""
+    if len(text) < HEADER:
+        return f"malformed: {count(len(text), 'bit')}, fewer than the {HEADER} of a header"
+    size, number = int(text[8:16], 2), int(text[16:32], 2)
+    left = count(len(text) - HEADER, "bit")
+    return f"malformed: its header announces {bytes_in_words(size, number)}, and {left} follow"
+
+
+def raw_text_in_words(octets, bits):
+    """What a text of so many bits holds, where nothing is known of its form."""
+    return shown(octets, bits) if bits else "nothing"
+
+
+# ---- data
+
+
+def bytes_in_words(size, number):
+    return f"{count(number, 'byte')} of {count(size, 'bit')}"
+
+
+def data_in_words(size, number, data):
+    """The bytes behind the header of a data message."""
+    told = bytes_in_words(size, number)
+    return f"{told}: {shown(octets_of(data), len(data))}" if data else told
+
+
+def shown(octets, bits, most=SHOWN):
+    """Octets as text where they are text, else in hexadecimal digits; the end is left out where there is much."""
+    is_text = bits % 8 == 0 and all(32 <= it <= 126 or it in b"\t\r\n" for it in octets)
+    words = "".join(ESCAPED.get(it, chr(it)) for it in octets) if is_text else octets.hex().upper()
+    return words if len(words) <= most else f"{words[:most]}.."
+
+
+ESCAPED = {9: "\\t", 10: "\\n", 13: "\\r", 92: "\\\\"}
+
+
+# ---- commands
+
+
+def commands_in_words(octets):
+    """The commands in a control text, each in words. The last tells of octets that are no command."""
+    told = []
+    while octets:
+        length = LENGTHS.get(octets[0])
+        if length is None:
+            return [*told, f"code {octets[0]}, which no command has"]
+        if len(octets) < length:
+            return [*told, f"{NAMES[octets[0]]} cut off after {count(len(octets), 'octet')}"]
+        told.append(command_in_words(octets[:length]))
+        octets = octets[length:]
+    return told
+
+
+def command_in_words(command):
+    """A whole command. Of one with erroneous parameters its faults are told too."""
+    code, name = command[0], NAMES[command[0]]
+    if code in (RTS, STR):
+        return request_in_words(code, *read_numbers(command, 4, 4, 1))
+    if code == CLS:
+        own, foreign = read_numbers(command, 4, 4)
+        return f"CLS {own} {foreign}"
+    if code in (ALL, RET):
+        link, messages, bits = read_numbers(command, 1, 2, 4)
+        return f"{name} {count(messages, 'message')}, {count(bits, 'bit')} on link {link}"
+    if code == GVB:
+        link, messages, bits = read_numbers(command, 1, 1, 1)
+        return f"GVB {messages}/128 of the messages, {bits}/128 of the bits on link {link}"
+    if code in (INR, INS):
+        return f"{name} on link {command[1]}"
+    if code in (ECO, ERP):
+        return f"{name} {command[1]}"
+    return error_in_words(command[1], command[2:]) if code == ERR else name
+
+
+def request_in_words(code, own, foreign, last):
+    """An RTS or STR, whose first socket is its sender's own."""
+    if code == RTS:
+        told = f"RTS {own} from {foreign} on link {last}"
+        faults = parities(own, foreign) + ([] if last in LINKS else [f"link {last} is never connected"])
+    else:
+        told = f"STR {own} to {foreign}, bytes of {count(last, 'bit')}"
+        faults = parities(foreign, own) + ([] if last else ["bytes have a bit at least"])
+    return f"{told} (erroneous: {'; '.join(faults)})" if faults else told
+
+
+def parities(receive, send):
+    """What is wrong with a receive socket and a send socket."""
+    return [f"{receive} is a send socket"] * (receive % 2) + [f"{send} is a receive socket"] * (1 - send % 2)
+
+
+def error_in_words(kind, quoted):
+    """An ERR: the command that it quotes, or the octets where they are none."""
+    meaning = f" ({ERRORS[kind]})" if kind in ERRORS else ""
+    length = LENGTHS.get(quoted[0], len(quoted) + 1)
+    is_command = quoted[0] != NOP and length <= len(quoted) and not any(quoted[length:])
+    return f"ERR {kind}{meaning}, quoting {command_in_words(quoted[:length]) if is_command else quoted.hex().upper()}"
