@@ -70,6 +70,14 @@ function legend(data) {
   entry("way", data.plain ? "message waits" : "message in transit");
   entry("answer", "taken or given up, answer not yet here");
   entry("down", "down");
+  if (data.inside) {
+    for (const [cls, text] of [["data", "packet of a message"], ["rfnm", "RFNM"], ["dead", "Dead"], ["routes", "distances, acknowledgement"]]) {
+      const part = el("span", "", text), sign = draw(part, "svg", { width: 13, height: 10, viewBox: "-6.5 -5 13 10" });
+      draw(sign, "path", { class: `frame ${cls}`, d: FRAME_SHAPE });
+      part.prepend(sign);
+      it.append(part);
+    }
+  }
   return it;
 }
 
