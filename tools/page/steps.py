@@ -82,6 +82,8 @@ def replayed(explain, given, program):
     head = given.topology() + b"\n%\n" if given.marker is not None else b"%\n"
     lines = [line for *_, line in events]
     inputs = [given.octets, *(head + b"".join(it + b"\n" for it in some) for some in (lines, marked(lines)))]
+    if len(inputs[0]) <= explain.MOST_OCTETS < len(inputs[2]):
+        raise explain.CannotTell("with its calms cut and a mark behind each event, the input is longer than the program reads")
     run = explain.answers(program, inputs) if program else explain.answers_without_proofs(inputs)
     (status, whole, said), (_, parts, _), (_, apart, _) = run
     if status != 0:
