@@ -155,7 +155,8 @@ def steps_of(events, along=None):
         words = ["calm", "1"] if place else words
         if place and not printed and last and last.number == number and last.printed is None:
             last.rounds = (last.rounds[0], place)
-            last.told = last.told[:-1] + told  # the last sentence is of the frames that are live then
+            # the last sentence is of the frames that are live then, and one before it of ways that have become known
+            last.told = told if len(told) > 1 else last.told[:-1] + told
             continue
         for line in printed or [None]:
             steps.append(Step(number, words, (place, place), line, number != seen, told=told))
