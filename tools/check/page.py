@@ -1,5 +1,4 @@
-#!/usr/bin/env python3
-"""Checks the page of a replay (./explain --page): ./check-page [--browser]
+"""The page of a replay: its state, rows, bars, map and size, and with --browser what it does in Chromium (minutes).
 
 Without a browser, for each example and for inputs made by chance:
 - the state that is folded from printed lines is that of the independent model in Python, after each event;
@@ -22,12 +21,7 @@ import subprocess
 import sys
 import tempfile
 
-ROOT = os.path.dirname(os.path.realpath(__file__))
-sys.dont_write_bytecode = True
-sys.path.insert(0, f"{ROOT}/tools")
-
-
-from parts import loaded  # noqa: E402
+from parts import ROOT, loaded
 
 explain, model = loaded("explain"), loaded("tools/check/model.py")
 
@@ -127,7 +121,7 @@ def check_chance(seeds):
                 place.happen(*event)
                 events.append((number, 0, line.split(" "), place.printed[before:]))
         count += check_fold(network, events, f"input {seed}")
-    print(f"check-page: the folded state is the model's after {count} events of inputs by chance")
+    print(f"check page: the folded state is the model's after {count} events of inputs by chance")
 
 
 # ---- examples
@@ -189,7 +183,7 @@ def check_examples(program):
     for name, given, lines in examples():
         found, number = check_example(program, name, given, lines)
         sizes, count, names = sizes + found, max(count, number), names + 1
-    print(f"check-page: {names} examples, {len(sizes)} pages, the largest of {max(sizes)} octets, the longest of {count} steps")
+    print(f"check page: {names} examples, {len(sizes)} pages, the largest of {max(sizes)} octets, the longest of {count} steps")
 
 
 def example(name):
@@ -220,7 +214,7 @@ def check_maps(seeds):
         count = 16 if seed < 3 else chance.randrange(1, 17)
         network = some_net(chance, count, 40 if seed < 3 else chance.randrange(41))
         same(layout.placed(network).overlapping(), [], f"map {seed}: signs that overlap")
-    print(f"check-page: no signs overlap on the maps of {seeds} networks by chance")
+    print(f"check page: no signs overlap on the maps of {seeds} networks by chance")
 
 
 def large():
@@ -262,7 +256,7 @@ def check_stops(program):
     number, place, words, printed = next(it for it in events if it[3])
     wrong = [(number, place, words, [*printed, "in 0/1 0/2 5 8"]) if it[3] is printed else it for it in events]
     expect_differs(lambda: steps.steps_within(wrong, within.Within(network)), "a line that the model does not print")
-    print("check-page: a book and a model that differ stop the page")
+    print("check page: a book and a model that differ stop the page")
 
 
 def expect_differs(call, what):
@@ -288,7 +282,7 @@ def check_pairs(program):
         same({*shown} - {0}, {*range(1, len(before["steps"]) + 1)}, "all steps of a script beside another")
     differ = [row for row in left["rows"] if row[4:]]
     same(len(differ) > 0, True, "rows that differ are marked")
-    print("check-page: two scripts beside each other keep their rows and steps")
+    print("check page: two scripts beside each other keep their rows and steps")
 
 
 # ---- in a browser
@@ -324,7 +318,7 @@ def check_browser(program):
     """Tries pages in Chromium, where there is one; then with planted faults."""
     command = browser()
     if command is None:
-        print("check-page: there is no Chromium here, so no page was tried in a browser")
+        print("check page: there is no Chromium here, so no page was tried in a browser")
         return
     with tempfile.TemporaryDirectory() as folder:
         count = 0
@@ -345,16 +339,16 @@ def check_browser(program):
         for what, right, planted, meant in FAULTS:
             wrong, _ = tried(command, folder, many if "follow" in what else text, (right, planted))
             same(any(meant in it for it in wrong), True, f"the planted fault is not found: {what}; found {wrong}")
-        print(f"check-page: {len(IN_BROWSER) + 2} pages in {os.path.basename(command)}, {count + number} steps forward and back; {len(FAULTS)} planted faults found")
+        print(f"check page: {len(IN_BROWSER) + 2} pages in {os.path.basename(command)}, {count + number} steps forward and back; {len(FAULTS)} planted faults found")
 
 
 def main():
     if sys.argv[1:] not in ([], ["--browser"]):
-        print("usage: ./check-page [--browser]", file=sys.stderr)
+        print("usage: ./check page [--browser]", file=sys.stderr)
         return 1
     program = explain.kept_program()
     if not program:
-        print("check-page: there is no program of these sources: ./build makes it")
+        print("check page: there is no program of these sources: ./build makes it")
         return 1
     try:
         if sys.argv[1:]:
@@ -366,10 +360,7 @@ def main():
             check_stops(program)
             check_pairs(program)
     except (Wrong, steps.Differs) as what:
-        print(f"check-page: {what}")
+        print(f"check page: {what}")
         return 1
     return 0
 
-
-if __name__ == "__main__":
-    sys.exit(main())
