@@ -98,7 +98,7 @@ REFUSALS = [
 # an example, the change that README proposes, the line that is then to be seen, and what it prints
 CHANGES = [
     ("first-message", lambda lines: [*lines[:12], *lines[13:], lines[12]], 17, ["out 0/1 0/2 5 8"]),
-    ("a-message-given-up", lambda lines: [*lines[:23], *lines[24:]], 24, []),
+    ("a-message-given-up", lambda lines: [*lines[:23], *lines[24:], b"take 0/1"], 25, ["answer incomplete 0/1 0/2 5"]),
     ("rerouted-over-a-triangle", lambda lines: [*lines[:-1], b"enddown 1 1", lines[-1]], 28, ["in 0/1 0/2 5 8"]),
     ("a-connection-and-its-book", lambda lines: [*lines[:16], *lines[17:]], 20, ["refused NoSuchSocket"]),
 ]

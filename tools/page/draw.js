@@ -68,7 +68,7 @@ function makeSheet(data, place, goTo) {
     sheet.xs = data.lanes.map((_, at) => first + gap * at);
     sheet.room = room;
     laneHeads.replaceChildren();
-    const inner = el("div", "lane-heads");
+    const inner = el("div", gap && gap < 46 ? "lane-heads tight" : "lane-heads");
     data.lanes.forEach((host, at) => {
       const head = el("b", "", host);
       head.style.left = `${sheet.xs[at]}px`;

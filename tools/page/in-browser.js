@@ -16,7 +16,7 @@
         if (value === "") delete state[name]; else state[name] = value;
       }
     };
-    const spelled = () => Object.keys(state).sort().map((name) => `${name}=${state[name]}`).join(";");
+    const spelled = () => Object.keys(state).map((name) => `${name}=${state[name]}`).sort().join(";");
     put(data.begin, 0);
     found.push(spelled());
     for (const step of data.steps) { put(step, 5); found.push(spelled()); }
@@ -47,6 +47,8 @@
       const row = view.sheet.rowElements[data.steps[own - 1][0]].getBoundingClientRect();
       const band = view.sheet.scroll.querySelector(".band").getBoundingClientRect();
       if (Math.abs(row.top - band.top) > 1.5) say(`at step ${step} another row is marked`);
+      const mark = data.marks.find((it) => it[0] === data.steps[own - 1][0]), { xs, shift, room: wide } = view.sheet;
+      if (mark && (xs[mark[1]] < shift || xs[mark[1]] > shift + wide)) say(`at step ${step} the lane of its host is out of sight`);
       const room = view.sheet.scroll.getBoundingClientRect();
       if (band.bottom < room.top || band.top > room.bottom) say(`at step ${step} the marked row is out of sight`);
     });

@@ -130,14 +130,13 @@ def heading(given, name):
 
 
 def title_of(name, comments):
-    """A title from a file's name. A word that the comments write with capitals alone has them in the title too."""
-    said = {}
-    for word in WORD.findall(comments):
-        said.setdefault(word.lower(), set()).add(word)
+    """A title from a file's name. A word that the comments write in capitals, or with one within a sentence, has them in the
+    title too."""
+    capitals = {it.lower(): it for it in re.findall(r"\b[A-Z]{2,}\b", comments)}
+    names = {it.lower(): it for it in re.findall(r"(?<=[a-z,] )[A-Z][a-z]+", comments)}
 
     def spelled(word):
-        ways = said.get(word.lower(), set())
-        return min(ways) if len(ways) == 1 and not min(ways).islower() and len(word) > 3 else word
+        return {**names, **capitals}.get(word.lower(), word)
 
     title = WORD.sub(lambda it: spelled(it[0]), re.sub(r"[-_]+", " ", name).strip())
     return title[:1].upper() + title[1:] if title else "A replay"

@@ -54,7 +54,7 @@ function makeView(data, place, sentencePlace, goTo) {
     hostTable.show(hostRows(data, state, hosts), near);
     if (inside) inside.show(state, near);
     book.show(connectionRows(data, state), near);
-    what.replaceChildren(...(step ? whatOf(data, step) : [data.facts]));
+    what.replaceChildren(...(step ? whatOf(data, step) : ["before the first step"]));
     sentence.textContent = step ? data.words[data.steps[step - 1][1]] : data.begins || "The network as it begins: all IMPs and hosts are up, and nothing was sent.";
     sentence.classList.toggle("long", sentence.textContent.length > 190);
     sentence.classList.toggle("refusal", step > 0 && data.steps[step - 1][2] >= 2);
@@ -70,6 +70,14 @@ function legend(data) {
   entry("way", data.plain ? "message waits" : "message in transit");
   entry("answer", "taken or given up, answer not yet here");
   entry("down", "down");
+  if (data.inside) {
+    for (const [cls, text] of [["data", "packet of a message"], ["rfnm", "RFNM"], ["dead", "Dead"], ["routes", "distances, acknowledgement"]]) {
+      const part = el("span", "", text), sign = draw(part, "svg", { width: 13, height: 10, viewBox: "-6.5 -5 13 10" });
+      draw(sign, "path", { class: `frame ${cls}`, d: FRAME_SHAPE });
+      part.prepend(sign);
+      it.append(part);
+    }
+  }
   return it;
 }
 
@@ -205,6 +213,7 @@ function makePlayer(player, count, play) {
     player.step = step;
     views.forEach((view, at) => view.show(player.ownStep(at, step)));
     player.axis.show(step);
+    document.body.classList.toggle("beginning", step === 0);
     views.forEach((view) => { view.moment.textContent = `Map and tables show what holds after step ${step} of ${last}.`; });
     count.textContent = step ? `step ${step} of ${last}` : `before step 1 of ${last}`;
     clearTimeout(saved);

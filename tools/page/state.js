@@ -140,7 +140,7 @@ function drawArcs(arcs, labels, state, hosts, taken, size) {
     draw(arcs, "path", { class: `arc ${how}`, d: path });
     const links = flows.map((it) => it.link);
     const text = links.length > 3 ? `${links.length} links` : links.join(", ");
-    arcLabel(labels, a, b, c, text, how, taken);
+    arcLabel(labels, a, b, c, text, how, taken, size);
   }
 }
 
@@ -152,13 +152,18 @@ function roomFor(a, b, nx, ny, size) {
   return Math.max(16, Math.min(across, down));
 }
 
+const ASIDE = [0, 12, -12, 22, -22];
 const ALONG = [0.5, 0.44, 0.56, 0.38, 0.62, 0.32, 0.68, 0.26, 0.74, 0.2, 0.8, 0.15, 0.85];
 
-function arcLabel(labels, a, b, c, text, how, taken) {
+/** The links of an arc's messages, at a place on it or beside it that touches nothing; left out where there is none. */
+function arcLabel(labels, a, b, c, text, how, taken, size) {
   const w = text.length * 3.8 + 5, h = 8;
-  const at = (t) => a === b ? { x: a.x, y: a.y - 50, w, h } : {
-    x: (1 - t) ** 2 * a.x + 2 * t * (1 - t) * c.x + t * t * b.x, y: (1 - t) ** 2 * a.y + 2 * t * (1 - t) * c.y + t * t * b.y, w, h };
-  const box = ALONG.map(at).find((it) => !taken.some((other) => touch(it, other))) || at(0.5);
+  const at = (t, aside) => a === b ? { x: a.x + aside, y: a.y - 50, w, h } : {
+    x: (1 - t) ** 2 * a.x + 2 * t * (1 - t) * c.x + t * t * b.x + aside, y: (1 - t) ** 2 * a.y + 2 * t * (1 - t) * c.y + t * t * b.y, w, h };
+  const isIn = (it) => it.x > w && it.x < size.w - w && it.y > h && it.y < size.h - h;
+  const places = ASIDE.flatMap((aside) => ALONG.map((t) => at(t, aside)));
+  const box = places.find((it) => isIn(it) && !taken.some((other) => touch(it, other)));
+  if (!box) return;
   taken.push(box);
   draw(labels, "rect", { class: how, x: box.x - w, y: box.y - h, width: 2 * w, height: 2 * h, rx: 3 });
   draw(labels, "text", { class: how, x: box.x, y: box.y + 4, "text-anchor": "middle" }, text);
@@ -166,6 +171,7 @@ function arcLabel(labels, a, b, c, text, how, taken) {
 
 // ---- what is inside
 
+const FRAME_SHAPE = "M-5 -4h6l4 4l-4 4h-6z";
 const FRAME = { d: "data", R: "rfnm", X: "dead", r: "routes", a: "ack" };
 
 /** The frames on each line: small signs beside it, in the direction in which they go. */
@@ -188,7 +194,7 @@ function showInside(group, state, map, imps) {
 
 function frameSign(group, x, y, frame, turn) {
   const degrees = (turn * 180) / Math.PI;
-  const it = draw(group, "path", { class: `frame ${FRAME[frame[0]]}`, d: "M-5 -4h6l4 4l-4 4h-6z", transform: `translate(${x.toFixed(1)} ${y.toFixed(1)}) rotate(${degrees.toFixed(0)})` });
+  const it = draw(group, "path", { class: `frame ${FRAME[frame[0]]}`, d: FRAME_SHAPE, transform: `translate(${x.toFixed(1)} ${y.toFixed(1)}) rotate(${degrees.toFixed(0)})` });
   draw(it, "title", {}, frameInWords(frame));
 }
 

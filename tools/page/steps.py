@@ -82,6 +82,8 @@ def replayed(explain, given, program):
     head = given.topology() + b"\n%\n" if given.marker is not None else b"%\n"
     lines = [line for *_, line in events]
     inputs = [given.octets, *(head + b"".join(it + b"\n" for it in some) for some in (lines, marked(lines)))]
+    if len(inputs[0]) <= explain.MOST_OCTETS < len(inputs[2]):
+        raise explain.CannotTell("with its calms cut and a mark behind each event, the input is longer than the program reads")
     run = explain.answers(program, inputs) if program else explain.answers_without_proofs(inputs)
     (status, whole, said), (_, parts, _), (_, apart, _) = run
     if status != 0:
@@ -153,7 +155,8 @@ def steps_of(events, along=None):
         words = ["calm", "1"] if place else words
         if place and not printed and last and last.number == number and last.printed is None:
             last.rounds = (last.rounds[0], place)
-            last.told = last.told[:-1] + told  # the last sentence is of the frames that are live then
+            # the last sentence is of the frames that are live then, and one before it of ways that have become known
+            last.told = told if len(told) > 1 else last.told[:-1] + told
             continue
         for line in printed or [None]:
             steps.append(Step(number, words, (place, place), line, number != seen, told=told))

@@ -149,7 +149,7 @@ entry_or : Entry → Option Entry → Entry
 entry_or d None = d
 entry_or d (Some e) = e
 
-found_same : (x e : Entry) → Some x ≡ Some e → x ≡ e
+pub found_same : (x e : Entry) → Some x ≡ Some e → x ≡ e
 unfolding entry_or
 found_same x e is = ap (entry_or x) is
 

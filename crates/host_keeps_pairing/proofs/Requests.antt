@@ -13,17 +13,16 @@ use Rattle.host_pairs.specs.Pair.{PairState}
 use Rattle.sockets.specs.Pairs.{NcpState, owner_of, pair_with, with_pair}
 use Rattle.host_pairs.specs.Desk.{desk_of, listens_on}
 use Rattle.host_pairs.specs.Phases.{is_ready}
-use Rattle.sockets.specs.Requests.{at_owner, closed_socket, first_if, is_taken, is_used, open_receive_refusal, open_send_refusal, refusal, served}
+use Rattle.sockets.specs.Requests.{at_owner, closed_socket, is_taken, is_used, open_receive_refusal, open_send_refusal, refusal, served}
 use Rattle.host_pairs.specs.Asked.{closed_end, commanded, contacted, interrupt_of, receiver_requested, requested, with_end, with_more_bits}
 use Rattle.host_pairs.specs.Parcels.{link_of}
 use Rattle.host_pairs.specs.declared.entry.Closing.{Closing}
 use Rattle.host_pairs.specs.declared.entry.Closing.TheVariants as closing
 use Rattle.host_pairs.specs.declared.entry.Entry.{Entry}
-use Rattle.sockets.specs.declared.fault.NcpFault.{NcpFault}
 use Rattle.sockets.specs.declared.peer.Peer.{Peer}
 use Rattle.sockets.specs.declared.request.Request.{Request}
 use Rattle.sockets.specs.declared.request.Request.TheVariants as request
-use Rattle.sockets.proofs.lemmas.{others_stay, pair_changed}
+use Rattle.sockets.proofs.lemmas.{not_first, others_stay, pair_changed}
 use Rattle.host_keeps_pairing.specs.Words.{mark_of, marks}
 use Rattle.host_keeps_pairing.specs.Ends.{Standing, at, HasEnd, Stand}
 use Rattle.host_keeps_pairing.specs.Hearing.{after_request}
@@ -32,7 +31,7 @@ use Rattle.host_keeps_pairing.proofs.Desks.{on_joined, on_queued, on_settled, st
 
 -- ---- one peer and the others
 
-peer_here : (P : PairState → Type 0) (g h : Host) (q : PairState) (peers : List Peer) → same_host h g ≡ true → P q → P (pair_with h (with_pair g q peers))
+pub peer_here : (P : PairState → Type 0) (g h : Host) (q : PairState) (peers : List Peer) → same_host h g ≡ true → P q → P (pair_with h (with_pair g q peers))
 peer_here P g h q peers e p =
     let put : pair_with h (with_pair g q peers) ≡ q = (let r : pair_with h (with_pair g q peers) ≡ cond (same_host h g) q (pair_with h peers) = pair_changed g h q peers in rw e at r) in
     subst P (sym put) p
@@ -45,10 +44,6 @@ kept : (P : PairState → Type 0) (g h : Host) (q : PairState) (peers : List Pee
 kept P g h q peers p work = kept_by P g h q peers p work (same_host h g) refl
 
 -- ---- no refusal
-
-not_first : (test : Bool) (f : NcpFault) (others : Option NcpFault) → first_if test f others ≡ None → (test ≡ false) × (others ≡ None)
-not_first true f others e = absurd (cc)
-not_first false f others e = (refl, e)
 
 none_is : {A : Type 0} (o : Option A) → is_some o ≡ false → o ≡ None
 none_is None e = refl

@@ -7,7 +7,7 @@ use Rattle.pairing_law.specs.Sides.{above}
 use Rattle.host_pairs.specs.Entries.{close_due, has_cls, is_due, is_sent}
 use Rattle.host_pairs.specs.declared.entry.Closing.{Closing}
 use Rattle.host_pairs.specs.declared.entry.Closing.TheVariants as closing
-use Rattle.host_pairs.proofs.lemmas.{both}
+use Rattle.host_pairs.proofs.lemmas.{both, not_is}
 use Rattle.host_keeps_pairing.specs.Words.{MayAllGo}
 use Rattle.host_keeps_pairing.specs.Ends.{Standing, is_past, came_from, end_of, request_due, close_waits, Stand}
 
@@ -70,17 +70,13 @@ closed_end : (origin : ℕ → ℕ) (s : Standing) → (b : Bool) → is_sent s.
 closed_end origin s true e f = rw (e, f) refl
 closed_end origin s false e f = rw (e, f) refl
 
-not_true : (b : Bool) → not b ≡ true → b ≡ false
-not_true true e = absurd (cc)
-not_true false e = refl
-
 pub stand_closed : (origin : ℕ → ℕ) (place : ℕ) (s : Standing) (words : List Mark) (x : End) → Stand true origin place (s ∷ []) words x → fits Close x ≡ true
     → (s.partner_closed ≡ false) × Stand false origin place (closed_by s ∷ []) words (mark_taken Close x)
 stand_closed origin place s words x h fit =
     let is : x ≡ plain origin s = h.2 ∙ live_end origin s (h.0.live refl) in
     let fit_plain : fits Close (plain origin s) ≡ true = subst (λ (y : End). fits Close y ≡ true) is fit in
     let parts : (is_begun (plain origin s) ≡ true) × (not s.partner_closed ≡ true) = both (is_begun (plain origin s)) (not s.partner_closed) fit_plain in (
-      not_true s.partner_closed parts.1,
+      not_is s.partner_closed parts.1,
       (
         record { live = λ e. absurd (cc); refused = λ m. ((h.0.refused m).0, due_cls s.closing (h.0.refused m).1); asked = λ e m. h.0.asked (sym (due_sent s.closing) ∙ e) m; own = h.0.own },
         h.1 ∙ ap (λ (l : List Mark). request_due place s.mine s.asked ++ l) (sym (due_waits s.closing)),

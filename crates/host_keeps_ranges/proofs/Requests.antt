@@ -17,21 +17,15 @@ use Rattle.host_pairs.specs.declared.entry.Entry.{Entry}
 use Rattle.host_pairs.specs.declared.listener.Listener.{Listener}
 use Rattle.host_pairs.proofs.lemmas.{both}
 use Rattle.sockets.specs.Pairs.{NcpState, owner_first, owner_of, pair_with, with_pair}
-use Rattle.sockets.specs.Requests.{at_owner, closed_socket, first_if, is_taken, is_used, refusal, served}
-use Rattle.sockets.specs.declared.fault.NcpFault.{NcpFault}
+use Rattle.sockets.specs.Requests.{at_owner, closed_socket, is_taken, is_used, refusal, served}
 use Rattle.sockets.specs.declared.peer.Peer.{Peer}
 use Rattle.sockets.specs.declared.request.Request.{Request}
 use Rattle.sockets.specs.declared.request.Request.TheVariants as request
+use Rattle.sockets.proofs.lemmas.{not_first}
 use Rattle.host_keeps_ranges.specs.Ranges.{ArePairs, AreSizes, IsAsked, IsInRange, IsLink, IsPair, IsRanged}
 use Rattle.host_keeps_ranges.proofs.Desks.{Keeps, commands_more, ends_changed, ends_more, free_is_link, link_octet, sizes_filtered}
 use Rattle.host_keeps_ranges.proofs.Takes.{Ranged, SomeRange, more_granted, ranged_settled, receiving_range, sending_range, some_range}
 use Rattle.host_keeps_ranges.proofs.Calls.{pair_range, with_range}
-
--- ---- no refusal
-
-not_first : (test : Bool) (f : NcpFault) (others : Option NcpFault) → first_if test f others ≡ None → (test ≡ false) × (others ≡ None)
-not_first true f others e = absurd (cc)
-not_first false f others e = (refl, e)
 
 -- ---- the end of a socket
 

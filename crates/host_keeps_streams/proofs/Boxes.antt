@@ -6,7 +6,7 @@ use Rattle.stream_law.specs.Senders.{Sender}
 use Rattle.stream_law.proofs.lemmas.{some_is}
 use Rattle.host_pairs.specs.Entries.{has_cls, is_answered, is_busy, is_drained, is_due, is_link, is_receiving, must_close, sends_on}
 use Rattle.host_pairs.specs.declared.entry.Entry.{Entry}
-use Rattle.host_pairs.proofs.lemmas.{both}
+use Rattle.host_pairs.proofs.lemmas.{both, not_is}
 use Rattle.host_keeps_streams.specs.Closings.{all_sent}
 use Rattle.host_keeps_streams.specs.Ends.{AreSender, HasSender, NoneOpen}
 use Rattle.host_keeps_streams.specs.Histories.{KeepBox}
@@ -14,7 +14,7 @@ use Rattle.host_keeps_streams.specs.Moves.{closes}
 use Rattle.host_keeps_streams.specs.Names.{named, numbers, is_among, AreApart, AreKnown}
 use Rattle.host_keeps_streams.proofs.Known.{goes_some}
 use Rattle.host_keeps_streams.proofs.Leaving.{due_open}
-use Rattle.host_keeps_streams.proofs.Lists.{not_is, unlike}
+use Rattle.host_keeps_streams.proofs.Lists.{unlike}
 use Rattle.host_keeps_streams.proofs.Names.{among_filter, not_like, or_both, or_right}
 
 pub keep_both : (out : Bool) (xs ys : List senders.Move) (s : Sender) → KeepBox out xs s → KeepBox out ys (all_sent xs s) → KeepBox out (xs ++ ys) s

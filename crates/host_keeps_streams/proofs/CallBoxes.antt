@@ -15,7 +15,7 @@ use Rattle.host_pairs.specs.Parcels.{Bytes, next_of}
 use Rattle.host_pairs.specs.Turn.{freed}
 use Rattle.host_pairs.specs.declared.entry.Entry.{Entry}
 use Rattle.host_pairs.specs.declared.listener.Listener.{Listener}
-use Rattle.host_pairs.proofs.lemmas.{both, what_goes}
+use Rattle.host_pairs.proofs.lemmas.{both, not_is, what_goes}
 use Rattle.host_keeps_streams.specs.Closings.{all_sent, sent_open}
 use Rattle.host_keeps_streams.specs.Ends.{HasSender}
 use Rattle.host_keeps_streams.specs.Formed.{AreSound}
@@ -25,7 +25,6 @@ use Rattle.host_keeps_streams.specs.Names.{named, AreKnown}
 use Rattle.host_keeps_streams.proofs.Asks.{link_is}
 use Rattle.host_keeps_streams.proofs.Boxes.{keep_both, settled_box}
 use Rattle.host_keeps_streams.proofs.EachCall.{AllNewSent}
-use Rattle.host_keeps_streams.proofs.Lists.{not_is}
 use Rattle.host_keeps_streams.proofs.Requests.{closes_box}
 use Rattle.host_keeps_streams.proofs.SenderShuts.{cls_box}
 

@@ -8,10 +8,10 @@ use Rattle.host_pairs.specs.Entries.{changed_first, closed_by_partner, has_cls, 
 use Rattle.host_pairs.specs.declared.entry.Closing.{Closing}
 use Rattle.host_pairs.specs.declared.entry.Closing.TheVariants as closing
 use Rattle.host_keeps_streams.proofs.Ending.{shut_one, stays}
-use Rattle.host_keeps_streams.proofs.Lists.{not_is, unlike}
+use Rattle.host_keeps_streams.proofs.Lists.{unlike}
 use Rattle.host_keeps_streams.proofs.Sweeping.{over_stays}
 use Rattle.host_pairs.specs.declared.entry.Entry.{Entry}
-use Rattle.host_pairs.proofs.lemmas.{some_is}
+use Rattle.host_pairs.proofs.lemmas.{not_is, some_is}
 use Rattle.host_keeps_streams.specs.Formed.{IsFormed, AreFormed}
 
 formed_step : (test : Entry → Bool) (e y : Entry) (ys : List Entry) → (find test ys ≡ Some e → IsFormed e) → IsFormed y → (b : Bool) → test y ≡ b → find test (y ∷ ys) ≡ Some e → IsFormed e

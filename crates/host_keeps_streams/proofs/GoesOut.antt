@@ -12,7 +12,7 @@ use Rattle.host_pairs.specs.Desk.{DeskState}
 use Rattle.host_pairs.specs.Entries.{changed_first, entry_at, has_cls, is_at, is_link, is_over, is_receiving, receives_on, sends_on}
 use Rattle.host_pairs.specs.Parcels.{asked_at, cls_sent, command_gone, request_gone}
 use Rattle.host_pairs.specs.declared.entry.Entry.{Entry}
-use Rattle.host_pairs.proofs.lemmas.{both}
+use Rattle.host_pairs.proofs.lemmas.{both, not_is}
 use Rattle.host_keeps_streams.specs.Closings.{all_sent, MayAllSend, sent_open}
 use Rattle.host_keeps_streams.specs.Ends.{IsSender, NoneOpen, IsLeaving, AreReceiver, HasReceiver, AreSender, HasSender}
 use Rattle.host_keeps_streams.specs.Formed.{IsFormed, AreFormed, AreSound, HasSaid}
@@ -23,7 +23,7 @@ use Rattle.host_keeps_streams.proofs.Ending.{stays}
 use Rattle.host_keeps_streams.proofs.Formed.{formed_found, link_there}
 use Rattle.host_keeps_streams.proofs.Known.{Sent, known_changed, known_filter, known_found, known_idle, known_same}
 use Rattle.host_keeps_streams.proofs.Leaving as leaving
-use Rattle.host_keeps_streams.proofs.Lists.{away, filter_both, not_is, sent_is, unchanged}
+use Rattle.host_keeps_streams.proofs.Lists.{away, filter_both, sent_is, unchanged}
 use Rattle.host_keeps_streams.proofs.Names.{apart_changed, apart_filter}
 use Rattle.host_keeps_streams.proofs.Opening as opening
 use Rattle.host_keeps_streams.proofs.Opening.{and_no}

@@ -5,14 +5,10 @@ use Rattle.std.proofs.lemmas.Bool.{eqb-true}
 use Rattle.std.specs.List.{list_any}
 use Rattle.host_pairs.specs.Entries.{changed_first, is_link, is_receiving, receives_on, sends_on}
 use Rattle.host_pairs.specs.declared.entry.Entry.{Entry}
-use Rattle.host_pairs.proofs.lemmas.{both, some_is}
+use Rattle.host_pairs.proofs.lemmas.{both, not_is, some_is}
 
 pub unlike : (b : Bool) → b ≡ true → b ≡ false → ⊥
 unlike b e f = let same : true ≡ false = sym e ∙ f in absurd (cc)
-
-pub not_is : (b : Bool) → not b ≡ true → b ≡ false
-not_is true e = absurd (cc)
-not_is false e = refl
 
 -- ---- what is found
 

@@ -20,9 +20,10 @@ use Rattle.host_pairs.specs.Desk.{DeskState}
 use Rattle.host_pairs.specs.Entries.{sending_end, connection_links, free_link, receiving_end, changed_first, entry_at, has_cls, is_at, is_over, is_receiving, receives_on, sends_on}
 use Rattle.host_pairs.specs.Parcels.{asked_at, command_gone}
 use Rattle.host_pairs.specs.declared.entry.Entry.{Entry}
+use Rattle.host_pairs.proofs.lemmas.{not_is}
 use Rattle.host_keeps_streams.specs.Closings.{all_received, MayAllReceive, received_open, all_sent, MayAllSend, sent_open}
 use Rattle.host_keeps_streams.specs.Ends.{IsReceiver, AreReceiver, HasReceiver, IsSender, AreSender, HasSender}
-use Rattle.host_keeps_streams.proofs.Lists.{joins, none_any, not_is}
+use Rattle.host_keeps_streams.proofs.Lists.{joins, none_any}
 use Rattle.host_keeps_streams.proofs.Receivers.{own_receiver}
 
 pub and_no : (v : Bool) → (v && false) ≡ false

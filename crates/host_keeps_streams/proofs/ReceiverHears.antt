@@ -21,8 +21,8 @@ use Rattle.host_keeps_streams.specs.Closings.{all_received, MayAllReceive, recei
 use Rattle.host_keeps_streams.specs.Ends.{AreReceiver, HasReceiver}
 use Rattle.host_keeps_streams.specs.Moves.{answers_str, closes_on, cls_received, received_by, str_received}
 use Rattle.host_keeps_streams.specs.Names.{named, numbers, is_among, AreApart, IsNewReceived, NewReceived}
-use Rattle.host_keeps_streams.proofs.Lists.{append_off, append_on, away, find_passes, none_any, not_is, not_received}
-use Rattle.host_pairs.proofs.lemmas.{both, some_is}
+use Rattle.host_keeps_streams.proofs.Lists.{append_off, append_on, away, find_passes, none_any, not_received}
+use Rattle.host_pairs.proofs.lemmas.{both, not_is, some_is}
 use Rattle.host_keeps_streams.specs.Said.{LeavesReceiver}
 use Rattle.host_keeps_streams.proofs.Quiet.{receiver_leaves}
 use Rattle.host_keeps_streams.proofs.Receivers.{ret_receives}

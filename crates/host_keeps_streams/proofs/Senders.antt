@@ -52,7 +52,7 @@ pub leaving_shut : (e : Entry) (s : Sender) → IsLeaving e s → is_open e ≡ 
 leaving_shut e s n = closed_shut e n.closed
 
 -- an end that didn't open, or has closed, isn't open
-unopened : (s : Sender) → NoneOpen s → (c : ℕ) → s.end ≡ Some c → senders.is_open c s ≡ false
+pub unopened : (s : Sender) → NoneOpen s → (c : ℕ) → s.end ≡ Some c → senders.is_open c s ≡ false
 unopened s n c e = by s.opened refl where
   by : (v : Bool) → s.opened ≡ v → senders.is_open c s ≡ false
   by true t = ap (λ (v : Bool). s.opened && not s.shut && not v) (n c e t) ∙ and_no (s.opened && not s.shut)

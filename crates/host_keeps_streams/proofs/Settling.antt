@@ -7,12 +7,12 @@ use Rattle.stream_law.proofs.lemmas.{for_here}
 use Rattle.host_pairs.specs.Entries.{closed_when, is_due, is_drained, is_receiving, must_close, sends_on}
 use Rattle.host_pairs.specs.declared.entry.Closing.TheVariants as closing
 use Rattle.host_pairs.specs.declared.entry.Entry.{Entry}
-use Rattle.host_pairs.proofs.lemmas.{both}
+use Rattle.host_pairs.proofs.lemmas.{both, not_is}
 use Rattle.host_keeps_streams.specs.Closings.{all_sent, MayAllSend}
 use Rattle.host_keeps_streams.specs.Ends.{AreSender, HasSender}
 use Rattle.host_keeps_streams.specs.Moves.{closes}
 use Rattle.host_keeps_streams.specs.Names.{named, numbers, is_among, AreApart, IsKnown, AreKnown}
-use Rattle.host_keeps_streams.proofs.Lists.{filter_map, not_is, sent_is, unlike}
+use Rattle.host_keeps_streams.proofs.Lists.{filter_map, sent_is, unlike}
 use Rattle.host_keeps_streams.proofs.Names.{among_filter, turned}
 use Rattle.host_keeps_streams.proofs.Known.{Sent, close_apart, closed_elsewhere, known_other}
 use Rattle.host_keeps_streams.proofs.Ending.{shut_one}

@@ -2,7 +2,7 @@
 use Rattle.std.proofs.Common.{◌≡◌, ℕ, List, [], ◌∷◌, length, take, drop, min, refl, ap, sym, ◌∙◌}
 use Rattle.std.proofs.lemmas.List.{length-take}
 
-none_left : {A : Type 0} (xs : List A) → drop (length xs) xs ≡ []
+pub none_left : {A : Type 0} (xs : List A) → drop (length xs) xs ≡ []
 none_left [] = refl
 none_left (x ∷ xs) = none_left xs
 

@@ -9,7 +9,7 @@ use Rattle.link_table.specs.declared.source.Release.TheVariants as release
 use Rattle.packetiser.specs.PacketFields.{PacketFields}
 use Rattle.packetiser.specs.Slots as slots
 use Rattle.packetiser.specs.Rejoining.{AreAmong}
-use Rattle.packetiser.proofs.lemmas.{added_only, discarded_only}
+use Rattle.packetiser.proofs.lemmas.{All_left, All_right, added_only, discarded_only}
 use Rattle.imp_channel.specs.Holding as channels
 use Rattle.imp_channel.specs.Line.{End, submitted}
 use Rattle.imp_channel.specs.declared.frame.Content.{Content}
@@ -45,14 +45,6 @@ pub record TurnHas (P : PacketFields → Type 0) (turn : ImpTurn) : Type 0 where
   pub frames : All (OutgoingHas P) turn.frames
 
 -- ---- the packets as a list have it, and the other way
-
-pub All_left : (P : PacketFields → Type 0) (xs ys : List PacketFields) → All P (xs ++ ys) → All P xs
-All_left P [] ys all = All-nil P
-All_left P (x ∷ xs) ys all = All-cons P x xs (All-head P x (xs ++ ys) all) (All_left P xs ys (All-tail P x (xs ++ ys) all))
-
-pub All_right : (P : PacketFields → Type 0) (xs ys : List PacketFields) → All P (xs ++ ys) → All P ys
-All_right P [] ys all = all
-All_right P (x ∷ xs) ys all = All_right P xs ys (All-tail P x (xs ++ ys) all)
 
 channels_have : (P : PacketFields → Type 0) (ports : List Port) → All (PortHas P) ports → All P (packets_in_channels ports)
 channels_have P [] has = All-nil P

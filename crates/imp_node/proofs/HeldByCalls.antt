@@ -15,6 +15,7 @@ use Rattle.packetiser.specs.PacketFields.{PacketFields, flow_of}
 use Rattle.packetiser.specs.Pieces.{packets_of}
 use Rattle.packetiser.specs.declared.packet.PacketKind.{PacketKind}
 use Rattle.packetiser.specs.declared.packet.PacketKind.TheVariants as kind
+use Rattle.packetiser.proofs.lemmas.{All_left, All_right}
 use Rattle.imp_channel.specs.Holding.{carried_by, packets_in}
 use Rattle.imp_channel.specs.Line.{answer_to, resent, routes_frame}
 use Rattle.imp_channel.specs.declared.fault.ChannelFault.{ChannelFault}
@@ -36,7 +37,7 @@ use Rattle.imp_node.specs.Lines.{resent_by, resent_from, resend, told_by, told_f
 use Rattle.imp_node.specs.Stopping.{give_up, forget, abandon, message_returned, all_returned, stopped, host_down, host_up}
 use Rattle.imp_node.specs.Contents.{packets_in_channels, packets}
 use Rattle.imp_node.specs.Making.{Leaves, cut_for, from_host_makes, dead_for, from_line_makes, reply_for, rfnm_for, to_host_makes, host_down_makes}
-use Rattle.imp_node.proofs.Held.{PortHas, OutgoingHas, Has, TurnHas, All_left, All_right, has_packets, turn_has, port_has, pump_has, quiet_has, stored_has, answered_has, added_has, without_has}
+use Rattle.imp_node.proofs.Held.{PortHas, OutgoingHas, Has, TurnHas, has_packets, turn_has, port_has, pump_has, quiet_has, stored_has, answered_has, added_has, without_has}
 
 -- ---- from_host
 

@@ -5,6 +5,7 @@ use Rattle.std.proofs.lemmas.List.{drop_all}
 use Rattle.std.proofs.lemmas.List.Folds.{list_any-append}
 use Rattle.std.proofs.lemmas.List.Sorted.{list_any-IsPermutation, length_permutation}
 use Rattle.leader1822.specs.declared.address.Flow.{Flow}
+use Rattle.leader1822.proofs.lemmas.{or_nothing}
 use Rattle.packetiser.specs.PacketFields.{PacketFields, flow_of}
 use Rattle.packetiser.specs.Slots as slots
 use Rattle.packetiser.specs.Slots.{SlotState, IsSlot, IsTable, IsPieceFor, in_some_order}
@@ -48,10 +49,6 @@ piece_is q s p of =
 or_itself : (a b c : Bool) → a ≡ c → b ≡ c → (a || b) ≡ c
 or_itself true b c e h = e
 or_itself false b c e h = h
-
-or_nothing : (a : Bool) → (a || false) ≡ a
-or_nothing true = refl
-or_nothing false = refl
 
 all_alike : (q : Sought) (s : SlotState) (ps : List PacketFields) → 0 < length ps → All (IsPieceFor s.flow s.number) ps → list_any (packet_is q) ps ≡ slot_is q s
 all_alike q s [] some of = absurd (omega arith)

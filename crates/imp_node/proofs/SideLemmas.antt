@@ -75,8 +75,6 @@ pub same_receiver : (a b : Bool) (k l : Option ℕ) (ms ns : List Message) → a
     → (let u : Receiver = record { destination = a; kept = k; queue = ms } in let v : Receiver = record { destination = b; kept = l; queue = ns } in u ≡ v)
 same_receiver a b k l ms ns e f g = rw (e, f, g) refl
 
--- ---- one step after another
-
 -- ---- an answer waits, or its host is down
 
 -- an answer is given to a host: of the host's fields only the answers change

@@ -26,11 +26,11 @@ use Rattle.packetiser.proofs.Slots.{All_with_piece, kept_sound, kept_packets, ke
 
 -- ---- a property of all that is held
 
-All_left : (P : PacketFields → Type 0) (xs ys : List PacketFields) → All P (xs ++ ys) → All P xs
+pub All_left : (P : PacketFields → Type 0) (xs ys : List PacketFields) → All P (xs ++ ys) → All P xs
 All_left P [] ys all = All-nil P
 All_left P (x ∷ xs) ys all = All-cons P x xs (All-head P x (xs ++ ys) all) (All_left P xs ys (All-tail P x (xs ++ ys) all))
 
-All_right : (P : PacketFields → Type 0) (xs ys : List PacketFields) → All P (xs ++ ys) → All P ys
+pub All_right : (P : PacketFields → Type 0) (xs ys : List PacketFields) → All P (xs ++ ys) → All P ys
 All_right P [] ys all = all
 All_right P (x ∷ xs) ys all = All_right P xs ys (All-tail P x (xs ++ ys) all)
 

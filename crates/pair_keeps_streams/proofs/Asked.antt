@@ -176,7 +176,3 @@ module _ (name : ℕ → ℕ → ℕ) (link : ℕ) (q : PairState) (listening : 
   opens_new : (own foreign : ℕ) → entry_at own foreign q.entries ≡ None → (o : Option ℕ) → AsksNew (asks_for link (name own foreign) o)
   opens_new own foreign none None k = inl refl
   opens_new own foreign none (Some other) k = if_new own foreign none (other == link) r (λ j. refl) k
-
--- ---- words that were said before the call mean the same after it
-
-module _ (number : ℕ → ℕ → ℕ → ℕ) (tells : IsTelling number) (link : ℕ) (gone : ℕ → ℕ → ℕ) (q : PairState) (listening : List Listener) (r : Receiver) (s : Sender) (k : Call) (allowed : IsAllowed link k q s) where

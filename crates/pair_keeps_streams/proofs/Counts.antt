@@ -7,10 +7,6 @@ use Rattle.stream_law.specs.Words.{Rts, Str, Cls}
 use Rattle.host_keeps_streams.specs.Histories.{IsTelling}
 use Rattle.pair_keeps_streams.specs.Words.{closings_in, with_closing, receiver_word, sender_word}
 
--- ---- one after another
-
-module _ (number : ℕ → ℕ → ℕ → ℕ) (link : ℕ) where
-
 -- ---- the same counts
 
 pub closing_same : (c : Command) (m n : ℕ → ℕ → ℕ) → ((x y : ℕ) → m x y ≡ n x y) → (x y : ℕ) → with_closing c m x y ≡ with_closing c n x y

@@ -1,5 +1,5 @@
 -- What a command of the peer makes a program queue is what the moves by it say.
-use Rattle.std.proofs.Common.{◌≡◌, ℕ, suc, ◌==◌, ◌&&◌, nat_le, not, Bool, true, false, if◌then◌else◌, List, [], ◌∷◌, ◌++◌, map, filter, find, Option, Some, None, refl, ap, sym, subst, ◌∙◌, inl, inr, append-nil}
+use Rattle.std.proofs.Common.{◌≡◌, ℕ, suc, ◌==◌, ◌&&◌, nat_le, Bool, true, false, if◌then◌else◌, List, [], ◌∷◌, ◌++◌, map, filter, find, Option, Some, None, refl, ap, sym, subst, ◌∙◌, inl, inr, append-nil}
 use Rattle.std.proofs.lemmas.Bool.{eqb-true}
 use Rattle.std.proofs.lemmas.List.Folds.{find-append}
 use Rattle.std.specs.Option.{option_or}
@@ -17,7 +17,7 @@ use Rattle.host_pairs.specs.Desk.{DeskState}
 use Rattle.host_pairs.specs.Entries.{changed_first, entry_at, is_at, is_open, receives_on, refused_end, sends_on}
 use Rattle.host_pairs.specs.declared.entry.Entry.{Entry}
 use Rattle.host_keeps_streams.specs.Ends.{AreSender, HasSender, IsSender, NoneOpen}
-use Rattle.host_keeps_streams.proofs.lemmas.{closed_found, first_is, leaving_shut, none_is, open_found, open_same_senders as open_same}
+use Rattle.host_keeps_streams.proofs.lemmas.{closed_found, first_is, leaving_shut, none_is, open_found, open_same_senders as open_same, unopened}
 use Rattle.pair_keeps_streams.specs.Words.{plain, one, counted, has_said, said_of, with_closing, sent_words, receiver_word, sender_word}
 use Rattle.pair_keeps_streams.proofs.Queues.{Told, changed_kept, closing_elsewhere, closing_there, is_said, kept_same, none_at, one_told, said_after, silent}
 use Rattle.pair_keeps_streams.proofs.QueuesAsked.{unsaid, wrong_told}
@@ -70,15 +70,6 @@ module _ (number : ℕ → ℕ → ℕ → ℕ) (link : ℕ) (gone : ℕ → ℕ
       (rw odd (ap (λ (k : ℕ). words.Cls (number own foreign k) ∷ []) (sym (unsaid number link gone asked own foreign es none))))
 
 -- ---- what the sender returns
-
-unopened : (s : Sender) → NoneOpen s → (c : ℕ) → s.end ≡ Some c → senders.is_open c s ≡ false
-unopened s none c e = by s.opened refl where
-  by : (v : Bool) → s.opened ≡ v → senders.is_open c s ≡ false
-  by true o = (let shut : s.closed c ≡ true = none c e o in rw (o, shut) (last s.shut)) where
-    last : (v : Bool) → (not v && false) ≡ false
-    last true = refl
-    last false = refl
-  by false o = rw o refl
 
 module _ (name : ℕ → ℕ → ℕ) (link m n : ℕ) (es : List Entry) (s : Sender) (P : Found → Option Word → Type 0) (unconnected : P Unconnected None) (ending : P Ending None)
     (opened : (x : Entry) (c : ℕ) → P (Open x) (Some (words.Ret c (counters.share x.allocation.messages m) (counters.share x.allocation.bits n)))) where

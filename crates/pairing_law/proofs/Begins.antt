@@ -12,7 +12,7 @@ use Rattle.reset_law.specs.Monitor.{monitor}
 use Rattle.reset_law.specs.Invariant.{kind_in, is_signal, InGone, InHeard, Shape, Sound}
 use Rattle.reset_law.specs.Runs.{IsRun}
 use Rattle.reset_law.specs.Stays.{is_ready, ready, joint, begins, takes_reset, stays}
-use Rattle.reset_law.proofs.lemmas.{at, carry, contradicts, down_pair, phase_ready, ready_phase, ready_taken, ready_up, reply_from, reset_unready, sound_run, stays_ready, still_ready, turned_about}
+use Rattle.reset_law.proofs.lemmas.{at, carry, contradicts, down_pair, ready_phase, ready_taken, ready_up, reply_from, reset_unready, sound_run, stays_ready, still_ready, turned_about, unready_phase}
 
 -- ---- an RST that was taken
 
@@ -283,9 +283,6 @@ one_false : (s t : Bool) → not (s && t) ≡ true → (s ≡ false) ⊎ (t ≡ 
 one_false true true e = absurd (cc)
 one_false true false e = inr refl
 one_false false t e = inl refl
-
-unready_phase : (ph : Phase) → is_ready ph ≡ false → ph ≢ Ready
-unready_phase ph e same = contradicts (is_ready ph) (phase_ready ph same) e
 
 pub begins_fresh : (hosts : List Host) (e : Event) (events : List Event) → IsRun hosts (e ∷ events) → (a b : Host) → begins a b e events ≡ true → Fresh a b e events
 begins_fresh hosts e events r a b begun =

@@ -1,5 +1,5 @@
 -- What the law of resets gives: a host that is through a reset takes a text only in a stay.
-use Rattle.std.proofs.Common.{◌≡◌, ℕ, Bool, true, false, not, ◌&&◌, ◌||◌, List, [], ◌∷◌, Some, refl, ap, sym, subst, ◌∙◌, inl, inr}
+use Rattle.std.proofs.Common.{◌≡◌, ℕ, Bool, true, false, ◌&&◌, List, [], ◌∷◌, Some, refl, ap, sym, subst, ◌∙◌, inl, inr}
 use Rattle.leader1822.specs.Host.{Host, same_host}
 use Rattle.reset_law.specs.Phases.{Ready}
 use Rattle.reset_law.specs.Events.{Message, Reset, Reply, Other, Event, Contact, Out, In, Told, Down, Up, Idle, Call, Send, Hear, Begin, when, are, place}
@@ -9,11 +9,7 @@ use Rattle.reset_law.specs.Monitor.{monitor}
 use Rattle.reset_law.specs.Invariant.{kind_in, is_signal}
 use Rattle.reset_law.specs.Runs.{IsRun}
 use Rattle.reset_law.specs.Stays.{ready, joint, begins, takes_reset, stays}
-use Rattle.reset_law.proofs.lemmas.{NoPlain, alone_run, at, carry, contradicts, joint_stays, not_waiting, phase_ready, plain_alone, plain_fetched, plain_if, ready_taken, still_ready, turned_about}
-
-goes_on : (t r k s : Bool) → r ≡ true → k ≡ false → s ≡ true → (t || (r && not k && s)) ≡ true
-goes_on true r k s e f g = refl
-goes_on false r k s e f g = rw (e, f, g) refl
+use Rattle.reset_law.proofs.lemmas.{NoPlain, alone_run, at, carry, contradicts, joint_stays, not_waiting, phase_ready, plain_alone, plain_fetched, plain_if, ready_taken, stays_on as goes_on, still_ready, turned_about}
 
 stays_on : (e : Event) (events : List Event) (a b : Host) → (pair b a (e ∷ events)).phase ≡ Ready → takes_reset b a e ≡ false → stays b a events ≡ true → stays b a (e ∷ events) ≡ true
 stays_on e events a b now none stay = goes_on (begins b a e events) (ready b a (e ∷ events)) (takes_reset b a e) (stays b a events) (phase_ready (pair b a (e ∷ events)).phase now) none stay

@@ -75,7 +75,7 @@ not_true : (b : Bool) → not b ≡ true → b ≡ false
 not_true true e = absurd (cc)
 not_true false e = refl
 
-unready_phase : (ph : Phase) → is_ready ph ≡ false → ph ≢ Ready
+pub unready_phase : (ph : Phase) → is_ready ph ≡ false → ph ≢ Ready
 unready_phase ph e same = contradicts (is_ready ph) (phase_ready ph same) e
 
 pub begin_quiet : (hosts : List Host) (e : Event) (events : List Event) → IsRun hosts (e ∷ events) → (a b : Host) → begins a b e events ≡ true → NoPlain (boxes a b (e ∷ events)) × NoPlain (boxes b a (e ∷ events))
@@ -107,7 +107,7 @@ begins_either a b e events =
 pub joint_either : (a b : Host) (events : List Event) → joint a b events ≡ true → joint b a events ≡ true
 joint_either a b events together = sym (swap (ready a b events) (ready b a events)) ∙ together
 
-stays_on : (t r k s : Bool) → r ≡ true → k ≡ false → s ≡ true → (t || (r && not k && s)) ≡ true
+pub stays_on : (t r k s : Bool) → r ≡ true → k ≡ false → s ≡ true → (t || (r && not k && s)) ≡ true
 stays_on true r k s e f g = refl
 stays_on false r k s e f g = rw (e, f, g) refl
 

@@ -1,6 +1,7 @@
 -- The peer that something goes to stands among the peers with its pair.
 use Rattle.std.proofs.Common.{◌≡◌, ℕ, ◌<◌, Bool, true, false, List, [], ◌∷◌, Option, Some, None, refl, ap, subst, arith}
 use Rattle.leader1822.specs.Host.{Host, same_host, address_octet}
+use Rattle.leader1822.proofs.lemmas.{same_host-refl}
 use Rattle.host_pairs.specs.Outgoing.{IsThere, parcel_of}
 use Rattle.sockets.specs.Pairs.{pair_with}
 use Rattle.sockets.specs.Peers.{StandAbove, AreInOrder}
@@ -8,7 +9,7 @@ use Rattle.host_pairs.specs.Parcels.{Parcel, next_of}
 use Rattle.sockets.specs.Sending.{next_in}
 use Rattle.host_pairs.specs.declared.outgoing.Outgoing.{Outgoing}
 use Rattle.sockets.specs.declared.peer.Peer.{Peer}
-use Rattle.sockets.proofs.PeerLemmas.{same_octet, same_self}
+use Rattle.sockets.proofs.PeerLemmas.{same_octet}
 
 abbrev peer_or : Peer → Option (Peer × Parcel) → Peer
 peer_or d None = d
@@ -36,7 +37,7 @@ pair_at : (n : ℕ) (q : Peer) (qs : List Peer) (p : Peer) (x : Parcel) → Stan
     → (o : Option Parcel) → next_of q.pair ≡ o → next_in (q ∷ qs) ≡ Some (p, x) → pair_with p.host (q ∷ qs) ≡ p.pair
 pair_at n q qs p x s rest (Some y) e is =
     let same : q ≡ p = ap (peer_or q) (rw e at is) in
-    subst (λ (r : Peer). pair_with r.host (q ∷ qs) ≡ r.pair) same (rw (same_self q.host) refl)
+    subst (λ (r : Peer). pair_with r.host (q ∷ qs) ≡ r.pair) same (rw (same_host-refl q.host) refl)
 pair_at n q qs p x s rest None e is =
     let later : next_in qs ≡ Some (p, x) = rw e at is in
     let other : same_host p.host q.host ≡ false = unlike p.host q (next_above (address_octet q.host) qs p x s.2 later) (same_host p.host q.host) refl in

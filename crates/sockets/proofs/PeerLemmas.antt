@@ -6,6 +6,7 @@ use Rattle.std.specs.List.{insert, remove}
 use Rattle.std.specs.List.Sorted.{IsPartitionPoint, IsPartitionedBy}
 use Rattle.std.proofs.lemmas.Bool.{eqb-true, ltb-true, ltb-false}
 use Rattle.leader1822.specs.Host.{Host, IsAddress, same_host, address_octet}
+use Rattle.leader1822.proofs.lemmas.{same_host-refl}
 use Rattle.host_pairs.specs.Pair.{PairState, is_opening}
 use Rattle.host_pairs.specs.Entries.{is_mine_on}
 use Rattle.host_pairs.specs.declared.entry.Entry.{Entry}
@@ -186,14 +187,11 @@ without_other h p ps rest false e = rw e (let more : without_peer h (p ∷ witho
 
 -- ---- what is left in a peer's place
 
-pub same_self : (h : Host) → same_host h h ≡ true
-same_self h = rw (eq-eqb h.imp h.imp refl, eq-eqb h.host h.host refl) refl
-
 abbrev peer_at : Host → PairState → Peer
 peer_at h q = record { host = h; pair = q }
 
 placed_over : (h : Host) (o q : PairState) (ps : List Peer) → placed (peer_at h q) (peer_at h o ∷ ps) ≡ peer_at h q ∷ ps
-placed_over h o q ps = rw (not_less (address_octet h) (address_octet h) (omega arith), same_self h) refl
+placed_over h o q ps = rw (not_less (address_octet h) (address_octet h) (omega arith), same_host-refl h) refl
 
 placed_step : (h : Host) (o q : PairState) (p : Peer) (ps : List Peer) → placed (peer_at h q) (placed (peer_at h o) ps) ≡ placed (peer_at h q) ps
     → (below same : Bool) → nat_lt (address_octet p.host) (address_octet h) ≡ below → same_host h p.host ≡ same
@@ -208,7 +206,7 @@ placed_twice h o q [] = placed_over h o q []
 placed_twice h o q (p ∷ ps) = placed_step h o q p ps (placed_twice h o q ps) (nat_lt (address_octet p.host) (address_octet h)) (same_host h p.host) refl refl
 
 without_over : (h : Host) (o : PairState) (ps : List Peer) → without_peer h (peer_at h o ∷ ps) ≡ without_peer h ps
-without_over h o ps = rw (same_self h) refl
+without_over h o ps = rw (same_host-refl h) refl
 
 without_step : (h : Host) (o : PairState) (p : Peer) (ps : List Peer) → without_peer h (placed (peer_at h o) ps) ≡ without_peer h ps
     → (below same : Bool) → nat_lt (address_octet p.host) (address_octet h) ≡ below → same_host h p.host ≡ same
@@ -295,7 +293,7 @@ known_by : (socket n : ℕ) (p : Peer) (ps : List Peer) (h : Host) (e : Entry) (
 known_by socket n p ps h e q s rest (Some x) f is =
     let same : p.host ≡ h = ap (host_or p.host) (rw f at is) in
     subst (λ (g : Host). length (placed (peer_at g q) (p ∷ ps)) ≤ length (p ∷ ps)) same
-    (rw (not_less (address_octet p.host) (address_octet p.host) (omega arith), same_self p.host) (omega arith))
+    (rw (not_less (address_octet p.host) (address_octet p.host) (omega arith), same_host-refl p.host) (omega arith))
 known_by socket n p ps h e q s rest None f is =
     let later : owner_of socket ps ≡ Some (h, e) = rw f at is in
     let above : nat_lt (address_octet p.host) (address_octet h) ≡ true =

@@ -5,3 +5,4 @@ pub use Rattle.sockets.proofs.OtherLemmas.{answer_leaves, message_leaves, offer_
 pub use Rattle.sockets.proofs.PairLemmas.{others_stay, pair_changed}
 pub use Rattle.sockets.proofs.ParcelLemmas.{next_is}
 pub use Rattle.sockets.proofs.PeerLemmas.{order_placed, order_removed, same_host-true, same_octet}
+pub use Rattle.sockets.proofs.RefusalLemmas.{not_first}

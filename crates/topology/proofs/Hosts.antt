@@ -7,7 +7,7 @@ use Rattle.std.proofs.lemmas.Bool.Decides.{nat_tests}
 use Rattle.std.proofs.lemmas.List.Folds.{list_any-append}
 use Rattle.std.specs.List.{list_all}
 use Rattle.leader1822.specs.Host.{Host, is_host, same_host}
-use Rattle.leader1822.proofs.lemmas.{same_host-refl, same_host-true}
+use Rattle.leader1822.proofs.lemmas.{both_ways, same_host-refl, same_host-true}
 use Rattle.topology.specs.declared.network.ImpHosts.{ImpHosts}
 use Rattle.topology.specs.Topology.{TopologyFields, IsTopology, has_host, host_if, hosts_below, hosts_of, is_imp}
 
@@ -22,11 +22,6 @@ left_true false b e = absurd (false≢true e)
 right_true : (a b : Bool) → b ≡ true → (a || b) ≡ true
 right_true true b e = refl
 right_true false b e = e
-
-alike : (a b : Bool) → (a ≡ true → b ≡ true) → (b ≡ true → a ≡ true) → a ≡ b
-alike true b f g = sym (f refl)
-alike false true f g = g refl
-alike false false f g = refl
 
 abbrev pub place_of : ℕ → Host
 place_of n = record { imp = n / 4 + 1; host = n % 4 }
@@ -111,7 +106,7 @@ in_range (i ∷ imps) imp host good has =
     ]
 
 pub hosts_of_imps : (t : TopologyFields) (h : Host) → IsTopology t → is_host (hosts_of t) h ≡ has_host t.imps h.imp h.host
-hosts_of_imps t h keeps = alike (is_host (hosts_of t) h) (has_host t.imps h.imp h.host) (stands t.imps 64 h) (λ has.
+hosts_of_imps t h keeps = both_ways (is_host (hosts_of t) h) (has_host t.imps h.imp h.host) (stands t.imps 64 h) (λ has.
     let counted : (nat_le 1 (length t.imps) ≡ true) × ((nat_le (length t.imps) 16 && list_all is_imp t.imps) ≡ true) = and_parts (nat_le 1 (length t.imps)) (nat_le (length t.imps) 16 && list_all is_imp t.imps) keeps.imps in
     let range : InRange h.imp h.host = in_range t.imps h.imp h.host (and_parts (nat_le (length t.imps) 16) (list_all is_imp t.imps) counted.1).1 has in
     let some : 1 ≤ h.imp = range.some in

@@ -20,11 +20,10 @@ use Rattle.host_pairs.specs.declared.notice.Notice.TheVariants as notice
 use Rattle.host_pairs.proofs.lemmas.{both}
 use Rattle.sockets.specs.Pairs.{NcpState, owner_of, pair_with}
 use Rattle.sockets.specs.Peers.{AreInOrder}
-use Rattle.sockets.specs.Requests.{at_owner, closed_socket, first_if, grant_fault, is_taken, is_used, on_open, open_receive_refusal, open_send_refusal, refusal, send_fault, served, served_notices, with_peer}
-use Rattle.sockets.specs.declared.fault.NcpFault.{NcpFault}
+use Rattle.sockets.specs.Requests.{at_owner, closed_socket, grant_fault, is_taken, is_used, on_open, open_receive_refusal, open_send_refusal, refusal, send_fault, served, served_notices, with_peer}
 use Rattle.sockets.specs.declared.request.Request.{Request}
 use Rattle.sockets.specs.declared.request.Request.TheVariants as request
-use Rattle.sockets.proofs.lemmas.{pair_changed}
+use Rattle.sockets.proofs.lemmas.{not_first, pair_changed}
 use Rattle.net_sim.specs.declared.life.Life.{Life}
 use Rattle.net_sim.specs.Book as book
 use Rattle.net_sim.specs.Book.{Kept, all_told, asked, handed_to, lives_at, where_it}
@@ -38,12 +37,6 @@ use Rattle.world_keeps_lives.proofs.Takes.{at_here}
 use Rattle.world_keeps_lives.proofs.Hosts.{Done, Holds, IsPut, lift, lifted, near}
 use Rattle.world_keeps_lives.proofs.Owners.{owner_found, unused}
 use Rattle.world_keeps_lives.proofs.Turns.{cleared_on}
-
--- ---- no refusal
-
-not_first : (test : Bool) (f : NcpFault) (others : Option NcpFault) → first_if test f others ≡ None → (test ≡ false) × (others ≡ None)
-not_first true f others e = absurd (cc)
-not_first false f others e = (refl, e)
 
 -- ---- accounts
 

@@ -5,17 +5,13 @@ use Rattle.leader1822.specs.Host.{Host, same_host}
 use Rattle.leader1822.proofs.lemmas.{same_host-refl, same_host-true}
 use Rattle.host_pairs.specs.declared.notice.Notice.{Notice}
 use Rattle.host_pairs.specs.declared.notice.Notice.TheVariants as notice
-use Rattle.host_pairs.proofs.lemmas.{both}
+use Rattle.host_pairs.proofs.lemmas.{both, not_is}
 use Rattle.net_sim.specs.declared.life.Life.{Life}
 use Rattle.net_sim.specs.Book.{Kept, all_told, carried, changed_when, life_ended, handed_to, handed_told, lives_at, lives_between, lives_told, lives_with, new_life, returned, book_told, where_it}
 use Rattle.world_keeps_lives.specs.Lives.{EachIn, EachOn, IsSafe, at_socket}
 
 not_both : (P : Type 0) (b : Bool) → b ≡ true → b ≡ false → P
 not_both P b e f = absurd (let r : true ≡ false = sym e ∙ f in cc)
-
-not_true : (b : Bool) → not b ≡ true → b ≡ false
-not_true true e = absurd (cc)
-not_true false e = refl
 
 -- what is asked of each life
 abbrev pub One : (Life → List Bool → Type 0) → Life → List Bool → Type 0
@@ -77,7 +73,7 @@ module _ (a : Host) (k : ℕ) where
     by false e = let r : true ≡ false = sym (let s : lives_at a k x ≡ true = rw (there, e) refl in s) ∙ off in absurd (cc)
 
   goes_at : (x : Life) → lives_at a k x ≡ true → x.ended ≡ false
-  goes_at x on = not_true x.ended (both (at_socket a k x) (not x.ended) on).1
+  goes_at x on = not_is x.ended (both (at_socket a k x) (not x.ended) on).1
 
   pub each_here : (f : Life → Life) (P Q : Life → List Bool → Type 0) (lives : List Life) (handed : List (List Bool)) → ((x : Life) → at_socket a k (f x) ≡ at_socket a k x)
       → ((x : Life) (t : List Bool) → at_socket a k x ≡ true → IsSafe x t → P x t → IsSafe (f x) t × Q (f x) t) → EachOn a k P lives handed → EachOn a k Q (where_it (lives_at a k) f lives) handed

@@ -8,7 +8,7 @@ use Rattle.host_pairs.specs.Desk.{listener_on, listens_on, without_listener}
 use Rattle.host_pairs.specs.declared.entry.Entry.{Entry}
 use Rattle.host_pairs.specs.declared.listener.Listener.{Listener}
 use Rattle.host_pairs.specs.declared.notice.Notice.{Notice}
-use Rattle.host_pairs.proofs.lemmas.{both}
+use Rattle.host_pairs.proofs.lemmas.{both, not_is}
 use Rattle.net_sim.specs.declared.life.Life.{Life}
 use Rattle.net_sim.specs.Book as book
 use Rattle.net_sim.specs.Book.{Kept, all_told, lives_between, lives_told, new_life}
@@ -23,10 +23,6 @@ use Rattle.world_keeps_lives.proofs.Books.{IsAside, each_aside, each_weaker}
 pub clash : (P : Type 0) (b : Bool) → b ≡ true → b ≡ false → P
 clash P b e f = absurd (let r : true ≡ false = sym e ∙ f in cc)
 
-pub not_so : (b : Bool) → not b ≡ true → b ≡ false
-not_so true e = absurd (cc)
-not_so false e = refl
-
 -- ---- open ends
 
 pub record IsAnOpen (e : Entry) : Type 0 where
@@ -39,7 +35,7 @@ pub open_parts : (e : Entry) → is_open e ≡ true → IsAnOpen e
 open_parts e o =
     let p : (has_opened e ≡ true) × (not (is_ending e) ≡ true) = both (has_opened e) (not (is_ending e)) o in
     let q : (is_some e.asked ≡ true) × (is_some e.partner ≡ true) = both (is_some e.asked) (is_some e.partner) p.0 in
-    let r : (has_cls e.closing ≡ false) × (e.partner_closed ≡ false) = or_false (has_cls e.closing) e.partner_closed (not_so (is_ending e) p.1) in
+    let r : (has_cls e.closing ≡ false) × (e.partner_closed ≡ false) = or_false (has_cls e.closing) e.partner_closed (not_is (is_ending e) p.1) in
     record { asked = q.0; partner = q.1; unclosed = r.0; unheard = r.1 }
 
 pub open_opened : (e : Entry) → is_open e ≡ true → has_opened e ≡ true

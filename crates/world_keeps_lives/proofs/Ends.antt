@@ -1,8 +1,9 @@
 -- The own ends on a socket, and those that refuse, where a list of ends changes.
-use Rattle.std.proofs.Common.{◌≡◌, ℕ, Bool, true, false, if◌then◌else◌, List, [], ◌∷◌, ◌++◌, map, filter, find, Option, Some, None, refl, ap, sym, subst, ◌∙◌}
+use Rattle.std.proofs.Common.{◌≡◌, ℕ, Bool, true, false, if◌then◌else◌, List, [], ◌∷◌, ◌++◌, map, filter, find, Some, None, refl, ap, sym, subst, ◌∙◌}
 use Rattle.std.proofs.lemmas.List.Elements.{filter-append}
 use Rattle.host_pairs.specs.Entries.{changed_first, has_cls, is_mine_on}
 use Rattle.host_pairs.specs.declared.entry.Entry.{Entry}
+use Rattle.host_keeps_pairing.proofs.lemmas.{found_same}
 use Rattle.world_keeps_lives.specs.Lives.{AreRefusing, mine_on}
 
 -- ---- what is found
@@ -14,17 +15,9 @@ pub record IsSplit (test : Entry → Bool) (change : Entry → Entry) (xs : List
   pub now : changed_first test change xs ≡ front ++ change e ∷ rest
   pub passes : test e ≡ true
 
-entry_or : Entry → Option Entry → Entry
-entry_or d None = d
-entry_or d (Some e) = e
-
-same_some : (x e : Entry) → Some x ≡ Some e → x ≡ e
-unfolding entry_or
-same_some x e is = ap (entry_or x) is
-
 split_step : (test : Entry → Bool) (change : Entry → Entry) (x : Entry) (xs : List Entry) (e : Entry) → (find test xs ≡ Some e → IsSplit test change xs e) → (b : Bool) → test x ≡ b → find test (x ∷ xs) ≡ Some e → IsSplit test change (x ∷ xs) e
 split_step test change x xs e rest true t f =
-    let same : x ≡ e = same_some x e (rw t at f) in
+    let same : x ≡ e = found_same x e (rw t at f) in
     let now : changed_first test change (x ∷ xs) ≡ change x ∷ xs = rw t refl in
     subst (λ (y : Entry). IsSplit test change (x ∷ xs) y) same (record { front = []; rest = xs; is = refl; now = now; passes = t })
 split_step test change x xs e rest false t f =
@@ -47,7 +40,7 @@ none_changed test change (x ∷ xs) f = none_step test change x xs (none_changed
 found_step : (test : Entry → Bool) (change : Entry → Entry) (x : Entry) (xs : List Entry) (e : Entry) → (find test xs ≡ Some e → find test (changed_first test change xs) ≡ Some (change e)) → test (change e) ≡ true
     → (b : Bool) → test x ≡ b → find test (x ∷ xs) ≡ Some e → find test (changed_first test change (x ∷ xs)) ≡ Some (change e)
 found_step test change x xs e rest k true t f =
-    let same : x ≡ e = same_some x e (rw t at f) in
+    let same : x ≡ e = found_same x e (rw t at f) in
     let there : test (change x) ≡ true = subst (λ (y : Entry). test (change y) ≡ true) (sym same) k in
     rw (t, there) (ap (λ (y : Entry). Some (change y)) same)
 found_step test change x xs e rest k false t f = rw (t, t) (rest (rw t at f))
@@ -79,7 +72,7 @@ pub refusing_found : (test : Entry → Bool) (xs : List Entry) (e : Entry) → A
 refusing_found test [] e h f = absurd (cc)
 refusing_found test (x ∷ xs) e h f = by (refusing_found test xs e h.1) (test x) refl f where
   by : (find test xs ≡ Some e → IsRefusing e) → (b : Bool) → test x ≡ b → find test (x ∷ xs) ≡ Some e → IsRefusing e
-  by rest true t g = let same : x ≡ e = same_some x e (rw t at g) in subst (λ (y : Entry). IsRefusing y) same h.0
+  by rest true t g = let same : x ≡ e = found_same x e (rw t at g) in subst (λ (y : Entry). IsRefusing y) same h.0
   by rest false t g = rest (rw t at g)
 
 pub refusing_changed : (test : Entry → Bool) (change : Entry → Entry) (xs : List Entry) → ((e : Entry) → IsRefusing e → IsRefusing (change e)) → AreRefusing xs → AreRefusing (changed_first test change xs)

@@ -1,11 +1,10 @@
 -- What all lives of a world's moments have, by what each socket of each host has.
-use Rattle.std.proofs.Common.{◌≡◌, inl, inr, ℕ, ◌<◌, Bool, true, false, List, [], ◌∷◌, ◌++◌, length, slice_index_or, zero, suc, refl, ap, sym, subst, eq-eqb, arith}
+use Rattle.std.proofs.Common.{◌≡◌, inl, inr, ℕ, ◌<◌, Bool, true, false, List, [], ◌∷◌, length, slice_index_or, zero, suc, refl, ap, sym, subst, eq-eqb, arith}
 use Rattle.std.specs.List.{Contains}
 use Rattle.leader1822.specs.Calls.{Seen}
 use Rattle.leader1822.specs.Host.{Host, same_host}
 use Rattle.leader1822.specs.Mailboxes as mail
-use Rattle.leader1822.specs.declared.crossing.Crossing.{Crossing}
-use Rattle.leader1822.proofs.lemmas.{run_below, same_host-refl}
+use Rattle.leader1822.proofs.lemmas.{same_host-refl}
 use Rattle.sockets.specs.Pairs.{pair_with}
 use Rattle.net_sim.specs.declared.life.Life.{Life}
 use Rattle.net_sim.specs.Book.{Kept}
@@ -15,6 +14,7 @@ use Rattle.net_sim.specs.Story.{Moment, program}
 use Rattle.net_sim.specs.Timeline.{IsTimeline, crossings_of}
 use Rattle.net_sim.specs.Told.{kept_in}
 use Rattle.net_sim.specs.World.{WorldState}
+use Rattle.world_keeps_pairing.proofs.lemmas.{book_lives, book_run}
 use Rattle.world_keeps_lives.specs.Lives.{EachIn, EachOn, HasOpenEnd, IsLifeOf, IsOwned, NoneOf, at_socket, mine_on}
 use Rattle.world_keeps_lives.proofs.Books.{One, each_weaker}
 use Rattle.world_keeps_lives.proofs.Hosts.{Holds}
@@ -86,24 +86,16 @@ module _ (hosts : List Host) (moments : List Moment) (addresses : HaveAddresses 
 -- ---- worlds
 
 module _ {C : Type 0} (seen : C → Seen) (hosts : List Host) (w : WorldState C) (lawful : IsLawful seen hosts w) where
-  book_run : mail.IsRun hosts (crossings_of lawful.whole.moments)
-  book_run =
-      let all : mail.IsRun hosts (lawful.booked.unbooked ++ w.kept.book.crossings) = subst (λ (xs : List Crossing). mail.IsRun hosts xs) lawful.booked.book lawful.run in
-      subst (λ (xs : List Crossing). mail.IsRun hosts xs) lawful.whole.crossings (run_below hosts lawful.booked.unbooked w.kept.book.crossings all)
-
-  book_lives : w.kept.book.lives ≡ (kept_in lawful.whole.moments).book.lives
-  book_lives = ap (λ (k : Kept). k.book.lives) lawful.whole.kept
-
   book_handed : w.kept.handed ≡ (kept_in lawful.whole.moments).handed
   book_handed = ap (λ (k : Kept). k.handed) lawful.whole.kept
 
   pub world_handed : AreHanded w.kept.book.lives w.kept.handed
   world_handed =
-      subst (λ (lives : List Life). AreHanded lives w.kept.handed) (sym book_lives)
-      (subst (λ (ts : List (List Bool)). AreHanded (kept_in lawful.whole.moments).book.lives ts) (sym book_handed) (handed hosts lawful.whole.moments lawful.addresses book_run lawful.whole.timeline))
+      subst (λ (lives : List Life). AreHanded lives w.kept.handed) (sym (book_lives seen hosts w lawful))
+      (subst (λ (ts : List (List Bool)). AreHanded (kept_in lawful.whole.moments).book.lives ts) (sym book_handed) (handed hosts lawful.whole.moments lawful.addresses (book_run seen hosts w lawful) lawful.whole.timeline))
 
   pub world_taken : (receiver : Life) → Contains w.kept.book.lives receiver → receives receiver ≡ true → IsGranted receiver receiver.messages (length receiver.bits)
-  world_taken x there r = taken hosts lawful.whole.moments lawful.addresses book_run lawful.whole.timeline x (subst (λ (lives : List Life). Contains lives x) book_lives there) r
+  world_taken x there r = taken hosts lawful.whole.moments lawful.addresses (book_run seen hosts w lawful) lawful.whole.timeline x (subst (λ (lives : List Life). Contains lives x) (book_lives seen hosts w lawful) there) r
 
   pub world_live : (x : Life) → Contains w.kept.book.lives x → x.ended ≡ false → HasOpenEnd (program x.host lawful.whole.moments) x
-  world_live x there goes = live hosts lawful.whole.moments lawful.addresses book_run lawful.whole.timeline x (subst (λ (lives : List Life). Contains lives x) book_lives there) goes
+  world_live x there goes = live hosts lawful.whole.moments lawful.addresses (book_run seen hosts w lawful) lawful.whole.timeline x (subst (λ (lives : List Life). Contains lives x) (book_lives seen hosts w lawful) there) goes

@@ -21,7 +21,7 @@ use Rattle.host_pairs.specs.Entries.{closed_by_partner, entry_at, free_link, is_
 use Rattle.host_pairs.specs.declared.entry.Entry.{Entry}
 use Rattle.host_pairs.specs.declared.listener.Listener.{Listener}
 use Rattle.host_pairs.specs.declared.notice.Notice.TheVariants as notice
-use Rattle.host_pairs.proofs.lemmas.{both}
+use Rattle.host_pairs.proofs.lemmas.{both, not_is}
 use Rattle.net_sim.specs.declared.life.Life.{Life}
 use Rattle.net_sim.specs.Book as book
 use Rattle.net_sim.specs.Book.{Kept, all_told, carried, lives_at, where_it}
@@ -29,7 +29,7 @@ use Rattle.net_sim.specs.Safe.{IsGranted, receives, sends}
 use Rattle.world_keeps_lives.specs.Lives.{EachOn, IsLifeOf, IsSafe, at_socket, has_opened}
 use Rattle.world_keeps_lives.proofs.Ends.{IsRefusing, refusing_found, split}
 use Rattle.world_keeps_lives.proofs.Books.{each_here, each_weaker}
-use Rattle.world_keeps_lives.proofs.Desks.{At, Elsewhere, Near, Place, clash, not_so, open_mine, open_opened, own_is, own_off}
+use Rattle.world_keeps_lives.proofs.Desks.{At, Elsewhere, Near, Place, clash, open_mine, open_opened, own_is, own_off}
 use Rattle.world_keeps_lives.proofs.Steps.{Good, good_aside, good_changed, good_foreign, good_if, good_joined, good_less, good_opening, good_queued, good_quiet, good_settled, good_swept, heard_less, refuses_due}
 
 and_false : (b : Bool) → (b && false) ≡ false
@@ -198,7 +198,7 @@ module _ (a : Host) (k : ℕ) (m : Place) (p : Host) (k0 : Kept) where
         ending_by false = good_fault NOT_CONNECTED c d h
 
   sending_found : (link : ℕ) (d : DeskState) (e : Entry) → find (sends_on link) d.entries ≡ Some e → is_receiving e ≡ false
-  sending_found link d e f = not_so (is_receiving e) (both (not (is_receiving e)) (is_link link e.link) (split (sends_on link) (λ x. x) d.entries e f).passes).0
+  sending_found link d e f = not_is (is_receiving e) (both (not (is_receiving e)) (is_link link e.link) (split (sends_on link) (λ x. x) d.entries e f).passes).0
 
   receiving_found : (link : ℕ) (d : DeskState) (e : Entry) → find (receives_on link) d.entries ≡ Some e → is_receiving e ≡ true
   receiving_found link d e f = (both (is_receiving e) (is_link link e.link) (split (receives_on link) (λ x. x) d.entries e f).passes).0

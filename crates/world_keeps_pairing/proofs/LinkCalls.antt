@@ -1,5 +1,5 @@
 -- What users ask for and what is answered, and links.
-use Rattle.std.proofs.Common.{◌≡◌, ℕ, Bool, true, false, not, ◌&&◌, ◌||◌, if◌then◌else◌, cond, List, [], ◌∷◌, ◌++◌, Option, Some, None, is_some, refl, ap, sym, subst, ◌∙◌}
+use Rattle.std.proofs.Common.{◌≡◌, ℕ, Bool, true, false, not, ◌&&◌, ◌||◌, if◌then◌else◌, List, [], ◌∷◌, ◌++◌, Option, Some, None, is_some, refl, sym, subst, ◌∙◌}
 use Rattle.leader1822.specs.Host.{Host, same_host}
 use Rattle.leader1822.specs.declared.address.Flow.{Flow}
 use Rattle.leader1822.specs.declared.crossing.Answer.{Answer}
@@ -25,10 +25,10 @@ use Rattle.sockets.specs.Accepting.{accepted, accepted_answer, turn_of}
 use Rattle.sockets.specs.Pairs.{NcpState, owner_of, pair_with, with_pair}
 use Rattle.sockets.specs.Requests.{at_owner, closed_socket, first_if, is_taken, is_used, refusal, served}
 use Rattle.sockets.specs.declared.peer.Peer.{Peer}
-use Rattle.sockets.specs.declared.fault.NcpFault.{NcpFault}
 use Rattle.sockets.specs.declared.request.Request.{Request}
 use Rattle.sockets.specs.declared.request.Request.TheVariants as request
-use Rattle.sockets.proofs.lemmas.{others_stay, pair_changed}
+use Rattle.sockets.proofs.lemmas.{not_first, others_stay}
+use Rattle.host_keeps_pairing.proofs.lemmas.{peer_here}
 use Rattle.world_keeps_pairing.proofs.Claims.{Claim}
 use Rattle.world_keeps_pairing.proofs.LinkDesks.{linked_settled, receiver_joined}
 use Rattle.world_keeps_pairing.proofs.LinkTurns.{send_odd}
@@ -40,18 +40,11 @@ LinksOf said taken q = Links (all_claims q.queue said) taken q.entries
 
 -- ---- which pair is changed
 
-peer_here : (P : PairState → Type 0) (g h : Host) (q : PairState) (peers : List Peer) → same_host h g ≡ true → P q → P (pair_with h (with_pair g q peers))
-peer_here P g h q peers e p = subst P (sym (pair_changed g h q peers ∙ ap (λ (b : Bool). cond b q (pair_with h peers)) e)) p
-
 kept : (P : PairState → Type 0) (g h : Host) (q : PairState) (peers : List Peer) → P (pair_with h peers) → (P (pair_with g peers) → P q) → P (pair_with h (with_pair g q peers))
 kept P g h q peers p work = by (same_host h g) refl where
   by : (b : Bool) → same_host h g ≡ b → P (pair_with h (with_pair g q peers))
   by true e = peer_here P g h q peers e (work (subst (λ (x : Host). P (pair_with x peers)) (same_host-true h g e) p))
   by false e = subst P (sym (others_stay g h q peers e)) p
-
-not_first : (test : Bool) (f : NcpFault) (others : Option NcpFault) → first_if test f others ≡ None → (test ≡ false) × (others ≡ None)
-not_first true f others e = absurd (let no : Some f ≡ None = e in cc)
-not_first false f others e = (refl, e)
 
 not_off : (b : Bool) → not b ≡ false → b ≡ true
 not_off true e = refl

@@ -74,7 +74,7 @@ said_are a b events =
 put : (g : Host) (q : PairState) (peers : List Peer) → pair_with g (with_pair g q peers) ≡ q
 put g q peers = pair_changed g g q peers ∙ ap (λ (b : Bool). cond b q (pair_with g peers)) (same_host-refl g)
 
-offered_pair : (s : NcpState) (stamp : ℕ) (g : Peer) (x : Parcel) → next_in s.peers ≡ Some (g, x) → pair_with g.host (offered s stamp).0.peers ≡ pair_after x g.pair (parcel_gone g.host stamp g.pair.busy x (desk_of g.pair s.listening))
+pub offered_pair : (s : NcpState) (stamp : ℕ) (g : Peer) (x : Parcel) → next_in s.peers ≡ Some (g, x) → pair_with g.host (offered s stamp).0.peers ≡ pair_after x g.pair (parcel_gone g.host stamp g.pair.busy x (desk_of g.pair s.listening))
 unfolding offered
 offered_pair s stamp g x is = rw is (put g.host (pair_after x g.pair (parcel_gone g.host stamp g.pair.busy x (desk_of g.pair s.listening))) s.peers)
 
@@ -152,7 +152,7 @@ module _ (origin : Host → Host → ℕ → ℕ) (a b : Host) (m : HostMessage)
 
 -- ---- what comes of a peer
 
-message_pair : (s : NcpState) (m : HostMessage) (stamp : ℕ) → same_host s.own m.flow.destination ≡ true → pair_with m.flow.source (accepted s (inbound.Message m) stamp).0.peers ≡ (message_taken m.flow.source stamp m.flow.link.0 m.text (turn_of s m.flow.source)).pair
+pub message_pair : (s : NcpState) (m : HostMessage) (stamp : ℕ) → same_host s.own m.flow.destination ≡ true → pair_with m.flow.source (accepted s (inbound.Message m) stamp).0.peers ≡ (message_taken m.flow.source stamp m.flow.link.0 m.text (turn_of s m.flow.source)).pair
 unfolding accepted
 message_pair s m stamp own = by (same_host s.own m.flow.destination) refl where
   by : (b : Bool) → same_host s.own m.flow.destination ≡ b → pair_with m.flow.source (accepted_message s m stamp).0.peers ≡ (message_taken m.flow.source stamp m.flow.link.0 m.text (turn_of s m.flow.source)).pair

@@ -63,7 +63,7 @@ module _ (origin : Host → Host → ℕ → ℕ) (moments : List Moment) (range
   bare_turn hosts (Asked g r) story run served free a b own foreign u =
       asked_bare (origin a b) own foreign a b g r moments (λ e. subst (λ (y : Host). refusal (program y moments) r ≡ None) (sym (same_host-true a g e)) served.0) (old.bare a b own foreign u)
 
-mail_below : (hosts : List Host) (x : Moment) (moments : List Moment) → mail.IsRun hosts (crossings_of (x ∷ moments)) → mail.IsRun hosts (crossings_of moments)
+pub mail_below : (hosts : List Host) (x : Moment) (moments : List Moment) → mail.IsRun hosts (crossings_of (x ∷ moments)) → mail.IsRun hosts (crossings_of moments)
 mail_below hosts (Crossed c) moments run = run.1
 mail_below hosts (Asked g r) moments run = run
 

@@ -3,6 +3,7 @@ pub use Rattle.world_keeps_pairing.proofs.BookPartners.{life_in, life_matches, l
 pub use Rattle.world_keeps_pairing.proofs.LifeLists.{between_itself, in_among, told_in}
 pub use Rattle.world_keeps_pairing.proofs.LinkGone.{some_commands}
 pub use Rattle.world_keeps_pairing.proofs.LinkRun.{AllTied, all_tied, heard_off_in, takes}
+pub use Rattle.world_keeps_pairing.proofs.LinkTied.{message_pair, offered_pair}
 pub use Rattle.world_keeps_pairing.proofs.LinkTurns.{odd_send, send_odd}
 pub use Rattle.world_keeps_pairing.proofs.LivesAmong.{by_sockets, lives_among}
 pub use Rattle.world_keeps_pairing.proofs.Marks.{IsPair, even_odd, foreign_of, own_of}
@@ -15,5 +16,5 @@ pub use Rattle.world_keeps_pairing.proofs.Sides.{Unheard, all_hears, all_says, a
 pub use Rattle.world_keeps_pairing.proofs.Tied.{AreOrigins, IsOrigin, programs_ranged, receiver_hears, sender_hears}
 pub use Rattle.world_keeps_pairing.proofs.Turns.{heard_is, other, phases_same, ready_is}
 pub use Rattle.world_keeps_pairing.proofs.Unpaired.{IsSilent, IsUnpaired, unpaired_turned, waiting_silent}
-pub use Rattle.world_keeps_pairing.proofs.UnpairedMoments.{AllBare, all_bare}
+pub use Rattle.world_keeps_pairing.proofs.UnpairedMoments.{AllBare, all_bare, mail_below}
 pub use Rattle.world_keeps_pairing.proofs.Worlds.{book_lives, book_run, world_alone, world_partners}

@@ -20,6 +20,7 @@ found_passes : (test : Seat → Bool) (seats : List Seat) (y : Seat) → find te
 found_passes test [] y h = absurd (cc)
 found_passes test (x ∷ seats) y h = found_by test x y (find test seats) (test x) refl (found_passes test seats y) h
 
+-- a host that isn't among these isn't seated
 pub absent : (h : Host) (p : Option NcpState) (seats : List Seat) → is_host (hosts_of seats) h ≡ false → seated h p seats ≡ seats
 absent h p [] away = refl
 absent h p (x ∷ seats) away =

@@ -126,6 +126,7 @@ found_away test (x ∷ xs) link none is =
     let parts : ((x == 0) ≡ false) × (list_any (λ l. l == 0) xs ≡ false) = either_false (x == 0) (list_any (λ l. l == 0) xs) none in
     found_by test x xs link parts.0 (λ e. found_away test xs link parts.1 e) (test x) refl is
 
+-- the lowest free link is a connection's
 pub free_away : (entries : List Entry) (link : ℕ) → free_link entries ≡ Some link → (link == 0) ≡ false
 free_away entries link is = found_away (λ l. not (list_any (receives_on l) entries)) connection_links link refl is
 

@@ -145,8 +145,6 @@ number_free n s g at is away dead l lasts x alive =
     let gone : is_alive n g (oldest l) ≡ false = rw was at behind in
     no_packet n g (oldest l) (not_alive n g (oldest l) gone).0 x alive
 
--- ---- where a message goes
-
 -- ---- what waits after it
 
 offered_answers : (way : Way) (m : HostMessage) (s : State) → CanGo way m → All Answerable (contents.messages s) → All Answerable (contents.messages (offered way m s))

@@ -7,6 +7,7 @@ use Rattle.std.proofs.lemmas.List.Elements.{All-nil, All-cons, All-head, All-tai
 use Rattle.leader1822.specs.declared.event.Direction.{Direction}
 use Rattle.leader1822.specs.declared.event.Direction.TheVariants as way
 use Rattle.packetiser.specs.PacketFields.{PacketFields}
+use Rattle.packetiser.proofs.lemmas.{All_left, All_right}
 use Rattle.imp_channel.specs.Holding.{carried_by}
 use Rattle.imp_channel.specs.declared.frame.Content.{Content}
 use Rattle.imp_channel.specs.declared.frame.Content.TheVariants as content
@@ -14,7 +15,7 @@ use Rattle.imp_channel.specs.declared.frame.Frame.{Frame}
 use Rattle.imp_channel.proofs.lemmas.{ContentHas}
 use Rattle.imp_node.specs.declared.outgoing.Outgoing.{Outgoing}
 use Rattle.imp_node.specs.State.{State, ImpTurn}
-use Rattle.imp_node.proofs.lemmas.{All_left, All_right, Has, OutgoingHas, TurnHas, has_packets, packets_has}
+use Rattle.imp_node.proofs.lemmas.{Has, OutgoingHas, TurnHas, has_packets, packets_has}
 use Rattle.subnet.specs.Net.{Net, Wire, imp_at, wire_at, line_places, line_from, followed_by, with_frame, put_on, put_one, put_all, with_turn, frames_on, without_at, dropping}
 use Rattle.subnet.specs.Alive.{packets_on, packets_on_wire, packets_at_imp, packets}
 use Rattle.subnet.specs.Events.{drop_frame}

@@ -13,9 +13,9 @@ use Rattle.net_sim.specs.Safe.{Match, receives, sends}
 use Rattle.net_sim.specs.Story.{Moment, event_in, events_of}
 use Rattle.net_sim.specs.Timeline.{IsTimeline, crossings_of}
 use Rattle.net_sim.specs.declared.life.Life.{Life}
+use Rattle.world_keeps_pairing.proofs.lemmas.{mail_below}
 use Rattle.world_keeps_streams.specs.Calls.{own_calls}
 use Rattle.world_keeps_streams.proofs.Steps.Joined.{Joined, Keeps, numbered_by_peer}
-use Rattle.world_keeps_streams.proofs.Calls.Chain.{mail_below}
 use Rattle.world_keeps_streams.proofs.Lives.Lists.{IsOf}
 use Rattle.world_keeps_streams.proofs.Requests.Sides.{Lawful, lives_in}
 use Rattle.world_keeps_streams.proofs.Books.Whole.{present_in, Away, Receives, Sends, HasReceives, HasSends, PresentR, PresentS, HasR, HasS, Whole, staying_r, staying_s, staying_has_r, staying_has_s}

@@ -27,10 +27,9 @@ use Rattle.net_sim.specs.Story.{Asked, Crossed, Moment, places, program}
 use Rattle.net_sim.specs.Timeline.{IsTimeline, crossings_of}
 use Rattle.net_sim.proofs.lemmas.{Coupled, coupled}
 use Rattle.world_keeps_pairing.specs.Free.{origin_in}
-use Rattle.world_keeps_pairing.proofs.lemmas.{AllBare, AllTied, AreOrigins, AreServed, all_bare, all_tied, are_origins, programs_ranged, served_in, takes}
+use Rattle.world_keeps_pairing.proofs.lemmas.{AllBare, AllTied, AreOrigins, AreServed, all_bare, all_tied, are_origins, mail_below, programs_ranged, served_in, takes}
 use Rattle.world_keeps_streams.specs.Calls.{calls_by, message_calls, next_calls, parcel_calls, request_calls}
 use Rattle.world_keeps_streams.proofs.Calls.CallSizes.{all_sized}
-use Rattle.world_keeps_streams.proofs.Calls.Chain.{mail_below}
 use Rattle.world_keeps_streams.proofs.Calls.May.{AllMay}
 use Rattle.world_keeps_streams.proofs.Calls.MayAsk.{AreSized, parcel_may, request_may}
 use Rattle.world_keeps_streams.proofs.Calls.MayHear.{has_end, message_may}

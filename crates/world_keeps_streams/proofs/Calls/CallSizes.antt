@@ -30,17 +30,17 @@ use Rattle.sockets.specs.Sending.{next_in}
 use Rattle.sockets.specs.declared.peer.Peer.{Peer}
 use Rattle.sockets.specs.declared.request.Request.{Request}
 use Rattle.sockets.specs.declared.request.Request.TheVariants as request
+use Rattle.sockets.proofs.lemmas.{not_first}
 use Rattle.net_sim.specs.Clean.{HaveAddresses}
 use Rattle.net_sim.specs.Projection.{IsApart, message_on}
 use Rattle.net_sim.specs.Story.{Asked, Crossed, IsStory, Moment, event_in, events_of, places, program}
 use Rattle.net_sim.specs.Timeline.{Happens, IsTimeline, crossings_of}
 use Rattle.net_sim.proofs.lemmas.{coupled}
 use Rattle.world_keeps_pairing.specs.Steps.{keeps}
-use Rattle.world_keeps_pairing.proofs.lemmas.{AText, AnRrp, AnRst, Sort, plain_joint, programs_ranged, served_in, sort_of}
+use Rattle.world_keeps_pairing.proofs.lemmas.{AText, AnRrp, AnRst, Sort, mail_below, plain_joint, programs_ranged, served_in, sort_of}
 use Rattle.world_keeps_streams.specs.Calls.{called, calls_by, commands_said, message_calls, next_calls, orders_heard, own_calls, owner_calls, parcel_calls, request_calls}
-use Rattle.world_keeps_streams.proofs.Calls.Chain.{chain, mail_below}
+use Rattle.world_keeps_streams.proofs.Calls.Chain.{chain}
 use Rattle.world_keeps_streams.proofs.Calls.MayAsk.{AreSized}
-use Rattle.world_keeps_streams.proofs.Calls.Moved.{not_first}
 use Rattle.world_keeps_streams.proofs.Calls.Sizes.{AllSizes, HasSize, history_sized, is_size, sizes_append}
 
 -- ---- a message

@@ -27,7 +27,7 @@ use Rattle.net_sim.specs.Story.{Asked, Crossed, IsStory, Moment, event_in, event
 use Rattle.net_sim.specs.Timeline.{Happens, IsTimeline, crossings_of}
 use Rattle.net_sim.proofs.lemmas.{Coupled, by_request, coupled, program_own}
 use Rattle.world_keeps_lives.proofs.lemmas.{clash}
-use Rattle.world_keeps_pairing.proofs.lemmas.{ready_is}
+use Rattle.world_keeps_pairing.proofs.lemmas.{mail_below, ready_is}
 use Rattle.world_keeps_streams.specs.Calls.{answer_calls, calls_by, message_calls, next_calls, own_calls, request_calls}
 use Rattle.world_keeps_streams.proofs.Calls.Leads.{IsIdle, Turned, is_reset, same_turned}
 use Rattle.world_keeps_streams.proofs.Calls.Moved.{answer_moved, message_moved, offered_moved, request_moved}
@@ -120,10 +120,6 @@ module _ (a b : Host) where
     moved (Asked h r) story happens = asked_moved h r happens.2
 
 -- ---- all moments
-
-pub mail_below : (hosts : List Host) (x : Moment) (moments : List Moment) → mail.IsRun hosts (crossings_of (x ∷ moments)) → mail.IsRun hosts (crossings_of moments)
-mail_below hosts (Crossed c) moments run = run.1
-mail_below hosts (Asked h r) moments run = run
 
 -- a host is through a reset by its program where it is by the law
 pub ready_both : (a b : Host) (moments : List Moment) → IsStory moments → stay.ready a b (events_of moments) ≡ is_ready (pair_with b (program a moments).peers).phase

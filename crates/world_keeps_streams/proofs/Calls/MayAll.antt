@@ -38,9 +38,9 @@ use Rattle.net_sim.specs.Timeline.{IsTimeline, crossings_of}
 use Rattle.net_sim.proofs.lemmas.{coupled}
 use Rattle.world_keeps_lives.proofs.lemmas.{clash}
 use Rattle.world_keeps_pairing.specs.Steps.{keeps}
-use Rattle.world_keeps_pairing.proofs.lemmas.{AText, AnRrp, AnRst, Sort, sort_of}
+use Rattle.world_keeps_pairing.proofs.lemmas.{AText, AnRrp, AnRst, Sort, mail_below, sort_of}
 use Rattle.world_keeps_streams.specs.Calls.{answer_calls, called, calls_by, commands_said, message_calls, next_calls, orders_heard, own_calls, owner_calls, parcel_calls, request_calls}
-use Rattle.world_keeps_streams.proofs.Calls.Chain.{mail_below, ready_both}
+use Rattle.world_keeps_streams.proofs.Calls.Chain.{ready_both}
 use Rattle.world_keeps_streams.proofs.Calls.May.{AllMay, MayCall}
 use Rattle.world_keeps_streams.proofs.Stays.Resets.{goes_on}
 

@@ -18,7 +18,7 @@ use Rattle.host_pairs.proofs.lemmas.{both, what_goes}
 use Rattle.host_keeps_ranges.specs.Ranges.{AreCommands}
 use Rattle.host_keeps_pairing.specs.Ends.{HasEnd, Stand, at}
 use Rattle.host_keeps_pairing.specs.Words.{marks}
-use Rattle.host_keeps_pairing.proofs.lemmas.{marks_append}
+use Rattle.host_keeps_pairing.proofs.lemmas.{found_same, marks_append}
 use Rattle.host_keeps_streams.specs.Histories.{AsksBack, Call, Closes, Gives, Grants, OpensReceiver, OpensSender}
 use Rattle.host_keeps_streams.proofs.lemmas.Senders as senders
 use Rattle.pairing_law.specs.Ends.{End}
@@ -29,12 +29,12 @@ use Rattle.sockets.specs.Requests.{close_fault, closing_fault, grant_fault, is_t
 use Rattle.sockets.specs.declared.fault.NcpFault.{NcpFault}
 use Rattle.sockets.specs.declared.request.Request.{Request}
 use Rattle.sockets.specs.declared.request.Request.TheVariants as request
+use Rattle.sockets.proofs.lemmas.{not_first}
 use Rattle.world_keeps_lives.proofs.lemmas.{owner_found}
 use Rattle.world_keeps_pairing.proofs.lemmas.{send_odd}
 use Rattle.world_keeps_streams.specs.Calls.{called, owner_calls, parcel_calls, request_calls}
 use Rattle.world_keeps_streams.proofs.Calls.May.{AllMay, MayCall}
 use Rattle.world_keeps_streams.proofs.Calls.MayTurns.{said_may}
-use Rattle.world_keeps_streams.proofs.Calls.Moved.{not_first}
 
 -- ---- byte sizes
 
@@ -47,19 +47,11 @@ abbrev pub AreSized : List Entry → Type 0
 AreSized [] = Unit {0}
 AreSized (e ∷ es) = IsSize e.size × AreSized es
 
-entry_or : Entry → Option Entry → Entry
-entry_or d None = d
-entry_or d (Some e) = e
-
-same_entry : (x e : Entry) → Some x ≡ Some e → x ≡ e
-unfolding entry_or
-same_entry x e is = ap (entry_or x) is
-
 sized_found : (test : Entry → Bool) (es : List Entry) (e : Entry) → AreSized es → find test es ≡ Some e → IsSize e.size
 sized_found test [] e h f = absurd (cc)
 sized_found test (x ∷ es) e h f = by (test x) refl (sized_found test es e h.1) where
   by : (b : Bool) → test x ≡ b → (find test es ≡ Some e → IsSize e.size) → IsSize e.size
-  by true t rest = subst (λ (y : Entry). IsSize y.size) (same_entry x e (rw t at f)) h.0
+  by true t rest = subst (λ (y : Entry). IsSize y.size) (found_same x e (rw t at f)) h.0
   by false t rest = rest (rw t at f)
 
 few : (size count : ℕ) → 0 < size → size * count ≤ 8023 → count < 2 ^ 16

@@ -15,7 +15,7 @@ use Rattle.host_pairs.specs.Phases.{is_ready}
 use Rattle.host_pairs.specs.Turn.{TurnState, order_taken, with_desk}
 use Rattle.host_pairs.specs.declared.entry.Entry.{Entry}
 use Rattle.host_pairs.specs.declared.listener.Listener.{Listener}
-use Rattle.host_pairs.proofs.lemmas.{both}
+use Rattle.host_pairs.proofs.lemmas.{both, not_is}
 use Rattle.host_keeps_ranges.specs.Ranges.{AreCommands, AreOrders}
 use Rattle.host_keeps_pairing.specs.Ends.{HasEnd, Stand, Standing, at, came_from, standing}
 use Rattle.host_keeps_pairing.specs.Hearing.{AreFree, AreJoint}
@@ -95,23 +95,19 @@ module _ (origin : ℕ → ℕ) where
   none_came None e = refl
   none_came (Some p) e = absurd (cc)
 
-  not_true : (b : Bool) → not b ≡ true → b ≡ false
-  not_true true e = absurd (cc)
-  not_true false e = refl
-
   first_ask : (p : ℕ) (s : Standing) (rest : List Standing) (words : List Mark) (x : End) → Stand true origin 0 (s ∷ rest) words x → fits (Ask p) x ≡ true → (s.partner ≡ None) × (s.partner_closed ≡ false)
   first_ask p s [] words x h fit =
       let is : x ≡ plain origin s = h.2 ∙ live_end origin s (h.0.live refl) in
       let fit_plain : fits (Ask p) (plain origin s) ≡ true = subst (λ (y : End). fits (Ask p) y ≡ true) is fit in
       let parts : (not (is_some (came_from origin s.partner)) ≡ true) × (not s.partner_closed ≡ true) = both (not (is_some (came_from origin s.partner))) (not s.partner_closed) fit_plain in
-      (none_came s.partner parts.0, not_true s.partner_closed parts.1)
+      (none_came s.partner parts.0, not_is s.partner_closed parts.1)
   first_ask p s (t ∷ rest) words x h fit = absurd h
 
   first_close : (s : Standing) (rest : List Standing) (words : List Mark) (x : End) → Stand true origin 0 (s ∷ rest) words x → fits Close x ≡ true → s.partner_closed ≡ false
   first_close s [] words x h fit =
       let is : x ≡ plain origin s = h.2 ∙ live_end origin s (h.0.live refl) in
       let fit_plain : fits Close (plain origin s) ≡ true = subst (λ (y : End). fits Close y ≡ true) is fit in
-      not_true s.partner_closed (both (is_begun (plain origin s)) (not s.partner_closed) fit_plain).1
+      not_is s.partner_closed (both (is_begun (plain origin s)) (not s.partner_closed) fit_plain).1
   first_close s (t ∷ rest) words x h fit = absurd h
 
   ask_found : (p own foreign : ℕ) (es : List Entry) (words : List Mark) (x : End) → Stand true origin 0 (at own foreign es) words x → fits (Ask p) x ≡ true → (e : Entry) → entry_at own foreign es ≡ Some e → (e.partner ≡ None) × (e.partner_closed ≡ false)

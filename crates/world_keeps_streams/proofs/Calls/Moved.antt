@@ -23,13 +23,12 @@ use Rattle.host_keeps_streams.specs.Histories.{AsksBack, Call, Closes, Gives, Gr
 use Rattle.sockets.specs.Accepting.{accepted, turn_of}
 use Rattle.sockets.specs.Pairs.{NcpState, owner_of, pair_with, with_pair}
 use Rattle.sockets.specs.Peers.{AreInOrder}
-use Rattle.sockets.specs.Requests.{at_owner, closed_socket, first_if, refusal, served, with_peer}
+use Rattle.sockets.specs.Requests.{at_owner, closed_socket, refusal, served, with_peer}
 use Rattle.sockets.specs.Sending.{next_in, offered, offered_by}
-use Rattle.sockets.specs.declared.fault.NcpFault.{NcpFault}
 use Rattle.sockets.specs.declared.peer.Peer.{Peer}
 use Rattle.sockets.specs.declared.request.Request.{Request}
 use Rattle.sockets.specs.declared.request.Request.TheVariants as request
-use Rattle.sockets.proofs.lemmas.{next_is, next_pair, pair_changed}
+use Rattle.sockets.proofs.lemmas.{next_is, next_pair, not_first, pair_changed}
 use Rattle.net_sim.specs.Projection.{IsApart, message_on}
 use Rattle.world_keeps_lives.proofs.lemmas.{clash, owner_found}
 use Rattle.world_keeps_streams.specs.Calls.{answer_calls, called, message_calls, next_calls, owner_calls, parcel_calls, request_calls}
@@ -86,10 +85,6 @@ module _ (s : NcpState) (stamp : ℕ) where
           rw e (same_turned b (pair_with b s.peers) _ (ap (λ (q : PairState). q.entries) (sym now)) (λ i. subst (λ (q : PairState). IsIdle q) (sym now) i))
 
 -- ---- what a user asks for
-
-pub not_first : (test : Bool) (f : NcpFault) (others : Option NcpFault) → first_if test f others ≡ None → (test ≡ false) × (others ≡ None)
-not_first true f others e = absurd (cc)
-not_first false f others e = (refl, e)
 
 pub found_some : (P : Type 0) (test : Entry → Bool) (es : List Entry) (e : Entry) → find test es ≡ Some e → es ≡ [] → P
 found_some P test es e f none = absurd (let r : None ≡ Some e = rw none at f in cc)

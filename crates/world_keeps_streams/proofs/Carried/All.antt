@@ -8,11 +8,11 @@ use Rattle.stream_law.specs.Receivers.{Receiver}
 use Rattle.stream_law.specs.Senders.{Sender}
 use Rattle.host_pairs.specs.Entries.{is_link, is_open, is_receiving, receives_on, sends_on}
 use Rattle.host_pairs.specs.declared.entry.Entry.{Entry}
-use Rattle.host_pairs.proofs.lemmas.{both}
+use Rattle.host_pairs.proofs.lemmas.{both, not_is}
 use Rattle.host_keeps_streams.specs.Ends.{has_opened}
 use Rattle.host_keeps_streams.specs.Histories.{IsTelling, gone_by}
 use Rattle.host_keeps_streams.specs.Names.{named}
-use Rattle.host_keeps_streams.proofs.lemmas.{is_there, name_of, not_is}
+use Rattle.host_keeps_streams.proofs.lemmas.{is_there, name_of}
 use Rattle.net_sim.specs.declared.life.Life.{Life}
 use Rattle.net_sim.specs.Book.{new_life}
 use Rattle.net_sim.specs.Safe.{receives, sends}

@@ -8,10 +8,11 @@ use Rattle.net_sim.specs.Clean.{HaveAddresses}
 use Rattle.net_sim.specs.Story.{Moment, event_in, events_of, program}
 use Rattle.net_sim.specs.Timeline.{IsTimeline, crossings_of}
 use Rattle.world_keeps_pairing.specs.Steps.{keeps}
+use Rattle.world_keeps_pairing.proofs.lemmas.{mail_below}
 use Rattle.world_keeps_streams.specs.Calls.{own_calls}
 use Rattle.world_keeps_streams.proofs.Carried.Calls.{Carries, carry_none}
 use Rattle.world_keeps_streams.proofs.Carried.Moments.{dropped_next}
-use Rattle.world_keeps_streams.proofs.Calls.Chain.{Chained, chain, mail_below}
+use Rattle.world_keeps_streams.proofs.Calls.Chain.{Chained, chain}
 
 module _ (number : ℕ → ℕ → ℕ → ℕ) (hosts : List Host) (addresses : HaveAddresses hosts) (a b : Host) where
   -- a host that drops its ends has none

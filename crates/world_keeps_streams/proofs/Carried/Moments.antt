@@ -7,6 +7,7 @@ use Rattle.stream_law.specs.Receivers.{Receiver}
 use Rattle.stream_law.specs.Senders.{Sender}
 use Rattle.host_pairs.specs.Desk.{listens_on}
 use Rattle.host_pairs.specs.declared.entry.Entry.{Entry}
+use Rattle.host_pairs.proofs.lemmas.{none_left}
 use Rattle.host_keeps_streams.specs.Histories as calls
 use Rattle.host_keeps_streams.specs.Histories.{IsHistory, IsTelling, ends_after}
 use Rattle.sockets.specs.Accepting.{turn_of}
@@ -75,14 +76,10 @@ placed_first a b s κ holds k = elim (holds k).socket [
 
 -- ---- where a host drops its ends
 
-drop_all : {A : Type 0} (xs : List A) → drop (length xs) xs ≡ []
-drop_all [] = refl
-drop_all (x ∷ xs) = drop_all xs
-
 pub dropped_next : (number : ℕ → ℕ → ℕ → ℕ) (a b : Host) (x : Moment) (ms : List Moment) → keeps a b (event_in x) (events_of ms) ≡ false → (pair_with b (program a (x ∷ ms)).peers).entries ≡ [] → Carries number a b (x ∷ ms)
 dropped_next number a b x ms off none =
     rw off (subst (λ (es : List Entry). CarryIn a b number [] es (drop (length (kept_in (x ∷ ms)).book.lives) (kept_in (x ∷ ms)).book.lives)) (sym none)
-    (subst (λ (ls : List Life). CarryIn a b number [] [] ls) (sym (drop_all (kept_in (x ∷ ms)).book.lives)) (carry_none a b number)))
+    (subst (λ (ls : List Life). CarryIn a b number [] [] ls) (sym (none_left (kept_in (x ∷ ms)).book.lives)) (carry_none a b number)))
 
 -- ---- where it keeps them
 

@@ -1,5 +1,5 @@
 -- What one call of a host's program does to the lives of its ends, and to what the laws of their links have of them.
-use Rattle.std.proofs.Common.{◌≡◌, ◌⊎◌, inl, inr, ℕ, ◌==◌, ◌&&◌, Bool, true, false, if◌then◌else◌, List, [], ◌∷◌, ◌++◌, map, filter, find, Option, Some, None, is_some, refl, ap, sym, subst, ◌∙◌}
+use Rattle.std.proofs.Common.{◌≡◌, ◌⊎◌, inl, inr, ℕ, ◌==◌, ◌&&◌, Bool, true, false, if◌then◌else◌, List, [], ◌∷◌, ◌++◌, map, filter, find, Some, None, is_some, refl, ap, sym, subst, ◌∙◌}
 use Rattle.leader1822.specs.Host.{Host}
 use Rattle.ncp_control.specs.Allocation as counters
 use Rattle.ncp_control.specs.declared.allocation.Allocation.{Allocation}
@@ -8,6 +8,7 @@ use Rattle.stream_law.specs.Senders.{Sender}
 use Rattle.host_pairs.specs.Entries.{changed_first, is_open, is_receiving, receives_on, sends_on}
 use Rattle.host_pairs.specs.declared.entry.Entry.{Entry}
 use Rattle.host_pairs.specs.declared.notice.Notice.{Notice}
+use Rattle.host_keeps_pairing.proofs.lemmas.{found_same}
 use Rattle.host_keeps_streams.specs.Ends.{has_opened}
 use Rattle.host_keeps_streams.specs.Names.{named}
 use Rattle.net_sim.specs.declared.life.Life.{Life}
@@ -238,20 +239,12 @@ among_changed test change (x ∷ xs) e h = by (among_changed test change xs e) (
         ]
       ]
 
-entry_or : Entry → Option Entry → Entry
-entry_or d None = d
-entry_or d (Some e) = e
-
-pub same_some : (x e : Entry) → Some x ≡ Some e → x ≡ e
-unfolding entry_or
-same_some x e is = ap (entry_or x) is
-
 pub found_among : (test : Entry → Bool) (es : List Entry) (e : Entry) → find test es ≡ Some e → Among e es × (test e ≡ true)
 found_among test [] e f = absurd (cc)
 found_among test (x ∷ xs) e f = by (found_among test xs e) (test x) refl f where
   by : (find test xs ≡ Some e → Among e xs × (test e ≡ true)) → (v : Bool) → test x ≡ v → find test (x ∷ xs) ≡ Some e → Among e (x ∷ xs) × (test e ≡ true)
   by rest true t g =
-      let s : x ≡ e = same_some x e (rw t at g) in
+      let s : x ≡ e = found_same x e (rw t at g) in
       (inl s, subst (λ (y : Entry). test y ≡ true) s t)
   by rest false t g =
       let r : Among e xs × (test e ≡ true) = rest (rw t at g) in

@@ -21,15 +21,16 @@ use Rattle.host_pairs.specs.Parcels.{Bytes, asked_at, bits_gone, cls_sent, comma
 use Rattle.host_pairs.specs.Turn.{freed}
 use Rattle.host_pairs.specs.declared.entry.Entry.{Entry}
 use Rattle.host_pairs.specs.declared.listener.Listener.{Listener}
-use Rattle.host_pairs.proofs.lemmas.{both, what_goes}
+use Rattle.host_pairs.proofs.lemmas.{both, not_is, what_goes}
 use Rattle.host_keeps_ranges.proofs.lemmas.{free_is_link}
+use Rattle.host_keeps_pairing.proofs.lemmas.{found_same}
 use Rattle.host_keeps_streams.specs.Ends.{has_opened}
 use Rattle.host_keeps_streams.specs.Histories.{Call, Hears, Takes, Says, Sends, Answered, OpensReceiver, OpensSender, Grants, AsksBack, Gives, Closes, ends_by}
 use Rattle.host_keeps_streams.specs.Names.{AreApart, is_among, named, numbers}
 use Rattle.host_keeps_streams.proofs.lemmas.{find_passes, is_there, numbers_changed, numbers_mapped, received_is, unlike}
 use Rattle.host_keeps_streams.proofs.lemmas.Senders as senders
 use Rattle.world_keeps_lives.specs.Lives.{AreRefusing}
-use Rattle.world_keeps_lives.proofs.lemmas.{IsLess, IsRefusing, called_less, clash, closed_less, found_changed, heard_less, none_changed, not_so, open_mine, open_parts, refusing_found, sent_less}
+use Rattle.world_keeps_lives.proofs.lemmas.{IsLess, IsRefusing, called_less, clash, closed_less, found_changed, heard_less, none_changed, open_mine, open_parts, refusing_found, sent_less}
 use Rattle.world_keeps_streams.proofs.Deeds.Effects as deeds
 use Rattle.world_keeps_streams.proofs.Deeds.Effects.{Among, Becomes, Comes, Deed, From, HasLink, IsLinked, IsNew, OpensAs, Stays, among_filter, changed_comes, changed_stays, filtered_stays, found_among, joined_comes, mapped_stays, stays_comes, stays_same, stays_then}
 use Rattle.world_keeps_streams.proofs.Deeds.Kinds.{arrives, arrives_if, closings, deed_of, hears, matches, opens, opens_by, returns, says, sweeps}
@@ -137,7 +138,7 @@ module _ (x y : ℕ) (change : Entry → Entry) (es : List Entry) (e : Entry) (f
   comes : (d : Deed) → (is_open (change e) ≡ true → OpensAs d (change e)) → Comes d es (changed_first (is_at x y) change es)
   comes d kind = changed_comes d (is_at x y) change es (λ f g among. subst (λ (z : Entry). Becomes d z (change z)) (one f g) (becomes d kind)) where
     one : (f : Entry) → find (is_at x y) es ≡ Some f → e ≡ f
-    one f g = deeds.same_some e f (sym found ∙ g)
+    one f g = found_same e f (sym found ∙ g)
 
   opened_by : (u v : Option ℕ) → (change e).asked ≡ u → (change e).partner ≡ v → Does (opens_by (change e) u v) es (changed_first (is_at x y) change es)
   opened_by None v f g = (comes deeds.Nothing (λ o. clash _ (is_some (change e).asked) (open_parts (change e) o).asked (ap is_some f)), tt)
@@ -148,7 +149,7 @@ module _ (x y : ℕ) (change : Entry → Entry) (es : List Entry) (e : Entry) (f
     own_end live false m = clash (false ≡ true) (is_ending (change e)) (let c : is_ending (change e) ≡ true = rw (refuses m) refl in c) live
 
     by : (b : Bool) → is_ending (change e) ≡ b → Does (if b then deeds.Nothing else deeds.Opens (change e) u v) es (changed_first (is_at x y) change es)
-    by true t = (comes deeds.Nothing (λ o. clash _ (is_ending (change e)) t (not_so (is_ending (change e)) (both (has_opened (change e)) (not (is_ending (change e))) o).1)), tt)
+    by true t = (comes deeds.Nothing (λ o. clash _ (is_ending (change e)) t (not_is (is_ending (change e)) (both (has_opened (change e)) (not (is_ending (change e))) o).1)), tt)
     by false t = (
       comes (deeds.Opens (change e) u v) (λ o. refl),
       record {
@@ -199,7 +200,7 @@ swept_gone name es a e h = by (entry_at e.own e.foreign (filter (λ x. not (is_o
       let m : ((z.own == e.own) ≡ true) × ((z.foreign == e.foreign) ≡ true) = both (z.own == e.own) (z.foreign == e.foreign) g.1 in
       let same : named name e ≡ named name z = ap (λ (n : ℕ). name n e.foreign) (sym (eqb-true z.own e.own m.0)) ∙ ap (λ (n : ℕ). name z.own n) (sym (eqb-true z.foreign e.foreign m.1)) in
       let one : e ≡ z = apart_one name es e z a l.0 k.0 same in
-      clash (true ≡ false) (is_over z) (subst (λ (w : Entry). is_over w ≡ true) one l.1) (not_so (is_over z) k.1)
+      clash (true ≡ false) (is_over z) (subst (λ (w : Entry). is_over w ≡ true) one l.1) (not_is (is_over z) k.1)
 
 does_sweeps : (name : ℕ → ℕ → ℕ) (es fs : List Entry) → Stays es fs → AreApart (numbers name fs) → Does (sweeps fs) es (filter (λ x. not (is_over x)) fs)
 does_sweeps name es fs s a = (

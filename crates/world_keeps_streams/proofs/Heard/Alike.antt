@@ -46,9 +46,9 @@ use Rattle.net_sim.proofs.lemmas.{Coupled, by_request, coupled}
 use Rattle.pair_keeps_streams.proofs.lemmas.{IsAsking}
 use Rattle.world_keeps_pairing.specs.Free.{law_events}
 use Rattle.world_keeps_pairing.specs.Steps.{keeps}
-use Rattle.world_keeps_pairing.proofs.lemmas.{AText, AnRrp, AnRst, AreOrigins, IsOrigin, IsPair, Sort, all_hears, all_says, at_texts, before, foreign_of, half, heard_is, hears_if, left_if, met_if, other, own_of, sort_of, waiting}
+use Rattle.world_keeps_pairing.proofs.lemmas.{AText, AnRrp, AnRst, AreOrigins, IsOrigin, IsPair, Sort, all_hears, all_says, at_texts, before, foreign_of, half, heard_is, hears_if, left_if, mail_below, met_if, other, own_of, sort_of, waiting}
 use Rattle.world_keeps_streams.specs.Calls.{answer_calls, called, calls_by, commands_said, message_calls, next_calls, orders_heard, own_calls, owner_calls, parcel_calls, request_calls}
-use Rattle.world_keeps_streams.proofs.Calls.Chain.{mail_below, ready_both}
+use Rattle.world_keeps_streams.proofs.Calls.Chain.{ready_both}
 use Rattle.world_keeps_streams.proofs.Requests.Sides.{begins_same}
 use Rattle.world_keeps_streams.proofs.Heard.Lists.{heard_list, mark_heard}
 use Rattle.world_keeps_streams.proofs.Stays.Meets.{solo_there}

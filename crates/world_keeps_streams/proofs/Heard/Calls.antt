@@ -16,9 +16,10 @@ use Rattle.net_sim.specs.Timeline.{IsTimeline, crossings_of}
 use Rattle.pair_keeps_streams.specs.Words.{heard_from, with_closing}
 use Rattle.pair_keeps_streams.proofs.lemmas.{IsFirstCall, heard_more, heard_step}
 use Rattle.world_keeps_pairing.specs.Steps.{keeps}
+use Rattle.world_keeps_pairing.proofs.lemmas.{mail_below}
 use Rattle.world_keeps_streams.specs.Calls.{calls_by, own_calls}
 use Rattle.world_keeps_streams.proofs.Calls.Allowed.{may_calls}
-use Rattle.world_keeps_streams.proofs.Calls.Chain.{Chained, chain, mail_below}
+use Rattle.world_keeps_streams.proofs.Calls.Chain.{Chained, chain}
 use Rattle.world_keeps_streams.proofs.Calls.May.{AllMay, MayCall}
 
 -- one more, where the call hears a CLS of these sockets, the peer's first

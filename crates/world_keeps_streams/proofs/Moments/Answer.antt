@@ -30,8 +30,9 @@ use Rattle.net_sim.specs.Timeline.{IsTimeline, crossings_of}
 use Rattle.net_sim.specs.Told.{kept_in}
 use Rattle.net_sim.proofs.lemmas.{coupled, program_own, story_agrees}
 use Rattle.world_keeps_pairing.specs.Steps.{keeps}
+use Rattle.world_keeps_pairing.proofs.lemmas.{mail_below}
 use Rattle.world_keeps_streams.specs.Calls.{called, calls_by, own_calls}
-use Rattle.world_keeps_streams.proofs.Calls.Chain.{Chained, chain, mail_below, ready_both}
+use Rattle.world_keeps_streams.proofs.Calls.Chain.{Chained, chain, ready_both}
 use Rattle.world_keeps_streams.proofs.Deeds.Effects.{all_lives}
 use Rattle.world_keeps_streams.proofs.Deeds.Told.{call_told}
 use Rattle.world_keeps_streams.proofs.Carried.Calls.{Carries}

@@ -21,6 +21,7 @@ use Rattle.sockets.specs.Pairs.{NcpState, owner_of, pair_with}
 use Rattle.sockets.specs.Requests.{grant_fault, on_open, refusal, served_notices}
 use Rattle.sockets.specs.declared.request.Request.{Request}
 use Rattle.sockets.specs.declared.request.Request.TheVariants as request
+use Rattle.sockets.proofs.lemmas.{not_first}
 use Rattle.net_sim.specs.declared.life.Life.{Life}
 use Rattle.net_sim.specs.Book as book
 use Rattle.net_sim.specs.Book.{asked, changed_when, life_ended, lives_asked, lives_at, lives_with, where_it}
@@ -37,7 +38,6 @@ use Rattle.world_keeps_streams.specs.Calls.{called, calls_by, owner_calls, own_c
 use Rattle.world_keeps_streams.proofs.Steps.ActsAsked.{no_contact}
 use Rattle.world_keeps_streams.proofs.Calls.Allowed.{may_calls}
 use Rattle.world_keeps_streams.proofs.Calls.May.{AllMay, MayCall}
-use Rattle.world_keeps_streams.proofs.Calls.Moved.{not_first}
 use Rattle.world_keeps_streams.proofs.Deeds.Effects as deeds
 use Rattle.world_keeps_streams.proofs.Deeds.Effects.{Among, Deed, all_lives, found_among}
 use Rattle.world_keeps_streams.proofs.Deeds.Kinds.{deed_of}

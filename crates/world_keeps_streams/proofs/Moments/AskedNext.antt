@@ -15,6 +15,7 @@ use Rattle.net_sim.specs.Told.{kept_in}
 use Rattle.world_keeps_lives.specs.Lives.{AreRefusing}
 use Rattle.world_keeps_lives.proofs.lemmas.{held}
 use Rattle.world_keeps_pairing.specs.Steps.{keeps}
+use Rattle.world_keeps_pairing.proofs.lemmas.{mail_below}
 use Rattle.world_keeps_streams.specs.Calls.{calls_by, own_calls}
 use Rattle.world_keeps_streams.proofs.Deeds.Effects.{Among}
 use Rattle.world_keeps_streams.proofs.Deeds.Kinds.{deed_of}
@@ -24,7 +25,7 @@ use Rattle.world_keeps_streams.proofs.Carried.Calls.{Carries, recent, since}
 use Rattle.world_keeps_streams.proofs.Carried.Heard.{AllAllowed}
 use Rattle.world_keeps_streams.proofs.Carried.Moments.{single_next}
 use Rattle.world_keeps_streams.proofs.Carried.Still.{AreIn, still_next}
-use Rattle.world_keeps_streams.proofs.Calls.Chain.{chain, mail_below}
+use Rattle.world_keeps_streams.proofs.Calls.Chain.{chain}
 
 -- ---- a change of lives that are of others
 

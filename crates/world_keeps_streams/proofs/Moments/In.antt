@@ -35,9 +35,8 @@ use Rattle.net_sim.specs.Told.{kept_in}
 use Rattle.net_sim.proofs.lemmas.{coupled, program_own}
 use Rattle.world_keeps_lives.proofs.lemmas.{held}
 use Rattle.world_keeps_pairing.specs.Steps.{keeps}
-use Rattle.world_keeps_pairing.proofs.lemmas.{AText, AnRrp, AnRst, Sort, plain_joint, sort_of}
+use Rattle.world_keeps_pairing.proofs.lemmas.{AText, AnRrp, AnRst, Sort, mail_below, message_pair, plain_joint, sort_of}
 use Rattle.world_keeps_streams.specs.Calls.{called, calls_by, message_calls, orders_heard, own_calls}
-use Rattle.world_keeps_streams.proofs.Steps.ActsIn.{taken_there}
 use Rattle.world_keeps_streams.proofs.Deeds.Effects.{Among, all_lives}
 use Rattle.world_keeps_streams.proofs.Deeds.Kinds.{deed_of}
 use Rattle.world_keeps_streams.proofs.Deeds.Told.{After, call_told}
@@ -47,7 +46,7 @@ use Rattle.world_keeps_streams.proofs.Carried.Heard.{AllAllowed, AreOrdinary, Is
 use Rattle.world_keeps_streams.proofs.Carried.Moments.{kept_next, placed_first, single_next}
 use Rattle.world_keeps_streams.proofs.Carried.Owned.{since_within, told_lives}
 use Rattle.world_keeps_streams.proofs.Carried.Still.{still_next}
-use Rattle.world_keeps_streams.proofs.Calls.Chain.{chain, mail_below}
+use Rattle.world_keeps_streams.proofs.Calls.Chain.{chain}
 
 -- what a host tells its user of a message
 notices_there : (s : NcpState) (m : HostMessage) (stamp : ℕ) → same_host s.own m.flow.destination ≡ true
@@ -122,7 +121,7 @@ module _ (number : ℕ → ℕ → ℕ → ℕ) (tells : IsTelling number) (host
     pair_now : pair_with b (program a (Crossed (crossing.In m) ∷ ms)).peers ≡ new.pair
     pair_now = rw mine
         (subst (λ (g : Host). pair_with g (accepted (program a ms) (inbound.Message m) (places ms)).0.peers ≡ (message_taken g (places ms) m.flow.link.0 m.text (turn_of (program a ms) g)).pair) (sym peer_host)
-        (taken_there (program a ms) m (places ms) own_is))
+        (message_pair (program a ms) m (places ms) own_is))
 
     notices_now : (accepted (program a ms) (inbound.Message m) (places ms)).1 ≡ new.notices
     notices_now = subst (λ (g : Host). (accepted (program a ms) (inbound.Message m) (places ms)).1 ≡ (message_taken g (places ms) m.flow.link.0 m.text (turn_of (program a ms) g)).notices) (sym peer_host)

@@ -26,9 +26,9 @@ use Rattle.host_keeps_pairing.proofs.lemmas.{reply_idle}
 use Rattle.host_keeps_streams.specs.Histories.{Call, Hears, Takes}
 use Rattle.net_sim.specs.declared.life.Life.{Life}
 use Rattle.net_sim.specs.Book.{Kept, all_told}
-use Rattle.host_pairs.proofs.lemmas.{both}
+use Rattle.host_pairs.proofs.lemmas.{both, not_is}
 use Rattle.world_keeps_lives.specs.Lives.{AreRefusing, IsLifeOf, at_socket, mine_on}
-use Rattle.world_keeps_lives.proofs.lemmas.{AreAside, At, Elsewhere, GoodTurn, Near, Place, all_told_append, at_aside, clash, good_data, good_queued, good_ready, good_reset, good_taken, not_so, open_mine, refusing_found}
+use Rattle.world_keeps_lives.proofs.lemmas.{AreAside, At, Elsewhere, GoodTurn, Near, Place, all_told_append, at_aside, clash, good_data, good_queued, good_ready, good_reset, good_taken, open_mine, refusing_found}
 use Rattle.world_keeps_streams.proofs.Deeds.Effects as deeds
 use Rattle.world_keeps_streams.proofs.Deeds.Effects.{Among, Deed, all_lives, among_kept, found_among}
 use Rattle.world_keeps_streams.proofs.Deeds.Kinds.{arrives, arrives_if, closings, deed_of, hears, matches, opens, opens_by, returns}
@@ -106,7 +106,7 @@ module _ (a b p : Host) (off : same_host p b ≡ false) where
     by m [] l is h = absurd is
     by Near (f ∷ []) false is h = λ x among host peer lives.
         let two : (at_socket a k x ≡ true) × (not x.ended ≡ true) = both (at_socket a k x) (not x.ended) lives in
-        let i : (t : List Bool) × IsLifeOf p f x t = among_each a k (IsLifeOf p f) κ.book.lives κ.handed x among two.0 (not_so x.ended two.1) h.1 in
+        let i : (t : List Bool) × IsLifeOf p f x t = among_each a k (IsLifeOf p f) κ.book.lives κ.handed x among two.0 (not_is x.ended two.1) h.1 in
         clash ⊥ (same_host p b) (subst (λ (g : Host). same_host p g ≡ true) (sym i.1.peers ∙ peer) (same_host-refl p)) off
     by Near (f ∷ []) true is h = absurd h
     by Near (f ∷ g ∷ more) l is h = absurd h

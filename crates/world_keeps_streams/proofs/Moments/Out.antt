@@ -9,11 +9,10 @@ use Rattle.ncp_control.specs.declared.command.Command.{Command}
 use Rattle.host_pairs.specs.Desk.{DeskState, desk_of}
 use Rattle.host_pairs.specs.Pair.{PairState}
 use Rattle.host_pairs.specs.Parcels as parcel
-use Rattle.host_pairs.specs.Parcels.{Parcel, next_of, pair_after, parcel_gone, with_connections}
+use Rattle.host_pairs.specs.Parcels.{Parcel, next_of, parcel_gone, with_connections}
 use Rattle.host_pairs.specs.declared.entry.Entry.{Entry}
 use Rattle.host_pairs.specs.declared.listener.Listener.{Listener}
 use Rattle.host_pairs.specs.declared.notice.Notice.{Notice}
-use Rattle.host_keeps_pairing.proofs.lemmas.{put}
 use Rattle.host_keeps_ranges.proofs.lemmas.{pair_range}
 use Rattle.host_keeps_streams.specs.Histories as calls
 use Rattle.host_keeps_streams.specs.Histories.{AreAllowed, IsHistory, IsTelling, Says, Sends}
@@ -32,9 +31,9 @@ use Rattle.net_sim.proofs.lemmas.{coupled}
 use Rattle.world_keeps_lives.proofs.lemmas.{GoodTurn, Place, has_ends, held, waits}
 use Rattle.world_keeps_pairing.specs.Free.{origin_in}
 use Rattle.world_keeps_pairing.specs.Steps.{keeps}
-use Rattle.world_keeps_pairing.proofs.lemmas.{programs_ranged, served_in, some_commands}
+use Rattle.world_keeps_pairing.proofs.lemmas.{mail_below, offered_pair, programs_ranged, served_in, some_commands}
 use Rattle.world_keeps_streams.specs.Calls.{called, calls_by, commands_said, own_calls, parcel_calls}
-use Rattle.world_keeps_streams.proofs.Calls.Chain.{chain, mail_below}
+use Rattle.world_keeps_streams.proofs.Calls.Chain.{chain}
 use Rattle.world_keeps_streams.proofs.Deeds.Effects.{Among, all_lives}
 use Rattle.world_keeps_streams.proofs.Deeds.Told.{call_told}
 use Rattle.world_keeps_streams.proofs.Carried.Calls.{Carries, CarryIn, since}
@@ -55,11 +54,7 @@ said_onto b stamp [] q listening older base = refl
 said_onto b stamp (c ∷ cs) q listening older base =
     said_onto b stamp cs (with_connections q (parcel.command_gone b stamp c (desk_of q listening))) listening (called (Says stamp c) q listening ∷ older) base
 
--- what an offer leaves, and what is told of it
-offered_pair : (s : NcpState) (stamp : ℕ) (g : Peer) (x : Parcel) → next_in s.peers ≡ Some (g, x) → pair_with g.host (offered s stamp).0.peers ≡ pair_after x g.pair (parcel_gone g.host stamp g.pair.busy x (desk_of g.pair s.listening))
-unfolding offered
-offered_pair s stamp g x n = rw n (put g.host (pair_after x g.pair (parcel_gone g.host stamp g.pair.busy x (desk_of g.pair s.listening))) s.peers)
-
+-- what is told of an offer
 offered_told : (s : NcpState) (stamp : ℕ) (g : Peer) (x : Parcel) → next_in s.peers ≡ Some (g, x) → (offered s stamp).1 ≡ (parcel_gone g.host stamp g.pair.busy x (desk_of g.pair s.listening)).notices
 unfolding offered
 offered_told s stamp g x n = rw n refl

@@ -23,11 +23,11 @@ use Rattle.net_sim.specs.Story.{Asked, Crossed, Moment, event_in, events_of, pla
 use Rattle.net_sim.specs.Timeline.{IsTimeline, crossings_of}
 use Rattle.net_sim.proofs.lemmas.{Coupled, by_request, coupled, program_own}
 use Rattle.world_keeps_pairing.specs.Steps.{keeps}
-use Rattle.world_keeps_pairing.proofs.lemmas.{AText, AnRrp, AnRst, Sort, sort_of}
+use Rattle.world_keeps_pairing.proofs.lemmas.{AText, AnRrp, AnRst, Sort, mail_below, sort_of}
 use Rattle.world_keeps_streams.specs.Calls.{calls_by, own_calls}
 use Rattle.world_keeps_streams.proofs.Calls.Allowed.{may_calls}
 use Rattle.world_keeps_streams.proofs.Stays.Calm.{Calm, One, Still, reset_drops}
-use Rattle.world_keeps_streams.proofs.Calls.Chain.{chain, idle, mail_below, ready_both}
+use Rattle.world_keeps_streams.proofs.Calls.Chain.{chain, idle, ready_both}
 use Rattle.world_keeps_streams.proofs.Steps.Joined.{Joined}
 use Rattle.world_keeps_streams.proofs.Calls.May.{AllMay}
 use Rattle.world_keeps_streams.proofs.Stays.Meeting.{Alone, met}

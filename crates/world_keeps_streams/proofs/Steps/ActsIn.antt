@@ -22,7 +22,7 @@ use Rattle.host_pairs.specs.Pair.{PairState}
 use Rattle.host_pairs.specs.Phases as program_phases
 use Rattle.host_pairs.specs.Turn.{TurnState, message_taken, orders_taken, with_desk}
 use Rattle.host_keeps_pairing.specs.Hearing.{AreJoint}
-use Rattle.host_keeps_pairing.proofs.lemmas.{eqb-sym, put}
+use Rattle.host_keeps_pairing.proofs.lemmas.{eqb-sym}
 use Rattle.host_keeps_streams.specs.Histories.{IsTelling}
 use Rattle.pair_keeps_streams.proofs.lemmas.{Fetched, Free, Joint, Lies, Party, Post, Steps, receives}
 use Rattle.reset_law.specs.Boxes.{Box, Waiting, Taken, Fetch, WaitsWith, fetched, posted, boxes}
@@ -31,13 +31,13 @@ use Rattle.reset_law.specs.Runs.{IsRun}
 use Rattle.reset_law.specs.Stays as stay
 use Rattle.reset_law.proofs.lemmas.{stays_ready}
 use Rattle.sockets.specs.Accepting.{accepted, turn_of}
-use Rattle.sockets.specs.Pairs.{NcpState, pair_with}
+use Rattle.sockets.specs.Pairs.{pair_with}
 use Rattle.sockets.proofs.lemmas.{message_leaves}
 use Rattle.net_sim.specs.Projection.{IsApart, message_on}
 use Rattle.net_sim.specs.Story.{Moment, Crossed, IsStory, event_in, events_of, places, program}
 use Rattle.net_sim.proofs.lemmas.{program_own}
 use Rattle.world_keeps_pairing.specs.Steps.{keeps}
-use Rattle.world_keeps_pairing.proofs.lemmas.{AText, AnRrp, AnRst, Sort, plain_joint, sort_of, waiting}
+use Rattle.world_keeps_pairing.proofs.lemmas.{AText, AnRrp, AnRst, Sort, message_pair, plain_joint, sort_of, waiting}
 use Rattle.world_keeps_streams.specs.Calls.{message_calls, orders_heard, own_calls}
 use Rattle.world_keeps_streams.proofs.Steps.Going.{Goes, Here, passes_here, stays_as, takes_here}
 use Rattle.world_keeps_streams.proofs.Steps.GoesHeard.{blind, deaf, heard_run, reply_heard}
@@ -45,11 +45,6 @@ use Rattle.world_keeps_streams.proofs.Steps.GoesOut.{ready_as}
 use Rattle.world_keeps_streams.proofs.Steps.Held.{Acted, Held, HereIn, act_by, acted_out, left_held, side}
 use Rattle.world_keeps_streams.proofs.Steps.Joined.{commands_in, commands_of_message, legal_in, post_in}
 use Rattle.world_keeps_streams.proofs.Calls.MayCalls.{MayCalls}
-
-pub taken_there : (s : NcpState) (m : HostMessage) (stamp : ℕ) → same_host s.own m.flow.destination ≡ true
-    → pair_with m.flow.source (accepted s (inbound.Message m) stamp).0.peers ≡ (message_taken m.flow.source stamp m.flow.link.0 m.text (turn_of s m.flow.source)).pair
-unfolding accepted
-taken_there s m stamp own = rw own (put m.flow.source (message_taken m.flow.source stamp m.flow.link.0 m.text (turn_of s m.flow.source)).pair s.peers)
 
 -- what a receiver that takes data keeps
 pub record Took (old new : Receiver) : Type 0 where
@@ -224,7 +219,7 @@ module _ (number other : ℕ → ℕ → ℕ → ℕ) (tells : IsTelling number)
         now : pair_with p (accepted (program h moments) (inbound.Message m) (places moments)).0.peers ≡ (message_taken p (places moments) m.flow.link.0 m.text (turn_of (program h moments) p)).pair
         now =
             subst (λ (g : Host). pair_with g (accepted (program h moments) (inbound.Message m) (places moments)).0.peers ≡ (message_taken g (places moments) m.flow.link.0 m.text (turn_of (program h moments) g)).pair) (sym peer_host)
-            (taken_there (program h moments) m (places moments) own_is)
+            (message_pair (program h moments) m (places moments) own_is)
 
         abbrev Turns : Party → Type 0
         Turns w =

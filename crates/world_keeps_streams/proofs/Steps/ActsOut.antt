@@ -9,9 +9,9 @@ use Rattle.ncp_control.specs.declared.command.Command.{Command}
 use Rattle.stream_law.specs.Streams.{Stream}
 use Rattle.host_pairs.specs.Desk.{desk_of}
 use Rattle.host_pairs.specs.Pair.{PairState}
-use Rattle.host_pairs.specs.Parcels.{Parcel, link_for, next_of, pair_after, parcel_gone, text_for}
+use Rattle.host_pairs.specs.Parcels.{link_for, next_of, pair_after, parcel_gone, text_for}
 use Rattle.host_pairs.specs.declared.phase.Phase.TheVariants as phase
-use Rattle.host_keeps_pairing.proofs.lemmas.{eqb-sym, put}
+use Rattle.host_keeps_pairing.proofs.lemmas.{eqb-sym}
 use Rattle.host_keeps_ranges.specs.Ranges.{IsRanged, IsReadBack}
 use Rattle.host_keeps_ranges.proofs.lemmas.{offer_read}
 use Rattle.host_keeps_streams.specs.Histories.{IsTelling}
@@ -24,13 +24,12 @@ use Rattle.reset_law.specs.Stays as stay
 use Rattle.reset_law.proofs.lemmas.{stays_ready}
 use Rattle.sockets.specs.Pairs.{NcpState, pair_with}
 use Rattle.sockets.specs.Sending.{next_in, offered}
-use Rattle.sockets.specs.declared.peer.Peer.{Peer}
 use Rattle.sockets.proofs.lemmas.{next_is, next_pair, offer_leaves}
 use Rattle.net_sim.specs.Projection.{message_on}
 use Rattle.net_sim.specs.Story.{Moment, Crossed, IsNext, IsStory, event_in, events_of, places, program}
 use Rattle.net_sim.proofs.lemmas.{story_agrees}
 use Rattle.world_keeps_pairing.specs.Steps.{keeps}
-use Rattle.world_keeps_pairing.proofs.lemmas.{AText, AnRrp, AnRst, Sort, sort_of}
+use Rattle.world_keeps_pairing.proofs.lemmas.{AText, AnRrp, AnRst, Sort, offered_pair, sort_of}
 use Rattle.world_keeps_streams.specs.Calls.{next_calls, own_calls, parcel_calls}
 use Rattle.world_keeps_streams.proofs.Steps.Going.{Goes, stays_as}
 use Rattle.world_keeps_streams.proofs.Steps.GoesOut.{box_is_free, ready_as, ready_phase}
@@ -47,10 +46,6 @@ clash P false e f = absurd (let no : false ≡ true = e in cc)
 kept_text : (t : Bool) (k : ℕ) (text : List Bool) (q : Pair) → stay.is_ready q.phase ≡ true → (stay.is_ready (pair_moved (when t (Send k (Other text))) q).phase && not false) ≡ true
 kept_text true k text q e = rw e refl
 kept_text false k text q e = rw e refl
-
-offered_there : (s : NcpState) (stamp : ℕ) (g : Peer) (x : Parcel) → next_in s.peers ≡ Some (g, x) → pair_with g.host (offered s stamp).0.peers ≡ pair_after x g.pair (parcel_gone g.host stamp g.pair.busy x (desk_of g.pair s.listening))
-unfolding offered
-offered_there s stamp g x n = rw n (put g.host (pair_after x g.pair (parcel_gone g.host stamp g.pair.busy x (desk_of g.pair s.listening))) s.peers)
 
 module _ (number other : ℕ → ℕ → ℕ → ℕ) (tells : IsTelling number) (others : IsTelling other) (link : ℕ) where
   -- of two hosts that have left nothing is said of what waits
@@ -169,7 +164,7 @@ module _ (number other : ℕ → ℕ → ℕ → ℕ) (tells : IsTelling number)
             now : pair_with p (offered (program h moments) (places moments)).0.peers ≡ pair_after n.parcel n.peer.pair (parcel_gone p (places moments) n.peer.pair.busy n.parcel (desk_of n.peer.pair (program h moments).listening))
             now =
                 subst (λ (g : Host). pair_with g (offered (program h moments) (places moments)).0.peers ≡ pair_after n.parcel n.peer.pair (parcel_gone g (places moments) n.peer.pair.busy n.parcel (desk_of n.peer.pair (program h moments).listening))) (sym is_peer)
-                (offered_there (program h moments) (places moments) n.peer n.parcel n.next)
+                (offered_pair (program h moments) (places moments) n.peer n.parcel n.next)
 
             link_is : m.flow.link.0 ≡ link_for n.parcel
             link_is = ap (λ (k : HostMessage). k.flow.link.0) n.message

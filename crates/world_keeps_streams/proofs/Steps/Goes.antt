@@ -22,13 +22,12 @@ use Rattle.net_sim.specs.Projection.{event_by, message_on}
 use Rattle.net_sim.specs.Story.{Moment, Crossed, Asked, IsStory, event_in, events_of, program}
 use Rattle.net_sim.specs.Timeline.{IsTimeline, crossings_of}
 use Rattle.net_sim.proofs.lemmas.{Coupled, by_request, coupled}
-use Rattle.world_keeps_pairing.proofs.lemmas.{programs_ranged, served_in}
+use Rattle.world_keeps_pairing.proofs.lemmas.{mail_below, programs_ranged, served_in}
 use Rattle.world_keeps_streams.specs.Calls.{calls_by}
 use Rattle.world_keeps_streams.proofs.Steps.ActsAnswer.{act_answer, act_up}
 use Rattle.world_keeps_streams.proofs.Steps.ActsAsked.{act_asked, act_down}
 use Rattle.world_keeps_streams.proofs.Steps.ActsIn.{act_in}
 use Rattle.world_keeps_streams.proofs.Steps.ActsOut.{act_out}
-use Rattle.world_keeps_streams.proofs.Calls.Chain.{mail_below}
 use Rattle.world_keeps_streams.proofs.Steps.GoesOut.{box_is_free}
 use Rattle.world_keeps_streams.proofs.Steps.Held.{Acted, Held, side}
 use Rattle.world_keeps_streams.proofs.Steps.Joined.{Joined, commands_in, party, post_in, numbered_by_peer, turned_tells}

@@ -1,5 +1,4 @@
-#!/usr/bin/env python3
-"""Checks the page of a replay (./explain --page): ./check-page [--browser]
+"""The page of a replay: its state, rows, bars, map and size, and with --browser what it does in Chromium (minutes).
 
 Without a browser, for each example and for inputs made by chance:
 - the state that is folded from printed lines is that of the independent model in Python, after each event;
@@ -9,7 +8,7 @@ Without a browser, for each example and for inputs made by chance:
 - with --inside too, and a model that differs from the program stops the page;
 - two scripts beside each other keep the order of both.
 
-With --browser the pages of some examples are tried in Chromium, and four planted faults have to be found. Where there is
+With --browser the pages of some examples are tried in Chromium, and five planted faults have to be found. Where there is
 none, that is said, and all is well. It wants the program that ./build keeps.
 """
 
@@ -22,12 +21,7 @@ import subprocess
 import sys
 import tempfile
 
-ROOT = os.path.dirname(os.path.realpath(__file__))
-sys.dont_write_bytecode = True
-sys.path.insert(0, f"{ROOT}/tools")
-
-
-from parts import loaded  # noqa: E402
+from parts import ROOT, loaded
 
 explain, model = loaded("explain"), loaded("tools/check/model.py")
 
@@ -45,6 +39,7 @@ FAULTS = [
     ("a state wrongly kept", 'if (value === "") state.delete(name);', 'if (value === "") continue;', "the state is not"),
     ("a wrong row", "translateY(${Math.max(0, top)}px)", "translateY(${Math.max(0, top) + sheet.height}px)", "another row is marked"),
     ("a key that goes two steps", "ArrowRight: () => player.go(player.step + 1)", "ArrowRight: () => player.go(player.step + 2)", "is shown and not"),
+    ("a chart that does not follow", "if (sheet.width <= sheet.room) return;", "if (sheet.width > 0) return;", "the lane of its host is out of sight"),
     ("words that overlap", "x - 10 : x + 10, y: y + 4,", "x - 10 : x + 10, y: row % 2 ? y + 4 : y + 24,", "words overlap"),
 ]  # fmt: skip
 
@@ -126,7 +121,7 @@ def check_chance(seeds):
                 place.happen(*event)
                 events.append((number, 0, line.split(" "), place.printed[before:]))
         count += check_fold(network, events, f"input {seed}")
-    print(f"check-page: the folded state is the model's after {count} events of inputs by chance")
+    print(f"check page: the folded state is the model's after {count} events of inputs by chance")
 
 
 # ---- examples
@@ -188,12 +183,54 @@ def check_examples(program):
     for name, given, lines in examples():
         found, number = check_example(program, name, given, lines)
         sizes, count, names = sizes + found, max(count, number), names + 1
-    print(f"check-page: {names} examples, {len(sizes)} pages, the largest of {max(sizes)} octets, the longest of {count} steps")
+    print(f"check page: {names} examples, {len(sizes)} pages, the largest of {max(sizes)} octets, the longest of {count} steps")
 
 
 def example(name):
     with open(f"{ROOT}/examples/{name}", "rb") as file:
         return explain.Input(file.read())
+
+
+# ---- made networks
+
+
+def some_net(chance, count, lines):
+    """A network of so many IMPs, and of so many lines if they find ends, made by chance."""
+    numbers, ends = sorted(chance.sample(range(1, 17), count)), []
+    places = {it: 0 for it in numbers}
+    for _ in range(400):
+        a, b = chance.sample(numbers, 2) if count > 1 else (0, 0)
+        if len(ends) < lines and count > 1 and max(places[a], places[b]) < 5 and (a, b) not in ends and (b, a) not in ends:
+            ends.append((a, b))
+            places[a], places[b] = places[a] + 1, places[b] + 1
+    names = {it: chance.choice(["UCLA", "STANFORD", "LINCOLN LAB", "MIT"]) for it in numbers if chance.random() < 0.5}
+    return topology.Network("subnet", True, {it: chance.randrange(5) for it in numbers}, ends, names)
+
+
+def check_maps(seeds):
+    """No signs overlap on maps of networks by chance, up to sixteen IMPs with forty lines."""
+    for seed in range(seeds):
+        chance = random.Random(seed)
+        count = 16 if seed < 3 else chance.randrange(1, 17)
+        network = some_net(chance, count, 40 if seed < 3 else chance.randrange(41))
+        same(layout.placed(network).overlapping(), [], f"map {seed}: signs that overlap")
+    print(f"check page: no signs overlap on the maps of {seeds} networks by chance")
+
+
+def large():
+    """An input with sixteen IMPs, forty lines, and messages between hosts of each."""
+    chance = random.Random(1)
+    network = some_net(chance, 16, 40)
+    lines = ['carrier = "subnet"', "raw = true"]
+    for number in network.imps:
+        lines += ["[[imp]]", f"id = {number} # {network.names.get(number, 'a site')}", "hosts = 4"]
+    for a, b in network.lines:
+        lines += ["[[line]]", f"a = {a}", f"b = {b}"]
+    lines += ["%", "calm 4"]
+    for link in range(16):
+        source, destination = (f"{chance.randrange(4)}/{chance.randrange(1, 17)}" for _ in "ab")
+        lines.append(f"out {source} {destination} {link} 16 ABCD")
+    return explain.Input("\n".join([*lines, "impdown 9", "calm 8", ""]).encode())
 
 
 # ---- what has to stop a page, and two scripts
@@ -219,7 +256,7 @@ def check_stops(program):
     number, place, words, printed = next(it for it in events if it[3])
     wrong = [(number, place, words, [*printed, "in 0/1 0/2 5 8"]) if it[3] is printed else it for it in events]
     expect_differs(lambda: steps.steps_within(wrong, within.Within(network)), "a line that the model does not print")
-    print("check-page: a book and a model that differ stop the page")
+    print("check page: a book and a model that differ stop the page")
 
 
 def expect_differs(call, what):
@@ -245,7 +282,7 @@ def check_pairs(program):
         same({*shown} - {0}, {*range(1, len(before["steps"]) + 1)}, "all steps of a script beside another")
     differ = [row for row in left["rows"] if row[4:]]
     same(len(differ) > 0, True, "rows that differ are marked")
-    print("check-page: two scripts beside each other keep their rows and steps")
+    print("check page: two scripts beside each other keep their rows and steps")
 
 
 # ---- in a browser
@@ -278,9 +315,10 @@ def tried(command, folder, text, fault=None):
 
 
 def check_browser(program):
+    """Tries pages in Chromium, where there is one; then with planted faults."""
     command = browser()
     if command is None:
-        print("check-page: there is no Chromium here, so no page was tried in a browser")
+        print("check page: there is no Chromium here, so no page was tried in a browser")
         return
     with tempfile.TemporaryDirectory() as folder:
         count = 0
@@ -289,38 +327,40 @@ def check_browser(program):
             wrong, number = tried(command, folder, text)
             same((wrong, number > 0), ([], True), f"{name} in a browser")
             count += number
+        many = make.page(explain, [(large(), "x")], program)
+        wrong, number = tried(command, folder, many)
+        same((wrong, number > 0), ([], True), "sixteen IMPs in a browser")
+        count += number
         first = example("first-message")
         text = make.page(explain, [(first, "a"), (explain.Input(first.octets.replace(b"take 0/2\n", b"", 1)), "b")], program)
         wrong, number = tried(command, folder, text)
         same((wrong, number > 0), ([], True), "two scripts in a browser")
         text = make.page(explain, [(example("a-connection-and-its-book"), "x")], program)
         for what, right, planted, meant in FAULTS:
-            wrong, _ = tried(command, folder, text, (right, planted))
+            wrong, _ = tried(command, folder, many if "follow" in what else text, (right, planted))
             same(any(meant in it for it in wrong), True, f"the planted fault is not found: {what}; found {wrong}")
-        print(f"check-page: {len(IN_BROWSER) + 1} pages in {os.path.basename(command)}, {count + number} steps forward and back; {len(FAULTS)} planted faults found")
+        print(f"check page: {len(IN_BROWSER) + 2} pages in {os.path.basename(command)}, {count + number} steps forward and back; {len(FAULTS)} planted faults found")
 
 
 def main():
     if sys.argv[1:] not in ([], ["--browser"]):
-        print("usage: ./check-page [--browser]", file=sys.stderr)
+        print("usage: ./check page [--browser]", file=sys.stderr)
         return 1
     program = explain.kept_program()
     if not program:
-        print("check-page: there is no program of these sources: ./build makes it")
+        print("check page: there is no program of these sources: ./build makes it")
         return 1
     try:
         if sys.argv[1:]:
             check_browser(program)
         else:
+            check_maps(40)
             check_chance(120)
             check_examples(program)
             check_stops(program)
             check_pairs(program)
     except (Wrong, steps.Differs) as what:
-        print(f"check-page: {what}")
+        print(f"check page: {what}")
         return 1
     return 0
 
-
-if __name__ == "__main__":
-    sys.exit(main())
