@@ -1,6 +1,7 @@
 """Sequence charts of a replay in Mermaid's language, which GitHub and GitLab draw.
 
-`told` has for each event its line's number, its words and what it printed; `said` has beside it what each message says.
+`told` has for each event its line's number, its words and what it printed; `said` has beside it what each message says, and
+`sites` has names of IMPs.
 """
 
 from decode import count
@@ -8,7 +9,7 @@ from decode import count
 ANSWERS = {"rfnm": "RFNM, {} took the message", "dead": "Dead, {} did not take the message", "incomplete": "Incomplete, the message to {} was given up"}
 
 
-def chart(told, said, raw):
+def chart(told, said, raw, sites):
     """The replay as a sequence chart: one arrow for each crossing, between a host and the network."""
     lines, hosts = [], set()
     for (number, event, printed), beside in zip(told, said):
@@ -16,15 +17,16 @@ def chart(told, said, raw):
             line, host = chart_line(number, event, output.split(" "), "" if raw else text)
             lines.append(line)
             hosts |= {host} if host else set()
-    names = participants(hosts)
+    names = participants(hosts, sites)
     names.insert((len(names) + 1) // 2, "    participant network as Network")
     return "\n".join(["sequenceDiagram", *names, *(f"    {it}" for it in lines)])
 
 
-def participants(hosts, roles=()):
-    """The lines that name the hosts of a chart, in order of IMP and host."""
+def participants(hosts, sites, roles=()):
+    """The lines that name the hosts of a chart, in order of IMP and host, with the names of their sites where these are known."""
     order = sorted(hosts, key=lambda it: [int(part) for part in reversed(it.split("/"))])
-    return [f"    participant {identifier(it)} as Host {it}{dict(roles).get(it, '')}" for it in order]
+    at = {it: sites.get(int(it.split("/")[1])) for it in order}
+    return [f"    participant {identifier(it)} as Host {it}{f' at {escaped(at[it])}' if at[it] else ''}{dict(roles).get(it, '')}" for it in order]
 
 
 def identifier(host):
@@ -65,7 +67,7 @@ def chart_note(number, event, words):
 LEFT_OUT = {"ready", "opened", "ended", "sent", "arrived"}
 
 
-def short_chart(told, said, raw):
+def short_chart(told, said, raw, sites):
     """The replay as a sequence chart with one arrow for each message, from host to host, where it is taken."""
     crossed = [(number, event, output.split(" "), text) for (number, event, printed), beside in zip(told, said) for output, text in zip(printed, beside.texts)]
     lines, hosts = [], set()
@@ -84,7 +86,7 @@ def short_chart(told, said, raw):
             lines.append(line)
             hosts.add(host)
     roles = [(event[1], f", a {event[0]}") for _, event, _ in told if event[0] in ("server", "user")]
-    return "\n".join(["sequenceDiagram", *participants(hosts, roles), *(f"    {it}" for it in lines)])
+    return "\n".join(["sequenceDiagram", *participants(hosts, sites, roles), *(f"    {it}" for it in lines)])
 
 
 def is_taken(flow, later):
