@@ -30,11 +30,6 @@ origin_on hosts (Crossed c) ms l b a s i f g =
     (subst (λ (p : Host). origin_in (c ∷ crossings_of ms) s.host p s.partner_stamp ≡ origin_in (crossings_of ms) s.host p s.partner_stamp) g
     (origin_grows hosts ms l (c ∷ []) s (contains s (lives_in ms) i)))
 
--- ---- by places that grow
-
-module _ (hosts : List Host) (a b : Host) (at : (ms : List Moment) → Lawful hosts ms → ℕ → Option ℕ)
-    (grows : (y : Moment) (ms : List Moment) (l : Lawful hosts (y ∷ ms)) → stay.begins a b (event_in y) (events_of ms) ≡ false → (c p : ℕ) → at ms (below hosts y ms l) c ≡ Some p → at (y ∷ ms) l c ≡ Some p) where
-
 -- ---- by the law of pairing
 
 module _ (hosts : List Host) (a b : Host) where
