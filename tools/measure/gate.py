@@ -1,49 +1,30 @@
-"""How many seconds of the processor the proof of each crate takes, from nothing, as a table in docs/PERFORMANCE.md: ./measure gate [CRATE..]
+"""How many seconds of the processor the gate spends on each crate, as a table in docs/PERFORMANCE.md: ./measure gate [PID]
 
-It copies the sources into a temporary folder, so that nothing kept is used, and runs `rt check` in each crate there, one after
-the other and each after those that it stands on; in a crate of tests `rt check --test`. `rt` prints no times of its own, so the
-processor time of its processes is told. What a check does beside, as the building of libraries below it, is told with it where
-it happens first. The table takes the place of that between the two marker comments of docs/PERFORMANCE.md; with
-names of crates it is only printed, and what is below these is checked too, but not told.
-
-It takes hours. A crate that is not proved is told as such, and ends it.
+It runs `.ci/run` in a fresh clone of what is committed, and looks every 0.4 seconds at what its processes have used: the library of
+each crate, its tests, and its planted bugs. With the PID of a `.ci/run` that was begun by `setsid`, it watches that one. Of what
+passed on this machine before the gate proves nothing again, so the table takes the place of that between the two marker
+comments of the page only where no crate was kept; else it is only printed. From nothing it takes an hour on four cores.
 """
 
 import os
 import re
-import resource
-import shutil
 import subprocess
 import sys
 import tempfile
 import time
 
-from drivers import crates_below
 from parts import ROOT
 
 PAGE = f"{ROOT}/docs/PERFORMANCE.md"
 MARKERS = "<!-- gate table: begin -->", "<!-- gate table: end -->"
+TICKS = os.sysconf("SC_CLK_TCK")
+PARTS = "library", "tests", "planted bugs"
 
 
 def crates():
-    """Each crate with those that it stands on, as crates.txt has them."""
+    """The crates, in the order of crates.txt."""
     with open(f"{ROOT}/crates.txt", encoding="utf-8") as file:
-        found = (re.match(r"(\w+)[^:]*:(.*)", line) for line in file if line.strip() and not line.startswith("#"))
-        return {it[1]: it[2].split() for it in found}
-
-
-def in_order(below, asked):
-    """The crates that are asked for and what they stand on, the lowest first."""
-    order = []
-    for name in asked:
-        order += [it for it in sorted(crates_below(below, name), key=lambda it: len(crates_below(below, it))) if it not in order]
-    return order
-
-
-def used():
-    """The seconds of the processor that ended processes took."""
-    children = resource.getrusage(resource.RUSAGE_CHILDREN)
-    return children.ru_utime + children.ru_stime
+        return [it[1] for line in file if (it := re.match(r"(\w+)[^:#]*:", line))]
 
 
 def lines_of(crate):
@@ -58,29 +39,62 @@ def lines_of(crate):
     return count
 
 
-def check(folder, crate):
-    """The seconds that a check of a crate takes: of the processor, and by the clock."""
-    before, begun = used(), time.monotonic()
-    words = ["rt", "check", *["--test"] * crate.endswith("_tests")]
-    ran = subprocess.run(words, cwd=f"{folder}/crates/{crate}", stdin=subprocess.DEVNULL, stdout=subprocess.PIPE, stderr=subprocess.STDOUT, text=True)
-    if ran.returncode:
-        sys.exit(f"measure gate: {crate} is not proved:\n{ran.stdout[-2000:]}")
-    return used() - before, time.monotonic() - begun
+def read(path):
+    """A file of /proc, empty where its process has ended."""
+    try:
+        with open(path, "rb") as file:
+            return file.read().decode(errors="replace")
+    except OSError:
+        return ""
 
 
-def table(order, asked, folder):
-    """The rows of the table, which it prints as they come."""
-    rows, whole = ["| Crate | Lines | Seconds of the processor |", "|---|---|---|"], 0
-    print(*rows, sep="\n", flush=True)
-    for crate in order:
-        seconds, _ = check(folder, crate)
-        if crate in asked:
-            whole += seconds
-            rows.append(f"| `{crate}` | {lines_of(crate):,} | {seconds:,.0f} |")
-            print(rows[-1], flush=True)
-    rows.append(f"| all {len(asked)} | | {whole:,.0f}, {whole / 60:.0f} minutes |")
-    print(rows[-1], flush=True)
-    return rows
+def work_of(pid, parent):
+    """What a process works on: a crate and which part of it. Whoever is no call of the compiler works for its parent."""
+    words = read(f"/proc/{pid}/cmdline").split("\0")
+    if not words[0].endswith("/rattle") or "--crate-name" not in words:
+        return parent
+    try:
+        folder = os.readlink(f"/proc/{pid}/cwd")
+    except OSError:
+        return parent
+    crate = words[words.index("--crate-name") + 1]
+    part = 2 if "rt-edit" in folder else 1 if "--test" in words else 0
+    return crate, PARTS[part]
+
+
+def watch(session, goes_on):
+    """The seconds of the processor of each work of a session, as long as it goes on."""
+    used, works, latest = {}, {}, {}
+    while goes_on():
+        for pid in filter(str.isdigit, os.listdir("/proc")):
+            fields = read(f"/proc/{pid}/stat").rpartition(")")[2].split()
+            if not fields or int(fields[3]) != session:
+                continue
+            key = pid, fields[19]  # with its start, since numbers are given again
+            if works.get(key) is None:  # a process may be seen before it has become the compiler
+                works[key] = work_of(pid, latest.get(fields[1]))
+            latest[pid] = works[key]
+            used[key] = int(fields[11]) + int(fields[12])
+        time.sleep(0.4)
+    seconds = {}
+    for key, ticks in used.items():
+        seconds[works[key]] = seconds.get(works[key], 0) + ticks / TICKS
+    return seconds
+
+
+def table(seconds):
+    """The rows of the table, and the crates of which no proof was seen."""
+    rows = ["| Crate | Lines | Library | Tests | Planted bugs |", "|---|---|---|---|---|"]
+    kept = []
+    whole = [0, 0, 0]
+    for crate in crates():
+        own = [seconds.get((crate, part), 0) for part in PARTS]
+        whole = [a + b for a, b in zip(whole, own)]
+        kept += [crate] * (sum(own[:2]) < 5)
+        rows.append(f"| `{crate}` | {lines_of(crate):,} | {' | '.join(f'{it:,.0f}' if it >= 0.5 else '' for it in own)} |")
+    rows.append(f"| all {len(crates())} | | {' | '.join(f'{it:,.0f}' for it in whole)} |")
+    rows.append(f"| all other work | | {seconds.get(None, 0):,.0f} | | |")
+    return rows, kept
 
 
 def write(rows):
@@ -94,17 +108,29 @@ def write(rows):
         file.write("\n".join([head + MARKERS[0], "", *rows, "", MARKERS[1] + rest.split(MARKERS[1])[1]]))
 
 
+def gate(folder):
+    """The seconds of each work of a gate in a fresh clone."""
+    subprocess.run(["git", "clone", "-q", ROOT, f"{folder}/gate"], check=True)
+    os.symlink(os.path.realpath(f"{ROOT}/../shared"), f"{folder}/shared")
+    with open(f"{ROOT}/out/gate-log", "w", encoding="utf-8") as log:
+        words, env = ["bash", ".ci/run"], {**os.environ, "CI": "true"}
+        run = subprocess.Popen(words, cwd=f"{folder}/gate", stdin=subprocess.DEVNULL, stdout=log, stderr=log, env=env, start_new_session=True)
+        seconds = watch(run.pid, lambda: run.poll() is None)
+    if run.returncode:
+        sys.exit("measure gate: the gate failed; out/gate-log says why")
+    return seconds
+
+
 def main():
-    below = crates()
-    asked = sys.argv[1:] or [*below]
-    if unknown := [it for it in asked if it not in below]:
-        sys.exit(f"measure gate: there is no crate {unknown[0]}")
-    with tempfile.TemporaryDirectory(prefix="gate-") as folder:
-        needed = in_order(below, asked)
-        for name in needed:
-            shutil.copytree(f"{ROOT}/crates/{name}", f"{folder}/crates/{name}", ignore=shutil.ignore_patterns("out"))
-        with open(f"{folder}/crates.txt", "w", encoding="utf-8") as file:
-            file.writelines(f"{name}: {' '.join(below[name])}\n" for name in needed)
-        rows = table(needed, asked, folder)
-    if not sys.argv[1:]:
+    if sys.argv[1:]:
+        seconds = watch(int(sys.argv[1]), lambda: os.path.exists(f"/proc/{sys.argv[1]}"))
+    else:
+        os.makedirs(f"{ROOT}/out", exist_ok=True)
+        with tempfile.TemporaryDirectory(prefix="gate-") as folder:
+            seconds = gate(folder)
+    rows, kept = table(seconds)
+    print(*rows, sep="\n")
+    if kept:
+        print(f"measure gate: the page stays as it is, since these were kept: {' '.join(kept)}")
+    else:
         write(rows)
