@@ -32,9 +32,13 @@ pub fn initial_connections<C: Carrier>()
 
 /// Ends of an initial connection.
 pub fn worked_connections()
-    // a small book in which one is finished, and its ends match, crosswise and not otherwise
+    // a small book in which one is finished
     ensures joined { IsConnected worked.joined_kept.book first second 100 16 worked.server_receives worked.server_sends worked.user_receives worked.user_sends }
+
+    // both reports are so at their places
     ensures reported { All (IsBacked worked.joined_kept.book.notices) worked.joined_kept.book.reports }
+
+    // each receiving end matches the sending end with which it opened
     ensures pairs { Match worked.joined_kept.book.crossings worked.user_receives worked.server_sends × Match worked.joined_kept.book.crossings worked.server_receives worked.user_sends }
     ensures others { (Match worked.joined_kept.book.crossings worked.user_receives worked.user_sends → ⊥) × (Match worked.joined_kept.book.crossings worked.server_receives worked.server_sends → ⊥) }
 
