@@ -1,3 +1,5 @@
 pub mod SocketLemmas
 pub mod ServerLemmas
 pub mod UserLemmas
+pub mod Playing
+pub mod lemmas

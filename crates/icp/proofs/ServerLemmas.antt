@@ -50,9 +50,9 @@ ended_by (Some (outcome.Failed f)) = false
 
 -- ---- after its outcome
 
-turn_over : (s : ServerState) (n : Notice) → s.over ≡ true → server_turn s n ≡ passed s
+pub server_over : (s : ServerState) (n : Notice) → s.over ≡ true → server_turn s n ≡ passed s
 unfolding server_turn
-turn_over s n o = rw o refl
+server_over s n o = rw o refl
 
 turn_on : (s : ServerState) (n : Notice) → s.over ≡ false → server_turn s n ≡ server_by s n (server_failure s n)
 unfolding server_turn
@@ -60,7 +60,7 @@ turn_on s n o = rw o refl
 
 pub silent : (s : ServerState) (ns : List Notice) → s.over ≡ true → (server_played s ns).2 ≡ []
 silent s [] o = refl
-silent s (n ∷ ns) o = ap (λ (t : IcpTurn ServerState). (before t (server_played t.0 ns)).2) (turn_over s n o) ∙ silent s ns o
+silent s (n ∷ ns) o = ap (λ (t : IcpTurn ServerState). (before t (server_played t.0 ns)).2) (server_over s n o) ∙ silent s ns o
 
 -- ---- the verdict
 
@@ -191,7 +191,7 @@ ends_by s n (Some f) o e = refl
 ends_by s n None o e = ap is_some e
 
 ends_at : (s : ServerState) (n : Notice) (o : Outcome) (over : Bool) → s.over ≡ over → (server_turn s n).2 ≡ Some o → (server_turn s n).0.over ≡ true
-ends_at s n o true is e = ap (λ (t : IcpTurn ServerState). t.0.over) (turn_over s n is) ∙ is
+ends_at s n o true is e = ap (λ (t : IcpTurn ServerState). t.0.over) (server_over s n is) ∙ is
 ends_at s n o false is e =
     ap (λ (t : IcpTurn ServerState). t.0.over) (turn_on s n is)
     ∙ ends_by s n (server_failure s n) o (sym (ap (λ (t : IcpTurn ServerState). t.2) (turn_on s n is)) ∙ e)

@@ -18,9 +18,9 @@ use Rattle.icp.proofs.ServerLemmas.{both_first, both_second, ended_by, is_done, 
 
 -- ---- after its outcome
 
-turn_over : (s : UserState) (n : Notice) → s.over ≡ true → user_turn s n ≡ passed s
+pub user_over : (s : UserState) (n : Notice) → s.over ≡ true → user_turn s n ≡ passed s
 unfolding user_turn
-turn_over s n o = rw o refl
+user_over s n o = rw o refl
 
 turn_on : (s : UserState) (n : Notice) → s.over ≡ false → user_turn s n ≡ user_by s n (user_failure s n)
 unfolding user_turn
@@ -28,7 +28,7 @@ turn_on s n o = rw o refl
 
 pub silent : (s : UserState) (ns : List Notice) → s.over ≡ true → (user_played s ns).2 ≡ []
 silent s [] o = refl
-silent s (n ∷ ns) o = ap (λ (t : IcpTurn UserState). (before t (user_played t.0 ns)).2) (turn_over s n o) ∙ silent s ns o
+silent s (n ∷ ns) o = ap (λ (t : IcpTurn UserState). (before t (user_played t.0 ns)).2) (user_over s n o) ∙ silent s ns o
 
 -- ---- what a turn keeps while the base isn't known
 
@@ -308,7 +308,7 @@ ends_by s n (Some f) e = refl
 ends_by s n None e = stage_ends s n s.base e
 
 ends_at : (s : UserState) (n : Notice) (over : Bool) → s.over ≡ over → is_some (user_turn s n).2 ≡ true → (user_turn s n).0.over ≡ true
-ends_at s n true is e = ap (λ (t : IcpTurn UserState). t.0.over) (turn_over s n is) ∙ is
+ends_at s n true is e = ap (λ (t : IcpTurn UserState). t.0.over) (user_over s n is) ∙ is
 ends_at s n false is e =
     ap (λ (t : IcpTurn UserState). t.0.over) (turn_on s n is)
     ∙ ends_by s n (user_failure s n) (sym (ap (λ (t : IcpTurn UserState). is_some t.2) (turn_on s n is)) ∙ e)

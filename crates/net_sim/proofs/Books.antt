@@ -1,14 +1,16 @@
 -- The book of a world: what each event puts into it, and what it keeps. Main lemmas: Whole `step_whole` (after an event the book still tells one list
 -- of moments), Whole `run_whole` (after a list of events), Places `all_changed` (what is done to the open lives is done to all), Booked (the book has
--- what crossed), Refusals `step_stands` (a refusal, and running out of memory, leave it as it was).
+-- what crossed), Reported `step_reported` (what services have reported is so), Refusals `step_stands` (a refusal, and running out of memory, leave it as it was).
 pub mod Always
 pub mod BookEvents
 pub mod Booked
 pub mod Held
 pub mod InOrder
 pub mod LifeLoops
+pub mod Machines
 pub mod Places
 pub mod Refusals
+pub mod Reported
 pub mod RunLoop
 pub mod SafeRow
 pub mod Unsafe

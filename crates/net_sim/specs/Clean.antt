@@ -13,6 +13,7 @@ use Rattle.reset_law.specs.Stays.{ready}
 use Rattle.net_sim.specs.Book.{Called}
 use Rattle.net_sim.specs.Carriers.{IsBooked}
 use Rattle.net_sim.specs.Projection.{message_on}
+use Rattle.net_sim.specs.Reports.{AreReported}
 use Rattle.net_sim.specs.Safe.{last_out}
 use Rattle.net_sim.specs.Timeline.{events_in}
 use Rattle.net_sim.specs.Whole.{IsWhole}
@@ -46,9 +47,11 @@ pub record IsFresh (m : HostMessage) (contacts : List Called) (log : List Crossi
 abbrev pub HaveAddresses : List Host → Type 0
 HaveAddresses hosts = (h : Host) → is_host hosts h ≡ true → IsAddress h
 
--- a world with its book, over a carrier whose log is a run of the mailboxes between hosts that have addresses
+-- a world with its book, in which each report is so at its place, over a carrier whose log is a run of the mailboxes between hosts that
+-- have addresses
 pub record IsLawful {C : Type 0} (seen : C → Seen) (hosts : List Host) (w : WorldState C) : Type 0 where
   pub whole : IsWhole seen hosts w
   pub booked : IsBooked seen w
   pub run : IsRun hosts (seen w.carrier).log
   pub addresses : HaveAddresses hosts
+  pub reported : AreReported w

@@ -8,7 +8,9 @@ pub mod Story
 pub mod Inside
 pub mod Timeline
 pub mod Whole
+pub mod Reports
 pub mod Clean
 pub mod WorkedResets
 pub mod Told
 pub mod WorkedMoments
+pub mod WorkedReports

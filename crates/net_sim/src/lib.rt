@@ -23,6 +23,7 @@ mod parts;
 mod seat;
 pub mod worked;
 pub mod worked_moments;
+pub mod worked_reports;
 pub mod worked_resets;
 mod world;
 

@@ -1,13 +1,22 @@
 -- The ends of a finished initial connection match.
-use Rattle.std.proofs.Common.{◌≡◌, ℕ, ◌+◌, true, ◌%◌, List, ap, sym, ◌∙◌, eq-eqb, eqb-true, arith}
+use Rattle.std.proofs.Common.{◌≡◌, ℕ, ◌+◌, ◌&&◌, Bool, true, false, if◌then◌else◌, nat_le, ◌%◌, List, take, Option, Some, None, refl, ap, sym, subst, ◌∙◌, eq-eqb, eqb-true, arith}
+use Rattle.std.proofs.lemmas.List.Elements.{All-contains}
 use Rattle.leader1822.specs.Calls.{Seen}
 use Rattle.leader1822.specs.Host.{Host}
 use Rattle.ncp_control.specs.Numbers.{is_receive_socket, is_send_socket}
+use Rattle.host_pairs.specs.declared.notice.Notice.{Notice}
+use Rattle.icp.specs.Sockets.{server_fault, user_fault}
+use Rattle.icp.specs.declared.fault.StartFault.{StartFault}
+use Rattle.icp.specs.declared.fault.StartFault.TheVariants as fault
+use Rattle.icp.specs.declared.outcome.Outcome.TheVariants as outcome
+use Rattle.host_services.specs.declared.report.Report.{Report}
+use Rattle.host_services.specs.declared.report.Report.TheVariants as report
 use Rattle.net_sim.specs.Clean.{IsLawful}
+use Rattle.net_sim.specs.Reports.{AreReported, IsBacked, IsSo, ServerIsDone, UserIsDone, told_to}
 use Rattle.net_sim.specs.Safe.{Match, receives, sends}
 use Rattle.net_sim.specs.World.{WorldState}
 use Rattle.net_sim.specs.declared.life.Life.{Life}
-use Rattle.world_keeps_connections.specs.Connections.{IsConnected, IsEnd}
+use Rattle.world_keeps_connections.specs.Connections.{HasReported, IsConnected, IsEnd}
 use Rattle.world_keeps_connections.specs.Users.{AreOpposite}
 use Rattle.world_keeps_connections.proofs.Matches.{world_match}
 
@@ -22,6 +31,29 @@ odd_one n e = let a : n % 2 ≡ 0 = eqb-true (n % 2) 0 e in eq-eqb ((n + 1) % 2)
 odd_three : (n : ℕ) → is_receive_socket n ≡ true → is_send_socket (n + 3) ≡ true
 odd_three n e = let a : n % 2 ≡ 0 = eqb-true (n % 2) 0 e in eq-eqb ((n + 3) % 2) 1 (omega (arith, a))
 
+-- ---- the parity of what a machine may begin with
+
+even_by : (a b : Bool) → ◌≡◌ {A = Option StartFault} (if a && b then None else Some fault.BadSocket) None → b ≡ true
+even_by true true e = refl
+even_by true false e = absurd (let no : ◌≡◌ {A = Option StartFault} (Some fault.BadSocket) None = e in cc)
+even_by false b e = absurd (let no : ◌≡◌ {A = Option StartFault} (Some fault.BadSocket) None = e in cc)
+
+server_even : (listen base : ℕ) → server_fault listen base ≡ None → is_receive_socket base ≡ true
+server_even listen base can = even_by (is_send_socket listen) (is_receive_socket base) can
+
+user_even : (listen own : ℕ) → user_fault listen own ≡ None → is_receive_socket own ≡ true
+user_even listen own can = both_first (is_receive_socket own) (nat_le (own + 3) 4294967295) (even_by (is_send_socket listen) (is_receive_socket own && nat_le (own + 3) 4294967295) can) where
+  both_first : (a b : Bool) → (a && b) ≡ true → a ≡ true
+  both_first true b e = refl
+  both_first false b e = e
+
+-- ---- what a report says
+
+reported_so : {C : Type 0} (w : WorldState C) (host : Host) (what : Report) → AreReported w → (r : HasReported host what w.kept.book.reports) → IsSo (told_to r.entry.host (take r.entry.notices w.kept.book.notices)) what
+reported_so w host what all r =
+    let b : IsBacked w.kept.book.notices r.entry = All-contains (IsBacked w.kept.book.notices) w.kept.book.reports r.entry all.reports r.there in
+    subst (λ (x : Report). IsSo (told_to r.entry.host (take r.entry.notices w.kept.book.notices)) x) r.report b.so
+
 -- ---- two ends that name one another
 
 module _ {C : Type 0} (seen : C → Seen) (hosts : List Host) (w : WorldState C) (lawful : IsLawful seen hosts w) where
@@ -32,8 +64,24 @@ module _ {C : Type 0} (seen : C → Seen) (hosts : List Host) (w : WorldState C)
       let sending : sends y ≡ true = ap is_send_socket two.socket ∙ odd in
       world_match seen hosts w lawful x y one.there two.there one.live two.live o receiving sending
 
+  even_base : (server user : Host) (s u : ℕ) (a b c d : Life) → IsConnected w.kept.book server user s u a b c d → is_receive_socket s ≡ true
+  even_base server user s u a b c d k =
+      let told : List Notice = told_to k.served.entry.host (take k.served.entry.notices w.kept.book.notices) in
+      let so : ServerIsDone told s (s + 1) = reported_so w server (report.Server (outcome.Done s (s + 1))) lawful.reported k.served in
+      ap is_receive_socket so.receives ∙ server_even so.began.listen so.began.base so.began.can
+
+  even_own : (server user : Host) (s u : ℕ) (a b c d : Life) → IsConnected w.kept.book server user s u a b c d → is_receive_socket u ≡ true
+  even_own server user s u a b c d k =
+      let told : List Notice = told_to k.asked.entry.host (take k.asked.entry.notices w.kept.book.notices) in
+      let so : UserIsDone told (u + 2) (u + 3) = reported_so w user (report.User (outcome.Done (u + 2) (u + 3))) lawful.reported k.asked in
+      let same : u ≡ so.began.own = omega (arith, so.receives) in
+      ap is_receive_socket same ∙ user_even so.began.listen so.began.own so.began.can
+
+  pub are_even : (server user : Host) (s u : ℕ) (a b c d : Life) → IsConnected w.kept.book server user s u a b c d → (is_receive_socket s ≡ true) × (is_receive_socket u ≡ true)
+  are_even server user s u a b c d k = (even_base server user s u a b c d k, even_own server user s u a b c d k)
+
   pub to_user : (server user : Host) (s u : ℕ) (a b c d : Life) → IsConnected w.kept.book server user s u a b c d → Match w.kept.book.crossings c b
-  to_user server user s u a b c d k = ends_match user server (u + 2) (s + 1) c b k.user_hears k.server_speaks (even_two u k.even_own) (odd_one s k.even_base)
+  to_user server user s u a b c d k = ends_match user server (u + 2) (s + 1) c b k.user_hears k.server_speaks (even_two u (even_own server user s u a b c d k)) (odd_one s (even_base server user s u a b c d k))
 
   pub to_server : (server user : Host) (s u : ℕ) (a b c d : Life) → IsConnected w.kept.book server user s u a b c d → Match w.kept.book.crossings a d
-  to_server server user s u a b c d k = ends_match server user s (u + 3) a d k.server_hears k.user_speaks k.even_base (odd_three u k.even_own)
+  to_server server user s u a b c d k = ends_match server user s (u + 3) a d k.server_hears k.user_speaks (even_base server user s u a b c d k) (odd_three u (even_own server user s u a b c d k))

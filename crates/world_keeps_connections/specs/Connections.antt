@@ -1,8 +1,7 @@
 -- A finished initial connection in a book: what the two machines reported, and the four ends (RFC 165).
-use Rattle.std.specs.Prelude.{◌≡◌, ℕ, ◌+◌, true, false, List}
+use Rattle.std.specs.Prelude.{◌≡◌, ℕ, ◌+◌, false, List}
 use Rattle.std.specs.List.{Contains}
 use Rattle.leader1822.specs.Host.{Host}
-use Rattle.ncp_control.specs.Numbers.{is_receive_socket}
 use Rattle.icp.specs.declared.outcome.Outcome.TheVariants as outcome
 use Rattle.host_services.specs.declared.report.Report.{Report}
 use Rattle.host_services.specs.declared.report.Report.TheVariants as report
@@ -26,13 +25,11 @@ pub record IsEnd (book : Book) (holder : Host) (own : ℕ) (partner : Host) (oth
   pub foreign : x.foreign ≡ other
   pub live : x.ended ≡ false
 
--- a server with the even base `s` and a user with the even socket `u` are both done. The server's two ends opened with the user's,
--- crosswise, and all four go on: it receives on `s` from `u` + 3, and the user receives on `u` + 2 from `s` + 1
+-- a server with the base `s` and a user with the socket `u` are both done. The server's two ends opened with the user's, crosswise, and
+-- all four go on: it receives on `s` from `u` + 3, and the user receives on `u` + 2 from `s` + 1
 pub record IsConnected (book : Book) (server user : Host) (s u : ℕ) (server_receives server_sends user_receives user_sends : Life) : Type 0 where
   pub served : HasReported server (report.Server (outcome.Done s (s + 1))) book.reports
   pub asked : HasReported user (report.User (outcome.Done (u + 2) (u + 3))) book.reports
-  pub even_base : is_receive_socket s ≡ true
-  pub even_own : is_receive_socket u ≡ true
   pub server_hears : IsEnd book server s user (u + 3) server_receives
   pub server_speaks : IsEnd book server (s + 1) user (u + 2) server_sends
   pub user_hears : IsEnd book user (u + 2) server (s + 1) user_receives

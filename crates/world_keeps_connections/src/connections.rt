@@ -1,10 +1,12 @@
 //! What a finished initial connection has joined. The functions here do nothing: each clause is a law.
 
-ghost use Rattle.std.specs.Prelude.{◌≡◌, ℕ, true, List};
+ghost use Rattle.std.specs.Prelude.{◌≡◌, ℕ, true, List, All};
 ghost use Rattle.leader1822.specs.Host.{Host};
+ghost use Rattle.ncp_control.specs.Numbers.{is_receive_socket};
 ghost use Rattle.net_sim.specs.Book.{Book};
 ghost use Rattle.net_sim.specs.Clean.{IsLawful};
 ghost use Rattle.net_sim.specs.declared.life.Life.{Life};
+ghost use Rattle.net_sim.specs.Reports.{IsBacked};
 ghost use Rattle.net_sim.specs.Safe.{Match};
 ghost use Rattle.net_sim.specs.World.{WorldState};
 ghost use Rattle.sockets.specs.Worked.{first, second};
@@ -15,17 +17,28 @@ use leader1822::Carrier;
 
 /// A finished initial connection pairs the right four sockets, in the book of every world over every carrier: where a server and a
 /// user are both done, and their four ends opened with one another and go on, the server's sending end matches the user's receiving
-/// one, and the user's sending end the server's receiving one. The reports say that the machines are done; what makes ends match is
-/// that both go on.
+/// one, and the user's sending end the server's receiving one. What makes ends match is that both go on.
+///
+/// Each report in such a book is so at its place (`AreReported`, which is part of `IsLawful`): a machine that reported Done began with
+/// sockets of the right parity, and its host was told of the openings that make it done.
 pub fn initial_connections<C: Carrier>()
+    // the server's base is even, and so is the socket with which the user asked: no others can be done
+    ensures even { (hosts : List Host) (w : WorldState C) → IsLawful C.seen hosts w → (server user : Host) (s u : ℕ) (server_receives server_sends user_receives user_sends : Life) → IsConnected w.kept.book server user s u server_receives server_sends user_receives user_sends → (is_receive_socket s ≡ true) × (is_receive_socket u ≡ true) }
+
+    // so each receiving end and the sending end with which it opened match
     ensures to_user { (hosts : List Host) (w : WorldState C) → IsLawful C.seen hosts w → (server user : Host) (s u : ℕ) (server_receives server_sends user_receives user_sends : Life) → IsConnected w.kept.book server user s u server_receives server_sends user_receives user_sends → Match w.kept.book.crossings user_receives server_sends }
     ensures to_server { (hosts : List Host) (w : WorldState C) → IsLawful C.seen hosts w → (server user : Host) (s u : ℕ) (server_receives server_sends user_receives user_sends : Life) → IsConnected w.kept.book server user s u server_receives server_sends user_receives user_sends → Match w.kept.book.crossings server_receives user_sends }
 {}
 
 /// Ends of an initial connection.
 pub fn worked_connections()
-    // a small book in which one is finished, and its ends match, crosswise and not otherwise
+    // a small book in which one is finished
     ensures joined { IsConnected worked.joined_kept.book first second 100 16 worked.server_receives worked.server_sends worked.user_receives worked.user_sends }
+
+    // both reports are so at their places
+    ensures reported { All (IsBacked worked.joined_kept.book.notices) worked.joined_kept.book.reports }
+
+    // each receiving end matches the sending end with which it opened
     ensures pairs { Match worked.joined_kept.book.crossings worked.user_receives worked.server_sends × Match worked.joined_kept.book.crossings worked.server_receives worked.user_sends }
     ensures others { (Match worked.joined_kept.book.crossings worked.user_receives worked.user_sends → ⊥) × (Match worked.joined_kept.book.crossings worked.server_receives worked.server_sends → ⊥) }
 
@@ -36,7 +49,4 @@ pub fn worked_connections()
     ensures over { (book : Book) (a b : Host) (own other : ℕ) (x : Life) → x.ended ≡ true → IsEnd book a own b other x → ⊥ }
     ensures socket { (book : Book) (a b : Host) (other : ℕ) (x : Life) → x.socket ≡ 101 → IsEnd book a 100 b other x → ⊥ }
     ensures foreign { (book : Book) (a b : Host) (own : ℕ) (x : Life) → x.foreign ≡ 18 → IsEnd book a own b 19 x → ⊥ }
-
-    // a server's base is even
-    ensures odd { (book : Book) (server user : Host) (u : ℕ) (x y z t : Life) → IsConnected book server user 101 u x y z t → ⊥ }
 {}

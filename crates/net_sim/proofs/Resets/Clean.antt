@@ -27,6 +27,7 @@ use Rattle.net_sim.specs.Carriers.{shown}
 use Rattle.net_sim.specs.Whole.{Each, IsNamed, seat_in}
 use Rattle.net_sim.specs.World.{Calls, Event, Seat, WorldFault, WorldState, opening_world, seat_of, StepGives, RunGives, CalmGives}
 use Rattle.net_sim.proofs.Books.Booked.{calm_books, opening_booked, run_books, step_books}
+use Rattle.net_sim.proofs.Books.Reported.{calm_reported, opening_reported, run_reported, step_reported}
 use Rattle.net_sim.proofs.Hosts.Seats.{found_seat}
 use Rattle.net_sim.proofs.Books.Whole.{calm_whole, opening_whole, program_is, run_whole, step_whole}
 use Rattle.net_sim.proofs.Books.BookEvents.{box_in, pair_told, run_at, run_told, same_events, told_events}
@@ -134,14 +135,15 @@ opening_lawful own c none addresses = record {
   booked = opening_booked own c none;
   run = subst (λ (xs : List Crossing). mail.IsRun (own.seen c).hosts xs) (sym none) tt;
   addresses = addresses;
+  reported = opening_reported (shown own) c;
 }
 
 module _ {C : Type 0} (own : Calls C) (hosts : List Host) (old new : WorldState C) (r : Result (Unit {0}) WorldFault) (lawful : IsLawful own.seen hosts old) (run : mail.IsRun hosts (own.seen new.carrier).log) where
   pub step_lawful : (e : Event) → IsNamed e → StepGives (shown own) old e r new → IsLawful own.seen hosts new
-  step_lawful e named h = record { whole = step_whole own hosts e old r new named lawful.whole h; booked = step_books own e old r new lawful.booked h; run = run; addresses = lawful.addresses }
+  step_lawful e named h = record { whole = step_whole own hosts e old r new named lawful.whole h; booked = step_books own e old r new lawful.booked h; run = run; addresses = lawful.addresses; reported = step_reported (shown own) e old r new lawful.reported h }
 
   pub run_lawful : (events : List Event) → Each IsNamed events → RunGives (shown own) old events r new → IsLawful own.seen hosts new
-  run_lawful events named h = record { whole = run_whole own hosts events old r new named lawful.whole h; booked = run_books own events old r new lawful.booked h; run = run; addresses = lawful.addresses }
+  run_lawful events named h = record { whole = run_whole own hosts events old r new named lawful.whole h; booked = run_books own events old r new lawful.booked h; run = run; addresses = lawful.addresses; reported = run_reported (shown own) events old r new lawful.reported h }
 
   pub calm_lawful : (times : ℕ) → CalmGives (shown own) times old r new → IsLawful own.seen hosts new
-  calm_lawful times h = record { whole = calm_whole own hosts times old r new lawful.whole h; booked = calm_books own times old r new lawful.booked h; run = run; addresses = lawful.addresses }
+  calm_lawful times h = record { whole = calm_whole own hosts times old r new lawful.whole h; booked = calm_books own times old r new lawful.booked h; run = run; addresses = lawful.addresses; reported = calm_reported (shown own) times old r new lawful.reported h }

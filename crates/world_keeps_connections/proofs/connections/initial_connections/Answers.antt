@@ -1,5 +1,8 @@
-use Rattle.world_keeps_connections.proofs.Paired.{to_server, to_user}
+use Rattle.world_keeps_connections.proofs.Paired.{are_even, to_server, to_user}
 use Rattle.world_keeps_connections.proofs.connections.initial_connections.Goals as goal
+
+pub returns-clause-even : goal.returns-clause-even
+returns-clause-even g c = λ hosts w lawful server user s u a b d e k. are_even g.C.Carrier.seen hosts w lawful server user s u a b d e k
 
 pub returns-clause-to_user : goal.returns-clause-to_user
 returns-clause-to_user g c = λ hosts w lawful server user s u a b d e k. to_user g.C.Carrier.seen hosts w lawful server user s u a b d e k
