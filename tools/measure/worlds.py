@@ -135,12 +135,13 @@ def waiting(_, __, count):
 
 def at_one_host(_, __, count):
     others = [f"{host}/{imp}" for imp in range(1, 17) for host in range(4)][1 : 1 + -(-count // 30)]
-    lines = [f"contact 0/1 {other}" for other in others] + ["calm 4"]
+    passing = f"calm {20 + count // 30}"
+    lines = [f"contact 0/1 {other}" for other in others] + [passing]
     sockets = range(100, 100 + 2 * count, 2)
     for at, socket in enumerate(sockets):
         other = others[at // 30]
         lines += [f"listen {other} {socket + 1} 8", f"openrecv 0/1 {other} {socket} {socket + 1}"]
-    lines += ["calm 200"] + [f"close 0/1 {socket}" for socket in sockets] + ["calm 200"]
+    lines += [passing, *(f"close 0/1 {socket}" for socket in sockets), passing]
     return lines, {"opened": 2 * count, "ended": 2 * count}
 
 
