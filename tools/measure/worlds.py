@@ -1,6 +1,7 @@
-"""How fast host programs run over both carriers: ./measure worlds [--program FILE] [ROUNDS]
+"""How fast host programs run over both carriers: ./measure worlds [--program FILE] [--only WORDS] [ROUNDS]
 
-./build has to be run before, or FILE is the program. Two hosts talk over plain mailboxes, and over a chain of four IMPs:
+./build has to be run before, or FILE is the program. With --only, the kinds whose names have these words are measured. Two
+hosts talk over plain mailboxes, and over a chain of four IMPs:
 
 - a stream: messages of 8,000 bits, each let go by a grant of its own. 1,000,000 bits are 125 messages. In a script eight bits
   take two digits, and an input has at most 1,048,576 octets, so ten times as many don't fit: beside 1,000,000 bits, 400,000
@@ -8,7 +9,15 @@
 - 40 connections at once, 20 each way, since one host has 30 links to receive on from another: on each goes a message of 80
   bits after its grant, again and again;
 - connections that open and close, one after the other;
-- the same beside a connection that stays open from before the first of them to the end.
+- the same beside a connection that stays open from before the first of them to the end;
+- lines that are typed at a terminal, each of which comes back from the other host's echo service before the next one;
+- initial connections, one after the other, each closed before the next one.
+
+Over plain mailboxes alone:
+
+- ECOs that all wait to go out before the first of them does;
+- sockets that listen, and servers that wait, with nobody to ask them;
+- connections that are all open at once at one host of 64, at most 30 with each other host, and then close.
 
 Each is run at one size and at ten times that size. For each the median and the best processor time of the rounds are told,
 from the start of the process to its end, and the greatest memory; growth compares the best. At most eleven times as long
@@ -36,7 +45,13 @@ CARRIERS = {
         "0/4",
         4,
     ),
+    "plain mailboxes of 64 hosts": (
+        'carrier = "plain"\nraw = false\n' + "".join(f"[[imp]]\nid={number}\nhosts=4\n" for number in range(1, 17)) + "%\n",
+        "0/2",
+        1,
+    ),
 }
+BETWEEN_TWO = ["plain mailboxes", "a chain of 4 IMPs"]
 
 
 def octets(bits):
@@ -86,11 +101,62 @@ def beside(other, rounds, count):
     return lines[:first] + opened(other, "0/1", rounds, 1) + lines[first:], {**printed, "opened": 2 * count + 2}
 
 
+def asked(other, rounds, at=0):
+    """An initial connection: the other host serves, and a user of 0/1 asks it. Each has sockets of its own."""
+    return [f"server {other} {10 * at + 7} {10 * at + 100}", f"user 0/1 {other} {10 * at + 7} {10 * at + 16}", f"calm {10 * rounds}"]
+
+
+def typed(other, rounds, count):
+    lines = ready(other, rounds) + asked(other, rounds)
+    for _ in range(count):
+        lines += ["type 0/1 A", f"calm {6 * rounds}"]
+    return lines, {"line": count, "done": 2}
+
+
+def initial(other, rounds, count):
+    lines = ready(other, rounds)
+    for at in range(count):
+        lines += asked(other, rounds, at) + [f"close 0/1 {10 * at + 18}", f"calm {6 * rounds}"]
+    return lines, {"done": 2 * count, "opened": 6 * count, "ended": 6 * count}
+
+
+def queued(other, rounds, count):
+    lines = ready(other, rounds) + [f"echo 0/1 {other} 7"] * count
+    return [*lines, f"calm {count}"], {"echoed": count}
+
+
+def listening(_, __, count):
+    return [f"listen 0/1 {100_000 + at} 8" for at in range(count)], {"opened": 0}
+
+
+def waiting(_, __, count):
+    return [f"server 0/1 {2 * at + 1} {200_000 + 2 * at}" for at in range(count)], {"done": 0, "failed": 0}
+
+
+def at_one_host(_, __, count):
+    others = [f"{host}/{imp}" for imp in range(1, 17) for host in range(4)][1 : 1 + -(-count // 30)]
+    passing = f"calm {20 + count // 30}"
+    lines = [f"contact 0/1 {other}" for other in others] + [passing]
+    sockets = range(100, 100 + 2 * count, 2)
+    for at, socket in enumerate(sockets):
+        other = others[at // 30]
+        lines += [f"listen {other} {socket + 1} 8", f"openrecv 0/1 {other} {socket} {socket + 1}"]
+    lines += [passing, *(f"close 0/1 {socket}" for socket in sockets), passing]
+    return lines, {"opened": 2 * count, "ended": 2 * count}
+
+
+# What is measured, over which carriers, and at which sizes.
 MEASURED = [
-    ("a stream of so many bits", stream, [(1_000_000,), (400_000, 4_000_000)]),
-    ("messages on 40 connections", at_once, [(1_200, 12_000)]),
-    ("openings and closings", closings, [(1_000, 10_000)]),
-    ("the same beside an open connection", beside, [(1_000, 10_000)]),
+    ("a stream of so many bits", stream, BETWEEN_TWO, [(1_000_000,), (400_000, 4_000_000)]),
+    ("messages on 40 connections", at_once, BETWEEN_TWO, [(1_200, 12_000)]),
+    ("openings and closings", closings, BETWEEN_TWO, [(1_000, 10_000)]),
+    ("the same beside an open connection", beside, BETWEEN_TWO, [(1_000, 10_000)]),
+    ("lines typed", typed, BETWEEN_TWO, [(2_000, 20_000)]),
+    ("initial connections", initial, BETWEEN_TWO, [(100, 1_000)]),
+    ("ECOs that wait", queued, BETWEEN_TWO[:1], [(6_000, 60_000)]),
+    ("sockets that listen", listening, BETWEEN_TWO[:1], [(3_000, 30_000)]),
+    ("servers that wait", waiting, BETWEEN_TWO[:1], [(3_000, 30_000)]),
+    ("connections open at one host", at_one_host, ["plain mailboxes of 64 hosts"], [(180, 1_800)]),
 ]
 
 
@@ -98,8 +164,9 @@ def memory_of(program, source, wanted):
     """The most memory that a run held, in KiB. What it prints has to have so many lines of each of these kinds."""
     memory, output = most_memory(program, source)
     kinds = [line.partition(b" ")[0].decode() for line in output.splitlines()]
-    found = {kind: kinds.count(kind) for kind in [*wanted, "refused", "error"]}
-    if found != {**wanted, "refused": 0, "error": 0}:
+    wanted = {"refused": 0, "error": 0, **wanted}
+    found = {kind: kinds.count(kind) for kind in wanted}
+    if found != wanted:
         sys.exit(f"measure worlds: {source}: printed were {found}, not {wanted}")
     return memory
 
@@ -123,11 +190,13 @@ def main():
     words = sys.argv[1:]
     program = proved_program() if words[:1] != ["--program"] else words[1]
     words = words[2:] if words[:1] == ["--program"] else words
+    only = words[1] if words[:1] == ["--only"] else ""
+    words = words[2:] if words[:1] == ["--only"] else words
     rounds = int(words[0]) if words else 11
     with tempfile.TemporaryDirectory() as folder:
         print("| Measured | Carrier | Count | Median | Best | Most memory | Ten times the count |\n|---|---|---|---|---|---|---|")
-        for name, make, pairs in MEASURED:
-            for carrier in CARRIERS:
+        for name, make, carriers, pairs in MEASURED:
+            for carrier in carriers if only in name else []:
                 for sizes in pairs:
                     measure(program, folder, rounds, name, make, carrier, sizes)
 

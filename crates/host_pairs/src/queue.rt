@@ -11,21 +11,25 @@ use std::marker::Model;
 /// The commands that wait to go out to a peer, the oldest first. RST and RRP aren't among them: each goes
 /// alone in its message, and a pair of hosts keeps them as its phase and as what it owes (NIC 8246, RST and
 /// RRP).
+///
+/// Those that have gone out stand before the others until they are more than half, and go all at once then. So each command is
+/// moved at most once more on average, however many wait.
 #[derive(Drop)]
 pub struct Queue {
     commands: Vec<Command>,
+    gone: usize,
 }
 
 impl Model for Queue {
-    ghost use Rattle.std.specs.Prelude.{◌≡◌, List, true};
+    ghost use Rattle.std.specs.Prelude.{◌≡◌, ◌≤◌, List, true, drop, length};
     ghost use Rattle.ncp_control.specs.declared.command.Command.{Command};
     ghost use Rattle.host_pairs.specs.Queue.{are_joint};
 
     ghost Value = { List Command };
 
-    ghost view = { λ q. q.commands.items };
+    ghost view = { λ q. drop q.gone q.commands.items };
 
-    ghost invariant = { λ q. are_joint q.commands.items ≡ true };
+    ghost invariant = { λ q. (q.gone ≤ length q.commands.items) × (are_joint (drop q.gone q.commands.items) ≡ true) };
 }
 
 impl Queue {
@@ -35,6 +39,7 @@ impl Queue {
     {
         Queue {
             commands: Vec::new(alloc),
+            gone: 0,
         }
     }
 
@@ -43,25 +48,26 @@ impl Queue {
         ensures value { result.now ≡ self.now }
         ensures joint { are_joint self.now ≡ true }
     {
-        &self.commands
+        &self.commands[self.gone..]
     }
 
     /// How many there are.
+    #[tactic(auto, using(crate::proofs::QueueLemmas::length_behind))]
     pub(crate) fn len(&self) -> usize
         ensures { result ≡ length self.now }
     {
-        self.commands.len()
+        self.commands.len() - self.gone
     }
 
     /// Whether there are none.
     pub(crate) fn is_empty(&self) -> bool
         ensures { result ≡ (length self.now == 0) }
     {
-        self.commands.is_empty()
+        self.len() == 0
     }
 
     /// Puts a command behind the others.
-    #[tactic(auto, using(crate::proofs::QueueLemmas::joint_more))]
+    #[tactic(auto, using(crate::proofs::QueueLemmas::joint_pushed, crate::proofs::QueueLemmas::one_more, crate::proofs::QueueLemmas::within_more))]
     pub(crate) fn push(&mut self, command: Command) -> Result<(), AllocError>
         requires joint { is_alone command ≡ false }
         ensures { OnOk result (self.new ≡ self.old ++ command ∷ []) }
@@ -71,20 +77,21 @@ impl Queue {
     }
 
     /// The first so many commands, or all of them, no longer wait.
-    #[tactic(auto, using(crate::proofs::QueueLemmas::joint_behind))]
+    #[tactic(auto, using(crate::proofs::QueueLemmas::joint_further, crate::proofs::QueueLemmas::further, crate::proofs::QueueLemmas::within_further))]
     pub(crate) fn drop_front(&mut self, count: usize)
         ensures { self.new ≡ drop count self.old }
     {
-        drop_front(&mut self.commands, count);
+        self.gone += count.min(self.len());
+        self.make_room();
     }
-}
 
-/// The first so many commands, or all of them, no longer wait.
-#[tactic(auto, using(std::proofs::lemmas::List::drop_min))]
-fn drop_front(queue: &mut Vec<Command>, count: usize)
-    ensures { queue.new.items ≡ drop count queue.old.items }
-{
-    for _done in 0..count.min(queue.len()) {
-        let _ = queue.remove(0);
+    /// Removes the commands that have gone out, if they are more than half of all.
+    fn make_room(&mut self)
+        ensures { self.new ≡ self.old }
+    {
+        if self.gone > self.commands.len() / 2 {
+            self.commands.drain(..self.gone);
+            self.gone = 0;
+        }
     }
 }

@@ -1,3 +1,4 @@
 pub mod TurnLemmas
+pub mod HearingLemmas
 pub mod Asking
 pub mod lemmas

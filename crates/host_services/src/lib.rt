@@ -11,6 +11,7 @@
 #![tactic(auto)]
 
 mod desk;
+mod hearing;
 pub mod law;
 mod report;
 mod service;
