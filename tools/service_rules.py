@@ -157,11 +157,10 @@ class User(Machine):
 
 
 class Service:
-    """Receives octets on one socket and sends them on another. A refused request is passed over."""
+    """Receives on one socket and sends on another. A refused request is passed over."""
 
     def __init__(self, receives, sends):
         self.receives, self.sends = receives, sends
-        self.part = ""  # the bits behind the last whole octet
 
     def start(self):
         return [("grant", self.receives, FIRST_MESSAGES, FIRST_BITS)]
@@ -177,16 +176,14 @@ class Service:
         own = int(words[0]) if kind in ("arrived", "ended") else None
         if kind == "arrived" and own == self.receives:
             bits = read_bits(*words[1:])
-            whole = (len(self.part) + len(bits)) // 8 * 8
-            heard, self.part = (self.part + bits)[:whole], (self.part + bits)[whole:]
-            return [("grant", self.receives, 1, len(bits)), *self.hear(heard)]
+            return [("grant", self.receives, 1, len(bits)), *self.hear(bits)]
         if kind == "ended" and own in (self.receives, self.sends):
             return [("close", self.sends if own == self.receives else self.receives)]
         return []
 
 
 class Echo(Service):
-    """Sends back what arrives."""
+    """Sends back what arrives, all its bits at each arrival, whatever the size of the bytes."""
 
     def hear(self, bits):
         return [("send", self.sends, bits)] if bits else []
@@ -197,11 +194,15 @@ class Terminal(Service):
 
     def __init__(self, receives, sends):
         super().__init__(receives, sends)
+        self.part = ""  # the bits behind the last whole octet
         self.kept = b""
         self.lines = []
 
     def hear(self, bits):
-        *lines, self.kept = (self.kept + octets(bits)).split(b"\r\n")
+        bits = self.part + bits
+        whole = len(bits) // 8 * 8
+        self.part = bits[whole:]
+        *lines, self.kept = (self.kept + octets(bits[:whole])).split(b"\r\n")
         self.lines += lines
         return []
 

@@ -33,7 +33,6 @@ use Rattle.sockets.specs.declared.request.Request.{Request}
 use Rattle.sockets.specs.declared.request.Request.TheVariants as request
 use Rattle.terminal.specs.Ends as ends
 use Rattle.terminal.specs.Machines.{EchoState, TerminalState, echo_by, echo_turn, terminal_by, terminal_turn}
-use Rattle.terminal.specs.Octets.{whole}
 use Rattle.host_services.specs.Named.{HasAsked, IsUser, MayAsk, NamesPeer, NamePeers, NoneRefused}
 use Rattle.host_services.specs.Services.{Service, ServicesState, ServiceDeskState, serving, reporting, noticing, typing_on}
 use Rattle.host_services.specs.Turns.{Turned, asked_by, asks, became, notice_heard, heard_by, all_heard, tried, tried_by, tries, services_told, lines_told, server_asks, server_begins, server_begun, server_ends, server_asked, user_asks, user_begins, user_begun, user_ends, user_asked}
@@ -240,7 +239,7 @@ sending_fine send (b ∷ bits) = (sends send (b ∷ bits), tt)
 
 echo_by_fine : (s : EchoState) (o : Option (List Bool)) (closes : List Request) → Fine closes → Fine (echo_by s o closes).1
 echo_by_fine s None closes fine = fine
-echo_by_fine s (Some bits) closing fine = (grants_again s.receive bits, sending_fine s.send (whole (s.part ++ bits)))
+echo_by_fine s (Some bits) closing fine = (grants_again s.receive bits, sending_fine s.send bits)
 
 echo_fine : (s : EchoState) (n : Notice) → Fine (echo_turn s n).1
 unfolding echo_turn

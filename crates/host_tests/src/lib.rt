@@ -19,6 +19,8 @@ mod data;
 #[cfg(test)]
 mod errors;
 #[cfg(test)]
+mod faults;
+#[cfg(test)]
 mod initial_connection;
 #[cfg(test)]
 mod news;

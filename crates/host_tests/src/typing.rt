@@ -50,18 +50,20 @@ fn told(alloc: Global, rows: &[Row]) -> Result<String, BitFault> {
     Ok(out)
 }
 
-/// The echo service sends back what is whole. Where one end has ended it closes the other.
+/// The echo service sends back all bits of each arrival, five and seven too. Where one end has ended it closes the other.
 const ECHOED: [Scene; 2] = [
     (
         &[
             (News::Arrived(100, 16), &[72, 73]),
             (News::Arrived(100, 12), &[65, 0x40]),
             (News::Arrived(100, 4), &[0x20]),
+            (News::Arrived(100, 5), &[0xA8]),
+            (News::Arrived(100, 7), &[0x98]),
             (News::Arrived(100, 0), &[]),
             (News::Arrived(16, 8), &[65]),
             (News::Interrupt(100), &[]),
         ],
-        "grant 100 4 4096, grant 100 1 16, send 101 4849, grant 100 1 12, send 101 41, grant 100 1 4, send 101 42, grant 100 1 0, ",
+        "grant 100 4 4096, grant 100 1 16, send 101 4849, grant 100 1 12, send 101 4140, grant 100 1 4, send 101 20, grant 100 1 5, send 101 A8, grant 100 1 7, send 101 98, grant 100 1 0, ",
     ),
     (
         &[

@@ -1,5 +1,5 @@
 -- A user is done only where both its connections were opened with sockets of its peer.
-use Rattle.std.proofs.Common.{◌≡◌, ℕ, ◌+◌, ◌≤◌, ◌&&◌, ◌||◌, Bool, true, false, nat_lt, List, [], ◌∷◌, ◌++◌, length, take, Option, Some, None, is_some, if◌then◌else◌, refl, ap, sym, subst, ◌∙◌, append_assoc, length-append, arith}
+use Rattle.std.proofs.Common.{◌≡◌, ℕ, ◌+◌, ◌<◌, ◌≤◌, ◌&&◌, ◌||◌, Bool, true, false, nat_lt, List, [], ◌∷◌, ◌++◌, length, take, Option, Some, None, is_some, if◌then◌else◌, refl, ap, sym, subst, ◌∙◌, append_assoc, length-append, arith}
 use Rattle.std.specs.List.{list_any}
 use Rattle.std.proofs.lemmas.Bool.Decides.{nat_tests}
 use Rattle.std.proofs.lemmas.List.{take-append-le}
@@ -51,6 +51,16 @@ joined_keeps s bits false is =
     let base : ℕ = socket_of (take 32 bits) in
     let k : Keeps (record s { bits = [] }) (user_told (record s { bits = [] }) base) = told_keeps (record s { bits = [] }) base (is_receive_socket base) refl in
     rw is (record { outcome = k.outcome; peer = k.peer; receive = k.receive; send = k.send; receiving = k.receiving; sending = k.sending; over = k.over })
+
+-- what it asks for once it knows the base
+told_asks : (s : UserState) (base : ℕ) (even : Bool) → is_receive_socket base ≡ even → 0 < length (user_told s base).1
+told_asks s base true is = rw is (omega arith)
+told_asks s base false is = rw is (omega arith)
+
+pub joined_asks : (s : UserState) (bits : List Bool) → 32 ≤ length bits → 0 < length (user_joined s bits).1
+joined_asks s bits enough =
+    let all : nat_lt (length bits) 32 ≡ false = grind (arith, nat_tests, enough) in
+    rw all (told_asks (record s { bits = [] }) (socket_of (take 32 bits)) (is_receive_socket (socket_of (take 32 bits))) refl)
 
 heard_keeps : (s : UserState) (o : Option (List Bool)) → Keeps s (user_heard s o)
 heard_keeps s None = record { outcome = refl; peer = refl; receive = refl; send = refl; receiving = refl; sending = refl; over = λ e. absurd (is_not e) }

@@ -1,5 +1,5 @@
 -- What a notice says of one socket, or of one host.
-use Rattle.std.specs.Prelude.{ℕ, Bool, false, ◌==◌, ◌&&◌, if◌then◌else◌, List, Option, Some, None}
+use Rattle.std.specs.Prelude.{ℕ, Bool, false, ◌==◌, ◌&&◌, nat_lt, if◌then◌else◌, List, length, Option, Some, None}
 use Rattle.leader1822.specs.Host.{Host, same_host}
 use Rattle.icp.specs.declared.notices.Partner.{Partner}
 use Rattle.host_pairs.specs.declared.notice.Notice.{Notice}
@@ -26,6 +26,14 @@ is_opened socket peer foreign n = is_partner_in peer foreign (opened_on socket n
 abbrev pub arrived_on : ℕ → Notice → Option (List Bool)
 arrived_on own (notice.Arrived socket bits) = if socket == own then Some bits else None
 arrived_on own n = None
+
+abbrev pub has_bits : Option (List Bool) → Bool
+has_bits None = false
+has_bits (Some bits) = nat_lt 0 (length bits)
+
+-- whether bits arrived on this socket, one at least
+abbrev pub brings_bits : ℕ → Notice → Bool
+brings_bits own n = has_bits (arrived_on own n)
 
 -- whether a connection of this socket has ended
 abbrev pub has_ended : ℕ → Notice → Bool

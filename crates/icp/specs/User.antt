@@ -2,7 +2,7 @@
 use Rattle.std.specs.Prelude.{ℕ, ◌+◌, Bool, true, false, ◌&&◌, ◌||◌, is_none, nat_lt, if◌then◌else◌, List, [], ◌∷◌, ◌++◌, length, take, Option, Some, None}
 use Rattle.leader1822.specs.Host.{Host}
 use Rattle.ncp_control.specs.Numbers.{is_receive_socket}
-use Rattle.icp.specs.Notices.{is_opened, arrived_on, has_ended, is_reset}
+use Rattle.icp.specs.Notices.{is_opened, arrived_on, brings_bits, has_ended, is_reset}
 use Rattle.icp.specs.Outcomes.{IcpTurn, passed, failed, local_outcome}
 use Rattle.icp.specs.Sockets.{socket_of}
 use Rattle.icp.specs.declared.outcome.Failure.{Failure}
@@ -103,6 +103,10 @@ user_by s n None = user_stage s n s.base
 -- its turn at a notice; with its outcome it has ended
 unfoldable pub user_turn : UserState → Notice → IcpTurn UserState
 user_turn s n = if s.over then passed s else user_by s n (user_failure s n)
+
+-- bits of the base come, and it keeps them: it waits for the base on the open first connection
+abbrev pub user_reads : UserState → Notice → Bool
+user_reads s n = s.opened && (is_none s.base && brings_bits s.own n)
 
 -- a request of it was refused: it has its outcome then, whether before or now
 abbrev pub user_local : UserState → NcpFault → UserState × Option Outcome

@@ -1,6 +1,6 @@
 //! A socket number in 32 bits.
 
-ghost use Rattle.std.specs.Prelude.{◌≡◌, ◌≤◌, ◌++◌, length, take, IfOk};
+ghost use Rattle.std.specs.Prelude.{◌≡◌, ◌<◌, ◌≤◌, ◌++◌, length, take, IfOk, OnErr};
 ghost use Rattle.std.specs.Int.{w32};
 ghost use Rattle.icp.specs.Sockets.{socket_bits, socket_of};
 ghost use Rattle.ncp_control.specs.Reading.{number_at};
@@ -45,7 +45,8 @@ pub(crate) fn socket_of(alloc: Global, bits: &Bits) -> Result<u32, AllocError>
 
 /// Puts bits behind those that were kept.
 pub(crate) fn join(kept: &mut Bits, bits: &Bits) -> Result<(), AllocError>
-    ensures { IfOk result (λ _. kept.new ≡ kept.old ++ bits.now) }
+    ensures joined { IfOk result (λ _. kept.new ≡ kept.old ++ bits.now) }
+    ensures memory { OnErr result (0 < length bits.now) }
 {
     match kept.append(bits) {
         Ok(()) => Ok(()),

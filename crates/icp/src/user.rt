@@ -1,9 +1,9 @@
 //! The user's part of an initial connection.
 
-ghost use Rattle.std.specs.Prelude.{◌≡◌, ◌+◌, ◌<◌, ◌≤◌, true, false, [], ◌∷◌, ◌++◌, length, take, MatchOption, MatchResult, IfOk, OnErr, Err, Ok, None, Some};
+ghost use Rattle.std.specs.Prelude.{◌≡◌, ◌+◌, ◌<◌, ◌≤◌, nat_lt, true, false, [], ◌∷◌, ◌++◌, length, take, MatchOption, MatchResult, IfOk, OnErr, Err, Ok, None, Some};
 ghost use Rattle.icp.specs.Outcomes as outcomes;
 ghost use Rattle.icp.specs.Sockets.{user_fault, socket_of};
-ghost use Rattle.icp.specs.Notices.{arrived_on};
+ghost use Rattle.icp.specs.Notices.{arrived_on, brings_bits};
 ghost use Rattle.icp.specs.User as users;
 ghost use Rattle.icp.specs.declared.fault.StartFault.TheVariants as fault;
 ghost use Rattle.ncp_control.specs.Numbers.{is_receive_socket};
@@ -204,8 +204,10 @@ impl User {
     }
 
     /// Bits of the base came.
+    #[tactic(auto, using(crate::proofs::UserLemmas::joined_asks))]
     fn join(&mut self, bits: &Bits) -> Result<Said, AllocError>
-        ensures { IfOk result (λ said. users.user_joined self.old (self.old.bits ++ bits.now) ≡ (self.new, said.requests.items, said.outcome)) }
+        ensures turn { IfOk result (λ said. users.user_joined self.old (self.old.bits ++ bits.now) ≡ (self.new, said.requests.items, said.outcome)) }
+        ensures memory { OnErr result (nat_lt 0 (length bits.now) ≡ false → 0 < length (users.user_joined self.old (self.old.bits ++ bits.now)).1) }
     {
         join(&mut self.bits, bits)?;
         if self.bits.len() < SOCKET_BITS {
@@ -218,7 +220,8 @@ impl User {
 
     /// It waits for the base.
     fn read(&mut self, notice: &Notice) -> Result<Said, AllocError>
-        ensures { IfOk result (λ said. users.user_heard self.old (arrived_on self.old.own notice.now) ≡ (self.new, said.requests.items, said.outcome)) }
+        ensures turn { IfOk result (λ said. users.user_heard self.old (arrived_on self.old.own notice.now) ≡ (self.new, said.requests.items, said.outcome)) }
+        ensures memory { OnErr result (brings_bits self.old.own notice.now ≡ false → 0 < length (users.user_heard self.old (arrived_on self.old.own notice.now)).1) }
     {
         match arrived_on(self.own.number(), notice) {
             Some(bits) => self.join(bits),
@@ -253,7 +256,8 @@ impl User {
 
     /// Its turn at a notice that isn't its failure.
     fn go_on(&mut self, notice: &Notice) -> Result<Said, AllocError>
-        ensures { IfOk result (λ said. users.user_stage self.old notice.now self.old.base ≡ (self.new, said.requests.items, said.outcome)) }
+        ensures turn { IfOk result (λ said. users.user_stage self.old notice.now self.old.base ≡ (self.new, said.requests.items, said.outcome)) }
+        ensures memory { OnErr result (users.user_reads self.old notice.now ≡ false → 0 < length (users.user_stage self.old notice.now self.old.base).1) }
     {
         match self.base {
             Some(base) => Ok(self.meet(base, notice)),
@@ -265,7 +269,8 @@ impl User {
     /// Its turn at a notice.
     #[tactic(auto, unfolding(crate::specs::User::user_turn))]
     fn hear(&mut self, notice: &Notice) -> Result<Said, AllocError>
-        ensures { IfOk result (λ said. users.user_turn self.old notice.now ≡ (self.new, said.requests.items, said.outcome)) }
+        ensures turn { IfOk result (λ said. users.user_turn self.old notice.now ≡ (self.new, said.requests.items, said.outcome)) }
+        ensures memory { OnErr result (users.user_reads self.old notice.now ≡ false → 0 < length (users.user_turn self.old notice.now).1) }
     {
         if self.over {
             return Ok(Said::only(self.alloc, None));
@@ -280,10 +285,12 @@ impl User {
     /// Tells it of something that happened to its host. Returns what it asks for, in order, and its outcome
     /// where it has come to its end; after that it asks for nothing more.
     ///
-    /// Errors: `AllocError` when memory runs out, and then it is spent.
+    /// Errors: `AllocError` when memory runs out, only where it asks for something or keeps bits of the base, and
+    /// then it is spent.
     pub fn notice(&mut self, notice: &Notice) -> Result<Said, AllocError>
         requires live { self.old.spent ≡ false }
         ensures turn { MatchResult result (λ said. users.user_turn self.old notice.now ≡ (self.new, said.requests.items, said.outcome)) (λ _. self.new.spent ≡ true) }
+        ensures memory { OnErr result (users.user_reads self.old notice.now ≡ false → 0 < length (users.user_turn self.old notice.now).1) }
     {
         let done = self.hear(notice);
         if done.is_err() {

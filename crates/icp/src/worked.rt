@@ -6,7 +6,7 @@ ghost use Rattle.bit_messages.specs.Octets.{bits_of};
 ghost use Rattle.icp.specs.Played.{said_to};
 ghost use Rattle.icp.specs.Server.{opening_server, server_local, server_requests};
 ghost use Rattle.icp.specs.Sockets.{server_fault, socket_bits, user_fault};
-ghost use Rattle.icp.specs.User.{opening_user, user_local, user_requests};
+ghost use Rattle.icp.specs.User.{opening_user, user_local, user_reads, user_requests};
 ghost use Rattle.icp.specs.Worked.{first, second, third, opened_notice, server_asks, server_ends, user_asks, user_ends};
 ghost use Rattle.icp.specs.declared.fault.StartFault.TheVariants as fault;
 ghost use Rattle.icp.specs.declared.outcome.Failure.TheVariants as failure;
@@ -128,6 +128,21 @@ pub fn worked_user()
     // a request that was refused is a failure, once
     ensures local { user_local (opening_user second 7 16) ncp.NotContacted ≡ (record (opening_user second 7 16) { over = true }, Some (outcome.Failed (failure.Local ncp.NotContacted))) }
     ensures local_after { user_local (record (opening_user second 7 16) { over = true }) ncp.InUse ≡ (record (opening_user second 7 16) { over = true }, None) }
+{}
+
+/// When a user keeps bits of the base.
+pub fn worked_reading()
+    // one bit is enough, where it waits for the base
+    ensures reads { user_reads (record (opening_user second 7 16) { opened = true }) (notice.Arrived 16 (true ∷ [])) ≡ true }
+
+    // not before its first connection is open, nor once the base is known
+    ensures before { user_reads (opening_user second 7 16) (notice.Arrived 16 (true ∷ [])) ≡ false }
+    ensures after { user_reads (record (opening_user second 7 16) { opened = true; base = Some 100 }) (notice.Arrived 16 (true ∷ [])) ≡ false }
+
+    // neither bits on another socket, nor a message without bits, nor anything that isn't bits
+    ensures others_bits { user_reads (record (opening_user second 7 16) { opened = true }) (notice.Arrived 18 (true ∷ [])) ≡ false }
+    ensures no_bits { user_reads (record (opening_user second 7 16) { opened = true }) (notice.Arrived 16 []) ≡ false }
+    ensures no_arrival { user_reads (record (opening_user second 7 16) { opened = true }) (notice.Interrupt 16) ≡ false }
 {}
 
 /// What a server says to a user.

@@ -48,6 +48,19 @@ fn row(alloc: Global) -> Result<[Said; 4], AllocError> {
     Ok(told(&tables))
 }
 
+/// The same row without a round, after sixteen rounds of a network without tables.
+fn row_at_first(alloc: Global) -> Result<[Said; 4], AllocError> {
+    let mut tables = [
+        misled(alloc, 1, 1)?,
+        misled(alloc, 2, 2)?,
+        misled(alloc, 3, 1)?,
+        misled(alloc, 4, 0)?,
+    ];
+    settle(alloc, &[], &mut [], 16)?;
+    settle(alloc, &[(1, 2), (2, 3)], &mut tables, 0)?;
+    Ok(told(&tables))
+}
+
 /// The four IMPs in a ring.
 fn ring(alloc: Global) -> Result<[Said; 4], AllocError> {
     let mut tables = [
@@ -94,4 +107,22 @@ fn sixteen_rounds_tell_shortest_walks(rt: HostRuntime) {
     ];
     let found = [row(rt.alloc()), ring(rt.alloc()), islands(rt.alloc())];
     assert_eq!(rt; found, [Ok(in_a_row), Ok(in_a_ring), Ok(on_islands)]);
+}
+
+/// Distances of 1 to all but the first four IMPs.
+const fn near_to_others(first: [u8; 4]) -> [u8; 16] {
+    [
+        first[0], first[1], first[2], first[3], 1, 1, 1, 1, 1, 1, 1, 1, 1, 1, 1, 1,
+    ]
+}
+
+#[test]
+fn no_round_changes_nothing(rt: HostRuntime) {
+    let misled = [
+        (near_to_others([0, 1, 1, 1]), Some(0)),
+        (near_to_others([1, 0, 1, 1]), Some(0)),
+        (near_to_others([1, 1, 0, 1]), None),
+        (far_from_others([16, 16, 16, 0]), None),
+    ];
+    assert_eq!(rt; row_at_first(rt.alloc()), Ok(misled));
 }

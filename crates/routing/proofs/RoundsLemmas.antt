@@ -1,6 +1,7 @@
 -- Tables that hear one another in rounds come to tell the lengths of shortest walks.
-use Rattle.std.proofs.Common.{◌≡◌, ℕ, zero, suc, ◌+◌, ◌-◌, ◌<◌, ◌≤◌, List, [], ◌∷◌, length, get_or, map, Option, Some, None, refl, sym, ◌∙◌, ap, arith, inl, inr, subst, All, add-one}
+use Rattle.std.proofs.Common.{◌≡◌, ℕ, zero, suc, ◌+◌, ◌-◌, ◌<◌, ◌≤◌, List, [], ◌∷◌, length, get_or, map, Option, Some, None, refl, sym, ◌∙◌, ap, arith, inl, inr, subst, All, add-one, ◌==◌, true}
 use Rattle.std.proofs.lemmas.Bool.{cases_lt}
+use Rattle.std.proofs.lemmas.Bool.Decides.{nat_tests}
 use Rattle.std.proofs.lemmas.List.{get_or-map, length-map}
 use Rattle.routing.specs.Vector.{imps, infinite}
 use Rattle.routing.specs.RouteTable.{Table, heard_distance, distance_in, distance_to, vector_of, next_of, IsNext}
@@ -47,6 +48,13 @@ settled-length : (graph : List (ℕ × ℕ)) (tables : List Table) (rounds : ℕ
 unfolding settled
 settled-length graph tables zero = refl
 settled-length graph tables (suc rounds) = one_round-length graph (settled graph tables rounds) ∙ settled-length graph tables rounds
+
+-- where there are no tables there is nothing to change
+pub settled_none : (graph : List (ℕ × ℕ)) (tables : List Table) (rounds : ℕ) → (length tables == 0) ≡ true → settled graph tables rounds ≡ tables
+unfolding settled
+settled_none graph [] zero none = refl
+settled_none graph [] (suc rounds) none = ap (one_round graph) (settled_none graph [] rounds none)
+settled_none graph (t ∷ ts) rounds none = absurd (grind (arith, nat_tests))
 
 pub settled-more : (graph : List (ℕ × ℕ)) (tables : List Table) (rounds : ℕ) → one_round graph (settled graph tables rounds) ≡ settled graph tables (rounds + 1)
 unfolding settled

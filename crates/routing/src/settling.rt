@@ -1,6 +1,6 @@
 //! Tables of neighbouring IMPs that hear one another.
 
-ghost use Rattle.std.specs.Prelude.{◌≡◌, ◌≤◌, ℕ, map, length, OnOk, OnErr, IfOk, All, Some, slice_index_or, []};
+ghost use Rattle.std.specs.Prelude.{◌≡◌, ◌<◌, ◌≤◌, ℕ, map, length, OnOk, OnErr, IfOk, All, Some, slice_index_or, []};
 ghost use Rattle.routing.specs.Vector.{infinite};
 ghost use Rattle.routing.specs.RouteTable.{vector_of};
 ghost use Rattle.routing.specs.Settle.{AreTablesOf, IsImp, IsRight, settled, one_round, table_of, after_round, neighbours, other_end};
@@ -15,7 +15,7 @@ use std::alloc::{AllocError, Global};
 /// `tables` are those of IMP 1, IMP 2 and so on. After [`INFINITE`](crate::INFINITE) rounds, from whatever
 /// they had heard before, the tables are right.
 ///
-/// Errors: memory runs out. The tables then are as before.
+/// Errors: memory runs out, which can happen only if there are tables and rounds. The tables then are as before.
 pub fn settle(
     alloc: Global,
     graph: &[(u8, u8)],
@@ -25,8 +25,12 @@ pub fn settle(
     requires { AreTablesOf graph.now tables.old }
     ensures settled { OnOk result (tables.new ≡ settled graph.now tables.old rounds) }
     ensures right { OnOk result (infinite ≤ rounds → (imp : ℕ) → IsImp (length tables.old) imp → IsRight graph.now (table_of tables.new imp)) }
+    ensures memory { OnErr result ((0 < length tables.old) × (0 < rounds)) }
     ensures unchanged { OnErr result (tables.new ≡ tables.old) }
 {
+    if rounds == 0 || tables.is_empty() {
+        return Ok(());
+    }
     let mut told = vectors(alloc, tables)?;
     for _ in 0..rounds {
         hear_all(graph, &told, tables);

@@ -12,7 +12,7 @@ use Rattle.terminal.specs.Ends.{arrived_on, closed_by, closing, sending}
 use Rattle.terminal.specs.Lines.{Heard, lines_heard, spelled}
 use Rattle.terminal.specs.Machines.{EchoState, echo_by, echo_turn, TerminalState, TerminalTurn, terminal_by, terminal_heard, terminal_turn}
 use Rattle.terminal.specs.Octets.{whole, part}
-use Rattle.terminal.specs.Played.{arrivals, bits_in, echo_played, kept, line_bits, bits_sent, terminal_played}
+use Rattle.terminal.specs.Played.{arrivals, bits_in, echo_played, kept, line_bits, bits_sent, sent_by, terminal_played}
 use Rattle.terminal.proofs.LineLemmas.{nothing_lost}
 use Rattle.terminal.proofs.OctetLemmas.{whole_and_part, whole_octets}
 
@@ -41,36 +41,26 @@ closed_sends receive send (notice.Echoed p o) = refl
 closed_sends receive send (notice.RemoteError p c d) = refl
 
 pub record EchoKeeps (s : EchoState) (news : List Bool) (t : EchoState × List Request) : Type 0 where
-  pub bits : s.part ++ news ≡ bits_sent t.1 ++ t.0.part
+  pub bits : bits_sent t.1 ≡ news
   pub receive : t.0.receive ≡ s.receive
 
 echo_keeps_by : (s : EchoState) (o : Option (List Bool)) (closes : List Request) → bits_sent closes ≡ [] → EchoKeeps s (bits_in o) (echo_by s o closes)
-echo_keeps_by s (Some bits) closes none = record {
-  bits = sym (whole_and_part (s.part ++ bits)) ∙ ap (λ (b : List Bool). b ++ part (s.part ++ bits)) (sym (sent_sending s.send (whole (s.part ++ bits))));
-  receive = refl;
-}
-echo_keeps_by s None closes none = record {
-  bits = append-nil s.part ∙ ap (λ (b : List Bool). b ++ s.part) (sym none);
-  receive = refl;
-}
+echo_keeps_by s (Some bits) closes none = record { bits = sent_sending s.send bits; receive = refl }
+echo_keeps_by s None closes none = record { bits = none; receive = refl }
 
 echo_keeps : (s : EchoState) (n : Notice) → EchoKeeps s (bits_in (arrived_on s.receive n)) (echo_turn s n)
 unfolding echo_turn
 echo_keeps s n = echo_keeps_by s (arrived_on s.receive n) (closed_by s.receive s.send n) (closed_sends s.receive s.send n)
 
-pub echoes : (s : EchoState) (ns : List Notice) → s.part ++ arrivals s.receive ns ≡ bits_sent (echo_played s ns).1 ++ (echo_played s ns).0.part
-echoes s [] = append-nil s.part
+pub echoes : (s : EchoState) (ns : List Notice) → bits_sent (echo_played s ns).1 ≡ arrivals s.receive ns
+echoes s [] = refl
 echoes s (n ∷ ns) =
     let k : EchoKeeps s (bits_in (arrived_on s.receive n)) (echo_turn s n) = echo_keeps s n in
     let t : EchoState × List Request = echo_turn s n in
-    let rest : t.0.part ++ arrivals s.receive ns ≡ bits_sent (echo_played t.0 ns).1 ++ (echo_played t.0 ns).0.part =
-    ap (λ (r : ℕ). t.0.part ++ arrivals r ns) (sym k.receive) ∙ echoes t.0 ns in
-    sym (append_assoc s.part (bits_in (arrived_on s.receive n)) (arrivals s.receive ns))
-    ∙ ap (λ (b : List Bool). b ++ arrivals s.receive ns) k.bits
-    ∙ append_assoc (bits_sent t.1) t.0.part (arrivals s.receive ns)
-    ∙ ap (λ (b : List Bool). bits_sent t.1 ++ b) rest
-    ∙ sym (append_assoc (bits_sent t.1) (bits_sent (echo_played t.0 ns).1) (echo_played t.0 ns).0.part)
-    ∙ ap (λ (b : List Bool). b ++ (echo_played t.0 ns).0.part) (sym (flat_map-append _ t.1 (echo_played t.0 ns).1))
+    let rest : bits_sent (echo_played t.0 ns).1 ≡ arrivals s.receive ns = echoes t.0 ns ∙ ap (λ (r : ℕ). arrivals r ns) k.receive in
+    flat_map-append sent_by t.1 (echo_played t.0 ns).1
+    ∙ ap (λ (b : List Bool). b ++ bits_sent (echo_played t.0 ns).1) k.bits
+    ∙ ap (λ (b : List Bool). bits_in (arrived_on s.receive n) ++ b) rest
 
 -- ---- the line terminal
 

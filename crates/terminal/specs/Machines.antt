@@ -9,22 +9,21 @@ use Rattle.terminal.specs.Octets.{whole, part}
 
 -- ---- the echo service
 
--- its two sockets, the bits after the last whole octet that came, and whether running out of memory has made it useless
+-- its two sockets, and whether running out of memory has made it useless: it keeps no bits
 pub record EchoState : Type 0 where
   pub receive : ℕ
   pub send : ℕ
-  pub part : List Bool
   pub spent : Bool
 
 abbrev pub opening_echo : ℕ → ℕ → EchoState
-opening_echo receive send = record { receive = receive; send = send; part = []; spent = false }
+opening_echo receive send = record { receive = receive; send = send; spent = false }
 
--- what arrived is granted again, and the octets that are whole go back
-abbrev pub echo_heard : EchoState → List Bool → EchoState × List Request
-echo_heard s bits = (record s { part = part (s.part ++ bits) }, granted_again s.receive bits ∷ sending s.send (whole (s.part ++ bits)))
+-- what arrived is granted again, and goes back in one piece, whatever the size of the bytes
+abbrev pub echo_heard : EchoState → List Bool → List Request
+echo_heard s bits = granted_again s.receive bits ∷ sending s.send bits
 
 abbrev pub echo_by : EchoState → Option (List Bool) → List Request → EchoState × List Request
-echo_by s (Some bits) closes = echo_heard s bits
+echo_by s (Some bits) closes = (s, echo_heard s bits)
 echo_by s None closes = (s, closes)
 
 -- its turn at a notice

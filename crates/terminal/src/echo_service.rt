@@ -5,35 +5,29 @@ ghost use Rattle.terminal.specs.Ends as ends;
 ghost use Rattle.terminal.specs.Machines as machines;
 
 use crate::ends::{arrived_on, closed_by, ended, first_requests, granted_again};
-use crate::octets::join;
 use bit_messages::Bits;
 use ncp_control::{ReceiveSocket, SendSocket};
 use sockets::{Notice, Request};
 use std::alloc::{AllocError, Global};
 use std::marker::Model;
 
-/// A program that sends back what arrives, octet by octet. Bits behind the last whole octet wait for those
-/// that make it whole.
+/// A program that sends back what arrives: at each arrival all its bits, whatever the size of the bytes.
 ///
 /// A call that runs out of memory leaves it spent, and no call may follow.
 #[derive(Drop)]
 pub struct EchoService {
     receive: ReceiveSocket,
     send: SendSocket,
-    part: Bits,
     spent: bool,
     alloc: Global,
 }
 
 impl Model for EchoService {
-    ghost use Rattle.std.specs.Prelude.{◌<◌, length};
     ghost use Rattle.terminal.specs.Machines.{EchoState};
 
     ghost Value = { EchoState };
 
-    ghost view = { λ e. record { receive = e.receive; send = e.send; part = e.part; spent = e.spent } };
-
-    ghost invariant = { λ e. length e.part < 8 };
+    ghost view = { λ e. record { receive = e.receive; send = e.send; spent = e.spent } };
 }
 
 impl EchoService {
@@ -51,7 +45,6 @@ impl EchoService {
         let service = EchoService {
             receive,
             send,
-            part: Bits::new(alloc),
             spent: false,
             alloc,
         };
@@ -79,25 +72,24 @@ impl EchoService {
         self.spent
     }
 
-    /// Bits arrived: they are granted again, and what is whole octets now goes back.
-    fn arrived(&mut self, bits: &Bits) -> Result<Vec<Request>, AllocError>
-        ensures { IfOk result (λ requests. machines.echo_heard self.old bits.now ≡ (self.new, requests.items)) }
+    /// Bits arrived: they are granted again, and go back.
+    fn arrived(&self, bits: &Bits) -> Result<Vec<Request>, AllocError>
+        ensures { IfOk result (λ requests. requests.items ≡ machines.echo_heard self.now bits.now) }
     {
-        let octets = join(self.alloc, &mut self.part, bits)?;
         let mut requests = Vec::new(self.alloc);
         requests.push(granted_again(self.receive.number(), bits))?;
-        if !octets.is_empty() {
+        if !bits.is_empty() {
             requests.push(Request::Send {
                 socket: self.send.number(),
-                bits: octets,
+                bits: bits.clone()?,
             })?;
         }
         Ok(requests)
     }
 
     /// Tells it of something that happened to its host. Returns what it asks for, in order: at an arrival on
-    /// its receive socket a grant, and the octets that go back; at the end of one of its connections that
-    /// the other be closed; at any other notice nothing.
+    /// its receive socket a grant, and the bits that go back; at the end of one of its connections that the
+    /// other be closed; at any other notice nothing.
     ///
     /// Errors: `AllocError` when memory runs out, only where it asks for something, and then it is spent.
     #[tactic(auto, unfolding(crate::specs::Machines::echo_turn))]

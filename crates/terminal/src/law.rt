@@ -34,8 +34,8 @@ pub fn octets_of_bits()
 
 /// Whatever a host is told, the two programs lose nothing of what arrives on their socket.
 pub fn nothing_is_lost()
-    // what the service asks to be sent, and what it keeps, is what it had and what arrived, in order
-    ensures echoed { (s : EchoState) (ns : List Notice) → s.part ++ arrivals s.receive ns ≡ bits_sent (echo_played s ns).1 ++ (echo_played s ns).0.part }
+    // what the service asks to be sent is what arrived, in order, whatever came last
+    ensures echoed { (s : EchoState) (ns : List Notice) → bits_sent (echo_played s ns).1 ≡ arrivals s.receive ns }
 
     // the lines that the terminal tells, with their ends, and what it keeps, are what it had and what arrived, in order
     ensures told { (s : TerminalState) (ns : List Notice) → kept s ++ arrivals s.receive ns ≡ line_bits (terminal_played s ns).1 ++ kept (terminal_played s ns).0 }

@@ -50,8 +50,12 @@ pub fn worked_echo()
     // a message without bits costs a message too; there is nothing to send
     ensures no_bits { echo_turn (opening_echo 100 101) (notice.Arrived 100 []) ≡ (opening_echo 100 101, request.Grant 100 1 0 ∷ []) }
 
-    // twelve bits are an octet and a part; four bits more make the part whole, and it goes back then
-    ensures in_parts { echo_played (opening_echo 100 101) (notice.Arrived 100 (bits_of (65 ∷ []) ++ false ∷ true ∷ false ∷ false ∷ []) ∷ notice.Arrived 100 (false ∷ false ∷ true ∷ false ∷ []) ∷ []) ≡ (opening_echo 100 101, request.Grant 100 1 12 ∷ request.Send 101 (bits_of (65 ∷ [])) ∷ request.Grant 100 1 4 ∷ request.Send 101 (bits_of (66 ∷ [])) ∷ []) }
+    // twelve bits go back at once, and so do the four that come next: nothing waits for a whole octet
+    ensures in_parts { echo_played (opening_echo 100 101) (notice.Arrived 100 (bits_of (65 ∷ []) ++ false ∷ true ∷ false ∷ false ∷ []) ∷ notice.Arrived 100 (false ∷ false ∷ true ∷ false ∷ []) ∷ []) ≡ (opening_echo 100 101, request.Grant 100 1 12 ∷ request.Send 101 (bits_of (65 ∷ []) ++ false ∷ true ∷ false ∷ false ∷ []) ∷ request.Grant 100 1 4 ∷ request.Send 101 (false ∷ false ∷ true ∷ false ∷ []) ∷ []) }
+
+    // bytes of five bits and of seven: two of five are no octet either, and come back in one piece
+    ensures fives { echo_turn (opening_echo 100 101) (notice.Arrived 100 (true ∷ false ∷ true ∷ false ∷ true ∷ false ∷ false ∷ true ∷ true ∷ false ∷ [])) ≡ (opening_echo 100 101, request.Grant 100 1 10 ∷ request.Send 101 (true ∷ false ∷ true ∷ false ∷ true ∷ false ∷ false ∷ true ∷ true ∷ false ∷ []) ∷ []) }
+    ensures seven { echo_turn (opening_echo 100 101) (notice.Arrived 100 (true ∷ false ∷ false ∷ true ∷ false ∷ false ∷ true ∷ [])) ≡ (opening_echo 100 101, request.Grant 100 1 7 ∷ request.Send 101 (true ∷ false ∷ false ∷ true ∷ false ∷ false ∷ true ∷ []) ∷ []) }
 
     // bits on another socket aren't for it, and what it has sent itself is no arrival
     ensures others_bits { echo_turn (opening_echo 100 101) (notice.Arrived 16 (bits_of (65 ∷ []))) ≡ (opening_echo 100 101, []) }

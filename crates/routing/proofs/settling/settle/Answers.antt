@@ -2,8 +2,16 @@ use Rattle.std.proofs.Common.{◌≡◌, ℕ, List, length, map, refl, ap, sym, 
 use Rattle.std.proofs.lemmas.List.{length-map}
 use Rattle.routing.specs.RouteTable.{Table, vector_of}
 use Rattle.routing.specs.Settle.{AreTablesOf, IsImp, IsRight, settled, one_round, after_round, table_of}
-use Rattle.routing.proofs.RoundsLemmas.{settled-more, round_keeps, right}
+use Rattle.routing.proofs.RoundsLemmas.{settled_none, settled-more, round_keeps, right}
 use Rattle.routing.proofs.settling.settle.Goals as goal
+use Rattle.routing.proofs.settling.settle.Goals.{then-rounds-eq0-via-then-rounds-eq0, then-rounds-eq0-via-else-rounds-eq0+then-is_empty}
+
+pub returns-then-rounds-eq0-clause-settled : goal.returns-then-rounds-eq0-clause-settled
+unfolding settled
+returns-then-rounds-eq0-clause-settled c = elim c.then-rounds-eq0.branch [
+  | then-rounds-eq0-via-then-rounds-eq0 w ↦ sym (ap (λ (n : ℕ). settled c.args.graph.now c.args.tables.now n) w.if-rounds-eq0.true)
+  | then-rounds-eq0-via-else-rounds-eq0+then-is_empty w ↦ sym (settled_none c.args.graph.now c.args.tables.now c.args.rounds (sym w.is_empty.ensures ∙ w.if-is_empty.true))
+]
 
 pub loop-init : goal.loop-init
 unfolding settled
