@@ -12,4 +12,5 @@ pub mod Refusals
 pub mod RunLoop
 pub mod SafeRow
 pub mod Unsafe
+pub mod UnsafeEnded
 pub mod Whole
