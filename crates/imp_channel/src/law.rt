@@ -1,12 +1,12 @@
 //! What a line promises, as laws over the definitions that the calls of [`crate::Line`] cite. The functions
 //! here do nothing: each clause is a law.
 
-ghost use Rattle.std.specs.Prelude.{◌≡◌, ℕ, List, [], ◌∷◌, ◌++◌, Some, Ok, IsPermutation};
+ghost use Rattle.std.specs.Prelude.{◌≡◌, ℕ, ◌+◌, List, [], ◌∷◌, ◌++◌, Some, Ok, IsPermutation};
 ghost use Rattle.packetiser.specs.PacketFields.{PacketFields};
 ghost use Rattle.packetiser.specs.Rejoining.{AreAmong};
 ghost use Rattle.imp_channel.specs.Holding.{packets_in, carried_by, carried_by_all};
 ghost use Rattle.imp_channel.specs.Line.{End, opening_end, submitted, resent, acknowledgement, routes_frame, answer_to, state_after};
-ghost use Rattle.imp_channel.specs.Schedule.{Event, InOrder, run, opening_sides, one_packet};
+ghost use Rattle.imp_channel.specs.Schedule.{Event, InOrder, run, opening_side, opening_sides, one_packet};
 ghost use Rattle.imp_channel.specs.declared.frame.Frame.{Frame};
 ghost use Rattle.imp_channel.specs.declared.line.Received.TheVariants as received;
 
@@ -30,6 +30,17 @@ pub fn one_packet()
     ensures given { (packet : PacketFields) → (run (one_packet packet) opening_sides).right.given 0 ≡ packet ∷ [] }
     ensures freed { (packet : PacketFields) → (run (one_packet packet) opening_sides).left.freed 0 ≡ packet ∷ [] }
     ensures reached { (packet : PacketFields) → (run (one_packet packet) opening_sides).right.reached ≡ 0 }
+{}
+
+/// What the law of the line forbids: each pair of sides has one thing wrong.
+pub fn not_in_order()
+    // a packet is given that was not put in, another one than was put in, or the same twice
+    ensures not_put { (packet : PacketFields) → InOrder 0 opening_side (record opening_side { given = λ c. packet ∷ [] }) → ⊥ }
+    ensures another { (packet : PacketFields) → InOrder 0 (record opening_side { put = λ c. packet ∷ [] }) (record opening_side { given = λ c. record packet { number = packet.number + 1 } ∷ [] }) → ⊥ }
+    ensures twice { (packet : PacketFields) → InOrder 0 (record opening_side { put = λ c. packet ∷ [] }) (record opening_side { given = λ c. packet ∷ packet ∷ [] }) → ⊥ }
+
+    // a channel became free, and its packet was not given
+    ensures not_given { (packet : PacketFields) → InOrder 0 (record opening_side { put = λ c. packet ∷ []; freed = λ c. packet ∷ [] }) opening_side → ⊥ }
 {}
 
 /// What an end holds, sends and gives are packets that were put in.

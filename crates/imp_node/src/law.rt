@@ -35,6 +35,7 @@ ghost use Rattle.link_table.specs.Flows.{release_in};
 ghost use Rattle.link_table.specs.Keys.{is_from};
 ghost use Rattle.packetiser.specs.PacketFields.{PacketFields, IsPacket};
 ghost use Rattle.imp_node.specs.Taking.{is_from_here, to_host, to_host_refusal, next_for};
+ghost use Rattle.imp_node.specs.Turns.{from_line_grows, to_host_grows, resend_grows, route_grows, end_down_grows, end_up_grows, give_up_grows, forget_grows, abandon_grows, host_down_grows, host_up_grows};
 
 /// Which packets are in an IMP, and in the frames that it puts on lines, after each call: those that were in
 /// it, and those that the rule of the call makes. Nothing else comes about.
@@ -200,6 +201,12 @@ pub fn worked_routes()
     ensures unrouted { (end_down (busy 1) 0).frames ≡ [] }
     ensures nothing_kept { (end_down (busy 1) 0).state.store ≡ [] }
 
+    // of nine packets eight are in channels: the one that waits goes first on the other line, and the last of the eight waits now
+    ensures waiting_first { (end_down (pump [] (imp 1 (Some from_2 ∷ Some from_3_near_2 ∷ []) (packets_to 2 9))).state 0).state.store ≡ only_packet (flow (host 0 1) (host 0 2) 7) 0 ∷ [] }
+
+    // and those of channels go in order of their channels
+    ensures channels_in_order { (end_down (pump [] (imp 1 (Some from_2 ∷ Some from_3_near_2 ∷ []) (packets_to 2 2))).state 0).frames ≡ on_port 1 (packet_frame 0 (only_packet (flow (host 0 1) (host 0 2) 0) 0)) ∷ on_port 1 (packet_frame 1 (only_packet (flow (host 0 1) (host 0 2) 1) 0)) ∷ [] }
+
     // what is not acknowledged is sent again, in order of its channels
     ensures sent_again { (resend (busy 2)).frames ≡ (pump [] (imp 1 (Some from_2 ∷ Some from_3 ∷ []) (packets_to 2 2))).frames }
 {}
@@ -225,6 +232,13 @@ pub fn worked_arrivals()
     // a message for a host that isn't there is acknowledged, and Dead goes back
     ensures undeliverable { (from_line (serving []) 0 (packet_frame 0 (only_packet (flow (host 0 2) (host 2 1) 5) 7))).frames ≡ on_port 0 ack_frame ∷ on_port 0 (record (packet_frame 0 (answer_packet kind.Dead (flow (host 0 2) (host 2 1) 5) 7)) { acks = ack_frame.acks }) ∷ [] }
 
+    // that Dead calls for room: beside 32 packets the frame counts as lost, but not where no live route leads to the source
+    ensures dead_has_room { from_line (busy 32) 1 (packet_frame 0 (only_packet (flow (host 0 3) (host 2 1) 5) 0)) ≡ ignored (busy 32) }
+    ensures dead_is_dropped { (from_line (busy 32) 1 (packet_frame 0 (only_packet (flow (host 0 5) (host 2 1) 5) 0))).frames ≡ on_port 1 ack_frame ∷ [] }
+
+    // a piece for a host that is down clears its flow's slot, and no other
+    ensures slot_cleared { (from_line (host_down (record (serving []) { slots = slots_of 2 }) 0).state 0 (packet_frame 0 (first_packet (flow (host 0 2) (host 0 1) 1) 0 (replicate 1008 false)))).state.slots ≡ slots_of 1 }
+
     // an answer to a message that isn't outstanding is acknowledged, and nothing waits for the host
     ensures stale { (from_line (serving []) 0 (packet_frame 0 (answer_packet kind.Rfnm (flow (host 0 1) (host 0 2) 5) 0))).frames ≡ on_port 0 ack_frame ∷ [] }
     ensures none_told { (host_at (from_line (serving []) 0 (packet_frame 0 (answer_packet kind.Rfnm (flow (host 0 1) (host 0 2) 5) 0))).state 0).answers ≡ [] }
@@ -246,6 +260,9 @@ pub fn worked_hosts()
     ensures queue_full { from_host_refusal (queueing (messages_between (host 0 1) (host 1 1) 16)) (empty_message (flow (host 0 1) (host 1 1) 18)) ≡ Some fault.NoRoom }
     ensures here { (host_at (from_host (queueing (messages_between (host 0 1) (host 1 1) 15)) (empty_message (flow (host 0 1) (host 1 1) 17))).state 1).queue ≡ messages_between (host 0 1) (host 1 1) 16 }
 
+    // a flow that isn't idle is blocked, whether or not there would be room
+    ensures blocked_first { from_host_refusal (from_host (queueing (messages_between (host 0 1) (host 1 1) 15)) (empty_message (flow (host 0 1) (host 1 1) 17))).state (empty_message (flow (host 0 1) (host 1 1) 17)) ≡ Some fault.Blocked }
+
     // the refusals before that: a host of another IMP, a host that isn't there
     ensures other_imp { from_host_refusal (imp 1 (Some from_2 ∷ []) []) (empty_message (flow (host 0 3) (host 0 2) 7)) ≡ Some fault.NoSuch }
     ensures other_host { from_host_refusal (imp 1 (Some from_2 ∷ []) []) (empty_message (flow (host 2 1) (host 0 2) 7)) ≡ Some fault.NoSuch }
@@ -254,12 +271,18 @@ pub fn worked_hosts()
     ensures taken { next_for (serving (messages_between (host 0 2) (host 0 1) 2)) 0 ≡ Some (inbound.Message (empty_message (flow (host 0 2) (host 0 1) 2))) }
     ensures rfnm { (to_host (serving (messages_between (host 0 2) (host 0 1) 2)) 0).frames ≡ on_port 0 (packet_frame 0 (answer_packet kind.Rfnm (flow (host 0 2) (host 0 1) 2) 0)) ∷ [] }
 
+    // without a live route to the source the RFNM is dropped, so that beside 32 packets the message is taken all the same
+    ensures needs_no_room { to_host_refusal (record (serving (messages_between (host 0 5) (host 0 1) 1)) { store = packets_to 2 32 }) 0 ≡ None }
+
     // a source at the same IMP whose message is not outstanding any more gets none
     ensures given_up { (host_at (to_host (queueing (messages_between (host 0 1) (host 1 1) 1)) 1).state 0).answers ≡ [] }
 
     // a host that goes down gives Dead to the source of each message that waited, and not to itself
     ensures dead { (host_down (serving (messages_between (host 0 1) (host 0 1) 1 ++ messages_between (host 0 2) (host 0 1) 2)) 0).frames ≡ on_port 0 (packet_frame 0 (answer_packet kind.Dead (flow (host 0 2) (host 0 1) 2) 0)) ∷ on_port 0 (packet_frame 1 (answer_packet kind.Dead (flow (host 0 2) (host 0 1) 3) 0)) ∷ [] }
     ensures cleared { host_at (host_down (serving (messages_between (host 0 2) (host 0 1) 2)) 0).state 0 ≡ record { up = false; answers = []; queue = [] } }
+
+    // only where there is room: beside 31 packets the first Dead is stored, and the second is not
+    ensures dead_with_room { stored_count (host_down (record (serving (messages_between (host 0 2) (host 0 1) 2)) { store = packets_to 2 31 }) 0).state ≡ 32 }
 
     // nothing waits: nothing is given
     ensures nothing { (to_host_refusal (serving []) 0 ≡ None) × (next_for (serving []) 0 ≡ None) × ((to_host (serving []) 0).frames ≡ []) }
@@ -290,6 +313,28 @@ pub fn worked_flows()
     // a host that is down gets no answer, and its flow is idle at once
     ensures nobody { (host_at (give_up (host_down sent_imp 0).state (flow (host 0 1) (host 0 2) 7)).state 0).answers ≡ [] }
     ensures idle { is_idle (give_up (host_down sent_imp 0).state (flow (host 0 1) (host 0 2) 7)).state (flow (host 0 1) (host 0 2) 7) ≡ true }
+{}
+
+/// Calls that can't run out of memory, since nothing grows.
+pub fn worked_memory()
+    // a frame that only acknowledges, where nothing waits; a host that takes nothing, or an answer
+    ensures from_line { from_line_grows (serving []) 0 ack_frame ≡ false }
+    ensures to_host { (to_host_grows (serving []) 0 ≡ false) × (to_host_grows (sent_answered 0).state 0 ≡ false) }
+
+    // no channel is busy, no end of a line is up
+    ensures resend { resend_grows (serving []) ≡ false }
+    ensures route { route_grows (end_down (serving []) 0).state ≡ false }
+    ensures end_down { end_down_grows (serving []) 0 ≡ false }
+    ensures end_up { end_up_grows (end_down (serving []) 0).state 0 ≡ false }
+
+    // the source is down, so that no Incomplete waits; numbers and a slot are dropped
+    ensures give_up { give_up_grows (host_down sent_imp 0).state (flow (host 0 1) (host 0 2) 7) ≡ false }
+    ensures forget { forget_grows (serving []) 2 ≡ false }
+    ensures abandon { abandon_grows (record (serving []) { slots = slots_of 1 }) (flow (host 0 2) (host 0 1) 0) ≡ false }
+
+    // no message waits for the host
+    ensures host_down { host_down_grows (serving []) 0 ≡ false }
+    ensures host_up { host_up_grows (host_down (serving []) 0).state 0 ≡ false }
 {}
 
 /// The refusals of the other calls, and what an IMP says that it holds.

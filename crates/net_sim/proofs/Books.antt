@@ -14,4 +14,5 @@ pub mod Reported
 pub mod RunLoop
 pub mod SafeRow
 pub mod Unsafe
+pub mod UnsafeEnded
 pub mod Whole

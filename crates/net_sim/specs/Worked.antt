@@ -22,6 +22,10 @@ eight = replicate 8 true
 abbrev pub four : List Bool
 four = replicate 4 false
 
+-- as many bits as eight, each another
+abbrev pub eight_zeros : List Bool
+eight_zeros = replicate 8 false
+
 abbrev pub message : Host → Host → ℕ → HostMessage
 message from to link = record { flow = on_link from to link; text = eight }
 

@@ -9,7 +9,7 @@ ghost use Rattle.leader1822.specs.declared.crossing.Crossing.TheVariants as cros
 ghost use Rattle.leader1822.specs.declared.event.NetEvent.TheVariants as event;
 ghost use Rattle.net_sim.specs.Book.{opening_kept, book_told, asked, crossed, all_crossed};
 ghost use Rattle.net_sim.specs.Safe.{SafeBook, SafePartners, SafeStreams, SafeGrants, Match, own_request, partner_request, last_out, before, control_flow};
-ghost use Rattle.net_sim.specs.Worked.{eight, four, crossings, message, opened_kept, used, receiver, sender, taker, giver, elsewhere, asker, stranger, over, any_carrier, fresh, down, busy, halted, stamp_of};
+ghost use Rattle.net_sim.specs.Worked.{eight, eight_zeros, four, crossings, message, opened_kept, used, receiver, sender, taker, giver, elsewhere, asker, stranger, over, any_carrier, fresh, down, busy, halted, stamp_of};
 ghost use Rattle.net_sim.specs.World.{WorldState, WorldFault, Carrier, Program, Net, Quiet, Offer, Take, Ask, StepGives, RunGives, all_turned, seat_of, up_in, served_at, changed};
 ghost use Rattle.sockets.specs.Pairs.{opening_state};
 ghost use Rattle.sockets.specs.Requests.{served};
@@ -107,6 +107,7 @@ pub fn unsafe_books()
     ensures taken_messages { SafeBook crossings (giver ∷ record taker { messages = 3 } ∷ []) (eight ∷ [] ∷ []) → ⊥ }
     ensures granted_messages { SafeBook crossings (giver ∷ record taker { granted = record { messages = 1; bits = 100 } } ∷ []) (eight ∷ [] ∷ []) → ⊥ }
     ensures sent_bits { SafeBook crossings (record giver { bits = eight ++ eight } ∷ record taker { granted = record { messages = 2; bits = 19 } } ∷ []) ((eight ++ eight) ∷ [] ∷ []) → ⊥ }
+    ensures sent_messages { SafeBook crossings (record giver { messages = 2 } ∷ taker ∷ []) (eight ∷ [] ∷ []) → ⊥ }
 
     // one request opens two ends
     ensures own_twice { SafeBook (crossing.Out (message second first 0) ∷ crossings) (receiver ∷ record receiver { partner_stamp = 7 } ∷ []) ([] ∷ [] ∷ []) → ⊥ }
@@ -126,6 +127,28 @@ pub fn unsafe_books()
     // a receiver takes what nobody sent
     ensures from_nobody { SafeBook crossings (taker ∷ []) ([] ∷ []) → ⊥ }
     ensures other_bits { SafeBook crossings (record giver { bits = four } ∷ taker ∷ []) (four ∷ [] ∷ []) → ⊥ }
+
+    // nor as many other bits
+    ensures other_taken { SafeBook crossings (record giver { bits = eight_zeros } ∷ taker ∷ []) (eight_zeros ∷ [] ∷ []) → ⊥ }
+    ensures other_handed { SafeBook crossings (giver ∷ taker ∷ []) (eight_zeros ∷ [] ∷ []) → ⊥ }
+{}
+
+/// Books that aren't safe though each of their lives has ended: all of the promise is about them too.
+pub fn unsafe_ended_books()
+    // of requests and partners
+    ensures own_twice { SafeBook (crossing.Out (message second first 0) ∷ crossings) (over receiver ∷ over (record receiver { partner_stamp = 7 }) ∷ []) ([] ∷ [] ∷ []) → ⊥ }
+    ensures partner_twice { SafeBook crossings (over receiver ∷ over (record receiver { own_stamp = 7 }) ∷ []) ([] ∷ [] ∷ []) → ⊥ }
+    ensures unanswered { SafeBook crossings (over (record giver { partner_stamp = 0 }) ∷ []) (eight ∷ []) → ⊥ }
+    ensures another_host { SafeBook elsewhere (over asker ∷ over stranger ∷ []) ([] ∷ [] ∷ []) → ⊥ }
+    ensures one_way { SafeBook (crossing.Out (message first second 0) ∷ crossings) (over (record sender { partner_stamp = 7 }) ∷ over receiver ∷ []) ([] ∷ [] ∷ []) → ⊥ }
+
+    // of what was handed over, sent and taken
+    ensures unhanded { SafeBook crossings (over giver ∷ over taker ∷ []) (four ∷ [] ∷ []) → ⊥ }
+    ensures from_nobody { SafeBook crossings (over taker ∷ []) ([] ∷ []) → ⊥ }
+
+    // of what was granted
+    ensures taken_messages { SafeBook crossings (over giver ∷ over (record taker { messages = 3 }) ∷ []) (eight ∷ [] ∷ []) → ⊥ }
+    ensures sent_messages { SafeBook crossings (over (record giver { messages = 2 }) ∷ over taker ∷ []) (eight ∷ [] ∷ []) → ⊥ }
 {}
 
 /// Why an event is refused, and what it does.

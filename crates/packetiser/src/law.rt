@@ -109,3 +109,16 @@ pub fn holding()
     // the order in which slots are named has each of them once
     ensures named { (slots : List SlotState) → IsPermutation (in_some_order slots) slots }
 {}
+
+/// What is no gathered message: each list of pieces has one thing wrong.
+pub fn not_gathered()
+    // a piece of the message with another number, though it is held
+    ensures another_number { (p : PacketFields) → IsGathered (record { flow = flow_of p; number = 1; pieces = record p { number = 1; place = 0; last = true } ∷ [] } ∷ []) (record p { number = 0 }) (record p { number = 1; place = 0; last = true } ∷ []) → ⊥ }
+
+    // other bits than those that came
+    ensures other_bits { (p : PacketFields) → IsGathered [] p (record p { bits = true ∷ p.bits } ∷ []) → ⊥ }
+
+    // the first piece alone, and the last one alone
+    ensures last_missing { (p : PacketFields) → IsGathered [] (record p { place = 0; last = false }) (record p { place = 0; last = false } ∷ []) → ⊥ }
+    ensures first_missing { (p : PacketFields) → IsGathered [] (record p { place = 1; last = true }) (record p { place = 1; last = true } ∷ []) → ⊥ }
+{}

@@ -1,9 +1,10 @@
 //! The laws of route tables, stated over their definitions. The functions here do nothing: each clause is
 //! a law.
 
-ghost use Rattle.std.specs.Prelude.{◌≡◌, ◌≢◌, ℕ, ◌<◌, ◌≤◌, Some, List, length};
+ghost use Rattle.std.specs.Prelude.{◌≡◌, ◌≢◌, ℕ, ◌<◌, ◌≤◌, Some, List, [], ◌∷◌, length};
 ghost use Rattle.routing.specs.Vector.{IsVector, imps, infinite};
 ghost use Rattle.routing.specs.Settle.{AreTablesOf, IsImp, IsRight, settled, table_of};
+ghost use Rattle.routing.specs.Walks.{IsDistance};
 ghost use Rattle.routing.specs.RouteTable.{Table, distance_in, distance_to, vector_of, next_of, IsNext};
 
 /// A table's vector tells its distances, and its next line attains the distance to another IMP.
@@ -24,4 +25,15 @@ pub fn tables()
 pub fn settling()
     ensures kept { (graph : List (ℕ × ℕ)) (tables : List Table) (rounds : ℕ) → AreTablesOf graph tables → AreTablesOf graph (settled graph tables rounds) }
     ensures right { (graph : List (ℕ × ℕ)) (tables : List Table) (rounds : ℕ) → AreTablesOf graph tables → infinite ≤ rounds → (imp : ℕ) → IsImp (length tables) imp → IsRight graph (table_of (settled graph tables rounds) imp) }
+{}
+
+/// What is no distance in a network.
+pub fn wrong_distances()
+    // the length of the longer one of two walks, or less than that of any
+    ensures longer { IsDistance ((1, 2) ∷ (2, 3) ∷ (1, 3) ∷ []) 1 3 2 → ⊥ }
+    ensures shorter { IsDistance ((1, 2) ∷ []) 1 2 0 → ⊥ }
+
+    // infinite where there is a walk, and finite where there is none
+    ensures joined { IsDistance ((1, 2) ∷ []) 1 2 16 → ⊥ }
+    ensures apart { IsDistance [] 1 2 1 → ⊥ }
 {}

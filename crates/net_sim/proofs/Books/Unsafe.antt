@@ -8,11 +8,11 @@ use Rattle.leader1822.specs.declared.crossing.Crossing.TheVariants as crossing
 use Rattle.sockets.specs.Worked.{first, second, third, on_link}
 use Rattle.net_sim.specs.Book.{Life}
 use Rattle.net_sim.specs.Safe.{Name, SafeBook, IsGranted, Source, Match, IsFront, sends, own_request, partner_request}
-use Rattle.net_sim.specs.Worked.{eight, four, crossings, message, receiver, sender, taker, giver, elsewhere, asker, stranger}
+use Rattle.net_sim.specs.Worked.{eight, eight_zeros, four, crossings, message, receiver, sender, taker, giver, elsewhere, asker, stranger}
 
 -- ---- where a life stands
 
-one_there : (x y : Life) → Contains (x ∷ []) y → x ≡ y
+pub one_there : (x y : Life) → Contains (x ∷ []) y → x ≡ y
 one_there x y (zero, lt, e) = e
 one_there x y (suc k, lt, e) = absurd (omega (arith, lt))
 
@@ -64,6 +64,13 @@ sent_bits b =
     let g : IsGranted r 1 16 = b.grants.sent r s (1, omega arith, refl) (0, omega arith, refl) m in
     let le : 20 ≤ 19 = g.bits in omega (arith, le)
 
+pub sent_messages : SafeBook crossings (record giver { messages = 2 } ∷ taker ∷ []) (eight ∷ [] ∷ []) → ⊥
+sent_messages b =
+    let s : Life = record giver { messages = 2 } in
+    let m : Match crossings taker s = record { receiving = refl; sending = refl; peers = (refl, refl); sockets = (refl, refl); asked = refl; answered = refl } in
+    let g : IsGranted taker 2 8 = b.grants.sent taker s (1, omega arith, refl) (0, omega arith, refl) m in
+    let le : 3 ≤ 2 = g.messages in omega (arith, le)
+
 -- ---- partners
 
 abbrev pub place_of : Option Name → ℕ
@@ -105,3 +112,15 @@ other_bits b =
       | inl is ↦ (let f : IsFront eight four = subst (λ (y : Life). IsFront eight y.bits) (sym is) s.front in (let e : eight ++ f.0 ≡ four = f.1 in absurd (cc)))
       | inr is ↦ not_sending s.sender (ap sends is) s.matches.sending
     ]
+
+pub other_taken : SafeBook crossings (record giver { bits = eight_zeros } ∷ taker ∷ []) (eight_zeros ∷ [] ∷ []) → ⊥
+other_taken b =
+    let x : Life = record giver { bits = eight_zeros } in
+    let s : Source crossings (x ∷ taker ∷ []) taker = b.streams.source taker (1, omega arith, refl) refl (λ none. absurd (cc)) in
+    elim (two_there x taker s.sender s.there) [
+      | inl is ↦ (let f : IsFront eight eight_zeros = subst (λ (y : Life). IsFront eight y.bits) (sym is) s.front in (let e : eight ++ f.0 ≡ eight_zeros = f.1 in absurd (cc)))
+      | inr is ↦ not_sending s.sender (ap sends is) s.matches.sending
+    ]
+
+pub other_handed : SafeBook crossings (giver ∷ taker ∷ []) (eight_zeros ∷ [] ∷ []) → ⊥
+other_handed b = let f : IsFront eight eight_zeros = b.streams.sent.0 refl in let e : eight ++ f.0 ≡ eight_zeros = f.1 in absurd (cc)

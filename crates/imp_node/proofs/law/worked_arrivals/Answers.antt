@@ -51,3 +51,15 @@ returns-clause-stale c = rw (get-empty flow_cmp (flow (host 0 1) (host 0 2) 5)) 
 pub returns-clause-none_told : goal.returns-clause-none_told
 unfolding next_of submitted distance_to vector_of begun flow_answered handed is_new
 returns-clause-none_told c = rw (get-empty flow_cmp (flow (host 0 1) (host 0 2) 5)) refl
+
+pub returns-clause-dead_has_room : goal.returns-clause-dead_has_room
+unfolding next_of submitted distance_to vector_of begun flow_answered handed is_new
+returns-clause-dead_has_room c = rw (get-empty flow_cmp (flow (host 0 3) (host 2 1) 5)) refl
+
+pub returns-clause-dead_is_dropped : goal.returns-clause-dead_is_dropped
+unfolding next_of submitted distance_to vector_of begun flow_answered handed is_new
+returns-clause-dead_is_dropped c = rw (get-empty flow_cmp (flow (host 0 5) (host 2 1) 5)) refl
+
+pub returns-clause-slot_cleared : goal.returns-clause-slot_cleared
+unfolding next_of submitted distance_to vector_of begun flow_answered handed is_new
+returns-clause-slot_cleared c = rw (get-empty flow_cmp (flow (host 0 2) (host 0 1) 1)) refl

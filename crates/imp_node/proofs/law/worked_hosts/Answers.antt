@@ -1,9 +1,12 @@
-use Rattle.std.proofs.Common.{refl}
-use Rattle.std.specs.FinMap.{get-empty}
+use Rattle.std.proofs.Common.{◌≡◌, Option, Some, refl, ap, ◌∙◌}
+use Rattle.std.specs.FinMap.{get, empty, get-empty}
 use Rattle.leader1822.specs.Flow.{flow_cmp}
 use Rattle.imp_channel.specs.Line.{submitted}
-use Rattle.link_table.specs.Flows.{begun, flow_answered, handed}
+use Rattle.link_table.specs.Flows.{number_in, begun, flow_answered, handed}
 use Rattle.link_table.specs.Numbers.{is_new}
+use Rattle.link_table.specs.declared.source.Standing.{Standing}
+use Rattle.link_table.specs.declared.source.Standing.TheVariants as standing
+use Rattle.link_table.proofs.lemmas.{get_begun}
 use Rattle.routing.specs.RouteTable.{next_of, distance_to, vector_of}
 use Rattle.imp_node.specs.Examples.{host, flow}
 use Rattle.imp_node.proofs.law.worked_hosts.Goals as goal
@@ -71,3 +74,21 @@ returns-clause-cleared c = refl
 pub returns-clause-nothing : goal.returns-clause-nothing
 unfolding next_of submitted distance_to vector_of begun flow_answered handed is_new
 returns-clause-nothing c = (refl, refl, refl)
+
+-- the seventeenth message is outstanding
+is_begun : get (begun empty (flow (host 0 1) (host 1 1) 17)) (flow (host 0 1) (host 1 1) 17) ≡ Some (standing.Outstanding 0)
+is_begun =
+    get_begun empty (flow (host 0 1) (host 1 1) 17) (flow (host 0 1) (host 1 1) 17)
+    ∙ ap (λ (s : Option Standing). Some (standing.Outstanding (number_in s))) (get-empty flow_cmp (flow (host 0 1) (host 1 1) 17))
+
+pub returns-clause-blocked_first : goal.returns-clause-blocked_first
+unfolding next_of submitted distance_to
+returns-clause-blocked_first c = rw is_begun refl
+
+pub returns-clause-needs_no_room : goal.returns-clause-needs_no_room
+unfolding next_of submitted distance_to vector_of begun flow_answered handed is_new
+returns-clause-needs_no_room c = refl
+
+pub returns-clause-dead_with_room : goal.returns-clause-dead_with_room
+unfolding next_of submitted distance_to vector_of begun flow_answered handed is_new
+returns-clause-dead_with_room c = refl

@@ -22,3 +22,11 @@ returns-clause-nothing_kept c = refl
 pub returns-clause-sent_again : goal.returns-clause-sent_again
 unfolding next_of submitted distance_to vector_of
 returns-clause-sent_again c = refl
+
+pub returns-clause-waiting_first : goal.returns-clause-waiting_first
+unfolding next_of submitted distance_to vector_of
+returns-clause-waiting_first c = refl
+
+pub returns-clause-channels_in_order : goal.returns-clause-channels_in_order
+unfolding next_of submitted distance_to vector_of
+returns-clause-channels_in_order c = refl

@@ -36,3 +36,12 @@ returns-clause-another_host c = unsafe.another_host
 
 pub returns-clause-taken_messages : goal.returns-clause-taken_messages
 returns-clause-taken_messages c = unsafe.taken_messages
+
+pub returns-clause-sent_messages : goal.returns-clause-sent_messages
+returns-clause-sent_messages c = unsafe.sent_messages
+
+pub returns-clause-other_taken : goal.returns-clause-other_taken
+returns-clause-other_taken c = unsafe.other_taken
+
+pub returns-clause-other_handed : goal.returns-clause-other_handed
+returns-clause-other_handed c = unsafe.other_handed
