@@ -1,30 +1,58 @@
 /* check failures loads this before the C library of a program (LD_PRELOAD). It reads these environment variables:
-   FAIL_ALLOCATION=N, FAIL_READ=N, FAIL_WRITE=N: the Nth allocation, the Nth read of standard input or the Nth
-   write of standard output fails, and the file that FIRED names is made.
-   SHORT=1: each such read and write moves one octet. */
+   FAIL_ALLOCATION=N, FAIL_READ=N, FAIL_WRITE=N: the Nth allocation, the Nth read of standard input or the Nth write of
+   standard output fails, that one alone. NOTHING=1: that write takes no octet instead. INTERRUPTED=1: that read or write is
+   interrupted instead.
+   AT_MOST=N: each such read and write moves N octets at most.
+   TOLD=FILE: the file is made where a call fails, and says how many reads had begun before. At each later write a line
+   `again` is put behind that. */
 #define _GNU_SOURCE
 #include <dlfcn.h>
 #include <errno.h>
 #include <fcntl.h>
 #include <stddef.h>
+#include <stdio.h>
 #include <stdlib.h>
 #include <unistd.h>
 
 static long allocations, reads, writes;
+static int failed;
 
-/* Whether this call is the one that has to fail. */
+static long number(const char *name)
+{
+    const char *word = getenv(name);
+    return word == NULL ? 0 : atol(word);
+}
+
+static void tell(const char *words, long count)
+{
+    int file = open(getenv("TOLD"), O_CREAT | O_WRONLY | O_APPEND, 0600);
+    dprintf(file, words, count);
+    close(file);
+}
+
+/* Whether this call, of which there were `calls` before, is the one that has to fail. */
 static int fails(const char *name, long *calls)
 {
-    const char *number = getenv(name);
-    if (number == NULL || ++*calls != atol(number))
+    if (++*calls != number(name))
         return 0;
-    close(open(getenv("FIRED"), O_CREAT | O_WRONLY, 0600));
+    failed = 1;
+    tell("after %ld reads\n", reads);
     return 1;
+}
+
+/* What a read or a write gives that fails. */
+static ssize_t failure(void)
+{
+    if (number("NOTHING"))
+        return 0;
+    errno = number("INTERRUPTED") ? EINTR : EIO;
+    return -1;
 }
 
 static size_t moved(size_t size)
 {
-    return getenv("SHORT") != NULL && size > 1 ? 1 : size;
+    size_t most = (size_t)number("AT_MOST");
+    return most > 0 && most < size ? most : size;
 }
 
 void *malloc(size_t size)
@@ -48,11 +76,9 @@ ssize_t read(int file, void *octets, size_t size)
     static ssize_t (*next)(int, void *, size_t);
     if (next == NULL)
         next = (ssize_t(*)(int, void *, size_t))dlsym(RTLD_NEXT, "read");
-    if (file == 0 && fails("FAIL_READ", &reads)) {
-        errno = EIO;
-        return -1;
-    }
-    return next(file, octets, file == 0 ? moved(size) : size);
+    if (file != 0)
+        return next(file, octets, size);
+    return fails("FAIL_READ", &reads) ? failure() : next(file, octets, moved(size));
 }
 
 ssize_t write(int file, const void *octets, size_t size)
@@ -60,9 +86,9 @@ ssize_t write(int file, const void *octets, size_t size)
     static ssize_t (*next)(int, const void *, size_t);
     if (next == NULL)
         next = (ssize_t(*)(int, const void *, size_t))dlsym(RTLD_NEXT, "write");
-    if (file == 1 && fails("FAIL_WRITE", &writes)) {
-        errno = EIO;
-        return -1;
-    }
-    return next(file, octets, file == 1 ? moved(size) : size);
+    if (file != 1)
+        return next(file, octets, size);
+    if (failed)
+        tell("again\n", 0);
+    return fails("FAIL_WRITE", &writes) ? failure() : next(file, octets, moved(size));
 }

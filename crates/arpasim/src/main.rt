@@ -28,6 +28,9 @@ fn from_command_line<R: Env + Input + Print + AllocGlobal>(rt: &R) -> Result<(),
     let buffered = BufWriter::new(rt.alloc(), io::writer(rt));
     let mut writer = buffered.map_err(|_| ScriptFault::OutOfMemory)?;
     let outcome = run(rt.alloc(), &words, &mut reader, &mut writer);
+    if outcome == Err(ScriptFault::CannotWrite) {
+        return outcome; // once a write has failed, nothing more is written
+    }
     let flushed = writer.flush();
     outcome?;
     flushed.map_err(|_| ScriptFault::CannotWrite)
