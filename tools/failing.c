@@ -12,6 +12,8 @@
 #include <stddef.h>
 #include <stdio.h>
 #include <stdlib.h>
+#include <string.h>
+#include <sys/mman.h>
 #include <unistd.h>
 
 static long allocations, reads, writes;
@@ -55,21 +57,67 @@ static size_t moved(size_t size)
     return most > 0 && most < size ? most : size;
 }
 
+/* What gives memory: the C library, or a program's own allocator. */
+static void *(*next_malloc)(size_t);
+static void *(*next_realloc)(void *, size_t);
+
+static void *failing_malloc(size_t size)
+{
+    if (next_malloc == NULL)
+        next_malloc = (void *(*)(size_t))dlsym(RTLD_NEXT, "malloc");
+    return fails("FAIL_ALLOCATION", &allocations) ? NULL : next_malloc(size);
+}
+
+static void *failing_realloc(void *old, size_t size)
+{
+    if (next_realloc == NULL)
+        next_realloc = (void *(*)(void *, size_t))dlsym(RTLD_NEXT, "realloc");
+    return fails("FAIL_ALLOCATION", &allocations) ? NULL : next_realloc(old, size);
+}
+
 void *malloc(size_t size)
 {
-    static void *(*next)(size_t);
-    if (next == NULL)
-        next = (void *(*)(size_t))dlsym(RTLD_NEXT, "malloc");
-    return fails("FAIL_ALLOCATION", &allocations) ? NULL : next(size);
+    return failing_malloc(size);
 }
 
 void *realloc(void *old, size_t size)
 {
-    static void *(*next)(void *, size_t);
-    if (next == NULL)
-        next = (void *(*)(void *, size_t))dlsym(RTLD_NEXT, "realloc");
-    return fails("FAIL_ALLOCATION", &allocations) ? NULL : next(old, size);
+    return failing_realloc(old, size);
 }
+
+#ifdef __x86_64__
+enum { PAGE = 4096, NEAR = 1 << 28, JUMP = 0xE9, JUMP_SIZE = 5 };
+
+/* Turns the jump of an entry to a place near it, from where control goes to a function of this file. Gives where it led. */
+static void *turned(unsigned char *entry, unsigned char *place, void *to)
+{
+    unsigned char far[] = {0x48, 0xB8, 0, 0, 0, 0, 0, 0, 0, 0, 0xFF, 0xE0}; /* movabs to, %rax; jmp *%rax */
+    unsigned char *page = (unsigned char *)((size_t)entry & -(size_t)PAGE);
+    int led, leads = (int)(place - (entry + JUMP_SIZE));
+    memcpy(&led, entry + 1, sizeof led);
+    memcpy(far + 2, &to, sizeof to);
+    memcpy(place, far, sizeof far);
+    if (mprotect(page, 2 * PAGE, PROT_READ | PROT_WRITE | PROT_EXEC) == 0)
+        memcpy(entry + 1, &leads, sizeof leads);
+    mprotect(page, 2 * PAGE, PROT_READ | PROT_EXEC);
+    return entry + JUMP_SIZE + led;
+}
+
+/* A program that was built without proofs has an allocator of its own, which is found before this file. Its entries are jumps. */
+__attribute__((constructor)) static void turn_own_allocator(void)
+{
+    unsigned char *entry = dlsym(RTLD_DEFAULT, "malloc"), *again = dlsym(RTLD_DEFAULT, "realloc");
+    unsigned char *place = entry - (size_t)entry % PAGE + NEAR;
+    if (entry[0] != JUMP || again[0] != JUMP || number("FAIL_ALLOCATION") == 0)
+        return;
+    place = mmap(place, PAGE, PROT_READ | PROT_WRITE | PROT_EXEC, MAP_PRIVATE | MAP_ANONYMOUS | MAP_FIXED_NOREPLACE, -1, 0);
+    if (place == MAP_FAILED)
+        return;
+    next_malloc = (void *(*)(size_t))turned(entry, place, (void *)failing_malloc);
+    next_realloc = (void *(*)(void *, size_t))turned(again, place + PAGE / 2, (void *)failing_realloc);
+    allocations = 0;
+}
+#endif
 
 ssize_t read(int file, void *octets, size_t size)
 {

@@ -18,8 +18,7 @@ No refused allocation may end with status 0, save those that EXCEPTIONS says.
 Then it runs the program on an input that never ends, and on one of two million octets, of which it may read 1,048,577; and
 with an output that takes nothing.
 
-It takes the proved program, or where ./build has not made that the one that was built without proofs, whose allocations can't be
-made to fail so. It wants a C compiler for tools/failing.c, which is loaded before the C
+It takes the proved program, or where ./build has not made that the one that was built without proofs. It wants a C compiler for tools/failing.c, which is loaded before the C
 library. Without a compiler it says that nothing was tried, and where the variable CI is set it fails.
 """
 
@@ -27,6 +26,7 @@ import os
 import shutil
 import subprocess
 import tempfile
+from collections import Counter
 from concurrent.futures import ThreadPoolExecutor
 from itertools import count
 
@@ -85,26 +85,25 @@ class Trial:
 
     def __init__(self, program, before, room, name):
         self.program, self.before, self.room, self.name = program, before, room, name
-        self.path, self.words = f"{ROOT}/examples/{name}", []
-        if os.path.isfile(f"{self.path}.args"):
-            with open(f"{self.path}.args", encoding="utf-8") as lines:
-                self.words = lines.read().split()
+        self.path = f"{ROOT}/examples/{name}"
+        self.words = self.beside(".args").decode().split()
         self.wrong, self.exceptions = [], []
-        with open(f"{self.path}.stdout", "rb") as octets:
-            self.whole = (0, b""), octets.read()
-        self.same({}, "without a failure")
+        self.whole = (int(self.beside(".status") or 0), self.beside(".stderr")), self.beside(".stdout")
+        if self.run({}) != self.whole:
+            self.wrong.append("without a failure it ends otherwise than it should")
+
+    def beside(self, ending):
+        """What stands in a file beside the input, if it is there."""
+        if not os.path.isfile(self.path + ending):
+            return b""
+        with open(self.path + ending, "rb") as file:
+            return file.read()
 
     def run(self, variables):
         """How a run ends: its status and words, and its output."""
         with open(self.path, "rb") as octets:
             ran = subprocess.run([self.program, *self.words], stdin=octets, capture_output=True, env=variables, timeout=120)
         return (ran.returncode, ran.stderr), ran.stdout
-
-    def same(self, variables, what):
-        """Whether a run makes no difference."""
-        found = self.run(variables)
-        if found != self.whole:
-            self.wrong.append(f"{what}: {found[0]}, output: {found[1]!r}")
 
     def fail(self, way, number):
         """Whether there is a call of that number, and what is wrong with how it fails."""
@@ -170,7 +169,7 @@ def main():
     if not compiler:
         print("check failures: NOT TRIED, for want of a C compiler")
         return 1 if os.environ.get("CI") else 0
-    wrong = 0
+    wrong, total, without = 0, Counter(), 0
     names = sorted(it for it in os.listdir(f"{ROOT}/examples") if "." not in it)
     names = [it for it in names if it in FIVE + LONG or os.path.getsize(f"{ROOT}/examples/{it}") <= LONGEST]
     with tempfile.TemporaryDirectory() as room, ThreadPoolExecutor(CORES) as threads:
@@ -178,9 +177,14 @@ def main():
         subprocess.run([compiler, "-O1", "-shared", "-fPIC", "-o", before, f"{ROOT}/tools/failing.c", "-ldl"], check=True)
         for name in names:
             trial = Trial(program, before, room, name)
-            failed = [f"{trial.all_of(way, threads)} {way.name}" for way in ways_of(name)]
-            print(f"{name}: failed in turn {'; '.join(failed)}; {len(trial.exceptions)} allocations it can do without")
-            print(*trial.wrong, sep="\n", end="\n" if trial.wrong else "")
+            failed = [(trial.all_of(way, threads), way) for way in ways_of(name)]
+            for number, way in failed:
+                total[way.kind] += number
+            print(f"{name}: failed in turn {'; '.join(f'{number} {way.name}' for number, way in failed)}")
+            print(*sorted(trial.wrong), sep="\n", end="\n" if trial.wrong else "")
             wrong += len(trial.wrong)
+            without += len(trial.exceptions)
+    print(f"check failures: {len(names)} inputs; failed in turn {', '.join(f'{number} {kind}' for kind, number in total.items())}")
+    print(f"check failures: {without} allocations refused while words were gathered, without which the program goes on; after no other status 0")
     wrong += check_streams(program)
     return 1 if wrong else 0

@@ -1,9 +1,9 @@
 """Every reader on each prefix of worked octets, and with each octet changed (two minutes).
 
-Every reader on each prefix of worked octets, and with each octet changed to 00, to 7F and to FF.
+Tries every reader on each prefix of worked octets, and with each octet changed to 00, to 7F and to FF.
 
 - Of leaders, bodies, packets, frames, commands, control texts and headers of messages each row names a reader and octets, and says
-  what is read. tools/calls reads all that comes of it by the crates' own calls.
+  what is read. tools/calls reads all that comes of it by the crates' own calls, also with each bit changed.
 - Topologies and scripts are given to the program, whole, and what it prints, its status and its words are compared. Of a
   topology each prefix is also tried with the marker behind it.
 
@@ -55,7 +55,7 @@ FAULTS = {
 
 STRIPES = "A5C3" * 31 + "A5"  # 63 octets
 RTS, STR, CLS = "01000000100000002105", "02000000210000001008", "030000001000000021"
-ALL, RET, GVB = "0405000200000064", "0605000100000064", "054040C0"[:2] + "0540C8"
+ALL, RET = "0405000200000064", "0605000100000064"
 ERR = "0B030007000100FE00000000"
 EMPTY, RFNM, DEAD = "00010205008000108000", "0101020500800000", "0241C3FF7F800000"
 REQUEST = "0001030000800080" + "0008000A00" + RTS + "80"
@@ -122,18 +122,31 @@ WORKED = [
 ]
 
 
+def with_changes(octets):
+    """Octets with each of them changed to each value of CHANGES."""
+    for place in range(len(octets)):
+        yield from (octets[:place] + bytes([value]) + octets[place + 1 :] for value in CHANGES)
+
+
+def with_flips(octets):
+    """Octets with each bit changed."""
+    for place, octet in enumerate(octets):
+        yield from (octets[:place] + bytes([octet ^ 1 << bit]) + octets[place + 1 :] for bit in range(8))
+
+
+def prefixes(row):
+    """A list of octets or bits, and each shorter prefix of it."""
+    yield row
+    yield from (row[:length] for length in range(len(row)))
+
+
 def octets_around(octets):
-    """Octets, each prefix of them, and with each octet changed."""
-    yield octets
-    yield from (octets[:length] for length in range(len(octets)))
-    yield from (octets[:place] + bytes([value]) + octets[place + 1 :] for place in range(len(octets)) for value in CHANGES)
+    return [*prefixes(octets), *with_changes(octets), *with_flips(octets)]
 
 
 def bits_around(bits, octets):
-    """The first bits of octets, each prefix of them, and with each octet changed."""
-    yield bits_of(octets)[:bits]
-    yield from (bits_of(octets)[:length] for length in range(bits))
-    yield from (bits_of(changed)[:bits] for changed in list(octets_around(octets))[len(octets) + 1 :])
+    changed = (bits_of(it)[:bits] for it in [*with_changes(octets), *with_flips(octets)])
+    return [*prefixes(bits_of(octets)[:bits]), *changed]
 
 
 def lines_of(reader, spelled):
@@ -141,9 +154,9 @@ def lines_of(reader, spelled):
     *bits, digits = spelled.split()
     octets = bytes.fromhex(digits)
     if reader in OF_BITS:
-        around = list(bits_around(int(bits[0]), octets))
+        around = bits_around(int(bits[0]), octets)
         return [f"{reader} {bits_in_digits(it)}" for it in around], [told(READERS[reader], it) for it in around]
-    around = list(octets_around(octets))
+    around = octets_around(octets)
     return [f"{reader} {it.hex().upper() or '-'}" for it in around], [told(READERS[reader], it) for it in around]
 
 
@@ -249,7 +262,7 @@ WHOLE = {"a raw script": RAW, "a script of a world": WORLD, "services": SERVICES
 def inputs():
     """Each input, with what is tried."""
     for name, octets in WHOLE.items():
-        for number, it in enumerate(octets_around(octets)):
+        for number, it in enumerate([*prefixes(octets), *with_changes(octets)]):
             yield f"{name}, {number}", it
     for name, octets in (("a topology cut off", TOPOLOGY), ("another", PLAIN.removesuffix(b"%\n"))):
         for length in range(len(octets)):

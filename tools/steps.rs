@@ -1,0 +1,191 @@
+//! Lets what standard input names happen event by event until memory runs out, and looks at what is left then.
+//!
+//! The first line says where: `world plain` or `world subnet`, hosts with their programs over mailboxes or over two IMPs and a line,
+//! or `raw plain` or `raw subnet`, that carrier alone. The others are lines of a script; of a calm each round is a quiet
+//! round, and in a world then three takings and two offers of each host, all of them single events.
+//! Where an event runs out of memory, the book, and of a carrier the log, has to be what it was before that event, and every later
+//! call has to be refused as `Stopped`: the status is 3 then. It is 4 where memory ran out anywhere else, as in making the
+//! world. In every other case it is 0, and what was seen is printed. `check failures` makes each allocation fail in turn.
+#![tactic(auto)]
+
+use leader1822::{Carrier, CarrierFault, Direction, HostAddr, NetEvent, PlainBoxes};
+use net_sim::{Book, Event, World, WorldFault};
+use script::{RawEvent, read_script};
+use sockets::{NcpFault, Request};
+use std::alloc::Global;
+use std::io::Read;
+use std::process::ExitCode;
+use subnet::{Ends, Subnet};
+use world_script::{WorldEvent, read_world_script};
+
+/// What was seen.
+#[derive(Clone, Copy, Drop, PartialEq)]
+enum Seen {
+    /// Every event happened or was refused.
+    End,
+    /// Memory ran out in an event, and all was as it has to be.
+    Stopped,
+    /// Memory ran out in an event that changed the book or the log.
+    Changed,
+    /// A call after that was not refused as it has to be.
+    GoesOn,
+}
+
+fn main(rt: HostRuntime) -> ExitCode {
+    let (said, status) = match seen(&rt, rt.alloc()) {
+        None => ("no memory outside of events", 4),
+        Some(Seen::Stopped) => ("stopped", 3),
+        Some(Seen::End) => ("end", 0),
+        Some(Seen::Changed) => ("what happened before has changed", 0),
+        Some(Seen::GoesOn) => ("a later call goes on", 0),
+    };
+    let _ = println!(rt; "{said}");
+    ExitCode::from(status)
+}
+
+/// What is seen of the input. `None` where memory runs out elsewhere.
+fn seen<R: Input + AllocGlobal>(rt: &R, alloc: Global) -> Option<Seen> {
+    let mut octets = Vec::new(alloc);
+    let mut reader = rt.reader();
+    reader.read_to_end(&mut octets).ok()?;
+    let text = str::from_utf8(&octets).ok()?;
+    let (place, script) = text.split_once('\n')?;
+    let mut hosts = Vec::new(alloc);
+    hosts.push(first()?).ok()?;
+    hosts.push(second()?).ok()?;
+    match place {
+        "world plain" => of_world(alloc, PlainBoxes::new(alloc, hosts), script),
+        "world subnet" => of_world(alloc, two_imps(alloc, hosts)?, script),
+        "raw plain" => of_carrier(alloc, PlainBoxes::new(alloc, hosts), script),
+        "raw subnet" => of_carrier(alloc, two_imps(alloc, hosts)?, script),
+        _ => None,
+    }
+}
+
+/// The host at IMP 1.
+fn first() -> Option<HostAddr> {
+    HostAddr::new(0, 1)
+}
+
+/// The host at IMP 2.
+fn second() -> Option<HostAddr> {
+    HostAddr::new(0, 2)
+}
+
+/// Two IMPs with a host each, and a line between them.
+fn two_imps(alloc: Global, hosts: Vec<HostAddr>) -> Option<Subnet> {
+    let mut sites = Vec::new(alloc);
+    for site in [None, Some(1), Some(1)] {
+        sites.push(site).ok()?;
+    }
+    Subnet::new(alloc, hosts, sites, &[Ends { a: 1, b: 2 }]).ok()
+}
+
+/// What is seen of a world over a carrier.
+fn of_world<C: Carrier>(alloc: Global, carrier: C, script: &str) -> Option<Seen> {
+    let mut events = Vec::new(alloc);
+    for event in read_world_script(alloc, script.as_bytes()).ok()? {
+        match event {
+            WorldEvent::Happen(event) => events.push(event).ok()?,
+            WorldEvent::Calm(rounds) => {
+                for _ in 0..rounds {
+                    add_round(&mut events)?;
+                }
+            }
+        }
+    }
+    let mut world = World::new(alloc, carrier).ok()?;
+    for event in events {
+        let before = told(alloc, world.book())?;
+        let done = world.step(event);
+        if done == Err(WorldFault::Carrier(CarrierFault::OutOfMemory)) || done == Err(WorldFault::Program(NcpFault::OutOfMemory)) {
+            let same = told(alloc, world.book())?.as_str() == before.as_str();
+            return Some(if !same { Seen::Changed } else if is_stopped(&mut world)? { Seen::Stopped } else { Seen::GoesOn });
+        }
+    }
+    Some(Seen::End)
+}
+
+/// Puts the events of a calm's round behind others.
+fn add_round(events: &mut Vec<Event>) -> Option<()> {
+    events.push(Event::Quiet).ok()?;
+    for host in [first()?, second()?] {
+        for _ in 0..3 {
+            events.push(Event::Take(host)).ok()?;
+        }
+        for _ in 0..2 {
+            events.push(Event::Offer(host)).ok()?;
+        }
+    }
+    Some(())
+}
+
+/// All that stands in a book, as text.
+fn told(alloc: Global, book: &Book) -> Option<String> {
+    let mut text = String::new(alloc);
+    write!(text, "{:?} {:?} {:?} ", book.crossings(), book.notices(), book.contacts()).ok()?;
+    write!(text, "{:?} {:?} {:?}", book.reports(), book.lives(), book.handed()).ok()?;
+    Some(text)
+}
+
+/// Whether a world refuses its calls as stopped.
+fn is_stopped<C: Carrier>(world: &mut World<C>) -> Option<bool> {
+    let (host, peer) = (first()?, second()?);
+    let answers = [
+        world.step(Event::Quiet),
+        world.step(Event::Take(host)),
+        world.step(Event::Offer(host)),
+        world.step(Event::Ask(host, Request::Contact { peer })),
+        world.step(Event::Net(NetEvent::HostDown(peer))),
+        world.run(&[]),
+        world.calm(0),
+    ];
+    Some(answers.iter().all(|it| *it == Err(WorldFault::Carrier(CarrierFault::Stopped))))
+}
+
+/// What is seen of a carrier alone.
+fn of_carrier<C: Carrier>(alloc: Global, mut carrier: C, script: &str) -> Option<Seen> {
+    for event in read_script(alloc, script.as_bytes()).ok()? {
+        let rounds = if let RawEvent::Calm(rounds) = event { rounds } else { 0 };
+        let mut done = match event {
+            RawEvent::Calm(_) => Ok(()),
+            other => after(alloc, &mut carrier, other)?,
+        };
+        for _ in 0..rounds {
+            if done.is_ok() {
+                done = after(alloc, &mut carrier, RawEvent::Calm(1))?;
+            }
+        }
+        if let Err(seen) = done {
+            return Some(seen);
+        }
+    }
+    Some(Seen::End)
+}
+
+/// Lets one event happen. What is seen, where memory runs out in it.
+fn after<C: Carrier>(alloc: Global, carrier: &mut C, event: RawEvent) -> Option<Result<(), Seen>> {
+    let mut before = String::new(alloc);
+    write!(before, "{:?}", carrier.log()).ok()?;
+    let done = match event {
+        RawEvent::Out(message) => carrier.offer_out(message),
+        RawEvent::Take(host) => carrier.take_in(host).map(|_| ()),
+        RawEvent::Net(event) => carrier.step(event),
+        RawEvent::Calm(_) => carrier.quiet_round(),
+    };
+    if done != Err(CarrierFault::OutOfMemory) {
+        return Some(Ok(()));
+    }
+    let mut log = String::new(alloc);
+    write!(log, "{:?}", carrier.log()).ok()?;
+    if log.as_str() != before.as_str() {
+        return Some(Err(Seen::Changed));
+    }
+    let (host, stopped) = (first()?, Err(CarrierFault::Stopped));
+    let frame = NetEvent::Deliver { line: 0, direction: Direction::Forward, frame: 0 };
+    let is_stopped = carrier.quiet_round() == stopped
+        && carrier.step(NetEvent::HostDown(host)) == stopped
+        && carrier.step(frame) == stopped
+        && carrier.take_in(host).map(|_| ()) == stopped;
+    Some(Err(if is_stopped { Seen::Stopped } else { Seen::GoesOn }))
+}
