@@ -1,8 +1,9 @@
 //! Lets what standard input names happen event by event until memory runs out, and looks at what is left then.
 //!
-//! The first line says where: `world plain` or `world subnet`, hosts with their programs over mailboxes or over two IMPs and a line,
-//! or `raw plain` or `raw subnet`, that carrier alone. The others are lines of a script; of a calm each round is a quiet
-//! round, and in a world then three takings and two offers of each host, all of them single events.
+//! The first line says where: `world plain IMPS` or `world subnet IMPS`, a host with its program at each of so many IMPs, over
+//! mailboxes or over IMPs in a row; or `raw plain IMPS` or `raw subnet IMPS`, that carrier alone. The others are lines of a script;
+//! of a calm each round is a quiet round, and in a world then three takings and two offers of each host, all of them single
+//! events.
 //! Where an event runs out of memory, the book, and of a carrier the log, has to be what it was before that event, and every later
 //! call has to be refused as `Stopped`: the status is 3 then. It is 4 where memory ran out anywhere else, as in making the
 //! world. In every other case it is 0, and what was seen is printed. `check failures` makes each allocation fail in turn.
@@ -17,6 +18,9 @@ use std::io::Read;
 use std::process::ExitCode;
 use subnet::{Ends, Subnet};
 use world_script::{WorldEvent, read_world_script};
+
+/// How many octets a text has room for from the start.
+const ROOM: usize = 1 << 16;
 
 /// What was seen.
 #[derive(Clone, Copy, Drop, PartialEq)]
@@ -50,14 +54,17 @@ fn seen<R: Input + AllocGlobal>(rt: &R, alloc: Global) -> Option<Seen> {
     reader.read_to_end(&mut octets).ok()?;
     let text = str::from_utf8(&octets).ok()?;
     let (place, script) = text.split_once('\n')?;
+    let (place, count) = place.rsplit_once(' ')?;
+    let count = count.parse::<u8>().ok()?;
     let mut hosts = Vec::new(alloc);
-    hosts.push(first()?).ok()?;
-    hosts.push(second()?).ok()?;
+    for imp in 1..=count {
+        hosts.push(HostAddr::new(0, imp)?).ok()?;
+    }
     match place {
         "world plain" => of_world(alloc, PlainBoxes::new(alloc, hosts), script),
-        "world subnet" => of_world(alloc, two_imps(alloc, hosts)?, script),
+        "world subnet" => of_world(alloc, in_a_row(alloc, hosts, count)?, script),
         "raw plain" => of_carrier(alloc, PlainBoxes::new(alloc, hosts), script),
-        "raw subnet" => of_carrier(alloc, two_imps(alloc, hosts)?, script),
+        "raw subnet" => of_carrier(alloc, in_a_row(alloc, hosts, count)?, script),
         _ => None,
     }
 }
@@ -72,13 +79,18 @@ fn second() -> Option<HostAddr> {
     HostAddr::new(0, 2)
 }
 
-/// Two IMPs with a host each, and a line between them.
-fn two_imps(alloc: Global, hosts: Vec<HostAddr>) -> Option<Subnet> {
+/// So many IMPs in a row, with a host each.
+fn in_a_row(alloc: Global, hosts: Vec<HostAddr>, count: u8) -> Option<Subnet> {
     let mut sites = Vec::new(alloc);
-    for site in [None, Some(1), Some(1)] {
-        sites.push(site).ok()?;
+    let mut ends = Vec::new(alloc);
+    sites.push(None).ok()?;
+    for imp in 1..=count {
+        sites.push(Some(1)).ok()?;
+        if imp < count {
+            ends.push(Ends { a: imp, b: imp + 1 }).ok()?;
+        }
     }
-    Subnet::new(alloc, hosts, sites, &[Ends { a: 1, b: 2 }]).ok()
+    Subnet::new(alloc, hosts, sites, &ends).ok()
 }
 
 /// What is seen of a world over a carrier.
@@ -122,7 +134,7 @@ fn add_round(events: &mut Vec<Event>) -> Option<()> {
 
 /// All that stands in a book, as text.
 fn told(alloc: Global, book: &Book) -> Option<String> {
-    let mut text = String::new(alloc);
+    let mut text = String::with_capacity(alloc, ROOM).ok()?;
     write!(text, "{:?} {:?} {:?} ", book.crossings(), book.notices(), book.contacts()).ok()?;
     write!(text, "{:?} {:?} {:?}", book.reports(), book.lives(), book.handed()).ok()?;
     Some(text)
@@ -141,6 +153,13 @@ fn is_stopped<C: Carrier>(world: &mut World<C>) -> Option<bool> {
         world.calm(0),
     ];
     Some(answers.iter().all(|it| *it == Err(WorldFault::Carrier(CarrierFault::Stopped))))
+}
+
+/// All that stands in a carrier's log, as text.
+fn logged<C: Carrier>(alloc: Global, carrier: &C) -> Option<String> {
+    let mut text = String::with_capacity(alloc, ROOM).ok()?;
+    write!(text, "{:?}", carrier.log()).ok()?;
+    Some(text)
 }
 
 /// What is seen of a carrier alone.
@@ -165,8 +184,7 @@ fn of_carrier<C: Carrier>(alloc: Global, mut carrier: C, script: &str) -> Option
 
 /// Lets one event happen. What is seen, where memory runs out in it.
 fn after<C: Carrier>(alloc: Global, carrier: &mut C, event: RawEvent) -> Option<Result<(), Seen>> {
-    let mut before = String::new(alloc);
-    write!(before, "{:?}", carrier.log()).ok()?;
+    let before = logged(alloc, carrier)?;
     let done = match event {
         RawEvent::Out(message) => carrier.offer_out(message),
         RawEvent::Take(host) => carrier.take_in(host).map(|_| ()),
@@ -176,9 +194,7 @@ fn after<C: Carrier>(alloc: Global, carrier: &mut C, event: RawEvent) -> Option<
     if done != Err(CarrierFault::OutOfMemory) {
         return Some(Ok(()));
     }
-    let mut log = String::new(alloc);
-    write!(log, "{:?}", carrier.log()).ok()?;
-    if log.as_str() != before.as_str() {
+    if logged(alloc, carrier)?.as_str() != before.as_str() {
         return Some(Err(Seen::Changed));
     }
     let (host, stopped) = (first()?, Err(CarrierFault::Stopped));

@@ -9,7 +9,7 @@ goes out next have to be the same. The same calls are made each time. In half of
 they send, over boxes that may lose it; in the others one host gets what a peer of any kind may send. Besides, every command
 is cut at every length, and each octet of it is changed.
 
-The driver, tools/host-calls.rs, is built without proof in a folder of its own: ./check hosts [RUNS]
+The calls are made by tools/calls, built without proofs (tools/drivers.py): ./check hosts [RUNS]
 A folder of calls with what they owe can be tried too: ./check hosts FOLDER
 """
 
@@ -21,7 +21,7 @@ import tempfile
 from collections import Counter
 
 
-from drivers import run_cases, with_driver, write_case
+from drivers import run_cases, write_case
 from host_rules import GONE, READY, Host, Refused, bits_of, control_message, header, number, spell_bits
 from imp_rules import spell_flow, spell_host
 
@@ -411,13 +411,12 @@ def with_runs(folder, runs):
 def main():
     word = sys.argv[1] if len(sys.argv) > 1 else str(RUNS)
     with tempfile.TemporaryDirectory() as folder:
-        driver = with_driver(folder, "host-calls.rs", "sockets", "bit_messages hex leader1822")
         if os.path.isdir(word):
             shutil.copytree(word, f"{folder}/cases")
             seen = Counter(calls=sum(not name.endswith(".stdout") for name in os.listdir(word)))
         else:
             seen = with_runs(folder, int(word))
-        said = run_cases(driver, folder)
+        said = run_cases("hosts", folder)
     if said is not None:
         print(said)
         print("check hosts: a run came to something else than the rules say (the runs are made again by their number)")

@@ -7,7 +7,7 @@ to judge; this script tries it as well. `Imp` in tools/imp_rules.py was written 
 another form, with packets and frames spelled from the formats. Both run every call, and answers, frames and what the
 queries tell have to be the same. The same calls are made each time.
 
-The driver, tools/imp-calls.rs, is built without proof in a folder of its own: ./check imp [RUNS]
+The calls are made by tools/calls, built without proofs (tools/drivers.py): ./check imp [RUNS]
 """
 
 import random
@@ -16,7 +16,7 @@ import tempfile
 from collections import Counter
 
 
-from drivers import run_cases, with_driver, write_case
+from drivers import run_cases, write_case
 from imp_rules import CHANNELS, DATA, DEAD, PIECE, RFNM, Imp, Refused, body, octets, spell_flow, spell_frame
 
 RUNS = 1000
@@ -205,9 +205,8 @@ def with_cases(folder, runs):
 def main():
     runs = int(sys.argv[1]) if len(sys.argv) > 1 else RUNS
     with tempfile.TemporaryDirectory() as folder:
-        driver = with_driver(folder, "imp-calls.rs", "imp_node", "bit_messages hex imp_channel leader1822")
         seen = with_cases(folder, runs)
-        said = run_cases(driver, folder)
+        said = run_cases("imp", folder)
     if said is not None:
         print(said)
         print("check imp: a run came to something else than the rules say (the cases are made again by their number)")

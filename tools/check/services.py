@@ -7,7 +7,7 @@ is for readers to judge; this script tries it as well. tools/service_rules.py wa
 language and another form. Both are told notices made by chance, most of them about the machine's own sockets, and what they ask
 for and come to has to be the same.
 
-The driver, tools/service-calls.rs, is built without proof in a folder of its own: ./check services [RUNS]
+The calls are made by tools/calls, built without proofs (tools/drivers.py): ./check services [RUNS]
 """
 
 import random
@@ -16,7 +16,7 @@ import tempfile
 from collections import Counter
 
 
-from drivers import run_cases, with_driver, write_case
+from drivers import run_cases, write_case
 from host_rules import bits_of, spell_bits
 from imp_rules import spell_host
 from service_rules import MOST_SOCKET, Echo, Server, Terminal, User
@@ -134,13 +134,12 @@ class Chance:
 def main():
     runs, seen = int(sys.argv[1]) if len(sys.argv) > 1 else RUNS, Counter()
     with tempfile.TemporaryDirectory() as folder:
-        driver = with_driver(folder, "service-calls.rs", "icp", "bit_messages hex leader1822 ncp_control sockets terminal")
         for run in range(runs):
             made = Chance(run)
             write_case(folder, f"{run:05}", made.lines, made.owed)
             name = made.lines[0].split(" ")[0]
             seen.update(f"{name}: {' '.join(it.split(' ')[: 2 if it.startswith('failed') else 1])}" for owed in made.owed for it in owed.split(";") if it)
-        wrong = run_cases(driver, folder)
+        wrong = run_cases("services", folder)
     for said, count in sorted(seen.items()):
         print(f"check services: {count} {said}")
     print(f"check services: {wrong}" if wrong else f"check services: {runs} machines, all the same")

@@ -7,7 +7,7 @@ readers to judge; this script tries it as well. tools/subnet_rules.py was writte
 another form. Both run every event, and what crosses and what is refused has to be the same. The same events are made each
 time. What happens is mostly about what is there: frames that are live, messages that are outstanding, slots that are held.
 
-The driver, tools/subnet-calls.rs, is built without proof in a folder of its own: ./check subnet [RUNS]
+The calls are made by tools/calls, built without proofs (tools/drivers.py): ./check subnet [RUNS]
 Networks of the greatest size, sixteen IMPs and forty lines, five at each IMP, are tried by ./check subnet largest [RUNS]
 A folder of networks and scripts with their outputs can be tried too: ./check subnet FOLDER
 """
@@ -19,7 +19,7 @@ import tempfile
 from collections import Counter
 
 
-from drivers import run_cases, with_driver, write_case
+from drivers import run_cases, write_case
 from imp_rules import spell_flow, spell_host
 from subnet_rules import Subnet
 
@@ -200,9 +200,8 @@ def main():
     source = words[0] if words and os.path.isdir(words[0]) else None
     runs = int(words[is_largest]) if not source and len(words) > is_largest else LARGEST_RUNS if is_largest else RUNS
     with tempfile.TemporaryDirectory() as folder:
-        driver = with_driver(folder, "subnet-calls.rs", "subnet", "bit_messages hex leader1822")
         seen = with_files(folder, source) if source else with_runs(folder, runs, is_largest)
-        said = run_cases(driver, folder)
+        said = run_cases("subnet", folder)
     if said is not None:
         print(said)
         print("check subnet: a run came to something else than the rules say (the runs are made again by their number)")

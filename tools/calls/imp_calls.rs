@@ -4,104 +4,31 @@
 //! `SOURCE DESTINATION LINK`, a host `HOST/IMP`, and octets are in upper case hexadecimal, `-` for none. Printed are `ok`, what
 //! a host took or `refused NAME`, and then each frame with its port. `ask FLOW NUMBER` prints what the queries tell.
 //! `check imp` compares all this with an independent model of the rules.
-#![tactic(auto)]
 
-use bit_messages::Bits;
+use crate::words::{Words, spell_bits, spell_octets};
 use imp_channel::Frame;
 use imp_node::{Imp, Outgoing};
-use leader1822::{CarrierFault, Flow, HostAddr, HostMessage, ImpNumber, Inbound, Link, Text};
+use leader1822::{CarrierFault, Flow, HostMessage, ImpNumber, Inbound, Text};
 use std::alloc::Global;
-use std::io::Read;
 
-/// The words of a line.
-#[derive(Drop)]
-struct Words<'a> {
-    rest: &'a str,
-}
-
-impl<'a> Words<'a> {
-    /// The next word.
-    fn word(&mut self) -> Option<&'a str> {
-        if self.rest.is_empty() {
-            return None;
-        }
-        match self.rest.split_once(' ') {
-            Some((word, rest)) => {
-                self.rest = rest;
-                Some(word)
-            }
-            None => {
-                let word = self.rest;
-                self.rest = "";
-                Some(word)
-            }
-        }
-    }
-
-    /// The next word as a number.
-    fn number(&mut self) -> Option<u8> {
-        self.word()?.parse::<u8>().ok()
-    }
-
-    /// The next word as a count.
-    fn count(&mut self) -> Option<usize> {
-        self.word()?.parse::<usize>().ok()
-    }
-
-    /// The next word as a host.
-    fn host(&mut self) -> Option<HostAddr> {
-        let (host, imp) = self.word()?.split_once('/')?;
-        HostAddr::new(host.parse::<u8>().ok()?, imp.parse::<u8>().ok()?)
-    }
-
-    /// The next three words as a flow.
-    fn flow(&mut self) -> Option<Flow> {
-        Some(Flow {
-            source: self.host()?,
-            destination: self.host()?,
-            link: Link(self.number()?),
-        })
-    }
-
-    /// The next word as octets.
-    fn octets(&mut self, alloc: Global) -> Option<Vec<u8>> {
-        let word = self.word()?;
-        if word == "-" {
-            return Some(Vec::new(alloc));
-        }
-        hex::decode(alloc, word.as_bytes()).ok()
-    }
-}
-
-fn main(rt: HostRuntime) {
-    let mut octets = Vec::new(rt.alloc());
-    let mut reader = rt.reader();
-    if reader.read_to_end(&mut octets).is_err() {
-        return;
-    }
-    let Ok(text) = str::from_utf8(&octets) else {
-        return;
-    };
-    let mut lines = text.lines();
-    let Some(line) = lines.next() else {
-        return;
-    };
-    let Some(mut imp) = made(rt.alloc(), line) else {
-        return;
-    };
-    let _ = println!(rt; "ok");
+/// What is printed for an IMP and the calls on it.
+pub fn made(alloc: Global, lines: &str, said: &mut String) -> Option<()> {
+    let mut lines = lines.lines();
+    let mut imp = opened(alloc, lines.next()?)?;
+    said.push_str("ok\n").ok()?;
     for line in lines {
-        let answer = answered(rt.alloc(), &mut imp, line).unwrap_or_else(|| String::new(rt.alloc()));
-        let _ = println!(rt; "{answer}");
+        let answer = answered(alloc, &mut imp, line)?;
+        writeln!(said, "{answer}").ok()?;
     }
+    Some(())
 }
 
 /// The IMP that the first line asks for.
-fn made(alloc: Global, line: &str) -> Option<Imp> {
+fn opened(alloc: Global, line: &str) -> Option<Imp> {
     let mut words = Words { rest: line };
     words.word()?;
-    let own = ImpNumber::new(words.number()?)?;
-    Imp::new(alloc, own, words.number()?, words.number()?).ok()
+    let own = ImpNumber::new(words.octet()?)?;
+    Imp::new(alloc, own, words.octet()?, words.octet()?).ok()
 }
 
 /// What a line is answered; `None` where it is no call, or memory ran out.
@@ -112,7 +39,7 @@ fn answered(alloc: Global, imp: &mut Imp, line: &str) -> Option<String> {
         return told(alloc, imp, words);
     }
     if name == "to_host" {
-        return match imp.to_host(words.number()?) {
+        return match imp.to_host(words.octet()?) {
             Ok((given, frames)) => printed(alloc, given, &frames),
             Err(fault) => refused(alloc, fault),
         };
@@ -132,19 +59,19 @@ fn called(alloc: Global, imp: &mut Imp, name: &str, mut words: Words<'_>) -> Opt
     Some(match name {
         "from_host" => imp.from_host(message(alloc, words)?),
         "from_line" => {
-            let port = words.number()?;
+            let port = words.octet()?;
             let octets = words.octets(alloc)?;
             imp.from_line(port, Frame::read(alloc, &octets).ok()?)
         }
         "resend" => imp.resend(),
         "route" => imp.route(),
-        "end_down" => imp.end_down(words.number()?),
-        "end_up" => imp.end_up(words.number()?),
+        "end_down" => imp.end_down(words.octet()?),
+        "end_up" => imp.end_up(words.octet()?),
         "give_up" => imp.give_up(words.flow()?),
-        "forget" => imp.forget(ImpNumber::new(words.number()?)?),
+        "forget" => imp.forget(ImpNumber::new(words.octet()?)?),
         "abandon" => imp.abandon(words.flow()?),
-        "host_down" => imp.host_down(words.number()?),
-        "host_up" => imp.host_up(words.number()?),
+        "host_down" => imp.host_down(words.octet()?),
+        "host_up" => imp.host_up(words.octet()?),
         _ => return None,
     })
 }
@@ -152,9 +79,7 @@ fn called(alloc: Global, imp: &mut Imp, name: &str, mut words: Words<'_>) -> Opt
 /// A message: its flow, its length and its octets.
 fn message(alloc: Global, mut words: Words<'_>) -> Option<HostMessage> {
     let flow = words.flow()?;
-    let count = words.count()?;
-    let octets = words.octets(alloc)?;
-    let text = Text::new(Bits::from_octets(alloc, &octets, count).ok()?)?;
+    let text = Text::new(words.bits(alloc)?)?;
     Some(HostMessage { flow, text })
 }
 
@@ -165,14 +90,8 @@ fn printed(alloc: Global, given: Option<Inbound>, frames: &[Outgoing]) -> Option
         None => answer.push_str("nothing").ok()?,
         Some(Inbound::Answer(kind, flow)) => write!(answer, "{kind} {flow}").ok()?,
         Some(Inbound::Message(message)) => {
-            let bits = message.text.bits();
-            write!(answer, "message {} {} ", message.flow, bits.len()).ok()?;
-            if bits.is_empty() {
-                answer.push_str("-").ok()?;
-            }
-            for octet in bits.as_octets() {
-                write!(answer, "{octet:02X}").ok()?;
-            }
+            write!(answer, "message {} ", message.flow).ok()?;
+            spell_bits(alloc, &mut answer, message.text.bits())?;
         }
     }
     with_frames(alloc, answer, frames)
@@ -182,9 +101,7 @@ fn printed(alloc: Global, given: Option<Inbound>, frames: &[Outgoing]) -> Option
 fn with_frames(alloc: Global, mut answer: String, frames: &[Outgoing]) -> Option<String> {
     for out in frames {
         write!(answer, ";{}:", out.port).ok()?;
-        for octet in out.frame.write(alloc).ok()?.iter() {
-            write!(answer, "{octet:02X}").ok()?;
-        }
+        spell_octets(alloc, &mut answer, &out.frame.write(alloc).ok()?)?;
     }
     Some(answer)
 }
@@ -199,7 +116,7 @@ fn refused(alloc: Global, fault: CarrierFault) -> Option<String> {
 /// What the queries tell of a flow and a number of it.
 fn told(alloc: Global, imp: &Imp, mut words: Words<'_>) -> Option<String> {
     let flow = words.flow()?;
-    let number = words.number()?;
+    let number = words.octet()?;
     let (source, destination) = (flow.source.imp(), flow.destination.imp());
     let mut answer = String::new(alloc);
     write!(answer, "{} ", u8::from(imp.begins(&flow))).ok()?;

@@ -4,110 +4,25 @@
 //! as `0 listen 33 8`; with `ask` before it the call is made as a request. What comes in is written `accept STAMP message FLOW BITS OCTETS` or `accept STAMP rfnm FLOW`. Octets are
 //! in upper case hexadecimal, `-` for none. Printed are `ok` or `refused NAME`, each notice, and what `next_out` gives then.
 //! `check hosts` compares all this with an independent model of the rules.
-#![tactic(auto)]
 
-use bit_messages::Bits;
-use leader1822::{Answer, Flow, HostAddr, HostMessage, Inbound, Link, Text};
+use crate::words::{Words, spell_bits, spell_octets};
+use leader1822::{Answer, HostMessage, Inbound, Text};
 use sockets::{Ncp, NcpFault, Notice, Request};
 use std::alloc::Global;
-use std::io::Read;
 
-/// The words of a line.
-#[derive(Drop)]
-struct Words<'a> {
-    rest: &'a str,
-}
-
-impl<'a> Words<'a> {
-    /// The next word.
-    fn word(&mut self) -> Option<&'a str> {
-        if self.rest.is_empty() {
-            return None;
-        }
-        match self.rest.split_once(' ') {
-            Some((word, rest)) => {
-                self.rest = rest;
-                Some(word)
-            }
-            None => {
-                let word = self.rest;
-                self.rest = "";
-                Some(word)
-            }
-        }
-    }
-
-    /// The next word as a number of eight bits.
-    fn octet(&mut self) -> Option<u8> {
-        self.word()?.parse::<u8>().ok()
-    }
-
-    /// The next word as a number of messages.
-    fn messages(&mut self) -> Option<u16> {
-        self.word()?.parse::<u16>().ok()
-    }
-
-    /// The next word as a socket or a number of bits.
-    fn number(&mut self) -> Option<u32> {
-        self.word()?.parse::<u32>().ok()
-    }
-
-    /// The next word as a place.
-    fn place(&mut self) -> Option<usize> {
-        self.word()?.parse::<usize>().ok()
-    }
-
-    /// The next word as a host.
-    fn host(&mut self) -> Option<HostAddr> {
-        let (host, imp) = self.word()?.split_once('/')?;
-        HostAddr::new(host.parse::<u8>().ok()?, imp.parse::<u8>().ok()?)
-    }
-
-    /// The next three words as a flow.
-    fn flow(&mut self) -> Option<Flow> {
-        Some(Flow {
-            source: self.host()?,
-            destination: self.host()?,
-            link: Link(self.octet()?),
-        })
-    }
-
-    /// The next two words as bits: their count, and their octets.
-    fn bits(&mut self, alloc: Global) -> Option<Bits> {
-        let count = self.place()?;
-        let word = self.word()?;
-        if word == "-" {
-            return Some(Bits::new(alloc));
-        }
-        let octets = hex::decode(alloc, word.as_bytes()).ok()?;
-        Bits::from_octets(alloc, &octets, count).ok()
-    }
-}
-
-fn main(rt: HostRuntime) {
-    let mut octets = Vec::new(rt.alloc());
-    let mut reader = rt.reader();
-    if reader.read_to_end(&mut octets).is_err() {
-        return;
-    }
-    let Ok(text) = str::from_utf8(&octets) else {
-        return;
-    };
-    let mut lines = text.lines();
-    let Some(line) = lines.next() else {
-        return;
-    };
-    let Some(mut hosts) = made(rt.alloc(), line) else {
-        return;
-    };
+/// What is printed for hosts' programs and the calls on them.
+pub fn made(alloc: Global, lines: &str, said: &mut String) -> Option<()> {
+    let mut lines = lines.lines();
+    let mut hosts = opened(alloc, lines.next()?)?;
     for line in lines {
-        let answer = answered(rt.alloc(), &mut hosts, line).unwrap_or_else(|| String::new(rt.alloc()));
-        let _ = println!(rt; "{answer}");
+        let answer = answered(alloc, &mut hosts, line)?;
+        writeln!(said, "{answer}").ok()?;
     }
+    Some(())
 }
 
 /// The programs of the hosts that the first line names.
-fn made(alloc: Global, line: &str) -> Option<Vec<Ncp>> {
+fn opened(alloc: Global, line: &str) -> Option<Vec<Ncp>> {
     let mut hosts = Vec::new(alloc);
     let mut words = Words { rest: line };
     while !words.rest.is_empty() {
@@ -126,7 +41,7 @@ fn answered(alloc: Global, hosts: &mut Vec<Ncp>, line: &str) -> Option<String> {
             answer.push_str("ok").ok()?;
             for notice in &notices {
                 answer.push_str(";").ok()?;
-                tell(&mut answer, notice)?;
+                tell(alloc, &mut answer, notice)?;
             }
         }
         Err(fault) => write!(answer, "refused {fault:?}").ok()?,
@@ -135,7 +50,7 @@ fn answered(alloc: Global, hosts: &mut Vec<Ncp>, line: &str) -> Option<String> {
         None => answer.push_str(" next nothing").ok()?,
         Some(message) => {
             write!(answer, " next {} ", message.flow).ok()?;
-            tell_bits(&mut answer, message.text.bits())?;
+            spell_bits(alloc, &mut answer, message.text.bits())?;
         }
     }
     Some(answer)
@@ -209,7 +124,7 @@ fn inbound(alloc: Global, mut words: Words<'_>) -> Option<Inbound> {
 }
 
 /// A notice.
-fn tell(answer: &mut String, notice: &Notice) -> Option<()> {
+fn tell(alloc: Global, answer: &mut String, notice: &Notice) -> Option<()> {
     match notice {
         Notice::Ready { peer } => write!(answer, "ready {peer}").ok(),
         Notice::ContactFailed { peer } => write!(answer, "contactfailed {peer}").ok(),
@@ -220,33 +135,18 @@ fn tell(answer: &mut String, notice: &Notice) -> Option<()> {
         Notice::Ended { socket, peer, foreign } => write!(answer, "ended {socket} {peer} {foreign}").ok(),
         Notice::Sent { socket, bits } => {
             write!(answer, "sent {socket} ").ok()?;
-            tell_bits(answer, bits)
+            spell_bits(alloc, answer, bits)
         }
         Notice::Arrived { socket, bits } => {
             write!(answer, "arrived {socket} ").ok()?;
-            tell_bits(answer, bits)
+            spell_bits(alloc, answer, bits)
         }
         Notice::Returned { socket, messages, bits } => write!(answer, "returned {socket} {messages} {bits}").ok(),
         Notice::Interrupt { socket } => write!(answer, "interrupt {socket}").ok(),
         Notice::Echoed { peer, octet } => write!(answer, "echoed {peer} {octet}").ok(),
         Notice::RemoteError { peer, code, detail } => {
             write!(answer, "error {peer} {code} ").ok()?;
-            for octet in detail.iter() {
-                write!(answer, "{octet:02X}").ok()?;
-            }
-            Some(())
+            spell_octets(alloc, answer, detail)
         }
     }
-}
-
-/// Bits, as their count and their octets.
-fn tell_bits(answer: &mut String, bits: &Bits) -> Option<()> {
-    write!(answer, "{} ", bits.len()).ok()?;
-    if bits.is_empty() {
-        return answer.push_str("-").ok();
-    }
-    for octet in bits.as_octets() {
-        write!(answer, "{octet:02X}").ok()?;
-    }
-    Some(())
 }

@@ -3,124 +3,39 @@
 //! The first line has the IMPs, as `IMP:HOSTS` by rising number, and the second the lines, as `IMP-IMP`. What happens is
 //! written as in a script, and `alive FLOW NUMBER` asks whether that message or a packet of it is alive. Each crossing is printed as the simulator prints it, and a refusal as `refused NAME`; within
 //! `calm` refusals are not printed. `check subnet` compares all this with an independent model of the rules.
-#![tactic(auto)]
 
-use bit_messages::Bits;
-use leader1822::{Carrier, CarrierFault, Crossing, Direction, Flow, HostAddr, HostMessage, ImpNumber, Link, NetEvent, Text};
+use crate::words::Words;
+use leader1822::{Carrier, CarrierFault, HostAddr, HostMessage, NetEvent, Text};
 use std::alloc::Global;
-use std::io::Read;
 use subnet::{Ends, Subnet};
 
 /// How often a host takes in a round of `calm` at most.
 const TAKES: usize = 16;
 
-/// The words of a line.
-#[derive(Drop)]
-struct Words<'a> {
-    rest: &'a str,
-}
-
-impl<'a> Words<'a> {
-    /// The next word.
-    fn word(&mut self) -> Option<&'a str> {
-        if self.rest.is_empty() {
-            return None;
-        }
-        match self.rest.split_once(' ') {
-            Some((word, rest)) => {
-                self.rest = rest;
-                Some(word)
-            }
-            None => {
-                let word = self.rest;
-                self.rest = "";
-                Some(word)
-            }
-        }
-    }
-
-    /// The next word as a number.
-    fn number(&mut self) -> Option<u8> {
-        self.word()?.parse::<u8>().ok()
-    }
-
-    /// The next word as a count.
-    fn count(&mut self) -> Option<u32> {
-        self.word()?.parse::<u32>().ok()
-    }
-
-    /// The next word as an IMP.
-    fn imp(&mut self) -> Option<ImpNumber> {
-        ImpNumber::new(self.number()?)
-    }
-
-    /// The next word as a host.
-    fn host(&mut self) -> Option<HostAddr> {
-        let (host, imp) = self.word()?.split_once('/')?;
-        HostAddr::new(host.parse::<u8>().ok()?, imp.parse::<u8>().ok()?)
-    }
-
-    /// The next three words as a flow.
-    fn flow(&mut self) -> Option<Flow> {
-        Some(Flow {
-            source: self.host()?,
-            destination: self.host()?,
-            link: Link(self.number()?),
-        })
-    }
-
-    /// The next word as a direction.
-    fn direction(&mut self) -> Option<Direction> {
-        match self.word()? {
-            "+" => Some(Direction::Forward),
-            "-" => Some(Direction::Back),
-            _ => None,
-        }
-    }
-}
-
-fn main(rt: HostRuntime) {
-    let mut octets = Vec::new(rt.alloc());
-    let mut reader = rt.reader();
-    if reader.read_to_end(&mut octets).is_err() {
-        return;
-    }
-    let Ok(text) = str::from_utf8(&octets) else {
-        return;
-    };
-    let mut lines = text.lines();
-    let (Some(imps), Some(ends)) = (lines.next(), lines.next()) else {
-        return;
-    };
-    let Some(mut subnet) = made(rt.alloc(), imps, ends) else {
-        return;
-    };
+/// What is printed for a subnet and what happens in it.
+pub fn made(alloc: Global, lines: &str, said: &mut String) -> Option<()> {
+    let mut lines = lines.lines();
+    let mut subnet = opened(alloc, lines.next()?, lines.next()?)?;
     let mut printed = 0;
     for line in lines {
         if let Some(is_alive) = asked(&subnet, line) {
-            let _ = println!(rt; "alive {is_alive}");
+            writeln!(said, "alive {is_alive}").ok()?;
             continue;
         }
-        let outcome = happened(rt.alloc(), &mut subnet, line);
+        let outcome = happened(alloc, &mut subnet, line)?;
         for crossing in subnet.log().iter().skip(printed) {
-            let _ = println!(rt; "{crossing}");
+            writeln!(said, "{crossing}").ok()?;
         }
         printed = subnet.log().len();
-        match outcome {
-            None => {
-                let _ = println!(rt; "not read: {line}");
-            }
-            Some(Err(fault)) => {
-                let _ = println!(rt; "refused {fault:?}");
-            }
-            Some(Ok(())) => {}
+        if let Err(fault) = outcome {
+            writeln!(said, "refused {fault:?}").ok()?;
         }
     }
-    let _ = println!(rt; "end");
+    said.push_str("end\n").ok()
 }
 
 /// The subnet that the first two lines ask for.
-fn made(alloc: Global, imps: &str, ends: &str) -> Option<Subnet> {
+fn opened(alloc: Global, imps: &str, ends: &str) -> Option<Subnet> {
     let mut sites: Vec<Option<u8>> = Vec::new(alloc);
     let mut hosts = Vec::new(alloc);
     let mut words = Words { rest: imps };
@@ -152,7 +67,7 @@ fn asked(subnet: &Subnet, line: &str) -> Option<bool> {
         return None;
     }
     let flow = words.flow()?;
-    Some(subnet.alive(&flow, words.number()?))
+    Some(subnet.alive(&flow, words.octet()?))
 }
 
 /// What became of a line; `None` where it can't be read.
@@ -162,15 +77,12 @@ fn happened(alloc: Global, subnet: &mut Subnet, line: &str) -> Option<Result<(),
     match name {
         "out" => {
             let flow = words.flow()?;
-            let count = words.count()? as usize;
-            let octets = words.word()?;
-            let octets = if octets == "-" { Vec::new(alloc) } else { hex::decode(alloc, octets.as_bytes()).ok()? };
-            let text = Text::new(Bits::from_octets(alloc, &octets, count).ok()?)?;
+            let text = Text::new(words.bits(alloc)?)?;
             Some(subnet.offer_out(HostMessage { flow, text }))
         }
         "take" => Some(subnet.take_in(words.host()?).map(|_| ())),
         "calm" => {
-            for _ in 0..words.count()? {
+            for _ in 0..words.number()? {
                 calm(subnet);
             }
             Some(Ok(()))
@@ -196,12 +108,12 @@ fn calm(subnet: &mut Subnet) {
 /// What happens inside the network.
 fn event(name: &str, mut words: Words<'_>) -> Option<NetEvent> {
     Some(match name {
-        "deliver" => NetEvent::Deliver { line: words.count()?, direction: words.direction()?, frame: words.count()? },
-        "drop" => NetEvent::Drop { line: words.count()?, direction: words.direction()?, frame: words.count()? },
+        "deliver" => NetEvent::Deliver { line: words.number()?, direction: words.direction()?, frame: words.number()? },
+        "drop" => NetEvent::Drop { line: words.number()?, direction: words.direction()?, frame: words.number()? },
         "resend" => NetEvent::Resend(words.imp()?),
         "route" => NetEvent::Route(words.imp()?),
-        "enddown" => NetEvent::EndDown { imp: words.imp()?, line: words.count()? },
-        "endup" => NetEvent::EndUp { imp: words.imp()?, line: words.count()? },
+        "enddown" => NetEvent::EndDown { imp: words.imp()?, line: words.number()? },
+        "endup" => NetEvent::EndUp { imp: words.imp()?, line: words.number()? },
         "impdown" => NetEvent::ImpDown(words.imp()?),
         "impup" => NetEvent::ImpUp(words.imp()?),
         "hostdown" => NetEvent::HostDown(words.host()?),
