@@ -6,7 +6,7 @@
 //! events.
 //! Where an event runs out of memory, the book, and of a carrier the log, has to be what it was before that event, and every later
 //! call has to be refused as `Stopped`: the status is 3 then. It is 4 where memory ran out anywhere else, as in making the
-//! world. In every other case it is 0, and what was seen is printed. `check failures` makes each allocation fail in turn.
+//! world. In every other case it is 0, and what was seen is printed. `check steps` makes each allocation fail in turn.
 #![tactic(auto)]
 
 use leader1822::{Carrier, CarrierFault, Direction, HostAddr, NetEvent, PlainBoxes};
@@ -107,12 +107,18 @@ fn of_world<C: Carrier>(alloc: Global, carrier: C, script: &str) -> Option<Seen>
         }
     }
     let mut world = World::new(alloc, carrier).ok()?;
+    let mut sizes = sizes_of(world.book());
+    let mut before = told(alloc, world.book())?;
     for event in events {
-        let before = told(alloc, world.book())?;
         let done = world.step(event);
         if done == Err(WorldFault::Carrier(CarrierFault::OutOfMemory)) || done == Err(WorldFault::Program(NcpFault::OutOfMemory)) {
             let same = told(alloc, world.book())?.as_str() == before.as_str();
             return Some(if !same { Seen::Changed } else if is_stopped(&mut world)? { Seen::Stopped } else { Seen::GoesOn });
+        }
+        let now = sizes_of(world.book());
+        if now != sizes {
+            sizes = now;
+            before = told(alloc, world.book())?;
         }
     }
     Some(Seen::End)
@@ -130,6 +136,22 @@ fn add_round(events: &mut Vec<Event>) -> Option<()> {
         }
     }
     Some(())
+}
+
+/// How much stands in a book. Lives change only where something is told, or more is handed over.
+fn sizes_of(book: &Book) -> [usize; 6] {
+    let mut handed = 0;
+    for bits in book.handed() {
+        handed += bits.len();
+    }
+    [
+        book.crossings().len(),
+        book.notices().len(),
+        book.contacts().len(),
+        book.reports().len(),
+        book.lives().len(),
+        handed,
+    ]
 }
 
 /// All that stands in a book, as text.

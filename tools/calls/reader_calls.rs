@@ -27,14 +27,14 @@ pub fn made(alloc: Global, lines: &str, said: &mut String) -> Option<()> {
 /// What a reader gives.
 fn tell_reading(alloc: Global, reader: &str, mut words: Words<'_>, said: &mut String) -> Option<()> {
     match reader {
-        "from_host" => tell_leader(said, Leader::read_from_host(&words.octets(alloc)?)),
-        "from_imp" => tell_leader(said, Leader::read_from_imp(&words.octets(alloc)?)),
+        "from_host" => tell_leader(alloc, said, Leader::read_from_host(&words.octets(alloc)?)),
+        "from_imp" => tell_leader(alloc, said, Leader::read_from_imp(&words.octets(alloc)?)),
         "packet" => {
             let octets = words.octets(alloc)?;
             match Packet::read(alloc, &octets) {
                 Ok(packet) => {
-                    tell_packet(said, &packet)?;
-                    tell_written(said, &packet.write(alloc).ok()?)
+                    tell_packet(alloc, said, &packet)?;
+                    tell_written(alloc, said, &packet.write(alloc).ok()?)
                 }
                 Err(fault) => write!(said, "{fault:?}").ok(),
             }
@@ -43,8 +43,8 @@ fn tell_reading(alloc: Global, reader: &str, mut words: Words<'_>, said: &mut St
             let octets = words.octets(alloc)?;
             match Frame::read(alloc, &octets) {
                 Ok(frame) => {
-                    tell_frame(said, &frame)?;
-                    tell_written(said, &frame.write(alloc).ok()?)
+                    tell_frame(alloc, said, &frame)?;
+                    tell_written(alloc, said, &frame.write(alloc).ok()?)
                 }
                 Err(fault) => write!(said, "{fault:?}").ok(),
             }
@@ -54,15 +54,15 @@ fn tell_reading(alloc: Global, reader: &str, mut words: Words<'_>, said: &mut St
         "header" => match DataHeader::read(&words.bits(alloc)?) {
             Some(header) => {
                 write!(said, "{} {} = ", header.count, header.size).ok()?;
-                spell_bits(said, &header.write(alloc).ok()?)
+                spell_bits(alloc, said, &header.write(alloc).ok()?)
             }
             None => said.push_str("malformed").ok(),
         },
         "body" => match words.bits(alloc)?.strip(alloc) {
             Ok(text) => {
-                spell_bits(said, &text)?;
+                spell_bits(alloc, said, &text)?;
                 said.push_str(" = ").ok()?;
-                spell_bits(said, &text.pad16(alloc).ok()?)
+                spell_bits(alloc, said, &text.pad16(alloc).ok()?)
             }
             Err(fault) => write!(said, "{fault:?}").ok(),
         },
@@ -71,13 +71,13 @@ fn tell_reading(alloc: Global, reader: &str, mut words: Words<'_>, said: &mut St
 }
 
 /// How something is written again.
-fn tell_written(said: &mut String, octets: &[u8]) -> Option<()> {
+fn tell_written(alloc: Global, said: &mut String, octets: &[u8]) -> Option<()> {
     said.push_str(" = ").ok()?;
-    spell_octets(said, octets)
+    spell_octets(alloc, said, octets)
 }
 
 /// A leader.
-fn tell_leader(said: &mut String, read: Result<Leader, LeaderFault>) -> Option<()> {
+fn tell_leader(alloc: Global, said: &mut String, read: Result<Leader, LeaderFault>) -> Option<()> {
     let leader = match read {
         Ok(leader) => leader,
         Err(LeaderFault::UnknownType(kind)) => return write!(said, "UnknownType {kind}").ok(),
@@ -95,11 +95,11 @@ fn tell_leader(said: &mut String, read: Result<Leader, LeaderFault>) -> Option<(
             write!(said, "{name} {address} {}", link.0).ok()?
         }
     }
-    tell_written(said, &leader.write())
+    tell_written(alloc, said, &leader.write())
 }
 
 /// A packet: its kind, flow, number and place, whether it is the last, and its bits.
-fn tell_packet(said: &mut String, packet: &Packet) -> Option<()> {
+fn tell_packet(alloc: Global, said: &mut String, packet: &Packet) -> Option<()> {
     let name = match packet.kind() {
         PacketKind::Data => "data",
         PacketKind::Rfnm => "rfnm",
@@ -108,11 +108,11 @@ fn tell_packet(said: &mut String, packet: &Packet) -> Option<()> {
     let Flow { source, destination, link } = packet.flow();
     let last = if packet.is_last() { "last" } else { "more" };
     write!(said, "{name} {source} {destination} {} {} {} {last} ", link.0, packet.number(), packet.place()).ok()?;
-    spell_bits(said, packet.bits())
+    spell_bits(alloc, said, packet.bits())
 }
 
 /// A frame: its kind, the channels whose acknowledgement bits are one, and what it brings.
-fn tell_frame(said: &mut String, frame: &Frame) -> Option<()> {
+fn tell_frame(alloc: Global, said: &mut String, frame: &Frame) -> Option<()> {
     let name = match frame.content {
         Content::Packet(_) => "packet",
         Content::Nothing => "acknowledgements",
@@ -128,7 +128,7 @@ fn tell_frame(said: &mut String, frame: &Frame) -> Option<()> {
         Content::Nothing => Some(()),
         Content::Packet(carried) => {
             write!(said, " on {} under {} ", carried.channel(), u8::from(carried.bit())).ok()?;
-            tell_packet(said, carried.packet())
+            tell_packet(alloc, said, carried.packet())
         }
         Content::Routes(vector) => {
             for distance in vector.distances() {
@@ -182,16 +182,16 @@ fn tell_fault(said: &mut String, fault: ControlFault) -> Option<()> {
 
 /// A command that was read, and how it is written, which has to be as many octets as were read.
 fn tell_read(alloc: Global, said: &mut String, command: &Command, used: usize) -> Option<()> {
-    tell_fields(said, command)?;
+    tell_fields(alloc, said, command)?;
     let written = command.write(alloc).ok()?;
     said.push_str(" (").ok()?;
-    spell_octets(said, &written)?;
+    spell_octets(alloc, said, &written)?;
     said.push_str(")").ok()?;
     if used != written.len() { write!(said, " of {used} octets").ok() } else { Some(()) }
 }
 
 /// A command's name and fields.
-fn tell_fields(said: &mut String, command: &Command) -> Option<()> {
+fn tell_fields(alloc: Global, said: &mut String, command: &Command) -> Option<()> {
     match command {
         Command::Nop => said.push_str("NOP").ok(),
         Command::Rts { receive, send, link } => {
@@ -210,7 +210,7 @@ fn tell_fields(said: &mut String, command: &Command) -> Option<()> {
         Command::Erp { octet } => write!(said, "ERP {octet}").ok(),
         Command::Err { code, detail } => {
             write!(said, "ERR {code} ").ok()?;
-            spell_octets(said, detail)
+            spell_octets(alloc, said, detail)
         }
         Command::Rst => said.push_str("RST").ok(),
         Command::Rrp => said.push_str("RRP").ok(),
