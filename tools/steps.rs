@@ -110,13 +110,14 @@ fn of_world<C: Carrier>(alloc: Global, carrier: C, script: &str) -> Option<Seen>
     let mut sizes = sizes_of(world.book());
     let mut before = told(alloc, world.book())?;
     for event in events {
+        let is_asked = !matches!(event, Event::Quiet | Event::Take(_) | Event::Offer(_));
         let done = world.step(event);
         if done == Err(WorldFault::Carrier(CarrierFault::OutOfMemory)) || done == Err(WorldFault::Program(NcpFault::OutOfMemory)) {
             let same = told(alloc, world.book())?.as_str() == before.as_str();
             return Some(if !same { Seen::Changed } else if is_stopped(&mut world)? { Seen::Stopped } else { Seen::GoesOn });
         }
         let now = sizes_of(world.book());
-        if now != sizes {
+        if is_asked || now != sizes {
             sizes = now;
             before = told(alloc, world.book())?;
         }
@@ -138,7 +139,7 @@ fn add_round(events: &mut Vec<Event>) -> Option<()> {
     Some(())
 }
 
-/// How much stands in a book. Lives change only where something is told, or more is handed over.
+/// How much stands in a book. Where nothing is asked for, lives change only where something is told.
 fn sizes_of(book: &Book) -> [usize; 6] {
     let mut handed = 0;
     for bits in book.handed() {
