@@ -15,7 +15,7 @@ from concurrent.futures import ThreadPoolExecutor
 from unproved import ROOT, NotKept, build, keep, kept_for_sources
 
 # what it stands on: these, and the crates below them
-USES = "bit_messages hex icp imp_channel imp_node leader1822 ncp_control sockets subnet terminal"
+USES = "bit_messages hex icp imp_channel imp_node leader1822 ncp_control packetiser routing sockets subnet terminal"
 # an IMP without hosts and lines has nothing to tell
 EXAMPLE, WANTED = b"imp\nnew 1 0 0\nroute\n", b"ok\nok\n"
 CORES = os.cpu_count() or 1

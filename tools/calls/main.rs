@@ -1,12 +1,13 @@
 //! Makes the calls that standard input names, a line each, and prints what each answers.
 //!
-//! The first line says of what: `imp`, `subnet`, `hosts` or `services`; the module of each tells what the other lines are. The
+//! The first line says of what: `imp`, `subnet`, `hosts`, `services` or `readers`; the module of each tells what the other lines are. The
 //! checks of these names compare what is printed with an independent model of the rules. Octets are in upper case hexadecimal,
 //! `-` for none.
 #![tactic(auto)]
 
 mod host_calls;
 mod imp_calls;
+mod reader_calls;
 mod service_calls;
 mod subnet_calls;
 mod words;
@@ -36,6 +37,7 @@ fn made(alloc: Global, text: &str, said: &mut String) -> Option<()> {
     let (layer, lines) = text.split_once('\n')?;
     match layer {
         "imp" => imp_calls::made(alloc, lines, said),
+        "readers" => reader_calls::made(alloc, lines, said),
         "subnet" => subnet_calls::made(alloc, lines, said),
         "hosts" => host_calls::made(alloc, lines, said),
         "services" => service_calls::made(alloc, lines, said),

@@ -1,17 +1,24 @@
 """The program stops as it should when an allocation, a read or a write fails (two minutes; it needs a C compiler).
 
-Runs each short example of examples/ over and over: once for each allocation, each read and each write, which fails then.
+Runs inputs over and over: once for each allocation, each read and each write, which fails then, that one alone.
 
-A run with no failure has to print what the example's file .stdout says. A run whose allocation or write fails has to end
-with status 3 and a first part of that output, and a run whose read fails with status 1 and no output. Or the failure
-makes no difference. Reads and writes move one octet each, which by itself makes none. Examples of more than 1,000 octets
-are left out, since each of their octets would be a run.
+- A run with no failure has to print what the input's file .stdout says, whole reads and writes or short ones.
+- A run whose allocation fails has to end with status 3 and a prefix of that output.
+- A run whose read fails has to end with status 1 and no output.
+- A run whose write fails, or takes no octet, has to end with status 3 and a prefix of that output, and to write no more.
+- A read or a write that is interrupted makes no difference.
+
+Of the inputs of FIVE every read and write moves one octet, and so each octet is one at which a read and a write fail; then reads
+and writes are whole ones, as big as the program asks for. Of the other short examples reads and writes move 16 octets. Of the
+examples in LONG, whose output is longer than what the program gathers before it writes, reads and writes move 500 octets, and
+then are whole ones; not each of their allocations fails.
+
+No refused allocation may end with status 0, save those that EXCEPTIONS says.
 
 Then it runs the program on an input that never ends, and on one of two million octets, of which it may read 1,048,577; and
 with an output that takes nothing.
 
-It takes the proved program, or where ./build has not made that the one that was built without proofs, whose allocations can't be
-made to fail so. It wants a C compiler for tools/failing.c, which is loaded before the C
+It takes the proved program, or where ./build has not made that the one that was built without proofs. It wants a C compiler for tools/failing.c, which is loaded before the C
 library. Without a compiler it says that nothing was tried, and where the variable CI is set it fails.
 """
 
@@ -19,32 +26,121 @@ import os
 import shutil
 import subprocess
 import tempfile
+from collections import Counter
+from concurrent.futures import ThreadPoolExecutor
+from itertools import count
 
 from parts import ROOT, any_program
 
 STOPPED = (3, b"arpasim: stopped\n")
 CANNOT_READ = (1, b"arpasim: cannot read\n")
-LONGEST = 1000  # octets of an example
+# the first message; the routes of three IMPs; resets that cross, and one that fails; the dialogue from terminal to server; bits
+# sent within the allocation and asked back
+FIVE = (
+    "first-message", "three-imps-in-a-row", "resets-that-cross", "a-reset-that-fails-and-one-that-works",
+    "from-a-terminal-to-a-server", "sent-within-the-allocation-and-asked-back",
+)  # fmt: skip
+LONG = ("numbers-come-round-under-a-stream",)
+LONGEST = 1000  # octets of a short example
+CORES = os.cpu_count() or 1
+# Where options are given, two lists of words are gathered before the input is read: the words of the command line, and the same
+# for the library that reads options. Each time the library of lists asks for room for all items at once, and where that is
+# refused it goes on item by item (`grow_by_hint` of `Vec`, below `words_of` and `Options::read`).
+EXCEPTIONS = 2
+NO_READS = "after 0 reads"
 
 
-def run(program, example, extra):
-    """How a run of the example ends: its status and words, and its output."""
-    words = []
-    if os.path.isfile(f"{example}.args"):
-        with open(f"{example}.args", encoding="utf-8") as lines:
-            words = lines.read().split()
-    with open(example, "rb") as octets:
-        ran = subprocess.run([program, *words], stdin=octets, capture_output=True, env=extra, timeout=60)
-    return (ran.returncode, ran.stderr), ran.stdout
+class Way:
+    """What fails, and how reads and writes are made."""
+
+    def __init__(self, kind, at_most=0, how=None):
+        self.kind, self.how = kind, how
+        self.variables = {"AT_MOST": str(at_most)} if at_most else {}
+        if how:
+            self.variables[how] = "1"
+        size = {0: "whole", 1: "of one octet"}.get(at_most, f"of {at_most} octets")
+        self.name = kind if kind == "allocations" else f"{kind} {size}{f', {how.lower()}' if how else ''}"
+
+    def variable(self):
+        return {"allocations": "FAIL_ALLOCATION", "reads": "FAIL_READ", "writes": "FAIL_WRITE"}[self.kind]
 
 
-def is_right(kind, ended, output, whole):
-    """Whether a run may end so, where the whole run ends as `whole` does."""
-    if (ended, output) == whole:
+def streams(at_most):
+    """The ways in which reads and writes of at most so many octets fail."""
+    return [
+        Way("reads", at_most), Way("reads", at_most, "INTERRUPTED"),
+        Way("writes", at_most), Way("writes", at_most, "NOTHING"), Way("writes", at_most, "INTERRUPTED"),
+    ]  # fmt: skip
+
+
+def ways_of(name):
+    """What fails in turn of an example."""
+    if name in FIVE:
+        return [Way("allocations"), *streams(1), *streams(0)]
+    return [*streams(500), *streams(0)] if name in LONG else [Way("allocations"), *streams(16)]
+
+
+class Trial:
+    """The program on one example."""
+
+    def __init__(self, program, before, room, name):
+        self.program, self.before, self.room, self.name = program, before, room, name
+        self.path = f"{ROOT}/examples/{name}"
+        self.words = self.beside(".args").decode().split()
+        self.wrong, self.exceptions = [], []
+        self.whole = (int(self.beside(".status") or 0), self.beside(".stderr")), self.beside(".stdout")
+        if self.run({}) != self.whole:
+            self.wrong.append("without a failure it ends otherwise than it should")
+
+    def beside(self, ending):
+        """What stands in a file beside the input, if it is there."""
+        if not os.path.isfile(self.path + ending):
+            return b""
+        with open(self.path + ending, "rb") as file:
+            return file.read()
+
+    def run(self, variables):
+        """How a run ends: its status and words, and its output."""
+        with open(self.path, "rb") as octets:
+            ran = subprocess.run([self.program, *self.words], stdin=octets, capture_output=True, env=variables, timeout=120)
+        return (ran.returncode, ran.stderr), ran.stdout
+
+    def fail(self, way, number):
+        """Whether there is a call of that number, and what is wrong with how it fails."""
+        told = f"{self.room}/{self.name}-{way.variable()}-{number}"
+        variables = {"LD_PRELOAD": self.before, "TOLD": told, way.variable(): str(number), **way.variables}
+        ended, output = self.run(variables)
+        if not os.path.exists(told):
+            if (ended, output) != self.whole:
+                self.wrong.append(f"{way.name}: nothing failed, and it ended otherwise: {ended}")
+            return False
+        with open(told, encoding="utf-8") as lines:
+            first, *later = lines.read().splitlines()
+        os.remove(told)
+        if not self.is_right(way, ended, output, first, later):
+            self.wrong.append(f"{way.name}, {number}: {ended}, written again: {len(later)}, output: {output!r}")
         return True
-    if kind == "FAIL_READ":
-        return ended == CANNOT_READ and output == b""
-    return ended == STOPPED and whole[1].startswith(output)
+
+    def is_right(self, way, ended, output, first, later):
+        """Whether a run may end so."""
+        if way.how == "INTERRUPTED":
+            return (ended, output) == self.whole
+        if way.kind == "reads":
+            return ended == CANNOT_READ and output == b""
+        is_prefix = self.whole[1].startswith(output)
+        if way.kind == "writes":
+            return ended == STOPPED and is_prefix and not later
+        if (ended, output) == self.whole and first == NO_READS and self.words:
+            self.exceptions.append(first)
+            return len(self.exceptions) <= EXCEPTIONS
+        return ended == STOPPED and is_prefix
+
+    def all_of(self, way, threads):
+        """Has each call of a kind fail, and counts them."""
+        for start in count(1, 4 * CORES):
+            found = list(threads.map(lambda number: self.fail(way, number), range(start, start + 4 * CORES)))
+            if not all(found):
+                return start - 1 + found.index(False)
 
 
 def check_streams(program):
@@ -73,34 +169,22 @@ def main():
     if not compiler:
         print("check failures: NOT TRIED, for want of a C compiler")
         return 1 if os.environ.get("CI") else 0
-    wrong = 0
-    with tempfile.TemporaryDirectory() as room:
-        before, fired = f"{room}/failing.so", f"{room}/fired"
+    wrong, total, without = 0, Counter(), 0
+    names = sorted(it for it in os.listdir(f"{ROOT}/examples") if "." not in it)
+    names = [it for it in names if it in FIVE + LONG or os.path.getsize(f"{ROOT}/examples/{it}") <= LONGEST]
+    with tempfile.TemporaryDirectory() as room, ThreadPoolExecutor(CORES) as threads:
+        before = f"{room}/failing.so"
         subprocess.run([compiler, "-O1", "-shared", "-fPIC", "-o", before, f"{ROOT}/tools/failing.c", "-ldl"], check=True)
-        examples = sorted(f"{ROOT}/examples/{it}" for it in os.listdir(f"{ROOT}/examples") if "." not in it)
-        examples = [it for it in examples if os.path.getsize(it) <= LONGEST]
-        for example in examples:
-            whole = run(program, example, {})
-            with open(f"{example}.stdout", "rb") as octets:
-                if whole[1] != octets.read():
-                    wrong += 1
-                    print(f"{os.path.basename(example)}: without a failure it prints {whole[1]!r}")
-            said = []
-            for kind, how in (("FAIL_ALLOCATION", {}), ("FAIL_READ", {"SHORT": "1"}), ("FAIL_WRITE", {"SHORT": "1"})):
-                number = 0
-                while True:
-                    number += 1
-                    ended, output = run(program, example, {"LD_PRELOAD": before, "FIRED": fired, kind: str(number), **how})
-                    if not is_right(kind, ended, output, whole):
-                        wrong += 1
-                        print(f"{os.path.basename(example)}: {kind}={number}: {ended}, output: {output!r}")
-                    if not os.path.exists(fired):
-                        if (ended, output) != whole:
-                            wrong += 1
-                            print(f"{os.path.basename(example)}: {kind}: nothing failed, and it ended otherwise: {ended}")
-                        break
-                    os.remove(fired)
-                said.append(number - 1)
-            print(f"{os.path.basename(example)}: failed in turn {said[0]} allocations, {said[1]} reads, {said[2]} writes")
+        for name in names:
+            trial = Trial(program, before, room, name)
+            failed = [(trial.all_of(way, threads), way) for way in ways_of(name)]
+            for number, way in failed:
+                total[way.kind] += number
+            print(f"{name}: failed in turn {'; '.join(f'{number} {way.name}' for number, way in failed)}")
+            print(*sorted(trial.wrong), sep="\n", end="\n" if trial.wrong else "")
+            wrong += len(trial.wrong)
+            without += len(trial.exceptions)
+    print(f"check failures: {len(names)} inputs; failed in turn {', '.join(f'{number} {kind}' for kind, number in total.items())}")
+    print(f"check failures: {without} allocations refused while words were gathered, without which the program goes on; after no other status 0")
     wrong += check_streams(program)
     return 1 if wrong else 0

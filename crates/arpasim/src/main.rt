@@ -28,7 +28,12 @@ fn from_command_line<R: Env + Input + Print + AllocGlobal>(rt: &R) -> Result<(),
     let buffered = BufWriter::new(rt.alloc(), io::writer(rt));
     let mut writer = buffered.map_err(|_| ScriptFault::OutOfMemory)?;
     let outcome = run(rt.alloc(), &words, &mut reader, &mut writer);
-    let flushed = writer.flush();
+    let flushed = match outcome {
+        Err(ScriptFault::CannotWrite) => Ok(()),
+        _ => writer.flush(),
+    };
+    // what is still gathered where a write has failed is not written again
+    let _ = writer.into_parts();
     outcome?;
     flushed.map_err(|_| ScriptFault::CannotWrite)
 }

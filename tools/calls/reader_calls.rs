@@ -1,0 +1,218 @@
+//! Reads the octets that standard input names, a line each, and prints what each reader gives.
+//!
+//! A line is a reader and octets: `from_host` or `from_imp` (a leader), `packet`, `frame`, `command`, or `commands` (a whole
+//! control text); or `header` or `body`, a number of bits, and their octets. Printed is what was read, and behind ` = ` how that
+//! is written again; or the fault. Behind a command its octets stand in brackets. The commands of a control text are printed one
+//! after the other, up to its end or to the fault that ends reading.
+//! `check readers` compares all this with an independent reader of the formats.
+
+use crate::words::{Words, spell_bits, spell_octets};
+use imp_channel::{Content, Frame};
+use leader1822::{Answer, Flow, Leader, LeaderFault};
+use ncp_control::{Command, ControlFault, DataHeader, read_one};
+use packetiser::{Packet, PacketKind};
+use std::alloc::Global;
+
+/// What is printed for the octets on each line.
+pub fn made(alloc: Global, lines: &str, said: &mut String) -> Option<()> {
+    for line in lines.lines() {
+        let mut words = Words { rest: line };
+        let reader = words.word()?;
+        tell_reading(alloc, reader, words, said)?;
+        said.push_str("\n").ok()?;
+    }
+    Some(())
+}
+
+/// What a reader gives.
+fn tell_reading(alloc: Global, reader: &str, mut words: Words<'_>, said: &mut String) -> Option<()> {
+    match reader {
+        "from_host" => tell_leader(alloc, said, Leader::read_from_host(&words.octets(alloc)?)),
+        "from_imp" => tell_leader(alloc, said, Leader::read_from_imp(&words.octets(alloc)?)),
+        "packet" => {
+            let octets = words.octets(alloc)?;
+            match Packet::read(alloc, &octets) {
+                Ok(packet) => {
+                    tell_packet(alloc, said, &packet)?;
+                    tell_written(alloc, said, &packet.write(alloc).ok()?)
+                }
+                Err(fault) => write!(said, "{fault:?}").ok(),
+            }
+        }
+        "frame" => {
+            let octets = words.octets(alloc)?;
+            match Frame::read(alloc, &octets) {
+                Ok(frame) => {
+                    tell_frame(alloc, said, &frame)?;
+                    tell_written(alloc, said, &frame.write(alloc).ok()?)
+                }
+                Err(fault) => write!(said, "{fault:?}").ok(),
+            }
+        }
+        "command" => tell_command(alloc, said, &words.octets(alloc)?),
+        "commands" => tell_commands(alloc, said, &words.octets(alloc)?),
+        "header" => match DataHeader::read(&words.bits(alloc)?) {
+            Some(header) => {
+                write!(said, "{} {} = ", header.count, header.size).ok()?;
+                spell_bits(alloc, said, &header.write(alloc).ok()?)
+            }
+            None => said.push_str("malformed").ok(),
+        },
+        "body" => match words.bits(alloc)?.strip(alloc) {
+            Ok(text) => {
+                spell_bits(alloc, said, &text)?;
+                said.push_str(" = ").ok()?;
+                spell_bits(alloc, said, &text.pad16(alloc).ok()?)
+            }
+            Err(fault) => write!(said, "{fault:?}").ok(),
+        },
+        _ => None,
+    }
+}
+
+/// How something is written again.
+fn tell_written(alloc: Global, said: &mut String, octets: &[u8]) -> Option<()> {
+    said.push_str(" = ").ok()?;
+    spell_octets(alloc, said, octets)
+}
+
+/// A leader.
+fn tell_leader(alloc: Global, said: &mut String, read: Result<Leader, LeaderFault>) -> Option<()> {
+    let leader = match read {
+        Ok(leader) => leader,
+        Err(LeaderFault::UnknownType(kind)) => return write!(said, "UnknownType {kind}").ok(),
+        Err(fault) => return write!(said, "{fault:?}").ok(),
+    };
+    match leader {
+        Leader::Nop => said.push_str("nop").ok()?,
+        Leader::Regular { address, link } => write!(said, "regular {address} {}", link.0).ok()?,
+        Leader::Answer { kind, address, link } => {
+            let name = match kind {
+                Answer::Rfnm => "rfnm",
+                Answer::Incomplete => "incomplete",
+                Answer::Dead => "dead",
+            };
+            write!(said, "{name} {address} {}", link.0).ok()?
+        }
+    }
+    tell_written(alloc, said, &leader.write())
+}
+
+/// A packet: its kind, flow, number and place, whether it is the last, and its bits.
+fn tell_packet(alloc: Global, said: &mut String, packet: &Packet) -> Option<()> {
+    let name = match packet.kind() {
+        PacketKind::Data => "data",
+        PacketKind::Rfnm => "rfnm",
+        PacketKind::Dead => "dead",
+    };
+    let Flow { source, destination, link } = packet.flow();
+    let last = if packet.is_last() { "last" } else { "more" };
+    write!(said, "{name} {source} {destination} {} {} {} {last} ", link.0, packet.number(), packet.place()).ok()?;
+    spell_bits(alloc, said, packet.bits())
+}
+
+/// A frame: its kind, the channels whose acknowledgement bits are one, and what it brings.
+fn tell_frame(alloc: Global, said: &mut String, frame: &Frame) -> Option<()> {
+    let name = match frame.content {
+        Content::Packet(_) => "packet",
+        Content::Nothing => "acknowledgements",
+        Content::Routes(_) => "routes",
+    };
+    write!(said, "{name} ").ok()?;
+    for (channel, bit) in frame.acks.iter().enumerate() {
+        if *bit {
+            write!(said, "{channel}").ok()?;
+        }
+    }
+    match &frame.content {
+        Content::Nothing => Some(()),
+        Content::Packet(carried) => {
+            write!(said, " on {} under {} ", carried.channel(), u8::from(carried.bit())).ok()?;
+            tell_packet(alloc, said, carried.packet())
+        }
+        Content::Routes(vector) => {
+            for distance in vector.distances() {
+                write!(said, " {distance}").ok()?;
+            }
+            Some(())
+        }
+    }
+}
+
+/// The command that octets begin with.
+fn tell_command(alloc: Global, said: &mut String, octets: &[u8]) -> Option<()> {
+    match read_one(octets) {
+        Ok((command, used)) => tell_read(alloc, said, &command, used),
+        Err(fault) => tell_fault(said, fault),
+    }
+}
+
+/// The commands of a control text. After an erroneous one reading goes on behind it.
+fn tell_commands(alloc: Global, said: &mut String, octets: &[u8]) -> Option<()> {
+    let mut rest = octets;
+    while !rest.is_empty() {
+        let used = match read_one(rest) {
+            Ok((command, used)) => {
+                tell_read(alloc, said, &command, used)?;
+                used
+            }
+            Err(fault) => {
+                tell_fault(said, fault)?;
+                let ControlFault::Erroneous { quoted } = fault else {
+                    return Some(());
+                };
+                quoted
+            }
+        };
+        said.push_str(", ").ok()?;
+        rest = rest.get(used..)?;
+    }
+    said.push_str("end").ok()
+}
+
+/// Why octets begin with no command.
+fn tell_fault(said: &mut String, fault: ControlFault) -> Option<()> {
+    match fault {
+        ControlFault::IllegalCode { quoted } => write!(said, "IllegalCode {quoted}").ok(),
+        ControlFault::Short { quoted } => write!(said, "Short {quoted}").ok(),
+        ControlFault::Erroneous { quoted } => write!(said, "Erroneous {quoted}").ok(),
+        ControlFault::OutOfMemory => None,
+    }
+}
+
+/// A command that was read, and how it is written, which has to be as many octets as were read.
+fn tell_read(alloc: Global, said: &mut String, command: &Command, used: usize) -> Option<()> {
+    tell_fields(alloc, said, command)?;
+    let written = command.write(alloc).ok()?;
+    said.push_str(" (").ok()?;
+    spell_octets(alloc, said, &written)?;
+    said.push_str(")").ok()?;
+    if used != written.len() { write!(said, " of {used} octets").ok() } else { Some(()) }
+}
+
+/// A command's name and fields.
+fn tell_fields(alloc: Global, said: &mut String, command: &Command) -> Option<()> {
+    match command {
+        Command::Nop => said.push_str("NOP").ok(),
+        Command::Rts { receive, send, link } => {
+            write!(said, "RTS {} {} {}", receive.number(), send.number(), link.number()).ok()
+        }
+        Command::Str { send, receive, size } => {
+            write!(said, "STR {} {} {}", send.number(), receive.number(), size.bits()).ok()
+        }
+        Command::Cls { own, foreign } => write!(said, "CLS {own} {foreign}").ok(),
+        Command::All { link, messages, bits } => write!(said, "ALL {link} {messages} {bits}").ok(),
+        Command::Gvb { link, messages, bits } => write!(said, "GVB {link} {messages} {bits}").ok(),
+        Command::Ret { link, messages, bits } => write!(said, "RET {link} {messages} {bits}").ok(),
+        Command::Inr { link } => write!(said, "INR {link}").ok(),
+        Command::Ins { link } => write!(said, "INS {link}").ok(),
+        Command::Eco { octet } => write!(said, "ECO {octet}").ok(),
+        Command::Erp { octet } => write!(said, "ERP {octet}").ok(),
+        Command::Err { code, detail } => {
+            write!(said, "ERR {code} ").ok()?;
+            spell_octets(alloc, said, detail)
+        }
+        Command::Rst => said.push_str("RST").ok(),
+        Command::Rrp => said.push_str("RRP").ok(),
+    }
+}
