@@ -1,5 +1,5 @@
 #!/usr/bin/env python3
-"""Runs an input by the independent model of the rules alone, without the program: tools/model.py [--book] [--check] < FILE
+"""Runs an input by the independent model of the rules alone, without the program: tools/model.py [--book] [--check] [--texts] < FILE
 
 With --cases FOLDER it runs each file of a folder, with the options of NAME.args, and compares what it prints with
 NAME.stdout. Of TOML it reads the plain spelling that the examples have, one key a line.

@@ -7,6 +7,7 @@ import re
 from collections import Counter
 
 from box_rules import Boxes
+from imp_rules import octets as octets_of
 from subnet_rules import Subnet
 from world_rules import World
 
@@ -160,7 +161,7 @@ def read_world_line(line, runs):
 
 def expected(options, network, lines, runs=EVERYTHING):
     """How the program ends on a network and the lines of a script: its status, its output and its words."""
-    if any(word not in ("--book", "--check") or options.count(word) > 1 for word in options):
+    if any(word not in ("--book", "--check", "--texts") or options.count(word) > 1 for word in options):
         return 1, "", "arpasim: bad arguments\n"
     if not network_is_good(network, runs):
         return 1, "", "arpasim: bad topology\n"
@@ -175,5 +176,20 @@ def expected(options, network, lines, runs=EVERYTHING):
     place = opened(network)
     for event in filter(None, events):
         place.happen(*event)
+    printed = with_texts(place.printed, (place if network[1] else place.carrier).log) if "--texts" in options else place.printed
     lives = place.end_of_book() if "--book" in options and not network[1] else []
-    return 0, "\n".join([*place.printed, *lives, "end\n"]), ""
+    return 0, "\n".join([*printed, *lives, "end\n"]), ""
+
+
+def with_texts(printed, crossings):
+    """Printed lines, and behind each message its text. The crossings are those of all of them, in order."""
+    crossings = iter(crossings)
+    for line in printed:
+        kind = line.split(" ")[0]
+        crossing = next(crossings) if kind in ("out", "in", "answer", "down", "up") else None
+        yield f"{line} {spelled_text(crossing[2])}" if kind in ("out", "in") else line
+
+
+def spelled_text(bits):
+    """The octets of a text in a script: upper case hexadecimal, the last octet filled with zero bits, and a hyphen for no bits."""
+    return octets_of(bits).hex().upper() or "-"

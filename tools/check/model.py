@@ -153,7 +153,7 @@ def changed(chance, line):
 
 def some_input(chance):
     """Options, a network, and the lines of a script."""
-    words = chance.choice([[]] * 12 + [["--book"], ["--check"], ["--check", "--book"], ["--book", "--book"], ["-"]])
+    words = chance.choice([[]] * 12 + [["--book"], ["--check"], ["--check", "--book"], ["--book", "--book"], ["-"], ["--texts"], ["--texts"], ["--texts", "--check"], ["--texts", "--texts"]])
     network = some_network(chance)
     lines = some_script(chance, network)
     if lines and chance.random() < 0.4:
@@ -174,7 +174,7 @@ def some_world_input(seed, runs):
         place = chance.randrange(len(lines))
         others = ["out 0/1 0/2 5 0 -", "listen 0/1 16 256", "grant 0/1 16 65536 0", "send 0/1 33 8 F", "server 0/1 7 100", "type 0/1"]
         lines[place] = changed(chance, lines[place]) if chance.random() < 0.6 else chance.choice(others)
-    return chance.choice([[], ["--book"], ["--book"]]), network, lines
+    return chance.choice([[], ["--book"], ["--texts", "--book"]]), network, lines
 
 
 # ---- the program

@@ -7,6 +7,7 @@ use Rattle.net_sim.specs.declared.life.Life.{Life}
 use Rattle.replay.specs.Output.{Shown, output}
 use Rattle.replay.specs.Replay.{Calls}
 use Rattle.replay.specs.Settled.{AreSettled}
+use Rattle.replay.specs.declared.print.Detail.{Detail}
 use Rattle.topology.specs.Topology.{TopologyFields}
 use Rattle.topology.specs.declared.network.CarrierKind.{CarrierKind}
 use Rattle.topology.specs.declared.network.CarrierKind.TheVariants as kind
@@ -36,26 +37,26 @@ world_once {C} calls settled opening events lives others shows more h k =
     let one : (h.last ≡ k.last) × (shows ≡ more) = worlds.one_replay (hosting calls) settled (opening_world (shown (hosting calls)) opening) h.last k.last events shows more h.replayed k.replayed in
     (h.left ∙ ap (λ (w : WorldState C). w.kept.book.lives) one.0 ∙ sym k.left, one.1)
 
-from_once : {C : Type 0} (calls : Calls C) → AreSettled calls → (opening : C) (book : Bool) (events : Asked) (before after other : List ℕ) → ReplaysFrom calls opening book events (Some before) (Some after)
-    → ReplaysFrom calls opening book events (Some before) (Some other) → after ≡ other
-from_once calls settled opening book (Raw events) before after other h k =
-    h.written ∙ ap (λ shown. before ++ (output shown ++ codes "end\n")) (raw_once calls settled opening events h.shown k.shown h.shows k.shows) ∙ sym k.written
-from_once calls settled opening book (World events) before after other h k =
+from_once : {C : Type 0} (calls : Calls C) → AreSettled calls → (opening : C) (book : Bool) (detail : Detail) (events : Asked) (before after other : List ℕ) → ReplaysFrom calls opening book detail events (Some before) (Some after)
+    → ReplaysFrom calls opening book detail events (Some before) (Some other) → after ≡ other
+from_once calls settled opening book detail (Raw events) before after other h k =
+    h.written ∙ ap (λ shown. before ++ (output detail shown ++ codes "end\n")) (raw_once calls settled opening events h.shown k.shown h.shows k.shows) ∙ sym k.written
+from_once calls settled opening book detail (World events) before after other h k =
     let one : (h.lives ≡ k.lives) × (h.shown ≡ k.shown) = world_once calls settled opening events h.lives k.lives h.shown k.shown h.shows k.shows in
-    h.written ∙ ap (λ shows. before ++ (lines.output shows ++ (book_text book h.lives ++ codes "end\n"))) one.1 ∙ ap (λ lives. before ++ (lines.output k.shown ++ (book_text book lives ++ codes "end\n"))) one.0 ∙ sym k.written
+    h.written ∙ ap (λ shows. before ++ (lines.output detail shows ++ (book_text book h.lives ++ codes "end\n"))) one.1 ∙ ap (λ lives. before ++ (lines.output detail k.shown ++ (book_text book lives ++ codes "end\n"))) one.0 ∙ sym k.written
 
-over_once : (carrier : CarrierKind) (network : TopologyFields) (book : Bool) (events : Asked) (before after other : List ℕ) → ReplaysOver carrier network book events (Some before) (Some after) → ReplaysOver carrier network book events (Some before) (Some other)
+over_once : (carrier : CarrierKind) (network : TopologyFields) (book : Bool) (detail : Detail) (events : Asked) (before after other : List ℕ) → ReplaysOver carrier network book detail events (Some before) (Some after) → ReplaysOver carrier network book detail events (Some before) (Some other)
     → after ≡ other
-over_once kind.Plain network book events before after other h k = from_once plain_calls plain_settled (plain_of network) book events before after other h k
-over_once kind.Subnet network book events before after other h k = from_once subnet_calls subnet_settled (subnet_of network) book events before after other h k
+over_once kind.Plain network book detail events before after other h k = from_once plain_calls plain_settled (plain_of network) book detail events before after other h k
+over_once kind.Subnet network book detail events before after other h k = from_once subnet_calls subnet_settled (subnet_of network) book detail events before after other h k
 
-pub one_output : (book : Bool) (input before after other : List ℕ) → ReplaysInput book input (Some before) (Some after) → ReplaysInput book input (Some before) (Some other) → after ≡ other
-one_output book input before after other h k =
+pub one_output : (book : Bool) (detail : Detail) (input before after other : List ℕ) → ReplaysInput book detail input (Some before) (Some after) → ReplaysInput book detail input (Some before) (Some other) → after ≡ other
+one_output book detail input before after other h k =
     let same : OneInput h.network k.network h.events k.events = input_once input h.network k.network h.events k.events h.input k.input in
-    let moved : ReplaysOn k.network book k.events (Some before) (Some after) =
-    subst (λ (network : TopologyFields). ReplaysOn network book k.events (Some before) (Some after)) same.same_network
-    (subst (λ (events : Asked). ReplaysOn h.network book events (Some before) (Some after)) same.same_events h.replayed) in
-    over_once k.network.carrier k.network book k.events before after other moved k.replayed
+    let moved : ReplaysOn k.network book detail k.events (Some before) (Some after) =
+    subst (λ (network : TopologyFields). ReplaysOn network book detail k.events (Some before) (Some after)) same.same_network
+    (subst (λ (events : Asked). ReplaysOn h.network book detail events (Some before) (Some after)) same.same_events h.replayed) in
+    over_once k.network.carrier k.network book detail k.events before after other moved k.replayed
 
 -- ---- the first part of a replay
 
@@ -73,26 +74,26 @@ begins before part whole first rest behind is all = (
   all ∙ ap (λ xs. before ++ xs) (append_assoc first rest behind) ∙ sym (append_assoc before first (rest ++ behind)) ∙ ap (λ xs. xs ++ (rest ++ behind)) (sym is),
 )
 
-from_front : {C : Type 0} (calls : Calls C) → AreSettled calls → (opening : C) (book : Bool) (events : Asked) (before part whole : List ℕ) → EndsFrom calls opening events (Some before) (Some part)
-    → ReplaysFrom calls opening book events (Some before) (Some whole) → (rest : List ℕ) × (whole ≡ part ++ rest)
-from_front calls settled opening book (Raw events) before part whole h k =
+from_front : {C : Type 0} (calls : Calls C) → AreSettled calls → (opening : C) (book : Bool) (detail : Detail) (events : Asked) (before part whole : List ℕ) → EndsFrom calls opening detail events (Some before) (Some part)
+    → ReplaysFrom calls opening book detail events (Some before) (Some whole) → (rest : List ℕ) × (whole ≡ part ++ rest)
+from_front calls settled opening book detail (Raw events) before part whole h k =
     let starts : StartsWith k.shown h.shown = raw_front calls settled opening events h.shown k.shown h.is_shown k.shows in
-    let lines : output k.shown ≡ output h.shown ++ output starts.rest = ap output starts.parts ∙ output-append h.shown starts.rest in
-    begins before part whole (output h.shown) (output starts.rest) (codes "end\n") h.written (k.written ∙ ap (λ xs. before ++ (xs ++ codes "end\n")) lines)
-from_front calls settled opening book (World events) before part whole h k =
+    let lines : output detail k.shown ≡ output detail h.shown ++ output detail starts.rest = ap (output detail) starts.parts ∙ output-append detail h.shown starts.rest in
+    begins before part whole (output detail h.shown) (output detail starts.rest) (codes "end\n") h.written (k.written ∙ ap (λ xs. before ++ (xs ++ codes "end\n")) lines)
+from_front calls settled opening book detail (World events) before part whole h k =
     let starts : (rest : List lines.Shown) × (k.shown ≡ h.shown ++ rest) = world_front calls settled opening events h.shown k.lives k.shown h.is_shown k.shows in
-    let all : lines.output k.shown ≡ lines.output h.shown ++ lines.output starts.0 = ap lines.output starts.1 ∙ lines_of.output-append h.shown starts.0 in
-    begins before part whole (lines.output h.shown) (lines.output starts.0) (book_text book k.lives ++ codes "end\n") h.written (k.written ∙ ap (λ xs. before ++ (xs ++ (book_text book k.lives ++ codes "end\n"))) all)
+    let all : lines.output detail k.shown ≡ lines.output detail h.shown ++ lines.output detail starts.0 = ap (lines.output detail) starts.1 ∙ lines_of.output-append detail h.shown starts.0 in
+    begins before part whole (lines.output detail h.shown) (lines.output detail starts.0) (book_text book k.lives ++ codes "end\n") h.written (k.written ∙ ap (λ xs. before ++ (xs ++ (book_text book k.lives ++ codes "end\n"))) all)
 
-over_front : (carrier : CarrierKind) (network : TopologyFields) (book : Bool) (events : Asked) (before part whole : List ℕ) → EndsOver carrier network events (Some before) (Some part) → ReplaysOver carrier network book events (Some before) (Some whole)
+over_front : (carrier : CarrierKind) (network : TopologyFields) (book : Bool) (detail : Detail) (events : Asked) (before part whole : List ℕ) → EndsOver carrier network detail events (Some before) (Some part) → ReplaysOver carrier network book detail events (Some before) (Some whole)
     → (rest : List ℕ) × (whole ≡ part ++ rest)
-over_front kind.Plain network book events before part whole h k = from_front plain_calls plain_settled (plain_of network) book events before part whole h k
-over_front kind.Subnet network book events before part whole h k = from_front subnet_calls subnet_settled (subnet_of network) book events before part whole h k
+over_front kind.Plain network book detail events before part whole h k = from_front plain_calls plain_settled (plain_of network) book detail events before part whole h k
+over_front kind.Subnet network book detail events before part whole h k = from_front subnet_calls subnet_settled (subnet_of network) book detail events before part whole h k
 
-pub first_part : (book : Bool) (input before part whole : List ℕ) → StopsInput input (Some before) (Some part) → ReplaysInput book input (Some before) (Some whole) → (rest : List ℕ) × (whole ≡ part ++ rest)
-first_part book input before part whole h k =
+pub first_part : (book : Bool) (detail : Detail) (input before part whole : List ℕ) → StopsInput detail input (Some before) (Some part) → ReplaysInput book detail input (Some before) (Some whole) → (rest : List ℕ) × (whole ≡ part ++ rest)
+first_part book detail input before part whole h k =
     let same : OneInput h.network k.network h.events k.events = input_once input h.network k.network h.events k.events h.input k.input in
-    let moved : EndsOn k.network k.events (Some before) (Some part) =
-    subst (λ (network : TopologyFields). EndsOn network k.events (Some before) (Some part)) same.same_network
-    (subst (λ (events : Asked). EndsOn h.network events (Some before) (Some part)) same.same_events h.stopped) in
-    over_front k.network.carrier k.network book k.events before part whole moved k.replayed
+    let moved : EndsOn k.network detail k.events (Some before) (Some part) =
+    subst (λ (network : TopologyFields). EndsOn network detail k.events (Some before) (Some part)) same.same_network
+    (subst (λ (events : Asked). EndsOn h.network detail events (Some before) (Some part)) same.same_events h.stopped) in
+    over_front k.network.carrier k.network book detail k.events before part whole moved k.replayed

@@ -1,6 +1,8 @@
 -- The options of the command line.
-use Rattle.std.specs.Prelude.{◌≡◌, ℕ, true, false, not, ◌&&◌, List, [], ◌∷◌, Option, Some, None, Result, Ok, Err, codes, if◌then◌else◌, option_and_then}
+use Rattle.std.specs.Prelude.{◌≡◌, ℕ, Bool, true, false, not, ◌&&◌, List, [], ◌∷◌, Option, Some, None, Result, Ok, Err, codes, if◌then◌else◌, option_and_then}
 use Rattle.std.specs.Str.{bytes_eq}
+use Rattle.replay.specs.declared.print.Detail.{Detail}
+use Rattle.replay.specs.declared.print.Detail.TheVariants.{Sizes, Texts}
 use Rattle.command_line.specs.declared.options.Options.{Options}
 use Rattle.command_line.specs.declared.options.OptionsFault.{OptionsFault}
 use Rattle.command_line.specs.declared.options.OptionsFault.TheVariants as fault
@@ -10,7 +12,8 @@ abbrev pub with_word : List ℕ → Options → Option Options
 with_word word options =
     if bytes_eq word (codes "--book") && not options.book then Some (record options { book = true })
     else (if bytes_eq word (codes "--check") && not options.check then Some (record options { check = true })
-    else None)
+    else (if bytes_eq word (codes "--texts") && not options.texts then Some (record options { texts = true })
+    else None))
 
 -- what further words ask for, after words that gave these options
 abbrev pub options_after : Options → List (List ℕ) → Option Options
@@ -19,7 +22,12 @@ options_after options (word ∷ words) = option_and_then (λ more. options_after
 
 -- the options that words ask for; none where a word is no option or an option stands twice
 abbrev pub options_of : List (List ℕ) → Option Options
-options_of words = options_after (record { book = false; check = false }) words
+options_of words = options_after (record { book = false; check = false; texts = false }) words
+
+-- how much is printed of a message, where its text is asked for and where it isn't
+abbrev pub detail_of : Bool → Detail
+detail_of true = Texts
+detail_of false = Sizes
 
 -- the options that the words ask for are given, or it is told that they ask for none; memory may run out at any words
 abbrev pub Asked : Option Options → Result Options OptionsFault → Type 0

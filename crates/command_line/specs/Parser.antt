@@ -11,4 +11,4 @@ abbrev pub bare : App → App
 bare app = record app { top = record app.top { no_binary_name = true; disable_help_flag = true; disable_version_flag = true } }
 
 abbrev pub command_line : App
-command_line = with_rule (with_rule (bare (new_app (codes "arpasim"))) (flag (codes "book"))) (flag (codes "check"))
+command_line = with_rule (with_rule (with_rule (bare (new_app (codes "arpasim"))) (flag (codes "book"))) (flag (codes "check"))) (flag (codes "texts"))

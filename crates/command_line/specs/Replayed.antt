@@ -8,6 +8,7 @@ use Rattle.net_sim.specs.World as world
 use Rattle.net_sim.specs.declared.life.Life.{Life}
 use Rattle.replay.specs.Output.{Shown, Writes, crossings_of, output}
 use Rattle.replay.specs.Replay.{Calls, EndsIn, Replays, StopsIn}
+use Rattle.replay.specs.declared.print.Detail.{Detail}
 use Rattle.script.specs.declared.event.RawEvent.{RawEvent}
 use Rattle.topology.specs.Topology.{TopologyFields}
 use Rattle.topology.specs.declared.network.CarrierKind.{CarrierKind}
@@ -38,10 +39,10 @@ pub record StopsFrom {C : Type 0} (calls : Calls C) (opening : C) (events : List
   pub messages : SafeMessages (calls.seen last).log
 
 -- what all events show is written, and a last line `end`
-pub record WritesAll (AreShown : List Shown → Type 0) (before after : Option (List ℕ)) : Type 0 where
+pub record WritesAll (detail : Detail) (AreShown : List Shown → Type 0) (before after : Option (List ℕ)) : Type 0 where
   pub shown : List Shown
   pub shows : AreShown shown
-  pub written : Appends before after (output shown ++ codes "end\n")
+  pub written : Appends before after (output detail shown ++ codes "end\n")
 
 -- ---- a network whose hosts have programs
 
@@ -65,63 +66,63 @@ book_text true lives = lives_output lives
 book_text false lives = []
 
 -- what all events show is written, then the lives where the book is asked for, and a last line `end`
-pub record WritesWorld (book : Bool) (AreShown : List Life → List lines.Shown → Type 0) (before after : Option (List ℕ)) : Type 0 where
+pub record WritesWorld (book : Bool) (detail : Detail) (AreShown : List Life → List lines.Shown → Type 0) (before after : Option (List ℕ)) : Type 0 where
   pub shown : List lines.Shown
   pub lives : List Life
   pub shows : AreShown lives shown
-  pub written : Appends before after (lines.output shown ++ (book_text book lives ++ codes "end\n"))
+  pub written : Appends before after (lines.output detail shown ++ (book_text book lives ++ codes "end\n"))
 
 -- ---- any network
 
 -- events are replayed over a carrier with such calls, without host programs or with them
-abbrev pub ReplaysFrom : {C : Type 0} → Calls C → C → Bool → Asked → Option (List ℕ) → Option (List ℕ) → Type 0
-ReplaysFrom calls opening book (Raw events) before after = WritesAll (ShowsFrom calls opening events) before after
-ReplaysFrom calls opening book (World events) before after = WritesWorld book (WorldShowsFrom (hosting calls) opening events) before after
+abbrev pub ReplaysFrom : {C : Type 0} → Calls C → C → Bool → Detail → Asked → Option (List ℕ) → Option (List ℕ) → Type 0
+ReplaysFrom calls opening book detail (Raw events) before after = WritesAll detail (ShowsFrom calls opening events) before after
+ReplaysFrom calls opening book detail (World events) before after = WritesWorld book detail (WorldShowsFrom (hosting calls) opening events) before after
 
-abbrev pub EndsFrom : {C : Type 0} → Calls C → C → Asked → Option (List ℕ) → Option (List ℕ) → Type 0
-EndsFrom calls opening (Raw events) before after = Writes (StopsFrom calls opening events) before after
-EndsFrom calls opening (World events) before after = lines.Writes (WorldStopsFrom (hosting calls) opening events) before after
+abbrev pub EndsFrom : {C : Type 0} → Calls C → C → Detail → Asked → Option (List ℕ) → Option (List ℕ) → Type 0
+EndsFrom calls opening detail (Raw events) before after = Writes detail (StopsFrom calls opening events) before after
+EndsFrom calls opening detail (World events) before after = lines.Writes detail (WorldStopsFrom (hosting calls) opening events) before after
 
 -- over the carrier that a topology names: plain mailboxes between its hosts, or the subnet of its IMPs and lines
-abbrev pub ReplaysOver : CarrierKind → TopologyFields → Bool → Asked → Option (List ℕ) → Option (List ℕ) → Type 0
-ReplaysOver kind.Plain t book events before after = ReplaysFrom plain_calls (plain_of t) book events before after
-ReplaysOver kind.Subnet t book events before after = ReplaysFrom subnet_calls (subnet_of t) book events before after
+abbrev pub ReplaysOver : CarrierKind → TopologyFields → Bool → Detail → Asked → Option (List ℕ) → Option (List ℕ) → Type 0
+ReplaysOver kind.Plain t book detail events before after = ReplaysFrom plain_calls (plain_of t) book detail events before after
+ReplaysOver kind.Subnet t book detail events before after = ReplaysFrom subnet_calls (subnet_of t) book detail events before after
 
-abbrev pub EndsOver : CarrierKind → TopologyFields → Asked → Option (List ℕ) → Option (List ℕ) → Type 0
-EndsOver kind.Plain t events before after = EndsFrom plain_calls (plain_of t) events before after
-EndsOver kind.Subnet t events before after = EndsFrom subnet_calls (subnet_of t) events before after
+abbrev pub EndsOver : CarrierKind → TopologyFields → Detail → Asked → Option (List ℕ) → Option (List ℕ) → Type 0
+EndsOver kind.Plain t detail events before after = EndsFrom plain_calls (plain_of t) detail events before after
+EndsOver kind.Subnet t detail events before after = EndsFrom subnet_calls (subnet_of t) detail events before after
 
-abbrev pub ReplaysOn : TopologyFields → Bool → Asked → Option (List ℕ) → Option (List ℕ) → Type 0
-ReplaysOn t book events before after = ReplaysOver t.carrier t book events before after
+abbrev pub ReplaysOn : TopologyFields → Bool → Detail → Asked → Option (List ℕ) → Option (List ℕ) → Type 0
+ReplaysOn t book detail events before after = ReplaysOver t.carrier t book detail events before after
 
-abbrev pub EndsOn : TopologyFields → Asked → Option (List ℕ) → Option (List ℕ) → Type 0
-EndsOn t events before after = EndsOver t.carrier t events before after
+abbrev pub EndsOn : TopologyFields → Detail → Asked → Option (List ℕ) → Option (List ℕ) → Type 0
+EndsOn t detail events before after = EndsOver t.carrier t detail events before after
 
 -- the script of an input is replayed over the carrier of its topology
-pub record ReplaysInput (book : Bool) (octets : List ℕ) (before after : Option (List ℕ)) : Type 0 where
+pub record ReplaysInput (book : Bool) (detail : Detail) (octets : List ℕ) (before after : Option (List ℕ)) : Type 0 where
   pub network : TopologyFields
   pub events : Asked
   pub input : IsInput octets network events
-  pub replayed : ReplaysOn network book events before after
+  pub replayed : ReplaysOn network book detail events before after
 
 -- memory ran out while it was replayed: what was shown by then is written, and nothing else
-pub record StopsInput (octets : List ℕ) (before after : Option (List ℕ)) : Type 0 where
+pub record StopsInput (detail : Detail) (octets : List ℕ) (before after : Option (List ℕ)) : Type 0 where
   pub network : TopologyFields
   pub events : Asked
   pub input : IsInput octets network events
-  pub stopped : EndsOn network events before after
+  pub stopped : EndsOn network detail events before after
 
 -- ---- for any reader: what crossed is a log that every host may rely on
 
 -- the output of a whole replay: its lines, lives or none, and a last line `end`
-pub record Ran (before after : Option (List ℕ)) : Type 0 where
+pub record Ran (detail : Detail) (before after : Option (List ℕ)) : Type 0 where
   pub shown : List lines.Shown
   pub lives : List Life
-  pub written : Appends before after (lines.output shown ++ (lives_output lives ++ codes "end\n"))
+  pub written : Appends before after (lines.output detail shown ++ (lives_output lives ++ codes "end\n"))
   pub messages : SafeMessages (reverse (lines.crossings_of shown))
 
 -- the output of a replay that ran out of memory: lines without an end
-pub record RanInPart (before after : Option (List ℕ)) : Type 0 where
+pub record RanInPart (detail : Detail) (before after : Option (List ℕ)) : Type 0 where
   pub shown : List lines.Shown
-  pub written : Appends before after (lines.output shown)
+  pub written : Appends before after (lines.output detail shown)
   pub messages : SafeMessages (reverse (lines.crossings_of shown))

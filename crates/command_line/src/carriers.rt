@@ -14,6 +14,7 @@ use crate::input::Events;
 use headline::book_of;
 use leader1822::{Carrier, PlainBoxes};
 use net_sim::World;
+use replay::Detail;
 use script::RawEvent;
 use std::alloc::{AllocError, Global};
 use std::io::Write;
@@ -23,7 +24,8 @@ use world_replay::print_lives;
 use world_script::WorldEvent;
 
 /// Replays events over the carrier that a topology names, plain mailboxes or a subnet. It writes what they
-/// show, the lives of connections where the book is asked for, and a last line `end`.
+/// show, the lives of connections where the book is asked for, and a last line `end`. Of a message it writes as
+/// much as `detail` says.
 ///
 /// Errors: `CannotWrite`; `OutOfMemory`, after which what the first of the events show is written.
 pub(crate) fn replay_on<W: Write>(
@@ -31,20 +33,28 @@ pub(crate) fn replay_on<W: Write>(
     network: &Topology,
     events: Events,
     book: bool,
+    detail: Detail,
     writer: &mut W,
 ) -> Result<(), ScriptFault>
-    ensures replayed { OnOk result (ReplaysOn network.now book (asked_of events) (W.contents writer.old) (W.contents writer.new)) }
-    ensures stopped { result ≡ Err ScriptFault.OutOfMemory → Keeps (W.contents writer.old) (W.contents writer.new) ⊎ EndsOn network.now (asked_of events) (W.contents writer.old) (W.contents writer.new) }
+    ensures replayed { OnOk result (ReplaysOn network.now book detail (asked_of events) (W.contents writer.old) (W.contents writer.new)) }
+    ensures stopped { result ≡ Err ScriptFault.OutOfMemory → Keeps (W.contents writer.old) (W.contents writer.new) ⊎ EndsOn network.now detail (asked_of events) (W.contents writer.old) (W.contents writer.new) }
     ensures fault { IfErr result IsReplayFault }
 {
     match network.carrier() {
         CarrierKind::Plain => {
             let hosts = network.hosts(alloc)?;
-            replay_over(alloc, PlainBoxes::new(alloc, hosts), events, book, writer)
+            replay_over(
+                alloc,
+                PlainBoxes::new(alloc, hosts),
+                events,
+                book,
+                detail,
+                writer,
+            )
         }
         CarrierKind::Subnet => {
             let subnet = subnet_of(alloc, network)?;
-            replay_over(alloc, subnet, events, book, writer)
+            replay_over(alloc, subnet, events, book, detail, writer)
         }
     }
 }
@@ -57,16 +67,17 @@ fn replay_over<C: Carrier, W: Write>(
     carrier: C,
     events: Events,
     book: bool,
+    detail: Detail,
     writer: &mut W,
 ) -> Result<(), ScriptFault>
     requires { (C.seen carrier).log ≡ [] }
-    ensures replayed { OnOk result (ReplaysFrom (record { seen = C.seen; offers = C.offers; takes = C.takes; steps = C.steps; rounds = C.rounds }) carrier book (asked_of events) (W.contents writer.old) (W.contents writer.new)) }
-    ensures stopped { result ≡ Err ScriptFault.OutOfMemory → Keeps (W.contents writer.old) (W.contents writer.new) ⊎ EndsFrom (record { seen = C.seen; offers = C.offers; takes = C.takes; steps = C.steps; rounds = C.rounds }) carrier (asked_of events) (W.contents writer.old) (W.contents writer.new) }
+    ensures replayed { OnOk result (ReplaysFrom (record { seen = C.seen; offers = C.offers; takes = C.takes; steps = C.steps; rounds = C.rounds }) carrier book detail (asked_of events) (W.contents writer.old) (W.contents writer.new)) }
+    ensures stopped { result ≡ Err ScriptFault.OutOfMemory → Keeps (W.contents writer.old) (W.contents writer.new) ⊎ EndsFrom (record { seen = C.seen; offers = C.offers; takes = C.takes; steps = C.steps; rounds = C.rounds }) carrier detail (asked_of events) (W.contents writer.old) (W.contents writer.new) }
     ensures fault { IfErr result IsReplayFault }
 {
     match events {
-        Events::Raw(events) => replay_raw(carrier, &events, writer),
-        Events::World(events) => replay_world(alloc, carrier, events, book, writer),
+        Events::Raw(events) => replay_raw(carrier, &events, detail, writer),
+        Events::World(events) => replay_world(alloc, carrier, events, book, detail, writer),
     }
 }
 
@@ -76,14 +87,15 @@ fn replay_over<C: Carrier, W: Write>(
 fn replay_raw<C: Carrier, W: Write>(
     mut carrier: C,
     events: &[RawEvent],
+    detail: Detail,
     writer: &mut W,
 ) -> Result<(), ScriptFault>
     requires { (C.seen carrier).log ≡ [] }
-    ensures replayed { OnOk result (WritesAll (ShowsFrom (record { seen = C.seen; offers = C.offers; takes = C.takes; steps = C.steps; rounds = C.rounds }) carrier events.now) (W.contents writer.old) (W.contents writer.new)) }
-    ensures stopped { result ≡ Err ScriptFault.OutOfMemory → Writes (StopsFrom (record { seen = C.seen; offers = C.offers; takes = C.takes; steps = C.steps; rounds = C.rounds }) carrier events.now) (W.contents writer.old) (W.contents writer.new) }
+    ensures replayed { OnOk result (WritesAll detail (ShowsFrom (record { seen = C.seen; offers = C.offers; takes = C.takes; steps = C.steps; rounds = C.rounds }) carrier events.now) (W.contents writer.old) (W.contents writer.new)) }
+    ensures stopped { result ≡ Err ScriptFault.OutOfMemory → Writes detail (StopsFrom (record { seen = C.seen; offers = C.offers; takes = C.takes; steps = C.steps; rounds = C.rounds }) carrier events.now) (W.contents writer.old) (W.contents writer.new) }
     ensures fault { IfErr result IsReplayFault }
 {
-    match replay::replay_events(&mut carrier, events, writer) {
+    match replay::replay_events(&mut carrier, events, detail, writer) {
         Ok(()) => write_last(writer, b"end\n"),
         Err(fault) => Err(ScriptFault::from(fault)),
     }
@@ -98,15 +110,16 @@ fn replay_world<C: Carrier, W: Write>(
     carrier: C,
     events: Vec<WorldEvent>,
     book: bool,
+    detail: Detail,
     writer: &mut W,
 ) -> Result<(), ScriptFault>
     requires { (C.seen carrier).log ≡ [] }
-    ensures replayed { OnOk result (WritesWorld book (WorldShowsFrom (hosting (record { seen = C.seen; offers = C.offers; takes = C.takes; steps = C.steps; rounds = C.rounds })) carrier events.items) (W.contents writer.old) (W.contents writer.new)) }
-    ensures stopped { result ≡ Err ScriptFault.OutOfMemory → Keeps (W.contents writer.old) (W.contents writer.new) ⊎ lines.Writes (WorldStopsFrom (hosting (record { seen = C.seen; offers = C.offers; takes = C.takes; steps = C.steps; rounds = C.rounds })) carrier events.items) (W.contents writer.old) (W.contents writer.new) }
+    ensures replayed { OnOk result (WritesWorld book detail (WorldShowsFrom (hosting (record { seen = C.seen; offers = C.offers; takes = C.takes; steps = C.steps; rounds = C.rounds })) carrier events.items) (W.contents writer.old) (W.contents writer.new)) }
+    ensures stopped { result ≡ Err ScriptFault.OutOfMemory → Keeps (W.contents writer.old) (W.contents writer.new) ⊎ lines.Writes detail (WorldStopsFrom (hosting (record { seen = C.seen; offers = C.offers; takes = C.takes; steps = C.steps; rounds = C.rounds })) carrier events.items) (W.contents writer.old) (W.contents writer.new) }
     ensures fault { IfErr result IsReplayFault }
 {
     let mut world = World::new(alloc, carrier)?;
-    match world_replay::replay_events(&mut world, events, writer) {
+    match world_replay::replay_events(&mut world, events, detail, writer) {
         Ok(()) => write_book(&world, book, writer),
         Err(fault) => Err(ScriptFault::from(fault)),
     }

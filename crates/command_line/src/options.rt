@@ -4,11 +4,12 @@ ghost use Rattle.std.specs.Prelude.{◌≡◌, codes, map, IfOk, string_bytes};
 ghost use Rattle.std.specs.List.{list_any};
 ghost use Rattle.std.specs.Str.{bytes_eq};
 ghost use Rattle.clap.specs.Words.{app_of};
-ghost use Rattle.command_line.specs.Options.{Asked, options_of};
+ghost use Rattle.command_line.specs.Options.{Asked, detail_of, options_of};
 ghost use Rattle.command_line.specs.Parser.{command_line};
 
 use clap::error::ErrorKind;
 use clap::{Arg, ArgAction, Command};
+use replay::Detail;
 use std::alloc::{AllocError, Global};
 use thiserror::Error;
 
@@ -19,6 +20,8 @@ pub struct Options {
     pub book: bool,
     /// Whether the input is only read.
     pub check: bool,
+    /// Whether the texts of messages are printed behind their bits.
+    pub texts: bool,
 }
 
 /// Why words are no options.
@@ -43,7 +46,7 @@ impl From<AllocError> for OptionsFault {
 }
 
 impl Options {
-    /// The options that the words behind the program's name ask for: `--book` and `--check`, in any
+    /// The options that the words behind the program's name ask for: `--book`, `--check` and `--texts`, in any
     /// order, each at most once.
     ///
     /// Errors: `BadOptions` for anything else. `OutOfMemory` may come for any words, since the parser of words
@@ -66,9 +69,21 @@ impl Options {
             Ok(matches) => Ok(Options {
                 book: matches.get_flag("book"),
                 check: matches.get_flag("check"),
+                texts: matches.get_flag("texts"),
             }),
             Err(error) if error.kind() == ErrorKind::OutOfMemory => Err(OptionsFault::OutOfMemory),
             Err(_) => Err(OptionsFault::BadOptions),
+        }
+    }
+
+    /// How much is printed of a message.
+    pub fn detail(&self) -> Detail
+        ensures { result ≡ detail_of self.now.texts }
+    {
+        if self.texts {
+            Detail::Texts
+        } else {
+            Detail::Sizes
         }
     }
 }
@@ -80,7 +95,7 @@ fn has_double_hyphen(words: &[&str]) -> bool
     words.contains(&"--")
 }
 
-/// The command line as the parser of words knows it: two options, no help and no version.
+/// The command line as the parser of words knows it: three options, no help and no version.
 fn command<'a>(alloc: Global) -> Result<Command<'a>, AllocError>
     ensures { IfOk result (λ command. app_of command ≡ command_line) }
 {
@@ -90,10 +105,14 @@ fn command<'a>(alloc: Global) -> Result<Command<'a>, AllocError>
     let check = Arg::new(alloc, "check")
         .long("check")
         .action(ArgAction::SetTrue);
+    let texts = Arg::new(alloc, "texts")
+        .long("texts")
+        .action(ArgAction::SetTrue);
     Command::new(alloc, "arpasim")
         .no_binary_name(true)
         .disable_help_flag(true)
         .disable_version_flag(true)
         .arg(book)?
-        .arg(check)
+        .arg(check)?
+        .arg(texts)
 }

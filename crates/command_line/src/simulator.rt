@@ -3,20 +3,21 @@
 ghost use Rattle.std.specs.Prelude.{◌≡◌, ◌≢◌, ◌⊎◌, None, Err, true, false, codes, map, string_bytes, IfSome, IfErr, MatchResult, OnOk};
 ghost use Rattle.std.specs.Io.KnownBytes.{Appends, Keeps};
 ghost use Rattle.command_line.specs.Input.{IsInputFault, IsSomeInput};
-ghost use Rattle.command_line.specs.Options.{options_of};
+ghost use Rattle.command_line.specs.Options.{detail_of, options_of};
 ghost use Rattle.command_line.specs.Replayed.{Ran, RanInPart, ReplaysInput, StopsInput};
 
 use crate::carriers::{replay_on, write_last};
 use crate::fault::ScriptFault;
 use crate::input::{Input, read_input, read_octets};
 use crate::options::{Options, OptionsFault};
+use replay::Detail;
 use std::alloc::Global;
 use std::io::{Read, Write};
 
 /// Runs the simulator on the words behind its name, from a reader to a writer.
 ///
-/// Errors: `BadOptions` for words other than `--book` and `--check`, each at most once, with nothing read and
-/// nothing written; else as [`run_script`]. `OutOfMemory` may come for any words, since the parser of words
+/// Errors: `BadOptions` for words other than `--book`, `--check` and `--texts`, each at most once, with nothing read
+/// and nothing written; else as [`run_script`]. `OutOfMemory` may come for any words, since the parser of words
 /// is built in memory.
 pub fn run<R: Read, W: Write>(
     alloc: Global,
@@ -34,10 +35,10 @@ pub fn run<R: Read, W: Write>(
     ensures checked { IfSome (options_of (map string_bytes words.now)) (λ options. options.check ≡ true → OnOk result (Appends (W.contents writer.old) (W.contents writer.new) (codes "ok\n"))) }
 
     // without it what crosses at the hosts is a log that every host may rely on
-    ensures ran { IfSome (options_of (map string_bytes words.now)) (λ options. options.check ≡ false → OnOk result (Ran (W.contents writer.old) (W.contents writer.new))) }
+    ensures ran { IfSome (options_of (map string_bytes words.now)) (λ options. options.check ≡ false → OnOk result (Ran (detail_of options.texts) (W.contents writer.old) (W.contents writer.new))) }
 
     // and the script that was read is replayed over the carrier of the topology that was read
-    ensures replayed { IfSome (options_of (map string_bytes words.now)) (λ options. options.check ≡ false → OnOk result (IfSome (R.remaining reader.old) (λ octets. ReplaysInput options.book octets (W.contents writer.old) (W.contents writer.new)))) }
+    ensures replayed { IfSome (options_of (map string_bytes words.now)) (λ options. options.check ≡ false → OnOk result (IfSome (R.remaining reader.old) (λ octets. ReplaysInput options.book (detail_of options.texts) octets (W.contents writer.old) (W.contents writer.new)))) }
 
     // what is read is an input, or the first fault is given
     ensures read { IfSome (options_of (map string_bytes words.now)) (λ options. IfSome (R.remaining reader.old) (λ octets. MatchResult result (λ _. IsSomeInput octets) (IsInputFault octets))) }
@@ -46,11 +47,18 @@ pub fn run<R: Read, W: Write>(
     ensures untouched { IfErr result (λ f. f ≢ ScriptFault.CannotWrite → f ≢ ScriptFault.OutOfMemory → writer.new ≡ writer.old) }
 
     // after memory has run out the output is a prefix of what the replay would write
-    ensures ran_in_part { result ≡ Err ScriptFault.OutOfMemory → RanInPart (W.contents writer.old) (W.contents writer.new) }
-    ensures first_part { result ≡ Err ScriptFault.OutOfMemory → IfSome (R.remaining reader.old) (λ octets. Keeps (W.contents writer.old) (W.contents writer.new) ⊎ StopsInput octets (W.contents writer.old) (W.contents writer.new)) }
+    ensures ran_in_part { result ≡ Err ScriptFault.OutOfMemory → IfSome (options_of (map string_bytes words.now)) (λ options. RanInPart (detail_of options.texts) (W.contents writer.old) (W.contents writer.new)) }
+    ensures first_part { result ≡ Err ScriptFault.OutOfMemory → IfSome (options_of (map string_bytes words.now)) (λ options. IfSome (R.remaining reader.old) (λ octets. Keeps (W.contents writer.old) (W.contents writer.new) ⊎ StopsInput (detail_of options.texts) octets (W.contents writer.old) (W.contents writer.new))) }
 {
     match Options::read(alloc, words) {
-        Ok(options) => run_script(alloc, reader, writer, options.book, options.check),
+        Ok(options) => run_script(
+            alloc,
+            reader,
+            writer,
+            options.book,
+            options.check,
+            options.detail(),
+        ),
         Err(OptionsFault::BadOptions) => Err(ScriptFault::BadOptions),
         Err(OptionsFault::OutOfMemory) => Err(ScriptFault::OutOfMemory),
     }
@@ -59,7 +67,7 @@ pub fn run<R: Read, W: Write>(
 /// Reads a topology, the marker line `%` and a script, and replays the script: it writes one line for each
 /// crossing, each thing that a host's user is told and each refusal, and a last line `end`. With `check` it only
 /// reads, and writes `ok`. With `book` the lives of connections stand before `end`; without host programs there
-/// are none.
+/// are none. Of a message it writes as much as `detail` says.
 ///
 /// Errors, in this order:
 /// - `CannotRead`: a read failed.
@@ -75,15 +83,16 @@ pub fn run_script<R: Read, W: Write>(
     writer: &mut W,
     book: bool,
     check: bool,
+    detail: Detail,
 ) -> Result<(), ScriptFault>
     // with `check` the input is only read
     ensures checked { check ≡ true → OnOk result (Appends (W.contents writer.old) (W.contents writer.new) (codes "ok\n")) }
 
     // without it what crosses at the hosts is a log that every host may rely on
-    ensures ran { check ≡ false → OnOk result (Ran (W.contents writer.old) (W.contents writer.new)) }
+    ensures ran { check ≡ false → OnOk result (Ran detail (W.contents writer.old) (W.contents writer.new)) }
 
     // and the script that was read is replayed over the carrier of the topology that was read
-    ensures replayed { check ≡ false → OnOk result (IfSome (R.remaining reader.old) (λ octets. ReplaysInput book octets (W.contents writer.old) (W.contents writer.new))) }
+    ensures replayed { check ≡ false → OnOk result (IfSome (R.remaining reader.old) (λ octets. ReplaysInput book detail octets (W.contents writer.old) (W.contents writer.new))) }
     ensures options { IfErr result (λ f. f ≢ ScriptFault.BadOptions) }
 
     // what is read is an input, or the first fault is given
@@ -93,8 +102,8 @@ pub fn run_script<R: Read, W: Write>(
     ensures untouched { IfErr result (λ f. f ≢ ScriptFault.CannotWrite → f ≢ ScriptFault.OutOfMemory → writer.new ≡ writer.old) }
 
     // after memory has run out the output is a prefix of what the replay would write
-    ensures ran_in_part { result ≡ Err ScriptFault.OutOfMemory → RanInPart (W.contents writer.old) (W.contents writer.new) }
-    ensures first_part { result ≡ Err ScriptFault.OutOfMemory → IfSome (R.remaining reader.old) (λ octets. Keeps (W.contents writer.old) (W.contents writer.new) ⊎ StopsInput octets (W.contents writer.old) (W.contents writer.new)) }
+    ensures ran_in_part { result ≡ Err ScriptFault.OutOfMemory → RanInPart detail (W.contents writer.old) (W.contents writer.new) }
+    ensures first_part { result ≡ Err ScriptFault.OutOfMemory → IfSome (R.remaining reader.old) (λ octets. Keeps (W.contents writer.old) (W.contents writer.new) ⊎ StopsInput detail octets (W.contents writer.old) (W.contents writer.new)) }
 
     // with `check` nothing is written when memory runs out
     ensures check_memory { check ≡ true → result ≡ Err ScriptFault.OutOfMemory → writer.new ≡ writer.old }
@@ -104,6 +113,6 @@ pub fn run_script<R: Read, W: Write>(
     if check {
         write_last(writer, b"ok\n")
     } else {
-        replay_on(alloc, &network, events, book, writer)
+        replay_on(alloc, &network, events, book, detail, writer)
     }
 }

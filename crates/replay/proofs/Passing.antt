@@ -13,6 +13,7 @@ use Rattle.replay.specs.Replay.{AllTake, Calls, GoesOn, Halts, Onward, Round, Ro
 use Rattle.replay.specs.Steps.{EventEnds, Grew, PrintEnds}
 use Rattle.replay.specs.declared.events.ReplayFault.{ReplayFault}
 use Rattle.replay.specs.declared.events.ReplayFault.TheVariants as fault
+use Rattle.replay.specs.declared.print.Detail.{Detail}
 use Rattle.script.specs.declared.event.RawEvent.TheVariants as event
 use Rattle.replay.proofs.Shown.{appends_more, appends_none, gained, output-append, shown_crossings-append}
 
@@ -94,15 +95,15 @@ all_turned calls first now i le before =
 -- ---- rounds
 
 -- so many rounds have passed, and what crossed in them is printed
-pub record Passed {C : Type 0} (calls : Calls C) (first : C) (times i : ℕ) (now : C) (before after : Option (List ℕ)) : Type 0 where
+pub record Passed {C : Type 0} (calls : Calls C) (detail : Detail) (first : C) (times i : ℕ) (now : C) (before after : Option (List ℕ)) : Type 0 where
   pub few : i ≤ times
   pub goes : (left : ℕ) (r : Result (Unit {0}) CarrierFault) (new : C) → Rounds calls left now r new → Rounds calls (i + left) first r new
   pub crossings : List Crossing
   pub grown : (calls.seen now).log ≡ reverse crossings ++ (calls.seen first).log
-  pub written : Appends before after (output (shown_crossings crossings))
+  pub written : Appends before after (output detail (shown_crossings crossings))
 
-pub none_passed : {C : Type 0} (calls : Calls C) (first : C) (times : ℕ) (a : Option (List ℕ)) → Passed calls first times 0 first a a
-none_passed calls first times a = record { few = omega arith; goes = λ left r new h. let same : left ≡ 0 + left = omega arith in subst (λ n. Rounds calls n first r new) same h; crossings = []; grown = refl; written = appends_none a }
+pub none_passed : {C : Type 0} (calls : Calls C) (detail : Detail) (first : C) (times : ℕ) (a : Option (List ℕ)) → Passed calls detail first times 0 first a a
+none_passed calls detail first times a = record { few = omega arith; goes = λ left r new h. let same : left ≡ 0 + left = omega arith in subst (λ n. Rounds calls n first r new) same h; crossings = []; grown = refl; written = appends_none a }
 
 is_done : (r : Result (Unit {0}) CarrierFault) → IfErr r (λ f. Halts (Err f)) → GoesOn r → r ≡ Ok tt
 is_done (Ok done) told goes = refl
@@ -112,20 +113,20 @@ is_done (Err f) told goes = absurd (false≢true (sym goes ∙ told))
 pub grown_more : (old mid new cs ds : List Crossing) → mid ≡ reverse cs ++ old → new ≡ reverse ds ++ mid → new ≡ reverse (cs ++ ds) ++ old
 grown_more old mid new cs ds h k = k ∙ ap (λ log. reverse ds ++ log) h ∙ sym (append_assoc (reverse ds) (reverse cs) old) ∙ ap (λ log. log ++ old) (sym (reverse-append cs ds))
 
-written_more : (a b c : Option (List ℕ)) (cs ds : List Crossing) → Appends a b (output (shown_crossings cs)) → Appends b c (output (shown_crossings ds)) → Appends a c (output (shown_crossings (cs ++ ds)))
-written_more a b c cs ds h k =
-    subst (Appends a c) (sym (ap output (shown_crossings-append cs ds) ∙ output-append (shown_crossings cs) (shown_crossings ds)))
-    (appends_more a b c (output (shown_crossings cs)) (output (shown_crossings ds)) h k)
+written_more : (detail : Detail) (a b c : Option (List ℕ)) (cs ds : List Crossing) → Appends a b (output detail (shown_crossings cs)) → Appends b c (output detail (shown_crossings ds)) → Appends a c (output detail (shown_crossings (cs ++ ds)))
+written_more detail a b c cs ds h k =
+    subst (Appends a c) (sym (ap (output detail) (shown_crossings-append cs ds) ∙ output-append detail (shown_crossings cs) (shown_crossings ds)))
+    (appends_more a b c (output detail (shown_crossings cs)) (output detail (shown_crossings ds)) h k)
 
 -- one round more
-pub one_passed : {C : Type 0} (calls : Calls C) (first now next : C) (times i : ℕ) (outcome : Result (Unit {0}) CarrierFault) (old_log new_log : List Crossing) (a b c : Option (List ℕ))
-    → i < times → Passed calls first times i now a b → Round calls now outcome next → Grew (calls.seen now) (calls.seen next) → IfErr outcome (λ f. Halts (Err f))
-    → old_log ≡ reverse (calls.seen now).log → new_log ≡ reverse (calls.seen next).log → PrintEnds (drop (length old_log) new_log) outcome (Ok tt) b c → Passed calls first times (i + 1) next a c
-one_passed {C} calls first now next times i outcome old_log new_log a b c lt before round grew told was is printed =
+pub one_passed : {C : Type 0} (calls : Calls C) (detail : Detail) (first now next : C) (times i : ℕ) (outcome : Result (Unit {0}) CarrierFault) (old_log new_log : List Crossing) (a b c : Option (List ℕ))
+    → i < times → Passed calls detail first times i now a b → Round calls now outcome next → Grew (calls.seen now) (calls.seen next) → IfErr outcome (λ f. Halts (Err f))
+    → old_log ≡ reverse (calls.seen now).log → new_log ≡ reverse (calls.seen next).log → PrintEnds detail (drop (length old_log) new_log) outcome (Ok tt) b c → Passed calls detail first times (i + 1) next a c
+one_passed {C} calls detail first now next times i outcome old_log new_log a b c lt before round grew told was is printed =
     let done : outcome ≡ Ok tt = is_done outcome told printed.0 in
     let crossings : List Crossing = drop (length old_log) new_log in
-    let plain : output (shown_crossings crossings ++ shown_refusal outcome) ≡ output (shown_crossings crossings) =
-    ap (λ r. output (shown_crossings crossings ++ shown_refusal r)) done ∙ ap output (append-nil (shown_crossings crossings)) in
+    let plain : output detail (shown_crossings crossings ++ shown_refusal outcome) ≡ output detail (shown_crossings crossings) =
+    ap (λ r. output detail (shown_crossings crossings ++ shown_refusal r)) done ∙ ap (output detail) (append-nil (shown_crossings crossings)) in
     record {
       few = omega (arith, lt);
       goes = λ left r new h.
@@ -134,12 +135,12 @@ one_passed {C} calls first now next times i outcome old_log new_log a b c lt bef
           (before.goes (suc left) r new (Ok tt, next, subst (λ o. Round calls now o next) done round, h));
       crossings = before.crossings ++ crossings;
       grown = grown_more (calls.seen first).log (calls.seen now).log (calls.seen next).log before.crossings crossings before.grown (gained (calls.seen now) (calls.seen next) old_log new_log grew was is);
-      written = written_more a b c before.crossings crossings before.written (subst (Appends b c) plain printed.1);
+      written = written_more detail a b c before.crossings crossings before.written (subst (Appends b c) plain printed.1);
     }
 
 -- all rounds have passed
-pub all_passed : {C : Type 0} (calls : Calls C) (first now : C) (times i : ℕ) (a b : Option (List ℕ)) → times ≤ i → Passed calls first times i now a b → EventEnds calls first (event.Calm times) (Ok tt) now a b
-all_passed calls first now times i a b le before =
+pub all_passed : {C : Type 0} (calls : Calls C) (detail : Detail) (first now : C) (times i : ℕ) (a b : Option (List ℕ)) → times ≤ i → Passed calls detail first times i now a b → EventEnds calls detail first (event.Calm times) (Ok tt) now a b
+all_passed calls detail first now times i a b le before =
     let few = before.few in
     let all : i + 0 ≡ times = omega (arith, le, few) in
     record {
@@ -152,7 +153,7 @@ all_passed calls first now times i a b le before =
         grown = before.grown;
         lines = refl;
       };
-      written = subst (λ shown. Appends a b (output shown)) (sym (append-nil (shown_crossings before.crossings))) before.written;
+      written = subst (λ shown. Appends a b (output detail shown)) (sym (append-nil (shown_crossings before.crossings))) before.written;
     }
 
 ends_here : {C : Type 0} (calls : Calls C) (r : Result (Unit {0}) CarrierFault) (new : C) → Onward (Rounds calls 0) r new r new
@@ -164,10 +165,10 @@ no_more calls left (Ok done) new halts = absurd halts
 no_more calls left (Err f) new halts = (refl, refl)
 
 -- a calm ends within its rounds
-pub passed_ends : {C : Type 0} (calls : Calls C) (first now next : C) (times i : ℕ) (outcome : Result (Unit {0}) CarrierFault) (e : ReplayFault) (old_log new_log : List Crossing) (a b c : Option (List ℕ))
-    → i < times → Passed calls first times i now a b → Round calls now outcome next → Grew (calls.seen now) (calls.seen next)
-    → old_log ≡ reverse (calls.seen now).log → new_log ≡ reverse (calls.seen next).log → PrintEnds (drop (length old_log) new_log) outcome (Err e) b c → EventEnds calls first (event.Calm times) (Err e) next a c
-passed_ends calls first now next times i outcome fault.OutOfMemory old_log new_log a b c lt before round grew was is printed =
+pub passed_ends : {C : Type 0} (calls : Calls C) (detail : Detail) (first now next : C) (times i : ℕ) (outcome : Result (Unit {0}) CarrierFault) (e : ReplayFault) (old_log new_log : List Crossing) (a b c : Option (List ℕ))
+    → i < times → Passed calls detail first times i now a b → Round calls now outcome next → Grew (calls.seen now) (calls.seen next)
+    → old_log ≡ reverse (calls.seen now).log → new_log ≡ reverse (calls.seen next).log → PrintEnds detail (drop (length old_log) new_log) outcome (Err e) b c → EventEnds calls detail first (event.Calm times) (Err e) next a c
+passed_ends calls detail first now next times i outcome fault.OutOfMemory old_log new_log a b c lt before round grew was is printed =
     let crossings : List Crossing = drop (length old_log) new_log in
     let all : i + suc (times - (i + 1)) ≡ times = omega (arith, lt) in
     record {
@@ -179,9 +180,9 @@ passed_ends calls first now next times i outcome fault.OutOfMemory old_log new_l
         lines = refl;
         no_lines = λ one. absurd one;
       };
-      written = written_more a b c before.crossings crossings before.written printed.1;
+      written = written_more detail a b c before.crossings crossings before.written printed.1;
     }
-passed_ends calls first now next times i outcome fault.CannotWrite old_log new_log a b c lt before round grew was is printed = (
+passed_ends calls detail first now next times i outcome fault.CannotWrite old_log new_log a b c lt before round grew was is printed = (
   [],
   record {
     processed = event.Calm (i + 1);

@@ -5,7 +5,6 @@ use Rattle.std.proofs.lemmas.Bool.{false≢true}
 use Rattle.std.proofs.lemmas.Grind.{flat_map-append}
 use Rattle.std.specs.Io.KnownBytes.{Appends}
 use Rattle.leader1822.specs.Host.{Host}
-use Rattle.leader1822.specs.Printed.{crossing_text}
 use Rattle.leader1822.specs.Calls.{Seen, halted, is_memory, crossing_of, step_crossings, ShowsRefusal, ShowsCrossings, ShowsOffer, ShowsRound, ShowsStep, ShowsTake}
 use Rattle.leader1822.specs.declared.carrier.CarrierFault.{CarrierFault}
 use Rattle.leader1822.specs.declared.crossing.Crossing.{Crossing}
@@ -14,11 +13,12 @@ use Rattle.leader1822.specs.declared.crossing.Inbound.{Inbound}
 use Rattle.leader1822.specs.declared.event.NetEvent.{NetEvent}
 use Rattle.leader1822.specs.declared.message.HostMessage.{HostMessage}
 use Rattle.script.specs.Input.{ended_line}
-use Rattle.replay.specs.Output.{Shown, Writes, Crossed, Refused, shown_text, output, crossings_of, shown_crossings, shown_refusal}
+use Rattle.replay.specs.Output.{Shown, Writes, Crossed, Refused, crossing_line, shown_text, output, crossings_of, shown_crossings, shown_refusal}
 use Rattle.replay.specs.Steps.{EventEnds, Grew, PrintEnds}
 use Rattle.replay.specs.Replay.{BeginsWith, Calls, EventGives, GoesOn, Halts, Happens, outcome_of}
 use Rattle.replay.specs.declared.events.ReplayFault.{ReplayFault}
 use Rattle.replay.specs.declared.events.ReplayFault.TheVariants as fault
+use Rattle.replay.specs.declared.print.Detail.{Detail}
 use Rattle.script.specs.declared.event.RawEvent.{RawEvent}
 
 same_seen : (b : Bool) (s : Seen) → Grew s (if b then halted s else s)
@@ -79,20 +79,22 @@ pub appends_none : (a : Option (List ℕ)) → Appends a a []
 appends_none None = tt
 appends_none (Some a) = sym (append-nil a)
 
-pub output-append : (xs ys : List Shown) → output (xs ++ ys) ≡ output xs ++ output ys
-output-append xs ys = flat_map-append (λ s. ended_line (shown_text s)) xs ys
+pub output-append : (detail : Detail) (xs ys : List Shown) → output detail (xs ++ ys) ≡ output detail xs ++ output detail ys
+output-append detail xs ys = flat_map-append (λ s. ended_line (shown_text detail s)) xs ys
 
 pub shown_crossings-append : (xs ys : List Crossing) → shown_crossings (xs ++ ys) ≡ shown_crossings xs ++ shown_crossings ys
 shown_crossings-append [] ys = refl
 shown_crossings-append (x ∷ xs) ys = ap (λ zs. Crossed x ∷ zs) (shown_crossings-append xs ys)
 
 -- one more crossing is written
-pub crossing_written : (a b c : Option (List ℕ)) (crossings : List Crossing) (i : ℕ) (d : Crossing) → i < length crossings → Appends a b (output (shown_crossings (take i crossings))) → Appends b c (ended_line (crossing_text (get_or crossings i d))) → Appends a c (output (shown_crossings (take (i + 1) crossings)))
-crossing_written a b c crossings i d h before now =
-    let all : output (shown_crossings (take (i + 1) crossings)) ≡ output (shown_crossings (take i crossings)) ++ ended_line (crossing_text (get_or crossings i d)) =
-    ap (λ cs. output (shown_crossings cs)) (take_more crossings i d h) ∙ ap output (shown_crossings-append (take i crossings) (get_or crossings i d ∷ [])) ∙ output-append (shown_crossings (take i crossings)) (Crossed (get_or crossings i d) ∷ [])
-    ∙ ap (λ xs. output (shown_crossings (take i crossings)) ++ xs) (append-nil (ended_line (crossing_text (get_or crossings i d)))) in
-    subst (Appends a c) (sym all) (appends_more a b c (output (shown_crossings (take i crossings))) (ended_line (crossing_text (get_or crossings i d))) before now)
+pub crossing_written : (detail : Detail) (a b c : Option (List ℕ)) (crossings : List Crossing) (i : ℕ) (d : Crossing) → i < length crossings → Appends a b (output detail (shown_crossings (take i crossings)))
+    → Appends b c (ended_line (crossing_line detail (get_or crossings i d))) → Appends a c (output detail (shown_crossings (take (i + 1) crossings)))
+crossing_written detail a b c crossings i d h before now =
+    let line : List ℕ = ended_line (crossing_line detail (get_or crossings i d)) in
+    let all : output detail (shown_crossings (take (i + 1) crossings)) ≡ output detail (shown_crossings (take i crossings)) ++ line =
+    ap (λ cs. output detail (shown_crossings cs)) (take_more crossings i d h) ∙ ap (output detail) (shown_crossings-append (take i crossings) (get_or crossings i d ∷ []))
+    ∙ output-append detail (shown_crossings (take i crossings)) (Crossed (get_or crossings i d) ∷ []) ∙ ap (λ xs. output detail (shown_crossings (take i crossings)) ++ xs) (append-nil line) in
+    subst (Appends a c) (sym all) (appends_more a b c (output detail (shown_crossings (take i crossings))) line before now)
 
 pub crossings_of-append : (xs ys : List Shown) → crossings_of (xs ++ ys) ≡ crossings_of xs ++ crossings_of ys
 crossings_of-append [] ys = refl
@@ -108,18 +110,18 @@ no_crossing (Ok done) = refl
 no_crossing (Err f) = refl
 
 -- crossings were printed, and then a refusal
-pub print_ends : {W : Type 0} (contents : W → Option (List ℕ)) (crossings : List Crossing) (outcome : Result (Unit {0}) CarrierFault) (printed : Result (Unit {0}) ReplayFault) (a : Option (List ℕ)) (mid new : W)
-    → Appends a (contents mid) (output (shown_crossings crossings)) → OnOk printed (Appends (contents mid) (contents new) (output (shown_refusal outcome))) → OnOk printed (GoesOn outcome)
-    → (printed ≡ Err fault.OutOfMemory → Halts outcome × (new ≡ mid)) → PrintEnds crossings outcome printed a (contents new)
-print_ends contents crossings outcome (Ok done) a mid new crossed refusal goes memory = (
+pub print_ends : {W : Type 0} (contents : W → Option (List ℕ)) (detail : Detail) (crossings : List Crossing) (outcome : Result (Unit {0}) CarrierFault) (printed : Result (Unit {0}) ReplayFault) (a : Option (List ℕ)) (mid new : W)
+    → Appends a (contents mid) (output detail (shown_crossings crossings)) → OnOk printed (Appends (contents mid) (contents new) (output detail (shown_refusal outcome))) → OnOk printed (GoesOn outcome)
+    → (printed ≡ Err fault.OutOfMemory → Halts outcome × (new ≡ mid)) → PrintEnds detail crossings outcome printed a (contents new)
+print_ends contents detail crossings outcome (Ok done) a mid new crossed refusal goes memory = (
   goes,
-  subst (Appends a (contents new)) (sym (output-append (shown_crossings crossings) (shown_refusal outcome)))
-      (appends_more a (contents mid) (contents new) (output (shown_crossings crossings)) (output (shown_refusal outcome)) crossed refusal),
+  subst (Appends a (contents new)) (sym (output-append detail (shown_crossings crossings) (shown_refusal outcome)))
+      (appends_more a (contents mid) (contents new) (output detail (shown_crossings crossings)) (output detail (shown_refusal outcome)) crossed refusal),
 )
-print_ends contents crossings outcome (Err fault.OutOfMemory) a mid new crossed refusal goes memory =
+print_ends contents detail crossings outcome (Err fault.OutOfMemory) a mid new crossed refusal goes memory =
     let out = memory refl in
-    (out.0, subst (λ w. Appends a (contents w) (output (shown_crossings crossings))) (sym out.1) crossed)
-print_ends contents crossings outcome (Err fault.CannotWrite) a mid new crossed refusal goes memory = tt
+    (out.0, subst (λ w. Appends a (contents w) (output detail (shown_crossings crossings))) (sym out.1) crossed)
+print_ends contents detail crossings outcome (Err fault.CannotWrite) a mid new crossed refusal goes memory = tt
 
 -- what a log gained is what stands behind the crossings of before
 pub gained : (old new : Seen) (before after : List Crossing) → Grew old new → before ≡ reverse old.log → after ≡ reverse new.log → new.log ≡ reverse (drop (length before) after) ++ old.log
@@ -136,9 +138,9 @@ none_gained old new before after same was is =
     ap (drop (length before)) one ∙ drop_all (length before) before (omega arith)
 
 -- one event: its crossings, and then its refusal
-event_writes : {C : Type 0} (calls : Calls C) (old new : C) (e : RawEvent) (r : Result (Unit {0}) CarrierFault) (crossings : List Crossing) (a b : Option (List ℕ))
-    → EventGives calls old e r new → GoesOn r → (calls.seen new).log ≡ reverse crossings ++ (calls.seen old).log → Appends a b (output (shown_crossings crossings ++ shown_refusal r)) → Writes (Happens calls old e new) a b
-event_writes calls old new e r crossings a b gives goes_on grown written = record {
+event_writes : {C : Type 0} (calls : Calls C) (detail : Detail) (old new : C) (e : RawEvent) (r : Result (Unit {0}) CarrierFault) (crossings : List Crossing) (a b : Option (List ℕ))
+    → EventGives calls old e r new → GoesOn r → (calls.seen new).log ≡ reverse crossings ++ (calls.seen old).log → Appends a b (output detail (shown_crossings crossings ++ shown_refusal r)) → Writes detail (Happens calls old e new) a b
+event_writes calls detail old new e r crossings a b gives goes_on grown written = record {
   shown = shown_crossings crossings ++ shown_refusal r;
   is_shown = record { outcome = r; gives = gives; goes_on = goes_on; crossings = crossings; grown = grown; lines = refl };
   written = written;
@@ -149,20 +151,20 @@ halted_log (Ok done) old new halts same = absurd halts
 halted_log (Err f) old new halts same = same
 
 -- an event of one call ends as its printing ends
-pub call_ends : {C : Type 0} (calls : Calls C) (old new : C) (e : RawEvent) (r : Result (Unit {0}) CarrierFault) (printed : Result (Unit {0}) ReplayFault) (before after : List Crossing) (a b : Option (List ℕ))
+pub call_ends : {C : Type 0} (calls : Calls C) (detail : Detail) (old new : C) (e : RawEvent) (r : Result (Unit {0}) CarrierFault) (printed : Result (Unit {0}) ReplayFault) (before after : List Crossing) (a b : Option (List ℕ))
     → BeginsWith e e → EventGives calls old e r new → Grew (calls.seen old) (calls.seen new) → IfErr r (λ f. (calls.seen new).log ≡ (calls.seen old).log)
     → before ≡ reverse (calls.seen old).log → after ≡ reverse (calls.seen new).log
-    → PrintEnds (drop (length before) after) r printed a b → EventEnds calls old e printed new a b
-call_ends calls old new e r (Ok done) before after a b whole gives grew same was is h =
-    event_writes calls old new e r (drop (length before) after) a b gives h.0 (gained (calls.seen old) (calls.seen new) before after grew was is) h.1
-call_ends calls old new e r (Err fault.OutOfMemory) before after a b whole gives grew same was is h =
+    → PrintEnds detail (drop (length before) after) r printed a b → EventEnds calls detail old e printed new a b
+call_ends calls detail old new e r (Ok done) before after a b whole gives grew same was is h =
+    event_writes calls detail old new e r (drop (length before) after) a b gives h.0 (gained (calls.seen old) (calls.seen new) before after grew was is) h.1
+call_ends calls detail old new e r (Err fault.OutOfMemory) before after a b whole gives grew same was is h =
     let none : drop (length before) after ≡ [] = none_gained (calls.seen old) (calls.seen new) before after (halted_log r (calls.seen old) (calls.seen new) h.0 same) was is in
     record {
       shown = [];
       is_shown = record { runs_out = inr (r, gives, h.0); crossings = []; grown = halted_log r (calls.seen old) (calls.seen new) h.0 same; lines = refl; no_lines = λ one. refl };
-      written = subst (λ cs. Appends a b (output (shown_crossings cs))) none h.1;
+      written = subst (λ cs. Appends a b (output detail (shown_crossings cs))) none h.1;
     }
-call_ends calls old new e r (Err fault.CannotWrite) before after a b whole gives grew same was is h =
+call_ends calls detail old new e r (Err fault.CannotWrite) before after a b whole gives grew same was is h =
     ([], record { processed = e; begins = whole; outcome = r; gives = gives; unknown = refl })
 
 -- what an event shows is what its log gained

@@ -8,6 +8,7 @@ use Rattle.replay.specs.Output.{Shown, Writes, output, shown_crossings, shown_re
 use Rattle.replay.specs.Replay.{Calls, GoesOn, Halts, Happens, MayDo, StopsIn}
 use Rattle.replay.specs.declared.events.ReplayFault.{ReplayFault}
 use Rattle.replay.specs.declared.events.ReplayFault.TheVariants as fault
+use Rattle.replay.specs.declared.print.Detail.{Detail}
 use Rattle.script.specs.declared.event.RawEvent.{RawEvent}
 
 -- a log that only grew, between the same hosts
@@ -17,13 +18,13 @@ pub record Grew (old new : Seen) : Type 0 where
   pub hosts : new.hosts ≡ old.hosts
 
 -- crossings were printed, and behind them a refusal, or memory had run out
-abbrev pub PrintEnds : List Crossing → Result (Unit {0}) CarrierFault → Result (Unit {0}) ReplayFault → Option (List ℕ) → Option (List ℕ) → Type 0
-PrintEnds crossings outcome (Ok done) before after = GoesOn outcome × Appends before after (output (shown_crossings crossings ++ shown_refusal outcome))
-PrintEnds crossings outcome (Err fault.OutOfMemory) before after = Halts outcome × Appends before after (output (shown_crossings crossings))
-PrintEnds crossings outcome (Err fault.CannotWrite) before after = Unit {0}
+abbrev pub PrintEnds : Detail → List Crossing → Result (Unit {0}) CarrierFault → Result (Unit {0}) ReplayFault → Option (List ℕ) → Option (List ℕ) → Type 0
+PrintEnds detail crossings outcome (Ok done) before after = GoesOn outcome × Appends before after (output detail (shown_crossings crossings ++ shown_refusal outcome))
+PrintEnds detail crossings outcome (Err fault.OutOfMemory) before after = Halts outcome × Appends before after (output detail (shown_crossings crossings))
+PrintEnds detail crossings outcome (Err fault.CannotWrite) before after = Unit {0}
 
 -- how the replay of one event may end
-abbrev pub EventEnds : {C : Type 0} → Calls C → C → RawEvent → Result (Unit {0}) ReplayFault → C → Option (List ℕ) → Option (List ℕ) → Type 0
-EventEnds {C} calls old e (Ok done) new before after = Writes (Happens calls old e new) before after
-EventEnds {C} calls old e (Err fault.OutOfMemory) new before after = Writes (StopsIn calls old e new) before after
-EventEnds {C} calls old e (Err fault.CannotWrite) new before after = (shown : List Shown) × MayDo calls old e new shown
+abbrev pub EventEnds : {C : Type 0} → Calls C → Detail → C → RawEvent → Result (Unit {0}) ReplayFault → C → Option (List ℕ) → Option (List ℕ) → Type 0
+EventEnds {C} calls detail old e (Ok done) new before after = Writes detail (Happens calls old e new) before after
+EventEnds {C} calls detail old e (Err fault.OutOfMemory) new before after = Writes detail (StopsIn calls old e new) before after
+EventEnds {C} calls detail old e (Err fault.CannotWrite) new before after = (shown : List Shown) × MayDo calls old e new shown

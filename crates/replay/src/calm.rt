@@ -6,7 +6,7 @@ ghost use Rattle.replay.specs.Steps.{EventEnds, Grew};
 ghost use Rattle.script.specs.declared.event.RawEvent.TheVariants as script_event;
 
 use crate::events::ReplayFault;
-use crate::print::print_outcome;
+use crate::print::{Detail, print_outcome};
 use leader1822::{Carrier, CarrierFault, HostAddr};
 use std::io::Write;
 
@@ -17,14 +17,15 @@ const TAKINGS: u8 = 16;
 pub(crate) fn replay_calm<C: Carrier, W: Write>(
     carrier: &mut C,
     rounds: u32,
+    detail: Detail,
     writer: &mut W,
 ) -> Result<(), ReplayFault>
-    ensures { EventEnds (record { seen = C.seen; offers = C.offers; takes = C.takes; steps = C.steps; rounds = C.rounds }) carrier.old (script_event.Calm rounds) result carrier.new (W.contents writer.old) (W.contents writer.new) }
+    ensures { EventEnds (record { seen = C.seen; offers = C.offers; takes = C.takes; steps = C.steps; rounds = C.rounds }) detail carrier.old (script_event.Calm rounds) result carrier.new (W.contents writer.old) (W.contents writer.new) }
 {
     for _ in 0..rounds {
         let booked = carrier.log().len();
         let outcome = pass_round(carrier);
-        print_outcome(carrier.log(), booked, outcome, writer)?;
+        print_outcome(carrier.log(), booked, outcome, detail, writer)?;
     }
     Ok(())
 }

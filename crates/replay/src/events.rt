@@ -8,7 +8,7 @@ ghost use Rattle.replay.specs.Steps.{EventEnds};
 ghost use Rattle.script.specs.declared.event.RawEvent.TheVariants as script_event;
 
 use crate::calm::replay_calm;
-use crate::print::print_outcome;
+use crate::print::{Detail, print_outcome};
 use leader1822::{Carrier, CarrierFault, HostAddr, HostMessage, Inbound, NetEvent};
 use script::RawEvent;
 use std::alloc::AllocError;
@@ -37,7 +37,7 @@ impl From<AllocError> for ReplayFault {
 }
 
 /// Hands each event to the carrier in order, and prints each crossing and each refusal as it comes, one line
-/// each.
+/// each. Of a message it prints as much as `detail` says.
 ///
 /// A refused event changes nothing, and the replay continues with the next one. A calm of `n` rounds is many
 /// calls: in each round the carrier has a quiet round, and then each of its hosts takes, in order of IMP and
@@ -55,6 +55,7 @@ impl From<AllocError> for ReplayFault {
 pub fn replay_events<C: Carrier, W: Write>(
     carrier: &mut C,
     events: &[RawEvent],
+    detail: Detail,
     writer: &mut W,
 ) -> Result<(), ReplayFault>
     // each RFNM belongs to one message, which was taken exactly once
@@ -62,16 +63,16 @@ pub fn replay_events<C: Carrier, W: Write>(
 
     // each event in turn went as the carrier says that its calls may go, and what it showed was printed: what
     // crossed, and then its refusal
-    ensures replayed { OnOk result (Writes (Replays (record { seen = C.seen; offers = C.offers; takes = C.takes; steps = C.steps; rounds = C.rounds }) carrier.old events.now carrier.new) (W.contents writer.old) (W.contents writer.new)) }
+    ensures replayed { OnOk result (Writes detail (Replays (record { seen = C.seen; offers = C.offers; takes = C.takes; steps = C.steps; rounds = C.rounds }) carrier.old events.now carrier.new) (W.contents writer.old) (W.contents writer.new)) }
 
     // memory ran out at one event: what the events before it showed was printed, and nothing of that event, save what crossed in
     // a calm before memory ran out
-    ensures memory { result ≡ Err ReplayFault.OutOfMemory → Writes (EndsIn (record { seen = C.seen; offers = C.offers; takes = C.takes; steps = C.steps; rounds = C.rounds }) StopsIn carrier.old events.now carrier.new) (W.contents writer.old) (W.contents writer.new) }
+    ensures memory { result ≡ Err ReplayFault.OutOfMemory → Writes detail (EndsIn (record { seen = C.seen; offers = C.offers; takes = C.takes; steps = C.steps; rounds = C.rounds }) StopsIn carrier.old events.now carrier.new) (W.contents writer.old) (W.contents writer.new) }
 
     // a write failed: the carrier had already processed that event, or the rounds of a calm of which it wrote
     ensures cannot_write { result ≡ Err ReplayFault.CannotWrite → (shown : List Shown) × EndsIn (record { seen = C.seen; offers = C.offers; takes = C.takes; steps = C.steps; rounds = C.rounds }) MayDo carrier.old events.now carrier.new shown }
 {
-    let outcome = replay_in_turn(carrier, events, writer);
+    let outcome = replay_in_turn(carrier, events, detail, writer);
     // for the proof alone: the log is a run of the mailboxes, and of each run the promise about messages is proved
     let _log = carrier.log();
     outcome
@@ -81,14 +82,15 @@ pub fn replay_events<C: Carrier, W: Write>(
 fn replay_in_turn<C: Carrier, W: Write>(
     carrier: &mut C,
     events: &[RawEvent],
+    detail: Detail,
     writer: &mut W,
 ) -> Result<(), ReplayFault>
-    ensures replayed { OnOk result (Writes (Replays (record { seen = C.seen; offers = C.offers; takes = C.takes; steps = C.steps; rounds = C.rounds }) carrier.old events.now carrier.new) (W.contents writer.old) (W.contents writer.new)) }
-    ensures memory { result ≡ Err ReplayFault.OutOfMemory → Writes (EndsIn (record { seen = C.seen; offers = C.offers; takes = C.takes; steps = C.steps; rounds = C.rounds }) StopsIn carrier.old events.now carrier.new) (W.contents writer.old) (W.contents writer.new) }
+    ensures replayed { OnOk result (Writes detail (Replays (record { seen = C.seen; offers = C.offers; takes = C.takes; steps = C.steps; rounds = C.rounds }) carrier.old events.now carrier.new) (W.contents writer.old) (W.contents writer.new)) }
+    ensures memory { result ≡ Err ReplayFault.OutOfMemory → Writes detail (EndsIn (record { seen = C.seen; offers = C.offers; takes = C.takes; steps = C.steps; rounds = C.rounds }) StopsIn carrier.old events.now carrier.new) (W.contents writer.old) (W.contents writer.new) }
     ensures cannot_write { result ≡ Err ReplayFault.CannotWrite → (shown : List Shown) × EndsIn (record { seen = C.seen; offers = C.offers; takes = C.takes; steps = C.steps; rounds = C.rounds }) MayDo carrier.old events.now carrier.new shown }
 {
     for event in events {
-        replay_event(carrier, event, writer)?;
+        replay_event(carrier, event, detail, writer)?;
     }
     Ok(())
 }
@@ -97,15 +99,16 @@ fn replay_in_turn<C: Carrier, W: Write>(
 fn replay_event<C: Carrier, W: Write>(
     carrier: &mut C,
     event: &RawEvent,
+    detail: Detail,
     writer: &mut W,
 ) -> Result<(), ReplayFault>
-    ensures { EventEnds (record { seen = C.seen; offers = C.offers; takes = C.takes; steps = C.steps; rounds = C.rounds }) carrier.old event.now result carrier.new (W.contents writer.old) (W.contents writer.new) }
+    ensures { EventEnds (record { seen = C.seen; offers = C.offers; takes = C.takes; steps = C.steps; rounds = C.rounds }) detail carrier.old event.now result carrier.new (W.contents writer.old) (W.contents writer.new) }
 {
     match event {
-        RawEvent::Out(message) => replay_offer(carrier, message.clone()?, writer),
-        RawEvent::Take(host) => replay_taking(carrier, *host, writer),
-        RawEvent::Net(event) => replay_step(carrier, *event, writer),
-        RawEvent::Calm(rounds) => replay_calm(carrier, *rounds, writer),
+        RawEvent::Out(message) => replay_offer(carrier, message.clone()?, detail, writer),
+        RawEvent::Take(host) => replay_taking(carrier, *host, detail, writer),
+        RawEvent::Net(event) => replay_step(carrier, *event, detail, writer),
+        RawEvent::Calm(rounds) => replay_calm(carrier, *rounds, detail, writer),
     }
 }
 
@@ -113,26 +116,28 @@ fn replay_event<C: Carrier, W: Write>(
 fn replay_offer<C: Carrier, W: Write>(
     carrier: &mut C,
     message: HostMessage,
+    detail: Detail,
     writer: &mut W,
 ) -> Result<(), ReplayFault>
-    ensures { EventEnds (record { seen = C.seen; offers = C.offers; takes = C.takes; steps = C.steps; rounds = C.rounds }) carrier.old (script_event.Out message) result carrier.new (W.contents writer.old) (W.contents writer.new) }
+    ensures { EventEnds (record { seen = C.seen; offers = C.offers; takes = C.takes; steps = C.steps; rounds = C.rounds }) detail carrier.old (script_event.Out message) result carrier.new (W.contents writer.old) (W.contents writer.new) }
 {
     let booked = carrier.log().len();
     let outcome = carrier.offer_out(message);
-    print_outcome(carrier.log(), booked, outcome, writer)
+    print_outcome(carrier.log(), booked, outcome, detail, writer)
 }
 
 /// Lets a host take, and prints what crossed, or the refusal.
 fn replay_taking<C: Carrier, W: Write>(
     carrier: &mut C,
     host: HostAddr,
+    detail: Detail,
     writer: &mut W,
 ) -> Result<(), ReplayFault>
-    ensures { EventEnds (record { seen = C.seen; offers = C.offers; takes = C.takes; steps = C.steps; rounds = C.rounds }) carrier.old (script_event.Take host) result carrier.new (W.contents writer.old) (W.contents writer.new) }
+    ensures { EventEnds (record { seen = C.seen; offers = C.offers; takes = C.takes; steps = C.steps; rounds = C.rounds }) detail carrier.old (script_event.Take host) result carrier.new (W.contents writer.old) (W.contents writer.new) }
 {
     let booked = carrier.log().len();
     let outcome = outcome_of(carrier.take_in(host));
-    print_outcome(carrier.log(), booked, outcome, writer)
+    print_outcome(carrier.log(), booked, outcome, detail, writer)
 }
 
 /// Whether a taking was refused.
@@ -149,11 +154,12 @@ fn outcome_of(answer: Result<Option<Inbound>, CarrierFault>) -> Result<(), Carri
 fn replay_step<C: Carrier, W: Write>(
     carrier: &mut C,
     event: NetEvent,
+    detail: Detail,
     writer: &mut W,
 ) -> Result<(), ReplayFault>
-    ensures { EventEnds (record { seen = C.seen; offers = C.offers; takes = C.takes; steps = C.steps; rounds = C.rounds }) carrier.old (script_event.Net event) result carrier.new (W.contents writer.old) (W.contents writer.new) }
+    ensures { EventEnds (record { seen = C.seen; offers = C.offers; takes = C.takes; steps = C.steps; rounds = C.rounds }) detail carrier.old (script_event.Net event) result carrier.new (W.contents writer.old) (W.contents writer.new) }
 {
     let booked = carrier.log().len();
     let outcome = carrier.step(event);
-    print_outcome(carrier.log(), booked, outcome, writer)
+    print_outcome(carrier.log(), booked, outcome, detail, writer)
 }

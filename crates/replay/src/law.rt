@@ -2,10 +2,15 @@
 //! laws.
 
 ghost use Rattle.std.specs.Prelude.{◌≡◌, ◌++◌, List};
-ghost use Rattle.replay.specs.Output.{Shown};
+ghost use Rattle.leader1822.specs.declared.crossing.Crossing.TheVariants as crossing;
+ghost use Rattle.leader1822.specs.declared.message.HostMessage.{HostMessage};
+ghost use Rattle.replay.specs.Output.{Shown, crossing_line};
 ghost use Rattle.replay.specs.Replay.{EndsIn, Replays, StopsIn};
 ghost use Rattle.replay.specs.Settled.{AreSettled};
+ghost use Rattle.replay.specs.declared.print.Detail.TheVariants.{Texts};
+ghost use Rattle.script.specs.Spelling.{spelling};
 ghost use Rattle.script.specs.declared.event.RawEvent.{RawEvent};
+ghost use Rattle.script.specs.declared.event.RawEvent.TheVariants as script_event;
 
 use leader1822::Carrier;
 
@@ -14,4 +19,9 @@ use leader1822::Carrier;
 pub fn one_replay<C: Carrier>()
     ensures same { AreSettled (record { seen = C.seen; offers = C.offers; takes = C.takes; steps = C.steps; rounds = C.rounds }) → (old new other : C) (events : List RawEvent) (shown more : List Shown) → Replays (record { seen = C.seen; offers = C.offers; takes = C.takes; steps = C.steps; rounds = C.rounds }) old events new shown → Replays (record { seen = C.seen; offers = C.offers; takes = C.takes; steps = C.steps; rounds = C.rounds }) old events other more → (new ≡ other) × (shown ≡ more) }
     ensures first_part { AreSettled (record { seen = C.seen; offers = C.offers; takes = C.takes; steps = C.steps; rounds = C.rounds }) → (old new other : C) (events : List RawEvent) (part whole : List Shown) → EndsIn (record { seen = C.seen; offers = C.offers; takes = C.takes; steps = C.steps; rounds = C.rounds }) StopsIn old events new part → Replays (record { seen = C.seen; offers = C.offers; takes = C.takes; steps = C.steps; rounds = C.rounds }) old events other whole → (rest : List Shown) × (whole ≡ part ++ rest) }
+{}
+
+/// What is printed of a message that goes out, with its text, is the line of a script that asks for this message.
+pub fn printed_again()
+    ensures { (m : HostMessage) → crossing_line Texts (crossing.Out m) ≡ spelling (script_event.Out m) }
 {}

@@ -16,4 +16,4 @@ pub mod law;
 mod print;
 
 pub use events::{ReplayFault, replay_events};
-pub use print::{carrier_refusal, check_written};
+pub use print::{Detail, carrier_refusal, check_written, print_crossing};

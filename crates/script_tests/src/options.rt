@@ -9,11 +9,13 @@ use std::io::Cursor;
 use topology::{CarrierKind, ImpHosts, LineEnds, TopologyFault};
 
 /// Words that are no options.
-const NO_OPTIONS: [&[&str]; 8] = [
+const NO_OPTIONS: [&[&str]; 10] = [
     &["--"],
     &["--book", "--"],
     &["--book", "--book"],
     &["--check", "--book", "--check"],
+    &["--texts", "--texts"],
+    &["--texts", "--check", "--book", "--texts"],
     &["--help"],
     &["--version"],
     &["-b"],
@@ -29,10 +31,10 @@ fn strings(alloc: Global, words: &[&str]) -> Result<Vec<String>, AllocError> {
     Ok(strings)
 }
 
-/// What these words ask for: whether for the book, and whether for a check.
-fn asked(alloc: Global, words: &[&str]) -> Result<(bool, bool), OptionsFault> {
+/// What these words ask for: whether for the book, for a check, and for texts.
+fn asked(alloc: Global, words: &[&str]) -> Result<(bool, bool, bool), OptionsFault> {
     let options = Options::read(alloc, &strings(alloc, words)?)?;
-    Ok((options.book, options.check))
+    Ok((options.book, options.check, options.texts))
 }
 
 #[test]
@@ -51,16 +53,24 @@ fn options_in_any_order(rt: HostRuntime) {
         asked(rt.alloc(), &["--check"]),
         asked(rt.alloc(), &["--check", "--book"]),
         asked(rt.alloc(), &["--book", "--check"]),
+        asked(rt.alloc(), &["--texts"]),
+        asked(rt.alloc(), &["--texts", "--book"]),
+        asked(rt.alloc(), &["--check", "--texts"]),
+        asked(rt.alloc(), &["--texts", "--check", "--book"]),
     ];
-    let both = Ok((true, true));
+    let both = Ok((true, true, false));
     assert_eq!(rt;
         found,
         [
-            Ok((false, false)),
-            Ok((true, false)),
-            Ok((false, true)),
+            Ok((false, false, false)),
+            Ok((true, false, false)),
+            Ok((false, true, false)),
             both,
-            both
+            both,
+            Ok((false, false, true)),
+            Ok((true, false, true)),
+            Ok((false, true, true)),
+            Ok((true, true, true))
         ]
     );
 }
@@ -75,6 +85,10 @@ const RAW: &[u8] =
 /// What it prints.
 const RAW_PRINTED: &[u8] =
     b"out 0/1 0/2 5 24\nrefused Blocked\nin 0/1 0/2 5 24\nanswer rfnm 0/1 0/2 5\nend\n";
+
+/// What it prints with the texts.
+const RAW_TEXTS: &[u8] =
+    b"out 0/1 0/2 5 24 414243\nrefused Blocked\nin 0/1 0/2 5 24 414243\nanswer rfnm 0/1 0/2 5\nend\n";
 
 /// Two hosts with programs, and a script with a connection that opens and closes.
 const WORLD: &[u8] =
@@ -108,6 +122,8 @@ fn the_words_say_what_is_done(rt: HostRuntime) {
         ended(rt.alloc(), &[], RAW, RAW_PRINTED),
         ended(rt.alloc(), &["--book"], WORLD, WORLD_PRINTED),
         ended(rt.alloc(), &["--quiet"], NO_SCRIPT, b""),
+        ended(rt.alloc(), &["--texts"], RAW, RAW_TEXTS),
+        ended(rt.alloc(), &["--texts", "--check"], RAW, b"ok\n"),
     ];
     assert_eq!(rt;
         found,
@@ -116,7 +132,9 @@ fn the_words_say_what_is_done(rt: HostRuntime) {
             (Ok(()), true),
             (Ok(()), true),
             (Ok(()), true),
-            (Err(ScriptFault::BadOptions), true)
+            (Err(ScriptFault::BadOptions), true),
+            (Ok(()), true),
+            (Ok(()), true)
         ]
     );
 }
@@ -174,11 +192,17 @@ fn the_faults_of_the_parts_have_their_texts(rt: HostRuntime) {
 
 #[test]
 fn copies_equal_and_other_values_do_not(rt: HostRuntime) {
-    let options = [(false, false), (false, true), (true, false), (true, true)];
+    let options = [
+        (false, false, false),
+        (false, false, true),
+        (false, true, false),
+        (true, false, false),
+        (true, true, true),
+    ];
     let found = [
         are_apart(&FAULTS.map(|(fault, _, _)| fault)),
         are_apart(&[ScriptFault::BadLine(1), ScriptFault::BadLine(2)]),
-        are_apart(&options.map(|(book, check)| Options { book, check })),
+        are_apart(&options.map(|(book, check, texts)| Options { book, check, texts })),
         are_apart(&[OptionsFault::BadOptions, OptionsFault::OutOfMemory]),
         are_apart(&[TopologyFault::BadTopology, TopologyFault::OutOfMemory]),
         are_apart(&[

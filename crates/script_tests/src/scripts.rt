@@ -1,6 +1,6 @@
 //! Reads and writes that fail, and inputs that never end. Scripts and what they print are stored inputs, in `cases/`.
 
-use command_line::{ScriptFault, run_script};
+use command_line::{Detail, ScriptFault, run_script};
 use std::alloc::Global;
 use std::io;
 use std::io::{Cursor, Read, Write};
@@ -60,7 +60,7 @@ impl Write for FailingWriter {
 fn run_failing_reads(alloc: Global, reads: u32) -> Ended {
     let mut reader = FailingReader { reads };
     let mut writer = Vec::new(alloc);
-    let result = run_script(alloc, &mut reader, &mut writer, false, false);
+    let result = run_script(alloc, &mut reader, &mut writer, false, false, Detail::Sizes);
     (result, writer.is_empty())
 }
 
@@ -78,27 +78,38 @@ fn each_read_may_fail(rt: HostRuntime) {
 
 /// Two hosts at one IMP, of which the first offers a message that the second takes.
 const OFFER_AND_TAKE: &[u8] =
-    b"carrier = \"plain\"\nraw = true\n[[imp]]\nid = 1\nhosts = 2\n%\nout 0/1 1/1 5 0 -\ntake 1/1\n";
+    b"carrier = \"plain\"\nraw = true\n[[imp]]\nid = 1\nhosts = 2\n%\nout 0/1 1/1 5 12 ABC0\ntake 1/1\n";
 
 /// What a message offered and taken prints.
-const OFFERED_AND_TAKEN: &[u8] = b"out 0/1 1/1 5 0\nin 0/1 1/1 5 0\nend\n";
+const OFFERED_AND_TAKEN: &[u8] = b"out 0/1 1/1 5 12\nin 0/1 1/1 5 12\nend\n";
+
+/// What it prints with its text.
+const WITH_TEXT: &[u8] = b"out 0/1 1/1 5 12 ABC0\nin 0/1 1/1 5 12 ABC0\nend\n";
 
 /// How a run ends that has room for so many octets, and whether it wrote the first so many of all.
-fn run_failing_writes(alloc: Global, room: usize) -> Ended {
+fn run_failing_writes(alloc: Global, detail: Detail, printed: &[u8], room: usize) -> Ended {
     let mut writer = FailingWriter {
         kept: Vec::new(alloc),
         room,
     };
     let mut reader = Cursor::new(OFFER_AND_TAKE);
-    let result = run_script(alloc, &mut reader, &mut writer, false, false);
-    let first = OFFERED_AND_TAKEN.get(..room);
+    let result = run_script(alloc, &mut reader, &mut writer, false, false, detail);
+    let first = printed.get(..room);
     (result, first == Some(writer.kept.as_slice()))
 }
 
 #[test]
 fn each_write_may_fail(rt: HostRuntime) {
     for room in 0..OFFERED_AND_TAKEN.len() {
-        let ended = run_failing_writes(rt.alloc(), room);
+        let ended = run_failing_writes(rt.alloc(), Detail::Sizes, OFFERED_AND_TAKEN, room);
+        assert_eq!(rt; ended, (Err(ScriptFault::CannotWrite), true), "at {room}");
+    }
+}
+
+#[test]
+fn each_write_of_a_text_may_fail(rt: HostRuntime) {
+    for room in 0..WITH_TEXT.len() {
+        let ended = run_failing_writes(rt.alloc(), Detail::Texts, WITH_TEXT, room);
         assert_eq!(rt; ended, (Err(ScriptFault::CannotWrite), true), "at {room}");
     }
 }
@@ -121,7 +132,14 @@ impl Read for EndlessReader {
 fn of_an_endless_input_one_octet_too_many_is_read(rt: HostRuntime) {
     let mut reader = EndlessReader { given: 0 };
     let mut writer = Vec::new(rt.alloc());
-    let result = run_script(rt.alloc(), &mut reader, &mut writer, false, false);
+    let result = run_script(
+        rt.alloc(),
+        &mut reader,
+        &mut writer,
+        false,
+        false,
+        Detail::Sizes,
+    );
     assert_eq!(rt;
         (result, reader.given, writer.is_empty()),
         (Err(ScriptFault::BadTopology), 1_048_577, true)
@@ -146,7 +164,14 @@ impl Write for FailingFlush {
 fn the_last_flush_may_fail(rt: HostRuntime) {
     let ended = [false, true].map(|check| {
         let mut reader = Cursor::new(OFFER_AND_TAKE);
-        run_script(rt.alloc(), &mut reader, &mut FailingFlush, false, check)
+        run_script(
+            rt.alloc(),
+            &mut reader,
+            &mut FailingFlush,
+            false,
+            check,
+            Detail::Sizes,
+        )
     });
     assert_eq!(rt; ended, [Err(ScriptFault::CannotWrite); 2]);
 }

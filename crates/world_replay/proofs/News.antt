@@ -4,22 +4,23 @@ use Rattle.std.proofs.lemmas.List.{append_assoc, append-nil, drop_all, drop_more
 use Rattle.std.proofs.Math.Seq.{drop-append-add, take-append-add}
 use Rattle.std.specs.Io.KnownBytes.{Appends}
 use Rattle.host_services.specs.declared.report.Reported.{Reported}
-use Rattle.leader1822.specs.Printed.{crossing_text}
 use Rattle.leader1822.specs.declared.crossing.Crossing.{Crossing}
 use Rattle.net_sim.specs.declared.book.Told.{Told}
 use Rattle.replay.proofs.lemmas.{appends_more, appends_none, text_of-append}
 use Rattle.replay.specs.InTurn.{text_of}
+use Rattle.replay.specs.Output.{crossing_line}
+use Rattle.replay.specs.declared.print.Detail.{Detail}
 use Rattle.script.specs.Input.{ended_line}
 use Rattle.world_replay.specs.Output.{Shown, Crossed, Noticed, Said, Refused, crossings_of, shown_text, output, place_of, shown_crossings, shown_in_turn, shown_notices, told_in_turn}
 use Rattle.world_replay.specs.Printed.{reported_text, told_text}
 use Rattle.world_replay.specs.Steps.{Fronts}
 
-pub output-append : (xs ys : List Shown) → output (xs ++ ys) ≡ output xs ++ output ys
-output-append xs ys = text_of-append shown_text xs ys
+pub output-append : (detail : Detail) (xs ys : List Shown) → output detail (xs ++ ys) ≡ output detail xs ++ output detail ys
+output-append detail xs ys = text_of-append (shown_text detail) xs ys
 
-pub crossings_text : (cs : List Crossing) → output (shown_crossings cs) ≡ text_of crossing_text cs
-crossings_text [] = refl
-crossings_text (c ∷ cs) = ap (λ xs. ended_line (crossing_text c) ++ xs) (crossings_text cs)
+pub crossings_text : (detail : Detail) (cs : List Crossing) → output detail (shown_crossings cs) ≡ text_of (crossing_line detail) cs
+crossings_text detail [] = refl
+crossings_text detail (c ∷ cs) = ap (λ xs. ended_line (crossing_line detail c) ++ xs) (crossings_text detail cs)
 
 -- ---- crossings and news in turn
 
@@ -32,27 +33,27 @@ shown_notices-append [] ys = refl
 shown_notices-append (x ∷ xs) ys = ap (λ zs. Noticed x ∷ zs) (shown_notices-append xs ys)
 
 -- nothing is written yet
-pub fronts_none : (before : ℕ) (crossings : List Crossing) (a : Option (List ℕ)) → Fronts before crossings [] before crossings a a
-fronts_none before crossings a = record { shown = []; whole = λ more. refl; written = appends_none a }
+pub fronts_none : (detail : Detail) (before : ℕ) (crossings : List Crossing) (a : Option (List ℕ)) → Fronts detail before crossings [] before crossings a a
+fronts_none detail before crossings a = record { shown = []; whole = λ more. refl; written = appends_none a }
 
 -- some news, and then others
-fronts_more : (first mid last : ℕ) (crossings left rest : List Crossing) (xs ys : List Shown) (a b c : Option (List ℕ)) → Fronts first crossings xs mid left a b → Fronts mid left ys last rest b c → Fronts first crossings (xs ++ ys) last rest a c
-fronts_more first mid last crossings left rest xs ys a b c h k = record {
+fronts_more : (detail : Detail) (first mid last : ℕ) (crossings left rest : List Crossing) (xs ys : List Shown) (a b c : Option (List ℕ)) → Fronts detail first crossings xs mid left a b → Fronts detail mid left ys last rest b c → Fronts detail first crossings (xs ++ ys) last rest a c
+fronts_more detail first mid last crossings left rest xs ys a b c h k = record {
   shown = h.shown ++ k.shown;
   whole = λ more. ap (shown_in_turn first crossings) (append_assoc xs ys more) ∙ h.whole (ys ++ more) ∙ ap (λ zs. h.shown ++ zs) (k.whole more) ∙ sym (append_assoc h.shown k.shown (shown_in_turn last rest more));
-  written = subst (Appends a c) (sym (output-append h.shown k.shown)) (appends_more a b c (output h.shown) (output k.shown) h.written k.written);
+  written = subst (Appends a c) (sym (output-append detail h.shown k.shown)) (appends_more a b c (output detail h.shown) (output detail k.shown) h.written k.written);
 }
 
 -- one piece of news behind the crossings that were before it
-one_front : (before : ℕ) (crossings : List Crossing) (s : Shown) (a b c : Option (List ℕ)) → Appends a b (output (shown_crossings (take (place_of s - before) crossings))) → Appends b c (ended_line (shown_text s))
-    → Fronts before crossings (s ∷ []) (max before (place_of s)) (drop (place_of s - before) crossings) a c
-one_front before crossings s a b c crossed told =
+one_front : (detail : Detail) (before : ℕ) (crossings : List Crossing) (s : Shown) (a b c : Option (List ℕ)) → Appends a b (output detail (shown_crossings (take (place_of s - before) crossings))) → Appends b c (ended_line (shown_text detail s))
+    → Fronts detail before crossings (s ∷ []) (max before (place_of s)) (drop (place_of s - before) crossings) a c
+one_front detail before crossings s a b c crossed told =
     let front : List Shown = shown_crossings (take (place_of s - before) crossings) in
-    let line : output (s ∷ []) ≡ ended_line (shown_text s) = append-nil (ended_line (shown_text s)) in
+    let line : output detail (s ∷ []) ≡ ended_line (shown_text detail s) = append-nil (ended_line (shown_text detail s)) in
     record {
       shown = front ++ s ∷ [];
       whole = λ more. sym (append_assoc front (s ∷ []) (shown_in_turn (max before (place_of s)) (drop (place_of s - before) crossings) more));
-      written = subst (Appends a c) (sym (output-append front (s ∷ []) ∙ ap (λ xs. output front ++ xs) line)) (appends_more a b c (output front) (ended_line (shown_text s)) crossed told);
+      written = subst (Appends a c) (sym (output-append detail front (s ∷ []) ∙ ap (λ xs. output detail front ++ xs) line)) (appends_more a b c (output detail front) (ended_line (shown_text detail s)) crossed told);
     }
 
 max_zero : (n : ℕ) → max n 0 ≡ n
@@ -62,40 +63,40 @@ minus_zero : (n : ℕ) → 0 - n ≡ 0
 minus_zero n = omega arith
 
 -- a report wants no crossings before it
-report_front : (before : ℕ) (crossings : List Crossing) (r : Reported) (a b : Option (List ℕ)) → Appends a b (ended_line (reported_text r)) → Fronts before crossings (Said r ∷ []) before crossings a b
-report_front before crossings r a b told =
+report_front : (detail : Detail) (before : ℕ) (crossings : List Crossing) (r : Reported) (a b : Option (List ℕ)) → Appends a b (ended_line (reported_text r)) → Fronts detail before crossings (Said r ∷ []) before crossings a b
+report_front detail before crossings r a b told =
     let none : shown_crossings (take (0 - before) crossings) ≡ [] = ap (λ n. shown_crossings (take n crossings)) (minus_zero before) in
-    let here : Fronts before crossings (Said r ∷ []) (max before 0) (drop (0 - before) crossings) a b =
-    one_front before crossings (Said r) a a b (subst (λ xs. Appends a a (output xs)) (sym none) (appends_none a)) told in
-    subst (λ n. Fronts before crossings (Said r ∷ []) n crossings a b) (max_zero before)
-    (subst (λ cs. Fronts before crossings (Said r ∷ []) (max before 0) cs a b) (ap (λ n. drop n crossings) (minus_zero before)) here)
+    let here : Fronts detail before crossings (Said r ∷ []) (max before 0) (drop (0 - before) crossings) a b =
+    one_front detail before crossings (Said r) a a b (subst (λ xs. Appends a a (output detail xs)) (sym none) (appends_none a)) told in
+    subst (λ n. Fronts detail before crossings (Said r ∷ []) n crossings a b) (max_zero before)
+    (subst (λ cs. Fronts detail before crossings (Said r ∷ []) (max before 0) cs a b) (ap (λ n. drop n crossings) (minus_zero before)) here)
 
 -- notices up to this one
-pub notice_front : (first before later : ℕ) (crossings left rest : List Crossing) (notices : List Told) (i : ℕ) (t : Told) (a b c d : Option (List ℕ)) → i < length notices → t ≡ get_or notices i t
+pub notice_front : (detail : Detail) (first before later : ℕ) (crossings left rest : List Crossing) (notices : List Told) (i : ℕ) (t : Told) (a b c d : Option (List ℕ)) → i < length notices → t ≡ get_or notices i t
     → later ≡ max before t.place → rest ≡ drop (t.place - before) left
-    → Fronts first crossings (shown_notices (take i notices)) before left a b → Appends b c (output (shown_crossings (take (t.place - before) left))) → Appends c d (ended_line (told_text t))
-    → Fronts first crossings (shown_notices (take (i + 1) notices)) later rest a d
-notice_front first before later crossings left rest notices i t a b c d lt is latest rests h crossed told =
-    let one : Fronts before left (Noticed t ∷ []) (max before t.place) (drop (t.place - before) left) b d = one_front before left (Noticed t) b c d crossed told in
-    let mine : Fronts before left (Noticed t ∷ []) later rest b d = subst (λ n. Fronts before left (Noticed t ∷ []) n rest b d) (sym latest) (subst (λ cs. Fronts before left (Noticed t ∷ []) (max before t.place) cs b d) (sym rests) one) in
+    → Fronts detail first crossings (shown_notices (take i notices)) before left a b → Appends b c (output detail (shown_crossings (take (t.place - before) left))) → Appends c d (ended_line (told_text t))
+    → Fronts detail first crossings (shown_notices (take (i + 1) notices)) later rest a d
+notice_front detail first before later crossings left rest notices i t a b c d lt is latest rests h crossed told =
+    let one : Fronts detail before left (Noticed t ∷ []) (max before t.place) (drop (t.place - before) left) b d = one_front detail before left (Noticed t) b c d crossed told in
+    let mine : Fronts detail before left (Noticed t ∷ []) later rest b d = subst (λ n. Fronts detail before left (Noticed t ∷ []) n rest b d) (sym latest) (subst (λ cs. Fronts detail before left (Noticed t ∷ []) (max before t.place) cs b d) (sym rests) one) in
     let next : shown_notices (take (i + 1) notices) ≡ shown_notices (take i notices) ++ Noticed t ∷ [] =
     ap shown_notices (take_more notices i t lt ∙ ap (λ (x : Told). take i notices ++ x ∷ []) (sym is)) ∙ shown_notices-append (take i notices) (t ∷ []) in
-    subst (λ xs. Fronts first crossings xs later rest a d) (sym next) (fronts_more first before later crossings left rest (shown_notices (take i notices)) (Noticed t ∷ []) a b d h mine)
+    subst (λ xs. Fronts detail first crossings xs later rest a d) (sym next) (fronts_more detail first before later crossings left rest (shown_notices (take i notices)) (Noticed t ∷ []) a b d h mine)
 
 -- reports up to this one, with the notices that they count
-pub record Reports (start : ℕ) (notices : List Told) (reports : List Reported) (first : ℕ) (crossings : List Crossing) (i counted : ℕ) (waiting : List Told) (before : ℕ) (left : List Crossing) (a b : Option (List ℕ)) : Type 0 where
+pub record Reports (detail : Detail) (start : ℕ) (notices : List Told) (reports : List Reported) (first : ℕ) (crossings : List Crossing) (i counted : ℕ) (waiting : List Told) (before : ℕ) (left : List Crossing) (a b : Option (List ℕ)) : Type 0 where
   pub news : List Shown
   pub whole : told_in_turn start notices reports ≡ news ++ told_in_turn counted waiting (drop i reports)
-  pub fronts : Fronts first crossings news before left a b
+  pub fronts : Fronts detail first crossings news before left a b
 
-pub no_reports : (start : ℕ) (notices : List Told) (reports : List Reported) (first : ℕ) (crossings : List Crossing) (a : Option (List ℕ)) → Reports start notices reports first crossings 0 start notices first crossings a a
-no_reports start notices reports first crossings a = record { news = []; whole = refl; fronts = fronts_none first crossings a }
+pub no_reports : (detail : Detail) (start : ℕ) (notices : List Told) (reports : List Reported) (first : ℕ) (crossings : List Crossing) (a : Option (List ℕ)) → Reports detail start notices reports first crossings 0 start notices first crossings a a
+no_reports detail start notices reports first crossings a = record { news = []; whole = refl; fronts = fronts_none detail first crossings a }
 
-pub one_report : (start : ℕ) (notices : List Told) (reports : List Reported) (first : ℕ) (crossings : List Crossing) (i counted : ℕ) (waiting front rest : List Told) (r : Reported) (count before later : ℕ) (left less : List Crossing) (a b c d : Option (List ℕ))
+pub one_report : (detail : Detail) (start : ℕ) (notices : List Told) (reports : List Reported) (first : ℕ) (crossings : List Crossing) (i counted : ℕ) (waiting front rest : List Told) (r : Reported) (count before later : ℕ) (left less : List Crossing) (a b c d : Option (List ℕ))
     → i < length reports → r ≡ get_or reports i r → count ≡ min (r.notices - counted) (length waiting) → front ≡ take count waiting → rest ≡ drop count waiting
-    → Reports start notices reports first crossings i counted waiting before left a b → Fronts before left (shown_notices front) later less b c → Appends c d (ended_line (reported_text r))
-    → Reports start notices reports first crossings (i + 1) (max counted r.notices) rest later less a d
-one_report start notices reports first crossings i counted waiting front rest r count before later left less a b c d lt is cut fronts rests h told said =
+    → Reports detail start notices reports first crossings i counted waiting before left a b → Fronts detail before left (shown_notices front) later less b c → Appends c d (ended_line (reported_text r))
+    → Reports detail start notices reports first crossings (i + 1) (max counted r.notices) rest later less a d
+one_report detail start notices reports first crossings i counted waiting front rest r count before later left less a b c d lt is cut fronts rests h told said =
     let next : drop i reports ≡ r ∷ drop (i + 1) reports = drop_more reports i r lt ∙ ap (λ (x : Reported). x ∷ drop (i + 1) reports) (sym is) in
     let mine : front ≡ take (r.notices - counted) waiting = fronts ∙ ap (λ n. take n waiting) cut ∙ take_min (r.notices - counted) waiting in
     let others : rest ≡ drop (r.notices - counted) waiting = rests ∙ ap (λ n. drop n waiting) cut ∙ drop_min (r.notices - counted) waiting in
@@ -109,22 +110,22 @@ one_report start notices reports first crossings i counted waiting front rest r 
     record {
       news = h.news ++ own;
       whole = h.whole ∙ ap (λ xs. h.news ++ xs) now ∙ sym (append_assoc h.news own more);
-      fronts = fronts_more first before later crossings left less h.news own a b d h.fronts
-          (fronts_more before later later left less less (shown_notices front) (Said r ∷ []) b c d told (report_front later less r c d said));
+      fronts = fronts_more detail first before later crossings left less h.news own a b d h.fronts
+          (fronts_more detail before later later left less less (shown_notices front) (Said r ∷ []) b c d told (report_front detail later less r c d said));
     }
 
-pub all_reports : (start : ℕ) (notices : List Told) (reports : List Reported) (first : ℕ) (crossings : List Crossing) (i counted : ℕ) (waiting : List Told) (before later : ℕ) (left less : List Crossing) (a b c : Option (List ℕ)) → length reports ≤ i
-    → Reports start notices reports first crossings i counted waiting before left a b → Fronts before left (shown_notices waiting) later less b c → Fronts first crossings (told_in_turn start notices reports) later less a c
-all_reports start notices reports first crossings i counted waiting before later left less a b c le h told =
+pub all_reports : (detail : Detail) (start : ℕ) (notices : List Told) (reports : List Reported) (first : ℕ) (crossings : List Crossing) (i counted : ℕ) (waiting : List Told) (before later : ℕ) (left less : List Crossing) (a b c : Option (List ℕ)) → length reports ≤ i
+    → Reports detail start notices reports first crossings i counted waiting before left a b → Fronts detail before left (shown_notices waiting) later less b c → Fronts detail first crossings (told_in_turn start notices reports) later less a c
+all_reports detail start notices reports first crossings i counted waiting before later left less a b c le h told =
     let all : told_in_turn start notices reports ≡ h.news ++ shown_notices waiting = h.whole ∙ ap (λ rs. h.news ++ told_in_turn counted waiting rs) (drop_all i reports le) in
-    subst (λ xs. Fronts first crossings xs later less a c) (sym all) (fronts_more first before later crossings left less h.news (shown_notices waiting) a b c h.fronts told)
+    subst (λ xs. Fronts detail first crossings xs later less a c) (sym all) (fronts_more detail first before later crossings left less h.news (shown_notices waiting) a b c h.fronts told)
 
 -- with the crossings that are left all is written
-pub all_fronts : (first : ℕ) (crossings : List Crossing) (news : List Shown) (later : ℕ) (left : List Crossing) (a b c : Option (List ℕ)) → Fronts first crossings news later left a b → Appends b c (output (shown_crossings left))
-    → Appends a c (output (shown_in_turn first crossings news))
-all_fronts first crossings news later left a b c h crossed =
+pub all_fronts : (detail : Detail) (first : ℕ) (crossings : List Crossing) (news : List Shown) (later : ℕ) (left : List Crossing) (a b c : Option (List ℕ)) → Fronts detail first crossings news later left a b → Appends b c (output detail (shown_crossings left))
+    → Appends a c (output detail (shown_in_turn first crossings news))
+all_fronts detail first crossings news later left a b c h crossed =
     let all : shown_in_turn first crossings news ≡ h.shown ++ shown_crossings left = ap (shown_in_turn first crossings) (sym (append-nil news)) ∙ h.whole [] in
-    subst (Appends a c) (sym (ap output all ∙ output-append h.shown (shown_crossings left))) (appends_more a b c (output h.shown) (output (shown_crossings left)) h.written crossed)
+    subst (Appends a c) (sym (ap (output detail) all ∙ output-append detail h.shown (shown_crossings left))) (appends_more a b c (output detail h.shown) (output detail (shown_crossings left)) h.written crossed)
 
 -- ---- all crossings are shown, and no others
 

@@ -19,6 +19,7 @@ use Rattle.world_replay.specs.Settled.{carried}
 use Rattle.net_sim.proofs.lemmas.{calm_keeps}
 use Rattle.replay.specs.declared.events.ReplayFault.{ReplayFault}
 use Rattle.replay.specs.declared.events.ReplayFault.TheVariants as fault
+use Rattle.replay.specs.declared.print.Detail.{Detail}
 use Rattle.world_replay.specs.Steps.{EventEnds}
 use Rattle.world_replay.proofs.Grown.{Grew, begins, gains_none, grew_more, grew_none, step_gains, step_grows, step_kept}
 use Rattle.world_replay.proofs.News.{crossings_in_turn, crossings_of-append, news_later, output-append, told_begin, told_later, told_want}
@@ -163,35 +164,35 @@ news_is old new g crossed told said is same alike =
     ∙ ap (λ n. shown_in_turn (length old.book.crossings) g.crossings (told_in_turn n g.notices g.reports)) same
 
 -- this book's news are written
-abbrev pub News : {W : Type 0} → (W → Option (List ℕ)) → ℕ → ℕ → ℕ → Option (List ℕ) → W → Kept → Type 0
-News contents crossed told said a mid k =
-    Appends a (contents mid) (output (shown_in_turn crossed (drop crossed (reverse k.book.crossings)) (told_in_turn told (drop told k.book.notices) (drop said k.book.reports))))
+abbrev pub News : {W : Type 0} → (W → Option (List ℕ)) → Detail → ℕ → ℕ → ℕ → Option (List ℕ) → W → Kept → Type 0
+News contents detail crossed told said a mid k =
+    Appends a (contents mid) (output detail (shown_in_turn crossed (drop crossed (reverse k.book.crossings)) (told_in_turn told (drop told k.book.notices) (drop said k.book.reports))))
 
 -- an event ends as its printing ends
-pub event_ends : {C W : Type 0} (contents : W → Option (List ℕ)) (calls : Calls C) (old : WorldState C) (e : WorldEvent) (outcome : Result (Unit {0}) WorldFault) (new : WorldState C) (printed : Result (Unit {0}) ReplayFault) (crossed told said : ℕ) (a : Option (List ℕ)) (mid last : W)
+pub event_ends : {C W : Type 0} (contents : W → Option (List ℕ)) (calls : Calls C) (detail : Detail) (old : WorldState C) (e : WorldEvent) (outcome : Result (Unit {0}) WorldFault) (new : WorldState C) (printed : Result (Unit {0}) ReplayFault) (crossed told said : ℕ) (a : Option (List ℕ)) (mid last : W)
     → EventGives calls old e outcome new → crossed ≡ length old.kept.book.crossings → told ≡ length old.kept.book.notices → said ≡ length old.kept.book.reports
-    → News contents crossed told said a mid new.kept
-    → OnOk printed (Appends (contents mid) (contents last) (output (shown_refusal outcome))) → OnOk printed (stops outcome ≡ false)
-    → (printed ≡ Err fault.OutOfMemory → (stops outcome ≡ true) × (last ≡ mid)) → EventEnds calls old e printed new a (contents last)
-event_ends contents calls old e outcome new (Ok done) crossed told said a mid last gives is same alike lines refusal goes memory =
+    → News contents detail crossed told said a mid new.kept
+    → OnOk printed (Appends (contents mid) (contents last) (output detail (shown_refusal outcome))) → OnOk printed (stops outcome ≡ false)
+    → (printed ≡ Err fault.OutOfMemory → (stops outcome ≡ true) × (last ≡ mid)) → EventEnds calls detail old e printed new a (contents last)
+event_ends contents calls detail old e outcome new (Ok done) crossed told said a mid last gives is same alike lines refusal goes memory =
     let gains : Gains old.kept new.kept = event_gains calls e old outcome new gives in
     record {
       shown = gained gains ++ shown_refusal outcome;
       is_shown = record { outcome = outcome; gives = gives; goes_on = goes; gains = gains; lines = refl };
-      written = subst (Appends a (contents last)) (sym (output-append (gained gains) (shown_refusal outcome)))
-          (appends_more a (contents mid) (contents last) (output (gained gains)) (output (shown_refusal outcome))
-          (subst (λ xs. Appends a (contents mid) (output xs)) (news_is old.kept new.kept gains crossed told said is same alike) lines) refusal);
+      written = subst (Appends a (contents last)) (sym (output-append detail (gained gains) (shown_refusal outcome)))
+          (appends_more a (contents mid) (contents last) (output detail (gained gains)) (output detail (shown_refusal outcome))
+          (subst (λ xs. Appends a (contents mid) (output detail xs)) (news_is old.kept new.kept gains crossed told said is same alike) lines) refusal);
     }
-event_ends contents calls old e outcome new (Err fault.OutOfMemory) crossed told said a mid last gives is same alike lines refusal goes memory =
+event_ends contents calls detail old e outcome new (Err fault.OutOfMemory) crossed told said a mid last gives is same alike lines refusal goes memory =
     let gains : Gains old.kept new.kept = event_gains calls e old outcome new gives in
     let out : (stops outcome ≡ true) × (last ≡ mid) = memory refl in
     record {
       shown = gained gains;
       is_shown = record { outcome = outcome; gives = gives; stops = out.0; gains = gains; lines = refl };
-      written = subst (λ w. Appends a (contents w) (output (gained gains))) (sym out.1)
-          (subst (λ xs. Appends a (contents mid) (output xs)) (news_is old.kept new.kept gains crossed told said is same alike) lines);
+      written = subst (λ w. Appends a (contents w) (output detail (gained gains))) (sym out.1)
+          (subst (λ xs. Appends a (contents mid) (output detail xs)) (news_is old.kept new.kept gains crossed told said is same alike) lines);
     }
-event_ends contents calls old e outcome new (Err fault.CannotWrite) crossed told said a mid last gives is same alike lines refusal goes memory =
+event_ends contents calls detail old e outcome new (Err fault.CannotWrite) crossed told said a mid last gives is same alike lines refusal goes memory =
     ([], record { outcome = outcome; gives = gives; unknown = refl })
 
 -- ---- a carrier that shows what every carrier shows is settled where it is settled without that

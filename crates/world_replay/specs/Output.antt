@@ -1,12 +1,13 @@
 -- What the replay of a world's script prints.
 use Rattle.std.specs.Prelude.{ℕ, ◌-◌, List, [], ◌∷◌, ◌++◌, map, take, drop, max, Option, Result, Ok, Err}
 use Rattle.host_services.specs.declared.report.Reported.{Reported}
-use Rattle.leader1822.specs.Printed.{crossing_text}
 use Rattle.leader1822.specs.declared.crossing.Crossing.{Crossing}
 use Rattle.net_sim.specs.declared.book.Told.{Told}
 use Rattle.net_sim.specs.declared.life.Life.{Life}
 use Rattle.net_sim.specs.declared.event.WorldFault.{WorldFault}
 use Rattle.replay.specs.InTurn.{WritesLines, text_of}
+use Rattle.replay.specs.Output.{crossing_line}
+use Rattle.replay.specs.declared.print.Detail.{Detail}
 use Rattle.world_replay.specs.Printed.{life_text, refusal_text, reported_text, told_text}
 
 -- one line that a replay prints: a crossing, something that a user was told, something that a service reported, or a refusal
@@ -17,15 +18,15 @@ pub data Shown : Type 0 where
   Refused : WorldFault → Shown
 
 -- one line, without its end
-abbrev pub shown_text : Shown → List ℕ
-shown_text (Crossed c) = crossing_text c
-shown_text (Noticed t) = told_text t
-shown_text (Said r) = reported_text r
-shown_text (Refused f) = refusal_text f
+abbrev pub shown_text : Detail → Shown → List ℕ
+shown_text detail (Crossed c) = crossing_line detail c
+shown_text detail (Noticed t) = told_text t
+shown_text detail (Said r) = reported_text r
+shown_text detail (Refused f) = refusal_text f
 
 -- all lines, each with its end
-abbrev pub output : List Shown → List ℕ
-output shown = text_of shown_text shown
+abbrev pub output : Detail → List Shown → List ℕ
+output detail shown = text_of (shown_text detail) shown
 
 -- what crossed, oldest first
 abbrev pub crossings_of : List Shown → List Crossing
@@ -36,8 +37,8 @@ crossings_of (Said r ∷ shown) = crossings_of shown
 crossings_of (Refused f ∷ shown) = crossings_of shown
 
 -- some lines were written, and this holds of them
-abbrev pub Writes : (List Shown → Type 0) → Option (List ℕ) → Option (List ℕ) → Type 0
-Writes IsShown before after = WritesLines shown_text IsShown before after
+abbrev pub Writes : Detail → (List Shown → Type 0) → Option (List ℕ) → Option (List ℕ) → Type 0
+Writes detail IsShown before after = WritesLines (shown_text detail) IsShown before after
 
 -- an event that was refused shows its refusal
 abbrev pub shown_refusal : Result (Unit {0}) WorldFault → List Shown

@@ -10,12 +10,13 @@ ghost use Rattle.world_replay.specs.Steps.{EventEnds};
 use crate::print::{print_news, print_refusal};
 use leader1822::Carrier;
 use net_sim::{World, WorldFault};
-use replay::ReplayFault;
+use replay::{Detail, ReplayFault};
 use std::io::Write;
 use world_script::WorldEvent;
 
 /// Lets each event happen in order, and prints what it shows: each crossing, each notice behind the crossings that
-/// were before it, each report behind its notice, and then the refusal, if there is one.
+/// were before it, each report behind its notice, and then the refusal, if there is one. Of a message it prints as much
+/// as `detail` says.
 ///
 /// A refused event changes nothing, and the replay continues with the next one. A calm shows what each of its events
 /// shows, and its refusals are not printed.
@@ -31,22 +32,23 @@ use world_script::WorldEvent;
 pub fn replay_events<C: Carrier, W: Write>(
     world: &mut World<C>,
     events: Vec<WorldEvent>,
+    detail: Detail,
     writer: &mut W,
 ) -> Result<(), ReplayFault>
     // each RFNM belongs to one message, which was taken exactly once
     ensures messages { SafeMessages world.new.kept.book.crossings }
 
     // each event in turn went as the world says that its calls may go, and what it showed was printed
-    ensures replayed { OnOk result (Writes (Replays (shown (record { seen = C.seen; offers = C.offers; takes = C.takes; steps = C.steps; rounds = C.rounds })) world.old events.items world.new) (W.contents writer.old) (W.contents writer.new)) }
+    ensures replayed { OnOk result (Writes detail (Replays (shown (record { seen = C.seen; offers = C.offers; takes = C.takes; steps = C.steps; rounds = C.rounds })) world.old events.items world.new) (W.contents writer.old) (W.contents writer.new)) }
 
     // memory ran out at one event: what the events before it showed was printed, and nothing of that event, save what a calm
     // showed before memory ran out
-    ensures memory { result ≡ Err ReplayFault.OutOfMemory → Writes (EndsIn (shown (record { seen = C.seen; offers = C.offers; takes = C.takes; steps = C.steps; rounds = C.rounds })) (StopsIn (shown (record { seen = C.seen; offers = C.offers; takes = C.takes; steps = C.steps; rounds = C.rounds }))) world.old events.items world.new) (W.contents writer.old) (W.contents writer.new) }
+    ensures memory { result ≡ Err ReplayFault.OutOfMemory → Writes detail (EndsIn (shown (record { seen = C.seen; offers = C.offers; takes = C.takes; steps = C.steps; rounds = C.rounds })) (StopsIn (shown (record { seen = C.seen; offers = C.offers; takes = C.takes; steps = C.steps; rounds = C.rounds }))) world.old events.items world.new) (W.contents writer.old) (W.contents writer.new) }
 
     // a write failed: the event had already happened
     ensures cannot_write { result ≡ Err ReplayFault.CannotWrite → (lines : List Shown) × EndsIn (shown (record { seen = C.seen; offers = C.offers; takes = C.takes; steps = C.steps; rounds = C.rounds })) (MayDo (shown (record { seen = C.seen; offers = C.offers; takes = C.takes; steps = C.steps; rounds = C.rounds }))) world.old events.items world.new lines }
 {
-    let outcome = replay_in_turn(world, events, writer);
+    let outcome = replay_in_turn(world, events, detail, writer);
     // for the proof alone: the promise about messages is a clause of `World::book`
     let _book = world.book();
     outcome
@@ -56,14 +58,15 @@ pub fn replay_events<C: Carrier, W: Write>(
 fn replay_in_turn<C: Carrier, W: Write>(
     world: &mut World<C>,
     events: Vec<WorldEvent>,
+    detail: Detail,
     writer: &mut W,
 ) -> Result<(), ReplayFault>
-    ensures replayed { OnOk result (Writes (Replays (shown (record { seen = C.seen; offers = C.offers; takes = C.takes; steps = C.steps; rounds = C.rounds })) world.old events.items world.new) (W.contents writer.old) (W.contents writer.new)) }
-    ensures memory { result ≡ Err ReplayFault.OutOfMemory → Writes (EndsIn (shown (record { seen = C.seen; offers = C.offers; takes = C.takes; steps = C.steps; rounds = C.rounds })) (StopsIn (shown (record { seen = C.seen; offers = C.offers; takes = C.takes; steps = C.steps; rounds = C.rounds }))) world.old events.items world.new) (W.contents writer.old) (W.contents writer.new) }
+    ensures replayed { OnOk result (Writes detail (Replays (shown (record { seen = C.seen; offers = C.offers; takes = C.takes; steps = C.steps; rounds = C.rounds })) world.old events.items world.new) (W.contents writer.old) (W.contents writer.new)) }
+    ensures memory { result ≡ Err ReplayFault.OutOfMemory → Writes detail (EndsIn (shown (record { seen = C.seen; offers = C.offers; takes = C.takes; steps = C.steps; rounds = C.rounds })) (StopsIn (shown (record { seen = C.seen; offers = C.offers; takes = C.takes; steps = C.steps; rounds = C.rounds }))) world.old events.items world.new) (W.contents writer.old) (W.contents writer.new) }
     ensures cannot_write { result ≡ Err ReplayFault.CannotWrite → (lines : List Shown) × EndsIn (shown (record { seen = C.seen; offers = C.offers; takes = C.takes; steps = C.steps; rounds = C.rounds })) (MayDo (shown (record { seen = C.seen; offers = C.offers; takes = C.takes; steps = C.steps; rounds = C.rounds }))) world.old events.items world.new lines }
 {
     for event in events {
-        replay_event(world, event, writer)?;
+        replay_event(world, event, detail, writer)?;
     }
     Ok(())
 }
@@ -72,15 +75,16 @@ fn replay_in_turn<C: Carrier, W: Write>(
 fn replay_event<C: Carrier, W: Write>(
     world: &mut World<C>,
     event: WorldEvent,
+    detail: Detail,
     writer: &mut W,
 ) -> Result<(), ReplayFault>
-    ensures { EventEnds (shown (record { seen = C.seen; offers = C.offers; takes = C.takes; steps = C.steps; rounds = C.rounds })) world.old event result world.new (W.contents writer.old) (W.contents writer.new) }
+    ensures { EventEnds (shown (record { seen = C.seen; offers = C.offers; takes = C.takes; steps = C.steps; rounds = C.rounds })) detail world.old event result world.new (W.contents writer.old) (W.contents writer.new) }
 {
     let crossed = world.book().crossings().len();
     let told = world.book().notices().len();
     let said = world.book().reports().len();
     let outcome = happen(world, event);
-    print_news(world.book(), crossed, told, said, writer)?;
+    print_news(world.book(), crossed, told, said, detail, writer)?;
     print_refusal(outcome, writer)
 }
 

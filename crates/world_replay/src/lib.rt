@@ -19,4 +19,4 @@ pub mod worked;
 
 pub use events::replay_events;
 pub use print::print_lives;
-pub use replay::ReplayFault;
+pub use replay::{Detail, ReplayFault};

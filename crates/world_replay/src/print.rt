@@ -4,6 +4,7 @@ ghost use Rattle.std.specs.Prelude.{◌≡◌, ◌↔◌, ◌≤◌, ◌-◌, Er
 ghost use Rattle.std.specs.Io.KnownBytes.{Appends};
 ghost use Rattle.host_services.specs.declared.report.Report.TheVariants as report;
 ghost use Rattle.net_sim.specs.World.{stops};
+ghost use Rattle.replay.specs.declared.print.Detail.{Detail};
 ghost use Rattle.script.specs.Input.{ended_line};
 ghost use Rattle.world_replay.specs.Output.{lives_output, output, shown_crossings, shown_in_turn, shown_notices, shown_refusal, told_in_turn};
 ghost use Rattle.world_replay.specs.Printed.{problem_name, refusal_name, report_text, reported_text, shown_octet};
@@ -12,7 +13,7 @@ ghost use Rattle.world_replay.specs.Steps.{Fronts};
 use crate::lines::{LifeLine, OutcomeLine, ToldLine};
 use leader1822::{Crossing, HostAddr};
 use net_sim::{Book, Life, Report, Reported, Told, WorldFault};
-use replay::{ReplayFault, carrier_refusal, check_written};
+use replay::{Detail, ReplayFault, carrier_refusal, check_written, print_crossing};
 use sockets::NcpFault;
 use std::io::Write;
 
@@ -24,12 +25,13 @@ pub(crate) fn print_news<W: Write>(
     crossed: usize,
     told: usize,
     said: usize,
+    detail: Detail,
     writer: &mut W,
 ) -> Result<(), ReplayFault>
     requires crossed { crossed ≤ length book.now.book.crossings }
     requires told { told ≤ length book.now.book.notices }
     requires said { said ≤ length book.now.book.reports }
-    ensures written { OnOk result (Appends (W.contents writer.old) (W.contents writer.new) (output (shown_in_turn crossed (drop crossed (reverse book.now.book.crossings)) (told_in_turn told (drop told book.now.book.notices) (drop said book.now.book.reports))))) }
+    ensures written { OnOk result (Appends (W.contents writer.old) (W.contents writer.new) (output detail (shown_in_turn crossed (drop crossed (reverse book.now.book.crossings)) (told_in_turn told (drop told book.now.book.notices) (drop said book.now.book.reports))))) }
     ensures fault { IfErr result (λ f. f ≡ ReplayFault.CannotWrite) }
 {
     let (_, left) = book.crossings().split_at(crossed);
@@ -39,8 +41,8 @@ pub(crate) fn print_news<W: Write>(
         before: crossed,
         left,
     };
-    print_told(&mut crossings, told, notices, reports, writer)?;
-    print_crossings(crossings.left, writer)
+    print_told(&mut crossings, told, notices, reports, detail, writer)?;
+    print_crossings(crossings.left, detail, writer)
 }
 
 /// Crossings that are still to be printed.
@@ -54,15 +56,20 @@ struct Crossings<'a> {
 
 impl Crossings<'_> {
     /// Prints those before a place.
-    fn print_before<W: Write>(&mut self, place: usize, writer: &mut W) -> Result<(), ReplayFault>
+    fn print_before<W: Write>(
+        &mut self,
+        place: usize,
+        detail: Detail,
+        writer: &mut W,
+    ) -> Result<(), ReplayFault>
         ensures before { OnOk result (self.new.before ≡ max self.old.before place) }
         ensures left { OnOk result (self.new.left.now ≡ drop (place - self.old.before) self.old.left.now) }
-        ensures written { OnOk result (Appends (W.contents writer.old) (W.contents writer.new) (output (shown_crossings (take (place - self.old.before) self.old.left.now)))) }
+        ensures written { OnOk result (Appends (W.contents writer.old) (W.contents writer.new) (output detail (shown_crossings (take (place - self.old.before) self.old.left.now)))) }
         ensures fault { IfErr result (λ f. f ≡ ReplayFault.CannotWrite) }
     {
         let count = place.saturating_sub(self.before).min(self.left.len());
         let (first, rest) = self.left.split_at(count);
-        print_crossings(first, writer)?;
+        print_crossings(first, detail, writer)?;
         self.left = rest;
         self.before = self.before.max(place);
         Ok(())
@@ -76,9 +83,10 @@ fn print_told<W: Write>(
     before: usize,
     notices: &[Told],
     reports: &[Reported],
+    detail: Detail,
     writer: &mut W,
 ) -> Result<(), ReplayFault>
-    ensures written { OnOk result (Fronts crossings.old.before crossings.old.left.now (told_in_turn before notices.now reports.now) crossings.new.before crossings.new.left.now (W.contents writer.old) (W.contents writer.new)) }
+    ensures written { OnOk result (Fronts detail crossings.old.before crossings.old.left.now (told_in_turn before notices.now reports.now) crossings.new.before crossings.new.left.now (W.contents writer.old) (W.contents writer.new)) }
     ensures fault { IfErr result (λ f. f ≡ ReplayFault.CannotWrite) }
 {
     let mut before = before;
@@ -86,25 +94,26 @@ fn print_told<W: Write>(
     for reported in reports {
         let count = reported.notices.saturating_sub(before).min(waiting.len());
         let (first, rest) = waiting.split_at(count);
-        print_notices(crossings, first, writer)?;
+        print_notices(crossings, first, detail, writer)?;
         print_report(reported, writer)?;
         waiting = rest;
         before = before.max(reported.notices);
     }
-    print_notices(crossings, waiting, writer)
+    print_notices(crossings, waiting, detail, writer)
 }
 
 /// Prints notices, each behind the crossings that were before it.
 fn print_notices<W: Write>(
     crossings: &mut Crossings<'_>,
     notices: &[Told],
+    detail: Detail,
     writer: &mut W,
 ) -> Result<(), ReplayFault>
-    ensures written { OnOk result (Fronts crossings.old.before crossings.old.left.now (shown_notices notices.now) crossings.new.before crossings.new.left.now (W.contents writer.old) (W.contents writer.new)) }
+    ensures written { OnOk result (Fronts detail crossings.old.before crossings.old.left.now (shown_notices notices.now) crossings.new.before crossings.new.left.now (W.contents writer.old) (W.contents writer.new)) }
     ensures fault { IfErr result (λ f. f ≡ ReplayFault.CannotWrite) }
 {
     for told in notices {
-        crossings.print_before(told.place, writer)?;
+        crossings.print_before(told.place, detail, writer)?;
         check_written(writeln!(writer, "{}", ToldLine(told)))?;
     }
     Ok(())
@@ -164,12 +173,16 @@ fn shown_octet(octet: u8) -> u8
 }
 
 /// Prints crossings.
-fn print_crossings<W: Write>(crossings: &[Crossing], writer: &mut W) -> Result<(), ReplayFault>
-    ensures written { OnOk result (Appends (W.contents writer.old) (W.contents writer.new) (output (shown_crossings crossings.now))) }
+fn print_crossings<W: Write>(
+    crossings: &[Crossing],
+    detail: Detail,
+    writer: &mut W,
+) -> Result<(), ReplayFault>
+    ensures written { OnOk result (Appends (W.contents writer.old) (W.contents writer.new) (output detail (shown_crossings crossings.now))) }
     ensures fault { IfErr result (λ f. f ≡ ReplayFault.CannotWrite) }
 {
     for crossing in crossings {
-        check_written(writeln!(writer, "{crossing}"))?;
+        print_crossing(crossing, detail, writer)?;
     }
     Ok(())
 }
@@ -181,7 +194,7 @@ pub(crate) fn print_refusal<W: Write>(
     outcome: Result<(), WorldFault>,
     writer: &mut W,
 ) -> Result<(), ReplayFault>
-    ensures shown { OnOk result (Appends (W.contents writer.old) (W.contents writer.new) (output (shown_refusal outcome))) }
+    ensures shown { (detail : Detail) → OnOk result (Appends (W.contents writer.old) (W.contents writer.new) (output detail (shown_refusal outcome))) }
     ensures goes_on { OnOk result (stops outcome ≡ false) }
     ensures memory { result ≡ Err ReplayFault.OutOfMemory → (stops outcome ≡ true) × (writer.new ≡ writer.old) }
 {

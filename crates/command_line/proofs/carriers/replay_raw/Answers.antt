@@ -9,12 +9,12 @@ pub returns-in-Ok-clause-replayed : goal.returns-in-Ok-clause-replayed
 returns-in-Ok-clause-replayed g c =
     let calls : Calls g.row.C.Denot = record { seen = g.C.Carrier.seen; offers = g.C.Carrier.offers; takes = g.C.Carrier.takes; steps = g.C.Carrier.steps; rounds = g.C.Carrier.rounds } in
     on_ok c.write_last.result
-    (writes_all calls c.args.carrier c.replay_events.new.carrier c.args.events.now (g.W.Write.contents c.args.writer.now) (g.W.Write.contents c.replay_events.new.writer) (g.W.Write.contents c.write_last.new.writer)
+    (writes_all calls c.args.carrier c.replay_events.new.carrier c.args.events.now c.args.detail (g.W.Write.contents c.args.writer.now) (g.W.Write.contents c.replay_events.new.writer) (g.W.Write.contents c.write_last.new.writer)
     c.requires c.in-Ok.ensures.replayed c.in-Ok.ensures.messages)
     c.write_last.ensures.written
 
 pub returns-clause-stopped : goal.returns-clause-stopped
 returns-clause-stopped g c = λ e.
     let calls : Calls g.row.C.Denot = record { seen = g.C.Carrier.seen; offers = g.C.Carrier.offers; takes = g.C.Carrier.takes; steps = g.C.Carrier.steps; rounds = g.C.Carrier.rounds } in
-    writes_part calls c.args.carrier c.replay_events.new.carrier c.args.events.now (g.W.Write.contents c.args.writer.now) (g.W.Write.contents c.replay_events.new.writer)
+    writes_part calls c.args.carrier c.replay_events.new.carrier c.args.events.now c.args.detail (g.W.Write.contents c.args.writer.now) (g.W.Write.contents c.replay_events.new.writer)
     c.requires (c.in-Err.ensures.memory (ap Err (told_memory c.in-Err.fault c.from.result c.from.ensures e))) c.in-Err.ensures.messages

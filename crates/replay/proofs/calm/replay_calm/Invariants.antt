@@ -6,4 +6,4 @@ use Rattle.replay.proofs.calm.replay_calm.Given as goal
 abbrev pub invariant-loop : goal.invariant-loop
 invariant-loop g l =
     let calls : Calls g.row.C.Denot = record { seen = g.C.Carrier.seen; offers = g.C.Carrier.offers; takes = g.C.Carrier.takes; steps = g.C.Carrier.steps; rounds = g.C.Carrier.rounds } in
-    Passed calls l.fn.carrier l.rounds l.counter l.carrier (g.W.Write.contents l.fn.writer) (g.W.Write.contents l.writer)
+    Passed calls l.detail l.fn.carrier l.rounds l.counter l.carrier (g.W.Write.contents l.fn.writer) (g.W.Write.contents l.writer)

@@ -7,4 +7,4 @@ use Rattle.replay.proofs.events.replay_in_turn.Given as goal
 abbrev pub invariant-loop-event : goal.invariant-loop-event
 invariant-loop-event g l =
     let calls : Calls g.row.C.Denot = record { seen = g.C.Carrier.seen; offers = g.C.Carrier.offers; takes = g.C.Carrier.takes; steps = g.C.Carrier.steps; rounds = g.C.Carrier.rounds } in
-    Writes (Replays calls l.fn.carrier (take l.event-index l.fn.events) l.carrier) (g.W.Write.contents l.fn.writer) (g.W.Write.contents l.writer)
+    Writes l.detail (Replays calls l.fn.carrier (take l.event-index l.fn.events) l.carrier) (g.W.Write.contents l.fn.writer) (g.W.Write.contents l.writer)

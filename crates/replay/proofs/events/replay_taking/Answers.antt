@@ -10,6 +10,6 @@ returns g c =
     let old = g.C.Carrier.seen c.args.carrier.now in
     let new = g.C.Carrier.seen c.take_in.new.self in
     let same = refused_take old c.args.host c.take_in.result new c.take_in.ensures.shown in
-    call_ends calls c.args.carrier.now c.take_in.new.self (event.Take c.args.host) c.outcome_of-outcome.result c.print_outcome.result c.log-booked.result.now c.log.result.now (g.W.Write.contents c.args.writer.now) (g.W.Write.contents c.print_outcome.new.writer)
+    call_ends calls c.args.detail c.args.carrier.now c.take_in.new.self (event.Take c.args.host) c.outcome_of-outcome.result c.print_outcome.result c.log-booked.result.now c.log.result.now (g.W.Write.contents c.args.writer.now) (g.W.Write.contents c.print_outcome.new.writer)
     refl (c.take_in.result, c.take_in.ensures.relation, c.outcome_of-outcome.ensures) (grew_take old c.args.host c.take_in.result new c.take_in.ensures.shown)
     (subst (λ r. IfErr r (λ f. new.log ≡ old.log)) (sym c.outcome_of-outcome.ensures) same) c.log-booked.ensures.value c.log.ensures.value c.print_outcome.ensures

@@ -4,5 +4,5 @@ use Rattle.replay.proofs.print.print_outcome.Goals as goal
 
 pub returns : goal.returns
 returns g c =
-    print_ends g.W.Write.contents (drop c.args.booked c.args.log.now) c.args.outcome c.print_refusal.result (g.W.Write.contents c.args.writer.now) c.print_crossings.new.writer c.print_refusal.new.writer
-    c.in_ok-print_crossings.ensures.written c.print_refusal.ensures.shown c.print_refusal.ensures.goes_on c.print_refusal.ensures.memory
+    print_ends g.W.Write.contents c.args.detail (drop c.args.booked c.args.log.now) c.args.outcome c.print_refusal.result (g.W.Write.contents c.args.writer.now) c.print_crossings.new.writer c.print_refusal.new.writer
+    c.in_ok-print_crossings.ensures.written (c.print_refusal.ensures.shown c.args.detail) c.print_refusal.ensures.goes_on c.print_refusal.ensures.memory

@@ -43,7 +43,7 @@ returns g c =
     ap length c.crossings-crossed.ensures ∙ length-reverse c.book.result.now.book.crossings ∙ ap (λ (k : Kept). length k.book.crossings) c.book.ensures.value in
     let told : length c.notices-told.result.now ≡ length c.args.world.now.kept.book.notices = ap length c.notices-told.ensures ∙ ap (λ (k : Kept). length k.book.notices) c.book-2.ensures.value in
     let said : length c.reports-said.result.now ≡ length c.args.world.now.kept.book.reports = ap length c.reports-said.ensures ∙ ap (λ (k : Kept). length k.book.reports) c.book-3.ensures.value in
-    event_ends g.W.Write.contents calls c.args.world.now c.args.event c.happen-outcome.result c.happen-outcome.new.world c.print_refusal.result (length c.crossings-crossed.result.now) (length c.notices-told.result.now) (length c.reports-said.result.now)
+    event_ends g.W.Write.contents calls c.args.detail c.args.world.now c.args.event c.happen-outcome.result c.happen-outcome.new.world c.print_refusal.result (length c.crossings-crossed.result.now) (length c.notices-told.result.now) (length c.reports-said.result.now)
     (g.W.Write.contents c.args.writer.now) c.print_news.new.writer c.print_refusal.new.writer c.happen-outcome.ensures crossed told said
-    (subst (λ (k : Kept). News g.W.Write.contents (length c.crossings-crossed.result.now) (length c.notices-told.result.now) (length c.reports-said.result.now) (g.W.Write.contents c.args.writer.now) c.print_news.new.writer k) c.book-4.ensures.value c.in_ok-print_news.ensures.written)
-    c.print_refusal.ensures.shown c.print_refusal.ensures.goes_on c.print_refusal.ensures.memory
+    (subst (λ (k : Kept). News g.W.Write.contents c.args.detail (length c.crossings-crossed.result.now) (length c.notices-told.result.now) (length c.reports-said.result.now) (g.W.Write.contents c.args.writer.now) c.print_news.new.writer k) c.book-4.ensures.value c.in_ok-print_news.ensures.written)
+    (c.print_refusal.ensures.shown c.args.detail) c.print_refusal.ensures.goes_on c.print_refusal.ensures.memory

@@ -9,4 +9,4 @@ use Rattle.world_replay.proofs.events.replay_in_turn.Given as goal
 abbrev pub invariant-loop-event : goal.invariant-loop-event
 invariant-loop-event g l =
     let calls : Calls g.row.C.Denot = shown (record { seen = g.C.Carrier.seen; offers = g.C.Carrier.offers; takes = g.C.Carrier.takes; steps = g.C.Carrier.steps; rounds = g.C.Carrier.rounds }) in
-    (l.fn.events.items ≡ l.yielded ++ l.event-iterator.rest.items) × Writes (Replays calls l.fn.world l.yielded l.world) (g.W.Write.contents l.fn.writer) (g.W.Write.contents l.writer)
+    (l.fn.events.items ≡ l.yielded ++ l.event-iterator.rest.items) × Writes l.detail (Replays calls l.fn.world l.yielded l.world) (g.W.Write.contents l.fn.writer) (g.W.Write.contents l.writer)

@@ -1,12 +1,12 @@
 use Rattle.std.proofs.Common.{sym, subst, ◌∙◌, ap}
 use Rattle.std.proofs.lemmas.List.{take_all}
 use Rattle.std.specs.Io.KnownBytes.{Appends}
-use Rattle.leader1822.specs.Printed.{crossing_text}
 use Rattle.replay.specs.InTurn.{text_of}
+use Rattle.replay.specs.Output.{crossing_line}
 use Rattle.world_replay.proofs.News.{crossings_text}
 use Rattle.world_replay.proofs.print.print_crossings.Goals as goal
 
 pub returns-clause-written : goal.returns-clause-written
 returns-clause-written g c =
     subst (Appends (g.W.Write.contents c.args.writer.now) (g.W.Write.contents c.loop-crossing.writer))
-    (ap (text_of crossing_text) (take_all c.loop-crossing.crossing-index c.args.crossings.now c.loop-crossing-test.false) ∙ sym (crossings_text c.args.crossings.now)) c.loop-crossing.invariant
+    (ap (text_of (crossing_line c.args.detail)) (take_all c.loop-crossing.crossing-index c.args.crossings.now c.loop-crossing-test.false) ∙ sym (crossings_text c.args.detail c.args.crossings.now)) c.loop-crossing.invariant

@@ -5,4 +5,4 @@ use Rattle.world_replay.proofs.print.print_notices.Given as goal
 
 abbrev pub invariant-loop-told : goal.invariant-loop-told
 invariant-loop-told g l =
-    Fronts l.fn.crossings.before l.fn.crossings.left.now (shown_notices (take l.told-index l.notices)) l.crossings.before l.crossings.left.now (g.W.Write.contents l.fn.writer) (g.W.Write.contents l.writer)
+    Fronts l.detail l.fn.crossings.before l.fn.crossings.left.now (shown_notices (take l.told-index l.notices)) l.crossings.before l.crossings.left.now (g.W.Write.contents l.fn.writer) (g.W.Write.contents l.writer)

@@ -3,4 +3,4 @@ use Rattle.world_replay.proofs.print.print_told.Given as goal
 
 abbrev pub invariant-loop-reported : goal.invariant-loop-reported
 invariant-loop-reported g l =
-    Reports l.fn.before l.notices l.reports l.fn.crossings.before l.fn.crossings.left.now l.reported-index l.before l.waiting l.crossings.before l.crossings.left.now (g.W.Write.contents l.fn.writer) (g.W.Write.contents l.writer)
+    Reports l.detail l.fn.before l.notices l.reports l.fn.crossings.before l.fn.crossings.left.now l.reported-index l.before l.waiting l.crossings.before l.crossings.left.now (g.W.Write.contents l.fn.writer) (g.W.Write.contents l.writer)

@@ -30,7 +30,8 @@ returns-in-Ok c =
       | inl p ↦
           let book : c.get_flag.result ≡ p.0.book = flag_is _ _ _ (one_text-rows found (codes "book") ∙ ap (one_of (codes "book")) rows_are ∙ p.0.book_is) c.get_flag.ensures.value c.get_flag.ensures.other in
           let check : c.get_flag-in-Ok.result ≡ p.0.check = flag_is _ _ _ (one_text-rows found (codes "check") ∙ ap (one_of (codes "check")) rows_are ∙ p.0.check_is) c.get_flag-in-Ok.ensures.value c.get_flag-in-Ok.ensures.other in
-          p.0.words_are ∙ (λ i. Some (record { book = sym book i; check = sym check i }))
+          let texts : c.get_flag-in-Ok-2.result ≡ p.0.texts = flag_is _ _ _ (one_text-rows found (codes "texts") ∙ ap (one_of (codes "texts")) rows_are ∙ p.0.texts_is) c.get_flag-in-Ok-2.ensures.value c.get_flag-in-Ok-2.ensures.other in
+          p.0.words_are ∙ (λ i. Some (record { book = sym book i; check = sym check i; texts = sym texts i }))
       | inr s ↦ absurd (s.1 (sym (ap (λ (a : App). fault_of a words) app_is) ∙ c.in-Ok.ensures.kinds (ap is_simple_and_free app_is ∙ is_simple_line)))
     ]
 

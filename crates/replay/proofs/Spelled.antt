@@ -1,0 +1,90 @@
+-- Texts are printed as a script spells them.
+use Rattle.std.proofs.Common.{◌≡◌, ℕ, ◌+◌, ◌/◌, ◌%◌, ◌^◌, ◌-◌, ◌<◌, ◌≤◌, zero, suc, true, false, List, [], ◌∷◌, ◌++◌, drop, slice_index, Option, Result, Ok, Err, IsOk, OnOk, codes, length, refl, sym, ap, ap₂, subst, ◌∙◌, arith}
+use Rattle.std.proofs.lemmas.List.{append_assoc, append-nil, drop_all}
+use Rattle.std.proofs.lemmas.Fmt.{hex_byte}
+use Rattle.std.specs.Fmt.{decimal, digit_glyph, digits, format_spec, padded_integral}
+use Rattle.std.specs.Io.KnownBytes.{Appends}
+use Rattle.hex.specs.Hex.{encode_upper, encode_with, upper_digits}
+use Rattle.hex.proofs.Pairs.{encode_with-drop}
+use Rattle.leader1822.specs.Printed.{crossing_text, flow_text}
+use Rattle.leader1822.specs.declared.crossing.Crossing.{Crossing}
+use Rattle.leader1822.specs.declared.crossing.Crossing.TheVariants as crossing
+use Rattle.leader1822.specs.declared.message.HostMessage.{HostMessage}
+use Rattle.script.specs.Input.{ended_line}
+use Rattle.script.specs.Spelling.{octets_text, spelling}
+use Rattle.script.specs.declared.event.RawEvent.TheVariants as event
+use Rattle.replay.specs.Output.{crossing_line, spelled}
+use Rattle.replay.specs.declared.print.Detail.{Detail}
+use Rattle.replay.specs.declared.print.Detail.TheVariants.{Texts}
+use Rattle.replay.proofs.Shown.{appends_more, appends_none, was_ok}
+
+-- ---- octets
+
+-- the digits in their order
+glyph : (k : ℕ) → k < 16 → digit_glyph true k ≡ slice_index upper_digits k
+glyph zero h = refl
+glyph (suc zero) h = refl
+glyph (suc (suc zero)) h = refl
+glyph (suc (suc (suc zero))) h = refl
+glyph (suc (suc (suc (suc zero)))) h = refl
+glyph (suc (suc (suc (suc (suc zero))))) h = refl
+glyph (suc (suc (suc (suc (suc (suc zero)))))) h = refl
+glyph (suc (suc (suc (suc (suc (suc (suc zero))))))) h = refl
+glyph (suc (suc (suc (suc (suc (suc (suc (suc zero)))))))) h = refl
+glyph (suc (suc (suc (suc (suc (suc (suc (suc (suc zero))))))))) h = refl
+glyph (suc (suc (suc (suc (suc (suc (suc (suc (suc (suc zero)))))))))) h = refl
+glyph (suc (suc (suc (suc (suc (suc (suc (suc (suc (suc (suc zero))))))))))) h = refl
+glyph (suc (suc (suc (suc (suc (suc (suc (suc (suc (suc (suc (suc zero)))))))))))) h = refl
+glyph (suc (suc (suc (suc (suc (suc (suc (suc (suc (suc (suc (suc (suc zero))))))))))))) h = refl
+glyph (suc (suc (suc (suc (suc (suc (suc (suc (suc (suc (suc (suc (suc (suc zero)))))))))))))) h = refl
+glyph (suc (suc (suc (suc (suc (suc (suc (suc (suc (suc (suc (suc (suc (suc (suc zero))))))))))))))) h = refl
+glyph (suc (suc (suc (suc (suc (suc (suc (suc (suc (suc (suc (suc (suc (suc (suc (suc k)))))))))))))))) h = absurd (omega arith)
+
+-- two digits are printed for an octet
+abbrev pub two_digits : ℕ → List ℕ
+two_digits n = padded_integral (format_spec 32 0 4 2 (2 ^ 64 - 1)) false [] (digits 16 true n)
+
+two_spelled : (n : ℕ) → n < 256 → two_digits n ≡ slice_index upper_digits (n / 16) ∷ slice_index upper_digits (n % 16) ∷ []
+two_spelled n h = hex_byte true n h ∙ ap₂ (λ (a b : ℕ). a ∷ b ∷ []) (glyph (n / 16) (omega (arith, h))) (glyph (n % 16) (omega (arith, h)))
+
+-- the octets up to this one are written: with what those that are left come to it is the whole
+pub record Written (octets : List ℕ) (i : ℕ) (a b : Option (List ℕ)) : Type 0 where
+  pub front : List ℕ
+  pub whole : front ++ encode_upper (drop i octets) ≡ encode_upper octets
+  pub written : Appends a b front
+
+pub none_written : (octets : List ℕ) (a : Option (List ℕ)) → Written octets 0 a a
+none_written octets a = record { front = []; whole = refl; written = appends_none a }
+
+pub one_written : (octets : List ℕ) (i n : ℕ) (a b c : Option (List ℕ)) → i < length octets → n < 256 → n ≡ slice_index octets i → Written octets i a b → Appends b c (two_digits n) → Written octets (i + 1) a c
+one_written octets i n a b c lt small is h now =
+    let pair : List ℕ = slice_index upper_digits (n / 16) ∷ slice_index upper_digits (n % 16) ∷ [] in
+    let next : encode_upper (drop i octets) ≡ pair ++ encode_upper (drop (i + 1) octets) =
+    encode_with-drop upper_digits octets i lt ∙ ap (λ (k : ℕ). slice_index upper_digits (k / 16) ∷ slice_index upper_digits (k % 16) ∷ encode_upper (drop (i + 1) octets)) (sym is) in
+    record {
+      front = h.front ++ pair;
+      whole = append_assoc h.front pair (encode_upper (drop (i + 1) octets)) ∙ ap (λ xs. h.front ++ xs) (sym next) ∙ h.whole;
+      written = appends_more a b c h.front pair h.written (subst (Appends b c) (two_spelled n small) now);
+    }
+
+pub all_written : (octets : List ℕ) (i : ℕ) (a b : Option (List ℕ)) → length octets ≤ i → Written octets i a b → Appends a b (encode_upper octets)
+unfolding encode_with
+all_written octets i a b le h =
+    subst (Appends a b) (sym (append-nil h.front) ∙ ap (λ xs. h.front ++ encode_upper xs) (sym (drop_all i octets le)) ∙ h.whole) h.written
+
+-- ---- lines
+
+-- the line of a message that goes out is the line of a script that asks for it
+pub again : (m : HostMessage) → crossing_line Texts (crossing.Out m) ≡ spelling (event.Out m)
+again m =
+    let bits : List ℕ = decimal (length m.text) in
+    let octets : List ℕ = codes " " ++ octets_text m.text in
+    ap (λ xs. codes "out " ++ xs) (append_assoc (flow_text m.flow) (codes " " ++ bits) octets)
+
+-- a crossing, what stands behind its bits, and the end of the line
+pub text_line : {E F : Type 0} (detail : Detail) (c : Crossing) (outcome : Result (Unit {0}) E) (told : Result (Unit {0}) F) (first second third last : Option (List ℕ)) → detail ≡ Texts
+    → Appends first second (crossing_text c) → Appends second third (spelled c) → (IsOk told → IsOk outcome) → OnOk outcome (Appends third last (codes "\n")) → OnOk told (Appends first last (ended_line (crossing_line detail c)))
+text_line detail c outcome (Err f) first second third last is crossed behind done end = tt
+text_line detail c outcome (Ok x) first second third last is crossed behind done end =
+    subst (λ (d : Detail). Appends first last (ended_line (crossing_line d c))) (sym is)
+    (appends_more first third last (crossing_text c ++ spelled c) (codes "\n") (appends_more first second third (crossing_text c) (spelled c) crossed behind) (was_ok outcome (done refl) end))
