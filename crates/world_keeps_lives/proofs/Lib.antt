@@ -10,5 +10,10 @@ pub mod Owners
 pub mod Asks
 pub mod Moments
 pub mod Laws
+pub mod Requests
+pub mod RequestCalls
+pub mod Grounds
+pub mod Formed
+pub mod FormedRows
 pub mod Rows
 pub mod lemmas

@@ -1,2 +1,3 @@
 pub mod Lives
 pub mod Worked
+pub mod WorkedFormed

@@ -6,6 +6,7 @@ ghost use Rattle.leader1822.specs.Host.{Host};
 ghost use Rattle.leader1822.specs.Mailboxes as mail;
 ghost use Rattle.net_sim.specs.declared.life.Life.{Life};
 ghost use Rattle.net_sim.specs.Clean.{HaveAddresses, IsLawful};
+ghost use Rattle.net_sim.specs.Formed.{FormedBook, IsFormed};
 ghost use Rattle.net_sim.specs.Safe.{AreHanded, IsGranted, receives};
 ghost use Rattle.net_sim.specs.Story.{Moment, program};
 ghost use Rattle.net_sim.specs.Timeline.{IsTimeline, crossings_of};
@@ -21,6 +22,8 @@ ghost use Rattle.sockets.specs.Worked.{first, second};
 ghost use Rattle.net_sim.specs.Book.{carried, life_ended, granted, new_life, opening_kept, returned};
 ghost use Rattle.world_keeps_lives.specs.Lives.{AreRefusing, EachOn, HasOpenEnd, IsFreeSocket, IsFresh, IsLifeOf, IsOwned, IsSafe, IsSteady, NoneOf, at_socket, mine_on};
 ghost use Rattle.world_keeps_lives.specs.Worked.{worked_end, with_one};
+ghost use Rattle.world_keeps_lives.specs.WorkedFormed.{gave, sent_log, stray_log, took};
+ghost use Rattle.net_sim.specs.Worked.{crossings, taker};
 
 use leader1822::Carrier;
 
@@ -40,14 +43,18 @@ pub fn programs()
 
     // what each sending life sent is a prefix of what was handed over in it
     ensures handed { (hosts : List Host) (moments : List Moment) → HaveAddresses hosts → mail.IsRun hosts (crossings_of moments) → IsTimeline hosts moments → AreHanded (kept_in moments).book.lives (kept_in moments).handed }
+
+    // each life is made of messages that crossed: its two requests stand in those at its stamps, and its bits are those of its data messages
+    ensures formed { (hosts : List Host) (moments : List Moment) → HaveAddresses hosts → mail.IsRun hosts (crossings_of moments) → IsTimeline hosts moments → FormedBook (crossings_of moments) (kept_in moments).book.lives }
 {}
 
 /// The same of the book of every world, whatever its carrier is made of: the two clauses of the safe book that are about one host
-/// alone, and the end of each life that goes on, in the program that comes of the world's moments.
+/// alone, the end of each life that goes on, in the program that comes of the world's moments, and the messages that a life is made of.
 pub fn worlds<C: Carrier>()
     ensures live { (hosts : List Host) (w : WorldState C) → (lawful : IsLawful C.seen hosts w) → (x : Life) → Contains w.kept.book.lives x → x.ended ≡ false → HasOpenEnd (program x.host lawful.whole.moments) x }
     ensures taken { (hosts : List Host) (w : WorldState C) → IsLawful C.seen hosts w → (receiver : Life) → Contains w.kept.book.lives receiver → receives receiver ≡ true → IsGranted receiver receiver.messages (length receiver.bits) }
     ensures handed { (hosts : List Host) (w : WorldState C) → IsLawful C.seen hosts w → AreHanded w.kept.book.lives w.kept.handed }
+    ensures formed { (hosts : List Host) (w : WorldState C) → IsLawful C.seen hosts w → FormedBook w.kept.book.crossings w.kept.book.lives }
 {}
 
 /// Ends.
@@ -106,4 +113,19 @@ pub fn worked_programs()
     ensures taken_up { IsFreeSocket first 16 with_one opening_kept → ⊥ }
     ensures unowned { IsOwned first 16 (opening_state first) opening_kept → ⊥ }
     ensures steady { IsSteady (opening_state first) }
+{}
+
+/// Lives of a small book: eight bits were sent on link 2, after an RTS that named it.
+pub fn worked_formed()
+    // the life that took them and the one that sent them are made of messages that crossed
+    ensures took { IsFormed sent_log took }
+    ensures gave { IsFormed sent_log gave }
+
+    // the life of a safe book that took eight bits, though no message of data crossed, and none that holds its request
+    ensures unsaid { IsFormed crossings taker → ⊥ }
+
+    // the message at the own stamp is an ALL, what came in at the partner's stamp came in to the peer, and the bits are those of link 3
+    ensures another_message { IsFormed sent_log (record took { own_stamp = 12 }) → ⊥ }
+    ensures another_peer { IsFormed sent_log (record took { partner_stamp = 7 }) → ⊥ }
+    ensures another_link { IsFormed stray_log took → ⊥ }
 {}

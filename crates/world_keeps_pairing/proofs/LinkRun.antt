@@ -1,18 +1,18 @@
 -- Links are free over all moments, so two programs are tied to the law.
-use Rattle.std.proofs.Common.{◌≡◌, ℕ, Bool, true, false, ◌&&◌, if◌then◌else◌, List, [], ◌∷◌, None, refl, ap, sym, subst, ◌∙◌}
+use Rattle.std.proofs.Common.{◌≡◌, ℕ, Bool, true, false, ◌&&◌, if◌then◌else◌, List, [], ◌∷◌, None, refl, ap, sym, subst, ◌∙◌, zero, suc, ◌+◌, ◌<◌, ◌≤◌, ◌==◌, ◌++◌, length, slice_index_or, Option, Some, eq-eqb, arith}
 use Rattle.leader1822.specs.Host.{Host, same_host}
 use Rattle.leader1822.specs.declared.crossing.Crossing.TheVariants as crossing
 use Rattle.leader1822.specs.declared.crossing.Inbound.TheVariants as inbound
 use Rattle.leader1822.specs.declared.message.HostMessage.{HostMessage}
 use Rattle.leader1822.proofs.lemmas.{same_host-true}
-use Rattle.host_keeps_ranges.specs.Ranges.{IsRanged}
+use Rattle.host_keeps_ranges.specs.Ranges.{IsRanged, AreCommands}
 use Rattle.sockets.specs.Accepting.{accepted}
 use Rattle.sockets.specs.Pairs.{pair_with}
 use Rattle.sockets.specs.Requests.{refusal}
 use Rattle.sockets.specs.Sending.{offered}
 use Rattle.sockets.proofs.lemmas.{message_leaves, offer_leaves}
 use Rattle.host_pairs.specs.Pair.{PairState}
-use Rattle.pairing_law.specs.Links.{Receiver, Sender, Word}
+use Rattle.pairing_law.specs.Links.{Receiver, Sender, Word, Sockets}
 use Rattle.pairing_law.specs.Places.{placed_event, with_box, with_place}
 use Rattle.reset_law.specs.Boxes.{boxes}
 use Rattle.reset_law.specs.Events.{In, Message, Other, Out, Reply, Reset, are, place}
@@ -20,17 +20,38 @@ use Rattle.reset_law.specs.Runs.{IsRun}
 use Rattle.reset_law.specs.Stays as stay
 use Rattle.net_sim.specs.Projection.{event_of, message_on}
 use Rattle.net_sim.specs.Story.{Asked, Crossed, IsNext, IsStory, Moment, events_of, places, program}
-use Rattle.net_sim.proofs.lemmas.{by_request}
-use Rattle.world_keeps_pairing.specs.Free.{NameFree, NamesFreeAt, TakesFreeAt, law_events}
-use Rattle.world_keeps_pairing.proofs.Served.{AreServed}
+use Rattle.net_sim.proofs.lemmas.{by_request, Coupled, coupled}
+use Rattle.world_keeps_pairing.specs.Free.{NameFree, NamesFreeAt, TakesFreeAt, law_events, origin_in}
+use Rattle.world_keeps_pairing.proofs.Served.{AreServed, served_in}
 use Rattle.world_keeps_pairing.specs.Steps.{all_said, steps, words_of}
-use Rattle.world_keeps_pairing.proofs.Claims.{Claim, heard_claims, said_claims}
+use Rattle.world_keeps_pairing.proofs.Claims.{Claim, heard_claims, said_claims, last_link}
 use Rattle.world_keeps_pairing.proofs.LinkAll.{Linked, heard_nothing, as_before, asked_links, down_links, if_links, told_links, up_links}
 use Rattle.world_keeps_pairing.proofs.LinkCalls.{LinksOf}
 use Rattle.world_keeps_pairing.proofs.LinkMoments.{heard_next, said_next, said_upon, sender_said}
 use Rattle.world_keeps_pairing.proofs.LinkTied.{in_free, in_linked, out_here}
-use Rattle.world_keeps_pairing.proofs.Origins.{served_below, tied_opening}
+use Rattle.world_keeps_pairing.proofs.Origins.{served_below, tied_opening, are_origins}
 use Rattle.world_keeps_pairing.proofs.Tied.{AreOrigins, IsOrigin, Tied, programs_ranged, tied_turn}
+use Rattle.std.proofs.lemmas.Bool.{eqb-true}
+use Rattle.std.specs.List.{Contains}
+use Rattle.leader1822.specs.Mailboxes as mail
+use Rattle.ncp_control.specs.Command.{IsCommand}
+use Rattle.ncp_control.specs.Numbers.{is_receive_socket, is_send_socket}
+use Rattle.ncp_control.specs.declared.command.Command.{Command}
+use Rattle.ncp_control.specs.declared.command.Command.TheVariants as command
+use Rattle.host_pairs.specs.Entries.{is_at, is_link}
+use Rattle.host_pairs.specs.declared.entry.Closing.{Closing}
+use Rattle.host_pairs.specs.declared.entry.Closing.TheVariants as closing
+use Rattle.host_pairs.specs.declared.entry.Entry.{Entry}
+use Rattle.host_pairs.proofs.lemmas.{both}
+use Rattle.host_keeps_ranges.proofs.lemmas.{pair_range}
+use Rattle.host_keeps_pairing.specs.Ends.{HasEnd, Stand, at, close_waits, request_due, standing}
+use Rattle.host_keeps_pairing.specs.Words.{mark_of, marks}
+use Rattle.pairing_law.specs.Ends.{End}
+use Rattle.pairing_law.specs.Marks.{Mark, Ask, Close}
+use Rattle.net_sim.specs.Clean.{HaveAddresses}
+use Rattle.net_sim.specs.Timeline.{IsTimeline, crossings_of}
+use Rattle.world_keeps_pairing.proofs.LinkTurns.{each_split, own_at, stands_alone}
+use Rattle.world_keeps_pairing.proofs.Local.{Each, ReceivesBy, all_claims, claim_first, claim_of}
 
 -- a message of others, or for others
 said_off : (a b x y : Host) (l : ℕ) (m : Message) → are a b x y ≡ false → stay.said_by a b 0 (Out x y l m) ≡ []
@@ -156,3 +177,132 @@ all_tied hosts origin (x ∷ moments) from story run served =
       tied = λ a b. tied_turn hosts origin a b x moments story run served ranged from.0 (names origin hosts programs_ranged a b x moments story ranged t) (takes origin hosts programs_ranged x moments story run ranged from.0 t) (t.tied a b);
       linked = λ a b. links origin hosts programs_ranged a b x moments story run served ranged from.0 t;
     }
+
+-- ---- requests are counted
+
+abbrev asks : List Mark → ℕ
+asks [] = 0
+asks (Ask p ∷ ms) = suc (asks ms)
+asks (Close ∷ ms) = asks ms
+
+asks_append : (xs ys : List Mark) → asks (xs ++ ys) ≡ asks xs + asks ys
+asks_append [] ys = omega arith
+asks_append (Ask p ∷ xs) ys = let rest : asks (xs ++ ys) ≡ asks xs + asks ys = asks_append xs ys in omega (arith, rest)
+asks_append (Close ∷ xs) ys = asks_append xs ys
+
+none_in_close : (c : Closing) → asks (close_waits c) ≡ 0
+none_in_close closing.No = refl
+none_in_close closing.Due = refl
+none_in_close closing.Queued = refl
+none_in_close closing.Sent = refl
+
+one_due : (mine : Bool) (asked : Option ℕ) → asks (request_due 0 mine asked) ≤ 1
+one_due true None = omega arith
+one_due true (Some a) = omega arith
+one_due false asked = omega arith
+
+module _ (o f : ℕ) (even : is_receive_socket o ≡ true) (odd : is_send_socket f ≡ true) where
+  abbrev s : Sockets
+  s = record { receive = o; send = f }
+
+  both_on : (a b : Bool) → a ≡ true → b ≡ true → (a && b) ≡ true
+  both_on a b e g = ap (λ (c : Bool). c && b) e ∙ g
+
+  -- a command that asks for nothing here leaves the last request for these sockets
+  other_claim : (c : Command) (claims : List Claim) → asks (mark_of 0 o f c) ≡ 0 → last_link s (claim_of c claims) ≡ last_link s claims
+  other_claim (command.Rts r n k) claims none = by (is_receive_socket r && is_send_socket n) (o == r && f == n) refl where
+    by : (b c : Bool) → (o == r && f == n) ≡ c → last_link s (if b then record { sockets = record { receive = r; send = n }; link = k } ∷ claims else claims) ≡ last_link s claims
+    by false c e = refl
+    by true true e =
+        let parts : ((o == r) ≡ true) × ((f == n) ≡ true) = both (o == r) (f == n) e in
+        let here : (r == o && n == f) ≡ true = both_on (r == o) (n == f) (eq-eqb r o (sym (eqb-true o r parts.0))) (eq-eqb n f (sym (eqb-true f n parts.1))) in
+        let one : 1 ≡ 0 = sym (ap (λ (t : Bool). asks (if t then Ask 0 ∷ [] else [])) here) ∙ none in
+        absurd (omega (arith, one))
+    by true false e = rw e refl
+  other_claim c claims none = refl
+
+  none_queued : (cs : List Command) (claims : List Claim) → asks (marks 0 o f cs) ≡ 0 → last_link s (all_claims cs claims) ≡ last_link s claims
+  none_queued [] claims none = refl
+  none_queued (c ∷ cs) claims none =
+      let parts : asks (mark_of 0 o f c ++ marks 0 o f cs) ≡ asks (mark_of 0 o f c) + asks (marks 0 o f cs) = asks_append (mark_of 0 o f c) (marks 0 o f cs) in
+      none_queued cs (claim_of c claims) (omega (arith, parts, none)) ∙ other_claim c claims (omega (arith, parts, none))
+
+  -- where one request for them waits, it is the last
+  last_queued : (l : ℕ) (cs : List Command) (claims : List Claim) (i : ℕ) → i < length cs → slice_index_or cs i (command.Rts o f l) ≡ command.Rts o f l → asks (marks 0 o f cs) ≤ 1 → last_link s (all_claims cs claims) ≡ Some l
+  last_queued l [] claims i less is few = absurd (omega (arith, less))
+  last_queued l (c ∷ cs) claims zero less is few =
+      subst (λ (x : Command). asks (marks 0 o f (x ∷ cs)) ≤ 1 → last_link s (all_claims cs (claim_of x claims)) ≡ Some l) (sym is) here few where
+        asked : asks (mark_of 0 o f (command.Rts o f l)) ≡ 1
+        asked = ap (λ (t : Bool). asks (if t then Ask 0 ∷ [] else [])) (both_on (o == o) (f == f) (eq-eqb o o refl) (eq-eqb f f refl))
+
+        first : last_link s (claim_of (command.Rts o f l) claims) ≡ Some l
+        first =
+            ap (λ (t : Bool). last_link s (if t then record { sockets = record { receive = o; send = f }; link = l } ∷ claims else claims)) (both_on (is_receive_socket o) (is_send_socket f) even odd)
+            ∙ claim_first s l claims
+
+        here : asks (mark_of 0 o f (command.Rts o f l) ++ marks 0 o f cs) ≤ 1 → last_link s (all_claims cs (claim_of (command.Rts o f l) claims)) ≡ Some l
+        here k =
+            let parts : asks (mark_of 0 o f (command.Rts o f l) ++ marks 0 o f cs) ≡ asks (mark_of 0 o f (command.Rts o f l)) + asks (marks 0 o f cs) = asks_append (mark_of 0 o f (command.Rts o f l)) (marks 0 o f cs) in
+            none_queued cs (claim_of (command.Rts o f l) claims) (omega (arith, parts, asked, k)) ∙ first
+  last_queued l (c ∷ cs) claims (suc i) less is few =
+      let parts : asks (mark_of 0 o f c ++ marks 0 o f cs) ≡ asks (mark_of 0 o f c) + asks (marks 0 o f cs) = asks_append (mark_of 0 o f c) (marks 0 o f cs) in
+      last_queued l cs (claim_of c claims) i (omega (arith, less)) is (omega (arith, parts, few))
+
+-- ---- lists
+
+record Among (es : List Entry) (e : Entry) : Type 0 where
+  front : List Entry
+  rest : List Entry
+  is : es ≡ front ++ e ∷ rest
+
+among_at : (es : List Entry) (e : Entry) (i : ℕ) → i < length es → slice_index_or es i e ≡ e → Among es e
+among_at [] e i less is = absurd (omega (arith, less))
+among_at (x ∷ es) e zero less is = record { front = []; rest = es; is = ap (λ (y : Entry). y ∷ es) is }
+among_at (x ∷ es) e (suc i) less is = let a : Among es e = among_at es e i (omega (arith, less)) is in record { front = x ∷ a.front; rest = a.rest; is = ap (λ (l : List Entry). x ∷ l) a.is }
+
+command_at : (cs : List Command) (c : Command) (i : ℕ) → i < length cs → slice_index_or cs i c ≡ c → AreCommands cs → IsCommand c
+command_at [] c i less is h = absurd (omega (arith, less))
+command_at (d ∷ cs) c zero less is h = subst IsCommand is h.0
+command_at (d ∷ cs) c (suc i) less is h = command_at cs c i (omega (arith, less)) is h.1
+
+link_known : (l : ℕ) (o : Option ℕ) → is_link l o ≡ true → o ≡ Some l
+link_known l None e = absurd (let both : false ≡ true = e in cc)
+link_known l (Some k) e = ap (λ (n : ℕ). Some n) (eqb-true k l e)
+
+-- of an end there is one request at most that waits
+few : (origin : ℕ → ℕ) (q : PairState) (e : Entry) (x : End) → HasEnd origin e.own e.foreign q x → Among q.entries e → asks (marks 0 e.own e.foreign q.queue) ≤ 1
+few origin q e x h i =
+    let one : Stand true origin 0 (standing e ∷ []) (marks 0 e.own e.foreign q.queue) x =
+    stands_alone true origin 0 e.own e.foreign i.front e i.rest (marks 0 e.own e.foreign q.queue) x (own_at e) (subst (λ (xs : List Entry). Stand true origin 0 (at e.own e.foreign xs) (marks 0 e.own e.foreign q.queue) x) i.is (h.ends 0)) in
+    let parts : asks (request_due 0 e.mine e.asked ++ close_waits e.closing) ≡ asks (request_due 0 e.mine e.asked) + asks (close_waits e.closing) = asks_append (request_due 0 e.mine e.asked) (close_waits e.closing) in
+    let all : asks (marks 0 e.own e.foreign q.queue) ≡ asks (request_due 0 e.mine e.asked ++ close_waits e.closing) = ap asks one.1 in
+    let first : asks (request_due 0 e.mine e.asked) ≤ 1 = one_due e.mine e.asked in
+    let none : asks (close_waits e.closing) ≡ 0 = none_in_close e.closing in
+    omega (arith, parts, all, first, none)
+
+-- ---- the queue of a host's program
+
+module _ (hosts : List Host) (moments : List Moment) (addresses : HaveAddresses hosts) (run : mail.IsRun hosts (crossings_of moments)) (time : IsTimeline hosts moments) where
+  served : AreServed moments
+  served = served_in hosts moments time
+
+  tied : AllTied (origin_in (crossings_of moments)) moments
+  tied =
+      let c : Coupled hosts moments = coupled hosts addresses moments run time in
+      all_tied hosts (origin_in (crossings_of moments)) moments (are_origins 0 (crossings_of moments) [] moments refl) c.story c.run served
+
+  pub queued_commands : (a b : Host) → AreCommands (pair_with b (program a moments).peers).queue
+  queued_commands a b = (pair_range b (program a moments).peers (programs_ranged moments served a).pairs).commands
+
+  pub queued_link : (a b : Host) (l : ℕ) (e : Entry) → Contains (pair_with b (program a moments).peers).queue (command.Rts e.own e.foreign l) → Contains (pair_with b (program a moments).peers).entries e → e.mine ≡ true → e.link ≡ Some l
+  queued_link a b l e waits there mine =
+      let is : IsCommand (command.Rts e.own e.foreign l) = command_at (pair_with b (program a moments).peers).queue (command.Rts e.own e.foreign l) waits.0 waits.1 waits.2 (queued_commands a b) in
+      let i : Among (pair_with b (program a moments).peers).entries e = among_at (pair_with b (program a moments).peers).entries e there.0 there.1 there.2 in
+      let once : asks (marks 0 e.own e.foreign (pair_with b (program a moments).peers).queue) ≤ 1 =
+      few (origin_in (crossings_of moments) a b) (pair_with b (program a moments).peers) e _ ((tied.tied a b).receiver (record { receive = e.own; send = e.foreign }) (is.1, is.3)) i in
+      let last : last_link (record { receive = e.own; send = e.foreign }) (all_claims (pair_with b (program a moments).peers).queue (said_claims (steps a b (law_events moments)))) ≡ Some l =
+      last_queued e.own e.foreign is.1 is.3 l (pair_with b (program a moments).peers).queue (said_claims (steps a b (law_events moments))) waits.0 waits.1 waits.2 once in
+      let names : ReceivesBy (all_claims (pair_with b (program a moments).peers).queue (said_claims (steps a b (law_events moments)))) e =
+      each_split (ReceivesBy (all_claims (pair_with b (program a moments).peers).queue (said_claims (steps a b (law_events moments))))) i.front e i.rest
+      (subst (λ (xs : List Entry). Each (ReceivesBy (all_claims (pair_with b (program a moments).peers).queue (said_claims (steps a b (law_events moments))))) xs) i.is (tied.linked a b).names) in
+      link_known l e.link (names is.1 mine l last)

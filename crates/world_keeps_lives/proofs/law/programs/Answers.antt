@@ -1,3 +1,4 @@
+use Rattle.world_keeps_lives.proofs.Formed.{formed}
 use Rattle.world_keeps_lives.proofs.Laws.{handed, holds, live, taken}
 use Rattle.world_keeps_lives.proofs.law.programs.Goals as goal
 
@@ -15,3 +16,6 @@ returns-clause-taken c hosts moments addresses run time x there r = taken hosts 
 
 pub returns-clause-handed : goal.returns-clause-handed
 returns-clause-handed c hosts moments addresses run time = handed hosts moments addresses run time
+
+pub returns-clause-formed : goal.returns-clause-formed
+returns-clause-formed c hosts moments addresses run time = formed hosts addresses moments run time

@@ -1,3 +1,4 @@
+use Rattle.world_keeps_lives.proofs.Formed.{world_formed}
 use Rattle.world_keeps_lives.proofs.Laws.{world_handed, world_live, world_taken}
 use Rattle.world_keeps_lives.proofs.law.worlds.Goals as goal
 
@@ -9,3 +10,6 @@ returns-clause-taken g c hosts w lawful x there r = world_taken g.C.Carrier.seen
 
 pub returns-clause-handed : goal.returns-clause-handed
 returns-clause-handed g c hosts w lawful = world_handed g.C.Carrier.seen hosts w lawful
+
+pub returns-clause-formed : goal.returns-clause-formed
+returns-clause-formed g c hosts w lawful = world_formed g.C.Carrier.seen hosts w lawful

@@ -1,0 +1,20 @@
+use Rattle.world_keeps_lives.proofs.FormedRows.{row_another_link, row_another_message, row_another_peer, row_gave, row_took, row_unsaid}
+use Rattle.world_keeps_lives.proofs.law.worked_formed.Goals as goal
+
+pub returns-clause-took : goal.returns-clause-took
+returns-clause-took c = row_took
+
+pub returns-clause-gave : goal.returns-clause-gave
+returns-clause-gave c = row_gave
+
+pub returns-clause-unsaid : goal.returns-clause-unsaid
+returns-clause-unsaid c = row_unsaid
+
+pub returns-clause-another_message : goal.returns-clause-another_message
+returns-clause-another_message c = row_another_message
+
+pub returns-clause-another_peer : goal.returns-clause-another_peer
+returns-clause-another_peer c = row_another_peer
+
+pub returns-clause-another_link : goal.returns-clause-another_link
+returns-clause-another_link c = row_another_link
