@@ -59,7 +59,8 @@ fn replay_over<C: Carrier, W: Write>(
     book: bool,
     writer: &mut W,
 ) -> Result<(), ScriptFault>
-    requires { (C.seen carrier).log ≡ [] }
+    requires unused { (C.seen carrier).log ≡ [] }
+    requires running { (C.seen carrier).stopped ≡ false }
     ensures replayed { OnOk result (ReplaysFrom (record { seen = C.seen; offers = C.offers; takes = C.takes; steps = C.steps; rounds = C.rounds }) carrier book (asked_of events) (W.contents writer.old) (W.contents writer.new)) }
     ensures stopped { result ≡ Err ScriptFault.OutOfMemory → Keeps (W.contents writer.old) (W.contents writer.new) ⊎ EndsFrom (record { seen = C.seen; offers = C.offers; takes = C.takes; steps = C.steps; rounds = C.rounds }) carrier (asked_of events) (W.contents writer.old) (W.contents writer.new) }
     ensures fault { IfErr result IsReplayFault }
@@ -100,7 +101,8 @@ fn replay_world<C: Carrier, W: Write>(
     book: bool,
     writer: &mut W,
 ) -> Result<(), ScriptFault>
-    requires { (C.seen carrier).log ≡ [] }
+    requires unused { (C.seen carrier).log ≡ [] }
+    requires running { (C.seen carrier).stopped ≡ false }
     ensures replayed { OnOk result (WritesWorld book (WorldShowsFrom (hosting (record { seen = C.seen; offers = C.offers; takes = C.takes; steps = C.steps; rounds = C.rounds })) carrier events.items) (W.contents writer.old) (W.contents writer.new)) }
     ensures stopped { result ≡ Err ScriptFault.OutOfMemory → Keeps (W.contents writer.old) (W.contents writer.new) ⊎ lines.Writes (WorldStopsFrom (hosting (record { seen = C.seen; offers = C.offers; takes = C.takes; steps = C.steps; rounds = C.rounds })) carrier events.items) (W.contents writer.old) (W.contents writer.new) }
     ensures fault { IfErr result IsReplayFault }

@@ -11,5 +11,6 @@ pub mod Places
 pub mod Refusals
 pub mod RunLoop
 pub mod SafeRow
+pub mod Undoing
 pub mod Unsafe
 pub mod Whole
