@@ -1,6 +1,6 @@
 //! Over which carrier a script is replayed, without host programs or with them.
 
-ghost use Rattle.std.specs.Prelude.{◌≡◌, ◌⊎◌, ◌++◌, [], codes, Err, IfErr, IfOk, OnOk};
+ghost use Rattle.std.specs.Prelude.{◌≡◌, ◌⊎◌, ◌++◌, [], codes, Err, IfErr, IfOk, OnOk, false};
 ghost use Rattle.std.specs.Io.KnownBytes.{Appends, Keeps};
 ghost use Rattle.replay.specs.Output.{Writes};
 ghost use Rattle.world_replay.specs.Output as lines;
@@ -70,7 +70,8 @@ fn replay_over<C: Carrier, W: Write>(
     detail: Detail,
     writer: &mut W,
 ) -> Result<(), ScriptFault>
-    requires { (C.seen carrier).log ≡ [] }
+    requires unused { (C.seen carrier).log ≡ [] }
+    requires running { (C.seen carrier).stopped ≡ false }
     ensures replayed { OnOk result (ReplaysFrom (record { seen = C.seen; offers = C.offers; takes = C.takes; steps = C.steps; rounds = C.rounds }) carrier book detail (asked_of events) (W.contents writer.old) (W.contents writer.new)) }
     ensures stopped { result ≡ Err ScriptFault.OutOfMemory → Keeps (W.contents writer.old) (W.contents writer.new) ⊎ EndsFrom (record { seen = C.seen; offers = C.offers; takes = C.takes; steps = C.steps; rounds = C.rounds }) carrier detail (asked_of events) (W.contents writer.old) (W.contents writer.new) }
     ensures fault { IfErr result IsReplayFault }
@@ -113,7 +114,8 @@ fn replay_world<C: Carrier, W: Write>(
     detail: Detail,
     writer: &mut W,
 ) -> Result<(), ScriptFault>
-    requires { (C.seen carrier).log ≡ [] }
+    requires unused { (C.seen carrier).log ≡ [] }
+    requires running { (C.seen carrier).stopped ≡ false }
     ensures replayed { OnOk result (WritesWorld book detail (WorldShowsFrom (hosting (record { seen = C.seen; offers = C.offers; takes = C.takes; steps = C.steps; rounds = C.rounds })) carrier events.items) (W.contents writer.old) (W.contents writer.new)) }
     ensures stopped { result ≡ Err ScriptFault.OutOfMemory → Keeps (W.contents writer.old) (W.contents writer.new) ⊎ lines.Writes detail (WorldStopsFrom (hosting (record { seen = C.seen; offers = C.offers; takes = C.takes; steps = C.steps; rounds = C.rounds })) carrier events.items) (W.contents writer.old) (W.contents writer.new) }
     ensures fault { IfErr result IsReplayFault }

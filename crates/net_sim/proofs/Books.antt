@@ -13,6 +13,7 @@ pub mod Refusals
 pub mod Reported
 pub mod RunLoop
 pub mod SafeRow
+pub mod Undoing
 pub mod Unsafe
 pub mod UnsafeEnded
 pub mod Whole

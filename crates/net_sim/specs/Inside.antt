@@ -6,3 +6,4 @@ pub mod Seats
 pub mod Parts
 pub mod Held
 pub mod Calm
+pub mod Undo

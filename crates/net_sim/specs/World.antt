@@ -105,7 +105,7 @@ pub record WorldState (C : Type 0) : Type 0 where
   pub kept : Kept
   pub stopped : Bool
 
--- over a carrier that hasn't been used
+-- over a carrier whose log is empty
 abbrev pub opening_world : {C : Type 0} → Calls C → C → WorldState C
 opening_world calls c = record {
   carrier = c;

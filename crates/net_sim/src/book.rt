@@ -4,15 +4,14 @@ ghost use Rattle.std.specs.Prelude.{◌≡◌, OnErr, OnOk, reverse};
 ghost use Rattle.net_sim.specs.Book.{opening_kept};
 ghost use Rattle.net_sim.specs.Inside.Lives.{written};
 
+use crate::bit_log::BitLog;
 use crate::life::Life;
 use crate::lives::Lives;
-use bit_messages::Bits;
 use host_services::Reported;
 use leader1822::{Crossing, HostAddr};
 use sockets::{Notice, Request};
 use std::alloc::{AllocError, Global};
 use std::marker::Model;
-use std::mem;
 
 /// Something that the user of a host was told.
 #[derive(Debug, Drop)]
@@ -59,28 +58,24 @@ pub(crate) struct Page {
 /// reported, a life for each opened end of a connection, and what was handed over to be sent in each. All of them stand in their order,
 /// the oldest first.
 ///
-/// What is written at one time is written whole or not at all. So the lives are kept twice: those that are shown,
-/// and a spare copy, in which changes are tried first.
+/// What is written at one time is written whole or not at all: where memory runs out in the lives, they are taken back to what they
+/// were, and for all else there is room before anything is written.
 #[derive(Drop)]
 pub struct Book {
     crossings: Vec<Crossing>,
     notices: Vec<Told>,
     contacts: Vec<Called>,
     reports: Vec<Reported>,
-    shown: Lives,
-    spare: Lives,
-    stale: bool,
+    lives: Lives,
 }
 
 impl Model for Book {
-    ghost use Rattle.std.specs.Prelude.{◌≡◌, false, reverse};
+    ghost use Rattle.std.specs.Prelude.{reverse};
     ghost use Rattle.net_sim.specs.Book.{Kept};
 
     ghost Value = { Kept };
 
-    ghost view = { λ b. record { book = record { crossings = reverse b.crossings.items; notices = b.notices.items; contacts = b.contacts.items; reports = b.reports.items; lives = b.shown.lives }; handed = b.shown.handed } };
-
-    ghost invariant = { λ b. b.stale ≡ false → b.spare ≡ b.shown };
+    ghost view = { λ b. record { book = record { crossings = reverse b.crossings.items; notices = b.notices.items; contacts = b.contacts.items; reports = b.reports.items; lives = b.lives.lives }; handed = b.lives.handed } };
 }
 
 impl Book {
@@ -93,9 +88,7 @@ impl Book {
             notices: Vec::new(alloc),
             contacts: Vec::new(alloc),
             reports: Vec::new(alloc),
-            shown: Lives::new(alloc),
-            spare: Lives::new(alloc),
-            stale: false,
+            lives: Lives::new(alloc),
         }
     }
 
@@ -131,14 +124,14 @@ impl Book {
     pub fn lives(&self) -> &[Life]
         ensures { result.now ≡ self.now.book.lives }
     {
-        self.shown.lives()
+        self.lives.lives()
     }
 
     /// What was handed over to be sent, a list of bits for each life.
-    pub fn handed(&self) -> &[Bits]
+    pub fn handed(&self) -> &[BitLog]
         ensures { result.now ≡ self.now.handed }
     {
-        self.shown.handed()
+        self.lives.handed()
     }
 
     /// Writes down what happened in one step.
@@ -146,17 +139,11 @@ impl Book {
         ensures done { OnOk result (self.new ≡ written page.crossings.items page.asked page.called.items page.told.items page.by page.ran.items page.reports.items self.old) }
         ensures kept { OnErr result (self.new ≡ self.old) }
     {
-        if self.stale {
-            return Err(AllocError);
-        }
-        self.stale = true;
-        self.spare.follow(&page)?;
         self.crossings.reserve(page.crossings.len())?;
         self.contacts.reserve(page.called.len())?;
         self.notices.reserve(page.told.len())?;
         self.reports.reserve(page.reports.len())?;
-        mem::swap(&mut self.shown, &mut self.spare);
-        self.stale = self.spare.follow(&page).is_err();
+        self.lives.follow(&page)?;
         let Page {
             mut crossings,
             mut called,

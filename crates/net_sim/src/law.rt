@@ -73,7 +73,7 @@ pub fn stories()
 /// What stands in the book of a world, whatever its carrier is made of: all that crossed, except for the event in which memory ran
 /// out, after every list of events.
 pub fn books<C: Carrier>()
-    // over a carrier that hasn't been used
+    // over a carrier whose log is empty
     ensures opening { (c : C) → (C.seen c).log ≡ [] → IsBooked C.seen (opening_world (shown (record { seen = C.seen; offers = C.offers; takes = C.takes; steps = C.steps; rounds = C.rounds })) c) }
 
     // an event that is refused, or in which memory runs out, leaves the book and what was handed over as they were
@@ -113,7 +113,7 @@ pub fn mailboxes()
 /// made of. All that is kept, except for what services report, is theirs, and until memory runs out each host has the program that
 /// comes of them.
 pub fn worlds<C: Carrier>()
-    // over a carrier that hasn't been used
+    // over a carrier whose log is empty
     ensures opening { (c : C) → (C.seen c).log ≡ [] → IsWhole C.seen (C.seen c).hosts (opening_world (shown (record { seen = C.seen; offers = C.offers; takes = C.takes; steps = C.steps; rounds = C.rounds })) c) }
 
     // after one event, a list of events, and so many quiet rounds with all that the hosts take and say between them, where users
@@ -137,7 +137,7 @@ pub fn clean_resets<C: Carrier>()
     ensures agrees { (hosts : List Host) (w : WorldState C) → IsLawful C.seen hosts w → w.stopped ≡ false → (a b : Host) (s : NcpState) → seat_of a w.seats ≡ Some (record { host = a; program = Some s }) → Agrees (pair_with b s.peers) (pairs.pair a b (events_in w.kept.book.contacts w.kept.book.crossings)) }
 {}
 
-/// The worlds of which that is said: those that began over a carrier that hasn't been used, between hosts with addresses, however
+/// The worlds of which that is said: those that began over a carrier whose log is empty, between hosts with addresses, however
 /// they went on.
 pub fn lawful_worlds<C: Carrier>()
     ensures opening { (c : C) → (C.seen c).log ≡ [] → HaveAddresses (C.seen c).hosts → IsLawful C.seen (C.seen c).hosts (opening_world (shown (record { seen = C.seen; offers = C.offers; takes = C.takes; steps = C.steps; rounds = C.rounds })) c) }

@@ -11,6 +11,7 @@
 #![tactic(auto)]
 
 mod asking;
+mod bit_log;
 mod book;
 mod calm;
 mod event;
@@ -21,12 +22,14 @@ mod life;
 mod lives;
 mod parts;
 mod seat;
+mod undo;
 pub mod worked;
 pub mod worked_moments;
 pub mod worked_reports;
 pub mod worked_resets;
 mod world;
 
+pub use bit_log::BitLog;
 pub use book::{Book, Called, Told};
 pub use event::{Event, WorldFault};
 pub use host_services::{Report, Reported, TypedLine};

@@ -1,10 +1,13 @@
 //! Lives of connections: each opened end, from its opening on.
 
-ghost use Rattle.std.specs.Prelude.{◌≡◌, ◌++◌, if◌then◌else◌, OnOk};
+ghost use Rattle.std.specs.Prelude.{◌≡◌, ◌++◌, if◌then◌else◌, OnErr, OnOk};
 ghost use Rattle.net_sim.specs.Book as book;
 ghost use Rattle.net_sim.specs.Book.{lives_at, lives_between, lives_with, lives_on, changed_when};
 ghost use Rattle.net_sim.specs.Inside.Endings.{ends};
+ghost use Rattle.net_sim.specs.Inside.Undo.{AreNoted, IsNoted, life_back, mark_of};
 
+use crate::bit_log::BitLog;
+use crate::undo::{Mark, Undo};
 use bit_messages::Bits;
 use leader1822::HostAddr;
 use std::alloc::{AllocError, Global};
@@ -31,7 +34,8 @@ impl Amount {
 
     /// So much more. A count that can't be held counts as running out of memory.
     fn add(&mut self, messages: u16, bits: u32) -> Result<(), AllocError>
-        ensures { OnOk result (self.new ≡ book.more messages bits self.old) }
+        ensures done { OnOk result (self.new ≡ book.more messages bits self.old) }
+        ensures kept { OnErr result (self.new ≡ self.old) }
     {
         let Some(messages) = self.messages.checked_add(u128::from(messages)) else {
             return Err(AllocError);
@@ -63,7 +67,7 @@ pub struct Life {
     /// Where the request of its partner was taken.
     pub partner_stamp: usize,
     /// What it has sent, or taken, in order.
-    pub bits: Bits,
+    pub bits: BitLog,
     /// How many messages that was.
     pub messages: u128,
     /// What the user of a receiving end granted to its sender.
@@ -156,79 +160,125 @@ impl Life {
         }
     }
 
-    /// A message more was sent or taken at a socket, with these bits: in this life, where it is that of the socket.
+    /// Its counts.
+    fn mark(&self) -> Mark
+        ensures { result ≡ mark_of self.now }
+    {
+        Mark {
+            bits: self.bits.len(),
+            messages: self.messages,
+            granted: self.granted,
+            returned: self.returned,
+        }
+    }
+
+    /// Its counts are these again.
+    pub(crate) fn put_back(&mut self, was: &Mark)
+        ensures { self.new ≡ life_back was.now self.old }
+    {
+        self.bits.cut(was.bits);
+        self.messages = was.messages;
+        self.granted = was.granted;
+        self.returned = was.returned;
+    }
+
+    /// A message more was sent or taken at a socket, with these bits: in this life, where it is that of the socket. How it was
+    /// is noted.
     pub(crate) fn carry_at(
         &mut self,
+        at: usize,
         host: HostAddr,
         socket: u32,
         bits: &Bits,
+        done: &mut Vec<Undo>,
     ) -> Result<(), AllocError>
         ensures done { OnOk result (self.new ≡ changed_when (lives_at host socket self.old) (book.carried bits.now) self.old) }
         ensures goes_on { self.new.ended ≡ self.old.ended }
+        ensures noted { IsNoted at done.old.items self.old done.new.items self.new }
     {
         if !self.is_at(host, socket) {
             return Ok(());
         }
+        done.push(Undo::Changed {
+            at,
+            was: self.mark(),
+        })?;
         let Some(messages) = self.messages.checked_add(1) else {
             return Err(AllocError);
         };
-        let Ok(()) = self.bits.append(bits) else {
-            return Err(AllocError);
-        };
+        self.bits.append(bits)?;
         self.messages = messages;
         Ok(())
     }
 
-    /// So much more was granted at a socket.
+    /// So much more was granted at a socket. How the life was is noted.
     pub(crate) fn grant_at(
         &mut self,
+        at: usize,
         host: HostAddr,
         socket: u32,
         messages: u16,
         bits: u32,
+        done: &mut Vec<Undo>,
     ) -> Result<(), AllocError>
         ensures done { OnOk result (self.new ≡ changed_when (lives_at host socket self.old) (book.granted messages bits) self.old) }
         ensures goes_on { self.new.ended ≡ self.old.ended }
+        ensures noted { IsNoted at done.old.items self.old done.new.items self.new }
     {
         if !self.is_at(host, socket) {
             return Ok(());
         }
+        done.push(Undo::Changed {
+            at,
+            was: self.mark(),
+        })?;
         self.granted.add(messages, bits)
     }
 
-    /// So much more was returned at a socket.
+    /// So much more was returned at a socket. How the life was is noted.
     pub(crate) fn give_back_at(
         &mut self,
+        at: usize,
         host: HostAddr,
         socket: u32,
         messages: u16,
         bits: u32,
+        done: &mut Vec<Undo>,
     ) -> Result<(), AllocError>
         ensures done { OnOk result (self.new ≡ changed_when (lives_at host socket self.old) (book.returned messages bits) self.old) }
         ensures goes_on { self.new.ended ≡ self.old.ended }
+        ensures noted { IsNoted at done.old.items self.old done.new.items self.new }
     {
         if !self.is_at(host, socket) {
             return Ok(());
         }
+        done.push(Undo::Changed {
+            at,
+            was: self.mark(),
+        })?;
         self.returned.add(messages, bits)
     }
 
-    /// Bits more were handed over to be sent at a socket.
+    /// Bits more were handed over to be sent at a socket. How many there were is noted.
     pub(crate) fn hand_at(
         &self,
+        at: usize,
         host: HostAddr,
         socket: u32,
         bits: &Bits,
-        handed: &mut Bits,
+        handed: &mut BitLog,
+        done: &mut Vec<Undo>,
     ) -> Result<(), AllocError>
-        ensures { OnOk result (handed.new ≡ (if lives_at host socket self.now then handed.old ++ bits.now else handed.old)) }
+        ensures done { OnOk result (handed.new ≡ (if lives_at host socket self.now then handed.old ++ bits.now else handed.old)) }
+        ensures noted { AreNoted at done.old.items handed.old done.new.items handed.new }
     {
         if !self.is_at(host, socket) {
             return Ok(());
         }
-        let Ok(()) = handed.append(bits) else {
-            return Err(AllocError);
-        };
-        Ok(())
+        done.push(Undo::Handed {
+            at,
+            bits: handed.len(),
+        })?;
+        handed.append(bits)
     }
 }

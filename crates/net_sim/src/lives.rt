@@ -1,14 +1,17 @@
 //! What each thing that happens does to all lives.
 
-ghost use Rattle.std.specs.Prelude.{◌≡◌, false, filter, OnOk};
+ghost use Rattle.std.specs.Prelude.{◌≡◌, Bool, false, filter, IfOk, List, OnErr, OnOk};
 ghost use Rattle.net_sim.specs.Book as book;
 ghost use Rattle.net_sim.specs.Book.{lives_at, where_it, handed_to};
 ghost use Rattle.net_sim.specs.Inside.Endings.{ends};
 ghost use Rattle.net_sim.specs.Inside.Lives as all;
 ghost use Rattle.net_sim.specs.Inside.Places.{places, is_open_at};
+ghost use Rattle.net_sim.specs.Inside.Undo.{all_undone, GoesBack};
 
+use crate::bit_log::BitLog;
 use crate::book::{Page, Told};
 use crate::life::{Amount, Ending, Life};
+use crate::undo::{Undo, take_back};
 use bit_messages::Bits;
 use leader1822::{Crossing, HostAddr};
 use sockets::{Notice, Request};
@@ -21,7 +24,7 @@ use std::marker::Model;
 #[derive(Drop)]
 pub(crate) struct Lives {
     lives: Vec<Life>,
-    handed: Vec<Bits>,
+    handed: Vec<BitLog>,
     open_at: Vec<usize>,
     alloc: Global,
 }
@@ -53,13 +56,15 @@ fn carry(
     host: HostAddr,
     socket: u32,
     bits: &Bits,
+    done: &mut Vec<Undo>,
 ) -> Result<(), AllocError>
     requires { open_at.now ≡ places lives.old }
     ensures done { OnOk result (lives.new ≡ where_it (lives_at host socket) (book.carried bits.now) lives.old) }
     ensures kept { places lives.new ≡ places lives.old }
+    ensures back { (handed : List (List Bool)) → GoesBack done.old.items (record { lives = lives.old; handed = handed }) done.new.items (record { lives = lives.new; handed = handed }) }
 {
     for at in open_at {
-        lives[*at].carry_at(host, socket, bits)?;
+        lives[*at].carry_at(*at, host, socket, bits, done)?;
     }
     Ok(())
 }
@@ -72,13 +77,15 @@ fn grant(
     socket: u32,
     messages: u16,
     bits: u32,
+    done: &mut Vec<Undo>,
 ) -> Result<(), AllocError>
     requires { open_at.now ≡ places lives.old }
     ensures done { OnOk result (lives.new ≡ where_it (lives_at host socket) (book.granted messages bits) lives.old) }
     ensures kept { places lives.new ≡ places lives.old }
+    ensures back { (handed : List (List Bool)) → GoesBack done.old.items (record { lives = lives.old; handed = handed }) done.new.items (record { lives = lives.new; handed = handed }) }
 {
     for at in open_at {
-        lives[*at].grant_at(host, socket, messages, bits)?;
+        lives[*at].grant_at(*at, host, socket, messages, bits, done)?;
     }
     Ok(())
 }
@@ -91,13 +98,15 @@ fn give_back(
     socket: u32,
     messages: u16,
     bits: u32,
+    done: &mut Vec<Undo>,
 ) -> Result<(), AllocError>
     requires { open_at.now ≡ places lives.old }
     ensures done { OnOk result (lives.new ≡ where_it (lives_at host socket) (book.returned messages bits) lives.old) }
     ensures kept { places lives.new ≡ places lives.old }
+    ensures back { (handed : List (List Bool)) → GoesBack done.old.items (record { lives = lives.old; handed = handed }) done.new.items (record { lives = lives.new; handed = handed }) }
 {
     for at in open_at {
-        lives[*at].give_back_at(host, socket, messages, bits)?;
+        lives[*at].give_back_at(*at, host, socket, messages, bits, done)?;
     }
     Ok(())
 }
@@ -109,14 +118,16 @@ fn hand(
     host: HostAddr,
     socket: u32,
     bits: &Bits,
-    handed: &mut [Bits],
+    handed: &mut [BitLog],
+    done: &mut Vec<Undo>,
 ) -> Result<(), AllocError>
     requires { open_at.now ≡ places lives.now }
-    ensures { OnOk result (handed.new ≡ handed_to (lives_at host socket) bits.now lives.now handed.old) }
+    ensures done { OnOk result (handed.new ≡ handed_to (lives_at host socket) bits.now lives.now handed.old) }
+    ensures back { GoesBack done.old.items (record { lives = lives.now; handed = handed.old }) done.new.items (record { lives = lives.now; handed = handed.new }) }
 {
     for at in open_at {
         if *at < handed.len() {
-            lives[*at].hand_at(host, socket, bits, &mut handed[*at])?;
+            lives[*at].hand_at(*at, host, socket, bits, &mut handed[*at], done)?;
         }
     }
     Ok(())
@@ -139,6 +150,15 @@ fn forget_ended(open_at: &mut Vec<usize>, lives: &[Life])
     open_at.retain(|at| is_open(lives, *at));
 }
 
+/// A copy of places.
+fn copied(alloc: Global, places: &[usize]) -> Result<Vec<usize>, AllocError>
+    ensures { IfOk result (λ copy. copy.items ≡ places.now) }
+{
+    let mut copy = Vec::new(alloc);
+    copy.extend_from_slice(places)?;
+    Ok(copy)
+}
+
 impl Lives {
     /// No lives.
     pub(crate) fn new(alloc: Global) -> Lives
@@ -153,39 +173,57 @@ impl Lives {
     }
 
     /// The lives that end are marked as ended.
-    fn end(&mut self, ending: &Ending)
-        ensures { self.new ≡ all.lives_state_ended ending.now self.old }
+    fn end(&mut self, ending: &Ending, done: &mut Vec<Undo>) -> Result<(), AllocError>
+        ensures done { OnOk result (self.new ≡ all.lives_state_ended ending.now self.old) }
+        ensures back { GoesBack done.old.items self.old done.new.items self.new }
     {
+        let open_at = copied(self.alloc, &self.open_at)?;
+        done.push(Undo::Ended { open_at })?;
         end(&mut self.lives, &self.open_at, ending);
         forget_ended(&mut self.open_at, &self.lives);
+        Ok(())
     }
 
     /// A life begins, with nothing handed over yet.
-    fn begin(&mut self, life: Life) -> Result<(), AllocError>
+    fn begin(&mut self, life: Life, done: &mut Vec<Undo>) -> Result<(), AllocError>
         requires begins { life.ended ≡ false }
-        ensures { OnOk result (self.new ≡ all.begun life self.old) }
+        ensures done { OnOk result (self.new ≡ all.begun life self.old) }
+        ensures back { GoesBack done.old.items self.old done.new.items self.new }
     {
         self.open_at.reserve(1)?;
-        self.handed.push(Bits::new(self.alloc))?;
+        self.handed.reserve(1)?;
+        self.lives.reserve(1)?;
         let at = self.lives.len();
-        self.lives.push(life)?;
+        done.push(Undo::Begun {
+            lives: at,
+            handed: self.handed.len(),
+        })?;
+        self.handed.push_reserved(BitLog::new(self.alloc));
+        self.lives.push_reserved(life);
         self.open_at.push_reserved(at);
         Ok(())
     }
 
     /// Something crossed: a host that stops ends its lives.
-    fn cross(&mut self, crossing: &Crossing)
-        ensures { self.new ≡ all.crossed crossing.now self.old }
+    fn cross(&mut self, crossing: &Crossing, done: &mut Vec<Undo>) -> Result<(), AllocError>
+        ensures done { OnOk result (self.new ≡ all.crossed crossing.now self.old) }
+        ensures back { GoesBack done.old.items self.old done.new.items self.new }
     {
         match crossing {
-            Crossing::Down(host) => self.end(&Ending::On { host: *host }),
-            Crossing::Out(_) | Crossing::In(_) | Crossing::Answer(..) | Crossing::Up(_) => {}
+            Crossing::Down(host) => self.end(&Ending::On { host: *host }, done),
+            Crossing::Out(_) | Crossing::In(_) | Crossing::Answer(..) | Crossing::Up(_) => Ok(()),
         }
     }
 
     /// The user of a host was told something.
-    fn tell(&mut self, host: HostAddr, notice: &Notice) -> Result<(), AllocError>
-        ensures { OnOk result (self.new ≡ all.lives_state_told host notice.now self.old) }
+    fn tell(
+        &mut self,
+        host: HostAddr,
+        notice: &Notice,
+        done: &mut Vec<Undo>,
+    ) -> Result<(), AllocError>
+        ensures done { OnOk result (self.new ≡ all.lives_state_told host notice.now self.old) }
+        ensures back { GoesBack done.old.items self.old done.new.items self.new }
     {
         match notice {
             Notice::Opened {
@@ -194,38 +232,38 @@ impl Lives {
                 foreign,
                 own_stamp,
                 partner_stamp,
-            } => self.begin(Life {
-                host,
-                socket: *socket,
-                peer: *peer,
-                foreign: *foreign,
-                own_stamp: *own_stamp,
-                partner_stamp: *partner_stamp,
-                bits: Bits::new(self.alloc),
-                messages: 0,
-                granted: Amount::nothing(),
-                returned: Amount::nothing(),
-                ended: false,
-            }),
+            } => {
+                let life = Life {
+                    host,
+                    socket: *socket,
+                    peer: *peer,
+                    foreign: *foreign,
+                    own_stamp: *own_stamp,
+                    partner_stamp: *partner_stamp,
+                    bits: BitLog::new(self.alloc),
+                    messages: 0,
+                    granted: Amount::nothing(),
+                    returned: Amount::nothing(),
+                    ended: false,
+                };
+                self.begin(life, done)
+            }
             Notice::Ended {
                 socket,
                 peer,
                 foreign,
             } => {
-                self.end(&Ending::Between {
+                let ending = Ending::Between {
                     host,
                     socket: *socket,
                     peer: *peer,
                     foreign: *foreign,
-                });
-                Ok(())
+                };
+                self.end(&ending, done)
             }
-            Notice::PairReset { peer } => {
-                self.end(&Ending::With { host, peer: *peer });
-                Ok(())
-            }
+            Notice::PairReset { peer } => self.end(&Ending::With { host, peer: *peer }, done),
             Notice::Sent { socket, bits } | Notice::Arrived { socket, bits } => {
-                carry(&mut self.lives, &self.open_at, host, *socket, bits)
+                carry(&mut self.lives, &self.open_at, host, *socket, bits, done)
             }
             Notice::Returned {
                 socket,
@@ -238,6 +276,7 @@ impl Lives {
                 *socket,
                 *messages,
                 *bits,
+                done,
             ),
             Notice::Ready { .. }
             | Notice::ContactFailed { .. }
@@ -248,8 +287,14 @@ impl Lives {
     }
 
     /// The user of a host asked for something, and wasn't refused.
-    fn ask(&mut self, host: HostAddr, request: &Request) -> Result<(), AllocError>
-        ensures { OnOk result (self.new ≡ all.asked host request.now self.old) }
+    fn ask(
+        &mut self,
+        host: HostAddr,
+        request: &Request,
+        done: &mut Vec<Undo>,
+    ) -> Result<(), AllocError>
+        ensures done { OnOk result (self.new ≡ all.asked host request.now self.old) }
+        ensures back { GoesBack done.old.items self.old done.new.items self.new }
     {
         match request {
             Request::Grant {
@@ -263,17 +308,17 @@ impl Lives {
                 *socket,
                 *messages,
                 *bits,
+                done,
             ),
-            Request::Send { socket, bits } => {
-                hand(
-                    &self.lives,
-                    &self.open_at,
-                    host,
-                    *socket,
-                    bits,
-                    &mut self.handed,
-                )
-            }
+            Request::Send { socket, bits } => hand(
+                &self.lives,
+                &self.open_at,
+                host,
+                *socket,
+                bits,
+                &mut self.handed,
+                done,
+            ),
             Request::Contact { .. }
             | Request::Listen { .. }
             | Request::OpenSend { .. }
@@ -286,48 +331,81 @@ impl Lives {
     }
 
     /// All of these crossed, one after another.
-    fn cross_all(&mut self, crossings: &[Crossing])
-        ensures { self.new ≡ all.all_crossed crossings.now self.old }
+    fn cross_all(&mut self, crossings: &[Crossing], done: &mut Vec<Undo>) -> Result<(), AllocError>
+        ensures done { OnOk result (self.new ≡ all.all_crossed crossings.now self.old) }
+        ensures back { GoesBack done.old.items self.old done.new.items self.new }
     {
         for crossing in crossings {
-            self.cross(crossing);
+            self.cross(crossing, done)?;
         }
+        Ok(())
     }
 
     /// Users were told all of this, one after another.
-    fn tell_all(&mut self, told: &[Told]) -> Result<(), AllocError>
-        ensures { OnOk result (self.new ≡ all.all_told told.now self.old) }
+    fn tell_all(&mut self, told: &[Told], done: &mut Vec<Undo>) -> Result<(), AllocError>
+        ensures done { OnOk result (self.new ≡ all.all_told told.now self.old) }
+        ensures back { GoesBack done.old.items self.old done.new.items self.new }
     {
         for one in told {
-            self.tell(one.host, &one.notice)?;
+            self.tell(one.host, &one.notice, done)?;
         }
         Ok(())
     }
 
     /// The services of a host asked for all of this, one after another, and weren't refused.
-    fn ask_all(&mut self, host: HostAddr, requests: &[Request]) -> Result<(), AllocError>
-        ensures { OnOk result (self.new ≡ all.all_asked host requests.now self.old) }
+    fn ask_all(
+        &mut self,
+        host: HostAddr,
+        requests: &[Request],
+        done: &mut Vec<Undo>,
+    ) -> Result<(), AllocError>
+        ensures done { OnOk result (self.new ≡ all.all_asked host requests.now self.old) }
+        ensures back { GoesBack done.old.items self.old done.new.items self.new }
     {
         for request in requests {
-            self.ask(host, request)?;
+            self.ask(host, request, done)?;
         }
         Ok(())
     }
 
     /// All of this happened, in this order: crossings, what a user asked for, what users were told, and what the services of
     /// a host asked for then.
-    pub(crate) fn follow(&mut self, page: &Page) -> Result<(), AllocError>
-        ensures { OnOk result (self.new ≡ all.followed page.now.crossings.items page.now.asked page.now.told.items page.now.by page.now.ran.items self.old) }
+    fn go_through(&mut self, page: &Page, done: &mut Vec<Undo>) -> Result<(), AllocError>
+        ensures done { OnOk result (self.new ≡ all.followed page.now.crossings.items page.now.asked page.now.told.items page.now.by page.now.ran.items self.old) }
+        ensures back { GoesBack done.old.items self.old done.new.items self.new }
     {
-        self.cross_all(&page.crossings);
+        self.cross_all(&page.crossings, done)?;
         if let Some((host, request)) = &page.asked {
-            self.ask(*host, request)?;
+            self.ask(*host, request, done)?;
         }
-        self.tell_all(&page.told)?;
+        self.tell_all(&page.told, done)?;
         match page.by {
-            Some(host) => self.ask_all(host, &page.ran),
+            Some(host) => self.ask_all(host, &page.ran, done),
             None => Ok(()),
         }
+    }
+
+    /// All that was done is taken back. These are the places of the lives that were open before it.
+    fn go_back(&mut self, open_at: Vec<usize>, done: Vec<Undo>)
+        requires { open_at.items ≡ places (all_undone done.items self.old).lives }
+        ensures { self.new ≡ all_undone done.items self.old }
+    {
+        take_back(&mut self.lives, &mut self.handed, done);
+        self.open_at = open_at;
+    }
+
+    /// All of this happened, or memory runs out, and then the lives are what they were.
+    pub(crate) fn follow(&mut self, page: &Page) -> Result<(), AllocError>
+        ensures done { OnOk result (self.new ≡ all.followed page.now.crossings.items page.now.asked page.now.told.items page.now.by page.now.ran.items self.old) }
+        ensures kept { OnErr result (self.new ≡ self.old) }
+    {
+        let open_at = copied(self.alloc, &self.open_at)?;
+        let mut done = Vec::new(self.alloc);
+        let followed = self.go_through(page, &mut done);
+        if followed.is_err() {
+            self.go_back(open_at, done);
+        }
+        followed
     }
 
     /// The lives, in the order of opening.
@@ -338,7 +416,7 @@ impl Lives {
     }
 
     /// What was handed over to be sent in each.
-    pub(crate) fn handed(&self) -> &[Bits]
+    pub(crate) fn handed(&self) -> &[BitLog]
         ensures { result.now ≡ self.now.handed }
     {
         &self.handed

@@ -47,11 +47,12 @@ impl<C: Carrier> Model for World<C> {
 }
 
 impl<C: Carrier> World<C> {
-    /// Hosts with programs that have just come up, over a carrier that hasn't been used, and an empty book.
+    /// Hosts with programs that have just come up, over a carrier whose log is empty and that hasn't stopped, and an empty book.
     ///
     /// It fails only where no memory is left for the seats of the hosts.
     pub fn new(alloc: Global, carrier: C) -> Result<World<C>, AllocError>
         requires unused { (C.seen carrier).log ≡ [] }
+        requires running { (C.seen carrier).stopped ≡ false }
         ensures { IfOk result (λ w. w ≡ opening_world (shown (record { seen = C.seen; offers = C.offers; takes = C.takes; steps = C.steps; rounds = C.rounds })) carrier) }
     {
         let seats = opening_seats(alloc, carrier.hosts())?;

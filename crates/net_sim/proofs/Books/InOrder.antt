@@ -46,6 +46,16 @@ same_kept : (xs ys : List Crossing) (ns ms : List Told) (us vs : List Called) (p
     (record { book = record { crossings = ys; notices = ms; contacts = vs; reports = qs; lives = l.lives }; handed = l.handed })
 same_kept xs ys ns ms us vs ps qs l x n a p = cc
 
+-- what stands in a book once all of that is written down
+pub written_so : (cs : List Crossing) (a : Option (Host × Request)) (calls : List Called) (ts : List Told) (h : Option Host) (rs : List Request) (reports : List Reported) (k : Kept) (before after : List Crossing) (ns : List Told) (us : List Called)
+    (ps : List Reported) (l : LivesState) → k.book.crossings ≡ reverse before → after ≡ before ++ cs → ns ≡ k.book.notices ++ ts → us ≡ k.book.contacts ++ calls → ps ≡ k.book.reports ++ reports
+    → l ≡ followed cs a ts h rs (of_kept k)
+    → ◌≡◌ {A = Kept} (record { book = record { crossings = reverse after; notices = ns; contacts = us; reports = ps; lives = l.lives }; handed = l.handed }) (written cs a calls ts h rs reports k)
+written_so cs a calls ts h rs reports k before after ns us ps l was more n u p f =
+    let x : reverse after ≡ reverse cs ++ k.book.crossings = ap (λ (xs : List Crossing). reverse xs) more ∙ reverse-append before cs ∙ ap (λ (xs : List Crossing). reverse cs ++ xs) (sym was) in
+    same_kept (reverse after) (reverse cs ++ k.book.crossings) ns (k.book.notices ++ ts) us (k.book.contacts ++ calls) ps (k.book.reports ++ reports) l x n u p
+    ∙ ap (λ (m : LivesState). let after : Kept = record { book = record { crossings = reverse cs ++ k.book.crossings; notices = k.book.notices ++ ts; contacts = k.book.contacts ++ calls; reports = k.book.reports ++ reports; lives = m.lives }; handed = m.handed } in after) f
+
 -- crossings and what users were told, and nothing else
 abbrev pub plain : List Crossing → List Told → Kept → Kept
 plain cs ts k = written cs None [] ts None [] [] k

@@ -6,6 +6,7 @@ use Rattle.leader1822.specs.Host.{Host, same_host}
 use Rattle.net_sim.specs.Book.{Life, changed_when, where_it, handed_to, life_ended, lives_at}
 use Rattle.net_sim.specs.Inside.Endings.{Ending, ends}
 use Rattle.net_sim.specs.Inside.Places.{places, is_open_at}
+pub use Rattle.net_sim.specs.Inside.Places.{changed_at, changed_here}
 use Rattle.net_sim.specs.declared.life.Ending.TheVariants as ending
 
 -- ---- what leaves alone a life that has ended
@@ -33,15 +34,6 @@ end_spares (ending.On h) x e = not_and (same_host h x.host) x.ended e
 
 -- ---- a change at places, one after the other
 
-abbrev pub changed_here : (Life → Life) → ℕ → List Life → List Life
-changed_here f at [] = []
-changed_here f zero (x ∷ xs) = f x ∷ xs
-changed_here f (suc at) (x ∷ xs) = x ∷ changed_here f at xs
-
-abbrev pub changed_at : (Life → Life) → List ℕ → List Life → List Life
-changed_at f [] xs = xs
-changed_at f (at ∷ ats) xs = changed_at f ats (changed_here f at xs)
-
 abbrev pub where_here : (Life → Bool) → (Life → Life) → Life → Life
 where_here test change x = changed_when (test x) change x
 
@@ -50,7 +42,7 @@ set_here f at [] d y is = refl
 set_here f zero (x ∷ xs) d y is = ap (λ (z : Life). z ∷ xs) is
 set_here f (suc at) (x ∷ xs) d y is = ap (λ (zs : List Life). x ∷ zs) (set_here f at xs d y is)
 
-shifted : (f : Life → Life) (ats : List ℕ) (x : Life) (xs : List Life) → changed_at f (map suc ats) (x ∷ xs) ≡ x ∷ changed_at f ats xs
+pub shifted : (f : Life → Life) (ats : List ℕ) (x : Life) (xs : List Life) → changed_at f (map suc ats) (x ∷ xs) ≡ x ∷ changed_at f ats xs
 shifted f [] x xs = refl
 shifted f (at ∷ ats) x xs = shifted f ats x (changed_here f at xs)
 
@@ -149,7 +141,7 @@ put_back test xs ys zs n long is =
 
 -- ---- one place more
 
-nothing_left : (ats : List ℕ) (k : ℕ) → length ats ≤ k → drop k ats ≡ []
+pub nothing_left : (ats : List ℕ) (k : ℕ) → length ats ≤ k → drop k ats ≡ []
 nothing_left [] zero le = refl
 nothing_left [] (suc k) le = refl
 nothing_left (at ∷ ats) zero le = absurd (omega (arith, le))

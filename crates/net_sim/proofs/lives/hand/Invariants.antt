@@ -1,8 +1,13 @@
 use Rattle.std.proofs.Common.{◌≡◌, drop}
 use Rattle.net_sim.specs.Book.{lives_at}
+use Rattle.net_sim.specs.Inside.Undo.{GoesBack}
 use Rattle.net_sim.proofs.Books.Places.{handed_at}
+use Rattle.net_sim.proofs.Books.Undoing.{state}
 use Rattle.net_sim.proofs.lives.hand.Given as goal
 
--- what is left makes of the bits what the whole does
+-- what is left makes of the bits what the whole does, and what was done is noted
 abbrev pub invariant-loop-at : goal.invariant-loop-at
-invariant-loop-at l = handed_at (lives_at l.host l.socket) l.bits (drop l.at-index l.open_at) l.lives l.handed ≡ handed_at (lives_at l.host l.socket) l.bits l.open_at l.lives l.fn.handed
+invariant-loop-at l = record {
+  rest : handed_at (lives_at l.host l.socket) l.bits (drop l.at-index l.open_at) l.lives l.handed ≡ handed_at (lives_at l.host l.socket) l.bits l.open_at l.lives l.fn.handed;
+  back : GoesBack l.fn.done.items (state l.lives l.fn.handed) l.done.items (state l.lives l.handed);
+}

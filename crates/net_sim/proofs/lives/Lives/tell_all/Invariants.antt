@@ -1,6 +1,10 @@
 use Rattle.std.proofs.Common.{◌≡◌, drop}
 use Rattle.net_sim.specs.Inside.Lives as all
+use Rattle.net_sim.specs.Inside.Undo.{GoesBack}
 use Rattle.net_sim.proofs.lives.Lives.tell_all.Given as goal
 
 abbrev pub invariant-loop-one : goal.invariant-loop-one
-invariant-loop-one l = all.all_told (drop l.one-index l.told) l.self ≡ all.all_told l.told l.fn.self
+invariant-loop-one l = record {
+  rest : all.all_told (drop l.one-index l.told) l.self ≡ all.all_told l.told l.fn.self;
+  back : GoesBack l.fn.done.items l.fn.self l.done.items l.self;
+}

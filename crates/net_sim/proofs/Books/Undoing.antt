@@ -1,0 +1,141 @@
+-- What was done to the lives is taken back.
+use Rattle.std.proofs.Common.{◌≡◌, ◌⊎◌, inl, inr, ℕ, ◌+◌, ◌<◌, ◌≤◌, Bool, true, false, if◌then◌else◌, zero, suc, List, [], ◌∷◌, ◌++◌, length, take, drop, map, slice_index_or, slice_set, refl, ap, sym, ◌∙◌, arith}
+use Rattle.std.proofs.lemmas.List.{drop_more}
+use Rattle.std.proofs.Math.Seq.{take-append_seam}
+use Rattle.net_sim.specs.Book.{Life, changed_when, where_it, life_ended}
+use Rattle.net_sim.specs.Inside.Lives.{LivesState}
+use Rattle.net_sim.specs.Inside.Places.{places, changed_at, changed_here}
+use Rattle.net_sim.specs.Inside.Undo.{Mark, Undo, mark_of, life_back, reopened, cut_here, undone, all_undone, GoesBack, IsNoted, AreNoted}
+use Rattle.net_sim.specs.declared.undo.Undo.TheVariants as undo
+use Rattle.net_sim.proofs.Books.Places.{Spares, nothing_left, shifted}
+
+abbrev pub state : List Life → List (List Bool) → LivesState
+state lives handed = record { lives = lives; handed = handed }
+
+-- one thing more was done
+last_undone : (us : List Undo) (u : Undo) (s : LivesState) → all_undone (us ++ u ∷ []) s ≡ all_undone us (undone u s)
+last_undone [] u s = refl
+last_undone (v ∷ us) u s = ap (λ (t : LivesState). undone v t) (last_undone us u s)
+
+-- it is taken back
+pub one_back : (us vs : List Undo) (u : Undo) (s t : LivesState) → vs ≡ us ++ u ∷ [] → undone u t ≡ s → all_undone vs t ≡ all_undone us s
+one_back us vs u s t more back = ap (λ (ws : List Undo). all_undone ws t) more ∙ last_undone us u t ∙ ap (λ (r : LivesState). all_undone us r) back
+
+-- ---- at a place
+
+-- it is as it was
+here_back : (f : Life → Life) (at : ℕ) (xs : List Life) (d x y : Life) → x ≡ slice_index_or xs at d → f y ≡ x → changed_here f at (slice_set xs at y) ≡ xs
+here_back f at [] d x y is back = refl
+here_back f zero (z ∷ xs) d x y is back = ap (λ (w : Life). w ∷ xs) (back ∙ is)
+here_back f (suc at) (z ∷ xs) d x y is back = ap (λ (ws : List Life). z ∷ ws) (here_back f at xs d x y is back)
+
+-- nothing changes there
+here_same : {A : Type 0} (at : ℕ) (xs : List A) (d x y : A) → x ≡ slice_index_or xs at d → y ≡ x → slice_set xs at y ≡ xs
+here_same at [] d x y is same = refl
+here_same {A} zero (z ∷ xs) d x y is same = ap (λ (w : A). w ∷ xs) (same ∙ is)
+here_same {A} (suc at) (z ∷ xs) d x y is same = ap (λ (ws : List A). z ∷ ws) (here_same at xs d x y is same)
+
+-- nothing is there
+pub here_past : (f : Life → Life) (at : ℕ) (xs : List Life) → length xs ≤ at → xs ≡ changed_here f at xs
+here_past f at [] le = refl
+here_past f zero (x ∷ xs) le = absurd (omega (arith, le))
+here_past f (suc at) (x ∷ xs) le = ap (λ (ys : List Life). x ∷ ys) (here_past f at xs (omega (arith, le)))
+
+-- a life at a place is changed, and that is noted
+pub noted_back : (us vs : List Undo) (at : ℕ) (xs : List Life) (handed : List (List Bool)) (d x y : Life) → x ≡ slice_index_or xs at d → IsNoted at us x vs y
+    → GoesBack us (state xs handed) vs (state (slice_set xs at y) handed)
+noted_back us vs at xs handed d x y is (inl same) =
+    ap (λ (ws : List Undo). all_undone ws (state (slice_set xs at y) handed)) same.0 ∙ ap (λ (ys : List Life). all_undone us (state ys handed)) (here_same at xs d x y is same.1)
+noted_back us vs at xs handed d x y is (inr n) =
+    one_back us vs (undo.Changed at n.0) (state xs handed) (state (slice_set xs at y) handed) n.1 (ap (λ (ys : List Life). state ys handed) (here_back (life_back n.0) at xs d x y is n.2))
+
+-- what a life had is had back
+pub grown_noted : (at : ℕ) (us vs : List Undo) (x y : Life) (m : Mark) (more : List Bool) → vs ≡ us ++ undo.Changed at m ∷ [] → m ≡ mark_of x
+    → y ≡ record x { bits = x.bits ++ more; messages = y.messages; granted = y.granted; returned = y.returned } → IsNoted at us x vs y
+grown_noted at us vs x y m more noted is grown =
+    inr (m, noted, ap (λ (n : Mark). life_back n y) is ∙ ap (λ (z : Life). life_back (mark_of x) z) grown ∙ ap (λ (bits : List Bool). let z : Life = record x { bits = bits } in z) (take-append_seam x.bits more))
+
+-- ---- what was handed over
+
+pub cut_set : (n at : ℕ) (hs : List (List Bool)) (d new : List Bool) → new ≡ take n (slice_index_or hs at d) → slice_set hs at new ≡ cut_here n at hs
+cut_set n at [] d new is = refl
+cut_set n zero (h ∷ hs) d new is = ap (λ (g : List Bool). g ∷ hs) is
+cut_set n (suc at) (h ∷ hs) d new is = ap (λ (gs : List (List Bool)). h ∷ gs) (cut_set n at hs d new is)
+
+pub cut_past : (n at : ℕ) (hs : List (List Bool)) → length hs ≤ at → hs ≡ cut_here n at hs
+cut_past n at [] le = refl
+cut_past n zero (h ∷ hs) le = absurd (omega (arith, le))
+cut_past n (suc at) (h ∷ hs) le = ap (λ (gs : List (List Bool)). h ∷ gs) (cut_past n at hs (omega (arith, le)))
+
+cut_back : (n at : ℕ) (hs : List (List Bool)) (d h g : List Bool) → h ≡ slice_index_or hs at d → take n g ≡ h → cut_here n at (slice_set hs at g) ≡ hs
+cut_back n at [] d h g is back = refl
+cut_back n zero (k ∷ hs) d h g is back = ap (λ (w : List Bool). w ∷ hs) (back ∙ is)
+cut_back n (suc at) (k ∷ hs) d h g is back = ap (λ (ws : List (List Bool)). k ∷ ws) (cut_back n at hs d h g is back)
+
+pub handed_back : (us vs : List Undo) (at : ℕ) (lives : List Life) (hs : List (List Bool)) (d h g : List Bool) → h ≡ slice_index_or hs at d → AreNoted at us h vs g
+    → GoesBack us (state lives hs) vs (state lives (slice_set hs at g))
+handed_back us vs at lives hs d h g is (inl same) =
+    ap (λ (ws : List Undo). all_undone ws (state lives (slice_set hs at g))) same.0 ∙ ap (λ (gs : List (List Bool)). all_undone us (state lives gs)) (here_same at hs d h g is same.1)
+handed_back us vs at lives hs d h g is (inr n) =
+    one_back us vs (undo.Handed at n.0) (state lives hs) (state lives (slice_set hs at g)) n.1 (ap (λ (gs : List (List Bool)). state lives gs) (cut_back n.0 at hs d h g is n.2))
+
+pub handed_next : (us vs : List Undo) (at : ℕ) (lives : List Life) (hs gs : List (List Bool)) (d h g : List Bool) (before : List Undo) (s : LivesState) (ws : List Undo) → ws ≡ vs → gs ≡ slice_set hs at g → h ≡ slice_index_or hs at d → AreNoted at us h vs g
+    → GoesBack before s us (state lives hs) → GoesBack before s ws (state lives gs)
+handed_next us vs at lives hs gs d h g before s ws same set is noted rest =
+    ap (λ (zs : List Undo). all_undone zs (state lives gs)) same ∙ ap (λ (ks : List (List Bool)). all_undone vs (state lives ks)) set ∙ handed_back us vs at lives hs d h g is noted ∙ rest
+
+pub handed_same : (us : List Undo) (lives : List Life) (hs gs : List (List Bool)) (before : List Undo) (s : LivesState) (ws : List Undo) → ws ≡ us → gs ≡ hs → GoesBack before s us (state lives hs) → GoesBack before s ws (state lives gs)
+handed_same us lives hs gs before s ws same is rest = ap (λ (zs : List Undo). all_undone zs (state lives gs)) same ∙ ap (λ (ks : List (List Bool)). all_undone us (state lives ks)) is ∙ rest
+
+-- ---- lives end and begin
+
+-- one place more
+pub next_here : (f : Life → Life) (ats : List ℕ) (k : ℕ) (ys new zs : List Life) → k < length ats → new ≡ changed_here f (slice_index_or ats k 0) ys → changed_at f (drop k ats) ys ≡ zs → changed_at f (drop (k + 1) ats) new ≡ zs
+next_here f ats k ys new zs lt one rest =
+    ap (λ (xs : List Life). changed_at f (drop (k + 1) ats) xs) one ∙ ap (λ (ns : List ℕ). changed_at f ns ys) (sym (drop_more ats k 0 lt)) ∙ rest
+
+pub all_here : (f : Life → Life) (ats : List ℕ) (k : ℕ) (ys zs : List Life) → length ats ≤ k → changed_at f (drop k ats) ys ≡ zs → ys ≡ zs
+all_here f ats k ys zs le rest = ap (λ (ns : List ℕ). changed_at f ns ys) (sym (nothing_left ats k le)) ∙ rest
+
+open_again : (t : Bool) (x : Life) → x.ended ≡ false → reopened (changed_when t life_ended x) ≡ x
+open_again true x e = ap (λ (b : Bool). let y : Life = record x { ended = b } in y) (sym e)
+open_again false x e = ap (λ (b : Bool). let y : Life = record x { ended = b } in y) (sym e)
+
+-- those that were open are open again
+all_open : (test : Life → Bool) → Spares test → (xs : List Life) → changed_at reopened (places xs) (where_it test life_ended xs) ≡ xs
+all_open test spares [] = refl
+all_open test spares (x ∷ xs) = at_first (all_open test spares xs) x.ended refl where
+  y : Life
+  y = changed_when (test x) life_ended x
+
+  ys : List Life
+  ys = where_it test life_ended xs
+
+  at_first : changed_at reopened (places xs) ys ≡ xs → (b : Bool) → x.ended ≡ b → changed_at reopened (if b then map suc (places xs) else 0 ∷ map suc (places xs)) (y ∷ ys) ≡ x ∷ xs
+  at_first rest true e = shifted reopened (places xs) y ys ∙ ap (λ (zs : List Life). y ∷ zs) rest ∙ ap (λ (b : Bool). changed_when b life_ended x ∷ xs) (spares x e)
+  at_first rest false e = shifted reopened (places xs) (reopened y) ys ∙ ap (λ (zs : List Life). reopened y ∷ zs) rest ∙ ap (λ (z : Life). z ∷ xs) (open_again (test x) x e)
+
+pub ended_back : (test : Life → Bool) → Spares test → (xs ys : List Life) (ats : List ℕ) (handed : List (List Bool)) (s : LivesState) → ats ≡ places xs → ys ≡ where_it test life_ended xs → s ≡ state xs handed
+    → state (changed_at reopened ats ys) handed ≡ s
+ended_back test spares xs ys ats handed s known is was =
+    ap (λ (ns : List ℕ). state (changed_at reopened ns ys) handed) known ∙ ap (λ (zs : List Life). state (changed_at reopened (places xs) zs) handed) is
+    ∙ ap (λ (zs : List Life). state zs handed) (all_open test spares xs) ∙ sym was
+
+pub begun_back : (xs ys : List Life) (hs gs : List (List Bool)) (x : Life) (h : List Bool) (n m : ℕ) (s : LivesState) → ys ≡ xs ++ x ∷ [] → gs ≡ hs ++ h ∷ [] → n ≡ length xs → m ≡ length hs → s ≡ state xs hs
+    → undone (undo.Begun n m) (state ys gs) ≡ s
+begun_back xs ys hs gs x h n m s lives handed long many is =
+    ap (λ (zs : List Life). state (take n zs) (take m gs)) lives ∙ ap (λ (ks : List (List Bool)). state (take n (xs ++ x ∷ [])) (take m ks)) handed
+    ∙ ap (λ (k : ℕ). state (take k (xs ++ x ∷ [])) (take m (hs ++ h ∷ []))) long ∙ ap (λ (k : ℕ). state (take (length xs) (xs ++ x ∷ [])) (take k (hs ++ h ∷ []))) many
+    ∙ ap (λ (zs : List Life). state zs (take (length hs) (hs ++ h ∷ []))) (take-append_seam xs (x ∷ [])) ∙ ap (λ (ks : List (List Bool)). state xs ks) (take-append_seam hs (h ∷ [])) ∙ sym is
+
+-- ---- one thing after the other
+
+-- the last thing that was done is taken back
+pub step_back : (us vs : List Undo) (u : Undo) (s new t : LivesState) → us ≡ vs ++ u ∷ [] → new ≡ undone u s → all_undone us s ≡ t → all_undone vs new ≡ t
+step_back us vs u s new t popped is rest = ap (λ (r : LivesState). all_undone vs r) is ∙ sym (last_undone vs u s) ∙ ap (λ (ws : List Undo). all_undone ws s) (sym popped) ∙ rest
+
+-- one more of a list is done
+pub next_of : {A : Type 0} (all : List A → LivesState → LivesState) (one : A → LivesState → LivesState) → ((x : A) (xs : List A) (s : LivesState) → all (x ∷ xs) s ≡ all xs (one x s)) → (xs : List A) (k : ℕ) (d : A) (s new t : LivesState)
+    → k < length xs → new ≡ one (slice_index_or xs k d) s → all (drop k xs) s ≡ t → all (drop (k + 1) xs) new ≡ t
+next_of {A} all one step xs k d s new t lt is rest =
+    ap (λ (r : LivesState). all (drop (k + 1) xs) r) is ∙ sym (step (slice_index_or xs k d) (drop (k + 1) xs) s) ∙ ap (λ (ys : List A). all ys s) (sym (drop_more xs k d lt)) ∙ rest

@@ -1,0 +1,26 @@
+use Rattle.std.proofs.Common.{◌≡◌, rules, Bool, List, ap, sym, ◌∙◌}
+use Rattle.net_sim.specs.Book.{Life}
+use Rattle.net_sim.specs.Inside.Undo.{Undo, life_back, undone}
+use Rattle.net_sim.proofs.Books.Places.{set_here}
+use Rattle.net_sim.proofs.Books.Undoing.{state, cut_past, cut_set, here_past}
+use Rattle.net_sim.proofs.undo.take_one_back.Goals as goal
+
+pub returns-then-at-len : goal.returns-then-at-len
+returns-then-at-len c =
+    ap (λ (xs : List Life). state xs c.args.handed.now.items) (set_here (life_back c.in-Changed.was) c.in-Changed.at c.args.lives.now.items c.index_mut.result.now c.put_back.new.self (search rules))
+    ∙ ap (λ (u : Undo). undone u (state c.args.lives.now.items c.args.handed.now.items)) (sym c.in-Changed.is)
+
+pub returns-else-at-len : goal.returns-else-at-len
+returns-else-at-len c =
+    ap (λ (xs : List Life). state xs c.args.handed.now.items) (here_past (life_back c.in-Changed.was) c.in-Changed.at c.args.lives.now.items (search rules))
+    ∙ ap (λ (u : Undo). undone u (state c.args.lives.now.items c.args.handed.now.items)) (sym c.in-Changed.is)
+
+pub returns-then-at-len-2 : goal.returns-then-at-len-2
+returns-then-at-len-2 c =
+    ap (λ (hs : List (List Bool)). state c.args.lives.now.items hs) (cut_set c.in-Handed.bits c.in-Handed.at c.args.handed.now.items c.index_mut-then-at-len-2.result.now c.cut.new.self (search rules))
+    ∙ ap (λ (u : Undo). undone u (state c.args.lives.now.items c.args.handed.now.items)) (sym c.in-Handed.is)
+
+pub returns-else-at-len-2 : goal.returns-else-at-len-2
+returns-else-at-len-2 c =
+    ap (λ (hs : List (List Bool)). state c.args.lives.now.items hs) (cut_past c.in-Handed.bits c.in-Handed.at c.args.handed.now.items (search rules))
+    ∙ ap (λ (u : Undo). undone u (state c.args.lives.now.items c.args.handed.now.items)) (sym c.in-Handed.is)

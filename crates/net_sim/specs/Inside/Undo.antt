@@ -1,0 +1,48 @@
+-- How what was done to the lives is taken back.
+use Rattle.std.specs.Prelude.{◌≡◌, ◌⊎◌, ℕ, zero, suc, Bool, false, List, [], ◌∷◌, ◌++◌, length, take}
+use Rattle.net_sim.specs.Book.{Life}
+use Rattle.net_sim.specs.Inside.Lives.{LivesState}
+use Rattle.net_sim.specs.Inside.Places.{changed_at, changed_here}
+pub use Rattle.net_sim.specs.declared.undo.Mark.{Mark}
+pub use Rattle.net_sim.specs.declared.undo.Undo.{Undo}
+use Rattle.net_sim.specs.declared.undo.Undo.TheVariants as undo
+
+-- the counts of a life
+abbrev pub mark_of : Life → Mark
+mark_of x = record { bits = length x.bits; messages = x.messages; granted = x.granted; returned = x.returned }
+
+-- a life with the counts that it had
+abbrev pub life_back : Mark → Life → Life
+life_back m x = record x { bits = take m.bits x.bits; messages = m.messages; granted = m.granted; returned = m.returned }
+
+abbrev pub reopened : Life → Life
+reopened x = record x { ended = false }
+
+-- the bits at a place, cut back
+abbrev pub cut_here : ℕ → ℕ → List (List Bool) → List (List Bool)
+cut_here n at [] = []
+cut_here n zero (h ∷ hs) = take n h ∷ hs
+cut_here n (suc at) (h ∷ hs) = h ∷ cut_here n at hs
+
+abbrev pub undone : Undo → LivesState → LivesState
+undone (undo.Begun lives handed) s = record { lives = take lives s.lives; handed = take handed s.handed }
+undone (undo.Ended open_at) s = record { lives = changed_at reopened open_at.items s.lives; handed = s.handed }
+undone (undo.Changed at was) s = record { lives = changed_here (life_back was) at s.lives; handed = s.handed }
+undone (undo.Handed at bits) s = record { lives = s.lives; handed = cut_here bits at s.handed }
+
+-- what was done last is taken back first
+abbrev pub all_undone : List Undo → LivesState → LivesState
+all_undone [] s = s
+all_undone (u ∷ us) s = undone u (all_undone us s)
+
+-- what was done since is taken back to the same
+abbrev pub GoesBack : List Undo → LivesState → List Undo → LivesState → Type 0
+GoesBack us s vs t = all_undone vs t ≡ all_undone us s
+
+-- a life stays, or how it was is noted
+abbrev pub IsNoted : ℕ → List Undo → Life → List Undo → Life → Type 0
+IsNoted at us x vs y = ((vs ≡ us) × (y ≡ x)) ⊎ ((was : Mark) × (vs ≡ us ++ undo.Changed at was ∷ []) × (life_back was y ≡ x))
+
+-- the same of what was handed over
+abbrev pub AreNoted : ℕ → List Undo → List Bool → List Undo → List Bool → Type 0
+AreNoted at us h vs g = ((vs ≡ us) × (g ≡ h)) ⊎ ((bits : ℕ) × (vs ≡ us ++ undo.Handed at bits ∷ []) × (take bits g ≡ h))

@@ -1,0 +1,99 @@
+//! What was done to the lives, so that it can be taken back without memory.
+
+ghost use Rattle.std.specs.Prelude.{◌≡◌};
+ghost use Rattle.net_sim.specs.Inside.Lives.{LivesState};
+ghost use Rattle.net_sim.specs.Inside.Places.{changed_at};
+ghost use Rattle.net_sim.specs.Inside.Undo.{all_undone, reopened, undone};
+
+use crate::bit_log::BitLog;
+use crate::life::{Amount, Life};
+
+/// The counts of a life.
+#[derive(Clone, Copy)]
+pub(crate) struct Mark {
+    /// How many bits it has sent or taken.
+    pub(crate) bits: usize,
+    /// How many messages that was.
+    pub(crate) messages: u128,
+    /// What was granted.
+    pub(crate) granted: Amount,
+    /// What was returned of that.
+    pub(crate) returned: Amount,
+}
+
+/// How something that was done to the lives is taken back.
+#[derive(Drop)]
+pub(crate) enum Undo {
+    /// A life began. Before that there were so many, and so many lists of what was handed over.
+    Begun {
+        /// How many lives there were.
+        lives: usize,
+        /// How many lists.
+        handed: usize,
+    },
+    /// Lives ended. Those at these places had been open.
+    Ended {
+        /// The places.
+        open_at: Vec<usize>,
+    },
+    /// The counts of a life grew.
+    Changed {
+        /// Its place.
+        at: usize,
+        /// The counts that it had.
+        was: Mark,
+    },
+    /// Bits were handed over.
+    Handed {
+        /// The place of the life.
+        at: usize,
+        /// How many bits had been handed over.
+        bits: usize,
+    },
+}
+
+/// The lives at these places are open again.
+fn reopen(lives: &mut [Life], open_at: &[usize])
+    ensures { lives.new ≡ changed_at reopened open_at.now lives.old }
+{
+    for at in open_at {
+        if *at < lives.len() {
+            lives[*at].ended = false;
+        }
+    }
+}
+
+/// Takes back one thing that was done.
+fn take_one_back(lives: &mut Vec<Life>, handed: &mut Vec<BitLog>, undo: Undo)
+    ensures { ◌≡◌ {A = LivesState} (record { lives = lives.new.items; handed = handed.new.items }) (undone undo (record { lives = lives.old.items; handed = handed.old.items })) }
+{
+    match undo {
+        Undo::Begun {
+            lives: lives_before,
+            handed: handed_before,
+        } => {
+            lives.truncate(lives_before);
+            handed.truncate(handed_before);
+        }
+        Undo::Ended { open_at } => reopen(lives, &open_at),
+        Undo::Changed { at, was } => {
+            if at < lives.len() {
+                lives[at].put_back(&was);
+            }
+        }
+        Undo::Handed { at, bits } => {
+            if at < handed.len() {
+                handed[at].cut(bits);
+            }
+        }
+    }
+}
+
+/// Takes back all that was done, the last first.
+pub(crate) fn take_back(lives: &mut Vec<Life>, handed: &mut Vec<BitLog>, mut done: Vec<Undo>)
+    ensures { ◌≡◌ {A = LivesState} (record { lives = lives.new.items; handed = handed.new.items }) (all_undone done.items (record { lives = lives.old.items; handed = handed.old.items })) }
+{
+    'steps: while let Some(undo) = done.pop() {
+        take_one_back(lives, handed, undo);
+    }
+}
