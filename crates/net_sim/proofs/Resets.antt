@@ -8,6 +8,7 @@ pub mod Coupled
 pub mod Kept
 pub mod Offers
 pub mod Ordered
+pub mod Settled
 pub mod Spelled
 pub mod StoryLemmas
 pub mod Turns

@@ -1,7 +1,7 @@
 //! What follows for hosts that run the network control program, whatever carries their messages. The functions here
 //! do nothing: each clause is a law.
 
-ghost use Rattle.std.specs.Prelude.{◌≡◌, ℕ, true, false, List, [], ◌∷◌, ◌++◌, length, Some, Result, Err, is_some};
+ghost use Rattle.std.specs.Prelude.{◌≡◌, ◌⊎◌, ℕ, true, false, List, [], ◌∷◌, ◌++◌, length, Some, Result, Err, is_some};
 ghost use Rattle.leader1822.specs.Host.{Host, IsAddress, same_host};
 ghost use Rattle.leader1822.specs.declared.address.Flow.{Flow};
 ghost use Rattle.leader1822.specs.declared.crossing.Answer.{Answer};
@@ -13,10 +13,10 @@ ghost use Rattle.leader1822.specs.Mailboxes.{Needs, IsRun, box_of, is_up};
 ghost use Rattle.leader1822.specs.Messages.{SafeMessages};
 ghost use Rattle.net_sim.specs.Carriers.{shown, IsBooked};
 ghost use Rattle.net_sim.specs.Clean.{HaveAddresses, IsFresh, IsLawful, IsText, IsUnheard, is_through};
-ghost use Rattle.net_sim.specs.Story.{Moment, IsStory, program, events_of};
+ghost use Rattle.net_sim.specs.Story.{Crossed, Moment, IsStory, places, program, events_of};
 ghost use Rattle.net_sim.specs.World.{WorldState, WorldFault, Event, opening_world, seat_of, StepGives, RunGives, CalmGives};
 ghost use Rattle.net_sim.specs.Projection.{Agrees, IsApart, event_of, event_by, message_on};
-ghost use Rattle.net_sim.specs.Timeline.{IsAddressed, crossings_of, events_in, seen_box};
+ghost use Rattle.net_sim.specs.Timeline.{IsAddressed, IsTimeline, contacts_of, crossings_of, events_in, seen_box};
 ghost use Rattle.net_sim.specs.Whole.{Each, IsNamed, IsWhole};
 ghost use Rattle.reset_law.specs.Boxes.{boxes};
 ghost use Rattle.reset_law.specs.Events as events;
@@ -135,6 +135,15 @@ pub fn clean_resets<C: Carrier>()
     // for the book is a run of the law of resets, and each program in a seat is, for each peer, where that law has it
     ensures run { (hosts : List Host) (w : WorldState C) → IsLawful C.seen hosts w → runs.IsRun hosts (events_in w.kept.book.contacts w.kept.book.crossings) }
     ensures agrees { (hosts : List Host) (w : WorldState C) → IsLawful C.seen hosts w → w.stopped ≡ false → (a b : Host) (s : NcpState) → seat_of a w.seats ≡ Some (record { host = a; program = Some s }) → Agrees (pair_with b s.peers) (pairs.pair a b (events_in w.kept.book.contacts w.kept.book.crossings)) }
+{}
+
+/// Both halves of a clean reset, over any list of moments: of whatever a host takes of a peer, but for RST and RRP, either it went out
+/// after the host's last clean point for that peer, or its taking leaves every pair and what listens as they were, and tells nothing.
+pub fn clean_takings<C: Carrier>()
+    ensures stories { (hosts : List Host) (newer older : List Moment) (m : HostMessage) → HaveAddresses hosts → IsRun hosts (crossings_of (newer ++ Crossed (crossing.In m) ∷ older)) → IsTimeline hosts (newer ++ Crossed (crossing.In m) ∷ older) → IsText m → IsFresh m (contacts_of older) (crossings_of older) ⊎ IsUnheard (program m.flow.destination older) (accepted (program m.flow.destination older) (inbound.Message m) (places older)) }
+
+    // so of the moments that the book of a world tells
+    ensures worlds { (hosts : List Host) (w : WorldState C) → (lawful : IsLawful C.seen hosts w) → (newer older : List Moment) (m : HostMessage) → lawful.whole.moments ≡ newer ++ Crossed (crossing.In m) ∷ older → IsText m → IsFresh m (contacts_of older) (crossings_of older) ⊎ IsUnheard (program m.flow.destination older) (accepted (program m.flow.destination older) (inbound.Message m) (places older)) }
 {}
 
 /// The worlds of which that is said: those that began over a carrier whose log is empty, between hosts with addresses, however

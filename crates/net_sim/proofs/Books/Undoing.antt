@@ -49,12 +49,6 @@ noted_back us vs at xs handed d x y is (inl same) =
 noted_back us vs at xs handed d x y is (inr n) =
     one_back us vs (undo.Changed at n.0) (state xs handed) (state (slice_set xs at y) handed) n.1 (ap (λ (ys : List Life). state ys handed) (here_back (life_back n.0) at xs d x y is n.2))
 
--- what a life had is had back
-pub grown_noted : (at : ℕ) (us vs : List Undo) (x y : Life) (m : Mark) (more : List Bool) → vs ≡ us ++ undo.Changed at m ∷ [] → m ≡ mark_of x
-    → y ≡ record x { bits = x.bits ++ more; messages = y.messages; granted = y.granted; returned = y.returned } → IsNoted at us x vs y
-grown_noted at us vs x y m more noted is grown =
-    inr (m, noted, ap (λ (n : Mark). life_back n y) is ∙ ap (λ (z : Life). life_back (mark_of x) z) grown ∙ ap (λ (bits : List Bool). let z : Life = record x { bits = bits } in z) (take-append_seam x.bits more))
-
 -- ---- what was handed over
 
 pub cut_set : (n at : ℕ) (hs : List (List Bool)) (d new : List Bool) → new ≡ take n (slice_index_or hs at d) → slice_set hs at new ≡ cut_here n at hs

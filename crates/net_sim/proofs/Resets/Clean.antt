@@ -65,7 +65,7 @@ waiting_out f p text (crossing.Answer kind g ∷ log) is = waiting_out f p text 
 waiting_out f p text (crossing.Down h ∷ log) is = waiting_out f p text log is
 waiting_out f p text (crossing.Up h ∷ log) is = waiting_out f p text log (cleared_waits (mail.box_of f log) p text (same_host f.source h) is)
 
-seen_waiting : (link : ℕ) (box : mail.Box) (p : ℕ) (message : Message) → seen_box link box ≡ Waiting p message → (text : List Bool) × (box ≡ mail.Waiting p text)
+pub seen_waiting : (link : ℕ) (box : mail.Box) (p : ℕ) (message : Message) → seen_box link box ≡ Waiting p message → (text : List Bool) × (box ≡ mail.Waiting p text)
 seen_waiting link mail.Empty p message is = absurd (cc)
 seen_waiting link (mail.Waiting place text) p message is = (text, ap (λ (x : Box). mail.Waiting (place_of x) text) is) where
   place_of : Box → ℕ
