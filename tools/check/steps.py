@@ -1,4 +1,4 @@
-"""What is left where memory runs out in an event: the book before it, and calls that are refused (minutes; it needs a C compiler).
+"""What is left where memory runs out in an event: the book before it, and calls that are refused (three minutes; it needs a C compiler).
 
 Refuses one allocation after another, one in each run, of worlds and carriers to which the events of INPUTS happen one by one.
 
