@@ -121,8 +121,14 @@ fn the_store_has_thirty_two_places(rt: HostRuntime) {
     assert_eq!(rt; filled(rt.alloc()), Ok(None));
 }
 
-/// Host 0 at IMP 1 hands over empty messages to host 1 there, on links 2 to 17, and then one more.
-const SIXTEEN: [Row<'static>; 21] = [
+/// The frames of two messages from 0/2 to 1/1 on link 4: a body without a mark on channel 0, and the empty message on channel 1.
+const UNMARKED: [u8; 13] = [0, 0, 0, 0, 0x02, 0x41, 4, 0, 0x80, 0, 16, 0, 0];
+
+const EMPTY_HERE: [u8; 13] = [0, 0, 1, 0, 0x02, 0x41, 4, 1, 0x80, 0, 16, 0x80, 0];
+
+/// Host 0 at IMP 1 hands over empty messages to host 1 there, on links 2 to 17, and then one more. Beside the sixteen another
+/// IMP's message counts as lost, and a body without a mark needs no room.
+const SIXTEEN: [Row<'static>; 23] = [
     (Act::Offer(Way::Here(2), 0), &[], Want::Sent(0), &[]),
     (Act::Offer(Way::Here(3), 0), &[], Want::Sent(0), &[]),
     (Act::Offer(Way::Here(4), 0), &[], Want::Sent(0), &[]),
@@ -145,6 +151,8 @@ const SIXTEEN: [Row<'static>; 21] = [
         Want::Refused(CarrierFault::NoRoom),
         &[],
     ),
+    (Act::Hear(0), &UNMARKED, Want::Sent(1), &[0, 1, 1]),
+    (Act::Hear(0), &EMPTY_HERE, Want::Sent(0), &[]),
     (Act::Take(1), &[], Want::Given(Way::Here(2), 0, 0), &[]),
     (
         Act::Take(0),
@@ -158,7 +166,7 @@ const SIXTEEN: [Row<'static>; 21] = [
 
 #[test]
 fn sixteen_messages_wait_for_a_host(rt: HostRuntime) {
-    assert_eq!(rt; other_at(rt.alloc(), 1, 0, &SIXTEEN), Ok(None));
+    assert_eq!(rt; other_at(rt.alloc(), 1, 1, &SIXTEEN), Ok(None));
 }
 
 /// That frame as it goes out on port 1.
@@ -275,6 +283,26 @@ fn slots_filled(alloc: Global) -> Result<Option<usize>, CarrierFault> {
 #[test]
 fn a_frame_that_finds_no_slot_is_not_acknowledged(rt: HostRuntime) {
     assert_eq!(rt; slots_filled(rt.alloc()), Ok(None));
+}
+
+/// The first piece of message 0 comes to IMP 2, and then the second and last one of message 1 on the same flow: the two are no
+/// message. The place of the first row that something else comes of.
+fn begun_anew(alloc: Global) -> Result<Option<usize>, CarrierFault> {
+    let once = Want::Sent(1);
+    let mut next = piece(1, 5, 1);
+    next[7] = 1;
+    next[8] = 0x81;
+    let rows: [Row; 3] = [
+        (Act::Hear(0), &piece(0, 5, 0), once, &[0, 1, 0x01]),
+        (Act::Hear(0), &next, once, &[0, 1, 0x03]),
+        (Act::Take(0), &[], Want::Nothing, &[]),
+    ];
+    other_at(alloc, 2, 1, &rows)
+}
+
+#[test]
+fn another_number_begins_its_slot_anew(rt: HostRuntime) {
+    assert_eq!(rt; begun_anew(rt.alloc()), Ok(None));
 }
 
 /// What is seen of a flow that is not known and would not begin.
