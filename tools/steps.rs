@@ -10,7 +10,7 @@
 #![tactic(auto)]
 
 use leader1822::{Carrier, CarrierFault, Direction, HostAddr, NetEvent, PlainBoxes};
-use net_sim::{Book, Event, World, WorldFault};
+use net_sim::{BitLog, Book, Event, World, WorldFault};
 use script::{RawEvent, read_script};
 use sockets::{NcpFault, Request};
 use std::alloc::Global;
@@ -159,8 +159,27 @@ fn sizes_of(book: &Book) -> [usize; 6] {
 fn told(alloc: Global, book: &Book) -> Option<String> {
     let mut text = String::with_capacity(alloc, ROOM).ok()?;
     write!(text, "{:?} {:?} {:?} ", book.crossings(), book.notices(), book.contacts()).ok()?;
-    write!(text, "{:?} {:?} {:?}", book.reports(), book.lives(), book.handed()).ok()?;
+    write!(text, "{:?}", book.reports()).ok()?;
+    for life in book.lives() {
+        write!(text, " {:?} {} {:?} {}", life.host, life.socket, life.peer, life.foreign).ok()?;
+        write!(text, " {} {} {}", life.own_stamp, life.partner_stamp, life.messages).ok()?;
+        write!(text, " {:?} {:?} {} ", life.granted, life.returned, life.ended).ok()?;
+        tell_bits(&life.bits, &mut text)?;
+    }
+    for bits in book.handed() {
+        write!(text, " ").ok()?;
+        tell_bits(bits, &mut text)?;
+    }
     Some(text)
+}
+
+/// The bits of a list, and not what it holds behind them since it was cut back.
+fn tell_bits(bits: &BitLog, text: &mut String) -> Option<()> {
+    for place in 0..bits.len() {
+        let digit = if bits.get(place)? { "1" } else { "0" };
+        write!(text, "{digit}").ok()?;
+    }
+    Some(())
 }
 
 /// Whether a world refuses its calls as stopped.
