@@ -38,16 +38,22 @@ contacted =
     ∷ Crossed (crossing.In (rst first second)) ∷ Crossed (crossing.Out (rst first second)) ∷ Asked first (request.Contact second) ∷ []
 
 -- then it asks for a connection to its socket 16, and the second's socket 33 was listening
+abbrev pub str_sent : List Moment
+str_sent =
+    answered_moment first second ∷ Crossed (crossing.Out str) ∷ Crossed (crossing.In rts) ∷ Crossed (crossing.Out rts) ∷ Asked first (request.OpenReceive second 16 33)
+    ∷ Asked second (request.Listen 33 8) ∷ contacted
+
 abbrev pub connected : List Moment
-connected =
-    answered_moment second first ∷ Crossed (crossing.In str) ∷ answered_moment first second ∷ Crossed (crossing.Out str) ∷ Crossed (crossing.In rts)
-    ∷ Crossed (crossing.Out rts) ∷ Asked first (request.OpenReceive second 16 33) ∷ Asked second (request.Listen 33 8) ∷ contacted
+connected = answered_moment second first ∷ Crossed (crossing.In str) ∷ str_sent
 
 -- and eight bits are sent on it
+abbrev pub bits_sent : List Moment
+bits_sent =
+    Crossed (crossing.Out eight_sent) ∷ answered_moment first second ∷ Crossed (crossing.In all_given) ∷ Crossed (crossing.Out all_given)
+    ∷ Asked second (request.Send 33 eight) ∷ Asked first (request.Grant 16 2 100) ∷ connected
+
 abbrev pub sent_moments : List Moment
-sent_moments =
-    Crossed (crossing.In eight_sent) ∷ Crossed (crossing.Out eight_sent) ∷ answered_moment first second ∷ Crossed (crossing.In all_given)
-    ∷ Crossed (crossing.Out all_given) ∷ Asked second (request.Send 33 eight) ∷ Asked first (request.Grant 16 2 100) ∷ connected
+sent_moments = Crossed (crossing.In eight_sent) ∷ bits_sent
 
 -- who was told what, without the places
 abbrev pub notice_of : Told → Host × Notice

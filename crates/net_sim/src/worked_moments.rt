@@ -2,13 +2,17 @@
 //! clause is a row, computed over the definitions.
 
 ghost use Rattle.std.specs.Prelude.{◌≡◌, [], ◌∷◌, map};
+ghost use Rattle.host_pairs.specs.declared.notice.Notice.{Notice};
 ghost use Rattle.host_pairs.specs.declared.notice.Notice.TheVariants as notice;
+ghost use Rattle.leader1822.specs.declared.crossing.Inbound.TheVariants as inbound;
+ghost use Rattle.net_sim.specs.Clean.{IsUnheard};
 ghost use Rattle.net_sim.specs.Book.{asked, book_told};
-ghost use Rattle.net_sim.specs.Story.{Asked};
+ghost use Rattle.net_sim.specs.Story.{Asked, places, program};
 ghost use Rattle.net_sim.specs.Timeline.{IsTimeline};
 ghost use Rattle.net_sim.specs.Told.{kept_in, notices_by};
 ghost use Rattle.net_sim.specs.Worked.{eight, four, receiver, sender, stamp_of};
-ghost use Rattle.net_sim.specs.WorkedMoments.{connected, contacted, notice_of, sent_moments};
+ghost use Rattle.net_sim.specs.WorkedMoments.{bits_sent, connected, contacted, eight_sent, notice_of, sent_moments, str, str_sent};
+ghost use Rattle.sockets.specs.Accepting.{accepted};
 ghost use Rattle.sockets.specs.Worked.{first, second, third};
 ghost use Rattle.sockets.specs.declared.request.Request.TheVariants as request;
 
@@ -40,4 +44,19 @@ pub fn worked_timelines()
 
     // nor one of a host that isn't there
     ensures nobody { IsTimeline (first ∷ second ∷ []) (Asked third (request.Listen 33 8) ∷ []) → ⊥ }
+{}
+
+/// What a taking may come to.
+pub fn worked_takings()
+    // data that is taken in a contact is told, and an STR opens an end
+    ensures told { IsUnheard (program first bits_sent) (accepted (program first bits_sent) (inbound.Message eight_sent) (places bits_sent)) → ⊥ }
+    ensures opened { IsUnheard (program first str_sent) (accepted (program first str_sent) (inbound.Message str) (places str_sent)) → ⊥ }
+
+    // before any contact neither comes to anything
+    ensures early { IsUnheard (program first []) (accepted (program first []) (inbound.Message eight_sent) 0) × IsUnheard (program first []) (accepted (program first []) (inbound.Message str) 0) }
+
+    // nothing comes of a taking only where nothing is told, no pair changes, and what listens stays
+    ensures notice { (n : Notice) → IsUnheard (program first contacted) (program first contacted, n ∷ []) → ⊥ }
+    ensures pair { IsUnheard (program second []) (program second contacted, []) → ⊥ }
+    ensures listening { IsUnheard (program second contacted) (program second (Asked second (request.Listen 33 8) ∷ contacted), []) → ⊥ }
 {}
