@@ -18,9 +18,9 @@ use Rattle.net_sim.specs.World.{ServiceSeat, WorldState}
 abbrev pub told_to : Host → List Told → List Notice
 told_to h told = map (λ x. x.notice) (filter (λ x. same_host h x.host) told)
 
--- ---- machines that began
+-- ---- machines that may have begun
 
--- a server that began on a host which was told all this: its sockets, with which a server can begin, and what was told since then
+-- sockets with which a server can begin, and the notices after some one of those that its host was told
 pub record BegunServer (notices : List Notice) : Type 0 where
   pub listen : ℕ
   pub base : ℕ
@@ -29,7 +29,7 @@ pub record BegunServer (notices : List Notice) : Type 0 where
   pub since : List Notice
   pub parts : notices ≡ earlier ++ since
 
--- a user
+-- and of a user
 pub record BegunUser (notices : List Notice) : Type 0 where
   pub peer : Host
   pub listen : ℕ
@@ -41,16 +41,16 @@ pub record BegunUser (notices : List Notice) : Type 0 where
 
 -- ---- what is reported
 
--- a server is done with these two sockets, its base and the one above it: since it began a user had asked, and both were opened with
--- sockets of that user, crosswise
+-- a server is done with these two sockets, its base and the one above it: from some notice on its host was told that a user asks, and
+-- that both were opened with sockets of that user, crosswise
 pub record ServerIsDone (notices : List Notice) (receive send : ℕ) : Type 0 where
   pub began : BegunServer notices
   pub receives : receive ≡ began.base
   pub sends : send ≡ began.base + 1
   pub served : IsServed began.listen began.base began.since
 
--- a user is done with these two sockets, two and three above its own: since it began the server had said an even base, and both were
--- opened with the base and the socket above it, crosswise
+-- a user is done with these two sockets, two and three above its own: from some notice on its host was told that the server says an
+-- even base, and that both were opened with the base and the socket above it, crosswise
 pub record UserIsDone (notices : List Notice) (receive send : ℕ) : Type 0 where
   pub began : BegunUser notices
   pub receives : receive ≡ began.own + 2
@@ -70,7 +70,7 @@ pub record IsBacked (told : List Told) (r : Reported) : Type 0 where
 
 -- ---- what runs
 
--- a server or a user has had its outcome, or is as what was told since it began has left it
+-- a server or a user has had its outcome, or is as the notices from some one on have left it
 abbrev pub IsRunning : List Notice → Service → Type 0
 IsRunning notices (service.Server s) = (s.over ≡ true) ⊎ ((b : BegunServer notices) × (s ≡ (server_played (opening_server b.listen b.base) b.since).0))
 IsRunning notices (service.User s) = (s.over ≡ true) ⊎ ((b : BegunUser notices) × (s ≡ (user_played (opening_user b.peer b.listen b.own) b.since).0))
