@@ -31,8 +31,10 @@ def waits(world, host):
     return bool(it.answers or it.messages)
 
 
-def round_of(world):
-    """The events of a round of a calm, one after another as each happens; of takings and offers those that find something."""
+def round_of(world, hosts):
+    """The events of a round of a calm, one after another as each happens, of takings and offers those that find something.
+
+    These hosts have their turns: in a calm all of them."""
     subnet = world.carrier
     for number in subnet.imps:
         yield f"route {number}"
@@ -42,12 +44,12 @@ def round_of(world):
             for _ in range(len(frames)):
                 yield f"deliver {line} {way} 0"
                 yield f"drop {line} {way} 0"
-    for host, program in world.hosts.items():
+    for host in hosts:
         for _ in range(TAKES):
             if waits(world, host):
                 yield f"take {spell_host(host)}"
         for _ in range(OFFERS):
-            if program.next_out() is not None:
+            if world.hosts[host].next_out() is not None:
                 yield f"offer {spell_host(host)}"
 
 
@@ -63,7 +65,7 @@ class Dialogue:
             if kind != "calm":
                 self.happen(line)
             for _ in range(parts[0] if kind == "calm" else 0):
-                for event in round_of(self.world):
+                for event in round_of(self.world, self.world.hosts):
                     self.happen(event)
 
     def happen(self, line):
@@ -96,10 +98,14 @@ class Stop:
         self.stopped = []  # hosts, in the order in which they stop
         self.refused = Counter()  # by what was tried and why it was refused
         self.cleared = Counter()  # by what cleared something after a refusal
+        self.pauses = 0
         for kind, *parts in things:
             getattr(self, f"stop_{kind}")(*parts)
-        self.give_up()
-        self.go_on()
+        self.contacted = len(self.world.printed)
+        self.contact()
+        self.served = len(self.world.printed)
+        self.ask("user")
+        self.ask("type")
 
     # events
 
@@ -178,6 +184,25 @@ class Stop:
 
     # and how it goes on
 
+    def ask(self, kind):
+        self.do(self.dialogue.asks(kind))
+        self.do(f"calm {ROUNDS[kind]}")
+
+    def contact(self):
+        """The dialogue begins once more with its contact, on the same sockets, with a server where none waits for its user."""
+        line = self.dialogue.asks("contact")
+        _, host, peer = read_line(line, raw=False)
+        self.do(line)
+        self.give_up()
+        self.do(f"calm {ROUNDS['contact']}")
+        if self.world.hosts[host].phase(peer) != "ready":
+            self.pause(host)
+            self.do(f"calm {ROUNDS['contact']}")
+        if not any(it.outcome is None for it in self.services(Server)):
+            self.begin_server(self.dialogue.asks("server"))
+        # a line comes from each echo service to each terminal, also to those that were there before
+        self.echoes, self.terminals = (len(self.services(kind)) + 1 for kind in (Echo, Terminal))
+
     def give_up(self):
         """What can still arrive does, and a message of which nothing is alive then is given up."""
         self.do(f"calm {ARRIVES}")
@@ -186,21 +211,11 @@ class Stop:
                 self.do(f"giveup {spell_flow(flow)}")
                 self.cleared["giveup"] += 1
 
-    def go_on(self):
-        """The dialogue once more, from its contact on, on the same sockets. A server begins where none waits for its user."""
-        self.contacted = len(self.world.printed)
-        self.ask("contact")
-        if not any(it.outcome is None for it in self.services(Server)):
-            self.begin_server(self.dialogue.asks("server"))
-        # a line comes from each echo service to each terminal, also to those that were there before
-        self.echoes, self.terminals = (len(self.services(kind)) + 1 for kind in (Echo, Terminal))
-        self.served = len(self.world.printed)
-        self.ask("user")
-        self.ask("type")
-
-    def ask(self, kind):
-        self.do(self.dialogue.asks(kind))
-        self.do(f"calm {ROUNDS[kind]}")
+    def pause(self, host):
+        """A round in which a host has no turn. While both have theirs, each RRP may come before the RFNM that it needs, again and again."""
+        self.pauses += 1
+        for event in round_of(self.world, [it for it in self.world.hosts if it != host]):
+            self.do(event)
 
     def services(self, kind):
         return [it for running in self.world.programs.values() for it in running if isinstance(it, kind)]

@@ -181,6 +181,7 @@ def counted(stop, lines, log, lives):
     seen = Counter({"runs": 1, "events": len(stop.lines), "crossings": len(log), "lives": len(lives)})
     seen["stop: " + (NAMES[stop.things[0][0]] if len(stop.things) == 1 else "all in turn")] += 1
     seen.update(it[0] for it in log if it[0] in ("down", "up"))
+    seen["pauses"] += stop.pauses
     seen["refusals"] += sum(it.startswith("refused ") for it in lines)
     seen.update({f"tried: {it}": count for it, count in stop.refused.items()})
     seen.update({f"cleared: {it}": count for it, count in stop.cleared.items()})
@@ -196,7 +197,7 @@ def tell(seen, events, stops):
     print(f"check stops: the dialogue is {events} single events, and everything stops after {'each' if stops == events else stops} of them")
     print(f"check stops: {seen['runs']} runs of {seen['events']} events; what stops: {listed(seen, 'stop: ')}; {seen['down']} times a host goes down, {seen['up']} times up")
     print(f"check stops: {seen['refusals']} refusals until something was cleared: {listed(seen, 'tried: ')}; cleared by {listed(seen, 'cleared: ')}")
-    print(f"check stops: the dialogues come to {listed(seen, 'end: ')}")
+    print(f"check stops: the dialogues come to {listed(seen, 'end: ')}; in {seen['pauses']} of them the contact is done only when a host lets a round pass")
     print(f"check stops: {seen['runs']} books audited, with {seen['crossings']} crossings and {seen['lives']} lives, and {seen['spoiled']} that are spoiled")
 
 
