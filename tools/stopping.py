@@ -120,7 +120,7 @@ class Stop:
     def do(self, line):
         """Lets an event happen that may not be refused."""
         if refusal := self.tried(line):
-            raise Stuck(f"after event {self.count}, {self.things}: {line}: refused {refusal}")
+            raise Stuck(f"{line}: refused {refusal}")
 
     def until(self, line):
         """Lets an event happen, after what its refusals ask for."""
@@ -131,7 +131,7 @@ class Stop:
             kind, *parts = read_line(line, raw=False)
             self.refused[f"{kind} {refusal}"] += 1
             self.clear(refusal, kind, parts)
-        raise Stuck(f"after event {self.count}, {self.things}: {line}")
+        raise Stuck(f"{line}: refused after {MOST_TRIES} tries")
 
     def clear(self, refusal, kind, parts):
         """Has less stand in the way of what was refused."""
@@ -143,7 +143,7 @@ class Stop:
         elif refusal == "StillAlive":
             event = InTheWay(subnet).next_clearing(kind, parts, None)
         else:
-            raise Stuck(f"after event {self.count}, {self.things}: {kind} {parts}: refused {refusal}")
+            raise Stuck(f"{kind} {parts}: refused {refusal}")
         self.do(event)
         self.cleared[event.split(" ")[0]] += 1
 

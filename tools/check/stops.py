@@ -98,13 +98,17 @@ def book_of(lines, model):
 # ---- what is wrong with it
 
 
+def difference(stop, lines):
+    """Where the program prints something else than the model, None where it does not."""
+    owed = [*with_texts(stop.world.printed, stop.world.carrier.log), *stop.world.end_of_book(), "end"]
+    if lines == owed:
+        return None
+    place = next((at for at, pair in enumerate(zip(lines, owed)) if pair[0] != pair[1]), min(len(lines), len(owed)))
+    return f"it prints {lines[place : place + 1]} as line {place + 1}, and the model {owed[place : place + 1]}"
+
+
 def wrong_with(stop, lines, log, lives):
-    """What is wrong with a run, None where nothing is."""
-    world = stop.world
-    owed = [*with_texts(world.printed, world.carrier.log), *world.end_of_book(), "end"]
-    if lines != owed:
-        place = next((at for at, pair in enumerate(zip(lines, owed)) if pair[0] != pair[1]), min(len(lines), len(owed)))
-        return f"it prints {lines[place : place + 1]} as line {place + 1}, and the model {owed[place : place + 1]}"
+    """What is wrong with a run that prints what the model prints, None where nothing is."""
     if any([it[1] for it in log if it[0] == kind] != stop.stopped for kind in ("down", "up")):
         return "other hosts stop, or come up, than should"
     if [it.spell() for it in lives] != [it for it in lines if it.startswith("life ")]:
@@ -148,25 +152,29 @@ def spoiled(log, lives):
 
 def tried(count):
     """What came of stopping everything after an event: counts, and what is wrong with which run."""
-    seen, wrong, book = Counter(), [], None
+    seen, wrong, book = Counter(), [], []
     for things in DIALOGUE.things():
         try:
-            stop = Stop(DIALOGUE, count, things)
+            found, *book = judged(Stop(DIALOGUE, count, things), seen)
         except Stuck as why:
-            wrong.append(str(why))
-            continue
-        lines = printed(stop)
-        log, lives = book_of(lines, stop.world)
-        seen += counted(stop, lines, log, lives)
-        if found := wrong_with(stop, lines, log, lives):
+            found = str(why)
+        if found:
             wrong.append(f"after event {count}, {DIALOGUE.lines[count - 1]}, {things}: {found}")
-        else:
-            book = log, lives
-    for part, *book in spoiled(*book) if book else ():
+    for part, log, lives in spoiled(*book) if book and not wrong else ():
         seen["spoiled"] += 1
-        if audit(*book) != part:
-            wrong.append(f"a book that breaks {part} is found to break {audit(*book)}")
+        if audit(log, lives) != part:
+            wrong.append(f"a book that breaks {part} is found to break {audit(log, lives)}")
     return seen, wrong
+
+
+def judged(stop, seen):
+    """What is wrong with a run, None where nothing is; and its book, if the program printed what the model prints."""
+    lines = printed(stop)
+    if found := difference(stop, lines):
+        return (found,)
+    book = book_of(lines, stop.world)
+    seen.update(counted(stop, lines, *book))
+    return wrong_with(stop, lines, *book), *book
 
 
 def printed(stop):
