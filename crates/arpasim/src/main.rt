@@ -5,8 +5,8 @@
 //! on standard error and the exit status.
 #![tactic(auto)]
 
-use command_line::{ScriptFault, run};
-use std::io::{BufWriter, ErrorKind, Write};
+use command_line::{Output, Printer, Reader, ScriptFault, run};
+use std::io::{BufWriter, ErrorKind};
 use std::process::ExitCode;
 use std::rt::Env;
 use std::{env, io};
@@ -24,18 +24,19 @@ fn main(rt: HostRuntime) -> ExitCode {
 /// Runs the program as the command line asks, from standard input to standard output.
 fn from_command_line<R: Env + Input + Print + AllocGlobal>(rt: &R) -> Result<(), ScriptFault> {
     let words = words_of(rt)?;
-    let mut reader = rt.reader();
+    let mut reader = Reader::new(rt.reader());
     let buffered = BufWriter::new(rt.alloc(), io::writer(rt));
-    let mut writer = buffered.map_err(|_| ScriptFault::OutOfMemory)?;
+    let mut writer = Printer::new(buffered.map_err(|_| ScriptFault::OutOfMemory)?);
     let outcome = run(rt.alloc(), &words, &mut reader, &mut writer);
+    // what was written before memory ran out is still gathered
     let flushed = match outcome {
-        Err(ScriptFault::CannotWrite) => Ok(()),
-        _ => writer.flush(),
+        Err(ScriptFault::OutOfMemory) => writer.flush(),
+        _ => Ok(()),
     };
     // what is still gathered where a write has failed is not written again
-    let _ = writer.into_parts();
+    let _ = writer.into_inner().into_parts();
     outcome?;
-    flushed.map_err(|_| ScriptFault::CannotWrite)
+    Ok(flushed?)
 }
 
 /// The words of the command line behind the program's name.

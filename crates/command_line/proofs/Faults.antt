@@ -1,11 +1,12 @@
 -- Why octets are no input.
-use Rattle.std.proofs.Common.{◌≡◌, List, ℕ, IsUtf8, Option, Some, None, IfSome, Result, Ok, Err, IfErr, MatchResult, inr, refl, subst, sym}
+use Rattle.std.proofs.Common.{◌≡◌, ◌<◌, Bool, true, false, List, ℕ, length, IsUtf8, Option, Some, None, IfSome, Result, Ok, Err, IfErr, MatchResult, inl, inr, refl, subst, sym, ◌∙◌}
+use Rattle.std.proofs.lemmas.Bool.{false≢true}
 use Rattle.script.specs.Input.{IsParted}
 use Rattle.topology.specs.Topology.{TopologyFields}
 use Rattle.command_line.specs.Described.{Describes}
 use Rattle.command_line.specs.Events.{Asked}
 use Rattle.command_line.specs.Input.{IsInput, IsInputFault, IsSomeInput}
-use Rattle.command_line.specs.Steps.{IsNetworkFault, IsReplayFault}
+use Rattle.command_line.specs.Steps.{IsNetworkFault, IsReadFault, IsReplayFault}
 use Rattle.replay.specs.declared.events.ReplayFault.{ReplayFault}
 use Rattle.replay.specs.declared.events.ReplayFault.TheVariants as replay
 use Rattle.command_line.specs.Faults.{told_as}
@@ -35,9 +36,17 @@ pub known_read : (known : Option (List ℕ)) (octets : List ℕ) (network : Topo
 known_read None octets network events r same read known = tt
 known_read (Some k) octets network events r same read known = after_reading k r (network, events, subst (λ o. IsInput o network events) same read) known
 
-pub write_fault : (r : Result (Unit {0}) ScriptFault) → IfErr r (λ f. f ≡ fault.CannotWrite) → IfErr r IsReplayFault
-write_fault (Ok done) h = tt
-write_fault (Err f) h = subst IsReplayFault (sym h) tt
+-- octets that were not read: too many, or memory ran out
+pub unread : {T : Type 0} (known : Option (List ℕ)) (r : Result T ScriptFault) (failed : Bool) → IfErr r IsReadFault → (r ≡ Err fault.BadTopology → IfSome known (λ k. 1048576 < length k))
+    → (r ≡ Err fault.CannotRead → failed ≡ true) → failed ≡ false → IfErr r (λ f. IfSome known (λ k. IsInputFault k f))
+unread known (Ok octets) failed read long told whole = tt
+unread None (Err f) failed read long told whole = tt
+unread (Some k) (Err fault.BadTopology) failed read long told whole = inl (long refl)
+unread (Some k) (Err fault.OutOfMemory) failed read long told whole = tt
+unread (Some k) (Err fault.CannotRead) failed read long told whole = absurd (false≢true (sym whole ∙ told refl))
+unread (Some k) (Err fault.BadOptions) failed read long told whole = absurd read
+unread (Some k) (Err fault.CannotWrite) failed read long told whole = absurd read
+unread (Some k) (Err (fault.BadLine number)) failed read long told whole = absurd read
 
 abbrev ends_with : ScriptFault → Result (Unit {0}) ScriptFault
 ends_with f = Err f

@@ -5,6 +5,5 @@ mod Once
 mod OneInput
 mod Settled
 mod Sites
-mod Taken
 mod Words
 mod Written

@@ -38,11 +38,12 @@ pub record HasBadTopology (octets : List ℕ) : Type 0 where
   pub parted : IsParted octets document script
   pub unfit : IsUtf8 document → (t : TopologyFields) → ¬ Describes document t
 
--- when each fault may be given for these octets: nothing is written before they are known to be an input
+-- when each fault may be given for these octets, where no read failed: nothing is written before they are known to be an input.
+-- Memory may run out at any octets
 abbrev pub IsInputFault : List ℕ → ScriptFault → Type 0
 IsInputFault octets (fault.BadLine number) = HasBadLine octets number
 IsInputFault octets fault.BadTopology = (1048576 < length octets) ⊎ (All (λ line. line ≢ codes "%") (lines_of octets)) ⊎ HasBadTopology octets
-IsInputFault octets fault.CannotRead = Unit {0}
+IsInputFault octets fault.CannotRead = ⊥
 IsInputFault octets fault.OutOfMemory = Unit {0}
 IsInputFault octets fault.CannotWrite = IsSomeInput octets
 IsInputFault octets fault.BadOptions = ⊥

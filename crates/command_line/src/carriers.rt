@@ -1,7 +1,8 @@
 //! Over which carrier a script is replayed, without host programs or with them.
 
-ghost use Rattle.std.specs.Prelude.{◌≡◌, ◌⊎◌, ◌++◌, [], codes, Err, IfErr, IfOk, OnOk, false};
+ghost use Rattle.std.specs.Prelude.{◌≡◌, ◌⊎◌, ◌++◌, ◌↔◌, [], codes, Err, IfErr, IfOk, OnOk, false, true};
 ghost use Rattle.std.specs.Io.KnownBytes.{Appends, Keeps};
+ghost use Rattle.replay.specs.Failing.{TellsFailure};
 ghost use Rattle.replay.specs.Output.{Writes};
 ghost use Rattle.world_replay.specs.Output as lines;
 ghost use Rattle.command_line.specs.Carriers.{ends_of, hosting, subnet_of};
@@ -14,10 +15,9 @@ use crate::input::Events;
 use headline::book_of;
 use leader1822::{Carrier, PlainBoxes};
 use net_sim::World;
-use replay::Detail;
+use replay::{Detail, Output, WriteFailed};
 use script::RawEvent;
 use std::alloc::{AllocError, Global};
-use std::io::Write;
 use subnet::Subnet;
 use topology::{CarrierKind, LineEnds, Topology};
 use world_replay::print_lives;
@@ -28,7 +28,7 @@ use world_script::WorldEvent;
 /// much as `detail` says.
 ///
 /// Errors: `CannotWrite`; `OutOfMemory`, after which what the first of the events show is written.
-pub(crate) fn replay_on<W: Write>(
+pub(crate) fn replay_on<W: Output>(
     alloc: Global,
     network: &Topology,
     events: Events,
@@ -36,9 +36,12 @@ pub(crate) fn replay_on<W: Write>(
     detail: Detail,
     writer: &mut W,
 ) -> Result<(), ScriptFault>
+    requires { W.failed writer.old ≡ false }
     ensures replayed { OnOk result (ReplaysOn network.now book detail (asked_of events) (W.contents writer.old) (W.contents writer.new)) }
     ensures stopped { result ≡ Err ScriptFault.OutOfMemory → Keeps (W.contents writer.old) (W.contents writer.new) ⊎ EndsOn network.now detail (asked_of events) (W.contents writer.old) (W.contents writer.new) }
     ensures fault { IfErr result IsReplayFault }
+    ensures failed { (result ≡ Err ScriptFault.CannotWrite) ↔ (W.failed writer.new ≡ true) }
+    ensures flushed { OnOk result (W.flushed writer.new ≡ true) }
 {
     match network.carrier() {
         CarrierKind::Plain => {
@@ -62,7 +65,7 @@ pub(crate) fn replay_on<W: Write>(
 /// Replays events over a carrier at its opening, without host programs or with them.
 ///
 /// Errors: `CannotWrite`; `OutOfMemory`, after which what the first of the events show is written.
-fn replay_over<C: Carrier, W: Write>(
+fn replay_over<C: Carrier, W: Output>(
     alloc: Global,
     carrier: C,
     events: Events,
@@ -71,10 +74,13 @@ fn replay_over<C: Carrier, W: Write>(
     writer: &mut W,
 ) -> Result<(), ScriptFault>
     requires unused { (C.seen carrier).log ≡ [] }
+    requires whole { W.failed writer.old ≡ false }
     requires running { (C.seen carrier).stopped ≡ false }
     ensures replayed { OnOk result (ReplaysFrom (record { seen = C.seen; offers = C.offers; takes = C.takes; steps = C.steps; rounds = C.rounds }) carrier book detail (asked_of events) (W.contents writer.old) (W.contents writer.new)) }
     ensures stopped { result ≡ Err ScriptFault.OutOfMemory → Keeps (W.contents writer.old) (W.contents writer.new) ⊎ EndsFrom (record { seen = C.seen; offers = C.offers; takes = C.takes; steps = C.steps; rounds = C.rounds }) carrier detail (asked_of events) (W.contents writer.old) (W.contents writer.new) }
     ensures fault { IfErr result IsReplayFault }
+    ensures failed { (result ≡ Err ScriptFault.CannotWrite) ↔ (W.failed writer.new ≡ true) }
+    ensures flushed { OnOk result (W.flushed writer.new ≡ true) }
 {
     match events {
         Events::Raw(events) => replay_raw(carrier, &events, detail, writer),
@@ -85,19 +91,22 @@ fn replay_over<C: Carrier, W: Write>(
 /// Replays events without host programs, and writes what they show and a last line `end`.
 ///
 /// Errors: `CannotWrite`; `OutOfMemory`, after which what the first of the events show is written.
-fn replay_raw<C: Carrier, W: Write>(
+fn replay_raw<C: Carrier, W: Output>(
     mut carrier: C,
     events: &[RawEvent],
     detail: Detail,
     writer: &mut W,
 ) -> Result<(), ScriptFault>
-    requires { (C.seen carrier).log ≡ [] }
+    requires unused { (C.seen carrier).log ≡ [] }
+    requires whole { W.failed writer.old ≡ false }
     ensures replayed { OnOk result (WritesAll detail (ShowsFrom (record { seen = C.seen; offers = C.offers; takes = C.takes; steps = C.steps; rounds = C.rounds }) carrier events.now) (W.contents writer.old) (W.contents writer.new)) }
     ensures stopped { result ≡ Err ScriptFault.OutOfMemory → Writes detail (StopsFrom (record { seen = C.seen; offers = C.offers; takes = C.takes; steps = C.steps; rounds = C.rounds }) carrier events.now) (W.contents writer.old) (W.contents writer.new) }
     ensures fault { IfErr result IsReplayFault }
+    ensures failed { (result ≡ Err ScriptFault.CannotWrite) ↔ (W.failed writer.new ≡ true) }
+    ensures flushed { OnOk result (W.flushed writer.new ≡ true) }
 {
     match replay::replay_events(&mut carrier, events, detail, writer) {
-        Ok(()) => write_last(writer, b"end\n"),
+        Ok(()) => Ok(write_last(writer, b"end\n")?),
         Err(fault) => Err(ScriptFault::from(fault)),
     }
 }
@@ -106,7 +115,7 @@ fn replay_raw<C: Carrier, W: Write>(
 /// for, and a last line `end`.
 ///
 /// Errors: `CannotWrite`; `OutOfMemory`, after which what the first of the events show is written.
-fn replay_world<C: Carrier, W: Write>(
+fn replay_world<C: Carrier, W: Output>(
     alloc: Global,
     carrier: C,
     events: Vec<WorldEvent>,
@@ -115,31 +124,36 @@ fn replay_world<C: Carrier, W: Write>(
     writer: &mut W,
 ) -> Result<(), ScriptFault>
     requires unused { (C.seen carrier).log ≡ [] }
+    requires whole { W.failed writer.old ≡ false }
     requires running { (C.seen carrier).stopped ≡ false }
     ensures replayed { OnOk result (WritesWorld book detail (WorldShowsFrom (hosting (record { seen = C.seen; offers = C.offers; takes = C.takes; steps = C.steps; rounds = C.rounds })) carrier events.items) (W.contents writer.old) (W.contents writer.new)) }
     ensures stopped { result ≡ Err ScriptFault.OutOfMemory → Keeps (W.contents writer.old) (W.contents writer.new) ⊎ lines.Writes detail (WorldStopsFrom (hosting (record { seen = C.seen; offers = C.offers; takes = C.takes; steps = C.steps; rounds = C.rounds })) carrier events.items) (W.contents writer.old) (W.contents writer.new) }
     ensures fault { IfErr result IsReplayFault }
+    ensures failed { (result ≡ Err ScriptFault.CannotWrite) ↔ (W.failed writer.new ≡ true) }
+    ensures flushed { OnOk result (W.flushed writer.new ≡ true) }
 {
     let mut world = World::new(alloc, carrier)?;
     match world_replay::replay_events(&mut world, events, detail, writer) {
-        Ok(()) => write_book(&world, book, writer),
+        Ok(()) => Ok(write_book(&world, book, writer)?),
         Err(fault) => Err(ScriptFault::from(fault)),
     }
 }
 
 /// Writes the lives of a world's connections, where the book is asked for, and a last line `end`.
 ///
-/// Errors: `CannotWrite`.
-fn write_book<C: Carrier, W: Write>(
+/// Errors: `WriteFailed`.
+fn write_book<C: Carrier, W: Output>(
     world: &World<C>,
     book: bool,
     writer: &mut W,
-) -> Result<(), ScriptFault>
+) -> Result<(), WriteFailed>
+    requires { W.failed writer.old ≡ false }
     ensures written { OnOk result (Appends (W.contents writer.old) (W.contents writer.new) (book_text book world.now.kept.book.lives ++ codes "end\n")) }
-    ensures fault { IfErr result (λ f. f ≡ ScriptFault.CannotWrite) }
+    ensures failed { TellsFailure result (W.failed writer.new) }
+    ensures flushed { OnOk result (W.flushed writer.new ≡ true) }
 {
-    if book && print_lives(book_of(world).lives(), writer).is_err() {
-        return Err(ScriptFault::CannotWrite);
+    if book {
+        print_lives(book_of(world).lives(), writer)?;
     }
     write_last(writer, b"end\n")
 }
@@ -174,16 +188,13 @@ fn ends_of(alloc: Global, lines: &[LineEnds]) -> Result<Vec<subnet::Ends>, Alloc
 
 /// Writes the last line, and all that the writer still holds back.
 ///
-/// Errors: `CannotWrite`.
-pub(crate) fn write_last<W: Write>(writer: &mut W, line: &[u8]) -> Result<(), ScriptFault>
+/// Errors: `WriteFailed`.
+pub(crate) fn write_last<W: Output>(writer: &mut W, line: &[u8]) -> Result<(), WriteFailed>
+    requires { W.failed writer.old ≡ false }
     ensures written { OnOk result (Appends (W.contents writer.old) (W.contents writer.new) line.now) }
-    ensures fault { IfErr result (λ f. f ≡ ScriptFault.CannotWrite) }
+    ensures failed { TellsFailure result (W.failed writer.new) }
+    ensures flushed { OnOk result (W.flushed writer.new ≡ true) }
 {
-    match writer.write_all(line) {
-        Ok(()) => match writer.flush() {
-            Ok(()) => Ok(()),
-            Err(_) => Err(ScriptFault::CannotWrite),
-        },
-        Err(_) => Err(ScriptFault::CannotWrite),
-    }
+    writer.write_all(line)?;
+    writer.flush()
 }

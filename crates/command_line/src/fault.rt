@@ -3,7 +3,8 @@
 ghost use Rattle.std.specs.Prelude.{◌≡◌};
 ghost use Rattle.command_line.specs.Faults.{status_of};
 
-use replay::ReplayFault;
+use crate::source::ReadFailed;
+use replay::{ReplayFault, WriteFailed};
 use std::alloc::{AllocError, AllocFailed};
 use thiserror::Error;
 
@@ -79,5 +80,25 @@ impl From<ReplayFault> for ScriptFault {
             ReplayFault::OutOfMemory => ScriptFault::OutOfMemory,
             ReplayFault::CannotWrite => ScriptFault::CannotWrite,
         }
+    }
+}
+
+impl From<ReadFailed> for ScriptFault {
+    ghost use Rattle.command_line.specs.declared.fault.ScriptFault.TheVariants.{CannotRead};
+
+    ghost from_gives = { λ _ e. e ≡ CannotRead };
+
+    fn from(_error: ReadFailed) -> ScriptFault {
+        ScriptFault::CannotRead
+    }
+}
+
+impl From<WriteFailed> for ScriptFault {
+    ghost use Rattle.command_line.specs.declared.fault.ScriptFault.TheVariants.{CannotWrite};
+
+    ghost from_gives = { λ _ e. e ≡ CannotWrite };
+
+    fn from(_error: WriteFailed) -> ScriptFault {
+        ScriptFault::CannotWrite
     }
 }

@@ -1,6 +1,6 @@
 //! What the simulator reads: octets up to a limit, and the topology and the script in them.
 
-ghost use Rattle.std.specs.Prelude.{◌≡◌, ◌≤◌, Err, IsUtf8, ◌<◌, length, IfSome, IfOk, IfErr, MatchResult};
+ghost use Rattle.std.specs.Prelude.{◌≡◌, ◌≤◌, Err, IsUtf8, ◌<◌, ◌↔◌, false, length, IfSome, IfOk, IfErr, MatchResult, true};
 ghost use Rattle.command_line.specs.Described.{Describes};
 ghost use Rattle.command_line.specs.Events.{AsksFor, asked_of};
 ghost use Rattle.command_line.specs.Input.{IsInput, IsInputFault};
@@ -9,9 +9,9 @@ ghost use Rattle.command_line.specs.Steps.{IsEventsFault, IsNetworkFault, IsRead
 ghost use Rattle.topology.specs.Topology.{TopologyFields};
 
 use crate::fault::ScriptFault;
+use crate::source::Source;
 use script::{LineFault, MAX_INPUT, RawEvent, read_script, split_input};
 use std::alloc::Global;
-use std::io::{ErrorKind, Read};
 use std::str;
 use topology::{Topology, TopologyFault};
 use world_script::{WorldEvent, read_world_script};
@@ -81,25 +81,34 @@ fn read_events(alloc: Global, raw: bool, script: &[u8]) -> Result<Events, Script
     }
 }
 
+/// How many octets are asked for at once.
+const CHUNK: usize = 4096;
+
 /// All octets that the reader gives. It is asked for one octet more than an input may have, and for none
 /// after that.
 ///
 /// Errors: `CannotRead` where a read fails, `BadTopology` where there are more octets than an input may
 /// have, `OutOfMemory`.
-pub(crate) fn read_octets<R: Read>(alloc: Global, reader: &mut R) -> Result<Vec<u8>, ScriptFault>
+pub(crate) fn read_octets<R: Source>(alloc: Global, reader: &mut R) -> Result<Vec<u8>, ScriptFault>
+    requires { R.failed reader.old ≡ false }
     ensures long { IfOk result (λ octets. length octets.items ≤ MAX_INPUT) }
     ensures whole { IfOk result (λ octets. IfSome (R.remaining reader.old) (λ known. octets.items ≡ known)) }
     ensures too_long { result ≡ Err ScriptFault.BadTopology → IfSome (R.remaining reader.old) (λ known. MAX_INPUT < length known) }
     ensures fault { IfErr result IsReadFault }
+    ensures failed { (result ≡ Err ScriptFault.CannotRead) ↔ (R.failed reader.new ≡ true) }
 {
     let mut octets = Vec::new(alloc);
-    let mut limited = reader.take(MAX_INPUT as u64 + 1);
-    match limited.read_to_end(&mut octets) {
-        Ok(_) if octets.len() > MAX_INPUT => Err(ScriptFault::BadTopology),
-        Ok(_) => Ok(octets),
-        Err(error) if error.kind() == ErrorKind::OutOfMemory => Err(ScriptFault::OutOfMemory),
-        Err(_) => Err(ScriptFault::CannotRead),
+    let mut buffer = [0; CHUNK];
+    while octets.len() <= MAX_INPUT {
+        let room = CHUNK.min(MAX_INPUT + 1 - octets.len());
+        let chunk = &mut buffer[..room];
+        let count = reader.read(chunk)?;
+        if count == 0 {
+            return Ok(octets);
+        }
+        octets.extend_from_slice(&chunk[..count])?;
     }
+    Err(ScriptFault::BadTopology)
 }
 
 /// The topology that a document describes.

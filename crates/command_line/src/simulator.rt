@@ -1,6 +1,6 @@
 //! The whole simulator, as a function of the words of its command line, a reader and a writer.
 
-ghost use Rattle.std.specs.Prelude.{◌≡◌, ◌≢◌, ◌⊎◌, None, Err, true, false, codes, map, string_bytes, IfSome, IfErr, MatchResult, OnOk};
+ghost use Rattle.std.specs.Prelude.{◌≡◌, ◌≢◌, ◌⊎◌, ◌↔◌, None, Err, true, false, codes, map, string_bytes, IfSome, IfErr, MatchResult, OnOk};
 ghost use Rattle.std.specs.Io.KnownBytes.{Appends, Keeps};
 ghost use Rattle.command_line.specs.Input.{IsInputFault, IsSomeInput};
 ghost use Rattle.command_line.specs.Options.{detail_of, options_of};
@@ -10,21 +10,25 @@ use crate::carriers::{replay_on, write_last};
 use crate::fault::ScriptFault;
 use crate::input::{Input, read_input, read_octets};
 use crate::options::{Options, OptionsFault};
-use replay::Detail;
+use crate::source::Source;
+use replay::{Detail, Output};
 use std::alloc::Global;
-use std::io::{Read, Write};
 
 /// Runs the simulator on the words behind its name, from a reader to a writer.
 ///
 /// Errors: `BadOptions` for words other than `--book`, `--check` and `--texts`, each at most once, with nothing read
 /// and nothing written; else as [`run_script`]. `OutOfMemory` may come for any words, since the parser of words
 /// is built in memory.
-pub fn run<R: Read, W: Write>(
+pub fn run<R: Source, W: Output>(
     alloc: Global,
     words: &[String],
     reader: &mut R,
     writer: &mut W,
 ) -> Result<(), ScriptFault>
+    // no read and no write has failed yet
+    requires reads { R.failed reader.old ≡ false }
+    requires writes { W.failed writer.old ≡ false }
+
     // words that are no options are refused: nothing is read, and nothing is written
     ensures refused { options_of (map string_bytes words.now) ≡ None → ((result ≡ Err ScriptFault.BadOptions) ⊎ (result ≡ Err ScriptFault.OutOfMemory)) × (reader.new ≡ reader.old) × (writer.new ≡ writer.old) }
 
@@ -41,7 +45,14 @@ pub fn run<R: Read, W: Write>(
     ensures replayed { IfSome (options_of (map string_bytes words.now)) (λ options. options.check ≡ false → OnOk result (IfSome (R.remaining reader.old) (λ octets. ReplaysInput options.book (detail_of options.texts) octets (W.contents writer.old) (W.contents writer.new)))) }
 
     // what is read is an input, or the first fault is given
-    ensures read { IfSome (options_of (map string_bytes words.now)) (λ options. IfSome (R.remaining reader.old) (λ octets. MatchResult result (λ _. IsSomeInput octets) (IsInputFault octets))) }
+    ensures read { IfSome (options_of (map string_bytes words.now)) (λ options. R.failed reader.new ≡ false → IfSome (R.remaining reader.old) (λ octets. MatchResult result (λ _. IsSomeInput octets) (IsInputFault octets))) }
+
+    // where a read or a write fails it is told, and nowhere else; by each call's `requires`, no more is asked of what failed
+    ensures cannot_read { (result ≡ Err ScriptFault.CannotRead) ↔ (R.failed reader.new ≡ true) }
+    ensures cannot_write { (result ≡ Err ScriptFault.CannotWrite) ↔ (W.failed writer.new ≡ true) }
+
+    // at the end all that was written is handed on
+    ensures flushed { OnOk result (W.flushed writer.new ≡ true) }
 
     // a fault that is found before the replay leaves nothing written
     ensures untouched { IfErr result (λ f. f ≢ ScriptFault.CannotWrite → f ≢ ScriptFault.OutOfMemory → writer.new ≡ writer.old) }
@@ -70,14 +81,15 @@ pub fn run<R: Read, W: Write>(
 /// are none. Of a message it writes as much as `detail` says.
 ///
 /// Errors, in this order:
-/// - `CannotRead`: a read failed.
+/// - `CannotRead`: a read failed. Nothing more is asked of the reader.
 /// - `BadTopology`: the input has more than 1,048,576 octets, has no line `%`, or begins with no topology.
 /// - `BadLine`: the first line of the script that is no event. Nothing is replayed and nothing is written.
-/// - `CannotWrite`: a write failed. How much was written the writer alone knows.
+/// - `CannotWrite`: a write or a flush failed. Nothing more is asked of the writer, which alone knows how much was
+///   written.
 ///
 /// `OutOfMemory` may come at any of these steps. What was written by then is the first part of what the
 /// replay would have written.
-pub fn run_script<R: Read, W: Write>(
+pub fn run_script<R: Source, W: Output>(
     alloc: Global,
     reader: &mut R,
     writer: &mut W,
@@ -85,6 +97,10 @@ pub fn run_script<R: Read, W: Write>(
     check: bool,
     detail: Detail,
 ) -> Result<(), ScriptFault>
+    // no read and no write has failed yet
+    requires reads { R.failed reader.old ≡ false }
+    requires writes { W.failed writer.old ≡ false }
+
     // with `check` the input is only read
     ensures checked { check ≡ true → OnOk result (Appends (W.contents writer.old) (W.contents writer.new) (codes "ok\n")) }
 
@@ -96,7 +112,14 @@ pub fn run_script<R: Read, W: Write>(
     ensures options { IfErr result (λ f. f ≢ ScriptFault.BadOptions) }
 
     // what is read is an input, or the first fault is given
-    ensures read { IfSome (R.remaining reader.old) (λ octets. MatchResult result (λ _. IsSomeInput octets) (IsInputFault octets)) }
+    ensures read { R.failed reader.new ≡ false → IfSome (R.remaining reader.old) (λ octets. MatchResult result (λ _. IsSomeInput octets) (IsInputFault octets)) }
+
+    // where a read or a write fails it is told, and nowhere else; by each call's `requires`, no more is asked of what failed
+    ensures cannot_read { (result ≡ Err ScriptFault.CannotRead) ↔ (R.failed reader.new ≡ true) }
+    ensures cannot_write { (result ≡ Err ScriptFault.CannotWrite) ↔ (W.failed writer.new ≡ true) }
+
+    // at the end all that was written is handed on
+    ensures flushed { OnOk result (W.flushed writer.new ≡ true) }
 
     // a fault that is found before the replay leaves nothing written
     ensures untouched { IfErr result (λ f. f ≢ ScriptFault.CannotWrite → f ≢ ScriptFault.OutOfMemory → writer.new ≡ writer.old) }
@@ -111,7 +134,7 @@ pub fn run_script<R: Read, W: Write>(
     let octets = read_octets(alloc, reader)?;
     let Input { network, events } = read_input(alloc, &octets)?;
     if check {
-        write_last(writer, b"ok\n")
+        Ok(write_last(writer, b"ok\n")?)
     } else {
         replay_on(alloc, &network, events, book, detail, writer)
     }

@@ -1,3 +1,4 @@
+mod Counting
 pub mod InTurn
 pub mod Passing
 pub mod Replays

@@ -1,5 +1,5 @@
 -- Texts are printed as a script spells them.
-use Rattle.std.proofs.Common.{◌≡◌, ℕ, ◌+◌, ◌/◌, ◌%◌, ◌^◌, ◌-◌, ◌<◌, ◌≤◌, zero, suc, true, false, List, [], ◌∷◌, ◌++◌, drop, slice_index, Option, Result, Ok, Err, IsOk, OnOk, codes, length, refl, sym, ap, ap₂, subst, ◌∙◌, arith}
+use Rattle.std.proofs.Common.{◌≡◌, ℕ, ◌+◌, ◌/◌, ◌%◌, ◌^◌, ◌-◌, ◌<◌, ◌≤◌, zero, suc, true, false, List, [], ◌∷◌, ◌++◌, drop, slice_index, Option, Result, Ok, Err, OnOk, codes, length, refl, sym, ap, ap₂, subst, ◌∙◌, arith}
 use Rattle.std.proofs.lemmas.List.{append_assoc, append-nil, drop_all}
 use Rattle.std.proofs.lemmas.Fmt.{hex_byte}
 use Rattle.std.specs.Fmt.{decimal, digit_glyph, digits, format_spec, padded_integral}
@@ -16,7 +16,7 @@ use Rattle.script.specs.declared.event.RawEvent.TheVariants as event
 use Rattle.replay.specs.Output.{crossing_line, spelled}
 use Rattle.replay.specs.declared.print.Detail.{Detail}
 use Rattle.replay.specs.declared.print.Detail.TheVariants.{Texts}
-use Rattle.replay.proofs.Shown.{appends_more, appends_none, was_ok}
+use Rattle.replay.proofs.Shown.{appends_more, appends_none}
 
 -- ---- octets
 
@@ -82,9 +82,9 @@ again m =
     ap (λ xs. codes "out " ++ xs) (append_assoc (flow_text m.flow) (codes " " ++ bits) octets)
 
 -- a crossing, what stands behind its bits, and the end of the line
-pub text_line : {E F : Type 0} (detail : Detail) (c : Crossing) (outcome : Result (Unit {0}) E) (told : Result (Unit {0}) F) (first second third last : Option (List ℕ)) → detail ≡ Texts
-    → Appends first second (crossing_text c) → Appends second third (spelled c) → (IsOk told → IsOk outcome) → OnOk outcome (Appends third last (codes "\n")) → OnOk told (Appends first last (ended_line (crossing_line detail c)))
-text_line detail c outcome (Err f) first second third last is crossed behind done end = tt
-text_line detail c outcome (Ok x) first second third last is crossed behind done end =
+pub text_line : {E : Type 0} (detail : Detail) (c : Crossing) (outcome : Result (Unit {0}) E) (first second third last : Option (List ℕ)) → detail ≡ Texts
+    → Appends first second (crossing_text c) → Appends second third (spelled c) → OnOk outcome (Appends third last (codes "\n")) → OnOk outcome (Appends first last (ended_line (crossing_line detail c)))
+text_line detail c (Err f) first second third last is crossed behind end = tt
+text_line detail c (Ok x) first second third last is crossed behind end =
     subst (λ (d : Detail). Appends first last (ended_line (crossing_line d c))) (sym is)
-    (appends_more first third last (crossing_text c ++ spelled c) (codes "\n") (appends_more first second third (crossing_text c) (spelled c) crossed behind) (was_ok outcome (done refl) end))
+    (appends_more first third last (crossing_text c ++ spelled c) (codes "\n") (appends_more first second third (crossing_text c) (spelled c) crossed behind) end)

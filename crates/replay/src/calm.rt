@@ -1,26 +1,29 @@
 //! A calm: rounds in which the network is left alone, and its hosts take what comes.
 
-ghost use Rattle.std.specs.Prelude.{◌≡◌, Err, IfErr};
+ghost use Rattle.std.specs.Prelude.{◌≡◌, Err, IfErr, false};
+ghost use Rattle.replay.specs.Failing.{TellsCannotWrite};
 ghost use Rattle.replay.specs.Replay.{Halts, Round, Takings, calmly};
 ghost use Rattle.replay.specs.Steps.{EventEnds, Grew};
 ghost use Rattle.script.specs.declared.event.RawEvent.TheVariants as script_event;
 
 use crate::events::ReplayFault;
+use crate::output::Output;
 use crate::print::{Detail, print_outcome};
 use leader1822::{Carrier, CarrierFault, HostAddr};
-use std::io::Write;
 
 /// How often a host takes in one round at most.
 const TAKINGS: u8 = 16;
 
 /// Lets so many rounds pass, and prints after each what crossed in it. Refusals are not printed.
-pub(crate) fn replay_calm<C: Carrier, W: Write>(
+pub(crate) fn replay_calm<C: Carrier, W: Output>(
     carrier: &mut C,
     rounds: u32,
     detail: Detail,
     writer: &mut W,
 ) -> Result<(), ReplayFault>
-    ensures { EventEnds (record { seen = C.seen; offers = C.offers; takes = C.takes; steps = C.steps; rounds = C.rounds }) detail carrier.old (script_event.Calm rounds) result carrier.new (W.contents writer.old) (W.contents writer.new) }
+    requires { W.failed writer.old ≡ false }
+    ensures ends { EventEnds (record { seen = C.seen; offers = C.offers; takes = C.takes; steps = C.steps; rounds = C.rounds }) detail carrier.old (script_event.Calm rounds) result carrier.new (W.contents writer.old) (W.contents writer.new) }
+    ensures failed { TellsCannotWrite result (W.failed writer.new) }
 {
     for _ in 0..rounds {
         let booked = carrier.log().len();

@@ -1,18 +1,19 @@
 //! Replaying a script's events over a carrier.
 
-ghost use Rattle.std.specs.Prelude.{◌≡◌, Err, OnOk, List};
+ghost use Rattle.std.specs.Prelude.{◌≡◌, Err, OnOk, List, false};
 ghost use Rattle.leader1822.specs.Messages.{SafeMessages};
+ghost use Rattle.replay.specs.Failing.{TellsCannotWrite};
 ghost use Rattle.replay.specs.Replay.{EndsIn, MayDo, Replays, StopsIn, outcome_of};
 ghost use Rattle.replay.specs.Output.{Shown, Writes};
 ghost use Rattle.replay.specs.Steps.{EventEnds};
 ghost use Rattle.script.specs.declared.event.RawEvent.TheVariants as script_event;
 
 use crate::calm::replay_calm;
+use crate::output::{Output, WriteFailed};
 use crate::print::{Detail, print_outcome};
 use leader1822::{Carrier, CarrierFault, HostAddr, HostMessage, Inbound, NetEvent};
 use script::RawEvent;
 use std::alloc::AllocError;
-use std::io::Write;
 use thiserror::Error;
 
 /// Why a replay ends before its last event.
@@ -36,6 +37,16 @@ impl From<AllocError> for ReplayFault {
     }
 }
 
+impl From<WriteFailed> for ReplayFault {
+    ghost use Rattle.replay.specs.declared.events.ReplayFault.TheVariants.{CannotWrite};
+
+    ghost from_gives = { λ _ e. e ≡ CannotWrite };
+
+    fn from(_error: WriteFailed) -> ReplayFault {
+        ReplayFault::CannotWrite
+    }
+}
+
 /// Hands each event to the carrier in order, and prints each crossing and each refusal as it comes, one line
 /// each. Of a message it prints as much as `detail` says.
 ///
@@ -50,14 +61,16 @@ impl From<AllocError> for ReplayFault {
 /// - `OutOfMemory`: memory ran out at one event. The lines of the events before it were written, and no line
 ///   of its own, save that of a calm what crossed before memory ran out was written.
 /// - `CannotWrite`: a write failed. The carrier had already processed the event whose line it was, or of a
-///   calm all rounds up to the one whose line it was. The writer alone knows how much of its last lines it
-///   wrote.
-pub fn replay_events<C: Carrier, W: Write>(
+///   calm all rounds up to the one whose line it was. Nothing more was asked of the writer, which alone knows
+///   how much of its last lines it wrote.
+pub fn replay_events<C: Carrier, W: Output>(
     carrier: &mut C,
     events: &[RawEvent],
     detail: Detail,
     writer: &mut W,
 ) -> Result<(), ReplayFault>
+    requires { W.failed writer.old ≡ false }
+
     // each RFNM belongs to one message, which was taken exactly once
     ensures messages { SafeMessages (C.seen carrier.new).log }
 
@@ -69,6 +82,9 @@ pub fn replay_events<C: Carrier, W: Write>(
     // a calm before memory ran out
     ensures memory { result ≡ Err ReplayFault.OutOfMemory → Writes detail (EndsIn (record { seen = C.seen; offers = C.offers; takes = C.takes; steps = C.steps; rounds = C.rounds }) StopsIn carrier.old events.now carrier.new) (W.contents writer.old) (W.contents writer.new) }
 
+    // `CannotWrite` is answered where a write failed, and nowhere else
+    ensures failed { TellsCannotWrite result (W.failed writer.new) }
+
     // a write failed: the carrier had already processed that event, or the rounds of a calm of which it wrote
     ensures cannot_write { result ≡ Err ReplayFault.CannotWrite → (shown : List Shown) × EndsIn (record { seen = C.seen; offers = C.offers; takes = C.takes; steps = C.steps; rounds = C.rounds }) MayDo carrier.old events.now carrier.new shown }
 {
@@ -79,12 +95,14 @@ pub fn replay_events<C: Carrier, W: Write>(
 }
 
 /// Hands each event to the carrier in order, and prints what it shows.
-fn replay_in_turn<C: Carrier, W: Write>(
+fn replay_in_turn<C: Carrier, W: Output>(
     carrier: &mut C,
     events: &[RawEvent],
     detail: Detail,
     writer: &mut W,
 ) -> Result<(), ReplayFault>
+    requires { W.failed writer.old ≡ false }
+    ensures failed { TellsCannotWrite result (W.failed writer.new) }
     ensures replayed { OnOk result (Writes detail (Replays (record { seen = C.seen; offers = C.offers; takes = C.takes; steps = C.steps; rounds = C.rounds }) carrier.old events.now carrier.new) (W.contents writer.old) (W.contents writer.new)) }
     ensures memory { result ≡ Err ReplayFault.OutOfMemory → Writes detail (EndsIn (record { seen = C.seen; offers = C.offers; takes = C.takes; steps = C.steps; rounds = C.rounds }) StopsIn carrier.old events.now carrier.new) (W.contents writer.old) (W.contents writer.new) }
     ensures cannot_write { result ≡ Err ReplayFault.CannotWrite → (shown : List Shown) × EndsIn (record { seen = C.seen; offers = C.offers; takes = C.takes; steps = C.steps; rounds = C.rounds }) MayDo carrier.old events.now carrier.new shown }
@@ -96,13 +114,15 @@ fn replay_in_turn<C: Carrier, W: Write>(
 }
 
 /// Hands one event to the carrier, and prints what it shows.
-fn replay_event<C: Carrier, W: Write>(
+fn replay_event<C: Carrier, W: Output>(
     carrier: &mut C,
     event: &RawEvent,
     detail: Detail,
     writer: &mut W,
 ) -> Result<(), ReplayFault>
-    ensures { EventEnds (record { seen = C.seen; offers = C.offers; takes = C.takes; steps = C.steps; rounds = C.rounds }) detail carrier.old event.now result carrier.new (W.contents writer.old) (W.contents writer.new) }
+    requires { W.failed writer.old ≡ false }
+    ensures ends { EventEnds (record { seen = C.seen; offers = C.offers; takes = C.takes; steps = C.steps; rounds = C.rounds }) detail carrier.old event.now result carrier.new (W.contents writer.old) (W.contents writer.new) }
+    ensures failed { TellsCannotWrite result (W.failed writer.new) }
 {
     match event {
         RawEvent::Out(message) => replay_offer(carrier, message.clone()?, detail, writer),
@@ -113,13 +133,15 @@ fn replay_event<C: Carrier, W: Write>(
 }
 
 /// Offers a message, and prints that it crossed, or the refusal.
-fn replay_offer<C: Carrier, W: Write>(
+fn replay_offer<C: Carrier, W: Output>(
     carrier: &mut C,
     message: HostMessage,
     detail: Detail,
     writer: &mut W,
 ) -> Result<(), ReplayFault>
-    ensures { EventEnds (record { seen = C.seen; offers = C.offers; takes = C.takes; steps = C.steps; rounds = C.rounds }) detail carrier.old (script_event.Out message) result carrier.new (W.contents writer.old) (W.contents writer.new) }
+    requires { W.failed writer.old ≡ false }
+    ensures ends { EventEnds (record { seen = C.seen; offers = C.offers; takes = C.takes; steps = C.steps; rounds = C.rounds }) detail carrier.old (script_event.Out message) result carrier.new (W.contents writer.old) (W.contents writer.new) }
+    ensures failed { TellsCannotWrite result (W.failed writer.new) }
 {
     let booked = carrier.log().len();
     let outcome = carrier.offer_out(message);
@@ -127,13 +149,15 @@ fn replay_offer<C: Carrier, W: Write>(
 }
 
 /// Lets a host take, and prints what crossed, or the refusal.
-fn replay_taking<C: Carrier, W: Write>(
+fn replay_taking<C: Carrier, W: Output>(
     carrier: &mut C,
     host: HostAddr,
     detail: Detail,
     writer: &mut W,
 ) -> Result<(), ReplayFault>
-    ensures { EventEnds (record { seen = C.seen; offers = C.offers; takes = C.takes; steps = C.steps; rounds = C.rounds }) detail carrier.old (script_event.Take host) result carrier.new (W.contents writer.old) (W.contents writer.new) }
+    requires { W.failed writer.old ≡ false }
+    ensures ends { EventEnds (record { seen = C.seen; offers = C.offers; takes = C.takes; steps = C.steps; rounds = C.rounds }) detail carrier.old (script_event.Take host) result carrier.new (W.contents writer.old) (W.contents writer.new) }
+    ensures failed { TellsCannotWrite result (W.failed writer.new) }
 {
     let booked = carrier.log().len();
     let outcome = outcome_of(carrier.take_in(host));
@@ -151,13 +175,15 @@ fn outcome_of(answer: Result<Option<Inbound>, CarrierFault>) -> Result<(), Carri
 }
 
 /// Lets something happen inside the network, and prints what crossed, or the refusal.
-fn replay_step<C: Carrier, W: Write>(
+fn replay_step<C: Carrier, W: Output>(
     carrier: &mut C,
     event: NetEvent,
     detail: Detail,
     writer: &mut W,
 ) -> Result<(), ReplayFault>
-    ensures { EventEnds (record { seen = C.seen; offers = C.offers; takes = C.takes; steps = C.steps; rounds = C.rounds }) detail carrier.old (script_event.Net event) result carrier.new (W.contents writer.old) (W.contents writer.new) }
+    requires { W.failed writer.old ≡ false }
+    ensures ends { EventEnds (record { seen = C.seen; offers = C.offers; takes = C.takes; steps = C.steps; rounds = C.rounds }) detail carrier.old (script_event.Net event) result carrier.new (W.contents writer.old) (W.contents writer.new) }
+    ensures failed { TellsCannotWrite result (W.failed writer.new) }
 {
     let booked = carrier.log().len();
     let outcome = carrier.step(event);

@@ -7,13 +7,19 @@
 //! written is what the events showed. Where memory runs out, the output is the first part of that: it ends
 //! after the last event that was replayed whole, or within a calm after what crossed in it.
 //!
+//! What is printed goes to an [`Output`], which tells whether a write failed. `CannotWrite` is answered where one
+//! failed, and nowhere else, and after that nothing more is printed.
+//!
 //! Nothing here knows what a carrier is made of, where the events come from, or who reads the output.
 #![tactic(auto)]
 
 mod calm;
 mod events;
 pub mod law;
+mod output;
 mod print;
+pub mod worked;
 
 pub use events::{ReplayFault, replay_events};
-pub use print::{Detail, carrier_refusal, check_written, print_crossing};
+pub use output::{Output, Printer, WriteFailed};
+pub use print::{Detail, carrier_refusal, print_crossing};

@@ -1,8 +1,9 @@
 //! Printing what an event shows.
 
-ghost use Rattle.std.specs.Prelude.{◌≡◌, ◌↔◌, Err, OnOk, IfErr, IfSome, drop, length, ◌≤◌, IsOk, IsSome};
+ghost use Rattle.std.specs.Prelude.{◌≡◌, ◌↔◌, Err, OnOk, IfSome, drop, length, ◌≤◌, IsSome, false};
 ghost use Rattle.std.specs.Io.KnownBytes.{Appends};
 ghost use Rattle.hex.specs.Hex.{encode_upper};
+ghost use Rattle.replay.specs.Failing.{TellsCannotWrite, TellsFailure};
 ghost use Rattle.replay.specs.Replay.{GoesOn, Halts};
 ghost use Rattle.replay.specs.Output.{crossing_line, output, shown_refusal, shown_crossings, spelled, fault_name};
 ghost use Rattle.replay.specs.Steps.{PrintEnds};
@@ -11,9 +12,8 @@ ghost use Rattle.script.specs.Input.{ended_line};
 ghost use Rattle.script.specs.Spelling.{octets_text};
 
 use crate::events::ReplayFault;
+use crate::output::{Output, WriteFailed};
 use leader1822::{CarrierFault, Crossing, Text};
-use std::io;
-use std::io::Write;
 
 /// How much is printed of a message that crosses.
 #[derive(Clone, Copy)]
@@ -27,30 +27,33 @@ pub enum Detail {
 /// Prints the crossings of a log after its first `booked` ones, and then the refusal, if there is one.
 ///
 /// Errors: `CannotWrite`; `OutOfMemory` where memory ran out in the event. The crossings are printed first.
-pub(crate) fn print_outcome<W: Write>(
+pub(crate) fn print_outcome<W: Output>(
     log: &[Crossing],
     booked: usize,
     outcome: Result<(), CarrierFault>,
     detail: Detail,
     writer: &mut W,
 ) -> Result<(), ReplayFault>
-    requires { booked ≤ length log.now }
-    ensures { PrintEnds detail (drop booked log.now) outcome result (W.contents writer.old) (W.contents writer.new) }
+    requires booked { booked ≤ length log.now }
+    requires whole { W.failed writer.old ≡ false }
+    ensures ends { PrintEnds detail (drop booked log.now) outcome result (W.contents writer.old) (W.contents writer.new) }
+    ensures failed { TellsCannotWrite result (W.failed writer.new) }
 {
     print_crossings(log, booked, detail, writer)?;
     print_refusal(outcome, writer)
 }
 
 /// Prints the crossings of a log after its first `booked` ones.
-fn print_crossings<W: Write>(
+fn print_crossings<W: Output>(
     log: &[Crossing],
     booked: usize,
     detail: Detail,
     writer: &mut W,
-) -> Result<(), ReplayFault>
-    requires { booked ≤ length log.now }
+) -> Result<(), WriteFailed>
+    requires booked { booked ≤ length log.now }
+    requires whole { W.failed writer.old ≡ false }
     ensures written { OnOk result (Appends (W.contents writer.old) (W.contents writer.new) (output detail (shown_crossings (drop booked log.now)))) }
-    ensures fault { IfErr result (λ f. f ≡ ReplayFault.CannotWrite) }
+    ensures failed { TellsFailure result (W.failed writer.new) }
 {
     let (_, crossings) = log.split_at(booked);
     for crossing in crossings {
@@ -61,33 +64,35 @@ fn print_crossings<W: Write>(
 
 /// Prints the line of a crossing.
 ///
-/// Errors: `CannotWrite`.
-pub fn print_crossing<W: Write>(
+/// Errors: `WriteFailed`.
+pub fn print_crossing<W: Output>(
     crossing: &Crossing,
     detail: Detail,
     writer: &mut W,
-) -> Result<(), ReplayFault>
+) -> Result<(), WriteFailed>
+    requires { W.failed writer.old ≡ false }
     ensures written { OnOk result (Appends (W.contents writer.old) (W.contents writer.new) (ended_line (crossing_line detail crossing.now))) }
-    ensures fault { IfErr result (λ f. f ≡ ReplayFault.CannotWrite) }
+    ensures failed { TellsFailure result (W.failed writer.new) }
 {
     match detail {
-        Detail::Sizes => check_written(writeln!(writer, "{crossing}")),
+        Detail::Sizes => writeln!(writer, "{crossing}"),
         Detail::Texts => {
-            check_written(write!(writer, "{crossing}"))?;
+            write!(writer, "{crossing}")?;
             print_spelled(crossing, writer)?;
-            check_written(writer.write_all(b"\n"))
+            writer.write_all(b"\n")
         }
     }
 }
 
 /// Prints what stands behind the bits of a message: a space and its octets. It prints nothing for what is no message.
-fn print_spelled<W: Write>(crossing: &Crossing, writer: &mut W) -> Result<(), ReplayFault>
+fn print_spelled<W: Output>(crossing: &Crossing, writer: &mut W) -> Result<(), WriteFailed>
+    requires { W.failed writer.old ≡ false }
     ensures written { OnOk result (Appends (W.contents writer.old) (W.contents writer.new) (spelled crossing.now)) }
-    ensures fault { IfErr result (λ f. f ≡ ReplayFault.CannotWrite) }
+    ensures failed { TellsFailure result (W.failed writer.new) }
 {
     match crossing {
         Crossing::Out(message) | Crossing::In(message) => {
-            check_written(writer.write_all(b" "))?;
+            writer.write_all(b" ")?;
             print_text(&message.text, writer)
         }
         Crossing::Answer(_, _) | Crossing::Down(_) | Crossing::Up(_) => Ok(()),
@@ -95,36 +100,40 @@ fn print_spelled<W: Write>(crossing: &Crossing, writer: &mut W) -> Result<(), Re
 }
 
 /// Prints the octets of a text, as a script spells them: a hyphen for no bits.
-fn print_text<W: Write>(text: &Text, writer: &mut W) -> Result<(), ReplayFault>
+fn print_text<W: Output>(text: &Text, writer: &mut W) -> Result<(), WriteFailed>
+    requires { W.failed writer.old ≡ false }
     ensures written { OnOk result (Appends (W.contents writer.old) (W.contents writer.new) (octets_text text.now)) }
-    ensures fault { IfErr result (λ f. f ≡ ReplayFault.CannotWrite) }
+    ensures failed { TellsFailure result (W.failed writer.new) }
 {
     let bits = text.bits();
     if bits.is_empty() {
-        return check_written(writer.write_all(b"-"));
+        return writer.write_all(b"-");
     }
     print_octets(bits.as_octets(), writer)
 }
 
 /// Prints octets in upper case hexadecimal, two digits each.
-fn print_octets<W: Write>(octets: &[u8], writer: &mut W) -> Result<(), ReplayFault>
+fn print_octets<W: Output>(octets: &[u8], writer: &mut W) -> Result<(), WriteFailed>
+    requires { W.failed writer.old ≡ false }
     ensures written { OnOk result (Appends (W.contents writer.old) (W.contents writer.new) (encode_upper octets.now)) }
-    ensures fault { IfErr result (λ f. f ≡ ReplayFault.CannotWrite) }
+    ensures failed { TellsFailure result (W.failed writer.new) }
 {
     for octet in octets {
-        check_written(write!(writer, "{octet:02X}"))?;
+        write!(writer, "{octet:02X}")?;
     }
     Ok(())
 }
 
 /// Prints the name of a refusal. It prints nothing for an event that was not refused.
-fn print_refusal<W: Write>(
+fn print_refusal<W: Output>(
     outcome: Result<(), CarrierFault>,
     writer: &mut W,
 ) -> Result<(), ReplayFault>
+    requires { W.failed writer.old ≡ false }
     ensures shown { (detail : Detail) → OnOk result (Appends (W.contents writer.old) (W.contents writer.new) (output detail (shown_refusal outcome))) }
     ensures goes_on { OnOk result (GoesOn outcome) }
     ensures memory { result ≡ Err ReplayFault.OutOfMemory → Halts outcome × (writer.new ≡ writer.old) }
+    ensures failed { TellsCannotWrite result (W.failed writer.new) }
 {
     let Err(fault) = outcome else {
         return Ok(());
@@ -133,7 +142,7 @@ fn print_refusal<W: Write>(
         Some(name) => name,
         None => return Err(ReplayFault::OutOfMemory),
     };
-    check_written(writeln!(writer, "refused {name}"))
+    Ok(writeln!(writer, "refused {name}")?)
 }
 
 /// The name of a refusal. `None` where running out of memory has stopped the carrier.
@@ -152,12 +161,4 @@ pub fn carrier_refusal(fault: CarrierFault) -> Option<&'static str>
         CarrierFault::NoRoom => Some("NoRoom"),
         CarrierFault::Stopped | CarrierFault::OutOfMemory => None,
     }
-}
-
-/// A write's result, with its error told as `CannotWrite`.
-pub fn check_written(outcome: io::Result<()>) -> Result<(), ReplayFault>
-    ensures ok { IsOk result ↔ IsOk outcome }
-    ensures fault { IfErr result (λ f. f ≡ ReplayFault.CannotWrite) }
-{
-    outcome.map_err(|_| ReplayFault::CannotWrite)
 }

@@ -1,6 +1,8 @@
 //! Words that are options, words that aren't, and what the simulator does on them.
 
-use command_line::{Options, OptionsFault, ScriptFault, run};
+use command_line::{
+    Options, OptionsFault, Printer, ReadFailed, Reader, ScriptFault, WriteFailed, run,
+};
 use replay::ReplayFault;
 use script::LineFault;
 use std::alloc::{AllocError, Global};
@@ -108,10 +110,10 @@ fn ended(
     let Ok(words) = strings(alloc, words) else {
         return (Err(ScriptFault::OutOfMemory), false);
     };
-    let mut reader = Cursor::new(input);
-    let mut writer = Vec::new(alloc);
+    let mut reader = Reader::new(Cursor::new(input));
+    let mut writer = Printer::new(Vec::new(alloc));
     let result = run(alloc, &words, &mut reader, &mut writer);
-    (result, writer.as_slice() == printed)
+    (result, writer.into_inner().as_slice() == printed)
 }
 
 #[test]
@@ -186,8 +188,10 @@ fn the_faults_of_the_parts_have_their_texts(rt: HostRuntime) {
         is_printed(alloc, &LineFault::OutOfMemory, "out of memory"),
         is_printed(alloc, &ReplayFault::OutOfMemory, "out of memory"),
         is_printed(alloc, &ReplayFault::CannotWrite, "cannot write"),
+        is_printed(alloc, &WriteFailed, "cannot write"),
+        is_printed(alloc, &ReadFailed, "cannot read"),
     ];
-    assert_eq!(rt; found, [true; 8]);
+    assert_eq!(rt; found, [true; 10]);
 }
 
 #[test]

@@ -1,6 +1,7 @@
-//! Reads and writes that fail, and inputs that never end. Scripts and what they print are stored inputs, in `cases/`.
+//! Reads and writes that fail once and would then succeed, reads that are short or interrupted, and inputs that never
+//! end. Scripts and what they print are stored inputs, in `cases/`.
 
-use command_line::{Detail, ScriptFault, run_script};
+use command_line::{Detail, Printer, Reader, ScriptFault, run_script};
 use std::alloc::Global;
 use std::io;
 use std::io::{Cursor, Read, Write};
@@ -8,21 +9,25 @@ use std::io::{Cursor, Read, Write};
 /// How a replay ends, and whether it wrote what it should.
 type Ended = (Result<(), ScriptFault>, bool);
 
-/// Gives one octet a read, and fails at a read.
+/// Gives one octet a read, and fails at one read. All others succeed.
 #[derive(Drop)]
 struct FailingReader {
-    reads: u32,
+    /// How many reads have succeeded.
+    given: u32,
+    /// After how many the next one fails.
+    fails_after: Option<u32>,
 }
 
 impl Read for FailingReader {
     fn read(&mut self, buf: &mut [u8]) -> io::Result<usize> {
-        if self.reads == 0 {
+        if self.fails_after == Some(self.given) {
+            self.fails_after = None;
             return Err(io::Error::from(io::ErrorKind::Other));
         }
-        self.reads -= 1;
         match buf.first_mut() {
             Some(octet) => {
                 *octet = b'#';
+                self.given = self.given.saturating_add(1);
                 Ok(1)
             }
             None => Ok(0),
@@ -30,16 +35,19 @@ impl Read for FailingReader {
     }
 }
 
-/// Keeps up to a number of octets, one a write, and then fails.
+/// Keeps one octet a write, and fails at one write. All others succeed.
 #[derive(Drop)]
 struct FailingWriter {
+    /// What was written.
     kept: Vec<u8>,
-    room: usize,
+    /// After how many octets the next write fails.
+    fails_after: Option<usize>,
 }
 
 impl Write for FailingWriter {
     fn write(&mut self, buf: &[u8]) -> io::Result<usize> {
-        if self.kept.len() >= self.room {
+        if self.fails_after == Some(self.kept.len()) {
+            self.fails_after = None;
             return Err(io::Error::from(io::ErrorKind::Other));
         }
         match buf.first() {
@@ -56,12 +64,16 @@ impl Write for FailingWriter {
     }
 }
 
-/// How a run ends whose read fails after so many, and whether it wrote nothing.
+/// How a run ends whose read fails after so many, and whether it wrote nothing and read no more.
 fn run_failing_reads(alloc: Global, reads: u32) -> Ended {
-    let mut reader = FailingReader { reads };
-    let mut writer = Vec::new(alloc);
+    let mut reader = Reader::new(FailingReader {
+        given: 0,
+        fails_after: Some(reads),
+    });
+    let mut writer = Printer::new(Vec::new(alloc));
     let result = run_script(alloc, &mut reader, &mut writer, false, false, Detail::Sizes);
-    (result, writer.is_empty())
+    let given = reader.into_inner().given;
+    (result, writer.into_inner().is_empty() && given == reads)
 }
 
 #[test]
@@ -86,16 +98,16 @@ const OFFERED_AND_TAKEN: &[u8] = b"out 0/1 1/1 5 12\nin 0/1 1/1 5 12\nend\n";
 /// What it prints with its text.
 const WITH_TEXT: &[u8] = b"out 0/1 1/1 5 12 ABC0\nin 0/1 1/1 5 12 ABC0\nend\n";
 
-/// How a run ends that has room for so many octets, and whether it wrote the first so many of all.
+/// How a run ends whose write fails after so many octets, and whether it wrote these and no more.
 fn run_failing_writes(alloc: Global, detail: Detail, printed: &[u8], room: usize) -> Ended {
-    let mut writer = FailingWriter {
+    let mut writer = Printer::new(FailingWriter {
         kept: Vec::new(alloc),
-        room,
-    };
-    let mut reader = Cursor::new(OFFER_AND_TAKE);
+        fails_after: Some(room),
+    });
+    let mut reader = Reader::new(Cursor::new(OFFER_AND_TAKE));
     let result = run_script(alloc, &mut reader, &mut writer, false, false, detail);
-    let first = printed.get(..room);
-    (result, first == Some(writer.kept.as_slice()))
+    let kept = writer.into_inner().kept;
+    (result, printed.get(..room) == Some(kept.as_slice()))
 }
 
 #[test]
@@ -114,6 +126,46 @@ fn each_write_of_a_text_may_fail(rt: HostRuntime) {
     }
 }
 
+/// Gives one octet at each second read. The others are interrupted.
+#[derive(Drop)]
+struct InterruptedReader {
+    left: Cursor<&'static [u8]>,
+    is_interrupted: bool,
+}
+
+impl Read for InterruptedReader {
+    fn read(&mut self, buf: &mut [u8]) -> io::Result<usize> {
+        self.is_interrupted = !self.is_interrupted;
+        if self.is_interrupted {
+            return Err(io::Error::from(io::ErrorKind::Interrupted));
+        }
+        let room = buf.len().min(1);
+        self.left.read(&mut buf[..room])
+    }
+}
+
+#[test]
+fn short_and_interrupted_reads_make_no_difference(rt: HostRuntime) {
+    let mut reader = Reader::new(InterruptedReader {
+        left: Cursor::new(OFFER_AND_TAKE),
+        is_interrupted: false,
+    });
+    let mut writer = Printer::new(Vec::new(rt.alloc()));
+    let result = run_script(
+        rt.alloc(),
+        &mut reader,
+        &mut writer,
+        false,
+        false,
+        Detail::Sizes,
+    );
+    let printed = writer.into_inner();
+    assert_eq!(rt;
+        (result, printed.as_slice() == OFFERED_AND_TAKEN),
+        (Ok(()), true)
+    );
+}
+
 /// Gives as many octets as it is asked for, and never ends.
 #[derive(Drop)]
 struct EndlessReader {
@@ -130,8 +182,8 @@ impl Read for EndlessReader {
 
 #[test]
 fn of_an_endless_input_one_octet_too_many_is_read(rt: HostRuntime) {
-    let mut reader = EndlessReader { given: 0 };
-    let mut writer = Vec::new(rt.alloc());
+    let mut reader = Reader::new(EndlessReader { given: 0 });
+    let mut writer = Printer::new(Vec::new(rt.alloc()));
     let result = run_script(
         rt.alloc(),
         &mut reader,
@@ -141,7 +193,11 @@ fn of_an_endless_input_one_octet_too_many_is_read(rt: HostRuntime) {
         Detail::Sizes,
     );
     assert_eq!(rt;
-        (result, reader.given, writer.is_empty()),
+        (
+            result,
+            reader.into_inner().given,
+            writer.into_inner().is_empty()
+        ),
         (Err(ScriptFault::BadTopology), 1_048_577, true)
     );
 }
@@ -163,11 +219,12 @@ impl Write for FailingFlush {
 #[test]
 fn the_last_flush_may_fail(rt: HostRuntime) {
     let ended = [false, true].map(|check| {
-        let mut reader = Cursor::new(OFFER_AND_TAKE);
+        let mut reader = Reader::new(Cursor::new(OFFER_AND_TAKE));
+        let mut writer = Printer::new(FailingFlush);
         run_script(
             rt.alloc(),
             &mut reader,
-            &mut FailingFlush,
+            &mut writer,
             false,
             check,
             Detail::Sizes,

@@ -1,3 +1,4 @@
+mod Counting
 pub mod Grown
 pub mod News
 pub mod Replays

@@ -1,8 +1,9 @@
 //! Replaying the events of a world's script.
 
-ghost use Rattle.std.specs.Prelude.{◌≡◌, Err, List, OnOk};
+ghost use Rattle.std.specs.Prelude.{◌≡◌, Err, List, OnOk, false};
 ghost use Rattle.leader1822.specs.Messages.{SafeMessages};
 ghost use Rattle.net_sim.specs.Carriers.{shown};
+ghost use Rattle.replay.specs.Failing.{TellsCannotWrite};
 ghost use Rattle.world_replay.specs.Output.{Shown, Writes};
 ghost use Rattle.world_replay.specs.Replay.{EndsIn, EventGives, MayDo, Replays, StopsIn};
 ghost use Rattle.world_replay.specs.Steps.{EventEnds};
@@ -10,8 +11,7 @@ ghost use Rattle.world_replay.specs.Steps.{EventEnds};
 use crate::print::{print_news, print_refusal};
 use leader1822::Carrier;
 use net_sim::{World, WorldFault};
-use replay::{Detail, ReplayFault};
-use std::io::Write;
+use replay::{Detail, Output, ReplayFault};
 use world_script::WorldEvent;
 
 /// Lets each event happen in order, and prints what it shows: each crossing, each notice behind the crossings that
@@ -27,14 +27,16 @@ use world_script::WorldEvent;
 /// Errors:
 /// - `OutOfMemory`: memory ran out at one event. The lines of the events before it were written, and no line of its
 ///   own, save that of a calm what happened before memory ran out was written.
-/// - `CannotWrite`: a write failed. The event whose line it was had already happened. The writer alone knows how much
-///   of its last lines it wrote.
-pub fn replay_events<C: Carrier, W: Write>(
+/// - `CannotWrite`: a write failed. The event whose line it was had already happened. Nothing more was asked of the
+///   writer, which alone knows how much of its last lines it wrote.
+pub fn replay_events<C: Carrier, W: Output>(
     world: &mut World<C>,
     events: Vec<WorldEvent>,
     detail: Detail,
     writer: &mut W,
 ) -> Result<(), ReplayFault>
+    requires { W.failed writer.old ≡ false }
+
     // each RFNM belongs to one message, which was taken exactly once
     ensures messages { SafeMessages world.new.kept.book.crossings }
 
@@ -44,6 +46,9 @@ pub fn replay_events<C: Carrier, W: Write>(
     // memory ran out at one event: what the events before it showed was printed, and nothing of that event, save what a calm
     // showed before memory ran out
     ensures memory { result ≡ Err ReplayFault.OutOfMemory → Writes detail (EndsIn (shown (record { seen = C.seen; offers = C.offers; takes = C.takes; steps = C.steps; rounds = C.rounds })) (StopsIn (shown (record { seen = C.seen; offers = C.offers; takes = C.takes; steps = C.steps; rounds = C.rounds }))) world.old events.items world.new) (W.contents writer.old) (W.contents writer.new) }
+
+    // `CannotWrite` is answered where a write failed, and nowhere else
+    ensures failed { TellsCannotWrite result (W.failed writer.new) }
 
     // a write failed: the event had already happened
     ensures cannot_write { result ≡ Err ReplayFault.CannotWrite → (lines : List Shown) × EndsIn (shown (record { seen = C.seen; offers = C.offers; takes = C.takes; steps = C.steps; rounds = C.rounds })) (MayDo (shown (record { seen = C.seen; offers = C.offers; takes = C.takes; steps = C.steps; rounds = C.rounds }))) world.old events.items world.new lines }
@@ -55,12 +60,14 @@ pub fn replay_events<C: Carrier, W: Write>(
 }
 
 /// Lets each event happen in order, and prints what it shows.
-fn replay_in_turn<C: Carrier, W: Write>(
+fn replay_in_turn<C: Carrier, W: Output>(
     world: &mut World<C>,
     events: Vec<WorldEvent>,
     detail: Detail,
     writer: &mut W,
 ) -> Result<(), ReplayFault>
+    requires { W.failed writer.old ≡ false }
+    ensures failed { TellsCannotWrite result (W.failed writer.new) }
     ensures replayed { OnOk result (Writes detail (Replays (shown (record { seen = C.seen; offers = C.offers; takes = C.takes; steps = C.steps; rounds = C.rounds })) world.old events.items world.new) (W.contents writer.old) (W.contents writer.new)) }
     ensures memory { result ≡ Err ReplayFault.OutOfMemory → Writes detail (EndsIn (shown (record { seen = C.seen; offers = C.offers; takes = C.takes; steps = C.steps; rounds = C.rounds })) (StopsIn (shown (record { seen = C.seen; offers = C.offers; takes = C.takes; steps = C.steps; rounds = C.rounds }))) world.old events.items world.new) (W.contents writer.old) (W.contents writer.new) }
     ensures cannot_write { result ≡ Err ReplayFault.CannotWrite → (lines : List Shown) × EndsIn (shown (record { seen = C.seen; offers = C.offers; takes = C.takes; steps = C.steps; rounds = C.rounds })) (MayDo (shown (record { seen = C.seen; offers = C.offers; takes = C.takes; steps = C.steps; rounds = C.rounds }))) world.old events.items world.new lines }
@@ -72,13 +79,15 @@ fn replay_in_turn<C: Carrier, W: Write>(
 }
 
 /// Lets one event happen, and prints what it shows.
-fn replay_event<C: Carrier, W: Write>(
+fn replay_event<C: Carrier, W: Output>(
     world: &mut World<C>,
     event: WorldEvent,
     detail: Detail,
     writer: &mut W,
 ) -> Result<(), ReplayFault>
-    ensures { EventEnds (shown (record { seen = C.seen; offers = C.offers; takes = C.takes; steps = C.steps; rounds = C.rounds })) detail world.old event result world.new (W.contents writer.old) (W.contents writer.new) }
+    requires { W.failed writer.old ≡ false }
+    ensures ends { EventEnds (shown (record { seen = C.seen; offers = C.offers; takes = C.takes; steps = C.steps; rounds = C.rounds })) detail world.old event result world.new (W.contents writer.old) (W.contents writer.new) }
+    ensures failed { TellsCannotWrite result (W.failed writer.new) }
 {
     let crossed = world.book().crossings().len();
     let told = world.book().notices().len();

@@ -6,7 +6,8 @@
 //! notice. [`print_lives`] writes the lives of connections, one line each.
 //!
 //! A caller may rely on three things. Each event goes as the world says that its calls may go. What is written is what the
-//! events showed. Where memory runs out, the output is the first part of that.
+//! events showed. Where memory runs out, the output is the first part of that. `CannotWrite` is answered where a write
+//! failed, and nowhere else, and after that nothing more is printed.
 //!
 //! Nothing here knows what a carrier is made of, where the events come from, or who reads the output.
 #![tactic(auto)]
@@ -19,4 +20,4 @@ pub mod worked;
 
 pub use events::replay_events;
 pub use print::print_lives;
-pub use replay::{Detail, ReplayFault};
+pub use replay::{Detail, Output, ReplayFault, WriteFailed};

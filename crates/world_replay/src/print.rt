@@ -1,9 +1,10 @@
 //! Printing what an event shows, and the lives of connections.
 
-ghost use Rattle.std.specs.Prelude.{◌≡◌, ◌↔◌, ◌≤◌, ◌-◌, Err, OnOk, IfErr, IfSome, IsSome, drop, false, length, max, reverse, take, true};
+ghost use Rattle.std.specs.Prelude.{◌≡◌, ◌↔◌, ◌≤◌, ◌-◌, Err, OnOk, IfSome, IsSome, drop, false, length, max, reverse, take, true};
 ghost use Rattle.std.specs.Io.KnownBytes.{Appends};
 ghost use Rattle.host_services.specs.declared.report.Report.TheVariants as report;
 ghost use Rattle.net_sim.specs.World.{stops};
+ghost use Rattle.replay.specs.Failing.{TellsCannotWrite, TellsFailure};
 ghost use Rattle.replay.specs.declared.print.Detail.{Detail};
 ghost use Rattle.script.specs.Input.{ended_line};
 ghost use Rattle.world_replay.specs.Output.{lives_output, output, shown_crossings, shown_in_turn, shown_notices, shown_refusal, told_in_turn};
@@ -13,26 +14,26 @@ ghost use Rattle.world_replay.specs.Steps.{Fronts};
 use crate::lines::{LifeLine, OutcomeLine, ToldLine};
 use leader1822::{Crossing, HostAddr};
 use net_sim::{Book, Life, Report, Reported, Told, WorldFault};
-use replay::{Detail, ReplayFault, carrier_refusal, check_written, print_crossing};
+use replay::{Detail, Output, ReplayFault, WriteFailed, carrier_refusal, print_crossing};
 use sockets::NcpFault;
-use std::io::Write;
 
 /// Prints what stands in a book behind so many crossings, notices and reports of before.
 ///
-/// Errors: `CannotWrite`.
-pub(crate) fn print_news<W: Write>(
+/// Errors: `WriteFailed`.
+pub(crate) fn print_news<W: Output>(
     book: &Book,
     crossed: usize,
     told: usize,
     said: usize,
     detail: Detail,
     writer: &mut W,
-) -> Result<(), ReplayFault>
+) -> Result<(), WriteFailed>
     requires crossed { crossed ≤ length book.now.book.crossings }
     requires told { told ≤ length book.now.book.notices }
     requires said { said ≤ length book.now.book.reports }
+    requires whole { W.failed writer.old ≡ false }
     ensures written { OnOk result (Appends (W.contents writer.old) (W.contents writer.new) (output detail (shown_in_turn crossed (drop crossed (reverse book.now.book.crossings)) (told_in_turn told (drop told book.now.book.notices) (drop said book.now.book.reports))))) }
-    ensures fault { IfErr result (λ f. f ≡ ReplayFault.CannotWrite) }
+    ensures failed { TellsFailure result (W.failed writer.new) }
 {
     let (_, left) = book.crossings().split_at(crossed);
     let (_, notices) = book.notices().split_at(told);
@@ -56,16 +57,17 @@ struct Crossings<'a> {
 
 impl Crossings<'_> {
     /// Prints those before a place.
-    fn print_before<W: Write>(
+    fn print_before<W: Output>(
         &mut self,
         place: usize,
         detail: Detail,
         writer: &mut W,
-    ) -> Result<(), ReplayFault>
+    ) -> Result<(), WriteFailed>
+        requires { W.failed writer.old ≡ false }
         ensures before { OnOk result (self.new.before ≡ max self.old.before place) }
         ensures left { OnOk result (self.new.left.now ≡ drop (place - self.old.before) self.old.left.now) }
         ensures written { OnOk result (Appends (W.contents writer.old) (W.contents writer.new) (output detail (shown_crossings (take (place - self.old.before) self.old.left.now)))) }
-        ensures fault { IfErr result (λ f. f ≡ ReplayFault.CannotWrite) }
+        ensures failed { TellsFailure result (W.failed writer.new) }
     {
         let count = place.saturating_sub(self.before).min(self.left.len());
         let (first, rest) = self.left.split_at(count);
@@ -78,16 +80,17 @@ impl Crossings<'_> {
 
 /// Prints notices and reports, each report behind its notice, and the crossings that were before them. Before all of
 /// them there were so many notices.
-fn print_told<W: Write>(
+fn print_told<W: Output>(
     crossings: &mut Crossings<'_>,
     before: usize,
     notices: &[Told],
     reports: &[Reported],
     detail: Detail,
     writer: &mut W,
-) -> Result<(), ReplayFault>
+) -> Result<(), WriteFailed>
+    requires { W.failed writer.old ≡ false }
     ensures written { OnOk result (Fronts detail crossings.old.before crossings.old.left.now (told_in_turn before notices.now reports.now) crossings.new.before crossings.new.left.now (W.contents writer.old) (W.contents writer.new)) }
-    ensures fault { IfErr result (λ f. f ≡ ReplayFault.CannotWrite) }
+    ensures failed { TellsFailure result (W.failed writer.new) }
 {
     let mut before = before;
     let mut waiting = notices;
@@ -103,30 +106,32 @@ fn print_told<W: Write>(
 }
 
 /// Prints notices, each behind the crossings that were before it.
-fn print_notices<W: Write>(
+fn print_notices<W: Output>(
     crossings: &mut Crossings<'_>,
     notices: &[Told],
     detail: Detail,
     writer: &mut W,
-) -> Result<(), ReplayFault>
+) -> Result<(), WriteFailed>
+    requires { W.failed writer.old ≡ false }
     ensures written { OnOk result (Fronts detail crossings.old.before crossings.old.left.now (shown_notices notices.now) crossings.new.before crossings.new.left.now (W.contents writer.old) (W.contents writer.new)) }
-    ensures fault { IfErr result (λ f. f ≡ ReplayFault.CannotWrite) }
+    ensures failed { TellsFailure result (W.failed writer.new) }
 {
     for told in notices {
         crossings.print_before(told.place, detail, writer)?;
-        check_written(writeln!(writer, "{}", ToldLine(told)))?;
+        writeln!(writer, "{}", ToldLine(told))?;
     }
     Ok(())
 }
 
 /// Prints what a service reports.
-fn print_report<W: Write>(reported: &Reported, writer: &mut W) -> Result<(), ReplayFault>
+fn print_report<W: Output>(reported: &Reported, writer: &mut W) -> Result<(), WriteFailed>
+    requires { W.failed writer.old ≡ false }
     ensures written { OnOk result (Appends (W.contents writer.old) (W.contents writer.new) (ended_line (reported_text reported.now))) }
-    ensures fault { IfErr result (λ f. f ≡ ReplayFault.CannotWrite) }
+    ensures failed { TellsFailure result (W.failed writer.new) }
 {
     let host = &reported.host;
     match &reported.report {
-        Report::Server(outcome) => check_written(writeln!(
+        Report::Server(outcome) => writeln!(
             writer,
             "{}",
             OutcomeLine {
@@ -134,8 +139,8 @@ fn print_report<W: Write>(reported: &Reported, writer: &mut W) -> Result<(), Rep
                 host,
                 outcome
             }
-        )),
-        Report::User(outcome) => check_written(writeln!(
+        ),
+        Report::User(outcome) => writeln!(
             writer,
             "{}",
             OutcomeLine {
@@ -143,22 +148,23 @@ fn print_report<W: Write>(reported: &Reported, writer: &mut W) -> Result<(), Rep
                 host,
                 outcome
             }
-        )),
+        ),
         Report::Line(line) => print_line(host, line.as_octets(), writer),
     }
 }
 
 /// Prints a line that came to a terminal, behind the terminal's host. An octet that is no printing character of ASCII
 /// is printed as a question mark.
-fn print_line<W: Write>(host: &HostAddr, octets: &[u8], writer: &mut W) -> Result<(), ReplayFault>
+fn print_line<W: Output>(host: &HostAddr, octets: &[u8], writer: &mut W) -> Result<(), WriteFailed>
+    requires { W.failed writer.old ≡ false }
     ensures written { OnOk result (Appends (W.contents writer.old) (W.contents writer.new) (ended_line (report_text host.now (report.Line octets.now)))) }
-    ensures fault { IfErr result (λ f. f ≡ ReplayFault.CannotWrite) }
+    ensures failed { TellsFailure result (W.failed writer.new) }
 {
-    check_written(write!(writer, "line {host} "))?;
+    write!(writer, "line {host} ")?;
     for octet in octets {
-        check_written(writer.write_all(&[shown_octet(*octet)]))?;
+        writer.write_all(&[shown_octet(*octet)])?;
     }
-    check_written(writer.write_all(b"\n"))
+    writer.write_all(b"\n")
 }
 
 /// The octet that is printed for one of a line.
@@ -173,13 +179,14 @@ fn shown_octet(octet: u8) -> u8
 }
 
 /// Prints crossings.
-fn print_crossings<W: Write>(
+fn print_crossings<W: Output>(
     crossings: &[Crossing],
     detail: Detail,
     writer: &mut W,
-) -> Result<(), ReplayFault>
+) -> Result<(), WriteFailed>
+    requires { W.failed writer.old ≡ false }
     ensures written { OnOk result (Appends (W.contents writer.old) (W.contents writer.new) (output detail (shown_crossings crossings.now))) }
-    ensures fault { IfErr result (λ f. f ≡ ReplayFault.CannotWrite) }
+    ensures failed { TellsFailure result (W.failed writer.new) }
 {
     for crossing in crossings {
         print_crossing(crossing, detail, writer)?;
@@ -190,13 +197,15 @@ fn print_crossings<W: Write>(
 /// Prints the name of a refusal. It prints nothing for an event that was not refused.
 ///
 /// Errors: `CannotWrite`; `OutOfMemory` where memory has run out, after which nothing is printed.
-pub(crate) fn print_refusal<W: Write>(
+pub(crate) fn print_refusal<W: Output>(
     outcome: Result<(), WorldFault>,
     writer: &mut W,
 ) -> Result<(), ReplayFault>
+    requires { W.failed writer.old ≡ false }
     ensures shown { (detail : Detail) → OnOk result (Appends (W.contents writer.old) (W.contents writer.new) (output detail (shown_refusal outcome))) }
     ensures goes_on { OnOk result (stops outcome ≡ false) }
     ensures memory { result ≡ Err ReplayFault.OutOfMemory → (stops outcome ≡ true) × (writer.new ≡ writer.old) }
+    ensures failed { TellsCannotWrite result (W.failed writer.new) }
 {
     let Err(fault) = outcome else {
         return Ok(());
@@ -205,7 +214,7 @@ pub(crate) fn print_refusal<W: Write>(
         Some(name) => name,
         None => return Err(ReplayFault::OutOfMemory),
     };
-    check_written(writeln!(writer, "refused {name}"))
+    Ok(writeln!(writer, "refused {name}")?)
 }
 
 /// The name of a refusal. `None` where running out of memory has stopped the world.
@@ -240,13 +249,14 @@ fn program_refusal(fault: NcpFault) -> Option<&'static str>
 
 /// Writes the lives of connections, one line each.
 ///
-/// Errors: `CannotWrite`.
-pub fn print_lives<W: Write>(lives: &[Life], writer: &mut W) -> Result<(), ReplayFault>
+/// Errors: `WriteFailed`.
+pub fn print_lives<W: Output>(lives: &[Life], writer: &mut W) -> Result<(), WriteFailed>
+    requires { W.failed writer.old ≡ false }
     ensures written { OnOk result (Appends (W.contents writer.old) (W.contents writer.new) (lives_output lives.now)) }
-    ensures fault { IfErr result (λ f. f ≡ ReplayFault.CannotWrite) }
+    ensures failed { TellsFailure result (W.failed writer.new) }
 {
     for life in lives {
-        check_written(writeln!(writer, "{}", LifeLine(life)))?;
+        writeln!(writer, "{}", LifeLine(life))?;
     }
     Ok(())
 }

@@ -5,6 +5,7 @@ ghost use Rattle.std.specs.Prelude.{◌≡◌, List, [], ◌∷◌, ◌++◌, co
 ghost use Rattle.leader1822.specs.declared.carrier.CarrierFault.TheVariants as fault;
 ghost use Rattle.leader1822.specs.declared.crossing.Crossing.TheVariants as crossing;
 ghost use Rattle.net_sim.specs.Worked.{eight, four, giver, over, taker};
+ghost use Rattle.net_sim.specs.declared.event.Event.TheVariants as event;
 ghost use Rattle.net_sim.specs.declared.event.WorldFault.TheVariants.{Carrier, Program};
 ghost use Rattle.sockets.specs.Worked.{first, second};
 ghost use Rattle.sockets.specs.declared.fault.NcpFault.TheVariants as problem;
@@ -12,9 +13,11 @@ ghost use Rattle.host_pairs.specs.declared.notice.Notice.TheVariants as notice;
 ghost use Rattle.host_services.specs.declared.report.Report.TheVariants as report;
 ghost use Rattle.icp.specs.declared.outcome.Failure.TheVariants as failure;
 ghost use Rattle.icp.specs.declared.outcome.Outcome.TheVariants as outcome;
-ghost use Rattle.world_replay.specs.Output.{Crossed, Noticed, Said, lives_output, shown_in_turn, told_in_turn};
+ghost use Rattle.world_replay.specs.Output.{Crossed, Noticed, Said, Shown, lives_output, shown_in_turn, told_in_turn};
 ghost use Rattle.world_replay.specs.Printed.{life_text, notice_text, refusal_text, report_text};
-ghost use Rattle.world_replay.specs.Worked.{came, went, said_at, told_at};
+ghost use Rattle.world_replay.specs.Replay.{MayDo};
+ghost use Rattle.world_replay.specs.Worked.{after, came, counting, went, said_at, told_at};
+ghost use Rattle.world_script.specs.declared.event.WorldEvent.TheVariants.{Calm, Happen};
 
 /// The words of a line.
 pub fn worked_lines()
@@ -90,4 +93,21 @@ pub fn worked_news()
 
     // a service that fails as it begins
     ensures begun { shown_in_turn 5 [] (told_in_turn 3 [] (said_at 3 ∷ [])) ≡ Said (said_at 3) ∷ [] }
+{}
+
+/// What a world may have done where a write failed, and what not, over a carrier that counts its calls.
+pub fn worked_failures()
+    // the event happened once
+    ensures once { MayDo counting (after 3) (Happen event.Quiet) (after 4) [] }
+
+    // not at all, or twice
+    ensures never { (shown : List Shown) → ¬ (MayDo counting (after 3) (Happen event.Quiet) (after 3) shown) }
+    ensures twice { (shown : List Shown) → ¬ (MayDo counting (after 3) (Happen event.Quiet) (after 5) shown) }
+
+    // nothing is printed before a calm is over
+    ensures calm { MayDo counting (after 3) (Calm 2) (after 5) [] }
+    ensures in_part { (shown : List Shown) → ¬ (MayDo counting (after 3) (Calm 2) (after 4) shown) }
+
+    // nothing is claimed of what the event's lines left
+    ensures unknown { (s : Shown) → ¬ (MayDo counting (after 3) (Happen event.Quiet) (after 4) (s ∷ [])) }
 {}

@@ -11,6 +11,6 @@ use Rattle.command_line.proofs.carriers.replay_on.Goals as goal
 pub returns-in_ok-subnet-in-Subnet-clause-stopped : goal.returns-in_ok-subnet-in-Subnet-clause-stopped
 returns-in_ok-subnet-in-Subnet-clause-stopped g c = λ e.
     let is : c.args.network.now.carrier ≡ kind.Subnet = search rules in
-    over_part kind.Subnet c.args.network.now c.args.detail (asked_of c.args.events) (g.W.Write.contents c.args.writer.now) (g.W.Write.contents c.replay_over-in-Subnet.new.writer) is
-    (subst (λ (k : Kept). Keeps (g.W.Write.contents c.args.writer.now) (g.W.Write.contents c.replay_over-in-Subnet.new.writer) ⊎ EndsFrom subnet_calls k c.args.detail (asked_of c.args.events) (g.W.Write.contents c.args.writer.now) (g.W.Write.contents c.replay_over-in-Subnet.new.writer))
+    over_part kind.Subnet c.args.network.now c.args.detail (asked_of c.args.events) (g.W.Output.contents c.args.writer.now) (g.W.Output.contents c.replay_over-in-Subnet.new.writer) is
+    (subst (λ (k : Kept). Keeps (g.W.Output.contents c.args.writer.now) (g.W.Output.contents c.replay_over-in-Subnet.new.writer) ⊎ EndsFrom subnet_calls k c.args.detail (asked_of c.args.events) (g.W.Output.contents c.args.writer.now) (g.W.Output.contents c.replay_over-in-Subnet.new.writer))
     c.in_ok-subnet-in-Subnet.ensures (c.replay_over-in-Subnet.ensures.stopped e))

@@ -2,44 +2,38 @@ use Rattle.std.proofs.Common.{subst}
 use Rattle.replay.proofs.lemmas.{on_ok}
 use Rattle.command_line.specs.Events.{asked_of}
 use Rattle.command_line.specs.Input.{IsInput}
-use Rattle.command_line.proofs.Faults.{known_read, write_fault}
+use Rattle.command_line.proofs.Faults.{known_read}
 use Rattle.command_line.proofs.Written.{known_replayed, known_stopped, nothing_ran, ran, ran_in_part}
 use Rattle.command_line.proofs.simulator.run_script.Goals as goal
 
 pub returns-in_err-octets-clause-ran_in_part : goal.returns-in_err-octets-clause-ran_in_part
-returns-in_err-octets-clause-ran_in_part g c = λ e. nothing_ran c.args.detail (g.W.Write.contents c.args.writer.now)
+returns-in_err-octets-clause-ran_in_part g c = λ e. nothing_ran c.args.detail (g.W.Output.contents c.args.writer.now)
 
 pub returns-in_err-network-clause-ran_in_part : goal.returns-in_err-network-clause-ran_in_part
-returns-in_err-network-clause-ran_in_part g c = λ e. nothing_ran c.args.detail (g.W.Write.contents c.args.writer.now)
-
-pub returns-then-check-clause-read : goal.returns-then-check-clause-read
-returns-then-check-clause-read g c =
-    known_read (g.R.Read.remaining c.args.reader.now) c.in_ok-octets.octets.items c.in_ok-network.field-0.network (asked_of c.in_ok-network.field-0.events) c.write_last.result
-    c.in_ok-octets.ensures.whole (subst (λ o. IsInput o c.in_ok-network.field-0.network (asked_of c.in_ok-network.field-0.events)) c.deref.ensures.value c.in_ok-network.ensures.read)
-    (write_fault c.write_last.result c.write_last.ensures.fault)
+returns-in_err-network-clause-ran_in_part g c = λ e. nothing_ran c.args.detail (g.W.Output.contents c.args.writer.now)
 
 pub returns-clause-read : goal.returns-clause-read
-returns-clause-read g c =
-    known_read (g.R.Read.remaining c.args.reader.now) c.in_ok-octets.octets.items c.in_ok-network.field-0.network (asked_of c.in_ok-network.field-0.events) c.replay_on.result
+returns-clause-read g c = λ whole.
+    known_read (g.R.Source.remaining c.args.reader.now) c.in_ok-octets.octets.items c.in_ok-network.field-0.network (asked_of c.in_ok-network.field-0.events) c.replay_on.result
     c.in_ok-octets.ensures.whole (subst (λ o. IsInput o c.in_ok-network.field-0.network (asked_of c.in_ok-network.field-0.events)) c.deref.ensures.value c.in_ok-network.ensures.read)
     c.replay_on.ensures.fault
 
 pub returns-clause-replayed : goal.returns-clause-replayed
 returns-clause-replayed g c = λ off.
-    known_replayed (g.R.Read.remaining c.args.reader.now) c.in_ok-octets.octets.items c.in_ok-network.field-0.network c.args.book c.args.detail (asked_of c.in_ok-network.field-0.events) c.replay_on.result
-    (g.W.Write.contents c.args.writer.now) (g.W.Write.contents c.replay_on.new.writer) c.in_ok-octets.ensures.whole
+    known_replayed (g.R.Source.remaining c.args.reader.now) c.in_ok-octets.octets.items c.in_ok-network.field-0.network c.args.book c.args.detail (asked_of c.in_ok-network.field-0.events) c.replay_on.result
+    (g.W.Output.contents c.args.writer.now) (g.W.Output.contents c.replay_on.new.writer) c.in_ok-octets.ensures.whole
     (subst (λ o. IsInput o c.in_ok-network.field-0.network (asked_of c.in_ok-network.field-0.events)) c.deref.ensures.value c.in_ok-network.ensures.read) c.replay_on.ensures.replayed
 
 pub returns-clause-ran_in_part : goal.returns-clause-ran_in_part
 returns-clause-ran_in_part g c = λ e.
-    ran_in_part c.in_ok-network.field-0.network c.args.detail (asked_of c.in_ok-network.field-0.events) (g.W.Write.contents c.args.writer.now) (g.W.Write.contents c.replay_on.new.writer) (c.replay_on.ensures.stopped e)
+    ran_in_part c.in_ok-network.field-0.network c.args.detail (asked_of c.in_ok-network.field-0.events) (g.W.Output.contents c.args.writer.now) (g.W.Output.contents c.replay_on.new.writer) (c.replay_on.ensures.stopped e)
 
 pub returns-clause-first_part : goal.returns-clause-first_part
 returns-clause-first_part g c = λ e.
-    known_stopped (g.R.Read.remaining c.args.reader.now) c.in_ok-octets.octets.items c.in_ok-network.field-0.network c.args.detail (asked_of c.in_ok-network.field-0.events)
-    (g.W.Write.contents c.args.writer.now) (g.W.Write.contents c.replay_on.new.writer) c.in_ok-octets.ensures.whole
+    known_stopped (g.R.Source.remaining c.args.reader.now) c.in_ok-octets.octets.items c.in_ok-network.field-0.network c.args.detail (asked_of c.in_ok-network.field-0.events)
+    (g.W.Output.contents c.args.writer.now) (g.W.Output.contents c.replay_on.new.writer) c.in_ok-octets.ensures.whole
     (subst (λ o. IsInput o c.in_ok-network.field-0.network (asked_of c.in_ok-network.field-0.events)) c.deref.ensures.value c.in_ok-network.ensures.read) (c.replay_on.ensures.stopped e)
 
 pub returns-clause-ran : goal.returns-clause-ran
 returns-clause-ran g c = λ off.
-    on_ok c.replay_on.result (ran c.in_ok-network.field-0.network c.args.book c.args.detail (asked_of c.in_ok-network.field-0.events) (g.W.Write.contents c.args.writer.now) (g.W.Write.contents c.replay_on.new.writer)) c.replay_on.ensures.replayed
+    on_ok c.replay_on.result (ran c.in_ok-network.field-0.network c.args.book c.args.detail (asked_of c.in_ok-network.field-0.events) (g.W.Output.contents c.args.writer.now) (g.W.Output.contents c.replay_on.new.writer)) c.replay_on.ensures.replayed

@@ -7,21 +7,23 @@ use Rattle.replay.proofs.calm.replay_calm.Goals as goal
 
 pub loop-preserved : goal.loop-preserved
 loop-preserved g c =
-    let calls : Calls g.row.C.Denot = record { seen = g.C.Carrier.seen; offers = g.C.Carrier.offers; takes = g.C.Carrier.takes; steps = g.C.Carrier.steps; rounds = g.C.Carrier.rounds } in
-    one_passed calls c.args.detail c.args.carrier.now c.loop.carrier c.pass_round-outcome.new.carrier c.args.rounds c.loop.counter c.pass_round-outcome.result c.log-booked.result.now c.log.result.now
-    (g.W.Write.contents c.args.writer.now) (g.W.Write.contents c.loop.writer) (g.W.Write.contents c.print_outcome.new.writer) c.loop-test.true c.loop.invariant c.pass_round-outcome.ensures.round c.pass_round-outcome.ensures.grew
-    c.pass_round-outcome.ensures.told c.log-booked.ensures.value c.log.ensures.value c.in_ok-print_outcome.ensures
+    let calls : Calls g.row.C.Denot = record { seen = g.C.Carrier.seen; offers = g.C.Carrier.offers; takes = g.C.Carrier.takes; steps = g.C.Carrier.steps; rounds = g.C.Carrier.rounds } in (
+      one_passed calls c.args.detail c.args.carrier.now c.loop.carrier c.pass_round-outcome.new.carrier c.args.rounds c.loop.counter c.pass_round-outcome.result c.log-booked.result.now c.log.result.now
+          (g.W.Output.contents c.args.writer.now) (g.W.Output.contents c.loop.writer) (g.W.Output.contents c.print_outcome.new.writer) c.loop-test.true c.loop.invariant.0 c.pass_round-outcome.ensures.round c.pass_round-outcome.ensures.grew
+          c.pass_round-outcome.ensures.told c.log-booked.ensures.value c.log.ensures.value c.in_ok-print_outcome.ensures.ends,
+      c.in_ok-print_outcome.ensures.failed,
+    )
 
-pub returns-in_err-print_outcome : goal.returns-in_err-print_outcome
-returns-in_err-print_outcome g c =
+pub returns-in_err-print_outcome-clause-ends : goal.returns-in_err-print_outcome-clause-ends
+returns-in_err-print_outcome-clause-ends g c =
     let calls : Calls g.row.C.Denot = record { seen = g.C.Carrier.seen; offers = g.C.Carrier.offers; takes = g.C.Carrier.takes; steps = g.C.Carrier.steps; rounds = g.C.Carrier.rounds } in
     let same : c.from_residual.result ≡ Err c.in_err-print_outcome.field-0.0 = search rules in
-    subst (λ r. EventEnds calls c.args.detail c.args.carrier.now (event.Calm c.args.rounds) r c.pass_round-outcome.new.carrier (g.W.Write.contents c.args.writer.now) (g.W.Write.contents c.print_outcome.new.writer)) (sym same)
+    subst (λ r. EventEnds calls c.args.detail c.args.carrier.now (event.Calm c.args.rounds) r c.pass_round-outcome.new.carrier (g.W.Output.contents c.args.writer.now) (g.W.Output.contents c.print_outcome.new.writer)) (sym same)
     (passed_ends calls c.args.detail c.args.carrier.now c.loop.carrier c.pass_round-outcome.new.carrier c.args.rounds c.loop.counter c.pass_round-outcome.result c.in_err-print_outcome.field-0.0 c.log-booked.result.now c.log.result.now
-    (g.W.Write.contents c.args.writer.now) (g.W.Write.contents c.loop.writer) (g.W.Write.contents c.print_outcome.new.writer) c.loop-test.true c.loop.invariant c.pass_round-outcome.ensures.round c.pass_round-outcome.ensures.grew
-    c.log-booked.ensures.value c.log.ensures.value c.in_err-print_outcome.ensures)
+    (g.W.Output.contents c.args.writer.now) (g.W.Output.contents c.loop.writer) (g.W.Output.contents c.print_outcome.new.writer) c.loop-test.true c.loop.invariant.0 c.pass_round-outcome.ensures.round c.pass_round-outcome.ensures.grew
+    c.log-booked.ensures.value c.log.ensures.value c.in_err-print_outcome.ensures.ends)
 
-pub returns : goal.returns
-returns g c =
+pub returns-clause-ends : goal.returns-clause-ends
+returns-clause-ends g c =
     let calls : Calls g.row.C.Denot = record { seen = g.C.Carrier.seen; offers = g.C.Carrier.offers; takes = g.C.Carrier.takes; steps = g.C.Carrier.steps; rounds = g.C.Carrier.rounds } in
-    all_passed calls c.args.detail c.args.carrier.now c.loop.carrier c.args.rounds c.loop.counter (g.W.Write.contents c.args.writer.now) (g.W.Write.contents c.loop.writer) c.loop-test.false c.loop.invariant
+    all_passed calls c.args.detail c.args.carrier.now c.loop.carrier c.args.rounds c.loop.counter (g.W.Output.contents c.args.writer.now) (g.W.Output.contents c.loop.writer) c.loop-test.false c.loop.invariant.0

@@ -36,14 +36,14 @@ print_news-requires-clause-said g c =
     let more : length c.args.world.now.kept.book.reports ≤ length c.happen-outcome.new.world.kept.book.reports = more_reports c.args.world.now.kept c.happen-outcome.new.world.kept grew in
     omega (arith, was, is, more)
 
-pub returns : goal.returns
-returns g c =
+pub returns-clause-ends : goal.returns-clause-ends
+returns-clause-ends g c =
     let calls : Calls g.row.C.Denot = shown (record { seen = g.C.Carrier.seen; offers = g.C.Carrier.offers; takes = g.C.Carrier.takes; steps = g.C.Carrier.steps; rounds = g.C.Carrier.rounds }) in
     let crossed : length c.crossings-crossed.result.now ≡ length c.args.world.now.kept.book.crossings =
     ap length c.crossings-crossed.ensures ∙ length-reverse c.book.result.now.book.crossings ∙ ap (λ (k : Kept). length k.book.crossings) c.book.ensures.value in
     let told : length c.notices-told.result.now ≡ length c.args.world.now.kept.book.notices = ap length c.notices-told.ensures ∙ ap (λ (k : Kept). length k.book.notices) c.book-2.ensures.value in
     let said : length c.reports-said.result.now ≡ length c.args.world.now.kept.book.reports = ap length c.reports-said.ensures ∙ ap (λ (k : Kept). length k.book.reports) c.book-3.ensures.value in
-    event_ends g.W.Write.contents calls c.args.detail c.args.world.now c.args.event c.happen-outcome.result c.happen-outcome.new.world c.print_refusal.result (length c.crossings-crossed.result.now) (length c.notices-told.result.now) (length c.reports-said.result.now)
-    (g.W.Write.contents c.args.writer.now) c.print_news.new.writer c.print_refusal.new.writer c.happen-outcome.ensures crossed told said
-    (subst (λ (k : Kept). News g.W.Write.contents c.args.detail (length c.crossings-crossed.result.now) (length c.notices-told.result.now) (length c.reports-said.result.now) (g.W.Write.contents c.args.writer.now) c.print_news.new.writer k) c.book-4.ensures.value c.in_ok-print_news.ensures.written)
+    event_ends g.W.Output.contents calls c.args.detail c.args.world.now c.args.event c.happen-outcome.result c.happen-outcome.new.world c.print_refusal.result (length c.crossings-crossed.result.now) (length c.notices-told.result.now) (length c.reports-said.result.now)
+    (g.W.Output.contents c.args.writer.now) c.print_news.new.writer c.print_refusal.new.writer c.happen-outcome.ensures crossed told said
+    (subst (λ (k : Kept). News g.W.Output.contents c.args.detail (length c.crossings-crossed.result.now) (length c.notices-told.result.now) (length c.reports-said.result.now) (g.W.Output.contents c.args.writer.now) c.print_news.new.writer k) c.book-4.ensures.value c.in_ok-print_news.ensures.written)
     (c.print_refusal.ensures.shown c.args.detail) c.print_refusal.ensures.goes_on c.print_refusal.ensures.memory

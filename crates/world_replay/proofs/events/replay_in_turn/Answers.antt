@@ -14,7 +14,8 @@ loop-event-preserved g c =
     let calls : Calls g.row.C.Denot = shown (record { seen = g.C.Carrier.seen; offers = g.C.Carrier.offers; takes = g.C.Carrier.takes; steps = g.C.Carrier.steps; rounds = g.C.Carrier.rounds }) in (
       c.loop-event.invariant.0 ∙ ap (λ es. c.loop-event.yielded ++ es) c.in-Some.ensures.steps.0 ∙ sym (append_assoc c.loop-event.yielded (c.in-Some.event ∷ []) c.next.new.self.rest.items),
       one_written (Happens calls) (shown_text c.args.detail) c.args.world.now c.loop-event.world c.replay_event.new.world c.loop-event.yielded c.in-Some.event
-          (g.W.Write.contents c.args.writer.now) (g.W.Write.contents c.loop-event.writer) (g.W.Write.contents c.replay_event.new.writer) c.loop-event.invariant.1 c.in_ok-replay_event.ensures,
+          (g.W.Output.contents c.args.writer.now) (g.W.Output.contents c.loop-event.writer) (g.W.Output.contents c.replay_event.new.writer) c.loop-event.invariant.1 c.in_ok-replay_event.ensures.ends,
+      c.in_ok-replay_event.ensures.failed,
     )
 
 pub returns-in_err-replay_event-clause-memory : goal.returns-in_err-replay_event-clause-memory
@@ -22,15 +23,15 @@ returns-in_err-replay_event-clause-memory g c = λ e.
     let calls : Calls g.row.C.Denot = shown (record { seen = g.C.Carrier.seen; offers = g.C.Carrier.offers; takes = g.C.Carrier.takes; steps = g.C.Carrier.steps; rounds = g.C.Carrier.rounds }) in
     let is : c.replay_event.result ≡ Err fault.OutOfMemory = search rules in
     last_written (Happens calls) (StopsIn calls) (shown_text c.args.detail) c.args.world.now c.loop-event.world c.replay_event.new.world c.args.events.items c.loop-event.yielded c.in-Some.event c.next.new.self.rest.items
-    (g.W.Write.contents c.args.writer.now) (g.W.Write.contents c.loop-event.writer) (g.W.Write.contents c.replay_event.new.writer)
+    (g.W.Output.contents c.args.writer.now) (g.W.Output.contents c.loop-event.writer) (g.W.Output.contents c.replay_event.new.writer)
     (c.loop-event.invariant.0 ∙ ap (λ es. c.loop-event.yielded ++ es) c.in-Some.ensures.steps.0) c.loop-event.invariant.1
-    (subst (λ r. EventEnds calls c.args.detail c.loop-event.world c.in-Some.event r c.replay_event.new.world (g.W.Write.contents c.loop-event.writer) (g.W.Write.contents c.replay_event.new.writer)) is c.replay_event.ensures)
+    (subst (λ r. EventEnds calls c.args.detail c.loop-event.world c.in-Some.event r c.replay_event.new.world (g.W.Output.contents c.loop-event.writer) (g.W.Output.contents c.replay_event.new.writer)) is c.replay_event.ensures.ends)
 
 pub returns-in_err-replay_event-clause-cannot_write : goal.returns-in_err-replay_event-clause-cannot_write
 returns-in_err-replay_event-clause-cannot_write g c = λ e.
     let calls : Calls g.row.C.Denot = shown (record { seen = g.C.Carrier.seen; offers = g.C.Carrier.offers; takes = g.C.Carrier.takes; steps = g.C.Carrier.steps; rounds = g.C.Carrier.rounds }) in
     let is : c.replay_event.result ≡ Err fault.CannotWrite = search rules in
-    let last = subst (λ r. EventEnds calls c.args.detail c.loop-event.world c.in-Some.event r c.replay_event.new.world (g.W.Write.contents c.loop-event.writer) (g.W.Write.contents c.replay_event.new.writer)) is c.replay_event.ensures in (
+    let last = subst (λ r. EventEnds calls c.args.detail c.loop-event.world c.in-Some.event r c.replay_event.new.world (g.W.Output.contents c.loop-event.writer) (g.W.Output.contents c.replay_event.new.writer)) is c.replay_event.ensures.ends in (
       c.loop-event.invariant.1.shown ++ last.0,
       last_shown (Happens calls) (MayDo calls) c.args.world.now c.loop-event.world c.replay_event.new.world c.args.events.items c.loop-event.yielded c.in-Some.event c.next.new.self.rest.items
           c.loop-event.invariant.1.shown last.0 (c.loop-event.invariant.0 ∙ ap (λ es. c.loop-event.yielded ++ es) c.in-Some.ensures.steps.0) c.loop-event.invariant.1.is_shown last.1,

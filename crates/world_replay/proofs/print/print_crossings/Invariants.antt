@@ -1,8 +1,8 @@
-use Rattle.std.proofs.Common.{take}
+use Rattle.std.proofs.Common.{◌≡◌, false, take}
 use Rattle.std.specs.Io.KnownBytes.{Appends}
 use Rattle.replay.specs.InTurn.{text_of}
 use Rattle.replay.specs.Output.{crossing_line}
 use Rattle.world_replay.proofs.print.print_crossings.Given as goal
 
 abbrev pub invariant-loop-crossing : goal.invariant-loop-crossing
-invariant-loop-crossing g l = Appends (g.W.Write.contents l.fn.writer) (g.W.Write.contents l.writer) (text_of (crossing_line l.detail) (take l.crossing-index l.crossings))
+invariant-loop-crossing g l = Appends (g.W.Output.contents l.fn.writer) (g.W.Output.contents l.writer) (text_of (crossing_line l.detail) (take l.crossing-index l.crossings)) × (g.W.Output.failed l.writer ≡ false)

@@ -1,14 +1,15 @@
-use Rattle.std.proofs.Common.{refl, subst}
+use Rattle.std.proofs.Common.{subst}
 use Rattle.std.specs.Io.KnownBytes.{Appends}
 use Rattle.net_sim.specs.declared.life.Life.{Life}
-use Rattle.replay.proofs.lemmas.{text_more, was_ok}
+use Rattle.replay.proofs.lemmas.{text_more}
 use Rattle.script.specs.Input.{ended_line}
 use Rattle.world_replay.specs.Printed.{life_text}
 use Rattle.world_replay.proofs.print.print_lives.Goals as goal
 
 pub loop-life-preserved : goal.loop-life-preserved
-loop-life-preserved g c =
-    text_more life_text c.args.lives.now c.loop-life.life-index c.life-item.result (g.W.Write.contents c.args.writer.now) (g.W.Write.contents c.loop-life.writer) (g.W.Write.contents c.writeln.new.self)
-    c.loop-life-test.true c.loop-life.invariant
-    (subst (λ (x : Life). Appends (g.W.Write.contents c.loop-life.writer) (g.W.Write.contents c.writeln.new.self) (ended_line (life_text x))) c.life-item.is
-    (was_ok c.writeln.result (c.in_ok-check_written.ensures.ok.0 refl) c.writeln.ensures.bytes))
+loop-life-preserved g c = (
+  text_more life_text c.args.lives.now c.loop-life.life-index c.life-item.result (g.W.Output.contents c.args.writer.now) (g.W.Output.contents c.loop-life.writer) (g.W.Output.contents c.writeln.new.self)
+      c.loop-life-test.true c.loop-life.invariant.0
+      (subst (λ (x : Life). Appends (g.W.Output.contents c.loop-life.writer) (g.W.Output.contents c.writeln.new.self) (ended_line (life_text x))) c.life-item.is c.in_ok-writeln.ensures.written),
+  c.in_ok-writeln.ensures.failed,
+)

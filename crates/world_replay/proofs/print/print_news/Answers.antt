@@ -16,6 +16,6 @@ returns-clause-written g c =
     ∙ ap (λ ts. shown_in_turn c.args.crossed (drop c.args.crossed (reverse c.args.book.now.book.crossings)) (told_in_turn c.args.told ts c.split_at-3.result.1.now)) notices
     ∙ ap (λ rs. shown_in_turn c.args.crossed (drop c.args.crossed (reverse c.args.book.now.book.crossings)) (told_in_turn c.args.told (drop c.args.told c.args.book.now.book.notices) rs)) reports in
     on_ok_weaker c.print_crossings.result (λ crossed.
-    subst (λ xs. Appends (g.W.Write.contents c.args.writer.now) (g.W.Write.contents c.print_crossings.new.writer) (output c.args.detail xs)) all
+    subst (λ xs. Appends (g.W.Output.contents c.args.writer.now) (g.W.Output.contents c.print_crossings.new.writer) (output c.args.detail xs)) all
     (all_fronts c.args.detail c.args.crossed c.split_at.result.1.now (told_in_turn c.args.told c.split_at-2.result.1.now c.split_at-3.result.1.now) c.print_told.new.crossings.before c.print_told.new.crossings.left.now
-    (g.W.Write.contents c.args.writer.now) (g.W.Write.contents c.print_told.new.writer) (g.W.Write.contents c.print_crossings.new.writer) c.in_ok-print_told.ensures.written crossed)) c.print_crossings.ensures.written
+    (g.W.Output.contents c.args.writer.now) (g.W.Output.contents c.print_told.new.writer) (g.W.Output.contents c.print_crossings.new.writer) c.in_ok-print_told.ensures.written crossed)) c.print_crossings.ensures.written

@@ -1,0 +1,95 @@
+//! Where an input is read from: a reader that tells whether a read failed.
+
+ghost use Rattle.std.specs.Prelude.{◌≡◌, Bool, List, Option, false, true, ℕ};
+ghost use Rattle.std.specs.Io.{ReadsAtMost};
+ghost use Rattle.std.specs.Io.KnownBytes.{Keeps, ReadConsumes};
+ghost use Rattle.replay.specs.Failing.{TellsFailure};
+
+use std::io;
+use std::io::{ErrorKind, Read};
+use thiserror::Error;
+
+/// A read failed.
+#[derive(Clone, Copy, Debug, Drop, PartialEq, Eq, Error)]
+#[error("cannot read")]
+pub struct ReadFailed;
+
+/// Where an input is read from. It tells whether a read has failed, which the contract of the standard library's
+/// readers doesn't.
+///
+/// Each read requires that none has failed. So after its first failure nothing more is asked of the reader.
+pub trait Source {
+    /// The octets that are left, where they are known.
+    ghost remaining: { Self → Option (List ℕ) };
+
+    /// Whether a read has failed.
+    ghost failed: { Self → Bool };
+
+    /// Reads octets into a buffer, and answers how many. There are none only at the end, or where the buffer has
+    /// no room.
+    ///
+    /// Errors: `ReadFailed`.
+    fn read(&mut self, buf: &mut [u8]) -> Result<usize, ReadFailed>
+        requires { failed self.old ≡ false }
+        ensures failed { TellsFailure result (failed self.new) }
+        ensures bound { ReadsAtMost result buf.new }
+        ensures octets { ReadConsumes (remaining self.old) (remaining self.new) result buf.new };
+}
+
+/// A reader of the standard library as a [`Source`]: each read is passed on to the reader, and whether it failed is
+/// kept. One that was interrupted is repeated.
+#[derive(Drop)]
+pub struct Reader<R> {
+    /// The reader.
+    reader: R,
+    /// Whether a read has failed.
+    failed: bool,
+}
+
+impl<R: Read> Reader<R> {
+    /// A source over a reader, of which no read has failed.
+    pub fn new(reader: R) -> Reader<R>
+        ensures remaining { ⟦<Reader<R> as Source>⟧.remaining result ≡ R.remaining reader }
+        ensures failed { ⟦<Reader<R> as Source>⟧.failed result ≡ false }
+    {
+        Reader {
+            reader,
+            failed: false,
+        }
+    }
+
+    /// The reader.
+    pub fn into_inner(self) -> R
+        ensures { R.remaining result ≡ ⟦<Reader<R> as Source>⟧.remaining self }
+    {
+        self.reader
+    }
+}
+
+impl<R: Read> Source for Reader<R> {
+    ghost remaining = { λ r. R.remaining r.reader };
+
+    ghost failed = { λ r. r.failed };
+
+    fn read(&mut self, buf: &mut [u8]) -> Result<usize, ReadFailed> {
+        let outcome = read_again(&mut self.reader, buf);
+        self.failed = outcome.is_err();
+        outcome.map_err(|_| ReadFailed)
+    }
+}
+
+/// Reads, and reads again where a read was interrupted.
+///
+/// Errors: the reader's.
+fn read_again<R: Read>(reader: &mut R, buf: &mut [u8]) -> io::Result<usize>
+    ensures bound { ReadsAtMost result buf.new }
+    ensures octets { ReadConsumes (R.remaining reader.old) (R.remaining reader.new) result buf.new }
+{
+    for _ in 0..u64::MAX {
+        match reader.read(buf) {
+            Err(error) if error.kind() == ErrorKind::Interrupted => {}
+            outcome => return outcome,
+        }
+    }
+    Err(io::Error::from(ErrorKind::Interrupted))
+}

@@ -1,0 +1,72 @@
+-- Worlds over a carrier that counts its calls.
+use Rattle.std.proofs.Common.{◌≡◌, ℕ, ◌+◌, zero, suc, List, [], Result, Ok, Err, refl, ap, sym, subst, ◌∙◌, add-zero, arith}
+use Rattle.std.specs.Bool.{MatchBool}
+use Rattle.leader1822.specs.declared.carrier.CarrierFault.{CarrierFault}
+use Rattle.net_sim.specs.World.{Calms, QuietEnds, StepGives, TurnsOf, WorldState, stops, up_in, with_carrier}
+use Rattle.net_sim.specs.declared.event.Event.TheVariants.{Quiet}
+use Rattle.net_sim.specs.declared.event.WorldFault.{WorldFault}
+use Rattle.world_replay.specs.Output.{Shown}
+use Rattle.world_replay.specs.Replay.{MayDo}
+use Rattle.world_replay.specs.Worked.{after, counting}
+use Rattle.world_script.specs.declared.event.WorldEvent.TheVariants.{Calm, Happen}
+
+-- a quiet round is one call, and succeeds
+record Counts (n : ℕ) (r : Result (Unit {0}) WorldFault) (new : WorldState ℕ) : Type 0 where
+  succeeds : r ≡ Ok tt
+  counted : new ≡ after (suc n)
+
+quiet_ends : (n c : ℕ) (answer : Result (Unit {0}) CarrierFault) (r : Result (Unit {0}) WorldFault) (new : WorldState ℕ) → answer ≡ Ok tt → c ≡ suc n → QuietEnds answer c (after n) r new → Counts n r new
+quiet_ends n c (Ok done) r new ok counted ends = record { succeeds = ends.0; counted = ends.1 ∙ ap (λ k. with_carrier k (after n)) counted }
+quiet_ends n c (Err f) r new ok counted ends = absurd (cc)
+
+quiet_counts : (n : ℕ) (r : Result (Unit {0}) WorldFault) (new : WorldState ℕ) → StepGives counting (after n) Quiet r new → Counts n r new
+quiet_counts n r new (answer, c, called, ends) = quiet_ends n c answer r new called.0 called.1 ends
+
+one_more : (n : ℕ) → StepGives counting (after n) Quiet (Ok tt) (after (suc n))
+one_more n = (Ok tt, suc n, (refl, refl), (refl, refl))
+
+pub once : MayDo counting (after 3) (Happen Quiet) (after 4) []
+once = record { outcome = Ok tt; gives = one_more 3; unknown = refl }
+
+pub not_other : (m : ℕ) (shown : List Shown) → MayDo counting (after 3) (Happen Quiet) (after m) shown → m ≡ 4
+not_other m shown h =
+    let counts : Counts 3 h.outcome (after m) = quiet_counts 3 h.outcome (after m) h.gives in
+    ap (λ (w : WorldState ℕ). w.carrier) counts.counted
+
+-- ---- calms
+
+pub two_rounds : MayDo counting (after 3) (Calm 2) (after 5) []
+two_rounds = record {
+  outcome = Ok tt;
+  gives = (Ok tt, after 4, one_more 3, (Ok tt, after 4, (refl, refl), (Ok tt, after 5, one_more 4, (Ok tt, after 5, (refl, refl), (refl, refl)))));
+  unknown = refl;
+}
+
+-- after a round's call
+abbrev Turned : ℕ → Result (Unit {0}) WorldFault → WorldState ℕ → Result (Unit {0}) WorldFault → WorldState ℕ → Type 0
+Turned rounds second turned r new = MatchBool (stops second) ((r ≡ second) × (new ≡ turned)) (Calms counting rounds turned r new)
+
+abbrev Called : ℕ → Result (Unit {0}) WorldFault → WorldState ℕ → Result (Unit {0}) WorldFault → WorldState ℕ → Type 0
+Called rounds first quiet r new =
+    MatchBool (stops first) ((r ≡ first) × (new ≡ quiet))
+    ((second : Result (Unit {0}) WorldFault) × (turned : WorldState ℕ) × TurnsOf counting (up_in quiet.seats) quiet second turned × Turned rounds second turned r new)
+
+called_again : (rounds n : ℕ) (r : Result (Unit {0}) WorldFault) (new : WorldState ℕ) → Called rounds (Ok tt) (after (suc n)) r new → Calms counting rounds (after (suc n)) r new
+called_again rounds n r new (second, turned, does, more) =
+    let ok : Turned rounds (Ok tt) turned r new = subst (λ s. Turned rounds s turned r new) does.0 more in
+    subst (λ (w : WorldState ℕ). Turned rounds (Ok tt) w r new) does.1 ok
+
+calms_count : (rounds n : ℕ) (r : Result (Unit {0}) WorldFault) (new : WorldState ℕ) → Calms counting rounds (after n) r new → new.carrier ≡ n + rounds
+calms_count zero n r new h = ap (λ (w : WorldState ℕ). w.carrier) h.1 ∙ sym (add-zero n)
+calms_count (suc rounds) n r new (first, quiet, step, rest) =
+    let counts : Counts n first quiet = quiet_counts n first quiet step in
+    let ok : Called rounds (Ok tt) quiet r new = subst (λ s. Called rounds s quiet r new) counts.succeeds rest in
+    let more : Calms counting rounds (after (suc n)) r new = called_again rounds n r new (subst (λ (w : WorldState ℕ). Called rounds (Ok tt) w r new) counts.counted ok) in
+    let counted : new.carrier ≡ suc n + rounds = calms_count rounds (suc n) r new more in
+    omega (arith, counted)
+
+-- a calm of two rounds does not end after one
+pub not_in_part : (shown : List Shown) → ¬ (MayDo counting (after 3) (Calm 2) (after 4) shown)
+not_in_part shown h =
+    let counted : 4 ≡ 3 + 2 = calms_count 2 3 h.outcome (after 4) h.gives in
+    omega (arith, counted)
