@@ -13,7 +13,7 @@ use crate::fault::ScriptFault;
 use crate::input::Events;
 use headline::book_of;
 use leader1822::{Carrier, PlainBoxes};
-use net_sim::World;
+use net_sim::{Life, World};
 use replay::Detail;
 use script::RawEvent;
 use std::alloc::{AllocError, Global};
@@ -103,7 +103,7 @@ fn replay_raw<C: Carrier, W: Write>(
 }
 
 /// Replays events of hosts with programs, and writes what they show, the lives of connections where the book is asked
-/// for, and a last line `end`.
+/// for, and a last line `end`. The world's book keeps its promise, and what is written is what this book has.
 ///
 /// Errors: `CannotWrite`; `OutOfMemory`, after which what the first of the events show is written.
 fn replay_world<C: Carrier, W: Write>(
@@ -121,24 +121,23 @@ fn replay_world<C: Carrier, W: Write>(
     ensures fault { IfErr result IsReplayFault }
 {
     let mut world = World::new(alloc, carrier)?;
-    match world_replay::replay_events(&mut world, events, detail, writer) {
-        Ok(()) => write_book(&world, book, writer),
+    let outcome = world_replay::replay_events(&mut world, events, detail, writer);
+    // its promise is a clause of `book_of`, whether its lives are asked for or not, and however the replay ended
+    let kept = book_of(&world);
+    match outcome {
+        Ok(()) => write_lives(kept.lives(), book, writer),
         Err(fault) => Err(ScriptFault::from(fault)),
     }
 }
 
-/// Writes the lives of a world's connections, where the book is asked for, and a last line `end`.
+/// Writes these lives, where the book is asked for, and a last line `end`.
 ///
 /// Errors: `CannotWrite`.
-fn write_book<C: Carrier, W: Write>(
-    world: &World<C>,
-    book: bool,
-    writer: &mut W,
-) -> Result<(), ScriptFault>
-    ensures written { OnOk result (Appends (W.contents writer.old) (W.contents writer.new) (book_text book world.now.kept.book.lives ++ codes "end\n")) }
+fn write_lives<W: Write>(lives: &[Life], book: bool, writer: &mut W) -> Result<(), ScriptFault>
+    ensures written { OnOk result (Appends (W.contents writer.old) (W.contents writer.new) (book_text book lives.now ++ codes "end\n")) }
     ensures fault { IfErr result (λ f. f ≡ ScriptFault.CannotWrite) }
 {
-    if book && print_lives(book_of(world).lives(), writer).is_err() {
+    if book && print_lives(lives, writer).is_err() {
         return Err(ScriptFault::CannotWrite);
     }
     write_last(writer, b"end\n")
