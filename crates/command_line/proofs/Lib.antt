@@ -3,6 +3,7 @@ mod Faults
 mod Hyphens
 mod Once
 mod OneInput
+mod Printed
 mod Settled
 mod Sites
 mod Words

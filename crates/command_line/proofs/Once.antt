@@ -31,7 +31,7 @@ raw_once calls settled opening events shown more h k =
     let one : OneReplay h.last k.last shown more = replays_once calls settled opening events h.last k.last shown more h.replayed k.replayed in
     one.lines
 
-world_once : {C : Type 0} (calls : Calls C) → AreSettled calls → (opening : C) (events : List WorldEvent) (lives others : List Life) (shows more : List lines.Shown) → WorldShowsFrom (hosting calls) opening events lives shows
+pub world_once : {C : Type 0} (calls : Calls C) → AreSettled calls → (opening : C) (events : List WorldEvent) (lives others : List Life) (shows more : List lines.Shown) → WorldShowsFrom (hosting calls) opening events lives shows
     → WorldShowsFrom (hosting calls) opening events others more → (lives ≡ others) × (shows ≡ more)
 world_once {C} calls settled opening events lives others shows more h k =
     let one : (h.last ≡ k.last) × (shows ≡ more) = worlds.one_replay (hosting calls) settled (opening_world (shown (hosting calls)) opening) h.last k.last events shows more h.replayed k.replayed in

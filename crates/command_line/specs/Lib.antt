@@ -5,5 +5,6 @@ pub mod Faults
 pub mod Input
 pub mod Options
 pub mod Parser
+pub mod Printed
 pub mod Replayed
 pub mod Steps

@@ -1,7 +1,9 @@
 -- What the simulator writes.
 use Rattle.std.specs.Prelude.{◌≡◌, ℕ, Bool, true, false, List, [], ◌++◌, reverse, Option, codes}
 use Rattle.std.specs.Io.KnownBytes.{Appends}
+use Rattle.headline.specs.Promise.{KeepsPromise}
 use Rattle.leader1822.specs.Messages.{SafeMessages}
+use Rattle.net_sim.specs.Book.{Book}
 use Rattle.net_sim.specs.Carriers.{shown}
 use Rattle.net_sim.specs.World.{WorldState, opening_world}
 use Rattle.net_sim.specs.World as world
@@ -46,19 +48,27 @@ pub record WritesAll (detail : Detail) (AreShown : List Shown → Type 0) (befor
 
 -- ---- a network whose hosts have programs
 
--- the same of events in a world over such a carrier, which leaves these lives in its book
+-- lines have all the crossings, notices and reports of a book, and no others
+pub record ShowsBook (book : Book) (shows : List lines.Shown) : Type 0 where
+  pub crossed : book.crossings ≡ reverse (lines.crossings_of shows)
+  pub told : book.notices ≡ lines.notices_of shows
+  pub said : book.reports ≡ lines.reports_of shows
+
+-- events are replayed in a world over such a carrier, and show these lines. The lines have what is in the book of this world, the lives are those
+-- of its book, and its book keeps its promise
 pub record WorldShowsFrom {C : Type 0} (calls : world.Calls C) (opening : C) (events : List WorldEvent) (lives : List Life) (shows : List lines.Shown) : Type 0 where
   pub last : WorldState C
   pub replayed : worlds.Replays (shown calls) (opening_world (shown calls) opening) events last shows
+  pub booked : ShowsBook last.kept.book shows
   pub left : lives ≡ last.kept.book.lives
-  pub crossed : last.kept.book.crossings ≡ reverse (lines.crossings_of shows)
-  pub messages : SafeMessages last.kept.book.crossings
+  pub promise : KeepsPromise calls.seen last
 
+-- memory ran out in one of the events: the lines that were shown by then have what is in the world's book, and its book keeps its promise
 pub record WorldStopsFrom {C : Type 0} (calls : world.Calls C) (opening : C) (events : List WorldEvent) (shows : List lines.Shown) : Type 0 where
   pub last : WorldState C
   pub stopped : worlds.EndsIn (shown calls) (worlds.StopsIn (shown calls)) (opening_world (shown calls) opening) events last shows
-  pub crossed : last.kept.book.crossings ≡ reverse (lines.crossings_of shows)
-  pub messages : SafeMessages last.kept.book.crossings
+  pub booked : ShowsBook last.kept.book shows
+  pub promise : KeepsPromise calls.seen last
 
 -- the lives, where the book is asked for
 abbrev pub book_text : Bool → List Life → List ℕ
@@ -112,17 +122,16 @@ pub record StopsInput (detail : Detail) (octets : List ℕ) (before after : Opti
   pub input : IsInput octets network events
   pub stopped : EndsOn network detail events before after
 
--- ---- for any reader: what crossed is a log that every host may rely on
+-- ---- for any reader. Which script and which topology it was, `ReplaysInput` and `StopsInput` say
 
--- the output of a whole replay: its lines, lives or none, and a last line `end`
-pub record Ran (detail : Detail) (before after : Option (List ℕ)) : Type 0 where
-  pub shown : List lines.Shown
-  pub lives : List Life
-  pub written : Appends before after (lines.output detail shown ++ (lives_output lives ++ codes "end\n"))
-  pub messages : SafeMessages (reverse (lines.crossings_of shown))
+-- the events of some script are replayed over the carrier of some topology
+pub record Ran (book : Bool) (detail : Detail) (before after : Option (List ℕ)) : Type 0 where
+  pub network : TopologyFields
+  pub events : Asked
+  pub replayed : ReplaysOn network book detail events before after
 
--- the output of a replay that ran out of memory: lines without an end
+-- the same, until memory ran out
 pub record RanInPart (detail : Detail) (before after : Option (List ℕ)) : Type 0 where
-  pub shown : List lines.Shown
-  pub written : Appends before after (lines.output detail shown)
-  pub messages : SafeMessages (reverse (lines.crossings_of shown))
+  pub network : TopologyFields
+  pub events : Asked
+  pub stopped : EndsOn network detail events before after

@@ -14,7 +14,7 @@ use crate::fault::ScriptFault;
 use crate::input::Events;
 use headline::book_of;
 use leader1822::{Carrier, PlainBoxes};
-use net_sim::World;
+use net_sim::{Life, World};
 use replay::{Detail, Output, WriteFailed};
 use script::RawEvent;
 use std::alloc::{AllocError, Global};
@@ -112,7 +112,7 @@ fn replay_raw<C: Carrier, W: Output>(
 }
 
 /// Replays events of hosts with programs, and writes what they show, the lives of connections where the book is asked
-/// for, and a last line `end`.
+/// for, and a last line `end`. The world's book keeps its promise, and what is written is what this book has.
 ///
 /// Errors: `CannotWrite`; `OutOfMemory`, after which what the first of the events show is written.
 fn replay_world<C: Carrier, W: Output>(
@@ -133,27 +133,26 @@ fn replay_world<C: Carrier, W: Output>(
     ensures flushed { OnOk result (W.flushed writer.new ≡ true) }
 {
     let mut world = World::new(alloc, carrier)?;
-    match world_replay::replay_events(&mut world, events, detail, writer) {
-        Ok(()) => Ok(write_book(&world, book, writer)?),
+    let outcome = world_replay::replay_events(&mut world, events, detail, writer);
+    // its promise is a clause of `book_of`, whether its lives are asked for or not, and however the replay ended
+    let kept = book_of(&world);
+    match outcome {
+        Ok(()) => Ok(write_lives(kept.lives(), book, writer)?),
         Err(fault) => Err(ScriptFault::from(fault)),
     }
 }
 
-/// Writes the lives of a world's connections, where the book is asked for, and a last line `end`.
+/// Writes these lives, where the book is asked for, and a last line `end`.
 ///
 /// Errors: `WriteFailed`.
-fn write_book<C: Carrier, W: Output>(
-    world: &World<C>,
-    book: bool,
-    writer: &mut W,
-) -> Result<(), WriteFailed>
+fn write_lives<W: Output>(lives: &[Life], book: bool, writer: &mut W) -> Result<(), WriteFailed>
     requires { W.failed writer.old ≡ false }
-    ensures written { OnOk result (Appends (W.contents writer.old) (W.contents writer.new) (book_text book world.now.kept.book.lives ++ codes "end\n")) }
+    ensures written { OnOk result (Appends (W.contents writer.old) (W.contents writer.new) (book_text book lives.now ++ codes "end\n")) }
     ensures failed { TellsFailure result (W.failed writer.new) }
     ensures flushed { OnOk result (W.flushed writer.new ≡ true) }
 {
     if book {
-        print_lives(book_of(world).lives(), writer)?;
+        print_lives(lives, writer)?;
     }
     write_last(writer, b"end\n")
 }

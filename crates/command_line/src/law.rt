@@ -1,9 +1,15 @@
 //! What the simulator promises, as laws over its definitions. The functions here do nothing: their clauses
 //! are the laws.
 
-ghost use Rattle.std.specs.Prelude.{◌≡◌, ◌++◌, ℕ, Bool, List, Some};
+ghost use Rattle.std.specs.Prelude.{◌≡◌, ◌++◌, ℕ, Bool, List, [], ◌∷◌, Option, Some};
+ghost use Rattle.leader1822.specs.Boxes.{Boxes};
+ghost use Rattle.net_sim.specs.declared.life.Life.{Life};
 ghost use Rattle.replay.specs.declared.print.Detail.{Detail};
-ghost use Rattle.command_line.specs.Replayed.{ReplaysInput, StopsInput};
+ghost use Rattle.world_replay.specs.Output.{Shown};
+ghost use Rattle.world_script.specs.declared.event.WorldEvent.{WorldEvent};
+ghost use Rattle.command_line.specs.Carriers.{hosting, plain_calls};
+ghost use Rattle.command_line.specs.Printed.{PrintsBook, PrintsPart};
+ghost use Rattle.command_line.specs.Replayed.{Ran, RanInPart, ReplaysInput, StopsInput, WorldShowsFrom};
 
 /// The input determines the output, with the book and without it, with texts and without them. It asks for one list of events over the carrier of one
 /// topology, and neither plain mailboxes nor a subnet leave their replay a choice, without host programs or with them.
@@ -14,4 +20,20 @@ pub fn one_output()
 /// What stands on the output after memory has run out is a prefix of what the whole replay writes.
 pub fn first_part()
     ensures { (book : Bool) (detail : Detail) (input before part whole : List ℕ) → StopsInput detail input (Some before) (Some part) → ReplaysInput book detail input (Some before) (Some whole) → (rest : List ℕ) × (whole ≡ part ++ rest) }
+{}
+
+/// What is printed is a formed and safe book, of whatever network and events: the crossings of the lines, and the lives, which are printed where the book is
+/// asked for. In a network without host programs there are no lives. Where memory runs out the crossings are still those of such a book.
+pub fn printed_books()
+    ensures whole { (book : Bool) (detail : Detail) (before after : Option (List ℕ)) → Ran book detail before after → PrintsBook book detail before after }
+    ensures part { (detail : Detail) (before after : Option (List ℕ)) → RanInPart detail before after → PrintsPart detail before after }
+{}
+
+/// Lives that no replay shows.
+pub fn worked_lives()
+    // those of another book: where nothing happened there are none
+    ensures another_book { (opening : Boxes) (life : Life) (lives : List Life) (shows : List Shown) → WorldShowsFrom (hosting plain_calls) opening [] (life ∷ lives) shows → ⊥ }
+
+    // those of the book without the last one
+    ensures without_the_last { (opening : Boxes) (events : List WorldEvent) (lives : List Life) (last : Life) (shows more : List Shown) → WorldShowsFrom (hosting plain_calls) opening events (lives ++ last ∷ []) shows → WorldShowsFrom (hosting plain_calls) opening events lives more → ⊥ }
 {}

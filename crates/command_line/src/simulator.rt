@@ -38,10 +38,11 @@ pub fn run<R: Source, W: Output>(
     // with `--check` the input is only read
     ensures checked { IfSome (options_of (map string_bytes words.now)) (λ options. options.check ≡ true → OnOk result (Appends (W.contents writer.old) (W.contents writer.new) (codes "ok\n"))) }
 
-    // without it what crosses at the hosts is a log that every host may rely on
-    ensures ran { IfSome (options_of (map string_bytes words.now)) (λ options. options.check ≡ false → OnOk result (Ran (detail_of options.texts) (W.contents writer.old) (W.contents writer.new))) }
+    // without it a script is replayed over the carrier of a topology, whatever the reader: in a world whose book keeps its promise and of which
+    // all is written, or without host programs, where what crosses is a log that every host may rely on
+    ensures ran { IfSome (options_of (map string_bytes words.now)) (λ options. options.check ≡ false → OnOk result (Ran options.book (detail_of options.texts) (W.contents writer.old) (W.contents writer.new))) }
 
-    // and the script that was read is replayed over the carrier of the topology that was read
+    // and of a reader whose octets are known these are the script and the topology that were read
     ensures replayed { IfSome (options_of (map string_bytes words.now)) (λ options. options.check ≡ false → OnOk result (IfSome (R.remaining reader.old) (λ octets. ReplaysInput options.book (detail_of options.texts) octets (W.contents writer.old) (W.contents writer.new)))) }
 
     // what is read is an input, or the first fault is given
@@ -58,7 +59,7 @@ pub fn run<R: Source, W: Output>(
     ensures untouched { IfErr result (λ f. f ≢ ScriptFault.CannotWrite → f ≢ ScriptFault.OutOfMemory → writer.new ≡ writer.old) }
 
     // after memory has run out the output is a prefix of what the replay would write
-    ensures ran_in_part { result ≡ Err ScriptFault.OutOfMemory → IfSome (options_of (map string_bytes words.now)) (λ options. RanInPart (detail_of options.texts) (W.contents writer.old) (W.contents writer.new)) }
+    ensures ran_in_part { result ≡ Err ScriptFault.OutOfMemory → IfSome (options_of (map string_bytes words.now)) (λ options. Keeps (W.contents writer.old) (W.contents writer.new) ⊎ RanInPart (detail_of options.texts) (W.contents writer.old) (W.contents writer.new)) }
     ensures first_part { result ≡ Err ScriptFault.OutOfMemory → IfSome (options_of (map string_bytes words.now)) (λ options. IfSome (R.remaining reader.old) (λ octets. Keeps (W.contents writer.old) (W.contents writer.new) ⊎ StopsInput (detail_of options.texts) octets (W.contents writer.old) (W.contents writer.new))) }
 {
     match Options::read(alloc, words) {
@@ -104,10 +105,11 @@ pub fn run_script<R: Source, W: Output>(
     // with `check` the input is only read
     ensures checked { check ≡ true → OnOk result (Appends (W.contents writer.old) (W.contents writer.new) (codes "ok\n")) }
 
-    // without it what crosses at the hosts is a log that every host may rely on
-    ensures ran { check ≡ false → OnOk result (Ran detail (W.contents writer.old) (W.contents writer.new)) }
+    // without it a script is replayed over the carrier of a topology, whatever the reader: in a world whose book keeps its promise and of which
+    // all is written, or without host programs, where what crosses is a log that every host may rely on
+    ensures ran { check ≡ false → OnOk result (Ran book detail (W.contents writer.old) (W.contents writer.new)) }
 
-    // and the script that was read is replayed over the carrier of the topology that was read
+    // and of a reader whose octets are known these are the script and the topology that were read
     ensures replayed { check ≡ false → OnOk result (IfSome (R.remaining reader.old) (λ octets. ReplaysInput book detail octets (W.contents writer.old) (W.contents writer.new))) }
     ensures options { IfErr result (λ f. f ≢ ScriptFault.BadOptions) }
 
@@ -125,7 +127,7 @@ pub fn run_script<R: Source, W: Output>(
     ensures untouched { IfErr result (λ f. f ≢ ScriptFault.CannotWrite → f ≢ ScriptFault.OutOfMemory → writer.new ≡ writer.old) }
 
     // after memory has run out the output is a prefix of what the replay would write
-    ensures ran_in_part { result ≡ Err ScriptFault.OutOfMemory → RanInPart detail (W.contents writer.old) (W.contents writer.new) }
+    ensures ran_in_part { result ≡ Err ScriptFault.OutOfMemory → Keeps (W.contents writer.old) (W.contents writer.new) ⊎ RanInPart detail (W.contents writer.old) (W.contents writer.new) }
     ensures first_part { result ≡ Err ScriptFault.OutOfMemory → IfSome (R.remaining reader.old) (λ octets. Keeps (W.contents writer.old) (W.contents writer.new) ⊎ StopsInput detail octets (W.contents writer.old) (W.contents writer.new)) }
 
     // with `check` nothing is written when memory runs out

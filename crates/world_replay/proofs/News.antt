@@ -11,7 +11,7 @@ use Rattle.replay.specs.InTurn.{text_of}
 use Rattle.replay.specs.Output.{crossing_line}
 use Rattle.replay.specs.declared.print.Detail.{Detail}
 use Rattle.script.specs.Input.{ended_line}
-use Rattle.world_replay.specs.Output.{Shown, Crossed, Noticed, Said, Refused, crossings_of, shown_text, output, place_of, shown_crossings, shown_in_turn, shown_notices, told_in_turn}
+use Rattle.world_replay.specs.Output.{Shown, Crossed, Noticed, Said, Refused, crossings_of, notices_of, reports_of, shown_text, output, place_of, shown_crossings, shown_in_turn, shown_notices, told_in_turn}
 use Rattle.world_replay.specs.Printed.{reported_text, told_text}
 use Rattle.world_replay.specs.Steps.{Fronts}
 
@@ -183,6 +183,86 @@ among_news before cs (s ∷ xs) h =
 
 pub crossings_in_turn : (before n : ℕ) (cs : List Crossing) (ts : List Told) (rs : List Reported) → crossings_of (shown_in_turn before cs (told_in_turn n ts rs)) ≡ cs
 crossings_in_turn before n cs ts rs = among_news before cs (told_in_turn n ts rs) (told_news n ts rs)
+
+-- ---- so are all notices and all reports
+
+pub notices_of-append : (xs ys : List Shown) → notices_of (xs ++ ys) ≡ notices_of xs ++ notices_of ys
+notices_of-append [] ys = refl
+notices_of-append (Crossed c ∷ xs) ys = notices_of-append xs ys
+notices_of-append (Noticed t ∷ xs) ys = ap (λ ts. t ∷ ts) (notices_of-append xs ys)
+notices_of-append (Said r ∷ xs) ys = notices_of-append xs ys
+notices_of-append (Refused f ∷ xs) ys = notices_of-append xs ys
+
+pub reports_of-append : (xs ys : List Shown) → reports_of (xs ++ ys) ≡ reports_of xs ++ reports_of ys
+reports_of-append [] ys = refl
+reports_of-append (Crossed c ∷ xs) ys = reports_of-append xs ys
+reports_of-append (Noticed t ∷ xs) ys = reports_of-append xs ys
+reports_of-append (Said r ∷ xs) ys = ap (λ rs. r ∷ rs) (reports_of-append xs ys)
+reports_of-append (Refused f ∷ xs) ys = reports_of-append xs ys
+
+notices_again : (ts : List Told) → notices_of (shown_notices ts) ≡ ts
+notices_again [] = refl
+notices_again (t ∷ ts) = ap (λ xs. t ∷ xs) (notices_again ts)
+
+no_report : (ts : List Told) → reports_of (shown_notices ts) ≡ []
+no_report [] = refl
+no_report (t ∷ ts) = no_report ts
+
+-- crossings have neither
+crossings_silent : (cs : List Crossing) → (notices_of (shown_crossings cs) ≡ []) × (reports_of (shown_crossings cs) ≡ [])
+crossings_silent [] = (refl, refl)
+crossings_silent (c ∷ cs) = crossings_silent cs
+
+notices_told : (n : ℕ) (ts : List Told) (rs : List Reported) → notices_of (told_in_turn n ts rs) ≡ ts
+notices_told n ts [] = notices_again ts
+notices_told n ts (r ∷ rs) =
+    let later : List Shown = told_in_turn (max n r.notices) (drop (r.notices - n) ts) rs in
+    notices_of-append (shown_notices (take (r.notices - n) ts)) (Said r ∷ later)
+    ∙ ap (λ xs. xs ++ notices_of later) (notices_again (take (r.notices - n) ts))
+    ∙ ap (λ xs. take (r.notices - n) ts ++ xs) (notices_told (max n r.notices) (drop (r.notices - n) ts) rs)
+    ∙ take-append-drop (r.notices - n) ts
+
+reports_told : (n : ℕ) (ts : List Told) (rs : List Reported) → reports_of (told_in_turn n ts rs) ≡ rs
+reports_told n ts [] = no_report ts
+reports_told n ts (r ∷ rs) =
+    let later : List Shown = told_in_turn (max n r.notices) (drop (r.notices - n) ts) rs in
+    reports_of-append (shown_notices (take (r.notices - n) ts)) (Said r ∷ later)
+    ∙ ap (λ xs. xs ++ r ∷ reports_of later) (no_report (take (r.notices - n) ts))
+    ∙ ap (λ xs. r ∷ xs) (reports_told (max n r.notices) (drop (r.notices - n) ts) rs)
+
+one_notice : (s : Shown) (xs ys : List Shown) → notices_of xs ≡ notices_of ys → notices_of (s ∷ xs) ≡ notices_of (s ∷ ys)
+one_notice (Crossed c) xs ys e = e
+one_notice (Noticed t) xs ys e = ap (λ ts. t ∷ ts) e
+one_notice (Said r) xs ys e = e
+one_notice (Refused f) xs ys e = e
+
+one_report : (s : Shown) (xs ys : List Shown) → reports_of xs ≡ reports_of ys → reports_of (s ∷ xs) ≡ reports_of (s ∷ ys)
+one_report (Crossed c) xs ys e = e
+one_report (Noticed t) xs ys e = e
+one_report (Said r) xs ys e = ap (λ rs. r ∷ rs) e
+one_report (Refused f) xs ys e = e
+
+notices_among : (before : ℕ) (cs : List Crossing) (xs : List Shown) → notices_of (shown_in_turn before cs xs) ≡ notices_of xs
+notices_among before cs [] = (crossings_silent cs).0
+notices_among before cs (s ∷ xs) =
+    let later : List Shown = shown_in_turn (max before (place_of s)) (drop (place_of s - before) cs) xs in
+    notices_of-append (shown_crossings (take (place_of s - before) cs)) (s ∷ later)
+    ∙ ap (λ ts. ts ++ notices_of (s ∷ later)) (crossings_silent (take (place_of s - before) cs)).0
+    ∙ one_notice s later xs (notices_among (max before (place_of s)) (drop (place_of s - before) cs) xs)
+
+reports_among : (before : ℕ) (cs : List Crossing) (xs : List Shown) → reports_of (shown_in_turn before cs xs) ≡ reports_of xs
+reports_among before cs [] = (crossings_silent cs).1
+reports_among before cs (s ∷ xs) =
+    let later : List Shown = shown_in_turn (max before (place_of s)) (drop (place_of s - before) cs) xs in
+    reports_of-append (shown_crossings (take (place_of s - before) cs)) (s ∷ later)
+    ∙ ap (λ rs. rs ++ reports_of (s ∷ later)) (crossings_silent (take (place_of s - before) cs)).1
+    ∙ one_report s later xs (reports_among (max before (place_of s)) (drop (place_of s - before) cs) xs)
+
+pub notices_in_turn : (before n : ℕ) (cs : List Crossing) (ts : List Told) (rs : List Reported) → notices_of (shown_in_turn before cs (told_in_turn n ts rs)) ≡ ts
+notices_in_turn before n cs ts rs = notices_among before cs (told_in_turn n ts rs) ∙ notices_told n ts rs
+
+pub reports_in_turn : (before n : ℕ) (cs : List Crossing) (ts : List Told) (rs : List Reported) → reports_of (shown_in_turn before cs (told_in_turn n ts rs)) ≡ rs
+reports_in_turn before n cs ts rs = reports_among before cs (told_in_turn n ts rs) ∙ reports_told n ts rs
 
 -- ---- what a book gains later is shown later
 

@@ -36,6 +36,22 @@ crossings_of (Noticed t ∷ shown) = crossings_of shown
 crossings_of (Said r ∷ shown) = crossings_of shown
 crossings_of (Refused f ∷ shown) = crossings_of shown
 
+-- what users were told
+abbrev pub notices_of : List Shown → List Told
+notices_of [] = []
+notices_of (Crossed c ∷ shown) = notices_of shown
+notices_of (Noticed t ∷ shown) = t ∷ notices_of shown
+notices_of (Said r ∷ shown) = notices_of shown
+notices_of (Refused f ∷ shown) = notices_of shown
+
+-- what services reported
+abbrev pub reports_of : List Shown → List Reported
+reports_of [] = []
+reports_of (Crossed c ∷ shown) = reports_of shown
+reports_of (Noticed t ∷ shown) = reports_of shown
+reports_of (Said r ∷ shown) = r ∷ reports_of shown
+reports_of (Refused f ∷ shown) = reports_of shown
+
 -- some lines were written, and this holds of them
 abbrev pub Writes : Detail → (List Shown → Type 0) → Option (List ℕ) → Option (List ℕ) → Type 0
 Writes detail IsShown before after = WritesLines (shown_text detail) IsShown before after

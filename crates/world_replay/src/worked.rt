@@ -13,7 +13,7 @@ ghost use Rattle.host_pairs.specs.declared.notice.Notice.TheVariants as notice;
 ghost use Rattle.host_services.specs.declared.report.Report.TheVariants as report;
 ghost use Rattle.icp.specs.declared.outcome.Failure.TheVariants as failure;
 ghost use Rattle.icp.specs.declared.outcome.Outcome.TheVariants as outcome;
-ghost use Rattle.world_replay.specs.Output.{Crossed, Noticed, Said, Shown, lives_output, shown_in_turn, told_in_turn};
+ghost use Rattle.world_replay.specs.Output.{Crossed, Noticed, Refused, Said, Shown, lives_output, notices_of, reports_of, shown_in_turn, told_in_turn};
 ghost use Rattle.world_replay.specs.Printed.{life_text, notice_text, refusal_text, report_text};
 ghost use Rattle.world_replay.specs.Replay.{MayDo};
 ghost use Rattle.world_replay.specs.Worked.{after, came, counting, went, said_at, told_at};
@@ -93,6 +93,10 @@ pub fn worked_news()
 
     // a service that fails as it begins
     ensures begun { shown_in_turn 5 [] (told_in_turn 3 [] (said_at 3 ∷ [])) ≡ Said (said_at 3) ∷ [] }
+
+    // what users were told and what services reported, among the other lines
+    ensures notices { notices_of (Crossed went ∷ Noticed (told_at 1) ∷ Said (said_at 4) ∷ Refused (Carrier fault.NoSuch) ∷ Noticed (told_at 2) ∷ []) ≡ told_at 1 ∷ told_at 2 ∷ [] }
+    ensures reports { reports_of (Said (said_at 5) ∷ Crossed went ∷ Noticed (told_at 1) ∷ Said (said_at 4) ∷ []) ≡ said_at 5 ∷ said_at 4 ∷ [] }
 {}
 
 /// What a world may have done where a write failed, and what not, over a carrier that counts its calls.

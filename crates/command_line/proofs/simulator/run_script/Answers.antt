@@ -3,14 +3,8 @@ use Rattle.replay.proofs.lemmas.{on_ok}
 use Rattle.command_line.specs.Events.{asked_of}
 use Rattle.command_line.specs.Input.{IsInput}
 use Rattle.command_line.proofs.Faults.{known_read}
-use Rattle.command_line.proofs.Written.{known_replayed, known_stopped, nothing_ran, ran, ran_in_part}
+use Rattle.command_line.proofs.Written.{known_replayed, known_stopped, ran, ran_in_part}
 use Rattle.command_line.proofs.simulator.run_script.Goals as goal
-
-pub returns-in_err-octets-clause-ran_in_part : goal.returns-in_err-octets-clause-ran_in_part
-returns-in_err-octets-clause-ran_in_part g c = λ e. nothing_ran c.args.detail (g.W.Output.contents c.args.writer.now)
-
-pub returns-in_err-network-clause-ran_in_part : goal.returns-in_err-network-clause-ran_in_part
-returns-in_err-network-clause-ran_in_part g c = λ e. nothing_ran c.args.detail (g.W.Output.contents c.args.writer.now)
 
 pub returns-clause-read : goal.returns-clause-read
 returns-clause-read g c = λ whole.
