@@ -230,17 +230,17 @@ reports_told n ts (r ∷ rs) =
     ∙ ap (λ xs. xs ++ r ∷ reports_of later) (no_report (take (r.notices - n) ts))
     ∙ ap (λ xs. r ∷ xs) (reports_told (max n r.notices) (drop (r.notices - n) ts) rs)
 
-one_notice : (s : Shown) (xs ys : List Shown) → notices_of xs ≡ notices_of ys → notices_of (s ∷ xs) ≡ notices_of (s ∷ ys)
-one_notice (Crossed c) xs ys e = e
-one_notice (Noticed t) xs ys e = ap (λ ts. t ∷ ts) e
-one_notice (Said r) xs ys e = e
-one_notice (Refused f) xs ys e = e
+notices_behind : (s : Shown) (xs ys : List Shown) → notices_of xs ≡ notices_of ys → notices_of (s ∷ xs) ≡ notices_of (s ∷ ys)
+notices_behind (Crossed c) xs ys e = e
+notices_behind (Noticed t) xs ys e = ap (λ ts. t ∷ ts) e
+notices_behind (Said r) xs ys e = e
+notices_behind (Refused f) xs ys e = e
 
-one_report : (s : Shown) (xs ys : List Shown) → reports_of xs ≡ reports_of ys → reports_of (s ∷ xs) ≡ reports_of (s ∷ ys)
-one_report (Crossed c) xs ys e = e
-one_report (Noticed t) xs ys e = e
-one_report (Said r) xs ys e = ap (λ rs. r ∷ rs) e
-one_report (Refused f) xs ys e = e
+reports_behind : (s : Shown) (xs ys : List Shown) → reports_of xs ≡ reports_of ys → reports_of (s ∷ xs) ≡ reports_of (s ∷ ys)
+reports_behind (Crossed c) xs ys e = e
+reports_behind (Noticed t) xs ys e = e
+reports_behind (Said r) xs ys e = ap (λ rs. r ∷ rs) e
+reports_behind (Refused f) xs ys e = e
 
 notices_among : (before : ℕ) (cs : List Crossing) (xs : List Shown) → notices_of (shown_in_turn before cs xs) ≡ notices_of xs
 notices_among before cs [] = (crossings_silent cs).0
@@ -248,7 +248,7 @@ notices_among before cs (s ∷ xs) =
     let later : List Shown = shown_in_turn (max before (place_of s)) (drop (place_of s - before) cs) xs in
     notices_of-append (shown_crossings (take (place_of s - before) cs)) (s ∷ later)
     ∙ ap (λ ts. ts ++ notices_of (s ∷ later)) (crossings_silent (take (place_of s - before) cs)).0
-    ∙ one_notice s later xs (notices_among (max before (place_of s)) (drop (place_of s - before) cs) xs)
+    ∙ notices_behind s later xs (notices_among (max before (place_of s)) (drop (place_of s - before) cs) xs)
 
 reports_among : (before : ℕ) (cs : List Crossing) (xs : List Shown) → reports_of (shown_in_turn before cs xs) ≡ reports_of xs
 reports_among before cs [] = (crossings_silent cs).1
@@ -256,7 +256,7 @@ reports_among before cs (s ∷ xs) =
     let later : List Shown = shown_in_turn (max before (place_of s)) (drop (place_of s - before) cs) xs in
     reports_of-append (shown_crossings (take (place_of s - before) cs)) (s ∷ later)
     ∙ ap (λ rs. rs ++ reports_of (s ∷ later)) (crossings_silent (take (place_of s - before) cs)).1
-    ∙ one_report s later xs (reports_among (max before (place_of s)) (drop (place_of s - before) cs) xs)
+    ∙ reports_behind s later xs (reports_among (max before (place_of s)) (drop (place_of s - before) cs) xs)
 
 pub notices_in_turn : (before n : ℕ) (cs : List Crossing) (ts : List Told) (rs : List Reported) → notices_of (shown_in_turn before cs (told_in_turn n ts rs)) ≡ ts
 notices_in_turn before n cs ts rs = notices_among before cs (told_in_turn n ts rs) ∙ notices_told n ts rs
