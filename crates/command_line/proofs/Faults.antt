@@ -1,5 +1,5 @@
 -- Why octets are no input.
-use Rattle.std.proofs.Common.{◌≡◌, ◌<◌, Bool, true, false, List, ℕ, length, IsUtf8, Option, Some, None, IfSome, Result, Ok, Err, IfErr, MatchResult, inl, inr, refl, subst, sym, ◌∙◌}
+use Rattle.std.proofs.Common.{◌≡◌, ◌<◌, ◌↔◌, Bool, true, false, List, ℕ, length, IsUtf8, Option, Some, None, IfSome, Result, Ok, Err, IfErr, MatchResult, ap, inl, inr, refl, subst, sym, ◌∙◌}
 use Rattle.std.proofs.lemmas.Bool.{false≢true}
 use Rattle.script.specs.Input.{IsParted}
 use Rattle.topology.specs.Topology.{TopologyFields}
@@ -7,6 +7,7 @@ use Rattle.command_line.specs.Described.{Describes}
 use Rattle.command_line.specs.Events.{Asked}
 use Rattle.command_line.specs.Input.{IsInput, IsInputFault, IsSomeInput}
 use Rattle.command_line.specs.Steps.{IsNetworkFault, IsReadFault, IsReplayFault}
+use Rattle.replay.specs.Failing.{TellsCannotWrite}
 use Rattle.replay.specs.declared.events.ReplayFault.{ReplayFault}
 use Rattle.replay.specs.declared.events.ReplayFault.TheVariants as replay
 use Rattle.command_line.specs.Faults.{told_as}
@@ -55,3 +56,11 @@ ends_with f = Err f
 pub told_memory : (f : ReplayFault) (g : ScriptFault) → g ≡ told_as f → ends_with g ≡ ends_with fault.OutOfMemory → f ≡ replay.OutOfMemory
 told_memory replay.OutOfMemory g told is = refl
 told_memory replay.CannotWrite g told is = cc
+
+abbrev fails_with : ReplayFault → Result (Unit {0}) ReplayFault
+fails_with f = Err f
+
+-- only a failed write is told as a failed write
+pub told_write : (f : ReplayFault) (g : ScriptFault) (failed : Bool) → g ≡ told_as f → TellsCannotWrite (fails_with f) failed → (ends_with g ≡ ends_with fault.CannotWrite) ↔ (failed ≡ true)
+told_write replay.OutOfMemory g failed told h = ((λ e. cc), (λ e. absurd (false≢true (sym h ∙ e))))
+told_write replay.CannotWrite g failed told h = ((λ e. h), (λ e. ap ends_with told))

@@ -1,6 +1,6 @@
 use Rattle.std.proofs.Common.{Err, ap}
 use Rattle.replay.specs.Replay.{Calls}
-use Rattle.command_line.proofs.Faults.{told_memory}
+use Rattle.command_line.proofs.Faults.{told_memory, told_write}
 use Rattle.command_line.proofs.Written.{writes_all, writes_part}
 use Rattle.command_line.proofs.carriers.replay_raw.Goals as goal
 
@@ -15,3 +15,6 @@ returns-clause-stopped g c = λ e.
     let calls : Calls g.row.C.Denot = record { seen = g.C.Carrier.seen; offers = g.C.Carrier.offers; takes = g.C.Carrier.takes; steps = g.C.Carrier.steps; rounds = g.C.Carrier.rounds } in
     writes_part calls c.args.carrier c.replay_events.new.carrier c.args.events.now c.args.detail (g.W.Output.contents c.args.writer.now) (g.W.Output.contents c.replay_events.new.writer)
     c.requires.unused (c.in-Err.ensures.memory (ap Err (told_memory c.in-Err.fault c.from.result c.from.ensures e))) c.in-Err.ensures.messages
+
+pub returns-clause-failed : goal.returns-clause-failed
+returns-clause-failed g c = told_write c.in-Err.fault c.from.result (g.W.Output.failed c.replay_events.new.writer) c.from.ensures c.in-Err.ensures.failed

@@ -1,7 +1,7 @@
 use Rattle.std.proofs.Common.{Err, ap, inr, ◌∙◌}
 use Rattle.net_sim.specs.Book.{Kept}
 use Rattle.replay.specs.Replay.{Calls}
-use Rattle.command_line.proofs.Faults.{told_memory}
+use Rattle.command_line.proofs.Faults.{told_memory, told_write}
 use Rattle.command_line.proofs.Written.{world_writes_all, world_writes_part}
 use Rattle.command_line.proofs.carriers.replay_world.Goals as goal
 
@@ -19,3 +19,6 @@ returns-clause-stopped g c = λ e.
     let calls : Calls g.row.C.Denot = record { seen = g.C.Carrier.seen; offers = g.C.Carrier.offers; takes = g.C.Carrier.takes; steps = g.C.Carrier.steps; rounds = g.C.Carrier.rounds } in
     inr (world_writes_part calls c.args.carrier c.in_ok-world.world c.replay_events-outcome.new.world c.args.events.items c.args.detail (g.W.Output.contents c.args.writer.now) (g.W.Output.contents c.replay_events-outcome.new.writer)
     c.in_ok-world.ensures (c.replay_events-outcome.ensures.memory (c.in-Err.is ∙ ap Err (told_memory c.in-Err.fault c.from.result c.from.ensures e))) c.book_of-kept.ensures.promise)
+
+pub returns-clause-failed : goal.returns-clause-failed
+returns-clause-failed g c = told_write c.in-Err.fault c.from.result (g.W.Output.failed c.replay_events-outcome.new.writer) c.from.ensures (rw c.in-Err.is at c.replay_events-outcome.ensures.failed)
