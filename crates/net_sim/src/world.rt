@@ -11,6 +11,7 @@ ghost use Rattle.net_sim.specs.Inside.Parts.{IsOnce, hosts_of};
 ghost use Rattle.net_sim.specs.World as world;
 ghost use Rattle.net_sim.specs.World.{opening_world, StepGives, RunGives};
 
+use crate::bit_log::BitLog;
 use crate::book::Book;
 use crate::events::{follow, is_named};
 use crate::seat::{Seat, ServiceSeat, opening_seats, opening_services};
@@ -77,6 +78,13 @@ impl<C: Carrier> World<C> {
         ensures messages { SafeMessages self.now.kept.book.crossings }
     {
         &self.book
+    }
+
+    /// What was handed over to be sent, a list of bits for each life, in the order in which the book has the lives. For a receiving life it is empty.
+    pub fn handed(&self) -> &[BitLog]
+        ensures { result.now ≡ self.now.kept.handed }
+    {
+        self.book.handed()
     }
 
     /// The hosts with their programs, in the carrier's order.
