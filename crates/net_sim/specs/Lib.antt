@@ -3,6 +3,7 @@ pub mod Book
 pub mod Safe
 pub mod Formed
 pub mod Audit
+pub mod Handed
 pub mod World
 pub mod Carriers
 pub mod Worked

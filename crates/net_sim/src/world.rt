@@ -6,6 +6,7 @@ ghost use Rattle.leader1822.specs.Host.{Host, IsAddress};
 ghost use Rattle.leader1822.specs.Messages.{SafeMessages};
 ghost use Rattle.net_sim.specs.Carriers.{shown};
 ghost use Rattle.net_sim.specs.Clean.{IsLawful};
+ghost use Rattle.net_sim.specs.Handed.{AreUnhanded};
 ghost use Rattle.net_sim.specs.Inside.Parts as parts;
 ghost use Rattle.net_sim.specs.Inside.Parts.{IsOnce, hosts_of};
 ghost use Rattle.net_sim.specs.World as world;
@@ -82,9 +83,10 @@ impl<C: Carrier> World<C> {
 
     /// What was handed over to be sent, a list of bits for each life, in the order in which the book has the lives. For a receiving life it is empty.
     pub fn handed(&self) -> &[BitLog]
-        ensures { result.now ≡ self.now.kept.handed }
+        ensures value { result.now ≡ self.now.kept.handed }
+        ensures empty { AreUnhanded self.now.kept.book.lives self.now.kept.handed }
     {
-        self.book.handed()
+        self.book().handed()
     }
 
     /// The hosts with their programs, in the carrier's order.
