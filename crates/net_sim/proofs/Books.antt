@@ -16,4 +16,5 @@ pub mod SafeRow
 pub mod Undoing
 pub mod Unsafe
 pub mod UnsafeEnded
+pub mod Unhanded
 pub mod Whole

@@ -1,4 +1,5 @@
 pub mod Books
 pub mod Resets
 pub mod Hosts
+pub mod Audits
 pub mod lemmas

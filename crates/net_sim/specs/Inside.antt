@@ -7,3 +7,4 @@ pub mod Parts
 pub mod Held
 pub mod Calm
 pub mod Undo
+pub mod Audit

@@ -2,6 +2,8 @@ pub mod Projection
 pub mod Book
 pub mod Safe
 pub mod Formed
+pub mod Audit
+pub mod Handed
 pub mod World
 pub mod Carriers
 pub mod Worked

@@ -38,6 +38,14 @@ impl BitLog {
         }
     }
 
+    /// These bits.
+    pub fn from_bits(alloc: Global, bits: Bits) -> BitLog
+        ensures { result ≡ bits }
+    {
+        let len = bits.len();
+        BitLog { bits, len, alloc }
+    }
+
     /// How many bits there are.
     pub fn len(&self) -> usize
         ensures { result ≡ length self.now }

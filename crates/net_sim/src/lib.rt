@@ -11,6 +11,7 @@
 #![tactic(auto)]
 
 mod asking;
+mod auditing;
 mod bit_log;
 mod book;
 mod calm;
@@ -29,6 +30,7 @@ pub mod worked_reports;
 pub mod worked_resets;
 mod world;
 
+pub use auditing::{Audit, Part, audit};
 pub use bit_log::BitLog;
 pub use book::{Book, Called, Told};
 pub use event::{Event, WorldFault};

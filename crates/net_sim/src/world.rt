@@ -6,11 +6,13 @@ ghost use Rattle.leader1822.specs.Host.{Host, IsAddress};
 ghost use Rattle.leader1822.specs.Messages.{SafeMessages};
 ghost use Rattle.net_sim.specs.Carriers.{shown};
 ghost use Rattle.net_sim.specs.Clean.{IsLawful};
+ghost use Rattle.net_sim.specs.Handed.{AreUnhanded};
 ghost use Rattle.net_sim.specs.Inside.Parts as parts;
 ghost use Rattle.net_sim.specs.Inside.Parts.{IsOnce, hosts_of};
 ghost use Rattle.net_sim.specs.World as world;
 ghost use Rattle.net_sim.specs.World.{opening_world, StepGives, RunGives};
 
+use crate::bit_log::BitLog;
 use crate::book::Book;
 use crate::events::{follow, is_named};
 use crate::seat::{Seat, ServiceSeat, opening_seats, opening_services};
@@ -77,6 +79,14 @@ impl<C: Carrier> World<C> {
         ensures messages { SafeMessages self.now.kept.book.crossings }
     {
         &self.book
+    }
+
+    /// What was handed over to be sent, a list of bits for each life, in the order in which the book has the lives. For a receiving life it is empty.
+    pub fn handed(&self) -> &[BitLog]
+        ensures value { result.now ≡ self.now.kept.handed }
+        ensures empty { AreUnhanded self.now.kept.book.lives self.now.kept.handed }
+    {
+        self.book().handed()
     }
 
     /// The hosts with their programs, in the carrier's order.

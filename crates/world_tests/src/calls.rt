@@ -59,6 +59,19 @@ fn events(alloc: Global, script: &str) -> Option<Vec<Event>> {
     Some(events)
 }
 
+/// A host at this IMP.
+pub(crate) fn host(imp: u8) -> HostAddr {
+    if imp == 1 { first() } else { second() }
+}
+
+/// A world after the events of a script and a quiet round. `None` where the script is bad or memory runs out.
+pub(crate) fn happened(alloc: Global, script: &str) -> Option<World<PlainBoxes>> {
+    let events = events(alloc, script)?;
+    let mut world = world(alloc).ok()?;
+    world.run(&events).ok()?;
+    Some(world)
+}
+
 /// How the events of a script and a quiet round happen.
 #[derive(Clone, Copy)]
 enum Way {

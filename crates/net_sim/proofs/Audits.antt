@@ -1,0 +1,11 @@
+-- What an audit tests: that each test is true exactly where that holds of which it is. Main lemmas: Messages `messages_decide`, Partners
+-- `partners_decide`, Streams `streams_decide`, Grants `grants_decide`, Stamps `stamps_decide`, and Judged `judged_says`.
+pub mod Steps
+pub mod Elements
+pub mod Messages
+pub mod Requests
+pub mod Partners
+pub mod Streams
+pub mod Grants
+pub mod Stamps
+pub mod Judged

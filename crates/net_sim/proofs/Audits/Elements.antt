@@ -1,0 +1,124 @@
+-- Tests of each and of some element of a list, and two of its elements.
+use Rattle.std.proofs.Common.{◌≡◌, ℕ, zero, suc, ◌+◌, ◌-◌, ◌<◌, ◌≤◌, Bool, true, false, ◌&&◌, ◌||◌, ◌==◌, not, List, [], ◌∷◌, ◌++◌, length, take, drop, get_or, reverse, refl, ap, sym, subst, ◌∙◌, if◌then◌else◌, arith, inl, inr, ◌⊎◌, Option, Some, None, eq-eqb}
+use Rattle.std.specs.List.{list_all, list_any, Contains, slice_index_or}
+use Rattle.std.proofs.lemmas.List.{take_all}
+use Rattle.std.proofs.lemmas.List.Folds.{list_all_more, list_any_more, list_all_at, list_any_at}
+use Rattle.leader1822.proofs.lemmas.{and_true}
+
+-- ---- chains of tests
+
+pub and_is : (a b : Bool) → a ≡ true → b ≡ true → (a && b) ≡ true
+and_is true b e f = f
+and_is false b e f = e
+
+pub or_cases : (a b : Bool) → (a || b) ≡ true → (a ≡ true) ⊎ (b ≡ true)
+or_cases true b h = inl refl
+or_cases false b h = inr h
+
+pub or_left : (a b : Bool) → a ≡ true → (a || b) ≡ true
+or_left true b e = refl
+or_left false b e = absurd (cc)
+
+pub or_right : (a b : Bool) → b ≡ true → (a || b) ≡ true
+or_right true b e = refl
+or_right false b e = e
+
+-- a test that is asked only where another holds
+pub when_true : (a b : Bool) → (not a || b) ≡ true → a ≡ true → b ≡ true
+when_true true b h e = h
+when_true false b h e = absurd (cc)
+
+pub when_is : (a b : Bool) → (a ≡ true → b ≡ true) → (not a || b) ≡ true
+when_is true b f = f refl
+when_is false b f = refl
+
+pub not_true : (a : Bool) → not a ≡ true → a ≡ true → ⊥
+not_true true h e = absurd (cc)
+not_true false h e = absurd (cc)
+
+pub not_is : (a : Bool) → (a ≡ true → ⊥) → not a ≡ true
+not_is true f = absurd (f refl)
+not_is false f = refl
+
+pub false_not : (a : Bool) → a ≡ false → a ≡ true → ⊥
+false_not true h e = absurd (cc)
+false_not false h e = absurd (cc)
+
+pub is_false : (a : Bool) → (a ≡ true → ⊥) → a ≡ false
+is_false true f = absurd (f refl)
+is_false false f = refl
+
+-- ---- elements
+
+pub contains_head : {X : Type 0} (x : X) (xs : List X) → Contains (x ∷ xs) x
+contains_head x xs = (0, omega arith, refl)
+
+pub contains_tail : {X : Type 0} (x : X) (xs : List X) (y : X) → Contains xs y → Contains (x ∷ xs) y
+contains_tail x xs y (k, h, e) = (suc k, omega arith, e)
+
+cases_at : {X : Type 0} (y : X) (xs : List X) (x : X) (k : ℕ) → k < length (y ∷ xs) → slice_index_or (y ∷ xs) k x ≡ x → (y ≡ x) ⊎ Contains xs x
+cases_at y xs x zero h e = inl e
+cases_at y xs x (suc k) h e = inr (k, omega arith, e)
+
+pub contains_cases : {X : Type 0} (y : X) (xs : List X) (x : X) → Contains (y ∷ xs) x → (y ≡ x) ⊎ Contains xs x
+contains_cases y xs x (k, h, e) = cases_at y xs x k h e
+
+pub contains_none : {X : Type 0} (x : X) → Contains [] x → ⊥
+contains_none x (k, h, e) = omega arith
+
+pub contains_split : {X : Type 0} (xs : List X) (y : X) → Contains xs y → (between : List X) × (rest : List X) × (xs ≡ between ++ y ∷ rest)
+contains_split [] y c = absurd (contains_none y c)
+contains_split {X} (x ∷ xs) y c = elim (contains_cases x xs y c) [
+  | inl e ↦ ([], xs, ap (λ (z : X). z ∷ xs) e)
+  | inr d ↦ (let s = contains_split xs y d in (x ∷ s.0, s.1, ap (λ (zs : List X). x ∷ zs) s.2))
+]
+
+pub all_at : {X : Type 0} (test : X → Bool) (xs : List X) → list_all test xs ≡ true → (x : X) → Contains xs x → test x ≡ true
+all_at test [] h x c = absurd (contains_none x c)
+all_at {X} test (y ∷ xs) h x c =
+    let t = and_true (test y) (list_all test xs) h in
+    elim (contains_cases y xs x c) [
+      | inl e ↦ subst (λ (z : X). test z ≡ true) e t.0
+      | inr d ↦ all_at test xs t.1 x d
+    ]
+
+pub all_from : {X : Type 0} (test : X → Bool) (xs : List X) → ((x : X) → Contains xs x → test x ≡ true) → list_all test xs ≡ true
+all_from test [] f = refl
+all_from test (y ∷ xs) f = and_is (test y) (list_all test xs) (f y (contains_head y xs)) (all_from test xs (λ x c. f x (contains_tail y xs x c)))
+
+pub any_at : {X : Type 0} (test : X → Bool) (xs : List X) → list_any test xs ≡ true → (x : X) × Contains xs x × (test x ≡ true)
+any_at test [] h = absurd (cc)
+any_at test (y ∷ xs) h = elim (or_cases (test y) (list_any test xs) h) [
+  | inl e ↦ (y, contains_head y xs, e)
+  | inr r ↦ (let t = any_at test xs r in (t.0, contains_tail y xs t.0 t.1, t.2))
+]
+
+pub any_from : {X : Type 0} (test : X → Bool) (xs : List X) (x : X) → Contains xs x → test x ≡ true → list_any test xs ≡ true
+any_from test [] x c e = absurd (contains_none x c)
+any_from {X} test (y ∷ xs) x c e = elim (contains_cases y xs x c) [
+  | inl s ↦ or_left (test y) (list_any test xs) (subst (λ (z : X). test z ≡ true) (sym s) e)
+  | inr d ↦ or_right (test y) (list_any test xs) (any_from test xs x d e)
+]
+
+-- ---- loops
+
+pub all_more : {X : Type 0} (test : X → Bool) (xs : List X) (i : ℕ) (x : X) → i < length xs → x ≡ get_or xs i x → test x ≡ true → list_all test (take i xs) ≡ true → list_all test (take (i + 1) xs) ≡ true
+all_more {X} test xs i x lt at e h =
+    list_all_more test xs i x lt ∙ and_is (list_all test (take i xs)) (test (get_or xs i x)) h (subst (λ (z : X). test z ≡ true) at e)
+
+pub all_stops : {X : Type 0} (test : X → Bool) (xs : List X) (i : ℕ) (x : X) → i < length xs → x ≡ get_or xs i x → test x ≡ false → false ≡ list_all test xs
+all_stops {X} test xs i x lt at e = sym (list_all_at test xs i x lt (subst (λ (z : X). test z ≡ false) at e))
+
+pub all_whole : {X : Type 0} (test : X → Bool) (xs : List X) (i : ℕ) → length xs ≤ i → list_all test (take i xs) ≡ true → true ≡ list_all test xs
+all_whole {X} test xs i past h = sym (subst (λ (zs : List X). list_all test zs ≡ true) (take_all i xs past) h)
+
+pub any_more : {X : Type 0} (test : X → Bool) (xs : List X) (i : ℕ) (x : X) → i < length xs → x ≡ get_or xs i x → test x ≡ false → list_any test (take i xs) ≡ false → list_any test (take (i + 1) xs) ≡ false
+any_more {X} test xs i x lt at e h =
+    let f : test (get_or xs i x) ≡ false = subst (λ (z : X). test z ≡ false) at e in
+    list_any_more test xs i x lt ∙ (rw (h, f) refl)
+
+pub any_stops : {X : Type 0} (test : X → Bool) (xs : List X) (i : ℕ) (x : X) → i < length xs → x ≡ get_or xs i x → test x ≡ true → true ≡ list_any test xs
+any_stops {X} test xs i x lt at e = sym (list_any_at test xs i x lt (subst (λ (z : X). test z ≡ true) at e))
+
+pub any_whole : {X : Type 0} (test : X → Bool) (xs : List X) (i : ℕ) → length xs ≤ i → list_any test (take i xs) ≡ false → false ≡ list_any test xs
+any_whole {X} test xs i past h = sym (subst (λ (zs : List X). list_any test zs ≡ false) (take_all i xs past) h)

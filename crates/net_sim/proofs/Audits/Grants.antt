@@ -1,0 +1,55 @@
+-- The test of grants is true exactly where they are safe.
+use Rattle.std.proofs.Common.{◌≡◌, ℕ, ◌+◌, ◌-◌, ◌<◌, ◌≤◌, Bool, true, false, ◌&&◌, ◌||◌, ◌==◌, not, List, [], ◌∷◌, ◌++◌, length, take, drop, get_or, reverse, refl, ap, sym, subst, ◌∙◌, if◌then◌else◌, arith, inl, inr, ◌⊎◌, Option, Some, None, eq-eqb}
+use Rattle.std.specs.Prelude.{nat_le}
+use Rattle.std.specs.List.{list_all, Contains}
+use Rattle.std.proofs.lemmas.Bool.{leb-true, le-leb}
+use Rattle.leader1822.specs.declared.crossing.Crossing.{Crossing}
+use Rattle.leader1822.proofs.lemmas.{and_true}
+use Rattle.net_sim.specs.Book.{Life}
+use Rattle.net_sim.specs.Inside.Audit.{asked_at, is_match, is_granted, may_send, has_granted, grants_hold}
+use Rattle.net_sim.specs.Safe.{SafeGrants, IsGranted, Match, receives}
+use Rattle.net_sim.proofs.Audits.Elements.{and_is, when_true, when_is, all_at, all_from}
+use Rattle.net_sim.proofs.Audits.Streams.{match_true, match_is}
+
+granted_true : (x : Life) (count size : ℕ) → is_granted x count size ≡ true → IsGranted x count size
+granted_true x count size h =
+    let t = and_true (nat_le (count + x.returned.messages) x.granted.messages) (nat_le (size + x.returned.bits) x.granted.bits) h in
+    record { messages = leb-true (count + x.returned.messages) x.granted.messages t.0; bits = leb-true (size + x.returned.bits) x.granted.bits t.1 }
+
+granted_is : (x : Life) (count size : ℕ) → IsGranted x count size → is_granted x count size ≡ true
+granted_is x count size g =
+    and_is (nat_le (count + x.returned.messages) x.granted.messages) (nat_le (size + x.returned.bits) x.granted.bits)
+    (le-leb (count + x.returned.messages) x.granted.messages g.messages) (le-leb (size + x.returned.bits) x.granted.bits g.bits)
+
+-- the two parts of what a receiving life granted
+parts : (log : List Crossing) (lives : List Life) → grants_hold log lives ≡ true → (x : Life) → Contains lives x → receives x ≡ true
+    → (is_granted x x.messages (length x.bits) ≡ true) × (list_all (may_send log (asked_at log x) x) lives ≡ true)
+parts log lives h x c r =
+    and_true (is_granted x x.messages (length x.bits)) (list_all (may_send log (asked_at log x) x) lives)
+    (when_true (receives x) (is_granted x x.messages (length x.bits) && list_all (may_send log (asked_at log x) x) lives) (all_at (has_granted log lives) lives h x c) r)
+
+safe : (log : List Crossing) (lives : List Life) → grants_hold log lives ≡ true → SafeGrants log lives
+safe log lives h = record {
+  taken = λ x c r. granted_true x x.messages (length x.bits) (parts log lives h x c r).0;
+  sent = λ x y c d m.
+      granted_true x y.messages (length y.bits)
+      (when_true (is_match log (asked_at log x) x y) (is_granted x y.messages (length y.bits))
+      (all_at (may_send log (asked_at log x) x) lives (parts log lives h x c m.receiving).1 y d) (match_is log x y m));
+}
+
+holds : (log : List Crossing) (lives : List Life) → SafeGrants log lives → grants_hold log lives ≡ true
+holds log lives s =
+    all_from (has_granted log lives) lives
+    (λ x c.
+    when_is (receives x) (is_granted x x.messages (length x.bits) && list_all (may_send log (asked_at log x) x) lives)
+    (λ r.
+    and_is (is_granted x x.messages (length x.bits)) (list_all (may_send log (asked_at log x) x) lives)
+    (granted_is x x.messages (length x.bits) (s.taken x c r))
+    (all_from (may_send log (asked_at log x) x) lives
+    (λ y d.
+    when_is (is_match log (asked_at log x) x y) (is_granted x y.messages (length y.bits))
+    (λ m. granted_is x y.messages (length y.bits) (s.sent x y c d (match_true log x y m)))))))
+
+-- the test of grants is true exactly where they are safe
+pub grants_decide : (log : List Crossing) (lives : List Life) → (grants_hold log lives ≡ true → SafeGrants log lives) × (SafeGrants log lives → grants_hold log lives ≡ true)
+grants_decide log lives = (safe log lives, holds log lives)

@@ -1,0 +1,176 @@
+-- The test of streams is true exactly where they are safe, in a log with safe partners.
+use Rattle.std.proofs.Common.{◌≡◌, ℕ, zero, suc, add-one, ◌+◌, ◌-◌, ◌<◌, ◌≤◌, Bool, true, false, ◌&&◌, ◌||◌, ◌==◌, not, List, [], ◌∷◌, ◌++◌, length, take, drop, get_or, reverse, refl, ap, sym, subst, ◌∙◌, if◌then◌else◌, arith, inl, inr, ◌⊎◌, Option, Some, None, eq-eqb}
+use Rattle.std.specs.List.{list_all, list_any, Contains, slice_get}
+use Rattle.std.proofs.lemmas.Bool.{eqb-true, cases_lt}
+use Rattle.leader1822.specs.declared.crossing.Crossing.{Crossing}
+use Rattle.leader1822.proofs.lemmas.{and_true}
+use Rattle.net_sim.specs.Book.{Life}
+use Rattle.net_sim.specs.Inside.Audit.{asked_at, is_asked, is_partner, is_match, same_bit, same_found, is_front, is_source, is_fed, is_handed, are_handed, streams_hold}
+use Rattle.net_sim.specs.Safe.{Name, AreTwo, SafePartners, SafeStreams, Match, Source, IsFront, AreHanded, own_request, partner_request, receives, sends}
+use Rattle.net_sim.proofs.Audits.Elements.{and_is, or_cases, or_left, or_right, when_true, when_is, all_at, all_from, any_at, any_from, is_false}
+use Rattle.net_sim.proofs.Audits.Requests.{asks, asks_is, asked_sockets, partner_true, partner_is}
+use Rattle.net_sim.proofs.Audits.Steps.{same_bit-true, same_bit-refl}
+
+-- ---- matches
+
+pub match_true : (log : List Crossing) (x y : Life) → is_match log (asked_at log x) x y ≡ true → Match log x y
+match_true log x y h =
+    let t = and_true (receives x && sends y && is_asked (asked_at log x) x y) (is_partner log x y) h in
+    let u = and_true (receives x && sends y) (is_asked (asked_at log x) x y) t.0 in
+    let v = and_true (receives x) (sends y) u.0 in
+    let p = partner_true log x y t.1 in
+    let a = asked_sockets (asked_at log x) x y u.1 in
+    record {
+      receiving = v.0;
+      sending = v.1;
+      peers = (p.0, p.1);
+      sockets = (a.0, sym a.1);
+      asked = asks log x y u.1;
+      answered = p.2;
+    }
+
+pub match_is : (log : List Crossing) (x y : Life) → Match log x y → is_match log (asked_at log x) x y ≡ true
+match_is log x y m =
+    and_is (receives x && sends y && is_asked (asked_at log x) x y) (is_partner log x y)
+    (and_is (receives x && sends y) (is_asked (asked_at log x) x y) (and_is (receives x) (sends y) m.receiving m.sending) (asks_is log x y m.asked))
+    (partner_is log x y m.peers.0 m.peers.1 m.answered)
+
+-- ---- prefixes
+
+pub front_true : (xs ys : List Bool) → is_front xs ys ≡ true → IsFront xs ys
+front_true [] ys h = (ys, refl)
+front_true (x ∷ xs) [] h = absurd (cc)
+front_true (x ∷ xs) (y ∷ ys) h =
+    let t = and_true (same_bit x y) (is_front xs ys) h in
+    let rest = front_true xs ys t.1 in
+    let e : x ≡ y = same_bit-true x y t.0 in
+    (rest.0, ap (λ (z : Bool). z ∷ xs ++ rest.0) e ∙ ap (λ (zs : List Bool). y ∷ zs) rest.1)
+
+front_append : (xs rest : List Bool) → is_front xs (xs ++ rest) ≡ true
+front_append [] rest = refl
+front_append (x ∷ xs) rest = and_is (same_bit x x) (is_front xs (xs ++ rest)) (same_bit-refl x) (front_append xs rest)
+
+pub front_is : (xs ys : List Bool) → IsFront xs ys → is_front xs ys ≡ true
+front_is xs ys (rest, e) = let P : List Bool → Type 0 = λ z. is_front xs z ≡ true in subst P e (front_append xs rest)
+
+-- one bit more
+get_drop : (xs : List Bool) (i : ℕ) → i < length xs → (x : Bool) × (slice_get xs i ≡ Some x) × (drop i xs ≡ x ∷ drop (suc i) xs)
+get_drop [] i h = absurd (omega arith)
+get_drop (x ∷ xs) zero h = (x, refl, refl)
+get_drop (x ∷ xs) (suc i) h = get_drop xs i (omega arith)
+
+past_drop : (xs : List Bool) (i : ℕ) → length xs ≤ i → (slice_get xs i ≡ None) × (drop i xs ≡ [])
+past_drop [] zero h = (refl, refl)
+past_drop [] (suc i) h = (refl, refl)
+past_drop (x ∷ xs) zero h = absurd (omega arith)
+past_drop (x ∷ xs) (suc i) h = past_drop xs i (omega arith)
+
+front_step : (xs ys : List Bool) (i : ℕ) → i < length xs → is_front (drop i xs) (drop i ys) ≡ (same_found (slice_get xs i) (slice_get ys i) && is_front (drop (suc i) xs) (drop (suc i) ys))
+front_step xs ys i h =
+    let a = get_drop xs i h in
+    elim (cases_lt i (length ys)) [
+      | inl l ↦ (let b = get_drop ys i l in rw (a.1, a.2, b.1, b.2) refl)
+      | inr l ↦ (let b = past_drop ys i l in rw (a.1, a.2, b.0, b.1) refl)
+    ]
+
+pub front_more : (xs ys : List Bool) (i : ℕ) (a b : Option Bool) (r : Bool) → i < length xs → a ≡ slice_get xs i → b ≡ slice_get ys i → r ≡ same_found a b
+    → is_front (drop i xs) (drop i ys) ≡ is_front xs ys → r ≡ true → is_front (drop (i + 1) xs) (drop (i + 1) ys) ≡ is_front xs ys
+front_more xs ys i a b r h p q s e t =
+    let here : same_found (slice_get xs i) (slice_get ys i) ≡ true = rw (← p, ← q) (sym s ∙ t) in
+    let step : is_front (drop i xs) (drop i ys) ≡ (same_found (slice_get xs i) (slice_get ys i) && is_front (drop (suc i) xs) (drop (suc i) ys)) = front_step xs ys i h in
+    let after : is_front (drop i xs) (drop i ys) ≡ is_front (drop (suc i) xs) (drop (suc i) ys) = rw here at step in
+    rw (add-one) (sym after ∙ e)
+
+pub front_stops : (xs ys : List Bool) (i : ℕ) (a b : Option Bool) (r : Bool) → i < length xs → a ≡ slice_get xs i → b ≡ slice_get ys i → r ≡ same_found a b
+    → is_front (drop i xs) (drop i ys) ≡ is_front xs ys → r ≡ false → false ≡ is_front xs ys
+front_stops xs ys i a b r h p q s e t =
+    let here : same_found (slice_get xs i) (slice_get ys i) ≡ false = rw (← p, ← q) (sym s ∙ t) in
+    let step : is_front (drop i xs) (drop i ys) ≡ (same_found (slice_get xs i) (slice_get ys i) && is_front (drop (suc i) xs) (drop (suc i) ys)) = front_step xs ys i h in
+    let after : is_front (drop i xs) (drop i ys) ≡ false = rw here at step in
+    sym after ∙ e
+
+pub front_whole : (xs ys : List Bool) (i : ℕ) → length xs ≤ i → is_front (drop i xs) (drop i ys) ≡ is_front xs ys → true ≡ is_front xs ys
+front_whole xs ys i h e = let d : drop i xs ≡ [] = (past_drop xs i h).1 in rw d at e
+
+-- ---- what was handed over
+
+pub handed_true : (lives : List Life) (handed : List (List Bool)) → are_handed lives handed ≡ true → AreHanded lives handed
+handed_true [] [] h = refl
+handed_true [] (b ∷ handed) h = absurd (cc)
+handed_true (x ∷ lives) [] h = absurd (cc)
+handed_true (x ∷ lives) (b ∷ handed) h =
+    let t = and_true (is_handed x b) (are_handed lives handed) h in
+    (λ s. front_true x.bits b (when_true (sends x) (is_front x.bits b) t.0 s), handed_true lives handed t.1)
+
+pub handed_is : (lives : List Life) (handed : List (List Bool)) → AreHanded lives handed → are_handed lives handed ≡ true
+handed_is [] [] h = refl
+handed_is [] (b ∷ handed) h = absurd (cc)
+handed_is (x ∷ lives) [] h = absurd h
+handed_is (x ∷ lives) (b ∷ handed) (f, rest) =
+    and_is (is_handed x b) (are_handed lives handed) (when_is (sends x) (is_front x.bits b) (λ s. front_is x.bits b (f s))) (handed_is lives handed rest)
+
+-- as many lists as lives
+handed_length : (lives : List Life) (handed : List (List Bool)) → are_handed lives handed ≡ true → length lives ≡ length handed
+handed_length [] [] h = refl
+handed_length [] (b ∷ handed) h = absurd (cc)
+handed_length (x ∷ lives) [] h = absurd (cc)
+handed_length (x ∷ lives) (b ∷ handed) h = let t = handed_length lives handed (and_true (is_handed x b) (are_handed lives handed) h).1 in omega arith
+
+pub handed_apart : (lives : List Life) (handed : List (List Bool)) (m n : ℕ) → m ≡ length lives → n ≡ length handed → (m ≡ n → ⊥) → false ≡ are_handed lives handed
+handed_apart lives handed m n p q apart = sym (is_false (are_handed lives handed) (λ t. apart (p ∙ handed_length lives handed t ∙ sym q)))
+
+-- ---- sources
+
+no_bits : (xs : List Bool) → (length xs == 0) ≡ true → xs ≡ []
+no_bits [] h = refl
+no_bits (x ∷ xs) h = absurd (let e : length (x ∷ xs) ≡ 0 = eqb-true (length (x ∷ xs)) 0 h in omega arith)
+
+fed_true : (log : List Crossing) (lives : List Life) (x : Life) → is_fed log lives x ≡ true → receives x ≡ true → (x.bits ≡ [] → ⊥) → Source log lives x
+fed_true log lives x h r n =
+    let source : list_any (is_source log (asked_at log x) x) lives ≡ true =
+    elim (or_cases (not (receives x) || length x.bits == 0) (list_any (is_source log (asked_at log x) x) lives) h) [
+      | inl a ↦ absurd (n (no_bits x.bits (when_true (receives x) (length x.bits == 0) a r)))
+      | inr b ↦ b
+    ] in
+    let found = any_at (is_source log (asked_at log x) x) lives source in
+    let t = and_true (is_match log (asked_at log x) x found.0) (is_front x.bits found.0.bits) found.2 in
+    record { sender = found.0; there = found.1; matches = match_true log x found.0 t.0; front = front_true x.bits found.0.bits t.1 }
+
+fed_by : (log : List Crossing) (lives : List Life) (x : Life) → Source log lives x → list_any (is_source log (asked_at log x) x) lives ≡ true
+fed_by log lives x s =
+    any_from (is_source log (asked_at log x) x) lives s.sender s.there
+    (and_is (is_match log (asked_at log x) x s.sender) (is_front x.bits s.sender.bits) (match_is log x s.sender s.matches) (front_is x.bits s.sender.bits s.front))
+
+fed_is : (log : List Crossing) (lives : List Life) (x : Life) → (receives x ≡ true → (x.bits ≡ [] → ⊥) → Source log lives x)
+    → (r : Bool) → receives x ≡ r → (e : Bool) → (length x.bits == 0) ≡ e → is_fed log lives x ≡ true
+fed_is log lives x f false p e q = rw p refl
+fed_is log lives x f true p true q = rw (p, q) refl
+fed_is log lives x f true p false q =
+    let some : x.bits ≡ [] → ⊥ = λ k. (let z : (length x.bits == 0) ≡ true = eq-eqb (length x.bits) 0 (ap (λ (zs : List Bool). length zs) k) in absurd (cc)) in
+    or_right (not (receives x) || length x.bits == 0) (list_any (is_source log (asked_at log x) x) lives) (fed_by log lives x (f p some))
+
+-- ---- the streams
+
+-- two own requests that are the partner's request of one life are one
+one_name : (a : Option Name) (m n : Name) → a ≡ Some m → a ≡ Some n → m ≡ n
+one_name a m n e f = let z : Some m ≡ Some n = sym e ∙ f in cc
+
+safe : (log : List Crossing) (lives : List Life) (handed : List (List Bool)) → SafePartners log lives → streams_hold log lives handed ≡ true → SafeStreams log lives handed
+safe log lives handed p h =
+    let t = and_true (list_all (is_fed log lives) lives) (are_handed lives handed) h in
+    record {
+      one = λ receiver x y c two m n. p.own_once x y two (one_name (partner_request log receiver) (own_request x) (own_request y) m.asked n.asked);
+      source = λ receiver c r n. fed_true log lives receiver (all_at (is_fed log lives) lives t.0 receiver c) r n;
+      sent = handed_true lives handed t.1;
+    }
+
+holds : (log : List Crossing) (lives : List Life) (handed : List (List Bool)) → SafeStreams log lives handed → streams_hold log lives handed ≡ true
+holds log lives handed s =
+    and_is (list_all (is_fed log lives) lives) (are_handed lives handed)
+    (all_from (is_fed log lives) lives (λ x c. fed_is log lives x (s.source x c) (receives x) refl (length x.bits == 0) refl))
+    (handed_is lives handed s.sent)
+
+-- the test of streams is true exactly where they are safe
+pub streams_decide : (log : List Crossing) (lives : List Life) (handed : List (List Bool)) → SafePartners log lives
+    → (streams_hold log lives handed ≡ true → SafeStreams log lives handed) × (SafeStreams log lives handed → streams_hold log lives handed ≡ true)
+streams_decide log lives handed p = (safe log lives handed p, holds log lives handed)

@@ -1,0 +1,11 @@
+use Rattle.std.proofs.Common.{◌≡◌, sym, subst, reverse}
+use Rattle.std.specs.Prelude.{◌↔◌}
+use Rattle.net_sim.specs.Audit.{Says}
+use Rattle.net_sim.specs.declared.auditing.said.Audit.{Audit}
+use Rattle.net_sim.proofs.Audits.Judged.{judged_says}
+use Rattle.net_sim.proofs.auditing.audit.Goals as goal
+
+pub returns : goal.returns
+returns c = λ said.
+    let P : Audit → Type 0 = λ a. (a ≡ said) ↔ Says said (reverse c.args.log.now) c.args.lives.now c.args.handed.now in
+    subst P (sym c.judged.ensures) (judged_says (reverse c.args.log.now) c.args.lives.now c.args.handed.now said)

@@ -1,0 +1,128 @@
+//! The requests of lives, and which two are alike.
+
+ghost use Rattle.std.specs.Prelude.{◌≡◌, reverse};
+ghost use Rattle.net_sim.specs.Inside.Audit as tests;
+ghost use Rattle.net_sim.specs.Safe as safe;
+
+use crate::life::Life;
+use leader1822::{Crossing, Flow, HostAddr, Link};
+
+/// The flow of requests from one host to another.
+pub(super) fn control_flow(source: HostAddr, destination: HostAddr) -> Flow
+    ensures { result ≡ safe.control_flow source destination }
+{
+    Flow {
+        source,
+        destination,
+        link: Link(0),
+    }
+}
+
+/// Where the last message of a flow went out.
+fn last_out(flow: Flow, log: &[Crossing]) -> Option<usize>
+    ensures { result ≡ safe.last_out flow (reverse log.now) }
+{
+    let mut at = log.len();
+    'back: while at > 0 {
+        at -= 1;
+        match &log[at] {
+            Crossing::Out(out) if out.flow == flow => return Some(at),
+            _ => {}
+        }
+    }
+    None
+}
+
+/// Where the request of a life's partner went out.
+pub(super) fn asked_at(log: &[Crossing], life: &Life) -> Option<usize>
+    ensures { result ≡ tests.asked_at (reverse log.now) life.now }
+{
+    let flow = control_flow(life.peer, life.host);
+    if life.partner_stamp < log.len() {
+        return last_out(flow, &log[..life.partner_stamp]);
+    }
+    last_out(flow, log)
+}
+
+/// Whether this is the place.
+fn is_place(place: usize, found: Option<usize>) -> bool
+    ensures { result ≡ tests.is_place place found }
+{
+    match found {
+        Some(other) => place == other,
+        None => false,
+    }
+}
+
+/// Whether the two are one place.
+fn same_place(place: Option<usize>, other: Option<usize>) -> bool
+    ensures { result ≡ tests.same_place place other }
+{
+    match place {
+        Some(place) => is_place(place, other),
+        None => false,
+    }
+}
+
+/// Whether the request of a life's partner, which went out at this place, is another's own.
+pub(super) fn is_asked(asked: Option<usize>, x: &Life, y: &Life) -> bool
+    ensures { result ≡ tests.is_asked asked x.now y.now }
+{
+    x.foreign == y.socket && x.socket == y.foreign && is_place(y.own_stamp, asked)
+}
+
+/// Whether two lives have the same own request.
+fn same_own(x: &Life, y: &Life) -> bool
+    ensures { result ≡ tests.same_own x.now y.now }
+{
+    x.own_stamp == y.own_stamp && x.socket == y.socket && x.foreign == y.foreign
+}
+
+/// Whether two lives have the same hosts and sockets.
+fn same_ends(x: &Life, y: &Life) -> bool
+    ensures { result ≡ tests.same_ends x.now y.now }
+{
+    x.socket == y.socket && x.foreign == y.foreign && x.host == y.host && x.peer == y.peer
+}
+
+/// Whether two lives have the same partner's request, where that of the first went out at this place.
+fn same_asked(log: &[Crossing], asked: Option<usize>, x: &Life, y: &Life) -> bool
+    ensures { result ≡ tests.same_asked (reverse log.now) asked x.now y.now }
+{
+    same_ends(x, y) && same_place(asked, asked_at(log, y))
+}
+
+/// Whether two lives have neither request in common.
+pub(super) fn is_apart(log: &[Crossing], asked: Option<usize>, x: &Life, y: &Life) -> bool
+    ensures { result ≡ tests.is_apart (reverse log.now) asked x.now y.now }
+{
+    !same_own(x, y) && !same_asked(log, asked, x, y)
+}
+
+/// Whether two lives are each other's partners, where the request of the first one's partner is the other's own.
+pub(super) fn is_partner(log: &[Crossing], x: &Life, y: &Life) -> bool
+    ensures { result ≡ tests.is_partner (reverse log.now) x.now y.now }
+{
+    x.peer == y.host && y.peer == x.host && is_asked(asked_at(log, y), y, x)
+}
+
+/// Whether a receiving life and a sending one match, where the request of the first one's partner went out at this place.
+pub(super) fn is_match(log: &[Crossing], asked: Option<usize>, x: &Life, y: &Life) -> bool
+    ensures { result ≡ tests.is_match (reverse log.now) asked x.now y.now }
+{
+    receives(x) && sends(y) && is_asked(asked, x, y) && is_partner(log, x, y)
+}
+
+/// Whether a life receives.
+pub(super) fn receives(life: &Life) -> bool
+    ensures { result ≡ safe.receives life.now }
+{
+    life.socket % 2 == 0
+}
+
+/// Whether a life sends.
+pub(super) fn sends(life: &Life) -> bool
+    ensures { result ≡ safe.sends life.now }
+{
+    life.socket % 2 == 1
+}

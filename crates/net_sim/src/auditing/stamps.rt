@@ -1,0 +1,78 @@
+//! Whether the stamps of lives name requests.
+
+ghost use Rattle.std.specs.Prelude.{◌≡◌, reverse};
+ghost use Rattle.std.specs.List.{list_all};
+ghost use Rattle.net_sim.specs.Inside.Audit as tests;
+
+use super::requests::{asked_at, control_flow};
+use crate::bit_log::BitLog;
+use crate::life::Life;
+use leader1822::{Crossing, Flow};
+
+/// Whether this is a message of this flow that went out.
+fn is_out(crossing: &Crossing, flow: Flow) -> bool
+    ensures { result ≡ tests.is_out flow (Some crossing.now) }
+{
+    match crossing {
+        Crossing::Out(message) => flow == message.flow,
+        Crossing::In(_) | Crossing::Answer(..) | Crossing::Down(_) | Crossing::Up(_) => false,
+    }
+}
+
+/// Whether this is a message of this flow that came in.
+fn is_in(crossing: &Crossing, flow: Flow) -> bool
+    ensures { result ≡ tests.is_in flow (Some crossing.now) }
+{
+    match crossing {
+        Crossing::In(message) => flow == message.flow,
+        Crossing::Out(_) | Crossing::Answer(..) | Crossing::Down(_) | Crossing::Up(_) => false,
+    }
+}
+
+/// Whether a message of this flow went out at a place.
+fn went_out(log: &[Crossing], place: usize, flow: Flow) -> bool
+    ensures { result ≡ tests.is_out flow (tests.crossed_at place (reverse log.now)) }
+{
+    if place >= log.len() {
+        return false;
+    }
+    is_out(&log[place], flow)
+}
+
+/// Whether a message of this flow came in at a place.
+fn came_in(log: &[Crossing], place: usize, flow: Flow) -> bool
+    ensures { result ≡ tests.is_in flow (tests.crossed_at place (reverse log.now)) }
+{
+    if place >= log.len() {
+        return false;
+    }
+    is_in(&log[place], flow)
+}
+
+/// Whether the stamps of a life name requests.
+fn is_stamped(log: &[Crossing], x: &Life) -> bool
+    ensures { result ≡ tests.is_stamped (reverse log.now) x.now }
+{
+    went_out(log, x.own_stamp, control_flow(x.host, x.peer))
+        && came_in(log, x.partner_stamp, control_flow(x.peer, x.host))
+        && asked_at(log, x).is_some()
+}
+
+/// Whether the stamps of each life name requests.
+fn are_stamped(log: &[Crossing], lives: &[Life]) -> bool
+    ensures { result ≡ list_all (tests.is_stamped (reverse log.now)) lives.now }
+{
+    for x in lives {
+        if !is_stamped(log, x) {
+            return false;
+        }
+    }
+    true
+}
+
+/// Whether there is one list of bits for each life, and the stamps of each life name requests.
+pub(super) fn are_well_formed(log: &[Crossing], lives: &[Life], handed: &[BitLog]) -> bool
+    ensures { result ≡ tests.is_well_formed (reverse log.now) lives.now handed.now }
+{
+    lives.len() == handed.len() && are_stamped(log, lives)
+}

@@ -1,0 +1,100 @@
+//! Whether what was taken was sent, and what was sent was handed over.
+
+ghost use Rattle.std.specs.Prelude.{◌≡◌, reverse};
+ghost use Rattle.std.specs.List.{list_all, list_any};
+ghost use Rattle.net_sim.specs.Inside.Audit as tests;
+
+use super::requests::{asked_at, is_match, receives, sends};
+use crate::bit_log::BitLog;
+use crate::life::Life;
+use leader1822::Crossing;
+
+/// Whether there are two bits, and they are alike.
+fn same_found(bit: Option<bool>, other: Option<bool>) -> bool
+    ensures { result ≡ tests.same_found bit other }
+{
+    match (bit, other) {
+        (Some(bit), Some(other)) => bit == other,
+        (Some(_), None) | (None, _) => false,
+    }
+}
+
+/// Whether the first list is a prefix of the second.
+fn is_front(bits: &BitLog, other: &BitLog) -> bool
+    ensures { result ≡ tests.is_front bits.now other.now }
+{
+    for i in 0..bits.len() {
+        if !same_found(bits.get(i), other.get(i)) {
+            return false;
+        }
+    }
+    true
+}
+
+/// Whether the second life matches the first, and sent what that one took.
+fn is_source(log: &[Crossing], asked: Option<usize>, x: &Life, y: &Life) -> bool
+    ensures { result ≡ tests.is_source (reverse log.now) asked x.now y.now }
+{
+    is_match(log, asked, x, y) && is_front(&x.bits, &y.bits)
+}
+
+/// Whether a life matches this one, and sent what this one took.
+fn has_source(log: &[Crossing], lives: &[Life], x: &Life) -> bool
+    ensures { result ≡ list_any (tests.is_source (reverse log.now) (tests.asked_at (reverse log.now) x.now) x.now) lives.now }
+{
+    let asked = asked_at(log, x);
+    for y in lives {
+        if is_source(log, asked, x, y) {
+            return true;
+        }
+    }
+    false
+}
+
+/// Whether a life took nothing, or what the one that it matches sent.
+fn is_fed(log: &[Crossing], lives: &[Life], x: &Life) -> bool
+    ensures { result ≡ tests.is_fed (reverse log.now) lives.now x.now }
+{
+    !receives(x) || x.bits.len() == 0 || has_source(log, lives, x)
+}
+
+/// Whether each life took what was sent.
+fn are_fed(log: &[Crossing], lives: &[Life]) -> bool
+    ensures { result ≡ list_all (tests.is_fed (reverse log.now) lives.now) lives.now }
+{
+    for x in lives {
+        if !is_fed(log, lives, x) {
+            return false;
+        }
+    }
+    true
+}
+
+/// Whether what a life sent was handed over.
+fn is_handed(x: &Life, handed: &BitLog) -> bool
+    ensures { result ≡ tests.is_handed x.now handed.now }
+{
+    !sends(x) || is_front(&x.bits, handed)
+}
+
+/// Whether what each life sent was handed over.
+fn are_handed(lives: &[Life], handed: &[BitLog]) -> bool
+    ensures { result ≡ tests.are_handed lives.now handed.now }
+{
+    if lives.len() != handed.len() {
+        return false;
+    }
+    for i in 0..lives.len() {
+        if !is_handed(&lives[i], &handed[i]) {
+            return false;
+        }
+    }
+    true
+}
+
+/// Whether what was taken was sent, and what was sent was handed over.
+pub(super) fn streams_hold(log: &[Crossing], lives: &[Life], handed: &[BitLog]) -> bool
+    ensures { result ≡ tests.streams_hold (reverse log.now) lives.now handed.now }
+{
+    are_fed(log, lives) && are_handed(lives, handed)
+}
