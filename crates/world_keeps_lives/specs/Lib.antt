@@ -1,3 +1,4 @@
 pub mod Lives
+pub mod Notices
 pub mod Worked
 pub mod WorkedFormed
