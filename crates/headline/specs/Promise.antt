@@ -2,7 +2,7 @@
 use Rattle.leader1822.specs.Calls.{Seen}
 use Rattle.net_sim.specs.Clean.{IsLawful}
 use Rattle.net_sim.specs.Formed.{FormedBook}
-use Rattle.world_keeps_lives.specs.Notices.{FormedNotices}
+use Rattle.net_sim.specs.Notices.{FormedNotices}
 use Rattle.net_sim.specs.Safe.{SafeBook}
 use Rattle.net_sim.specs.World.{WorldState}
 use Rattle.world_keeps_connections.specs.Connections.{JoinedBook}

@@ -33,8 +33,8 @@ use Rattle.net_sim.specs.declared.book.Told.{Told}
 use Rattle.net_sim.specs.Book.{Kept, all_told, asked, book_told, crossed}
 use Rattle.net_sim.specs.Clean.{HaveAddresses, IsLawful}
 use Rattle.net_sim.specs.Formed.{HasCrossed, coming, data_by, going, request}
-use Rattle.world_keeps_lives.specs.Notices.{AreTold, FormedNotices, HasLink, MayBeUntold, TellsOf, data_told, is_data}
-use Rattle.world_keeps_lives.specs.Notices as notices
+use Rattle.net_sim.specs.Notices.{AreTold, FormedNotices, HasLink, MayBeUntold, TellsOf, data_told, is_data}
+use Rattle.net_sim.specs.Notices as notices
 use Rattle.net_sim.specs.Projection.{Agrees}
 use Rattle.net_sim.specs.Story.{Asked, Crossed, IsNext, IsStory, Moment, places, program, events_of}
 use Rattle.net_sim.specs.Timeline.{IsTimeline, crossings_of}

@@ -18,7 +18,7 @@ use Rattle.sockets.specs.Sending.{next_out, offered}
 use Rattle.sockets.specs.Worked.{first, second, third}
 use Rattle.net_sim.specs.declared.book.Told.{Told}
 use Rattle.net_sim.specs.Formed.{CrossedAt, HasCrossed, going}
-use Rattle.world_keeps_lives.specs.Notices.{AreTold, FormedNotices, HasLink, Tells, data_told}
+use Rattle.net_sim.specs.Notices.{AreTold, FormedNotices, HasLink, Tells, data_told}
 use Rattle.net_sim.specs.Safe.{control_flow}
 use Rattle.net_sim.specs.Timeline.{crossings_of}
 use Rattle.net_sim.specs.Told.{kept_in}

@@ -1,4 +1,3 @@
 pub mod Lives
-pub mod Notices
 pub mod Worked
 pub mod WorkedFormed

@@ -7,7 +7,7 @@ ghost use Rattle.leader1822.specs.Mailboxes as mail;
 ghost use Rattle.net_sim.specs.declared.life.Life.{Life};
 ghost use Rattle.net_sim.specs.Clean.{HaveAddresses, IsLawful};
 ghost use Rattle.net_sim.specs.Formed.{FormedBook, IsFormed};
-ghost use Rattle.world_keeps_lives.specs.Notices.{FormedNotices, data_told};
+ghost use Rattle.net_sim.specs.Notices.{FormedNotices, data_told};
 ghost use Rattle.net_sim.specs.Safe.{AreHanded, IsGranted, receives};
 ghost use Rattle.net_sim.specs.Story.{Moment, program};
 ghost use Rattle.net_sim.specs.Timeline.{IsTimeline, crossings_of};
