@@ -4,13 +4,15 @@ use Rattle.leader1822.specs.Messages.{SafeMessages}
 use Rattle.net_sim.specs.Clean.{IsLawful}
 use Rattle.net_sim.specs.World.{WorldState}
 use Rattle.headline.specs.Promise.{KeepsPromise}
-use Rattle.world_keeps_lives.proofs.lemmas.{world_formed, world_handed, world_taken}
+use Rattle.world_keeps_connections.proofs.lemmas.{world_joined}
+use Rattle.world_keeps_lives.proofs.lemmas.{world_formed, world_handed, world_taken, world_told}
 use Rattle.world_keeps_pairing.proofs.lemmas.{world_alone, world_partners}
 use Rattle.world_keeps_streams.proofs.lemmas.{world_sent, world_source}
 
 pub promise : {C : Type 0} (seen : C → Seen) (w : WorldState C) → IsLawful seen (seen w.carrier).hosts w → SafeMessages w.kept.book.crossings → KeepsPromise seen w
 promise seen w lawful messages = record {
   formed = world_formed seen (seen w.carrier).hosts w lawful;
+  told = world_told seen (seen w.carrier).hosts w lawful;
   safe = record {
     messages = messages;
     partners = world_partners seen (seen w.carrier).hosts w lawful;
@@ -24,5 +26,6 @@ promise seen w lawful messages = record {
       sent = λ receiver sender here there match. world_sent (seen w.carrier).hosts seen w lawful receiver sender here there match;
     };
   };
+  joined = world_joined seen (seen w.carrier).hosts w lawful;
   lawful = lawful;
 }

@@ -1,7 +1,8 @@
 -- What a world may rely on of its carrier, whatever it is made of, and what the book has of the carrier's log.
-use Rattle.std.specs.Prelude.{◌≡◌, false, List, [], ◌++◌}
+use Rattle.std.specs.Prelude.{◌≡◌, false, List, [], ◌∷◌, ◌++◌}
 use Rattle.leader1822.specs.Calls.{Seen, ShowsOffer, ShowsTake, ShowsStep, ShowsRound}
 use Rattle.leader1822.specs.declared.crossing.Crossing.{Crossing}
+use Rattle.leader1822.specs.declared.crossing.Crossing.TheVariants as crossing
 use Rattle.net_sim.specs.World.{Calls, WorldState}
 
 -- the calls of a carrier, each with what it shows besides its own relation
@@ -14,8 +15,21 @@ shown calls = record {
   rounds = λ old r new. calls.rounds old r new × ShowsRound (calls.seen old) r (calls.seen new);
 }
 
--- the book has the carrier's log, except for what crossed in the event in which memory ran out
+-- hosts stop, and nothing else crosses
+abbrev pub AreStops : List Crossing → Type 0
+AreStops [] = Unit {0}
+AreStops (crossing.Down h ∷ cs) = AreStops cs
+AreStops (c ∷ cs) = ⊥
+
+-- what crosses in one event: at most one crossing, or the stops of an IMP's hosts
+abbrev pub AreOfOneEvent : List Crossing → Type 0
+AreOfOneEvent [] = Unit {0}
+AreOfOneEvent (c ∷ []) = Unit {0}
+AreOfOneEvent (c ∷ d ∷ cs) = AreStops (c ∷ d ∷ cs)
+
+-- the book has the carrier's log, except for what crossed in the one event in which memory ran out
 pub record IsBooked {C : Type 0} (seen : C → Seen) (w : WorldState C) : Type 0 where
   pub unbooked : List Crossing
   pub book : (seen w.carrier).log ≡ unbooked ++ w.kept.book.crossings
   pub all : w.stopped ≡ false → unbooked ≡ []
+  pub one : AreOfOneEvent unbooked

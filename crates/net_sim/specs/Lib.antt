@@ -2,6 +2,7 @@ pub mod Projection
 pub mod Book
 pub mod Safe
 pub mod Formed
+pub mod Notices
 pub mod Audit
 pub mod Handed
 pub mod World

@@ -123,3 +123,7 @@ busy = served_at first (request.Contact second) (opening_state first) fresh
 -- memory has run out
 abbrev pub halted : WorldState Seen
 halted = record fresh { stopped = true }
+
+-- and all this has crossed since the last event that is in the book
+abbrev pub lacking : List Crossing → WorldState Seen
+lacking log = record halted { carrier = record halted.carrier { log = log } }

@@ -9,7 +9,8 @@ ghost use Rattle.leader1822.specs.declared.crossing.Crossing.TheVariants as cros
 ghost use Rattle.leader1822.specs.declared.event.NetEvent.TheVariants as event;
 ghost use Rattle.net_sim.specs.Book.{opening_kept, book_told, asked, crossed, all_crossed};
 ghost use Rattle.net_sim.specs.Safe.{SafeBook, SafePartners, SafeStreams, SafeGrants, Match, own_request, partner_request, last_out, before, control_flow};
-ghost use Rattle.net_sim.specs.Worked.{eight, eight_zeros, four, crossings, message, opened_kept, used, receiver, sender, taker, giver, elsewhere, asker, stranger, over, any_carrier, fresh, down, busy, halted, stamp_of};
+ghost use Rattle.net_sim.specs.Worked.{eight, eight_zeros, four, crossings, message, opened_kept, used, receiver, sender, taker, giver, elsewhere, asker, stranger, over, any_carrier, fresh, down, busy, halted, lacking, stamp_of};
+ghost use Rattle.net_sim.specs.Carriers.{IsBooked};
 ghost use Rattle.net_sim.specs.World.{WorldState, WorldFault, Carrier, Program, Net, Quiet, Offer, Take, Ask, StepGives, RunGives, all_turned, seat_of, up_in, served_at, changed};
 ghost use Rattle.sockets.specs.Pairs.{opening_state};
 ghost use Rattle.sockets.specs.Requests.{served};
@@ -160,6 +161,11 @@ pub fn worked_worlds()
 
     // after memory has run out nothing comes before Stopped
     ensures stopped { (r : Result (Unit {0}) WorldFault) (new : WorldState Seen) → StepGives any_carrier halted (Ask third (request.Echo second 65)) r new → (r ≡ Err (Carrier fault.Stopped)) × (new ≡ halted) }
+
+    // the book then lacks what crossed in one event, and no more
+    ensures lacks_one { IsBooked any_carrier.seen (lacking (crossing.Out (message first second 0) ∷ [])) }
+    ensures lacks_stops { IsBooked any_carrier.seen (lacking (crossing.Down second ∷ crossing.Down first ∷ [])) }
+    ensures lacks_two { IsBooked any_carrier.seen (lacking (crossing.Out (message second first 0) ∷ crossing.Out (message first second 0) ∷ [])) → ⊥ }
 
     // a host that has nothing to say offers nothing
     ensures nothing { (r : Result (Unit {0}) WorldFault) (new : WorldState Seen) → StepGives any_carrier fresh (Offer first) r new → (r ≡ Ok tt) × (new ≡ fresh) }

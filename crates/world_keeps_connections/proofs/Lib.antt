@@ -4,3 +4,4 @@ pub mod Users
 pub mod Going
 pub mod Matches
 pub mod Paired
+pub mod lemmas

@@ -16,7 +16,7 @@ use Rattle.net_sim.specs.Reports.{AreReported, IsBacked, IsSo, ServerIsDone, Use
 use Rattle.net_sim.specs.Safe.{Match, receives, sends}
 use Rattle.net_sim.specs.World.{WorldState}
 use Rattle.net_sim.specs.declared.life.Life.{Life}
-use Rattle.world_keeps_connections.specs.Connections.{HasReported, IsConnected, IsEnd}
+use Rattle.world_keeps_connections.specs.Connections.{HasReported, IsConnected, IsEnd, JoinedBook}
 use Rattle.world_keeps_connections.specs.Users.{AreOpposite}
 use Rattle.world_keeps_connections.proofs.Matches.{world_match}
 
@@ -85,3 +85,6 @@ module _ {C : Type 0} (seen : C → Seen) (hosts : List Host) (w : WorldState C)
 
   pub to_server : (server user : Host) (s u : ℕ) (a b c d : Life) → IsConnected w.kept.book server user s u a b c d → Match w.kept.book.crossings a d
   to_server server user s u a b c d k = ends_match server user s (u + 3) a d k.server_hears k.user_speaks (even_base server user s u a b c d k) (odd_three u (even_own server user s u a b c d k))
+
+  pub world_joined : JoinedBook w.kept.book
+  world_joined server user s u a b c d k = (to_user server user s u a b c d k, to_server server user s u a b c d k)

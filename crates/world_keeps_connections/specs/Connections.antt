@@ -7,6 +7,7 @@ use Rattle.host_services.specs.declared.report.Report.{Report}
 use Rattle.host_services.specs.declared.report.Report.TheVariants as report
 use Rattle.host_services.specs.declared.report.Reported.{Reported}
 use Rattle.net_sim.specs.Book.{Book}
+use Rattle.net_sim.specs.Safe.{Match}
 use Rattle.net_sim.specs.declared.life.Life.{Life}
 
 -- a service of this host has reported this
@@ -34,3 +35,10 @@ pub record IsConnected (book : Book) (server user : Host) (s u : ℕ) (server_re
   pub server_speaks : IsEnd book server (s + 1) user (u + 2) server_sends
   pub user_hears : IsEnd book user (u + 2) server (s + 1) user_receives
   pub user_speaks : IsEnd book user (u + 3) server s user_sends
+
+-- a book is joined where each finished initial connection pairs the right four sockets: the user's receiving end matches the server's
+-- sending one, and the server's receiving end the user's sending one
+abbrev pub JoinedBook : Book → Type 0
+JoinedBook book =
+    (server user : Host) (s u : ℕ) (server_receives server_sends user_receives user_sends : Life) → IsConnected book server user s u server_receives server_sends user_receives user_sends
+    → Match book.crossings user_receives server_sends × Match book.crossings server_receives user_sends

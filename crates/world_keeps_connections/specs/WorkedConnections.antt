@@ -4,7 +4,7 @@ use Rattle.host_pairs.specs.declared.notice.Notice.TheVariants as notice
 use Rattle.host_services.specs.declared.report.Report.TheVariants as report
 use Rattle.icp.specs.Sockets.{socket_bits}
 use Rattle.icp.specs.declared.outcome.Outcome.TheVariants as outcome
-use Rattle.net_sim.specs.Book.{Kept, all_crossed, all_reported, new_life, opening_kept, book_told}
+use Rattle.net_sim.specs.Book.{Book, Kept, all_crossed, all_reported, new_life, opening_kept, book_told}
 use Rattle.net_sim.specs.declared.life.Life.{Life}
 use Rattle.net_sim.specs.Worked.{crossings}
 use Rattle.sockets.specs.Worked.{first, second}
@@ -34,3 +34,10 @@ user_receives = new_life second 18 first 101 2 1
 
 abbrev pub user_sends : Life
 user_sends = new_life second 19 first 100 2 1
+
+-- the same, though the user's receiving end opened with a request that came in before the server's went out
+abbrev pub older : Life
+older = record user_receives { partner_stamp = 0 }
+
+abbrev pub unjoined_book : Book
+unjoined_book = record joined_kept.book { lives = server_receives ∷ server_sends ∷ older ∷ user_sends ∷ [] }

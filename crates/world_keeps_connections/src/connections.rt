@@ -11,7 +11,7 @@ ghost use Rattle.net_sim.specs.Safe.{Match};
 ghost use Rattle.net_sim.specs.World.{WorldState};
 ghost use Rattle.sockets.specs.Worked.{first, second};
 ghost use Rattle.world_keeps_connections.specs.WorkedConnections as worked;
-ghost use Rattle.world_keeps_connections.specs.Connections.{IsConnected, IsEnd};
+ghost use Rattle.world_keeps_connections.specs.Connections.{IsConnected, IsEnd, JoinedBook};
 
 use leader1822::Carrier;
 
@@ -28,6 +28,9 @@ pub fn initial_connections<C: Carrier>()
     // so each receiving end and the sending end with which it opened match
     ensures to_user { (hosts : List Host) (w : WorldState C) → IsLawful C.seen hosts w → (server user : Host) (s u : ℕ) (server_receives server_sends user_receives user_sends : Life) → IsConnected w.kept.book server user s u server_receives server_sends user_receives user_sends → Match w.kept.book.crossings user_receives server_sends }
     ensures to_server { (hosts : List Host) (w : WorldState C) → IsLawful C.seen hosts w → (server user : Host) (s u : ℕ) (server_receives server_sends user_receives user_sends : Life) → IsConnected w.kept.book server user s u server_receives server_sends user_receives user_sends → Match w.kept.book.crossings server_receives user_sends }
+
+    // in one word
+    ensures joined { (hosts : List Host) (w : WorldState C) → IsLawful C.seen hosts w → JoinedBook w.kept.book }
 {}
 
 /// Ends of an initial connection.
@@ -43,7 +46,8 @@ pub fn worked_connections()
     ensures others { (Match worked.joined_kept.book.crossings worked.user_receives worked.user_sends → ⊥) × (Match worked.joined_kept.book.crossings worked.server_receives worked.server_sends → ⊥) }
 
     // a life on the same sockets that took its request before the server's went out doesn't match: sockets alone don't make partners
-    ensures older { Match worked.joined_kept.book.crossings (record worked.user_receives { partner_stamp = 0 }) worked.server_sends → ⊥ }
+    ensures older { Match worked.joined_kept.book.crossings worked.older worked.server_sends → ⊥ }
+    ensures unjoined { JoinedBook worked.unjoined_book → ⊥ }
 
     // a life that has ended is none, nor is one of another socket, or one that opened with another
     ensures over { (book : Book) (a b : Host) (own other : ℕ) (x : Life) → x.ended ≡ true → IsEnd book a own b other x → ⊥ }

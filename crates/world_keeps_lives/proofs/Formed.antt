@@ -58,6 +58,7 @@ use Rattle.world_keeps_pairing.proofs.lemmas.{queued_commands, queued_link}
 use Rattle.world_keeps_lives.specs.Lives.{HasOpenEnd, mine_on}
 use Rattle.world_keeps_lives.proofs.Desks.{open_mine}
 use Rattle.world_keeps_lives.proofs.Laws.{live}
+use Rattle.world_keeps_lives.proofs.DataTold.{Takes, TakesIf, answer_told, asking_told, bytes_told, control_told, message_takes, offer_told}
 use Rattle.world_keeps_lives.proofs.Requests.{Begins, Each, Goes, Hears, MayTell, Rules, each_append, each_filter, each_in, each_map, each_of, each_weaker, first_of, found_in, later_of}
 use Rattle.world_keeps_lives.proofs.RequestCalls.{Done, Ends, answer_keeps, message_keeps, offer_keeps, request_told}
 use Rattle.world_keeps_lives.proofs.Grounds.{Going, Grounded, IsAnswered, IsAsked, May, Nothing, Opens, Tells, crossed_below, flow_is, goes_of, going_now, going_rules, grounded_hears, grounded_rules, grounds, step_ends, still_crossed, still_grounded}
@@ -360,56 +361,6 @@ each_change : (Q R : Life → Type 0) (change : Life → Life) (xs : List Life) 
 each_change Q R change [] k h = tt
 each_change Q R change (x ∷ xs) k h = (k x h.0, each_change Q R change xs k h.1)
 
--- what is told of data that come in
-record Takes (link : ℕ) (text : List Bool) (es : List Entry) (ns : List Notice) : Type 0 where
-  end : Entry
-  header : DataHeader
-  found : find (receives_on link) es ≡ Some end
-  opened : is_open end ≡ true
-  read : header_of text ≡ Some header
-  is : ns ≡ notice.Arrived end.own (data_of (data_bits header) text) ∷ []
-
-abbrev TakesIf : ℕ → List Bool → List Entry → List Notice → Type 0
-TakesIf link text es ns = (ns ≡ []) ⊎ Takes link text es ns
-
-desk_takes : (link : ℕ) (text : List Bool) (d : DeskState) → d.notices ≡ [] → TakesIf link text d.entries (data_taken link text d).notices
-desk_takes link text d none = by (find (receives_on link) d.entries) refl where
-  by : (o : Option Entry) → find (receives_on link) d.entries ≡ o → TakesIf link text d.entries (data_found link text (commands.found_in o) d).notices
-  by None f = inl none
-  by (Some e) f = opened (is_open e) (is_ending e) refl where
-    opened : (a b : Bool) → is_open e ≡ a → TakesIf link text d.entries (data_found link text (if a then Open e else (if b then Ending else Unconnected)) d).notices
-    opened false true g = inl none
-    opened false false g = inl none
-    opened true b g = read (header_of text) refl where
-      read : (o : Option DataHeader) → header_of text ≡ o → TakesIf link text d.entries (arrived_if link e text o d).notices
-      read None r = inl none
-      read (Some k) r = fits (is_acceptable e k) where
-        fits : (c : Bool) → TakesIf link text d.entries (if c then arrived link e (data_bits k) text d else text_faulted ERRONEOUS text d).notices
-        fits false = inl none
-        fits true = inr (record { end = e; header = k; found = f; opened = g; read = r; is = ap (λ (ns : List Notice). ns ++ notice.Arrived e.own (data_of (data_bits k) text) ∷ []) none })
-
-turn_takes : (link : ℕ) (text : List Bool) (t : TurnState) → t.notices ≡ [] → TakesIf link text t.pair.entries (if_ready (data_taken link text) t).notices
-turn_takes link text t none = by (is_ready t.pair.phase) where
-  by : (b : Bool) → TakesIf link text t.pair.entries (if b then with_desk t (data_taken link text (desk_of t.pair t.listening)) else t).notices
-  by false = inl none
-  by true = subst (λ (ns : List Notice). TakesIf link text t.pair.entries (ns ++ (data_taken link text (desk_of t.pair t.listening)).notices)) (sym none) (desk_takes link text (desk_of t.pair t.listening) refl)
-
-message_takes : (s : NcpState) (m : HostMessage) (stamp : ℕ) → (m.flow.link.0 == 0) ≡ false → TakesIf m.flow.link.0 m.text (pair_with m.flow.source s.peers).entries (accepted s (inbound.Message m) stamp).1
-unfolding accepted
-message_takes s m stamp off = by (same_host s.own m.flow.destination) where
-  turn : (b : Bool) → (m.flow.link.0 == 0) ≡ b → TakesIf m.flow.link.0 m.text (pair_with m.flow.source s.peers).entries (message_taken m.flow.source stamp m.flow.link.0 m.text (turn_of s m.flow.source)).notices
-  turn true e = no (m.flow.link.0 == 0) e off
-  turn false e = rw e (turn_takes m.flow.link.0 m.text (turn_of s m.flow.source) refl)
-
-  by : (b : Bool) → TakesIf m.flow.link.0 m.text (pair_with m.flow.source s.peers).entries (if b then after_turn s m.flow.source (message_taken m.flow.source stamp m.flow.link.0 m.text (turn_of s m.flow.source)) else (s, [])).1
-  by true = turn (m.flow.link.0 == 0) refl
-  by false = inl refl
-
--- what is told of data that go out
-bytes_told : (s : NcpState) (stamp : ℕ) (g : Peer) (e : Entry) (size count : ℕ) → next_in s.peers ≡ Some (g, parcel.Bytes e size count) → (offered s stamp).1 ≡ notice.Sent e.own (take (size * count) e.bits) ∷ []
-unfolding offered
-bytes_told s stamp g e size count next = ap (λ (o : Option (Peer × Parcel)). (offered_by s stamp o).1) next
-
 module _ (hosts : List Host) (addresses : HaveAddresses hosts) (moments : List Moment) (run : mail.IsRun hosts (crossings_of moments)) (time : IsTimeline hosts moments) (c : Crossing) (story : (m : HostMessage) → Crossed c ≡ Crossed (crossing.Out m) → IsNext (program m.flow.source moments) m) where
   -- whose life it is
   record Whose (h p : Host) (e : Entry) (x : Life) (l : ℕ) : Type 0 where
@@ -493,9 +444,6 @@ module _ (hosts : List Host) (addresses : HaveAddresses hosts) (moments : List M
 
 module _ (hosts : List Host) (addresses : HaveAddresses hosts) where
   module _ (moments : List Moment) (run : mail.IsRun hosts (crossings_of moments)) (time : IsTimeline hosts moments) (old : Each (Made moments) (kept_in moments).book.lives) where
-    grounds_after : (a b : Host) (c : Crossing) → Ends (Grounded a b (c ∷ crossings_of moments)) b (program a moments)
-    grounds_after a b c = each_weaker (Grounded a b (crossings_of moments)) (Grounded a b (c ∷ crossings_of moments)) (pair_with b (program a moments).peers).entries (still_grounded a b c (crossings_of moments)) (grounds hosts addresses moments run time a b)
-
     -- bytes that went out are those of the lives of their end
     sent_made : (m : HostMessage) (g : Peer) (e : Entry) (size count : ℕ) → ((n : HostMessage) → Crossed (crossing.Out m) ≡ Crossed (crossing.Out n) → IsNext (program n.flow.source moments) n) → AreInOrder (program m.flow.source moments).peers
         → next_in (program m.flow.source moments).peers ≡ Some (g, parcel.Bytes e size count) → m ≡ message_for (program m.flow.source moments).own g (parcel.Bytes e size count) → Each (Made (Crossed (crossing.Out m) ∷ moments)) (kept_in (Crossed (crossing.Out m) ∷ moments)).book.lives
@@ -595,10 +543,7 @@ module _ (hosts : List Host) (addresses : HaveAddresses hosts) where
 
       quiet : (z : Parcel) → next_in (program m.flow.source moments).peers ≡ Some (n.peer, z) → m ≡ message_for (program m.flow.source moments).own n.peer z
           → MayTell (Going a b log queue) (Tells a b log) b (going_rules a b log queue) (places moments) z (pair_with b (program a moments).peers) → Each (Made (Crossed (crossing.Out m) ∷ moments)) (kept_in (Crossed (crossing.Out m) ∷ moments)).book.lives
-      quiet z next is may =
-          calm (Crossed (crossing.Out m)) runs times n b
-          (offer_keeps (Going a b log queue) (Tells a b log) b (going_rules a b log queue) (program a moments) (places moments) n.peer z n.order next (sym (ap (λ (x : HostMessage). x.flow.destination) is)) (queued_commands hosts moments addresses run time a b) may
-          (going_now hosts addresses moments run time a b log (grounds_after moments run time old a b (crossing.Out m)))).told
+      quiet z next is may = calm (Crossed (crossing.Out m)) runs times n b (offer_told hosts addresses moments run time m n z next is may)
 
       by : (z : Parcel) → next_in (program m.flow.source moments).peers ≡ Some (n.peer, z) → m ≡ message_for (program m.flow.source moments).own n.peer z → Each (Made (Crossed (crossing.Out m) ∷ moments)) (kept_in (Crossed (crossing.Out m) ∷ moments)).book.lives
       by parcel.Reset next is = quiet parcel.Reset next is tt
@@ -608,35 +553,19 @@ module _ (hosts : List Host) (addresses : HaveAddresses hosts) where
 
     in_made : (m : HostMessage) → mail.IsRun hosts (crossings_of (Crossed (crossing.In m) ∷ moments)) → IsTimeline hosts (Crossed (crossing.In m) ∷ moments) → Follows (Crossed (crossing.In m)) moments → Each (Made (Crossed (crossing.In m) ∷ moments)) (kept_in (Crossed (crossing.In m) ∷ moments)).book.lives
     in_made m runs times follows = by (m.flow.link.0 == 0) refl where
-      a : Host
-      a = m.flow.destination
-
-      b : Host
-      b = m.flow.source
-
-      log : List Crossing
-      log = crossing.In m ∷ crossings_of moments
-
       by : (z : Bool) → (m.flow.link.0 == 0) ≡ z → Each (Made (Crossed (crossing.In m) ∷ moments)) (kept_in (Crossed (crossing.In m) ∷ moments)).book.lives
-      by true here =
-          calm (Crossed (crossing.In m)) runs times follows b
-          (message_keeps (Grounded a b log) (Tells a b log) b (grounded_rules a b log) (program a moments) m (places moments) refl
-          ((λ z. grounded_hears a b log m (places moments) (flow_is m.flow b a refl refl (eqb-true m.flow.link.0 0 z)) (inl (refl, places_same moments))), (λ off e k f o t. no (m.flow.link.0 == 0) here off))
-          (grounds_after moments run time old a b (crossing.In m))).told
+      by true here = calm (Crossed (crossing.In m)) runs times follows m.flow.source (control_told hosts addresses moments run time m here)
       by false off = taken_made moments run time old m (story_by (Crossed (crossing.In m)) moments follows) (message_takes (program m.flow.destination moments) m (places moments) off)
 
     crossed_made : (c : Crossing) → mail.IsRun hosts (crossings_of (Crossed c ∷ moments)) → IsTimeline hosts (Crossed c ∷ moments) → Follows (Crossed c) moments → Each (Made (Crossed c ∷ moments)) (kept_in (Crossed c ∷ moments)).book.lives
     crossed_made (crossing.Out m) runs times follows = out_made m runs times follows
     crossed_made (crossing.In m) runs times follows = in_made m runs times follows
-    crossed_made (crossing.Answer kind f) runs times follows =
-        calm (Crossed (crossing.Answer kind f)) runs times follows f.destination
-        (answer_keeps (Grounded f.source f.destination (crossing.Answer kind f ∷ crossings_of moments)) (Tells f.source f.destination (crossing.Answer kind f ∷ crossings_of moments)) f.destination (grounded_rules f.source f.destination (crossing.Answer kind f ∷ crossings_of moments))
-        (program f.source moments) kind f (places moments) refl (grounds_after moments run time old f.source f.destination (crossing.Answer kind f))).told
+    crossed_made (crossing.Answer kind f) runs times follows = calm (Crossed (crossing.Answer kind f)) runs times follows f.destination (answer_told hosts addresses moments run time kind f)
     crossed_made (crossing.Down g) runs times follows = calm (Crossed (crossing.Down g)) runs times follows g tt
     crossed_made (crossing.Up g) runs times follows = calm (Crossed (crossing.Up g)) runs times follows g tt
 
     asked_made : (h : Host) (r : Request) → mail.IsRun hosts (crossings_of (Asked h r ∷ moments)) → IsTimeline hosts (Asked h r ∷ moments) → Each (Made (Asked h r ∷ moments)) (kept_in (Asked h r ∷ moments)).book.lives
-    asked_made h r runs times = calm (Asked h r) runs times tt h (request_told (Grounded h h (crossings_of moments)) (Tells h h (crossings_of moments)) h (grounded_rules h h (crossings_of moments)) (program h moments) r)
+    asked_made h r runs times = calm (Asked h r) runs times tt h (asking_told moments h r)
 
   made : (moments : List Moment) → mail.IsRun hosts (crossings_of moments) → IsTimeline hosts moments → Each (Made moments) (kept_in moments).book.lives
   made [] run time = tt

@@ -21,7 +21,7 @@ use Rattle.world_keeps_lives.proofs.Grounds.{crossed_below}
 
 -- ---- what the messages say
 
-rts_read : orders_of rts.text ≡ Legal (command.Rts 16 33 2) ∷ []
+pub rts_read : orders_of rts.text ≡ Legal (command.Rts 16 33 2) ∷ []
 unfolding octets_of orders_of read_of command_of
 rts_read = refl
 
@@ -37,10 +37,10 @@ plain_read : orders_of eight ≡ Wrong 3 (octets_of eight) ∷ []
 unfolding orders_of
 plain_read = refl
 
-rts_holds : Contains (orders_of rts.text) (Legal (command.Rts 16 33 2))
+pub rts_holds : Contains (orders_of rts.text) (Legal (command.Rts 16 33 2))
 rts_holds = subst (λ (os : List Order). Contains os (Legal (command.Rts 16 33 2))) (sym rts_read) (0, omega arith, refl)
 
-str_holds : Contains (orders_of str.text) (Legal (command.Str 33 16 8))
+pub str_holds : Contains (orders_of str.text) (Legal (command.Str 33 16 8))
 str_holds = subst (λ (os : List Order). Contains os (Legal (command.Str 33 16 8))) (sym str_read) (0, omega arith, refl)
 
 -- ---- good ones

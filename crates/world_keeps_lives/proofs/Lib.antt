@@ -13,7 +13,10 @@ pub mod Laws
 pub mod Requests
 pub mod RequestCalls
 pub mod Grounds
+pub mod DataTold
 pub mod Formed
+pub mod Notices
 pub mod FormedRows
+pub mod NoticesRows
 pub mod Rows
 pub mod lemmas

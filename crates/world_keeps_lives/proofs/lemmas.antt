@@ -7,6 +7,7 @@ pub use Rattle.world_keeps_lives.proofs.Goes.{IsOfTwo, Waits, all_go, unasked_by
 pub use Rattle.world_keeps_lives.proofs.Hosts.{Holds, same_turned, waits}
 pub use Rattle.world_keeps_lives.proofs.Laws.{live, taken, world_handed, world_taken}
 pub use Rattle.world_keeps_lives.proofs.Moments.{has_ends, held}
+pub use Rattle.world_keeps_lives.proofs.Notices.{world_told}
 pub use Rattle.world_keeps_lives.proofs.Owners.{owner_found}
 pub use Rattle.world_keeps_lives.proofs.Steps.{called_less, closed_less, good_queued, heard_less, sent_less}
 pub use Rattle.world_keeps_lives.proofs.Takes.{G, good_data, good_taken}

@@ -1,12 +1,14 @@
--- The lives of a small book, in which eight bits were sent on link 2: words for worked examples.
-use Rattle.std.specs.Prelude.{List, [], ◌∷◌}
+-- The lives and notices of a small book, in which eight bits were sent on link 2: words for worked examples.
+use Rattle.std.specs.Prelude.{List, [], ◌∷◌, drop}
 use Rattle.leader1822.specs.declared.crossing.Crossing.{Crossing}
 use Rattle.leader1822.specs.declared.crossing.Crossing.TheVariants as crossing
 use Rattle.leader1822.specs.declared.message.HostMessage.{HostMessage}
+use Rattle.host_pairs.specs.declared.notice.Notice.TheVariants as notice
 use Rattle.sockets.specs.Worked as sockets
 use Rattle.sockets.specs.Worked.{first, second}
+use Rattle.net_sim.specs.declared.book.Told.{Told}
 use Rattle.net_sim.specs.Timeline.{crossings_of}
-use Rattle.net_sim.specs.Worked.{giver, taker}
+use Rattle.net_sim.specs.Worked.{eight, giver, taker}
 use Rattle.net_sim.specs.WorkedMoments.{connected, sent_moments}
 use Rattle.net_sim.specs.declared.life.Life.{Life}
 
@@ -27,3 +29,23 @@ stray = sockets.message second first 3 (0 ∷ 8 ∷ 0 ∷ 1 ∷ 0 ∷ 255 ∷ []
 
 abbrev pub stray_log : List Crossing
 stray_log = crossing.In stray ∷ crossing.Out stray ∷ crossings_of connected
+
+-- ---- notices
+
+-- that message went out at place 15, and came in at place 16
+abbrev pub sent_told : Told
+sent_told = record { host = second; place = 16; notice = notice.Sent 33 eight }
+
+abbrev pub arrived_told : Told
+arrived_told = record { host = first; place = 17; notice = notice.Arrived 16 eight }
+
+-- before it came in
+abbrev pub untaken_log : List Crossing
+untaken_log = drop 1 sent_log
+
+-- the same notices of the message on link 3, which went out at place 12, and came in at place 13
+abbrev pub stray_sent : Told
+stray_sent = record sent_told { place = 13 }
+
+abbrev pub stray_arrived : Told
+stray_arrived = record arrived_told { place = 14 }

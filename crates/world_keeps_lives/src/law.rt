@@ -7,6 +7,7 @@ ghost use Rattle.leader1822.specs.Mailboxes as mail;
 ghost use Rattle.net_sim.specs.declared.life.Life.{Life};
 ghost use Rattle.net_sim.specs.Clean.{HaveAddresses, IsLawful};
 ghost use Rattle.net_sim.specs.Formed.{FormedBook, IsFormed};
+ghost use Rattle.net_sim.specs.Notices.{FormedNotices, data_told};
 ghost use Rattle.net_sim.specs.Safe.{AreHanded, IsGranted, receives};
 ghost use Rattle.net_sim.specs.Story.{Moment, program};
 ghost use Rattle.net_sim.specs.Timeline.{IsTimeline, crossings_of};
@@ -18,12 +19,14 @@ ghost use Rattle.host_pairs.specs.Entries.{receiving_end, refused_end, sending_e
 ghost use Rattle.host_pairs.specs.Parcels.{asked_at};
 ghost use Rattle.host_pairs.specs.declared.entry.Closing.TheVariants as closing;
 ghost use Rattle.sockets.specs.Pairs.{opening_state};
-ghost use Rattle.sockets.specs.Worked.{first, second};
+ghost use Rattle.host_pairs.specs.declared.notice.Notice.TheVariants as notice;
+ghost use Rattle.sockets.specs.Worked.{first, second, third};
 ghost use Rattle.net_sim.specs.Book.{carried, life_ended, granted, new_life, opening_kept, returned};
 ghost use Rattle.world_keeps_lives.specs.Lives.{AreRefusing, EachOn, HasOpenEnd, IsFreeSocket, IsFresh, IsLifeOf, IsOwned, IsSafe, IsSteady, NoneOf, at_socket, mine_on};
 ghost use Rattle.world_keeps_lives.specs.Worked.{worked_end, with_one};
-ghost use Rattle.world_keeps_lives.specs.WorkedFormed.{gave, sent_log, stray_log, took};
-ghost use Rattle.net_sim.specs.Worked.{crossings, taker};
+ghost use Rattle.world_keeps_lives.specs.WorkedFormed.{arrived_told, gave, sent_log, sent_told, stray_arrived, stray_log, stray_sent, took, untaken_log};
+ghost use Rattle.net_sim.specs.Worked.{crossings, eight_zeros, taker};
+ghost use Rattle.net_sim.specs.WorkedMoments.{sent_moments};
 
 use leader1822::Carrier;
 
@@ -46,15 +49,21 @@ pub fn programs()
 
     // each life is made of messages that crossed: its two requests stand in those at its stamps, and its bits are those of its data messages
     ensures formed { (hosts : List Host) (moments : List Moment) → HaveAddresses hosts → mail.IsRun hosts (crossings_of moments) → IsTimeline hosts moments → FormedBook (crossings_of moments) (kept_in moments).book.lives }
+
+    // each notice of data tells of a message of data just after it crossed, on the link of a connection of its socket; each such message that
+    // goes out has its notice
+    ensures told { (hosts : List Host) (moments : List Moment) → HaveAddresses hosts → mail.IsRun hosts (crossings_of moments) → IsTimeline hosts moments → FormedNotices (crossings_of moments) (kept_in moments).book.notices }
 {}
 
 /// The same of the book of every world, whatever its carrier is made of: the two clauses of the safe book that are about one host
-/// alone, the end of each life that goes on, in the program that comes of the world's moments, and the messages that a life is made of.
+/// alone, the end of each life that goes on, in the program that comes of the world's moments, the messages that a life is made of, and
+/// those of which notices tell.
 pub fn worlds<C: Carrier>()
     ensures live { (hosts : List Host) (w : WorldState C) → (lawful : IsLawful C.seen hosts w) → (x : Life) → Contains w.kept.book.lives x → x.ended ≡ false → HasOpenEnd (program x.host lawful.whole.moments) x }
     ensures taken { (hosts : List Host) (w : WorldState C) → IsLawful C.seen hosts w → (receiver : Life) → Contains w.kept.book.lives receiver → receives receiver ≡ true → IsGranted receiver receiver.messages (length receiver.bits) }
     ensures handed { (hosts : List Host) (w : WorldState C) → IsLawful C.seen hosts w → AreHanded w.kept.book.lives w.kept.handed }
     ensures formed { (hosts : List Host) (w : WorldState C) → IsLawful C.seen hosts w → FormedBook w.kept.book.crossings w.kept.book.lives }
+    ensures told { (hosts : List Host) (w : WorldState C) → IsLawful C.seen hosts w → FormedNotices w.kept.book.crossings w.kept.book.notices }
 {}
 
 /// Ends.
@@ -128,4 +137,27 @@ pub fn worked_formed()
     ensures another_message { IsFormed sent_log (record took { own_stamp = 12 }) → ⊥ }
     ensures another_peer { IsFormed sent_log (record took { partner_stamp = 7 }) → ⊥ }
     ensures another_link { IsFormed stray_log took → ⊥ }
+{}
+
+/// Notices of the same small book.
+pub fn worked_notices()
+    // the message has two notices of data: its sender was told where it went out, and its receiver where it came in
+    ensures both { data_told (kept_in sent_moments).book.notices ≡ arrived_told ∷ sent_told ∷ [] }
+    ensures told { FormedNotices sent_log (kept_in sent_moments).book.notices }
+
+    // of what comes in a user need not be told, but of what goes out
+    ensures untaken { FormedNotices sent_log (sent_told ∷ []) }
+    ensures unsent { FormedNotices sent_log (arrived_told ∷ []) → ⊥ }
+
+    // what arrives are the bits of the message, in their order, where it came in, and once
+    ensures other_bits { FormedNotices sent_log (sent_told ∷ record arrived_told { notice = notice.Arrived 16 eight_zeros } ∷ []) → ⊥ }
+    ensures nothing_crossed { FormedNotices untaken_log (sent_told ∷ arrived_told ∷ []) → ⊥ }
+    ensures early { FormedNotices sent_log (sent_told ∷ record arrived_told { place = 16 } ∷ []) → ⊥ }
+    ensures twice { FormedNotices sent_log (sent_told ∷ arrived_told ∷ arrived_told ∷ []) → ⊥ }
+
+    // the sender is told, and no other host
+    ensures another_host { FormedNotices sent_log (record sent_told { host = third } ∷ arrived_told ∷ []) → ⊥ }
+
+    // a message on link 3 isn't that of a connection whose RTS names link 2
+    ensures another_link { FormedNotices stray_log (stray_sent ∷ stray_arrived ∷ []) → ⊥ }
 {}

@@ -1,7 +1,9 @@
 -- The book has what crossed, after every list of events.
-use Rattle.std.proofs.Common.{◌≡◌, inl, inr, ℕ, Bool, true, false, if◌then◌else◌, List, [], ◌∷◌, ◌++◌, length, Option, Some, None, Result, Ok, Err, refl, ap, sym, subst, ◌∙◌}
+use Rattle.std.proofs.Common.{◌≡◌, inl, inr, ℕ, Bool, true, false, if◌then◌else◌, List, [], ◌∷◌, ◌++◌, map, length, Option, Some, None, Result, Ok, Err, refl, ap, sym, subst, ◌∙◌}
 use Rattle.std.specs.Bool.{MatchBool}
-use Rattle.leader1822.specs.Calls.{Seen, ShowsOffer, ShowsTake, ShowsStep, ShowsRound, ShowsRefusal, ShowsCrossings, halted, is_memory, crossing_of, step_crossings}
+use Rattle.std.specs.Prelude.{reverse}
+use Rattle.std.proofs.lemmas.Grind.{reverse_onto}
+use Rattle.leader1822.specs.Calls.{Seen, ShowsOffer, ShowsTake, ShowsStep, ShowsRound, ShowsRefusal, ShowsCrossings, halted, is_memory, crossing_of, step_crossings, up_at}
 use Rattle.leader1822.specs.Host.{Host}
 use Rattle.leader1822.specs.Mailboxes.{IsRun}
 use Rattle.leader1822.specs.Messages.{SafeMessages}
@@ -11,6 +13,7 @@ use Rattle.leader1822.specs.declared.crossing.Crossing.{Crossing}
 use Rattle.leader1822.specs.declared.crossing.Crossing.TheVariants as crossing
 use Rattle.leader1822.specs.declared.crossing.Inbound.{Inbound}
 use Rattle.leader1822.specs.declared.event.NetEvent.{NetEvent}
+use Rattle.leader1822.specs.declared.event.NetEvent.TheVariants as event
 use Rattle.leader1822.specs.declared.message.HostMessage.{HostMessage}
 use Rattle.leader1822.proofs.lemmas.{run_below, safe_messages}
 use Rattle.sockets.specs.Pairs.{NcpState}
@@ -26,7 +29,7 @@ use Rattle.host_services.specs.Services.{ServiceDeskState, ServicesState, openin
 use Rattle.host_services.specs.Turns.{server_begun, user_begun}
 use Rattle.host_services.specs.TypedLines.{line_bits}
 use Rattle.net_sim.specs.Book.{Kept, crossed, all_crossed, book_told, all_told, asked, all_asked}
-use Rattle.net_sim.specs.Carriers.{shown, IsBooked}
+use Rattle.net_sim.specs.Carriers.{shown, AreOfOneEvent, AreStops, IsBooked}
 use Rattle.net_sim.specs.Whole.{Each}
 use Rattle.net_sim.proofs.Books.Always.{run_keeps, calm_keeps}
 use Rattle.net_sim.specs.World.{Calls, WorldState, WorldFault, Carrier, Program, Event, Net, Quiet, Offer, Take, Ask, Server, User, Typed, Seat, opening_world, seat_of, services_of, noticed, tended, turn_of, with_server, with_user, with_carrier, world_moved, changed, served_at, DoesOrHalts, TypeGives, Refuses, Does, Halts, Passes, OfferEnds, OfferGives, TakeEnds, TakeGives, NetEnds, QuietEnds, AskGives, AtProgram, AtSeat, EventGives, StepGives, RunGives, CalmGives}
@@ -60,6 +63,40 @@ refused_log old e new s = ap (λ (x : Seen). x.log) s.shown ∙ same_log (is_mem
 grown_log : (old : Seen) (cs : List Crossing) (new : Seen) → ShowsCrossings old cs new → new.log ≡ cs ++ old.log
 grown_log old cs new s = ap (λ (x : Seen). x.log) s.shown
 
+-- ---- what crosses in one event
+
+stops_append : (xs ys : List Crossing) → AreStops xs → AreStops ys → AreStops (xs ++ ys)
+stops_append [] ys h k = k
+stops_append (crossing.Down h ∷ xs) ys s k = stops_append xs ys s k
+stops_append (crossing.Up h ∷ xs) ys s k = absurd s
+stops_append (crossing.Out m ∷ xs) ys s k = absurd s
+stops_append (crossing.In m ∷ xs) ys s k = absurd s
+stops_append (crossing.Answer kind f ∷ xs) ys s k = absurd s
+
+all_stop : (hs : List Host) → AreStops (reverse (map (λ h. crossing.Down h) hs))
+all_stop [] = tt
+all_stop (h ∷ hs) = subst (λ (xs : List Crossing). AreStops xs) (sym (reverse_onto (map (λ g. crossing.Down g) hs) (crossing.Down h) [])) (stops_append (reverse (map (λ g. crossing.Down g) hs)) (crossing.Down h ∷ []) (all_stop hs) tt)
+
+stops_of_one : (cs : List Crossing) → AreStops cs → AreOfOneEvent cs
+stops_of_one [] s = tt
+stops_of_one (c ∷ []) s = tt
+stops_of_one (c ∷ d ∷ cs) s = s
+
+step_of_one : (seen : Seen) (e : NetEvent) → AreOfOneEvent (step_crossings seen e)
+step_of_one seen (event.ImpDown imp) = stops_of_one (step_crossings seen (event.ImpDown imp)) (all_stop (up_at seen imp))
+step_of_one seen (event.HostDown h) = tt
+step_of_one seen (event.HostUp h) = tt
+step_of_one seen (event.Deliver line direction frame) = tt
+step_of_one seen (event.Drop line direction frame) = tt
+step_of_one seen (event.Resend imp) = tt
+step_of_one seen (event.Route imp) = tt
+step_of_one seen (event.EndDown imp line) = tt
+step_of_one seen (event.EndUp imp line) = tt
+step_of_one seen (event.ImpUp imp) = tt
+step_of_one seen (event.GiveUp f) = tt
+step_of_one seen (event.Forget at from) = tt
+step_of_one seen (event.Abandon f) = tt
+
 -- ---- one event
 
 module _ {C : Type 0} (own : Calls C) where
@@ -76,17 +113,19 @@ module _ {C : Type 0} (own : Calls C) where
         unbooked = [];
         book = ap (λ (x : C). (calls.seen x).log) carrier ∙ log ∙ ap (λ (xs : List Crossing). cs ++ xs) mine ∙ sym kept;
         all = λ running. refl;
+        one = tt;
       } in
       subst (λ (w : WorldState C). IsBooked own.seen w) (sym d.1) now
 
   halt_books : (old : WorldState C) (c : C) (cs : List Crossing) (r : Result (Unit {0}) WorldFault) (new : WorldState C) → IsBooked own.seen old → old.stopped ≡ false
-      → (calls.seen c).log ≡ cs ++ (calls.seen old.carrier).log → Halts c old r new → IsBooked own.seen new
-  halt_books old c cs r new b running log h =
+      → (calls.seen c).log ≡ cs ++ (calls.seen old.carrier).log → AreOfOneEvent cs → Halts c old r new → IsBooked own.seen new
+  halt_books old c cs r new b running log one h =
       let mine : (calls.seen old.carrier).log ≡ old.kept.book.crossings = b.book ∙ ap (λ (xs : List Crossing). xs ++ old.kept.book.crossings) (b.all running) in
       record {
         unbooked = cs;
         book = ap (λ (x : C). (calls.seen x).log) h.carrier ∙ log ∙ ap (λ (xs : List Crossing). cs ++ xs) mine ∙ ap (λ (k : Kept). cs ++ k.book.crossings) (sym h.kept);
         all = λ running. absurd (let t : true ≡ false = sym h.stopped ∙ running in cc);
+        one = one;
       }
 
   refused_books : (f : WorldFault) (old : WorldState C) (r : Result (Unit {0}) WorldFault) (new : WorldState C) → IsBooked own.seen old → Refuses f old r new → IsBooked own.seen new
@@ -96,7 +135,7 @@ module _ {C : Type 0} (own : Calls C) where
       → (calls.seen c).log ≡ (calls.seen old.carrier).log → Passes e c old r new → IsBooked own.seen new
   passed_books e c old r new b running log h =
       let mine : (calls.seen old.carrier).log ≡ old.kept.book.crossings = b.book ∙ ap (λ (xs : List Crossing). xs ++ old.kept.book.crossings) (b.all running) in
-      let now : IsBooked own.seen (record old { carrier = c; stopped = is_memory e }) = record { unbooked = []; book = log ∙ mine; all = λ running. refl } in
+      let now : IsBooked own.seen (record old { carrier = c; stopped = is_memory e }) = record { unbooked = []; book = log ∙ mine; all = λ running. refl; one = tt } in
       subst (λ (w : WorldState C). IsBooked own.seen w) (sym h.1) now
 
   offer_ends : (h : Host) (s : NcpState) (m : HostMessage) (answer : Result (Unit {0}) CarrierFault) (c : C) (old : WorldState C) (r : Result (Unit {0}) WorldFault) (new : WorldState C)
@@ -104,7 +143,7 @@ module _ {C : Type 0} (own : Calls C) where
   offer_ends h s m (Ok done) c old r new b running shows ends = elim ends [
     | inl d ↦ done_books old c (crossing.Out m ∷ []) (world_moved c h (crossing.Out m) (offered s (length old.kept.book.crossings)) old) r new b running (grown_log (calls.seen old.carrier) (crossing.Out m ∷ []) (calls.seen c) shows) refl
         (heard_crossings h (offered s (length old.kept.book.crossings)).1 (turn_of h (noticed old) (services_of h old.services) (offered s (length old.kept.book.crossings))).1.asked (crossed (crossing.Out m) old.kept)) d
-    | inr x ↦ halt_books old c (crossing.Out m ∷ []) r new b running (grown_log (calls.seen old.carrier) (crossing.Out m ∷ []) (calls.seen c) shows) x
+    | inr x ↦ halt_books old c (crossing.Out m ∷ []) r new b running (grown_log (calls.seen old.carrier) (crossing.Out m ∷ []) (calls.seen c) shows) tt x
   ]
   offer_ends h s m (Err e) c old r new b running shows ends = passed_books e c old r new b running (refused_log (calls.seen old.carrier) e (calls.seen c) shows) ends
 
@@ -112,7 +151,7 @@ module _ {C : Type 0} (own : Calls C) where
       → OfferGives calls h s o old r new → IsBooked own.seen new
   offer_books h s None old r new b running gives = subst (λ (w : WorldState C). IsBooked own.seen w) (sym gives.1) b
   offer_books h s (Some m) old r new b running gives = elim gives [
-    | inl x ↦ halt_books old old.carrier [] r new b running refl x
+    | inl x ↦ halt_books old old.carrier [] r new b running refl tt x
     | inr t ↦ offer_ends h s m t.0 t.1 old r new b running t.2.1 t.3
   ]
 
@@ -123,7 +162,7 @@ module _ {C : Type 0} (own : Calls C) where
   take_ends h s (Ok (Some i)) c old r new b running shows ends = elim ends [
     | inl d ↦ done_books old c (crossing_of i ∷ []) (world_moved c h (crossing_of i) (accepted s i (length old.kept.book.crossings)) old) r new b running (grown_log (calls.seen old.carrier) (crossing_of i ∷ []) (calls.seen c) shows.0) refl
         (heard_crossings h (accepted s i (length old.kept.book.crossings)).1 (turn_of h (noticed old) (services_of h old.services) (accepted s i (length old.kept.book.crossings))).1.asked (crossed (crossing_of i) old.kept)) d
-    | inr x ↦ halt_books old c (crossing_of i ∷ []) r new b running (grown_log (calls.seen old.carrier) (crossing_of i ∷ []) (calls.seen c) shows.0) x
+    | inr x ↦ halt_books old c (crossing_of i ∷ []) r new b running (grown_log (calls.seen old.carrier) (crossing_of i ∷ []) (calls.seen c) shows.0) tt x
   ]
   take_ends h s (Err e) c old r new b running shows ends = passed_books e c old r new b running (refused_log (calls.seen old.carrier) e (calls.seen c) shows) ends
 
@@ -132,7 +171,7 @@ module _ {C : Type 0} (own : Calls C) where
   net_ends e (Ok done) c old r new b running shows ends = elim ends [
     | inl d ↦ done_books old c (step_crossings (calls.seen old.carrier) e) (changed c (step_crossings (calls.seen old.carrier) e) old) r new b running
         (grown_log (calls.seen old.carrier) (step_crossings (calls.seen old.carrier) e) (calls.seen c) shows) refl (crossed_crossings (step_crossings (calls.seen old.carrier) e) old.kept) d
-    | inr x ↦ halt_books old c (step_crossings (calls.seen old.carrier) e) r new b running (grown_log (calls.seen old.carrier) (step_crossings (calls.seen old.carrier) e) (calls.seen c) shows) x.1
+    | inr x ↦ halt_books old c (step_crossings (calls.seen old.carrier) e) r new b running (grown_log (calls.seen old.carrier) (step_crossings (calls.seen old.carrier) e) (calls.seen c) shows) (step_of_one (calls.seen old.carrier) e) x.1
   ]
   net_ends e (Err f) c old r new b running shows ends = passed_books f c old r new b running (refused_log (calls.seen old.carrier) f (calls.seen c) shows) ends
 
@@ -147,14 +186,14 @@ module _ {C : Type 0} (own : Calls C) where
   ask_books h q s (Some f) old r new b running gives = refused_books (Program f) old r new b gives
   ask_books h q s None old r new b running gives = elim gives [
     | inl d ↦ done_books old old.carrier [] (served_at h q s old) r new b running refl refl (heard_crossings h (served_notices s q) (turn_of h (noticed old) (services_of h old.services) (served s q, served_notices s q)).1.asked (asked h q old.kept)) d
-    | inr x ↦ halt_books old old.carrier [] r new b running refl x
+    | inr x ↦ halt_books old old.carrier [] r new b running refl tt x
   ]
 
   -- something of the services alone
   begun_books : (h : Host) (t : ServicesState × ServiceDeskState) (old : WorldState C) (r : Result (Unit {0}) WorldFault) (new : WorldState C) → IsBooked own.seen old → old.stopped ≡ false
       → DoesOrHalts (tended h t old) old r new → IsBooked own.seen new
   begun_books h t old r new b running (inl d) = done_books old old.carrier [] (tended h t old) r new b running refl refl (asked_crossings h t.1.asked old.kept) d
-  begun_books h t old r new b running (inr x) = halt_books old old.carrier [] r new b running refl x
+  begun_books h t old r new b running (inr x) = halt_books old old.carrier [] r new b running refl tt x
 
   type_books : (h : Host) (line : List ℕ) (s : NcpState) (o : Option ℕ) (old : WorldState C) (r : Result (Unit {0}) WorldFault) (new : WorldState C) → IsBooked own.seen old → old.stopped ≡ false
       → TypeGives h line s o old r new → IsBooked own.seen new
@@ -211,7 +250,7 @@ module _ {C : Type 0} (own : Calls C) where
   -- ---- the opening, and the messages
 
   pub opening_booked : (c : C) → (own.seen c).log ≡ [] → IsBooked own.seen (opening_world calls c)
-  opening_booked c none = record { unbooked = []; book = none; all = λ running. refl }
+  opening_booked c none = record { unbooked = []; book = none; all = λ running. refl; one = tt }
 
   pub booked_messages : (w : WorldState C) → IsBooked own.seen w → IsRun (own.seen w.carrier).hosts (own.seen w.carrier).log → SafeMessages w.kept.book.crossings
   booked_messages w b is =

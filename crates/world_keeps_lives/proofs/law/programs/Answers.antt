@@ -1,5 +1,6 @@
 use Rattle.world_keeps_lives.proofs.Formed.{formed}
 use Rattle.world_keeps_lives.proofs.Laws.{handed, holds, live, taken}
+use Rattle.world_keeps_lives.proofs.Notices.{told}
 use Rattle.world_keeps_lives.proofs.law.programs.Goals as goal
 
 pub returns-clause-sockets : goal.returns-clause-sockets
@@ -19,3 +20,6 @@ returns-clause-handed c hosts moments addresses run time = handed hosts moments 
 
 pub returns-clause-formed : goal.returns-clause-formed
 returns-clause-formed c hosts moments addresses run time = formed hosts addresses moments run time
+
+pub returns-clause-told : goal.returns-clause-told
+returns-clause-told c hosts moments addresses run time = told hosts addresses moments run time

@@ -1,5 +1,6 @@
 use Rattle.world_keeps_lives.proofs.Formed.{world_formed}
 use Rattle.world_keeps_lives.proofs.Laws.{world_handed, world_live, world_taken}
+use Rattle.world_keeps_lives.proofs.Notices.{world_told}
 use Rattle.world_keeps_lives.proofs.law.worlds.Goals as goal
 
 pub returns-clause-live : goal.returns-clause-live
@@ -13,3 +14,6 @@ returns-clause-handed g c hosts w lawful = world_handed g.C.Carrier.seen hosts w
 
 pub returns-clause-formed : goal.returns-clause-formed
 returns-clause-formed g c hosts w lawful = world_formed g.C.Carrier.seen hosts w lawful
+
+pub returns-clause-told : goal.returns-clause-told
+returns-clause-told g c hosts w lawful = world_told g.C.Carrier.seen hosts w lawful
