@@ -8,7 +8,6 @@ ghost use Rattle.sockets.specs.Sending as sending;
 
 use crate::ncp::Ncp;
 use crate::peers::Peers;
-use crate::sending::next_in;
 use crate::{NcpFault, Notice};
 use host_pairs::Outgoing;
 use leader1822::HostAddr;
@@ -20,7 +19,7 @@ impl Peers {
         ensures next { MatchOption result (sending.next_in self.now ≡ None) (λ found. sending.next_in self.now ≡ Some (record { host = found.0; pair = pair_with found.0 self.now }, parcel_of (pair_with found.0 self.now).entries found.1)) }
         ensures there { IfSome result (λ found. IsThere (pair_with found.0 self.now).entries found.1) }
     {
-        let Some((peer, out)) = next_in(self.as_slice()) else {
+        let Some((peer, out)) = self.first() else {
             return None;
         };
         let host = peer.host;

@@ -1,17 +1,20 @@
 //! What a host knows of the others.
 
-ghost use Rattle.std.specs.Prelude.{◌≡◌, ◌<◌, ◌≤◌, [], OnOk, OnErr, MatchResult, MatchOption, Some, None, length, find, true, false, nat_lt, slice_set, slice_index_or};
+ghost use Rattle.std.specs.Prelude.{◌≡◌, ◌<◌, ◌≤◌, [], OnOk, OnErr, MatchResult, MatchOption, IfSome, Some, None, length, find, is_some, map, position, true, false, nat_lt, slice_set, slice_index_or};
 ghost use Rattle.std.specs.Bool.{OnTrue, OnFalse};
 ghost use Rattle.std.specs.List as lists;
 ghost use Rattle.std.specs.List.Sorted.{IsPartitionPoint};
 ghost use Rattle.leader1822.specs.Host.{address_octet, same_host};
+ghost use Rattle.host_pairs.specs.Outgoing.{HasRoom, IsThere, parcel_of};
 ghost use Rattle.host_pairs.specs.Pair.{PairState, opening_pair};
+ghost use Rattle.host_pairs.specs.Parcels.{next_of};
 ghost use Rattle.sockets.specs.Pairs.{owner_of, pair_with, with_pair, placed, without_peer};
-ghost use Rattle.sockets.specs.Peers.{AreInOrder};
+ghost use Rattle.sockets.specs.Peers.{AreInOrder, has_parcel};
+ghost use Rattle.sockets.specs.Sending.{next_in};
 ghost use Rattle.sockets.specs.declared.peer.Peer.{Peer};
 
 use crate::peer::Peer;
-use host_pairs::{Entry, Pair, own_place};
+use host_pairs::{Entry, Outgoing, Pair, own_place};
 use leader1822::HostAddr;
 use std::alloc::{AllocError, Global};
 use std::marker::Model;
@@ -19,21 +22,24 @@ use std::mem;
 
 /// The other hosts that this one has to do with, in order of their address octets. A host that isn't here has
 /// a pair as at the opening.
+///
+/// Beside each stands whether something goes to it, so that the next message is found without a look at the others.
 #[derive(Drop)]
 pub(crate) struct Peers {
     peers: Vec<Peer>,
+    due: Vec<bool>,
 }
 
 impl Model for Peers {
-    ghost use Rattle.std.specs.Prelude.{List};
-    ghost use Rattle.sockets.specs.Peers.{AreInOrder};
+    ghost use Rattle.std.specs.Prelude.{◌≡◌, List, map};
+    ghost use Rattle.sockets.specs.Peers.{AreInOrder, has_parcel};
     ghost use Rattle.sockets.specs.declared.peer.Peer.{Peer};
 
     ghost Value = { List Peer };
 
     ghost view = { λ p. p.peers.items };
 
-    ghost invariant = { λ p. AreInOrder p.peers.items };
+    ghost invariant = { λ p. AreInOrder p.peers.items × (p.due.items ≡ map has_parcel p.peers.items) };
 }
 
 impl Peers {
@@ -43,6 +49,7 @@ impl Peers {
     {
         Peers {
             peers: Vec::new(alloc),
+            due: Vec::new(alloc),
         }
     }
 
@@ -78,6 +85,19 @@ impl Peers {
         None
     }
 
+    /// The first peer that something goes to, and what.
+    pub fn first(&self) -> Option<(&Peer, Outgoing)>
+        ensures next { MatchOption result (next_in self.now ≡ None) (λ found. next_in self.now ≡ Some (found.0.now, parcel_of found.0.now.pair.entries found.1)) }
+        ensures there { IfSome result (λ found. IsThere found.0.now.pair.entries found.1) }
+        ensures room { IfSome result (λ found. HasRoom found.0.now.pair.entries found.0.now.pair.queue found.1) }
+        ensures order { AreInOrder self.now }
+    {
+        let at = first_due(&self.due)?;
+        let peer = &self.peers[at];
+        let out = peer.pair.next()?;
+        Some((peer, out))
+    }
+
     /// Takes what is known of a peer out, to be changed and put back: its place is kept, so a peer that was
     /// known is put back without memory.
     pub fn take(&mut self, alloc: Global, host: HostAddr) -> Pair
@@ -85,7 +105,7 @@ impl Peers {
         ensures known { length self.new ≡ length self.old }
         ensures again { (pair : PairState) → with_pair host pair self.new ≡ with_pair host pair self.old }
     {
-        swap(&mut self.peers, host, Pair::new(alloc))
+        swap(&mut self.peers, &mut self.due, host, Pair::new(alloc))
     }
 
     /// Puts what is known of a peer in. One with a pair as at the opening isn't kept.
@@ -94,57 +114,93 @@ impl Peers {
         ensures memory { OnErr result (length self.old < length (with_pair host pair self.old)) }
     {
         if pair.is_opening() {
-            remove(&mut self.peers, host);
+            remove(&mut self.peers, &mut self.due, host);
             return Ok(());
         }
-        insert(&mut self.peers, host, pair)
+        insert(&mut self.peers, &mut self.due, host, pair)
     }
 }
 
+/// The first place of a peer that something goes to.
+fn first_due(due: &[bool]) -> Option<usize>
+    ensures { result ≡ position (λ is_due. is_due) due.now }
+{
+    due.iter().position(|is_due| *is_due)
+}
+
+/// Whether something of a pair goes out next.
+fn has_something(pair: &Pair) -> bool
+    ensures { result ≡ is_some (next_of pair.now) }
+{
+    pair.next().is_some()
+}
+
 /// Removes a host from the peers.
-fn remove(peers: &mut Vec<Peer>, host: HostAddr)
-    requires { AreInOrder peers.old.items }
+fn remove(peers: &mut Vec<Peer>, due: &mut Vec<bool>, host: HostAddr)
+    requires order { AreInOrder peers.old.items }
+    requires due { due.old.items ≡ map has_parcel peers.old.items }
     ensures left { peers.new.items ≡ without_peer host peers.old.items }
     ensures order { AreInOrder peers.new.items }
+    ensures due { due.new.items ≡ map has_parcel peers.new.items }
 {
     if let Ok(at) = place(peers, host) {
         let _ = peers.remove(at);
+        let _ = due.remove(at);
     }
 }
 
 /// Gives what is known of a host, and leaves a pair as at the opening in its place.
-fn swap(peers: &mut Vec<Peer>, host: HostAddr, opening: Pair) -> Pair
+fn swap(peers: &mut Vec<Peer>, due: &mut Vec<bool>, host: HostAddr, opening: Pair) -> Pair
     requires order { AreInOrder peers.old.items }
+    requires due { due.old.items ≡ map has_parcel peers.old.items }
     requires opening { opening ≡ opening_pair }
     ensures found { result ≡ pair_with host peers.old.items }
     ensures known { length peers.new.items ≡ length peers.old.items }
     ensures order { AreInOrder peers.new.items }
     ensures again { (pair : PairState) → with_pair host pair peers.new.items ≡ with_pair host pair peers.old.items }
+    ensures due { due.new.items ≡ map has_parcel peers.new.items }
 {
     match place(peers, host) {
-        Ok(at) => mem::replace(
-            &mut peers[at],
-            Peer {
+        Ok(at) => {
+            due[at] = false;
+            let known = Peer {
                 host,
                 pair: opening,
-            },
-        )
-        .pair,
+            };
+            mem::replace(&mut peers[at], known).pair
+        }
         Err(_) => opening,
     }
 }
 
 /// Puts a host among the peers, or in the place of what stood there of it.
 #[tactic(auto, using(crate::proofs::PeerLemmas::missing_more))]
-fn insert(peers: &mut Vec<Peer>, host: HostAddr, pair: Pair) -> Result<(), AllocError>
-    requires { AreInOrder peers.old.items }
+fn insert(
+    peers: &mut Vec<Peer>,
+    due: &mut Vec<bool>,
+    host: HostAddr,
+    pair: Pair,
+) -> Result<(), AllocError>
+    requires order { AreInOrder peers.old.items }
+    requires due { due.old.items ≡ map has_parcel peers.old.items }
     ensures placed { OnOk result (peers.new.items ≡ placed (record { host = host; pair = pair }) peers.old.items) }
     ensures order { AreInOrder peers.new.items }
     ensures memory { OnErr result (length peers.old.items < length (placed (record { host = host; pair = pair }) peers.old.items)) }
+    ensures due { due.new.items ≡ map has_parcel peers.new.items }
 {
+    let is_due = has_something(&pair);
     match place(peers, host) {
-        Ok(at) => peers[at] = Peer { host, pair },
-        Err(at) => peers.insert(at, Peer { host, pair })?,
+        Ok(at) => {
+            peers[at] = Peer { host, pair };
+            due[at] = is_due;
+        }
+        Err(at) => {
+            due.reserve(1)?;
+            peers.insert(at, Peer { host, pair })?;
+            let Ok(()) = due.insert(at, is_due) else {
+                unreachable!();
+            };
+        }
     }
     Ok(())
 }

@@ -1,6 +1,6 @@
 //! The message that goes out next.
 
-ghost use Rattle.std.specs.Prelude.{◌≡◌, ◌≤◌, IfErr, IfOk, IfSome, is_some, MatchOption, MatchResult, Some, None, length, true};
+ghost use Rattle.std.specs.Prelude.{◌≡◌, IfErr, IfOk, is_some, MatchResult, true};
 ghost use Rattle.host_pairs.specs.Allowed.{IsReadAs};
 ghost use Rattle.sockets.specs.Others.{IsReadFrom};
 ghost use Rattle.host_pairs.specs.Outgoing.{HasRoom, IsThere, parcel_of};
@@ -13,20 +13,6 @@ use crate::peer::Peer;
 use host_pairs::Outgoing;
 use leader1822::{Flow, HostMessage, Link, Text};
 use std::alloc::AllocError;
-
-/// The first peer that something goes to, and what.
-pub(crate) fn next_in(peers: &[Peer]) -> Option<(&Peer, Outgoing)>
-    ensures next { MatchOption result (sending.next_in peers.now ≡ None) (λ found. sending.next_in peers.now ≡ Some (found.0.now, parcel_of found.0.now.pair.entries found.1)) }
-    ensures there { IfSome result (λ found. IsThere found.0.now.pair.entries found.1) }
-    ensures room { IfSome result (λ found. HasRoom found.0.now.pair.entries found.0.now.pair.queue found.1) }
-{
-    for peer in peers {
-        if let Some(out) = peer.pair.next() {
-            return Some((peer, out));
-        }
-    }
-    None
-}
 
 impl Ncp {
     /// The message that goes out to a peer.
@@ -64,7 +50,7 @@ impl Ncp {
         ensures memory { IfErr result (λ f. is_some (sending.next_in self.now.peers) ≡ true) }
         ensures message { MatchResult result (λ message. message ≡ sending.next_out self.now) (λ f. f ≡ fault.OutOfMemory) }
     {
-        let Some((peer, out)) = next_in(self.peers.as_slice()) else {
+        let Some((peer, out)) = self.peers.first() else {
             return Ok(None);
         };
         let Ok(message) = self.message_for(peer, &out) else {

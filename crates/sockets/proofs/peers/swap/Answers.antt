@@ -1,5 +1,6 @@
 use Rattle.std.proofs.Common.{rules}
 use Rattle.leader1822.specs.Host.{IsAddress}
+use Rattle.sockets.proofs.DueLemmas.{opening_due}
 use Rattle.sockets.proofs.PeerLemmas.{again_swapped, order_placed}
 use Rattle.sockets.proofs.peers.swap.Goals as goal
 
@@ -10,3 +11,7 @@ returns-in-Ok-clause-order c =
 
 pub returns-in-Ok-clause-again : goal.returns-in-Ok-clause-again
 returns-in-Ok-clause-again c = λ pair. again_swapped c.args.host c.args.opening pair c.args.peers.now.items _ (search rules)
+
+pub returns-in-Ok-clause-due : goal.returns-in-Ok-clause-due
+returns-in-Ok-clause-due c =
+    opening_due c.args.host c.args.opening c.args.peers.now.items c.args.due.now.items c.in-Ok.at c.replace.new.dest c.requires.due c.requires.opening (search rules)

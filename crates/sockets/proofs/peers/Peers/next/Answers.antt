@@ -8,10 +8,10 @@ pub returns-clause-next : goal.returns-clause-next
 returns-clause-next c =
     let found : next_in c.args.self.now ≡ Some (c.in-Some.peer.now, parcel_of c.in-Some.peer.now.pair.entries c.in-Some.out) = search rules in
     let there : IsThere c.in-Some.peer.now.pair.entries c.in-Some.out = search rules in
-    (next_by_host c.args.self.now c.in-Some.peer.now c.in-Some.out c.as_slice.ensures.order found there).found
+    (next_by_host c.args.self.now c.in-Some.peer.now c.in-Some.out c.first.ensures.order found there).found
 
 pub returns-clause-there : goal.returns-clause-there
 returns-clause-there c =
     let found : next_in c.args.self.now ≡ Some (c.in-Some.peer.now, parcel_of c.in-Some.peer.now.pair.entries c.in-Some.out) = search rules in
     let there : IsThere c.in-Some.peer.now.pair.entries c.in-Some.out = search rules in
-    (next_by_host c.args.self.now c.in-Some.peer.now c.in-Some.out c.as_slice.ensures.order found there).there
+    (next_by_host c.args.self.now c.in-Some.peer.now c.in-Some.out c.first.ensures.order found there).there
