@@ -16,6 +16,7 @@ ghost use Rattle.leader1822.specs.declared.crossing.Inbound.TheVariants as inbou
 ghost use Rattle.leader1822.specs.declared.flows.Pending.TheVariants as pending;
 
 use crate::flows::{Flows, Pending};
+use crate::hosts::Hosts;
 use crate::queues::Queues;
 use crate::{Answer, CarrierFault, Crossing, Flow, HostAddr, HostMessage, Inbound};
 use std::alloc::{AllocError, Global};
@@ -29,7 +30,7 @@ use std::marker::Model;
 /// keeps.
 #[derive(Drop)]
 pub(crate) struct Contents {
-    hosts: Vec<HostAddr>,
+    hosts: Hosts,
     down: Vec<HostAddr>,
     messages: Queues<HostMessage>,
     answers: Queues<(Answer, Flow)>,
@@ -49,7 +50,7 @@ impl Model for Contents {
 
     ghost coded = { Prim.hlevel (codes, coded_queues, coded_answers, coded_flows) };
 
-    ghost view = { λ b. record { boxes = record { hosts = b.hosts.items; down = b.down.items; messages = b.messages; answers = b.answers; log = reverse b.log.items; stopped = b.stopped }; flows = b.flows } };
+    ghost view = { λ b. record { boxes = record { hosts = b.hosts; down = b.down.items; messages = b.messages; answers = b.answers; log = reverse b.log.items; stopped = b.stopped }; flows = b.flows } };
 }
 
 impl Contents {
@@ -58,7 +59,7 @@ impl Contents {
         ensures { result ≡ record { boxes = boxes.opening_boxes hosts.items; flows = map.empty } }
     {
         Contents {
-            hosts,
+            hosts: Hosts::new(hosts),
             down: Vec::new(alloc),
             messages: Queues::new(alloc),
             answers: Queues::new(alloc),
@@ -74,7 +75,7 @@ impl Contents {
     pub(crate) fn hosts(&self) -> &[HostAddr]
         ensures { result.now ≡ self.now.boxes.hosts }
     {
-        &self.hosts
+        self.hosts.all()
     }
 
     /// The log, oldest first.

@@ -15,6 +15,7 @@ mod contents;
 mod crossing;
 mod event;
 mod flows;
+mod hosts;
 pub mod law;
 mod leader;
 mod message;

@@ -125,7 +125,7 @@ impl Queues<(Answer, Flow)> {
     }
 }
 
-/// Takes the one message of a flow out of a queue, which is looked through from its newest end.
+/// Takes the one message of a flow out of a queue, which is looked through from both ends at once.
 fn remove_message(queue: &mut VecDeque<HostMessage>, flow: &Flow)
     requires { length (filter (is_of flow.now) queue.old.items) ≡ 1 }
     ensures { queue.new.items ≡ filter (λ m. not (is_of flow.now m)) queue.old.items }
@@ -137,10 +137,15 @@ fn remove_message(queue: &mut VecDeque<HostMessage>, flow: &Flow)
             queue.remove(place);
             return;
         }
+        let oldest = queue.len() - 1 - place;
+        if *flow == queue[oldest].flow {
+            queue.remove(oldest);
+            return;
+        }
     }
 }
 
-/// Takes the one RFNM about a flow out of a queue, which is looked through from its newest end.
+/// Takes the one RFNM about a flow out of a queue, which is looked through from both ends at once.
 fn remove_rfnm(queue: &mut VecDeque<(Answer, Flow)>, flow: &Flow)
     requires { length (filter (is_rfnm_about flow.now) queue.old.items) ≡ 1 }
     ensures left { queue.new.items ≡ filter (λ a. not (is_rfnm_about flow.now a)) queue.old.items }
@@ -152,6 +157,12 @@ fn remove_rfnm(queue: &mut VecDeque<(Answer, Flow)>, flow: &Flow)
         let (kind, about) = queue[place];
         if *flow == about && kind == Answer::Rfnm {
             queue.remove(place);
+            return;
+        }
+        let oldest = queue.len() - 1 - place;
+        let (kind, about) = queue[oldest];
+        if *flow == about && kind == Answer::Rfnm {
+            queue.remove(oldest);
             return;
         }
     }
