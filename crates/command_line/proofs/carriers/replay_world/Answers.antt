@@ -5,8 +5,8 @@ use Rattle.command_line.proofs.Faults.{told_memory, told_write}
 use Rattle.command_line.proofs.Written.{world_writes_all, world_writes_part}
 use Rattle.command_line.proofs.carriers.replay_world.Goals as goal
 
-pub returns-in_ok-write_lives-in-Ok-clause-replayed : goal.returns-in_ok-write_lives-in-Ok-clause-replayed
-returns-in_ok-write_lives-in-Ok-clause-replayed g c =
+pub returns-in-Ok-clause-replayed : goal.returns-in-Ok-clause-replayed
+returns-in-Ok-clause-replayed g c =
     let calls : Calls g.row.C.Denot = record { seen = g.C.Carrier.seen; offers = g.C.Carrier.offers; takes = g.C.Carrier.takes; steps = g.C.Carrier.steps; rounds = g.C.Carrier.rounds } in
     world_writes_all calls c.args.carrier c.in_ok-world.world c.replay_events-outcome.new.world c.args.events.items c.lives.result.now c.args.book c.args.detail
     (g.W.Output.contents c.args.writer.now) (g.W.Output.contents c.replay_events-outcome.new.writer) (g.W.Output.contents c.write_lives.new.writer)
