@@ -8,7 +8,7 @@ use Rattle.net_sim.specs.Book.{opening_kept}
 use Rattle.net_sim.specs.Carriers.{shown}
 use Rattle.net_sim.specs.World.{WorldState, opening_world}
 use Rattle.net_sim.specs.declared.life.Life.{Life}
-use Rattle.replay.specs.Output.{Shown, Writes, crossings_of, output}
+use Rattle.replay.specs.Output.{Writes, crossings_of, output}
 use Rattle.replay.specs.Replay.{Calls, EndsIn, Replays, StopsIn}
 use Rattle.replay.specs.declared.print.Detail.{Detail}
 use Rattle.replay.proofs.lemmas.{appends_more, on_ok, replays_show, stops_show}
