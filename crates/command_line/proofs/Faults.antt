@@ -38,16 +38,18 @@ known_read None octets network events r same read known = tt
 known_read (Some k) octets network events r same read known = after_reading k r (network, events, subst (λ o. IsInput o network events) same read) known
 
 -- octets that were not read: too many, or memory ran out
-pub unread : {T : Type 0} (known : Option (List ℕ)) (r : Result T ScriptFault) (failed : Bool) → IfErr r IsReadFault → (r ≡ Err fault.BadTopology → IfSome known (λ k. 1048576 < length k))
-    → (r ≡ Err fault.CannotRead → failed ≡ true) → failed ≡ false → IfErr r (λ f. IfSome known (λ k. IsInputFault k f))
-unread known (Ok octets) failed read long told whole = tt
-unread None (Err f) failed read long told whole = tt
-unread (Some k) (Err fault.BadTopology) failed read long told whole = inl (long refl)
-unread (Some k) (Err fault.OutOfMemory) failed read long told whole = tt
-unread (Some k) (Err fault.CannotRead) failed read long told whole = absurd (false≢true (sym whole ∙ told refl))
-unread (Some k) (Err fault.BadOptions) failed read long told whole = absurd read
-unread (Some k) (Err fault.CannotWrite) failed read long told whole = absurd read
-unread (Some k) (Err (fault.BadLine number)) failed read long told whole = absurd read
+unread_known : (k : List ℕ) (f : ScriptFault) (failed : Bool) → IsReadFault f → (f ≡ fault.BadTopology → 1048576 < length k) → (f ≡ fault.CannotRead → failed ≡ true) → failed ≡ false → IsInputFault k f
+unread_known k fault.BadTopology failed read long told whole = inl (long refl)
+unread_known k fault.OutOfMemory failed read long told whole = tt
+unread_known k fault.CannotRead failed read long told whole = absurd (false≢true (sym whole ∙ told refl))
+unread_known k fault.BadOptions failed read long told whole = absurd read
+unread_known k fault.CannotWrite failed read long told whole = absurd read
+unread_known k (fault.BadLine number) failed read long told whole = absurd read
+
+pub unread : (known : Option (List ℕ)) (r : Result (Unit {0}) ScriptFault) (f : ScriptFault) (failed : Bool) → r ≡ Err f → IsReadFault f → (f ≡ fault.BadTopology → IfSome known (λ k. 1048576 < length k))
+    → (f ≡ fault.CannotRead → failed ≡ true) → failed ≡ false → IfSome known (λ k. MatchResult r (λ done. IsSomeInput k) (IsInputFault k))
+unread None r f failed is read long told whole = tt
+unread (Some k) r f failed is read long told whole = subst (λ q. MatchResult q (λ done. IsSomeInput k) (IsInputFault k)) (sym is) (unread_known k f failed read long told whole)
 
 abbrev ends_with : ScriptFault → Result (Unit {0}) ScriptFault
 ends_with f = Err f

@@ -1,8 +1,8 @@
-use Rattle.std.proofs.Common.{subst}
+use Rattle.std.proofs.Common.{◌≡◌, Err, ap, rules, subst}
 use Rattle.replay.proofs.lemmas.{on_ok}
 use Rattle.command_line.specs.Events.{asked_of}
 use Rattle.command_line.specs.Input.{IsInput}
-use Rattle.command_line.proofs.Faults.{known_read}
+use Rattle.command_line.proofs.Faults.{known_read, unread}
 use Rattle.command_line.proofs.Written.{known_replayed, known_stopped, ran, ran_in_part}
 use Rattle.command_line.proofs.simulator.run_script.Goals as goal
 
@@ -31,3 +31,9 @@ returns-clause-first_part g c = λ e.
 pub returns-clause-ran : goal.returns-clause-ran
 returns-clause-ran g c = λ off.
     on_ok c.replay_on.result (ran c.in_ok-network.field-0.network c.args.book c.args.detail (asked_of c.in_ok-network.field-0.events) (g.W.Output.contents c.args.writer.now) (g.W.Output.contents c.replay_on.new.writer)) c.replay_on.ensures.replayed
+
+pub returns-in_err-octets-clause-read : goal.returns-in_err-octets-clause-read
+returns-in_err-octets-clause-read g c = λ whole.
+    let same : c.from_residual-in_err-octets.result ≡ Err c.in_err-octets.field-0.0 = search rules in
+    unread (g.R.Source.remaining c.args.reader.now) c.from_residual-in_err-octets.result c.in_err-octets.field-0.0 (g.R.Source.failed c.read_octets.new.reader) same
+    c.in_err-octets.ensures.fault (λ e. c.in_err-octets.ensures.too_long (ap Err e)) (λ e. c.in_err-octets.ensures.failed.0 (ap Err e)) whole
