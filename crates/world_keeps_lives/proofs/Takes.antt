@@ -2,7 +2,6 @@
 use Rattle.std.proofs.Common.{◌≡◌, ℕ, ◌+◌, ◌-◌, ◌≤◌, ◌<◌, ◌==◌, ◌&&◌, ◌||◌, Bool, true, false, not, nat_le, nat_lt, if◌then◌else◌, List, [], ◌∷◌, find, length, take, Option, Some, None, is_some, refl, ap, sym, subst, ◌∙◌, arith}
 use Rattle.std.proofs.lemmas.Bool.{eqb-true, leb-true, ltb-false, ltb-true}
 use Rattle.std.proofs.lemmas.List.{length-append, length-drop, length-take-le}
-use Rattle.std.proofs.Math.Option.{some-injective}
 use Rattle.std.specs.List.{list_any}
 use Rattle.leader1822.specs.Host.{Host, same_host}
 use Rattle.ncp_control.specs.Allocation as counters
@@ -83,6 +82,10 @@ sender_still p e c x t off i = record { peers = i.peers; foreign = i.foreign; ow
 covered : (bits : ℕ) (c : Allocation) → is_covered bits c ≡ true → (0 < c.messages) × (bits ≤ c.bits)
 covered bits c is = let h : (nat_lt 0 c.messages ≡ true) × (nat_le bits c.bits ≡ true) = both (nat_lt 0 c.messages) (nat_le bits c.bits) is in (ltb-true 0 c.messages h.0, leb-true bits c.bits h.1)
 
+abbrev header_or : DataHeader → Option DataHeader → DataHeader
+header_or d None = d
+header_or d (Some h) = h
+
 -- a text with a header holds all the data that this announces
 data_whole : (text : List Bool) (h : DataHeader) → header_of text ≡ Some h → length (data_of (data_bits h) text) ≡ data_bits h
 data_whole text h is = by (nat_lt (length text) 40) (nat_lt (length text) (40 + data_bits (fields_of text))) refl refl is where
@@ -90,7 +93,7 @@ data_whole text h is = by (nat_lt (length text) 40) (nat_lt (length text) (40 + 
   by true c e f g = absurd (cc)
   by false true e f g = absurd (cc)
   by false false e f g =
-      let same : fields_of text ≡ h = some-injective (fields_of text) h g in
+      let same : fields_of text ≡ h = ap (header_or h) g in
       let long : 40 + data_bits (fields_of text) ≤ length text = ltb-false (length text) (40 + data_bits (fields_of text)) f in
       let many : 40 + data_bits h ≤ length text = subst (λ (f : DataHeader). 40 + data_bits f ≤ length text) same long in
       length-drop 40 (take (40 + data_bits h) text) ∙ ap (λ (n : ℕ). n - 40) (length-take-le (40 + data_bits h) text many) ∙ omega arith
