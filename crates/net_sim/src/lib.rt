@@ -20,6 +20,7 @@ mod hosting;
 pub mod law;
 mod life;
 mod lives;
+mod open;
 mod parts;
 mod seat;
 mod undo;
