@@ -66,3 +66,16 @@ fails_with f = Err f
 pub told_write : (f : ReplayFault) (g : ScriptFault) (failed : Bool) → g ≡ told_as f → TellsCannotWrite (fails_with f) failed → (ends_with g ≡ ends_with fault.CannotWrite) ↔ (failed ≡ true)
 told_write replay.OutOfMemory g failed told h = ((λ e. cc), (λ e. absurd (false≢true (sym h ∙ e))))
 told_write replay.CannotWrite g failed told h = ((λ e. h), (λ e. ap ends_with told))
+
+-- what can't be written is told as that alone
+pub write_fault : (r : Result (Unit {0}) ScriptFault) → IfErr r (λ f. f ≡ fault.CannotWrite) → IfErr r IsReplayFault
+write_fault (Ok done) h = tt
+write_fault (Err f) h = subst IsReplayFault (sym h) tt
+
+abbrev err_of : Result (Unit {0}) ScriptFault → ScriptFault
+err_of (Ok done) = fault.OutOfMemory
+err_of (Err f) = f
+
+-- and where nothing was written no write has failed
+pub unwritten : (r : Result (Unit {0}) ScriptFault) (f : ScriptFault) (failed : Bool) → r ≡ Err f → (f ≡ fault.CannotWrite → ⊥) → failed ≡ false → (r ≡ Err fault.CannotWrite) ↔ (failed ≡ true)
+unwritten r f failed is other whole = (λ e. absurd (other (ap err_of (sym is ∙ e))), λ e. absurd (false≢true (sym whole ∙ e)))

@@ -1,6 +1,6 @@
 //! What the simulator reads: octets up to a limit, and the topology and the script in them.
 
-ghost use Rattle.std.specs.Prelude.{◌≡◌, ◌≤◌, Err, IsUtf8, ◌<◌, ◌↔◌, false, length, IfSome, IfOk, IfErr, MatchResult, true};
+ghost use Rattle.std.specs.Prelude.{◌≡◌, ◌≢◌, ◌≤◌, Err, IsUtf8, ◌<◌, ◌↔◌, false, length, IfSome, IfOk, IfErr, MatchResult, true};
 ghost use Rattle.command_line.specs.Described.{Describes};
 ghost use Rattle.command_line.specs.Events.{AsksFor, asked_of};
 ghost use Rattle.command_line.specs.Input.{IsInput, IsInputFault};
@@ -42,6 +42,7 @@ pub(crate) fn read_input(alloc: Global, octets: &[u8]) -> Result<Input, ScriptFa
     requires { length octets.now ≤ MAX_INPUT }
     ensures read { IfOk result (λ input. IsInput octets.now input.network (asked_of input.events)) }
     ensures fault { IfErr result (IsInputFault octets.now) }
+    ensures read_only { IfErr result (λ f. f ≢ ScriptFault.CannotWrite) }
 {
     let Some((topology, script)) = split_input(octets) else {
         return Err(ScriptFault::BadTopology);

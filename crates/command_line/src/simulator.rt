@@ -136,8 +136,21 @@ pub fn run_script<R: Source, W: Output>(
     let octets = read_octets(alloc, reader)?;
     let Input { network, events } = read_input(alloc, &octets)?;
     if check {
-        Ok(write_last(writer, b"ok\n")?)
+        write_ok(writer)
     } else {
         replay_on(alloc, &network, events, book, detail, writer)
     }
+}
+
+/// Writes that what was read is an input.
+///
+/// Errors: `CannotWrite`.
+fn write_ok<W: Output>(writer: &mut W) -> Result<(), ScriptFault>
+    requires { W.failed writer.old ≡ false }
+    ensures written { OnOk result (Appends (W.contents writer.old) (W.contents writer.new) (codes "ok\n")) }
+    ensures fault { IfErr result (λ f. f ≡ ScriptFault.CannotWrite) }
+    ensures failed { (result ≡ Err ScriptFault.CannotWrite) ↔ (W.failed writer.new ≡ true) }
+    ensures flushed { OnOk result (W.flushed writer.new ≡ true) }
+{
+    Ok(write_last(writer, b"ok\n")?)
 }

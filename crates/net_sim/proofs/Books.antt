@@ -1,5 +1,5 @@
 -- The book of a world: what each event puts into it, and what it keeps. Main lemmas: Whole `step_whole` (after an event the book still tells one list
--- of moments), Whole `run_whole` (after a list of events), Places `all_changed` (what is done to the open lives is done to all), Booked (the book has
+-- of moments), Whole `run_whole` (after a list of events), Marks `all_changed` (what is done at the known places is done to all lives), Booked (the book has
 -- what crossed), Reported `step_reported` (what services have reported is so), Refusals `step_stands` (a refusal, and running out of memory, leave it as it was).
 pub mod Always
 pub mod BookEvents
@@ -8,6 +8,7 @@ pub mod Held
 pub mod InOrder
 pub mod LifeLoops
 pub mod Machines
+pub mod Marks
 pub mod Places
 pub mod Refusals
 pub mod Reported

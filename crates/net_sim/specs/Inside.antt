@@ -1,5 +1,6 @@
 -- What a value of this crate keeps true of itself. No public clause cites it, so a caller need not read it.
 pub mod Lives
+pub mod Open
 pub mod Places
 pub mod Endings
 pub mod Seats

@@ -21,6 +21,7 @@ mod hosting;
 pub mod law;
 mod life;
 mod lives;
+mod open;
 mod parts;
 mod seat;
 mod undo;

@@ -4,7 +4,7 @@ ghost use Rattle.std.specs.Prelude.{◌≡◌, ◌++◌, if◌then◌else◌, On
 ghost use Rattle.net_sim.specs.Book as book;
 ghost use Rattle.net_sim.specs.Book.{lives_at, lives_between, lives_with, lives_on, changed_when};
 ghost use Rattle.net_sim.specs.Inside.Endings.{ends};
-ghost use Rattle.net_sim.specs.Inside.Undo.{AreNoted, IsNoted, life_back, mark_of};
+ghost use Rattle.net_sim.specs.Inside.Undo.{AreNoted, IsEndNoted, IsNoted, life_back, mark_of};
 
 use crate::bit_log::BitLog;
 use crate::undo::{Mark, Undo};
@@ -151,13 +151,22 @@ impl Life {
         }
     }
 
-    /// It ends, where it is one of those that do.
-    pub(crate) fn end(&mut self, ending: &Ending)
-        ensures { self.new ≡ changed_when (ends ending.now self.old) book.life_ended self.old }
+    /// It ends, where it is one of those that do, and that is noted.
+    pub(crate) fn end_at(
+        &mut self,
+        at: usize,
+        ending: &Ending,
+        done: &mut Vec<Undo>,
+    ) -> Result<(), AllocError>
+        ensures done { OnOk result (self.new ≡ changed_when (ends ending.now self.old) book.life_ended self.old) }
+        ensures noted { IsEndNoted at done.old.items self.old done.new.items self.new }
     {
-        if self.is_of(ending) {
-            self.ended = true;
+        if !self.is_of(ending) {
+            return Ok(());
         }
+        done.push(Undo::Ended { at })?;
+        self.ended = true;
+        Ok(())
     }
 
     /// Its counts.
@@ -193,7 +202,6 @@ impl Life {
         done: &mut Vec<Undo>,
     ) -> Result<(), AllocError>
         ensures done { OnOk result (self.new ≡ changed_when (lives_at host socket self.old) (book.carried bits.now) self.old) }
-        ensures goes_on { self.new.ended ≡ self.old.ended }
         ensures noted { IsNoted at done.old.items self.old done.new.items self.new }
     {
         if !self.is_at(host, socket) {
@@ -222,7 +230,6 @@ impl Life {
         done: &mut Vec<Undo>,
     ) -> Result<(), AllocError>
         ensures done { OnOk result (self.new ≡ changed_when (lives_at host socket self.old) (book.granted messages bits) self.old) }
-        ensures goes_on { self.new.ended ≡ self.old.ended }
         ensures noted { IsNoted at done.old.items self.old done.new.items self.new }
     {
         if !self.is_at(host, socket) {
@@ -246,7 +253,6 @@ impl Life {
         done: &mut Vec<Undo>,
     ) -> Result<(), AllocError>
         ensures done { OnOk result (self.new ≡ changed_when (lives_at host socket self.old) (book.returned messages bits) self.old) }
-        ensures goes_on { self.new.ended ≡ self.old.ended }
         ensures noted { IsNoted at done.old.items self.old done.new.items self.new }
     {
         if !self.is_at(host, socket) {

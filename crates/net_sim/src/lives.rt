@@ -1,16 +1,17 @@
 //! What each thing that happens does to all lives.
 
-ghost use Rattle.std.specs.Prelude.{◌≡◌, Bool, false, filter, IfOk, List, OnErr, OnOk};
+ghost use Rattle.std.specs.Prelude.{◌≡◌, Bool, List, OnErr, OnOk};
 ghost use Rattle.net_sim.specs.Book as book;
 ghost use Rattle.net_sim.specs.Book.{lives_at, where_it, handed_to};
 ghost use Rattle.net_sim.specs.Inside.Endings.{ends};
 ghost use Rattle.net_sim.specs.Inside.Lives as all;
-ghost use Rattle.net_sim.specs.Inside.Places.{places, is_open_at};
+ghost use Rattle.net_sim.specs.Inside.Open.{AreKept, Holds};
 ghost use Rattle.net_sim.specs.Inside.Undo.{all_undone, GoesBack};
 
 use crate::bit_log::BitLog;
 use crate::book::{Page, Told};
 use crate::life::{Amount, Ending, Life};
+use crate::open::Open;
 use crate::undo::{Undo, take_back};
 use bit_messages::Bits;
 use leader1822::{Crossing, HostAddr};
@@ -20,50 +21,59 @@ use std::marker::Model;
 
 /// The lives, and what was handed over to be sent in each.
 ///
-/// Nothing changes a life that has ended. So the places of those that are open are known, and only these are looked at.
+/// Nothing changes a life that has ended. So it is known where those stand that are open, and only these are looked at.
 #[derive(Drop)]
 pub(crate) struct Lives {
     lives: Vec<Life>,
     handed: Vec<BitLog>,
-    open_at: Vec<usize>,
+    open: Open,
     alloc: Global,
 }
 
 impl Model for Lives {
-    ghost use Rattle.net_sim.specs.Inside.Lives.{LivesState, AreKnown};
+    ghost use Rattle.net_sim.specs.Inside.Lives.{LivesState};
+    ghost use Rattle.net_sim.specs.Inside.Open.{AreKnown};
 
     ghost Value = { LivesState };
 
     ghost view = { λ l. record { lives = l.lives.items; handed = l.handed.items } };
 
-    ghost invariant = { λ l. AreKnown l.open_at.items l.lives.items };
+    ghost invariant = { λ l. AreKnown l.open.known l.open.hosts l.open.sockets l.lives.items };
 }
 
-/// Lives end. These are the places of the open ones.
-fn end(lives: &mut [Life], open_at: &[usize], ending: &Ending)
-    requires { open_at.now ≡ places lives.old }
-    ensures { lives.new ≡ where_it (ends ending.now) book.life_ended lives.old }
+/// Lives end, of those at these places.
+fn end(
+    lives: &mut [Life],
+    places: &[usize],
+    ending: &Ending,
+    done: &mut Vec<Undo>,
+) -> Result<(), AllocError>
+    requires { Holds (ends ending.now) places.now lives.old }
+    ensures done { OnOk result (lives.new ≡ where_it (ends ending.now) book.life_ended lives.old) }
+    ensures kept { AreKept lives.old lives.new }
+    ensures back { (handed : List (List Bool)) → GoesBack done.old.items (record { lives = lives.old; handed = handed }) done.new.items (record { lives = lives.new; handed = handed }) }
 {
-    for at in open_at {
-        lives[*at].end(ending);
+    for at in places {
+        lives[*at].end_at(*at, ending, done)?;
     }
+    Ok(())
 }
 
 /// A message was sent or taken in the life of a socket.
 fn carry(
     lives: &mut [Life],
-    open_at: &[usize],
+    places: &[usize],
     host: HostAddr,
     socket: u32,
     bits: &Bits,
     done: &mut Vec<Undo>,
 ) -> Result<(), AllocError>
-    requires { open_at.now ≡ places lives.old }
+    requires { Holds (lives_at host socket) places.now lives.old }
     ensures done { OnOk result (lives.new ≡ where_it (lives_at host socket) (book.carried bits.now) lives.old) }
-    ensures kept { places lives.new ≡ places lives.old }
+    ensures kept { AreKept lives.old lives.new }
     ensures back { (handed : List (List Bool)) → GoesBack done.old.items (record { lives = lives.old; handed = handed }) done.new.items (record { lives = lives.new; handed = handed }) }
 {
-    for at in open_at {
+    for at in places {
         lives[*at].carry_at(*at, host, socket, bits, done)?;
     }
     Ok(())
@@ -72,19 +82,19 @@ fn carry(
 /// So much was granted in the life of a socket.
 fn grant(
     lives: &mut [Life],
-    open_at: &[usize],
+    places: &[usize],
     host: HostAddr,
     socket: u32,
     messages: u16,
     bits: u32,
     done: &mut Vec<Undo>,
 ) -> Result<(), AllocError>
-    requires { open_at.now ≡ places lives.old }
+    requires { Holds (lives_at host socket) places.now lives.old }
     ensures done { OnOk result (lives.new ≡ where_it (lives_at host socket) (book.granted messages bits) lives.old) }
-    ensures kept { places lives.new ≡ places lives.old }
+    ensures kept { AreKept lives.old lives.new }
     ensures back { (handed : List (List Bool)) → GoesBack done.old.items (record { lives = lives.old; handed = handed }) done.new.items (record { lives = lives.new; handed = handed }) }
 {
-    for at in open_at {
+    for at in places {
         lives[*at].grant_at(*at, host, socket, messages, bits, done)?;
     }
     Ok(())
@@ -93,19 +103,19 @@ fn grant(
 /// So much was returned in the life of a socket.
 fn give_back(
     lives: &mut [Life],
-    open_at: &[usize],
+    places: &[usize],
     host: HostAddr,
     socket: u32,
     messages: u16,
     bits: u32,
     done: &mut Vec<Undo>,
 ) -> Result<(), AllocError>
-    requires { open_at.now ≡ places lives.old }
+    requires { Holds (lives_at host socket) places.now lives.old }
     ensures done { OnOk result (lives.new ≡ where_it (lives_at host socket) (book.returned messages bits) lives.old) }
-    ensures kept { places lives.new ≡ places lives.old }
+    ensures kept { AreKept lives.old lives.new }
     ensures back { (handed : List (List Bool)) → GoesBack done.old.items (record { lives = lives.old; handed = handed }) done.new.items (record { lives = lives.new; handed = handed }) }
 {
-    for at in open_at {
+    for at in places {
         lives[*at].give_back_at(*at, host, socket, messages, bits, done)?;
     }
     Ok(())
@@ -114,49 +124,23 @@ fn give_back(
 /// Bits were handed over to be sent in the life of a socket.
 fn hand(
     lives: &[Life],
-    open_at: &[usize],
+    places: &[usize],
     host: HostAddr,
     socket: u32,
     bits: &Bits,
     handed: &mut [BitLog],
     done: &mut Vec<Undo>,
 ) -> Result<(), AllocError>
-    requires { open_at.now ≡ places lives.now }
+    requires { Holds (lives_at host socket) places.now lives.now }
     ensures done { OnOk result (handed.new ≡ handed_to (lives_at host socket) bits.now lives.now handed.old) }
     ensures back { GoesBack done.old.items (record { lives = lives.now; handed = handed.old }) done.new.items (record { lives = lives.now; handed = handed.new }) }
 {
-    for at in open_at {
+    for at in places {
         if *at < handed.len() {
             lives[*at].hand_at(*at, host, socket, bits, &mut handed[*at], done)?;
         }
     }
     Ok(())
-}
-
-/// Whether there is an open life at this place.
-fn is_open(lives: &[Life], at: usize) -> bool
-    ensures { result ≡ is_open_at lives.now at }
-{
-    let Some(life) = lives.get(at) else {
-        return false;
-    };
-    !life.ended
-}
-
-/// Forgets the places of lives that have ended.
-fn forget_ended(open_at: &mut Vec<usize>, lives: &[Life])
-    ensures { open_at.new.items ≡ filter (is_open_at lives.now) open_at.old.items }
-{
-    open_at.retain(|at| is_open(lives, *at));
-}
-
-/// A copy of places.
-fn copied(alloc: Global, places: &[usize]) -> Result<Vec<usize>, AllocError>
-    ensures { IfOk result (λ copy. copy.items ≡ places.now) }
-{
-    let mut copy = Vec::new(alloc);
-    copy.extend_from_slice(places)?;
-    Ok(copy)
 }
 
 impl Lives {
@@ -167,7 +151,7 @@ impl Lives {
         Lives {
             lives: Vec::new(alloc),
             handed: Vec::new(alloc),
-            open_at: Vec::new(alloc),
+            open: Open::new(alloc),
             alloc,
         }
     }
@@ -177,30 +161,99 @@ impl Lives {
         ensures done { OnOk result (self.new ≡ all.lives_state_ended ending.now self.old) }
         ensures back { GoesBack done.old.items self.old done.new.items self.new }
     {
-        let open_at = copied(self.alloc, &self.open_at)?;
-        done.push(Undo::Ended { open_at })?;
-        end(&mut self.lives, &self.open_at, ending);
-        forget_ended(&mut self.open_at, &self.lives);
-        Ok(())
+        self.open.know(self.alloc, &self.lives)?;
+        end(&mut self.lives, self.open.of(ending), ending, done)
+    }
+
+    /// A message was sent or taken in the life of a socket.
+    fn carry(
+        &mut self,
+        host: HostAddr,
+        socket: u32,
+        bits: &Bits,
+        done: &mut Vec<Undo>,
+    ) -> Result<(), AllocError>
+        ensures done { OnOk result (self.new ≡ record { lives = where_it (lives_at host socket) (book.carried bits.now) self.old.lives; handed = self.old.handed }) }
+        ensures back { GoesBack done.old.items self.old done.new.items self.new }
+    {
+        self.open.know(self.alloc, &self.lives)?;
+        let places = self.open.at(host, socket);
+        carry(&mut self.lives, places, host, socket, bits, done)
+    }
+
+    /// So much was granted in the life of a socket.
+    fn grant(
+        &mut self,
+        host: HostAddr,
+        socket: u32,
+        messages: u16,
+        bits: u32,
+        done: &mut Vec<Undo>,
+    ) -> Result<(), AllocError>
+        ensures done { OnOk result (self.new ≡ record { lives = where_it (lives_at host socket) (book.granted messages bits) self.old.lives; handed = self.old.handed }) }
+        ensures back { GoesBack done.old.items self.old done.new.items self.new }
+    {
+        self.open.know(self.alloc, &self.lives)?;
+        let places = self.open.at(host, socket);
+        grant(&mut self.lives, places, host, socket, messages, bits, done)
+    }
+
+    /// So much was returned in the life of a socket.
+    fn give_back(
+        &mut self,
+        host: HostAddr,
+        socket: u32,
+        messages: u16,
+        bits: u32,
+        done: &mut Vec<Undo>,
+    ) -> Result<(), AllocError>
+        ensures done { OnOk result (self.new ≡ record { lives = where_it (lives_at host socket) (book.returned messages bits) self.old.lives; handed = self.old.handed }) }
+        ensures back { GoesBack done.old.items self.old done.new.items self.new }
+    {
+        self.open.know(self.alloc, &self.lives)?;
+        let places = self.open.at(host, socket);
+        give_back(&mut self.lives, places, host, socket, messages, bits, done)
+    }
+
+    /// Bits were handed over to be sent in the life of a socket.
+    fn hand(
+        &mut self,
+        host: HostAddr,
+        socket: u32,
+        bits: &Bits,
+        done: &mut Vec<Undo>,
+    ) -> Result<(), AllocError>
+        ensures done { OnOk result (self.new ≡ record { lives = self.old.lives; handed = handed_to (lives_at host socket) bits.now self.old.lives self.old.handed }) }
+        ensures back { GoesBack done.old.items self.old done.new.items self.new }
+    {
+        self.open.know(self.alloc, &self.lives)?;
+        let places = self.open.at(host, socket);
+        hand(
+            &self.lives,
+            places,
+            host,
+            socket,
+            bits,
+            &mut self.handed,
+            done,
+        )
     }
 
     /// A life begins, with nothing handed over yet.
     fn begin(&mut self, life: Life, done: &mut Vec<Undo>) -> Result<(), AllocError>
-        requires begins { life.ended ≡ false }
         ensures done { OnOk result (self.new ≡ all.begun life self.old) }
         ensures back { GoesBack done.old.items self.old done.new.items self.new }
     {
-        self.open_at.reserve(1)?;
         self.handed.reserve(1)?;
         self.lives.reserve(1)?;
-        let at = self.lives.len();
-        done.push(Undo::Begun {
-            lives: at,
+        done.reserve(1)?;
+        self.open.enter(life.host, life.socket, &self.lives)?;
+        done.push_reserved(Undo::Begun {
+            lives: self.lives.len(),
             handed: self.handed.len(),
-        })?;
+        });
         self.handed.push_reserved(BitLog::new(self.alloc));
         self.lives.push_reserved(life);
-        self.open_at.push_reserved(at);
         Ok(())
     }
 
@@ -263,21 +316,13 @@ impl Lives {
             }
             Notice::PairReset { peer } => self.end(&Ending::With { host, peer: *peer }, done),
             Notice::Sent { socket, bits } | Notice::Arrived { socket, bits } => {
-                carry(&mut self.lives, &self.open_at, host, *socket, bits, done)
+                self.carry(host, *socket, bits, done)
             }
             Notice::Returned {
                 socket,
                 messages,
                 bits,
-            } => give_back(
-                &mut self.lives,
-                &self.open_at,
-                host,
-                *socket,
-                *messages,
-                *bits,
-                done,
-            ),
+            } => self.give_back(host, *socket, *messages, *bits, done),
             Notice::Ready { .. }
             | Notice::ContactFailed { .. }
             | Notice::Interrupt { .. }
@@ -301,24 +346,8 @@ impl Lives {
                 socket,
                 messages,
                 bits,
-            } => grant(
-                &mut self.lives,
-                &self.open_at,
-                host,
-                *socket,
-                *messages,
-                *bits,
-                done,
-            ),
-            Request::Send { socket, bits } => hand(
-                &self.lives,
-                &self.open_at,
-                host,
-                *socket,
-                bits,
-                &mut self.handed,
-                done,
-            ),
+            } => self.grant(host, *socket, *messages, *bits, done),
+            Request::Send { socket, bits } => self.hand(host, *socket, bits, done),
             Request::Contact { .. }
             | Request::Listen { .. }
             | Request::OpenSend { .. }
@@ -385,13 +414,12 @@ impl Lives {
         }
     }
 
-    /// All that was done is taken back. These are the places of the lives that were open before it.
-    fn go_back(&mut self, open_at: Vec<usize>, done: Vec<Undo>)
-        requires { open_at.items ≡ places (all_undone done.items self.old).lives }
+    /// All that was done is taken back. Where the open lives stand is learnt anew when it is wanted.
+    fn go_back(&mut self, done: Vec<Undo>)
         ensures { self.new ≡ all_undone done.items self.old }
     {
         take_back(&mut self.lives, &mut self.handed, done);
-        self.open_at = open_at;
+        self.open.forget();
     }
 
     /// All of this happened, or memory runs out, and then the lives are what they were.
@@ -399,11 +427,10 @@ impl Lives {
         ensures done { OnOk result (self.new ≡ all.followed page.now.crossings.items page.now.asked page.now.told.items page.now.by page.now.ran.items self.old) }
         ensures kept { OnErr result (self.new ≡ self.old) }
     {
-        let open_at = copied(self.alloc, &self.open_at)?;
         let mut done = Vec::new(self.alloc);
         let followed = self.go_through(page, &mut done);
         if followed.is_err() {
-            self.go_back(open_at, done);
+            self.go_back(done);
         }
         followed
     }

@@ -2,8 +2,7 @@
 
 ghost use Rattle.std.specs.Prelude.{◌≡◌};
 ghost use Rattle.net_sim.specs.Inside.Lives.{LivesState};
-ghost use Rattle.net_sim.specs.Inside.Places.{changed_at};
-ghost use Rattle.net_sim.specs.Inside.Undo.{all_undone, reopened, undone};
+ghost use Rattle.net_sim.specs.Inside.Undo.{all_undone, undone};
 
 use crate::bit_log::BitLog;
 use crate::life::{Amount, Life};
@@ -31,10 +30,10 @@ pub(crate) enum Undo {
         /// How many lists.
         handed: usize,
     },
-    /// Lives ended. Those at these places had been open.
+    /// A life ended.
     Ended {
-        /// The places.
-        open_at: Vec<usize>,
+        /// Its place.
+        at: usize,
     },
     /// The counts of a life grew.
     Changed {
@@ -52,17 +51,6 @@ pub(crate) enum Undo {
     },
 }
 
-/// The lives at these places are open again.
-fn reopen(lives: &mut [Life], open_at: &[usize])
-    ensures { lives.new ≡ changed_at reopened open_at.now lives.old }
-{
-    for at in open_at {
-        if *at < lives.len() {
-            lives[*at].ended = false;
-        }
-    }
-}
-
 /// Takes back one thing that was done.
 fn take_one_back(lives: &mut Vec<Life>, handed: &mut Vec<BitLog>, undo: Undo)
     ensures { ◌≡◌ {A = LivesState} (record { lives = lives.new.items; handed = handed.new.items }) (undone undo (record { lives = lives.old.items; handed = handed.old.items })) }
@@ -75,7 +63,11 @@ fn take_one_back(lives: &mut Vec<Life>, handed: &mut Vec<BitLog>, undo: Undo)
             lives.truncate(lives_before);
             handed.truncate(handed_before);
         }
-        Undo::Ended { open_at } => reopen(lives, &open_at),
+        Undo::Ended { at } => {
+            if at < lives.len() {
+                lives[at].ended = false;
+            }
+        }
         Undo::Changed { at, was } => {
             if at < lives.len() {
                 lives[at].put_back(&was);

@@ -1,16 +1,17 @@
 -- What a user asks for, at one socket of the host.
-use Rattle.std.proofs.Common.{◌≡◌, inl, inr, ℕ, ◌==◌, ◌&&◌, Bool, true, false, not, if◌then◌else◌, List, [], ◌∷◌, ◌++◌, map, find, length, Option, Some, None, is_some, refl, ap, sym, subst, ◌∙◌, arith}
-use Rattle.std.proofs.lemmas.Bool.{eqb-true}
+use Rattle.std.proofs.Common.{◌≡◌, inl, inr, ℕ, ◌+◌, ◌≤◌, ◌==◌, ◌&&◌, Bool, true, false, not, nat_lt, if◌then◌else◌, List, [], ◌∷◌, ◌++◌, map, find, length, Option, Some, None, is_some, refl, ap, sym, subst, ◌∙◌, arith}
+use Rattle.std.proofs.lemmas.Bool.{eqb-true, ltb-false}
 use Rattle.std.proofs.lemmas.List.{append-nil, append_assoc}
 use Rattle.leader1822.specs.Host.{Host}
 use Rattle.leader1822.proofs.lemmas.{not_false, or_false}
 use Rattle.ncp_control.specs.Numbers.{is_receive_socket, is_send_socket}
+use Rattle.ncp_control.specs.declared.allocation.Allocation.{Allocation}
 use Rattle.ncp_control.specs.declared.command.Command.{Command}
 use Rattle.ncp_control.specs.declared.command.Command.TheVariants as command
-use Rattle.host_pairs.specs.Asked.{closed_end, commanded, contact_notices, contacted, interrupt_of, receiver_requested, requested, with_end, with_more_bits}
+use Rattle.host_pairs.specs.Asked.{closed_end, commanded, contact_notices, contacted, interrupt_of, passes, receiver_requested, requested, with_end, with_more_bits}
 use Rattle.host_pairs.specs.Commands.{granted}
 use Rattle.host_pairs.specs.Desk.{listens_on, without_listener}
-use Rattle.host_pairs.specs.Entries.{called_off, changed_first, closed_when, entry_at, free_link, is_mine_on, is_open, must_close, receiving_end, sending_end}
+use Rattle.host_pairs.specs.Entries.{called_off, changed_first, closed_when, entry_at, free_link, is_mine_on, is_open, must_close, receiving_end, sending_end, was_closed}
 use Rattle.host_pairs.specs.Pair.{PairState}
 use Rattle.host_pairs.specs.Parcels.{link_of}
 use Rattle.host_pairs.specs.Phases.{is_ready}
@@ -27,8 +28,8 @@ use Rattle.sockets.proofs.lemmas.{not_first, pair_changed}
 use Rattle.net_sim.specs.declared.life.Life.{Life}
 use Rattle.net_sim.specs.Book as book
 use Rattle.net_sim.specs.Book.{Kept, all_told, asked, handed_to, lives_at, where_it}
-use Rattle.net_sim.specs.Safe.{IsFront}
-use Rattle.world_keeps_lives.specs.Lives.{AreRefusing, EachIn, EachOn, IsFresh, IsLifeOf, IsOwned, IsSafe, NoneOf, has_opened, mine_on}
+use Rattle.net_sim.specs.Safe.{IsFront, receives}
+use Rattle.world_keeps_lives.specs.Lives.{AddsUp, AreRefusing, EachIn, EachOn, IsFresh, IsLifeOf, IsOwned, IsSafe, NoneOf, has_opened, mine_on}
 use Rattle.world_keeps_lives.proofs.Ends.{IsRefusing, mine_append, mine_one, refusing_append, refusing_changed, refusing_mapped, split}
 use Rattle.world_keeps_lives.proofs.Books.{each_apart, each_handed, each_weaker, other_socket, there_at}
 use Rattle.world_keeps_lives.proofs.Desks.{At, Elsewhere, Near, Place, at_changed, at_lessened, at_mapped, at_same, clash, open_opened, own_is}
@@ -40,21 +41,34 @@ use Rattle.world_keeps_lives.proofs.Turns.{cleared_on}
 
 -- ---- accounts
 
-granted_safe : (messages bits : ℕ) (x : Life) (t : List Bool) → IsSafe x t → IsSafe (book.granted messages bits x) t
-granted_safe messages bits x t s = record { front = s.front; within = λ r. record { messages = omega (arith, (s.within r).messages); bits = omega (arith, (s.within r).bits) } }
+-- what isn't refused stays within the counters
+abbrev Fits : Allocation → ℕ → ℕ → Type 0
+Fits c messages bits = (c.messages + messages ≤ 65535) × (c.bits + bits ≤ 4294967295)
 
-granted_life : (p : Host) (messages bits : ℕ) (e : Entry) (x : Life) (t : List Bool) → IsLifeOf p e x t → IsLifeOf p (granted messages bits e) (book.granted messages bits x) t
-granted_life p messages bits e x t i = record {
+fits : (c : Allocation) (messages bits : ℕ) → passes c messages bits ≡ false → Fits c messages bits
+fits c messages bits may =
+    let each : (nat_lt 65535 (c.messages + messages) ≡ false) × (nat_lt 4294967295 (c.bits + bits) ≡ false) = or_false (nat_lt 65535 (c.messages + messages)) (nat_lt 4294967295 (c.bits + bits)) may in
+    (ltb-false 65535 (c.messages + messages) each.0, ltb-false 4294967295 (c.bits + bits) each.1)
+
+granted_safe : (messages bits : ℕ) (x : Life) (t : List Bool) (c : Allocation) → Fits c messages bits → (receives x ≡ true → AddsUp x c) → IsSafe x t → IsSafe (book.granted messages bits x) t
+granted_safe messages bits x t c ok i s = record {
+  front = s.front;
+  within = λ r. record { messages = omega (arith, (s.within r).messages); bits = omega (arith, (s.within r).bits) };
+  bounded = λ r. record { messages = omega (arith, ok.0, (i r).messages); bits = omega (arith, ok.1, (i r).bits) };
+}
+
+granted_life : (p : Host) (messages bits : ℕ) (e : Entry) (x : Life) (t : List Bool) → Fits e.allocation messages bits → IsLifeOf p e x t → IsLifeOf p (granted messages bits e) (book.granted messages bits x) t
+granted_life p messages bits e x t ok i = record {
   peers = i.peers;
   foreign = i.foreign;
   own = i.own;
   partner = i.partner;
   waits = i.waits;
-  left = λ r. record { messages = omega (arith, (i.left r).messages); bits = omega (arith, (i.left r).bits) };
+  left = λ r. record { messages = omega (arith, ok.0, (i.left r).messages); bits = omega (arith, ok.1, (i.left r).bits) };
 }
 
 more_safe : (bits : List Bool) (x : Life) (t : List Bool) → IsSafe x t → IsSafe x (t ++ bits)
-more_safe bits x t s = record { front = λ q. let f : IsFront x.bits t = s.front q in (f.0 ++ bits, sym (append_assoc x.bits f.0 bits) ∙ ap (λ (l : List Bool). l ++ bits) f.1); within = s.within }
+more_safe bits x t s = record { front = λ q. let f : IsFront x.bits t = s.front q in (f.0 ++ bits, sym (append_assoc x.bits f.0 bits) ∙ ap (λ (l : List Bool). l ++ bits) f.1); within = s.within; bounded = s.bounded }
 
 more_life : (p : Host) (bits : List Bool) (e : Entry) (x : Life) (t : List Bool) → IsLifeOf p e x t → IsLifeOf p (with_more_bits bits e) x (t ++ bits)
 more_life p bits e x t i = record {
@@ -253,10 +267,11 @@ module _ (a : Host) (k : ℕ) where
   grant_holds s socket messages bits κ (Some (g, e)) f order may h =
       let found : find (is_mine_on socket) (pair_with g s.peers).entries ≡ Some e = owner_found socket s.peers g e order f in
       let opened : has_opened e ≡ true = open_opened e (not_false (is_open e) (not_first (not (is_open e)) _ _ may).0) in
+      let ok : Fits e.allocation messages bits = fits e.allocation messages bits (not_first (passes e.allocation messages bits) _ _ (not_first (was_closed e) _ _ (not_first (not (is_open e)) _ _ may).1).1).0 in
       let own : e.own ≡ socket = own_is socket e (split (is_mine_on socket) (λ y. y) (pair_with g s.peers).entries e found).passes in
       open_holds s g socket (granted messages bits) (commanded (command.All (link_of e.link) messages bits)) e κ (asked a (request.Grant socket messages bits) κ) found refl (λ e r. r) (λ q. (refl, refl))
       (λ is m l i. at_here a k m g (book.granted messages bits) e (granted messages bits e) l κ (asked a (request.Grant socket messages bits) κ) is opened (λ x. refl)
-      (λ x t there safe j. (granted_safe messages bits x t safe, granted_life g messages bits e x t j))
+      (λ x t there safe j. (granted_safe messages bits x t e.allocation ok j.left safe, granted_life g messages bits e x t ok j))
       (ap (λ (n : ℕ). where_it (lives_at a n) (book.granted messages bits) κ.book.lives) (sym own)) refl i)
       (λ off P i. each_apart a k (lives_at a socket) (book.granted messages bits) P κ.book.lives κ.handed (λ x. refl) (λ x. other_socket a k a socket x off) i) h
 

@@ -53,7 +53,11 @@ module _ (a : Host) (k : ℕ) where
 
   -- lives that end
   end_one : (x : Life) (t : List Bool) → IsSafe x t → IsSafe (life_ended x) t
-  end_one x t s = record { front = s.front; within = λ r. record { messages = (s.within r).messages; bits = (s.within r).bits } }
+  end_one x t s = record {
+    front = s.front;
+    within = λ r. record { messages = (s.within r).messages; bits = (s.within r).bits };
+    bounded = λ r. record { messages = (s.bounded r).messages; bits = (s.bounded r).bits };
+  }
 
   pub each_ending : (test : Life → Bool) (P : Life → List Bool → Type 0) (lives : List Life) (handed : List (List Bool)) → EachOn a k P lives handed → EachOn a k P (where_it test life_ended lives) handed
   each_ending test P lives handed e =

@@ -1,5 +1,5 @@
 -- What is done to the connections of one pair, at one socket of the host.
-use Rattle.std.proofs.Common.{◌≡◌, ℕ, ◌+◌, ◌==◌, ◌&&◌, ◌||◌, Bool, true, false, not, if◌then◌else◌, List, [], ◌∷◌, ◌++◌, map, find, Option, Some, None, is_some, length, refl, ap, sym, subst, ◌∙◌}
+use Rattle.std.proofs.Common.{◌≡◌, ℕ, ◌==◌, ◌&&◌, ◌||◌, Bool, true, false, not, if◌then◌else◌, List, [], ◌∷◌, ◌++◌, map, find, Option, Some, None, is_some, refl, ap, sym, subst, ◌∙◌}
 use Rattle.std.proofs.lemmas.Bool.{eqb-true}
 use Rattle.leader1822.specs.Host.{Host}
 use Rattle.leader1822.proofs.lemmas.{or_false}
@@ -12,9 +12,8 @@ use Rattle.host_pairs.proofs.lemmas.{both, not_is}
 use Rattle.net_sim.specs.declared.life.Life.{Life}
 use Rattle.net_sim.specs.Book as book
 use Rattle.net_sim.specs.Book.{Kept, all_told, lives_between, lives_told, new_life}
-use Rattle.net_sim.specs.Safe.{IsGranted}
 use Rattle.ncp_control.specs.declared.allocation.Allocation.{Allocation}
-use Rattle.world_keeps_lives.specs.Lives.{EachIn, IsFresh, IsLifeOf, NoneOf, has_opened, mine_on}
+use Rattle.world_keeps_lives.specs.Lives.{AddsUp, EachIn, IsFresh, IsLifeOf, NoneOf, has_opened, mine_on}
 use Rattle.world_keeps_lives.proofs.Ends.{IsRefusing, IsSplit, mine_append, mine_one, none_changed, split}
 use Rattle.world_keeps_lives.proofs.Books.{IsAside, each_aside, each_weaker}
 
@@ -74,7 +73,7 @@ less_life p e new x t less h = record {
   own = less.asked ∙ h.own;
   partner = less.partner ∙ h.partner;
   waits = λ o s. h.waits (less.waits o).0 s ∙ ap (λ (bits : List Bool). x.bits ++ bits) (sym (less.waits o).1);
-  left = λ r. subst (λ (c : Allocation). IsGranted x (x.messages + c.messages) (length x.bits + c.bits)) (sym less.allocation) (h.left r);
+  left = λ r. subst (λ (c : Allocation). AddsUp x c) (sym less.allocation) (h.left r);
 }
 
 -- ---- a place

@@ -53,6 +53,7 @@ sent_safe : (p : Host) (e : Entry) (x : Life) (t : List Bool) (n : ℕ) → is_o
 sent_safe p e x t n o off i = record {
   front = λ s. (drop n e.bits, append_assoc x.bits (take n e.bits) (drop n e.bits) ∙ ap (λ (l : List Bool). x.bits ++ l) (take-append-drop n e.bits) ∙ sym (i.waits o s));
   within = λ r. clash _ (receives x) r off;
+  bounded = λ r. clash _ (receives x) r off;
 }
 
 sent_life : (p : Host) (e : Entry) (x : Life) (t : List Bool) (n : ℕ) → is_open e ≡ true → receives x ≡ false → IsLifeOf p e x t → IsLifeOf p (bits_gone n e) (carried (take n e.bits) x) t

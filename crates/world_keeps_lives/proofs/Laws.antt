@@ -15,7 +15,7 @@ use Rattle.net_sim.specs.Timeline.{IsTimeline, crossings_of}
 use Rattle.net_sim.specs.Told.{kept_in}
 use Rattle.net_sim.specs.World.{WorldState}
 use Rattle.world_keeps_pairing.proofs.lemmas.{book_lives, book_run}
-use Rattle.world_keeps_lives.specs.Lives.{EachIn, EachOn, HasOpenEnd, IsLifeOf, IsOwned, NoneOf, at_socket, mine_on}
+use Rattle.world_keeps_lives.specs.Lives.{EachIn, EachOn, HasOpenEnd, IsBounded, IsLifeOf, IsOwned, NoneOf, at_socket, mine_on}
 use Rattle.world_keeps_lives.proofs.Books.{One, each_weaker}
 use Rattle.world_keeps_lives.proofs.Hosts.{Holds}
 use Rattle.world_keeps_lives.proofs.Moments.{held}
@@ -64,6 +64,11 @@ module _ (hosts : List Host) (moments : List Moment) (addresses : HaveAddresses 
       let f : (t : List Bool) × (at_socket x.host x.socket x ≡ true → One Any x t) = found x.host x.socket Any (kept_in moments).book.lives (kept_in moments).handed x there (any x.host x.socket) in
       (f.1 (own_socket x)).0.within r
 
+  pub bounded : (receiver : Life) → Contains (kept_in moments).book.lives receiver → receives receiver ≡ true → IsBounded receiver
+  bounded x there r =
+      let f : (t : List Bool) × (at_socket x.host x.socket x ≡ true → One Any x t) = found x.host x.socket Any (kept_in moments).book.lives (kept_in moments).handed x there (any x.host x.socket) in
+      (f.1 (own_socket x)).0.bounded r
+
   pub live : (x : Life) → Contains (kept_in moments).book.lives x → x.ended ≡ false → HasOpenEnd (program x.host moments) x
   live x there goes = elim (holds x.host x.socket).socket [
     | inl f ↦
@@ -96,6 +101,9 @@ module _ {C : Type 0} (seen : C → Seen) (hosts : List Host) (w : WorldState C)
 
   pub world_taken : (receiver : Life) → Contains w.kept.book.lives receiver → receives receiver ≡ true → IsGranted receiver receiver.messages (length receiver.bits)
   world_taken x there r = taken hosts lawful.whole.moments lawful.addresses (book_run seen hosts w lawful) lawful.whole.timeline x (subst (λ (lives : List Life). Contains lives x) (book_lives seen hosts w lawful) there) r
+
+  pub world_bounded : (receiver : Life) → Contains w.kept.book.lives receiver → receives receiver ≡ true → IsBounded receiver
+  world_bounded x there r = bounded hosts lawful.whole.moments lawful.addresses (book_run seen hosts w lawful) lawful.whole.timeline x (subst (λ (lives : List Life). Contains lives x) (book_lives seen hosts w lawful) there) r
 
   pub world_live : (x : Life) → Contains w.kept.book.lives x → x.ended ≡ false → HasOpenEnd (program x.host lawful.whole.moments) x
   world_live x there goes = live hosts lawful.whole.moments lawful.addresses (book_run seen hosts w lawful) lawful.whole.timeline x (subst (λ (lives : List Life). Contains lives x) (book_lives seen hosts w lawful) there) goes

@@ -1,5 +1,5 @@
 -- What holds of each end that a host's program has with a peer, through each of its calls.
-use Rattle.std.proofs.Common.{◌≡◌, ℕ, ◌==◌, Bool, true, false, if◌then◌else◌, List, [], ◌∷◌, find, Option, Some, None, refl, sym, subst, ◌∙◌}
+use Rattle.std.proofs.Common.{◌≡◌, ℕ, ◌==◌, Bool, true, false, if◌then◌else◌, List, [], ◌∷◌, find, Option, Some, None, refl, sym, subst}
 use Rattle.leader1822.specs.Host.{Host, same_host}
 use Rattle.leader1822.specs.declared.address.Flow.{Flow}
 use Rattle.leader1822.specs.declared.crossing.Answer.{Answer}
@@ -9,11 +9,11 @@ use Rattle.leader1822.proofs.lemmas.{same_host-refl, same_host-true}
 use Rattle.ncp_control.specs.DataHeader.{data_bits, header_of}
 use Rattle.ncp_control.specs.declared.command.Command.TheVariants as command
 use Rattle.ncp_control.specs.declared.data_header.DataHeader.{DataHeader}
-use Rattle.host_pairs.specs.Asked.{closed_end, commanded, contacted, contact_notices, interrupt_of, receiver_requested, requested, with_end, with_more_bits}
+use Rattle.host_pairs.specs.Asked.{closed_end, commanded, contacted, interrupt_of, receiver_requested, requested, with_end, with_more_bits}
 use Rattle.host_pairs.specs.Commands.{granted}
 use Rattle.host_pairs.specs.Control.{orders_of}
 use Rattle.host_pairs.specs.Data.{data_of, data_taken}
-use Rattle.host_pairs.specs.Desk.{DeskState, desk_of, listens_on}
+use Rattle.host_pairs.specs.Desk.{desk_of, listens_on}
 use Rattle.host_pairs.specs.Entries.{free_link, is_busy, is_open, receives_on, sending_end}
 use Rattle.host_pairs.specs.Pair.{PairState}
 use Rattle.host_pairs.specs.Parcels.{Parcel, link_of, pair_after, parcel_gone}
@@ -34,7 +34,7 @@ use Rattle.sockets.specs.declared.peer.Peer.{Peer}
 use Rattle.sockets.specs.declared.request.Request.{Request}
 use Rattle.sockets.specs.declared.request.Request.TheVariants as request
 use Rattle.sockets.proofs.lemmas.{next_pair, others_stay}
-use Rattle.world_keeps_lives.proofs.Requests.{Begins, Each, GoodTurn, Hears, IsOther, MayTell, Quiet, Rules, asked_by, asked_closed, asked_new, asked_receiver, good_data, good_parcel, turn_all, turn_answered, turn_ready}
+use Rattle.world_keeps_lives.proofs.Requests.{Begins, Each, GoodTurn, Hears, MayTell, Rules, asked_by, asked_closed, asked_new, asked_receiver, good_data, good_parcel, turn_all, turn_answered, turn_ready}
 
 -- the ends with a peer
 abbrev pub Ends : (Entry → Type 0) → Host → NcpState → Type 0

@@ -11,7 +11,7 @@ use Rattle.sockets.specs.Worked.{first, second}
 use Rattle.net_sim.specs.declared.life.Life.{Life}
 use Rattle.net_sim.specs.Book.{carried, life_ended, granted, new_life, opening_kept, returned}
 use Rattle.world_keeps_lives.specs.Worked.{worked_end, with_one}
-use Rattle.world_keeps_lives.specs.Lives.{EachOn, HasOpenEnd, IsFreeSocket, IsFresh, IsLifeOf, IsOwned, IsSafe, IsSteady, NoneOf}
+use Rattle.world_keeps_lives.specs.Lives.{EachOn, HasOpenEnd, IsBounded, IsFreeSocket, IsFresh, IsLifeOf, IsOwned, IsSafe, IsSteady, NoneOf}
 
 pub row_early : IsFresh (with_more_bits (true ∷ []) (sending_end 33 16 8)) → ⊥
 row_early h = absurd (let r : true ∷ [] ≡ [] = (h refl).0 in cc)
@@ -26,7 +26,7 @@ abbrev receiver : Life
 receiver = new_life first 16 second 33 6 10
 
 pub row_sent : IsSafe (carried (true ∷ []) (new_life first 33 second 16 6 10)) (true ∷ false ∷ [])
-row_sent = record { front = λ s. (false ∷ [], refl); within = λ r. absurd (let q : false ≡ true = r in cc) }
+row_sent = record { front = λ s. (false ∷ [], refl); within = λ r. absurd (let q : false ≡ true = r in cc); bounded = λ r. absurd (let q : false ≡ true = r in cc) }
 
 pub row_more : IsSafe (carried (true ∷ []) (new_life first 33 second 16 6 10)) [] → ⊥
 row_more h = absurd (let r : true ∷ (h.front refl).0 ≡ [] = (h.front refl).1 in cc)
@@ -35,7 +35,7 @@ pub row_others : IsSafe (carried (true ∷ []) (new_life first 33 second 16 6 10
 row_others h = absurd (let r : true ∷ (h.front refl).0 ≡ false ∷ true ∷ [] = (h.front refl).1 in cc)
 
 pub row_taken : IsSafe (carried (true ∷ []) (granted 1 5 (new_life first 16 second 33 6 10))) []
-row_taken = record { front = λ s. absurd (let q : false ≡ true = s in cc); within = λ r. record { messages = omega arith; bits = omega arith } }
+row_taken = record { front = λ s. absurd (let q : false ≡ true = s in cc); within = λ r. record { messages = omega arith; bits = omega arith }; bounded = λ r. record { messages = omega arith; bits = omega arith } }
 
 pub row_ungranted : IsSafe (carried (true ∷ []) (granted 0 5 (new_life first 16 second 33 6 10))) [] → ⊥
 row_ungranted h = absurd (omega (arith, (h.within refl).messages))
@@ -48,7 +48,7 @@ row_returned h = absurd (omega (arith, (h.within refl).messages))
 
 pub row_gone : EachOn first 16 NoneOf (life_ended (new_life first 16 second 33 6 10) ∷ []) ([] ∷ [])
 row_gone = (
-  (λ there. (record { front = λ s. absurd (let q : false ≡ true = s in cc); within = λ r. record { messages = omega arith; bits = omega arith } }, λ goes. absurd (let q : true ≡ false = goes in cc))),
+  (λ there. (record { front = λ s. absurd (let q : false ≡ true = s in cc); within = λ r. record { messages = omega arith; bits = omega arith }; bounded = λ r. record { messages = omega arith; bits = omega arith } }, λ goes. absurd (let q : true ≡ false = goes in cc))),
   tt,
 )
 
@@ -62,7 +62,7 @@ row_life = record {
   own = refl;
   partner = refl;
   waits = λ o s. refl;
-  left = λ r. record { messages = omega arith; bits = omega arith };
+  left = λ r. record { messages = refl; bits = refl };
 }
 
 number_of : Option ℕ → ℕ
@@ -78,6 +78,21 @@ row_waits h = absurd (let r : [] ≡ true ∷ [] = h.waits refl refl in cc)
 
 pub row_left : IsLifeOf second (commands.granted 1 5 worked_end) (new_life first 16 second 33 6 10) [] → ⊥
 row_left h = absurd (omega (arith, (h.left refl).messages))
+
+pub row_lost : IsLifeOf second worked_end (granted 1 5 (new_life first 16 second 33 6 10)) [] → ⊥
+row_lost h = absurd (omega (arith, (h.left refl).messages))
+
+pub row_outstanding : IsBounded (granted 65535 4294967295 (new_life first 16 second 33 6 10))
+row_outstanding = record { messages = omega arith; bits = omega arith }
+
+pub row_renewed : IsBounded (granted 3 1 (returned 2 0 (carried (true ∷ []) (granted 65535 4294967295 (new_life first 16 second 33 6 10)))))
+row_renewed = record { messages = omega arith; bits = omega arith }
+
+pub row_many : IsBounded (granted 65536 0 (new_life first 16 second 33 6 10)) → ⊥
+row_many h = absurd (omega (arith, h.messages))
+
+pub row_long : IsBounded (granted 0 4294967296 (new_life first 16 second 33 6 10)) → ⊥
+row_long h = absurd (omega (arith, h.bits))
 
 first_or : Entry → List Entry → Entry
 first_or d [] = d

@@ -1,5 +1,5 @@
 -- Each thing that is done to the connections of a pair, at one socket of the host.
-use Rattle.std.proofs.Common.{◌≡◌, ℕ, ◌+◌, ◌==◌, ◌&&◌, ◌||◌, Bool, true, false, not, if◌then◌else◌, List, [], ◌∷◌, ◌++◌, filter, find, Option, Some, None, is_some, refl, ap, sym, subst, ◌∙◌, eq-eqb, arith}
+use Rattle.std.proofs.Common.{◌≡◌, ℕ, ◌==◌, ◌&&◌, ◌||◌, Bool, true, false, not, if◌then◌else◌, List, [], ◌∷◌, ◌++◌, filter, find, Option, Some, None, is_some, refl, ap, sym, subst, ◌∙◌, eq-eqb, arith}
 use Rattle.std.proofs.lemmas.List.{append-nil}
 use Rattle.std.specs.List.{flat_map}
 use Rattle.leader1822.specs.Host.{Host, same_host}
@@ -20,8 +20,7 @@ use Rattle.host_pairs.specs.declared.notice.Notice.TheVariants as notice
 use Rattle.host_pairs.proofs.lemmas.{both}
 use Rattle.net_sim.specs.declared.life.Life.{Life}
 use Rattle.net_sim.specs.Book.{Kept, all_told, lives_between, new_life}
-use Rattle.net_sim.specs.Safe.{IsGranted}
-use Rattle.world_keeps_lives.specs.Lives.{AreRefusing, EachIn, IsFresh, IsLifeOf, IsSafe, NoneOf, at_socket, has_opened, mine_on}
+use Rattle.world_keeps_lives.specs.Lives.{AddsUp, AreRefusing, EachIn, IsFresh, IsLifeOf, IsSafe, NoneOf, at_socket, has_opened, mine_on}
 use Rattle.world_keeps_lives.proofs.Ends.{IsRefusing, split, found_changed, mine_append, mine_one, refusing_append, refusing_changed, refusing_filtered, refusing_found, refusing_mapped}
 use Rattle.world_keeps_lives.proofs.Books.{all_told_append, each_ended, each_more, each_weaker}
 use Rattle.world_keeps_lives.proofs.Desks.{AreAside, At, Elsewhere, IsLess, Near, Place, at_aside, at_changed, at_lessened, at_mapped, clash, each_all_aside, listens_found, open_parts, own_is, own_off, without_other, without_same}
@@ -285,7 +284,11 @@ module _ (a : Host) (k : ℕ) (m : Place) (p : Host) (k0 : Kept) where
     new = new_life a e.own p e.foreign x y
 
     safe : IsSafe (new_life a e.own p e.foreign x y) []
-    safe = record { front = λ s. ([], refl); within = λ r. record { messages = omega arith; bits = omega arith } }
+    safe = record {
+      front = λ s. ([], refl);
+      within = λ r. record { messages = omega arith; bits = omega arith };
+      bounded = λ r. record { messages = omega arith; bits = omega arith };
+    }
 
     life : IsLifeOf p e (new_life a e.own p e.foreign x y) []
     life = record {
@@ -294,7 +297,7 @@ module _ (a : Host) (k : ℕ) (m : Place) (p : Host) (k0 : Kept) where
       own = f;
       partner = g;
       waits = λ o s. sym none;
-      left = λ r. subst (λ (c : Allocation). IsGranted (new_life a e.own p e.foreign x y) (0 + c.messages) (0 + c.bits)) (sym nothing) (record { messages = omega arith; bits = omega arith });
+      left = λ r. subst (λ (c : Allocation). AddsUp (new_life a e.own p e.foreign x y) c) (sym nothing) (record { messages = refl; bits = refl });
     }
 
     by : (b : Bool) → EachIn a k (IsLifeOf p e) (all_told a (if b then [] else notice.Opened e.own p e.foreign x y ∷ []) κ)

@@ -1,12 +1,12 @@
 -- What a command or data of the peer does, at one socket of the host.
-use Rattle.std.proofs.Common.{◌≡◌, ℕ, ◌+◌, ◌≤◌, ◌<◌, ◌==◌, ◌&&◌, Bool, true, false, not, nat_le, nat_lt, if◌then◌else◌, List, [], ◌∷◌, find, length, take, Option, Some, None, is_some, refl, ap, sym, subst, ◌∙◌, arith}
-use Rattle.std.proofs.lemmas.Bool.{eqb-true, leb-true, ltb-true}
-use Rattle.std.proofs.lemmas.List.{length-append, length-drop, length-take}
+use Rattle.std.proofs.Common.{◌≡◌, ℕ, ◌+◌, ◌-◌, ◌≤◌, ◌<◌, ◌==◌, ◌&&◌, ◌||◌, Bool, true, false, not, nat_le, nat_lt, if◌then◌else◌, List, [], ◌∷◌, find, length, take, Option, Some, None, is_some, refl, ap, sym, subst, ◌∙◌, arith}
+use Rattle.std.proofs.lemmas.Bool.{eqb-true, leb-true, ltb-false, ltb-true}
+use Rattle.std.proofs.lemmas.List.{length-append, length-drop, length-take-le}
 use Rattle.std.specs.List.{list_any}
 use Rattle.leader1822.specs.Host.{Host, same_host}
 use Rattle.ncp_control.specs.Allocation as counters
 use Rattle.ncp_control.specs.Command.{spelling}
-use Rattle.ncp_control.specs.DataHeader.{data_bits, header_of}
+use Rattle.ncp_control.specs.DataHeader.{data_bits, fields_of, header_of}
 use Rattle.ncp_control.specs.Numbers.{is_receive_socket, is_send_socket}
 use Rattle.ncp_control.specs.declared.allocation.Allocation.{Allocation}
 use Rattle.ncp_control.specs.declared.command.Command.{Command}
@@ -25,8 +25,8 @@ use Rattle.host_pairs.proofs.lemmas.{both, not_is}
 use Rattle.net_sim.specs.declared.life.Life.{Life}
 use Rattle.net_sim.specs.Book as book
 use Rattle.net_sim.specs.Book.{Kept, all_told, carried, lives_at, where_it}
-use Rattle.net_sim.specs.Safe.{IsGranted, receives, sends}
-use Rattle.world_keeps_lives.specs.Lives.{EachOn, IsLifeOf, IsSafe, at_socket, has_opened}
+use Rattle.net_sim.specs.Safe.{receives, sends}
+use Rattle.world_keeps_lives.specs.Lives.{AddsUp, EachOn, IsLifeOf, IsSafe, at_socket, has_opened}
 use Rattle.world_keeps_lives.proofs.Ends.{IsRefusing, refusing_found, split}
 use Rattle.world_keeps_lives.proofs.Books.{each_here, each_weaker}
 use Rattle.world_keeps_lives.proofs.Desks.{At, Elsewhere, Near, Place, clash, open_mine, open_opened, own_is, own_off}
@@ -82,31 +82,46 @@ sender_still p e c x t off i = record { peers = i.peers; foreign = i.foreign; ow
 covered : (bits : ℕ) (c : Allocation) → is_covered bits c ≡ true → (0 < c.messages) × (bits ≤ c.bits)
 covered bits c is = let h : (nat_lt 0 c.messages ≡ true) × (nat_le bits c.bits ≡ true) = both (nat_lt 0 c.messages) (nat_le bits c.bits) is in (ltb-true 0 c.messages h.0, leb-true bits c.bits h.1)
 
-data_short : (bits : ℕ) (text : List Bool) → length (data_of bits text) ≤ bits
-data_short bits text = omega (arith, length-drop 40 (take (40 + bits) text), length-take (40 + bits) text)
+abbrev header_or : DataHeader → Option DataHeader → DataHeader
+header_or d None = d
+header_or d (Some h) = h
+
+-- a text with a header holds all the data that this announces
+data_whole : (text : List Bool) (h : DataHeader) → header_of text ≡ Some h → length (data_of (data_bits h) text) ≡ data_bits h
+data_whole text h is = by (nat_lt (length text) 40) (nat_lt (length text) (40 + data_bits (fields_of text))) refl refl is where
+  by : (b c : Bool) → nat_lt (length text) 40 ≡ b → nat_lt (length text) (40 + data_bits (fields_of text)) ≡ c → (if b || c then None else Some (fields_of text)) ≡ Some h → length (data_of (data_bits h) text) ≡ data_bits h
+  by true c e f g = absurd (cc)
+  by false true e f g = absurd (cc)
+  by false false e f g =
+      let same : fields_of text ≡ h = ap (header_or h) g in
+      let long : 40 + data_bits (fields_of text) ≤ length text = ltb-false (length text) (40 + data_bits (fields_of text)) f in
+      let many : 40 + data_bits h ≤ length text = subst (λ (f : DataHeader). 40 + data_bits f ≤ length text) same long in
+      length-drop 40 (take (40 + data_bits h) text) ∙ ap (λ (n : ℕ). n - 40) (length-take-le (40 + data_bits h) text many) ∙ omega arith
 
 -- a message is taken
-taken_safe : (x : Life) (t ds : List Bool) (bits : ℕ) (c : Allocation) → (sends x ≡ true → ⊥) → (0 < c.messages) × (bits ≤ c.bits) → length ds ≤ bits → IsGranted x (x.messages + c.messages) (length x.bits + c.bits) → IsSafe (carried ds x) t
-taken_safe x t ds bits c off ok short i = record {
-  front = λ s. absurd (off s);
-  within = λ r. record { messages = omega (arith, ok.0, i.messages); bits = omega (arith, ok.1, short, i.bits, length-append x.bits ds) };
+taken_safe : (x : Life) (t ds : List Bool) (bits : ℕ) (c : Allocation) → (sends x ≡ true → ⊥) → (0 < c.messages) × (bits ≤ c.bits) → length ds ≡ bits → AddsUp x c → IsSafe x t → IsSafe (carried ds x) t
+taken_safe x t ds bits c off ok whole i s = record {
+  front = λ q. absurd (off q);
+  within = λ r. record { messages = omega (arith, ok.0, i.messages); bits = omega (arith, ok.1, whole, i.bits, length-append x.bits ds) };
+  bounded = λ r. record { messages = omega (arith, (s.bounded r).messages); bits = omega (arith, (s.bounded r).bits, length-append x.bits ds) };
 }
 
-taken_life : (p : Host) (e : Entry) (x : Life) (t ds : List Bool) (bits : ℕ) → (sends x ≡ true → ⊥) → (0 < e.allocation.messages) × (bits ≤ e.allocation.bits) → length ds ≤ bits → IsLifeOf p e x t → IsLifeOf p (spent bits e) (carried ds x) t
-taken_life p e x t ds bits off ok short i = record {
+taken_life : (p : Host) (e : Entry) (x : Life) (t ds : List Bool) (bits : ℕ) → (sends x ≡ true → ⊥) → (0 < e.allocation.messages) × (bits ≤ e.allocation.bits) → length ds ≡ bits → IsLifeOf p e x t → IsLifeOf p (spent bits e) (carried ds x) t
+taken_life p e x t ds bits off ok whole i = record {
   peers = i.peers;
   foreign = i.foreign;
   own = i.own;
   partner = i.partner;
   waits = λ o s. absurd (off s);
-  left = λ r. record { messages = omega (arith, ok.0, (i.left r).messages); bits = omega (arith, ok.1, short, (i.left r).bits, length-append x.bits ds) };
+  left = λ r. record { messages = omega (arith, ok.0, (i.left r).messages); bits = omega (arith, ok.1, whole, (i.left r).bits, length-append x.bits ds) };
 }
 
 -- a part is returned
-returned_safe : (x : Life) (t : List Bool) (messages bits : ℕ) (c : Allocation) → (sends x ≡ true → ⊥) → messages ≤ c.messages → bits ≤ c.bits → (receives x ≡ true → IsGranted x (x.messages + c.messages) (length x.bits + c.bits)) → IsSafe (book.returned messages bits x) t
-returned_safe x t messages bits c off m b i = record {
-  front = λ s. absurd (off s);
+returned_safe : (x : Life) (t : List Bool) (messages bits : ℕ) (c : Allocation) → (sends x ≡ true → ⊥) → messages ≤ c.messages → bits ≤ c.bits → (receives x ≡ true → AddsUp x c) → IsSafe x t → IsSafe (book.returned messages bits x) t
+returned_safe x t messages bits c off m b i s = record {
+  front = λ q. absurd (off q);
   within = λ r. record { messages = omega (arith, m, (i r).messages); bits = omega (arith, b, (i r).bits) };
+  bounded = λ r. record { messages = omega (arith, (s.bounded r).messages); bits = omega (arith, (s.bounded r).bits) };
 }
 
 returned_life : (p : Host) (e : Entry) (x : Life) (t : List Bool) (messages bits : ℕ) → (sends x ≡ true → ⊥) → messages ≤ e.allocation.messages → bits ≤ e.allocation.bits → IsLifeOf p e x t → IsLifeOf p (returned messages bits e) (book.returned messages bits x) t
@@ -224,7 +239,7 @@ module _ (a : Host) (k : ℕ) (m : Place) (p : Host) (k0 : Kept) where
         good_changed a k m p k0 (receives_on link) (returned messages bits) (notice.Returned e.own messages bits ∷ []) d e f refl (λ e r. r)
         (λ is l κ i. at_here a k m p (book.returned messages bits) e (returned messages bits e) l κ (all_told a (notice.Returned e.own messages bits ∷ []) κ) is (open_opened e o) (λ x. refl)
         (λ x t there s j. let off : sends x ≡ true → ⊥ = λ q. life_sends a k ⊥ e x is there (receiving_found link d e f) q in
-        (returned_safe x t messages bits e.allocation off fewer less j.left, returned_life p e x t messages bits off fewer less j)) refl refl i)
+        (returned_safe x t messages bits e.allocation off fewer less j.left s, returned_life p e x t messages bits off fewer less j)) refl refl i)
         (λ off. (own_off k e mine off, tt)) h
     by false fits = good_fault ERRONEOUS (command.Ret link messages bits) d h
 
@@ -256,9 +271,9 @@ module _ (a : Host) (k : ℕ) (m : Place) (p : Host) (k0 : Kept) where
 
   -- ---- data
 
-  good_arrived : (link : ℕ) (text : List Bool) (g : Option DataHeader) (d : DeskState) (e : Entry) → find (receives_on link) d.entries ≡ Some e → is_open e ≡ true → G d → G (arrived_if link e text g d)
-  good_arrived link text None d e f o h = record { refusing = h.refusing; on = h.on }
-  good_arrived link text (Some g) d e f o h = by (is_acceptable e g) refl where
+  good_arrived : (link : ℕ) (text : List Bool) (g : Option DataHeader) (d : DeskState) (e : Entry) → header_of text ≡ g → find (receives_on link) d.entries ≡ Some e → is_open e ≡ true → G d → G (arrived_if link e text g d)
+  good_arrived link text None d e headed f o h = record { refusing = h.refusing; on = h.on }
+  good_arrived link text (Some g) d e headed f o h = by (is_acceptable e g) refl where
     mine : e.mine ≡ true
     mine = open_mine e (refusing_found (receives_on link) d.entries e h.refusing f) o
 
@@ -266,11 +281,11 @@ module _ (a : Host) (k : ℕ) (m : Place) (p : Host) (k0 : Kept) where
     by true fits =
         let ok : (0 < e.allocation.messages) × (data_bits g ≤ e.allocation.bits) = covered (data_bits g) e.allocation (both (is_size g.size e.size) (is_covered (data_bits g) e.allocation) fits).1 in
         let ds : List Bool = data_of (data_bits g) text in
-        let short : length ds ≤ data_bits g = data_short (data_bits g) text in
+        let whole : length ds ≡ data_bits g = data_whole text g headed in
         good_changed a k m p k0 (receives_on link) (spent (data_bits g)) (notice.Arrived e.own ds ∷ []) d e f refl (λ e r. r)
         (λ is l κ i. at_here a k m p (carried ds) e (spent (data_bits g) e) l κ (all_told a (notice.Arrived e.own ds ∷ []) κ) is (open_opened e o) (λ x. refl)
         (λ x t there s j. let off : sends x ≡ true → ⊥ = λ q. life_sends a k ⊥ e x is there (receiving_found link d e f) q in
-        (taken_safe x t ds (data_bits g) e.allocation off ok short (j.left (life_receives a k e x is there ∙ receiving_found link d e f)), taken_life p e x t ds (data_bits g) off ok short j)) refl refl i)
+        (taken_safe x t ds (data_bits g) e.allocation off ok whole (j.left (life_receives a k e x is there ∙ receiving_found link d e f)) s, taken_life p e x t ds (data_bits g) off ok whole j)) refl refl i)
         (λ off. (own_off k e mine off, tt)) h
     by false fits = record { refusing = h.refusing; on = h.on }
 
@@ -280,7 +295,7 @@ module _ (a : Host) (k : ℕ) (m : Place) (p : Host) (k0 : Kept) where
     by None f = record { refusing = h.refusing; on = h.on }
     by (Some e) f = open_by (is_open e) refl where
       open_by : (b : Bool) → is_open e ≡ b → G (data_found link text (if b then commands.Open e else (if is_ending e then commands.Ending else commands.Unconnected)) d)
-      open_by true o = good_arrived link text (header_of text) d e f o h
+      open_by true o = good_arrived link text (header_of text) d e refl f o h
       open_by false o = ending_by (is_ending e) where
         ending_by : (b : Bool) → G (data_found link text (if b then commands.Ending else commands.Unconnected) d)
         ending_by true = h

@@ -1,7 +1,8 @@
 -- The lives of a host in the book, and the ends of its program that they are lives of (NIC 8246, connections and ALL).
-use Rattle.std.specs.Prelude.{◌≡◌, ℕ, ◌+◌, ◌==◌, ◌&&◌, Bool, true, false, List, [], ◌∷◌, ◌++◌, filter, length, Some}
+use Rattle.std.specs.Prelude.{◌≡◌, ℕ, ◌+◌, ◌≤◌, ◌==◌, ◌&&◌, Bool, true, false, List, [], ◌∷◌, ◌++◌, filter, length, Some}
 use Rattle.leader1822.specs.Host.{Host, same_host}
 use Rattle.ncp_control.specs.Allocation as counters
+use Rattle.ncp_control.specs.declared.allocation.Allocation.{Allocation}
 use Rattle.host_pairs.specs.Entries.{has_cls, is_mine_on, is_open}
 use Rattle.host_pairs.specs.Phases.{is_ready}
 use Rattle.host_pairs.specs.Desk.{listens_on}
@@ -27,22 +28,35 @@ abbrev pub AreRefusing : List Entry → Type 0
 AreRefusing [] = Unit {0}
 AreRefusing (e ∷ entries) = (e.mine ≡ false → has_cls e.closing ≡ true) × AreRefusing entries
 
+-- ---- the counts of a life
+
+-- what was granted in a life was taken, was returned, or is left
+pub record AddsUp (x : Life) (left : Allocation) : Type 0 where
+  pub messages : x.granted.messages ≡ x.messages + x.returned.messages + left.messages
+  pub bits : x.granted.bits ≡ length x.bits + x.returned.bits + left.bits
+
+-- what was granted in a life was taken or returned, but for as much as a counter can hold: 65535 messages and 4294967295 bits
+pub record IsBounded (x : Life) : Type 0 where
+  pub messages : x.granted.messages ≤ x.messages + x.returned.messages + 65535
+  pub bits : x.granted.bits ≤ length x.bits + x.returned.bits + 4294967295
+
 -- ---- a life and its end
 
--- what was sent in a life is a prefix of what was handed over, and what was taken in it is granted
+-- what was sent in a life is a prefix of what was handed over; what was taken in it is granted, and its grants are bounded
 pub record IsSafe (x : Life) (handed : List Bool) : Type 0 where
   pub front : sends x ≡ true → IsFront x.bits handed
   pub within : receives x ≡ true → IsGranted x x.messages (length x.bits)
+  pub bounded : receives x ≡ true → IsBounded x
 
 -- a life is that of an end with a peer: they have one foreign socket and the same two stamps. While it is open, what was handed over
--- is what was sent and then what waits; and what is left of the grants is granted beside what was taken
+-- is what was sent and then what waits; and what was granted is what was taken, what was returned, and what the end has left
 pub record IsLifeOf (peer : Host) (e : Entry) (x : Life) (handed : List Bool) : Type 0 where
   pub peers : x.peer ≡ peer
   pub foreign : e.foreign ≡ x.foreign
   pub own : e.asked ≡ Some x.own_stamp
   pub partner : e.partner ≡ Some x.partner_stamp
   pub waits : is_open e ≡ true → sends x ≡ true → handed ≡ x.bits ++ e.bits
-  pub left : receives x ≡ true → IsGranted x (x.messages + e.allocation.messages) (length x.bits + e.allocation.bits)
+  pub left : receives x ≡ true → AddsUp x e.allocation
 
 -- ---- all lives of a socket
 

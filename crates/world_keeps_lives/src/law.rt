@@ -22,7 +22,7 @@ ghost use Rattle.sockets.specs.Pairs.{opening_state};
 ghost use Rattle.host_pairs.specs.declared.notice.Notice.TheVariants as notice;
 ghost use Rattle.sockets.specs.Worked.{first, second, third};
 ghost use Rattle.net_sim.specs.Book.{carried, life_ended, granted, new_life, opening_kept, returned};
-ghost use Rattle.world_keeps_lives.specs.Lives.{AreRefusing, EachOn, HasOpenEnd, IsFreeSocket, IsFresh, IsLifeOf, IsOwned, IsSafe, IsSteady, NoneOf, at_socket, mine_on};
+ghost use Rattle.world_keeps_lives.specs.Lives.{AreRefusing, EachOn, HasOpenEnd, IsBounded, IsFreeSocket, IsFresh, IsLifeOf, IsOwned, IsSafe, IsSteady, NoneOf, at_socket, mine_on};
 ghost use Rattle.world_keeps_lives.specs.Worked.{worked_end, with_one};
 ghost use Rattle.world_keeps_lives.specs.WorkedFormed.{arrived_told, gave, sent_log, sent_told, stray_arrived, stray_log, stray_sent, took, untaken_log};
 ghost use Rattle.net_sim.specs.Worked.{crossings, eight_zeros, taker};
@@ -44,6 +44,9 @@ pub fn programs()
     // what a receiving life took, with what was returned, is within what it granted
     ensures taken { (hosts : List Host) (moments : List Moment) → HaveAddresses hosts → mail.IsRun hosts (crossings_of moments) → IsTimeline hosts moments → (receiver : Life) → Contains (kept_in moments).book.lives receiver → receives receiver ≡ true → IsGranted receiver receiver.messages (length receiver.bits) }
 
+    // of what a receiving life granted, all but what a counter can hold was taken or returned
+    ensures bounded { (hosts : List Host) (moments : List Moment) → HaveAddresses hosts → mail.IsRun hosts (crossings_of moments) → IsTimeline hosts moments → (receiver : Life) → Contains (kept_in moments).book.lives receiver → receives receiver ≡ true → IsBounded receiver }
+
     // what each sending life sent is a prefix of what was handed over in it
     ensures handed { (hosts : List Host) (moments : List Moment) → HaveAddresses hosts → mail.IsRun hosts (crossings_of moments) → IsTimeline hosts moments → AreHanded (kept_in moments).book.lives (kept_in moments).handed }
 
@@ -56,11 +59,12 @@ pub fn programs()
 {}
 
 /// The same of the book of every world, whatever its carrier is made of: the two clauses of the safe book that are about one host
-/// alone, the end of each life that goes on, in the program that comes of the world's moments, the messages that a life is made of, and
-/// those of which notices tell.
+/// alone, the bound of grants, the end of each life that goes on, in the program that comes of the world's moments, the messages that a
+/// life is made of, and those of which notices tell.
 pub fn worlds<C: Carrier>()
     ensures live { (hosts : List Host) (w : WorldState C) → (lawful : IsLawful C.seen hosts w) → (x : Life) → Contains w.kept.book.lives x → x.ended ≡ false → HasOpenEnd (program x.host lawful.whole.moments) x }
     ensures taken { (hosts : List Host) (w : WorldState C) → IsLawful C.seen hosts w → (receiver : Life) → Contains w.kept.book.lives receiver → receives receiver ≡ true → IsGranted receiver receiver.messages (length receiver.bits) }
+    ensures bounded { (hosts : List Host) (w : WorldState C) → IsLawful C.seen hosts w → (receiver : Life) → Contains w.kept.book.lives receiver → receives receiver ≡ true → IsBounded receiver }
     ensures handed { (hosts : List Host) (w : WorldState C) → IsLawful C.seen hosts w → AreHanded w.kept.book.lives w.kept.handed }
     ensures formed { (hosts : List Host) (w : WorldState C) → IsLawful C.seen hosts w → FormedBook w.kept.book.crossings w.kept.book.lives }
     ensures told { (hosts : List Host) (w : WorldState C) → IsLawful C.seen hosts w → FormedNotices w.kept.book.crossings w.kept.book.notices }
@@ -92,6 +96,12 @@ pub fn worked_lives()
     ensures longer { IsSafe (carried (true ∷ []) (granted 1 0 (new_life first 16 second 33 6 10))) [] → ⊥ }
     ensures returned { IsSafe (carried (true ∷ []) (returned 1 0 (granted 1 5 (new_life first 16 second 33 6 10)))) [] → ⊥ }
 
+    // what a counter can hold may be granted and not taken, and no more; what was taken or returned may be granted again
+    ensures outstanding { IsBounded (granted 65535 4294967295 (new_life first 16 second 33 6 10)) }
+    ensures renewed { IsBounded (granted 3 1 (returned 2 0 (carried (true ∷ []) (granted 65535 4294967295 (new_life first 16 second 33 6 10))))) }
+    ensures many { IsBounded (granted 65536 0 (new_life first 16 second 33 6 10)) → ⊥ }
+    ensures long { IsBounded (granted 0 4294967296 (new_life first 16 second 33 6 10)) → ⊥ }
+
     // one that has ended is still of its socket, and of no other socket or host
     ensures here { at_socket first 16 (life_ended (new_life first 16 second 33 6 10)) ≡ true }
     ensures elsewhere { (at_socket second 16 (new_life first 16 second 33 6 10) ≡ false) × (at_socket first 18 (new_life first 16 second 33 6 10) ≡ false) }
@@ -105,9 +115,10 @@ pub fn worked_lives()
     ensures life { IsLifeOf second worked_end (new_life first 16 second 33 6 10) [] }
     ensures stamp { IsLifeOf second worked_end (new_life first 16 second 33 7 10) [] → ⊥ }
 
-    // what waits on it was handed over, and what is left of its grants was granted
+    // what waits on it was handed over; what is left of its grants was granted, and what was granted and not taken is left
     ensures waits { IsLifeOf second (with_more_bits (true ∷ []) (commands.asked_on_link 10 5 (asked_at 6 (sending_end 33 16 8)))) (new_life first 33 second 16 6 10) [] → ⊥ }
     ensures left { IsLifeOf second (commands.granted 1 5 worked_end) (new_life first 16 second 33 6 10) [] → ⊥ }
+    ensures lost { IsLifeOf second worked_end (granted 1 5 (new_life first 16 second 33 6 10)) [] → ⊥ }
 {}
 
 /// A program with one open end, and one that starts.

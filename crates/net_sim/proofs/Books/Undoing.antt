@@ -1,13 +1,12 @@
 -- What was done to the lives is taken back.
-use Rattle.std.proofs.Common.{◌≡◌, ◌⊎◌, inl, inr, ℕ, ◌+◌, ◌<◌, ◌≤◌, Bool, true, false, if◌then◌else◌, zero, suc, List, [], ◌∷◌, ◌++◌, length, take, drop, map, slice_index_or, slice_set, refl, ap, sym, ◌∙◌, arith}
+use Rattle.std.proofs.Common.{◌≡◌, inl, inr, ℕ, ◌+◌, ◌<◌, ◌≤◌, Bool, zero, suc, List, [], ◌∷◌, ◌++◌, length, take, drop, slice_index_or, slice_set, refl, ap, sym, ◌∙◌, arith}
 use Rattle.std.proofs.lemmas.List.{drop_more}
 use Rattle.std.proofs.Math.Seq.{take-append_seam}
-use Rattle.net_sim.specs.Book.{Life, changed_when, where_it, life_ended}
+use Rattle.net_sim.specs.Book.{Life}
 use Rattle.net_sim.specs.Inside.Lives.{LivesState}
-use Rattle.net_sim.specs.Inside.Places.{places, changed_at, changed_here}
-use Rattle.net_sim.specs.Inside.Undo.{Mark, Undo, mark_of, life_back, reopened, cut_here, undone, all_undone, GoesBack, IsNoted, AreNoted}
+use Rattle.net_sim.specs.Inside.Places.{changed_here}
+use Rattle.net_sim.specs.Inside.Undo.{Undo, life_back, reopened, cut_here, undone, all_undone, GoesBack, IsEndNoted, IsNoted, AreNoted}
 use Rattle.net_sim.specs.declared.undo.Undo.TheVariants as undo
-use Rattle.net_sim.proofs.Books.Places.{Spares, nothing_left, shifted}
 
 abbrev pub state : List Life → List (List Bool) → LivesState
 state lives handed = record { lives = lives; handed = handed }
@@ -49,6 +48,14 @@ noted_back us vs at xs handed d x y is (inl same) =
 noted_back us vs at xs handed d x y is (inr n) =
     one_back us vs (undo.Changed at n.0) (state xs handed) (state (slice_set xs at y) handed) n.1 (ap (λ (ys : List Life). state ys handed) (here_back (life_back n.0) at xs d x y is n.2))
 
+-- a life at a place ends, and that is noted
+pub end_back : (us vs : List Undo) (at : ℕ) (xs : List Life) (handed : List (List Bool)) (d x y : Life) → x ≡ slice_index_or xs at d → IsEndNoted at us x vs y
+    → GoesBack us (state xs handed) vs (state (slice_set xs at y) handed)
+end_back us vs at xs handed d x y is (inl same) =
+    ap (λ (ws : List Undo). all_undone ws (state (slice_set xs at y) handed)) same.0 ∙ ap (λ (ys : List Life). all_undone us (state ys handed)) (here_same at xs d x y is same.1)
+end_back us vs at xs handed d x y is (inr n) =
+    one_back us vs (undo.Ended at) (state xs handed) (state (slice_set xs at y) handed) n.0 (ap (λ (ys : List Life). state ys handed) (here_back reopened at xs d x y is n.1))
+
 -- ---- what was handed over
 
 pub cut_set : (n at : ℕ) (hs : List (List Bool)) (d new : List Bool) → new ≡ take n (slice_index_or hs at d) → slice_set hs at new ≡ cut_here n at hs
@@ -81,39 +88,7 @@ handed_next us vs at lives hs gs d h g before s ws same set is noted rest =
 pub handed_same : (us : List Undo) (lives : List Life) (hs gs : List (List Bool)) (before : List Undo) (s : LivesState) (ws : List Undo) → ws ≡ us → gs ≡ hs → GoesBack before s us (state lives hs) → GoesBack before s ws (state lives gs)
 handed_same us lives hs gs before s ws same is rest = ap (λ (zs : List Undo). all_undone zs (state lives gs)) same ∙ ap (λ (ks : List (List Bool)). all_undone us (state lives ks)) is ∙ rest
 
--- ---- lives end and begin
-
--- one place more
-pub next_here : (f : Life → Life) (ats : List ℕ) (k : ℕ) (ys new zs : List Life) → k < length ats → new ≡ changed_here f (slice_index_or ats k 0) ys → changed_at f (drop k ats) ys ≡ zs → changed_at f (drop (k + 1) ats) new ≡ zs
-next_here f ats k ys new zs lt one rest =
-    ap (λ (xs : List Life). changed_at f (drop (k + 1) ats) xs) one ∙ ap (λ (ns : List ℕ). changed_at f ns ys) (sym (drop_more ats k 0 lt)) ∙ rest
-
-pub all_here : (f : Life → Life) (ats : List ℕ) (k : ℕ) (ys zs : List Life) → length ats ≤ k → changed_at f (drop k ats) ys ≡ zs → ys ≡ zs
-all_here f ats k ys zs le rest = ap (λ (ns : List ℕ). changed_at f ns ys) (sym (nothing_left ats k le)) ∙ rest
-
-open_again : (t : Bool) (x : Life) → x.ended ≡ false → reopened (changed_when t life_ended x) ≡ x
-open_again true x e = ap (λ (b : Bool). let y : Life = record x { ended = b } in y) (sym e)
-open_again false x e = ap (λ (b : Bool). let y : Life = record x { ended = b } in y) (sym e)
-
--- those that were open are open again
-all_open : (test : Life → Bool) → Spares test → (xs : List Life) → changed_at reopened (places xs) (where_it test life_ended xs) ≡ xs
-all_open test spares [] = refl
-all_open test spares (x ∷ xs) = at_first (all_open test spares xs) x.ended refl where
-  y : Life
-  y = changed_when (test x) life_ended x
-
-  ys : List Life
-  ys = where_it test life_ended xs
-
-  at_first : changed_at reopened (places xs) ys ≡ xs → (b : Bool) → x.ended ≡ b → changed_at reopened (if b then map suc (places xs) else 0 ∷ map suc (places xs)) (y ∷ ys) ≡ x ∷ xs
-  at_first rest true e = shifted reopened (places xs) y ys ∙ ap (λ (zs : List Life). y ∷ zs) rest ∙ ap (λ (b : Bool). changed_when b life_ended x ∷ xs) (spares x e)
-  at_first rest false e = shifted reopened (places xs) (reopened y) ys ∙ ap (λ (zs : List Life). reopened y ∷ zs) rest ∙ ap (λ (z : Life). z ∷ xs) (open_again (test x) x e)
-
-pub ended_back : (test : Life → Bool) → Spares test → (xs ys : List Life) (ats : List ℕ) (handed : List (List Bool)) (s : LivesState) → ats ≡ places xs → ys ≡ where_it test life_ended xs → s ≡ state xs handed
-    → state (changed_at reopened ats ys) handed ≡ s
-ended_back test spares xs ys ats handed s known is was =
-    ap (λ (ns : List ℕ). state (changed_at reopened ns ys) handed) known ∙ ap (λ (zs : List Life). state (changed_at reopened (places xs) zs) handed) is
-    ∙ ap (λ (zs : List Life). state zs handed) (all_open test spares xs) ∙ sym was
+-- ---- lives begin
 
 pub begun_back : (xs ys : List Life) (hs gs : List (List Bool)) (x : Life) (h : List Bool) (n m : ℕ) (s : LivesState) → ys ≡ xs ++ x ∷ [] → gs ≡ hs ++ h ∷ [] → n ≡ length xs → m ≡ length hs → s ≡ state xs hs
     → undone (undo.Begun n m) (state ys gs) ≡ s

@@ -1,5 +1,5 @@
 -- What happens to the lives and to what was handed over, apart from all else that is kept.
-use Rattle.std.specs.Prelude.{◌≡◌, ℕ, Bool, List, [], ◌∷◌, ◌++◌, Option, Some, None, reverse}
+use Rattle.std.specs.Prelude.{ℕ, Bool, List, [], ◌∷◌, ◌++◌, Option, Some, None, reverse}
 use Rattle.leader1822.specs.Host.{Host}
 use Rattle.leader1822.specs.declared.crossing.Crossing.{Crossing}
 use Rattle.host_pairs.specs.declared.notice.Notice.{Notice}
@@ -7,7 +7,6 @@ use Rattle.sockets.specs.declared.request.Request.{Request}
 use Rattle.net_sim.specs.Book as book
 use Rattle.net_sim.specs.Book.{Life, Told, Called, Reported, Kept, where_it, lives_crossed, lives_told, lives_asked, handed_told, handed_asked}
 use Rattle.net_sim.specs.Inside.Endings.{Ending, ends}
-use Rattle.net_sim.specs.Inside.Places.{places}
 
 pub record LivesState : Type 0 where
   pub lives : List Life
@@ -76,7 +75,3 @@ written cs a calls ts h rs reports k = record {
 -- what a host was told when there were so many crossings
 abbrev pub told_at : Host → ℕ → Notice → Told
 told_at h place n = record { host = h; place = place; notice = n }
-
--- the places that are known are those of the open lives
-abbrev pub AreKnown : List ℕ → List Life → Type 0
-AreKnown known lives = known ≡ places lives

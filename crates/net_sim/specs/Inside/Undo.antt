@@ -2,7 +2,7 @@
 use Rattle.std.specs.Prelude.{◌≡◌, ◌⊎◌, ℕ, zero, suc, Bool, false, List, [], ◌∷◌, ◌++◌, length, take}
 use Rattle.net_sim.specs.Book.{Life}
 use Rattle.net_sim.specs.Inside.Lives.{LivesState}
-use Rattle.net_sim.specs.Inside.Places.{changed_at, changed_here}
+use Rattle.net_sim.specs.Inside.Places.{changed_here}
 pub use Rattle.net_sim.specs.declared.undo.Mark.{Mark}
 pub use Rattle.net_sim.specs.declared.undo.Undo.{Undo}
 use Rattle.net_sim.specs.declared.undo.Undo.TheVariants as undo
@@ -26,7 +26,7 @@ cut_here n (suc at) (h ∷ hs) = h ∷ cut_here n at hs
 
 abbrev pub undone : Undo → LivesState → LivesState
 undone (undo.Begun lives handed) s = record { lives = take lives s.lives; handed = take handed s.handed }
-undone (undo.Ended open_at) s = record { lives = changed_at reopened open_at.items s.lives; handed = s.handed }
+undone (undo.Ended at) s = record { lives = changed_here reopened at s.lives; handed = s.handed }
 undone (undo.Changed at was) s = record { lives = changed_here (life_back was) at s.lives; handed = s.handed }
 undone (undo.Handed at bits) s = record { lives = s.lives; handed = cut_here bits at s.handed }
 
@@ -42,6 +42,10 @@ GoesBack us s vs t = all_undone vs t ≡ all_undone us s
 -- a life stays, or how it was is noted
 abbrev pub IsNoted : ℕ → List Undo → Life → List Undo → Life → Type 0
 IsNoted at us x vs y = ((vs ≡ us) × (y ≡ x)) ⊎ ((was : Mark) × (vs ≡ us ++ undo.Changed at was ∷ []) × (life_back was y ≡ x))
+
+-- a life stays, or it ended, and that is noted
+abbrev pub IsEndNoted : ℕ → List Undo → Life → List Undo → Life → Type 0
+IsEndNoted at us x vs y = ((vs ≡ us) × (y ≡ x)) ⊎ ((vs ≡ us ++ undo.Ended at ∷ []) × (reopened y ≡ x))
 
 -- the same of what was handed over
 abbrev pub AreNoted : ℕ → List Undo → List Bool → List Undo → List Bool → Type 0

@@ -1,5 +1,5 @@
 use Rattle.world_keeps_lives.proofs.Formed.{formed}
-use Rattle.world_keeps_lives.proofs.Laws.{handed, holds, live, taken}
+use Rattle.world_keeps_lives.proofs.Laws.{bounded, handed, holds, live, taken}
 use Rattle.world_keeps_lives.proofs.Notices.{told}
 use Rattle.world_keeps_lives.proofs.law.programs.Goals as goal
 
@@ -14,6 +14,9 @@ returns-clause-live c hosts moments addresses run time x there goes = live hosts
 
 pub returns-clause-taken : goal.returns-clause-taken
 returns-clause-taken c hosts moments addresses run time x there r = taken hosts moments addresses run time x there r
+
+pub returns-clause-bounded : goal.returns-clause-bounded
+returns-clause-bounded c hosts moments addresses run time x there r = bounded hosts moments addresses run time x there r
 
 pub returns-clause-handed : goal.returns-clause-handed
 returns-clause-handed c hosts moments addresses run time = handed hosts moments addresses run time

@@ -1,5 +1,5 @@
 use Rattle.std.proofs.Common.{refl}
-use Rattle.world_keeps_lives.proofs.Rows.{row_goes, row_gone, row_left, row_life, row_longer, row_more, row_others, row_returned, row_sent, row_stamp, row_taken, row_ungranted, row_waits}
+use Rattle.world_keeps_lives.proofs.Rows.{row_goes, row_gone, row_left, row_life, row_long, row_longer, row_lost, row_many, row_more, row_others, row_outstanding, row_renewed, row_returned, row_sent, row_stamp, row_taken, row_ungranted, row_waits}
 use Rattle.world_keeps_lives.proofs.law.worked_lives.Goals as goal
 
 pub returns-clause-sent : goal.returns-clause-sent
@@ -49,3 +49,18 @@ returns-clause-waits c = row_waits
 
 pub returns-clause-left : goal.returns-clause-left
 returns-clause-left c = row_left
+
+pub returns-clause-outstanding : goal.returns-clause-outstanding
+returns-clause-outstanding c = row_outstanding
+
+pub returns-clause-renewed : goal.returns-clause-renewed
+returns-clause-renewed c = row_renewed
+
+pub returns-clause-many : goal.returns-clause-many
+returns-clause-many c = row_many
+
+pub returns-clause-long : goal.returns-clause-long
+returns-clause-long c = row_long
+
+pub returns-clause-lost : goal.returns-clause-lost
+returns-clause-lost c = row_lost

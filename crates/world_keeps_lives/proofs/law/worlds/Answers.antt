@@ -1,5 +1,5 @@
 use Rattle.world_keeps_lives.proofs.Formed.{world_formed}
-use Rattle.world_keeps_lives.proofs.Laws.{world_handed, world_live, world_taken}
+use Rattle.world_keeps_lives.proofs.Laws.{world_bounded, world_handed, world_live, world_taken}
 use Rattle.world_keeps_lives.proofs.Notices.{world_told}
 use Rattle.world_keeps_lives.proofs.law.worlds.Goals as goal
 
@@ -8,6 +8,9 @@ returns-clause-live g c hosts w lawful x there goes = world_live g.C.Carrier.see
 
 pub returns-clause-taken : goal.returns-clause-taken
 returns-clause-taken g c hosts w lawful x there r = world_taken g.C.Carrier.seen hosts w lawful x there r
+
+pub returns-clause-bounded : goal.returns-clause-bounded
+returns-clause-bounded g c hosts w lawful x there r = world_bounded g.C.Carrier.seen hosts w lawful x there r
 
 pub returns-clause-handed : goal.returns-clause-handed
 returns-clause-handed g c hosts w lawful = world_handed g.C.Carrier.seen hosts w lawful

@@ -1,15 +1,21 @@
-use Rattle.std.proofs.Common.{rules}
+use Rattle.std.proofs.Common.{◌≡◌, rules, List, [], ◌∷◌, ◌++◌, refl, ap, sym, subst, ◌∙◌}
+use Rattle.net_sim.specs.Book.{Life}
+use Rattle.net_sim.specs.Inside.Open.{AreKnown}
 use Rattle.net_sim.specs.declared.undo.Undo.TheVariants as undo
-use Rattle.net_sim.proofs.Books.Places.{known_more}
 use Rattle.net_sim.proofs.Books.Undoing.{state, begun_back, one_back}
 use Rattle.net_sim.proofs.lives.Lives.begin.Goals as goal
 
 pub invariant_of-self-2 : goal.invariant_of-self-2
 invariant_of-self-2 c =
-    known_more c.self.inside.lives.items c.push_reserved-2.new.self.items c.self.inside.open_at.items c.push_reserved-3.new.self.items c.args.life c.len-at.result c.requires.begins c.self.invariant (search rules) (search rules) (search rules)
+    let there : c.deref.result.now ≡ c.self.inside.lives.items = search rules in
+    let more : c.push_reserved-3.new.self.items ≡ c.self.inside.lives.items ++ c.args.life ∷ [] = search rules in
+    let known : AreKnown c.self.inside.open.known c.self.inside.open.hosts c.self.inside.open.sockets c.deref.result.now =
+    subst (λ (xs : List Life). AreKnown c.self.inside.open.known c.self.inside.open.hosts c.self.inside.open.sockets xs) (sym there) c.self.invariant in
+    subst (λ (xs : List Life). AreKnown c.enter.new.self.known c.enter.new.self.hosts c.enter.new.self.sockets xs) (ap (λ (xs : List Life). xs ++ c.args.life ∷ []) there ∙ sym more)
+    (c.in_ok-enter.ensures.done c.args.life refl refl known)
 
 pub returns-clause-back : goal.returns-clause-back
 returns-clause-back c =
-    one_back c.args.done.now.items c.push.new.self.items (undo.Begun c.len-at.result c.len.result) c.args.self.now (state c.push_reserved-2.new.self.items c.push_reserved.new.self.items) (search rules)
-    (begun_back c.self.inside.lives.items c.push_reserved-2.new.self.items c.self.inside.handed.items c.push_reserved.new.self.items c.args.life c.new.result c.len-at.result c.len.result c.args.self.now
+    one_back c.args.done.now.items c.push_reserved.new.self.items (undo.Begun c.len.result c.len-2.result) c.args.self.now (state c.push_reserved-3.new.self.items c.push_reserved-2.new.self.items) (search rules)
+    (begun_back c.self.inside.lives.items c.push_reserved-3.new.self.items c.self.inside.handed.items c.push_reserved-2.new.self.items c.args.life c.new.result c.len.result c.len-2.result c.args.self.now
     (search rules) (search rules) (search rules) (search rules) (search rules))

@@ -1,21 +1,22 @@
-use Rattle.std.proofs.Common.{◌≡◌, rules, List, ◌++◌, take, drop, length}
-use Rattle.net_sim.specs.Book.{Life, where_it, life_ended}
+use Rattle.std.proofs.Common.{◌≡◌, rules, ℕ, List, ◌++◌, take, drop, length, sym, subst}
+use Rattle.net_sim.specs.Book.{Life}
 use Rattle.net_sim.specs.Inside.Endings.{ends}
-use Rattle.net_sim.specs.declared.undo.Undo.TheVariants as undo
-use Rattle.net_sim.proofs.Books.Places.{end_spares, known_left, put_back}
-use Rattle.net_sim.proofs.Books.Undoing.{state, ended_back, one_back}
+use Rattle.net_sim.specs.Inside.Open.{AreKept, Covers, Holds}
+use Rattle.net_sim.proofs.Books.Marks.{covers_kept, kept_put, look_of}
 use Rattle.net_sim.proofs.lives.Lives.end.Goals as goal
 
-pub invariant_of-self : goal.invariant_of-self
-invariant_of-self c =
-    let after : List Life = take c.self.inside.lives.len (c.end.new.lives ++ drop (length c.end.new.lives) c.self.inside.lives.items) in
-    known_left (ends c.args.ending.now) c.self.inside.lives.items after c.self.inside.open_at.items c.forget_ended.new.open_at.items c.self.invariant
-    (put_back (ends c.args.ending.now) c.self.inside.lives.items c.end.new.lives (drop (length c.end.new.lives) c.self.inside.lives.items) c.self.inside.lives.len (search rules) (search rules)) (search rules)
+pub end-requires : goal.end-requires
+end-requires c =
+    let there : c.deref.result.now ≡ c.self.inside.lives.items = search rules in
+    let covers : Covers c.know.new.self.hosts c.know.new.self.sockets c.self.inside.lives.items = subst (λ (xs : List Life). Covers c.know.new.self.hosts c.know.new.self.sockets xs) there c.in_ok-know.ensures.known in
+    let same : c.deref_mut.result.now ≡ c.self.inside.lives.items = search rules in
+    subst (λ (xs : List Life). Holds (ends c.args.ending.now) c.of.result.now xs) (sym same) (subst (λ (ats : List ℕ). Holds (ends c.args.ending.now) ats c.self.inside.lives.items) (sym c.of.ensures) (look_of c.know.new.self.hosts c.know.new.self.sockets c.args.ending.now c.self.inside.lives.items covers))
 
-pub returns-clause-back : goal.returns-clause-back
-returns-clause-back c =
+pub invariant_of-self-2 : goal.invariant_of-self-2
+invariant_of-self-2 c = λ known.
     let after : List Life = take c.self.inside.lives.len (c.end.new.lives ++ drop (length c.end.new.lives) c.self.inside.lives.items) in
-    let ended : after ≡ where_it (ends c.args.ending.now) life_ended c.self.inside.lives.items =
-    put_back (ends c.args.ending.now) c.self.inside.lives.items c.end.new.lives (drop (length c.end.new.lives) c.self.inside.lives.items) c.self.inside.lives.len (search rules) (search rules) in
-    one_back c.args.done.now.items c.push.new.self.items (undo.Ended c.in_ok-open_at.open_at) c.args.self.now (state after c.self.inside.handed.items) (search rules)
-    (ended_back (ends c.args.ending.now) (end_spares c.args.ending.now) c.self.inside.lives.items after c.in_ok-open_at.open_at.items c.self.inside.handed.items c.args.self.now (search rules) ended (search rules))
+    let there : c.deref.result.now ≡ c.self.inside.lives.items = search rules in
+    let covers : Covers c.know.new.self.hosts c.know.new.self.sockets c.self.inside.lives.items = subst (λ (xs : List Life). Covers c.know.new.self.hosts c.know.new.self.sockets xs) there c.in_ok-know.ensures.known in
+    let same : c.deref_mut.result.now ≡ c.self.inside.lives.items = search rules in
+    let kept : AreKept c.self.inside.lives.items c.end.new.lives = subst (λ (xs : List Life). AreKept xs c.end.new.lives) same c.end.ensures.kept in
+    covers_kept c.know.new.self.hosts c.know.new.self.sockets c.self.inside.lives.items after (kept_put c.self.inside.lives.items c.end.new.lives (drop (length c.end.new.lives) c.self.inside.lives.items) c.self.inside.lives.len (search rules) kept) covers

@@ -1,7 +1,7 @@
 use Rattle.std.proofs.Common.{rules}
 use Rattle.std.proofs.lemmas.Fn.{filter_same}
 use Rattle.net_sim.specs.Inside.Places.{is_open_at}
-use Rattle.net_sim.proofs.lives.forget_ended.Goals as goal
+use Rattle.net_sim.proofs.open.forget_ended.Goals as goal
 
 pub returns : goal.returns
 returns c = filter_same _ (is_open_at c.args.lives.now) _ (λ x b f' k. search rules) _ _ c.retain.ensures.filtered
