@@ -183,21 +183,46 @@ unfolding link_in
 another foreign e = let link : 2 ≡ 3 = ap link_in e in omega (arith, link)
 
 all_other : (foreign : ℕ) → Each (NamesOther foreign) (drop 1 stray_log)
-all_other foreign =
-    (from_second foreign stray refl,
-    (not_answer foreign _ _,
-    (not_out foreign str,
-    (not_answer foreign _ _,
-    (from_second foreign str refl,
-    (not_out foreign rts,
-    (of_these foreign rts (Legal (command.Rts 16 33 2) ∷ []) rts_read (another foreign, tt),
-    (not_answer foreign _ _,
-    (not_out foreign (rrp second first),
-    (from_second foreign (rrp second first) refl,
-    (not_answer foreign _ _,
-    (not_out foreign (rst first second),
-    (of_these foreign (rst first second) (Legal command.Rst ∷ []) rst_read (an_rst foreign, tt),
-    tt)))))))))))))
+all_other foreign = (
+  from_second foreign stray refl,
+  (
+    not_answer foreign _ _,
+    (
+      not_out foreign str,
+      (
+        not_answer foreign _ _,
+        (
+          from_second foreign str refl,
+          (
+            not_out foreign rts,
+            (
+              of_these foreign rts (Legal (command.Rts 16 33 2) ∷ []) rts_read (another foreign, tt),
+              (
+                not_answer foreign _ _,
+                (
+                  not_out foreign (rrp second first),
+                  (
+                    from_second foreign (rrp second first) refl,
+                    (
+                      not_answer foreign _ _,
+                      (
+                        not_out foreign (rst first second),
+                        (
+                          of_these foreign (rst first second) (Legal command.Rst ∷ []) rst_read (an_rst foreign, tt),
+                          tt,
+                        ),
+                      ),
+                    ),
+                  ),
+                ),
+              ),
+            ),
+          ),
+        ),
+      ),
+    ),
+  ),
+)
 
 no_link : HasLink first second 16 3 (drop 1 stray_log) → ⊥
 no_link h = crossed_in (NamesOther h.foreign) h.own_stamp (going h.own.message) (drop 1 stray_log) h.own.crossed (all_other h.foreign) h.own.message refl h.own.flow h.own.holds
