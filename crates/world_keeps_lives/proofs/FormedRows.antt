@@ -1,5 +1,5 @@
 -- Lives that are made of messages that crossed, and lives that aren't.
-use Rattle.std.proofs.Common.{◌≡◌, ◌⊎◌, inl, inr, ℕ, ◌+◌, ◌<◌, ◌≤◌, ◌==◌, Bool, true, false, if◌then◌else◌, List, [], ◌∷◌, ◌++◌, length, Option, Some, None, refl, ap, sym, subst, ◌∙◌, arith, eq-eqb}
+use Rattle.std.proofs.Common.{◌≡◌, inl, inr, ℕ, ◌+◌, ◌<◌, ◌≤◌, ◌==◌, Bool, true, false, if◌then◌else◌, List, [], ◌∷◌, length, Option, Some, None, refl, ap, sym, subst, ◌∙◌, arith, eq-eqb}
 use Rattle.std.proofs.lemmas.Bool.{eqb-true}
 use Rattle.std.specs.List.{Contains}
 use Rattle.bit_messages.specs.Octets.{octets_of}
@@ -11,7 +11,7 @@ use Rattle.ncp_control.specs.Reading.{command_of, read_of}
 use Rattle.ncp_control.specs.declared.command.Command.TheVariants as command
 use Rattle.host_pairs.specs.Control.{Legal, Order, Wrong, orders_of}
 use Rattle.sockets.specs.Worked.{first, second}
-use Rattle.net_sim.specs.Formed.{AreCarried, Carries, CrossedAt, HasCrossed, IsFormed, coming, going, request}
+use Rattle.net_sim.specs.Formed.{AreCarried, Carries, CrossedAt, IsFormed, coming, going, request}
 use Rattle.net_sim.specs.Worked.{crossings, eight, message, taker}
 use Rattle.net_sim.specs.WorkedMoments.{all_given, eight_sent, rts, str}
 use Rattle.net_sim.specs.declared.life.Life.{Life}
