@@ -1,9 +1,6 @@
 -- What each moment tells of data: one notice of what goes out on a connection's link, at most one of what comes in on it, and none otherwise.
-use Rattle.std.proofs.Common.{◌≡◌, ◌⊎◌, inl, inr, ℕ, ◌+◌, ◌*◌, ◌<◌, ◌==◌, Bool, true, false, not, ◌&&◌, if◌then◌else◌, zero, suc, List, [], ◌∷◌, ◌++◌, map, filter, take, drop, find, length, slice_index_or, Option, Some, None, refl, ap, sym, subst, ◌∙◌, arith, eq-eqb}
-use Rattle.std.specs.List.{Contains}
+use Rattle.std.proofs.Common.{◌≡◌, ◌⊎◌, inl, inr, ℕ, ◌*◌, ◌==◌, Bool, true, false, if◌then◌else◌, List, [], ◌∷◌, ◌++◌, take, find, Option, Some, None, refl, ap, sym, subst, ◌∙◌}
 use Rattle.std.proofs.lemmas.Bool.{eqb-true}
-use Rattle.std.proofs.Math.Seq.{drop-append_seam}
-use Rattle.leader1822.specs.Calls.{Seen}
 use Rattle.leader1822.specs.Host.{Host, same_host}
 use Rattle.leader1822.specs.Mailboxes as mail
 use Rattle.leader1822.specs.declared.address.Flow.{Flow}
@@ -12,19 +9,15 @@ use Rattle.leader1822.specs.declared.crossing.Crossing.{Crossing}
 use Rattle.leader1822.specs.declared.crossing.Crossing.TheVariants as crossing
 use Rattle.leader1822.specs.declared.crossing.Inbound.TheVariants as inbound
 use Rattle.leader1822.specs.declared.message.HostMessage.{HostMessage}
-use Rattle.leader1822.proofs.lemmas.{same_host-refl, same_host-true}
-use Rattle.ncp_control.specs.DataHeader.{data_bits, header_bits, header_of}
-use Rattle.ncp_control.specs.Numbers.{is_receive_socket}
+use Rattle.ncp_control.specs.DataHeader.{data_bits, header_of}
 use Rattle.ncp_control.specs.declared.command.Command.{Command}
 use Rattle.ncp_control.specs.declared.data_header.DataHeader.{DataHeader}
-use Rattle.host_pairs.specs.Allowed.{MayGo}
 use Rattle.host_pairs.specs.Commands as commands
 use Rattle.host_pairs.specs.Commands.{Ending, Found, Open, Unconnected}
-use Rattle.host_pairs.specs.Control.{ERRONEOUS, NOT_CONNECTED}
-use Rattle.host_pairs.specs.Data.{arrived, arrived_if, data_found, data_of, data_taken, data_text, is_acceptable, text_faulted}
+use Rattle.host_pairs.specs.Control.{ERRONEOUS}
+use Rattle.host_pairs.specs.Data.{arrived, arrived_if, data_found, data_of, data_taken, is_acceptable, text_faulted}
 use Rattle.host_pairs.specs.Desk.{DeskState, desk_of}
-use Rattle.host_pairs.specs.Entries.{has_cls, is_ending, is_link, is_mine_on, is_open, is_receiving, receives_on}
-use Rattle.host_pairs.specs.Pair.{PairState}
+use Rattle.host_pairs.specs.Entries.{is_ending, is_open, receives_on}
 use Rattle.host_pairs.specs.Parcels as parcel
 use Rattle.host_pairs.specs.Parcels.{Parcel, link_of, may_send_on, next_of}
 use Rattle.host_pairs.specs.Phases.{is_ready}
@@ -32,36 +25,20 @@ use Rattle.host_pairs.specs.Turn.{TurnState, if_ready, message_taken, with_desk}
 use Rattle.host_pairs.specs.declared.entry.Entry.{Entry}
 use Rattle.host_pairs.specs.declared.notice.Notice.{Notice}
 use Rattle.host_pairs.specs.declared.notice.Notice.TheVariants as notice
-use Rattle.host_pairs.proofs.lemmas.{both, what_goes}
-use Rattle.host_keeps_streams.proofs.lemmas.Senders as senders
-use Rattle.host_keeps_streams.proofs.lemmas.{find_passes}
-use Rattle.sockets.specs.Accepting.{accepted, accepted_message, after_turn, turn_of}
+use Rattle.sockets.specs.Accepting.{accepted, after_turn, turn_of}
 use Rattle.sockets.specs.Pairs.{NcpState, pair_with}
-use Rattle.sockets.specs.Peers.{AreInOrder}
-use Rattle.sockets.specs.Requests.{served_notices}
 use Rattle.sockets.specs.Sending.{message_for, next_in, offered, offered_by}
 use Rattle.sockets.specs.declared.peer.Peer.{Peer}
 use Rattle.sockets.specs.declared.request.Request.{Request}
-use Rattle.sockets.specs.declared.request.Request.TheVariants as request
-use Rattle.sockets.proofs.lemmas.{next_is, next_pair}
-use Rattle.net_sim.specs.Book.{Kept, all_told, book_told, carried, changed_when, granted, life_ended, lives_asked, lives_at, lives_between, lives_crossed, lives_on, lives_told, lives_with, new_life, returned, where_it}
-use Rattle.net_sim.specs.Clean.{HaveAddresses, IsLawful}
-use Rattle.net_sim.specs.Formed.{AreCarried, AreData, Carries, CrossedAt, FormedBook, HasCrossed, IsFormed, coming, crossing_of, data_by, flow_of, going, request}
-use Rattle.net_sim.specs.Safe.{control_flow, receives}
-use Rattle.net_sim.specs.Story.{Asked, Crossed, Follows, IsNext, Moment, places, program}
+use Rattle.net_sim.specs.Clean.{HaveAddresses}
+use Rattle.net_sim.specs.Story.{Asked, Crossed, IsNext, Moment, places, program}
 use Rattle.net_sim.specs.Timeline.{IsTimeline, crossings_of}
-use Rattle.net_sim.specs.Told.{host_in, kept_by, kept_in, notices_by}
-use Rattle.net_sim.specs.World.{WorldState}
-use Rattle.net_sim.specs.declared.life.Life.{Life}
-use Rattle.net_sim.proofs.lemmas.{coupled, places_same, program_own}
-use Rattle.world_keeps_pairing.proofs.lemmas.{book_lives, book_run}
-use Rattle.world_keeps_pairing.proofs.lemmas.{queued_commands, queued_link}
-use Rattle.world_keeps_lives.specs.Lives.{HasOpenEnd, mine_on}
-use Rattle.world_keeps_lives.proofs.Desks.{open_mine}
-use Rattle.world_keeps_lives.proofs.Laws.{live}
-use Rattle.world_keeps_lives.proofs.Requests.{Begins, Each, Goes, Hears, MayTell, Rules, each_append, each_filter, each_in, each_map, each_of, each_weaker, first_of, found_in, later_of}
-use Rattle.world_keeps_lives.proofs.RequestCalls.{Done, Ends, answer_keeps, message_keeps, offer_keeps, request_told}
-use Rattle.world_keeps_lives.proofs.Grounds.{Going, Grounded, IsAnswered, IsAsked, May, Nothing, Opens, Tells, crossed_below, flow_is, goes_of, going_now, going_rules, grounded_hears, grounded_rules, grounds, step_ends, still_crossed, still_grounded}
+use Rattle.net_sim.specs.Told.{notices_by}
+use Rattle.net_sim.proofs.lemmas.{places_same}
+use Rattle.world_keeps_pairing.proofs.lemmas.{queued_commands}
+use Rattle.world_keeps_lives.proofs.Requests.{Each, MayTell, each_weaker}
+use Rattle.world_keeps_lives.proofs.RequestCalls.{Ends, answer_keeps, message_keeps, offer_keeps, request_told}
+use Rattle.world_keeps_lives.proofs.Grounds.{Going, Grounded, Tells, flow_is, going_now, going_rules, grounded_hears, grounded_rules, grounds, still_grounded}
 
 no : {A : Type 0} (b : Bool) → b ≡ true → b ≡ false → A
 no b e f = absurd (let both : true ≡ false = sym e ∙ f in cc)

@@ -1,5 +1,5 @@
 -- The lives of a book are made of messages that crossed.
-use Rattle.std.proofs.Common.{◌≡◌, ◌⊎◌, inl, inr, ℕ, ◌*◌, ◌<◌, ◌==◌, Bool, true, false, not, ◌&&◌, if◌then◌else◌, List, [], ◌∷◌, ◌++◌, map, filter, take, drop, find, length, Option, Some, None, refl, ap, sym, subst, ◌∙◌, arith, eq-eqb}
+use Rattle.std.proofs.Common.{◌≡◌, ◌⊎◌, inl, inr, ℕ, ◌*◌, ◌<◌, ◌==◌, Bool, true, false, not, ◌&&◌, if◌then◌else◌, List, [], ◌∷◌, ◌++◌, map, filter, take, drop, length, Option, Some, None, refl, ap, sym, subst, ◌∙◌, arith, eq-eqb}
 use Rattle.std.specs.List.{Contains}
 use Rattle.std.proofs.lemmas.Bool.{eqb-true}
 use Rattle.std.proofs.Math.Seq.{drop-append_seam}
@@ -9,35 +9,26 @@ use Rattle.leader1822.specs.Mailboxes as mail
 use Rattle.leader1822.specs.declared.address.Flow.{Flow}
 use Rattle.leader1822.specs.declared.crossing.Crossing.{Crossing}
 use Rattle.leader1822.specs.declared.crossing.Crossing.TheVariants as crossing
-use Rattle.leader1822.specs.declared.crossing.Inbound.TheVariants as inbound
 use Rattle.leader1822.specs.declared.message.HostMessage.{HostMessage}
 use Rattle.leader1822.proofs.lemmas.{same_host-true}
-use Rattle.ncp_control.specs.DataHeader.{data_bits, header_bits, header_of}
+use Rattle.ncp_control.specs.DataHeader.{data_bits, header_bits}
 use Rattle.ncp_control.specs.Numbers.{is_receive_socket}
 use Rattle.ncp_control.specs.declared.command.Command.{Command}
-use Rattle.ncp_control.specs.declared.data_header.DataHeader.{DataHeader}
 use Rattle.host_pairs.specs.Allowed.{MayGo}
-use Rattle.host_pairs.specs.Commands as commands
-use Rattle.host_pairs.specs.Commands.{Ending, Found, Open, Unconnected}
-use Rattle.host_pairs.specs.Control.{ERRONEOUS}
-use Rattle.host_pairs.specs.Data.{arrived, arrived_if, data_found, data_of, data_taken, is_acceptable, text_faulted}
-use Rattle.host_pairs.specs.Desk.{DeskState, desk_of}
-use Rattle.host_pairs.specs.Entries.{is_ending, is_link, is_mine_on, is_open, is_receiving, receives_on}
+use Rattle.host_pairs.specs.Data.{data_of}
+use Rattle.host_pairs.specs.Entries.{is_link, is_mine_on, is_receiving, receives_on}
 use Rattle.host_pairs.specs.Pair.{PairState}
 use Rattle.host_pairs.specs.Parcels as parcel
 use Rattle.host_pairs.specs.Parcels.{Parcel, link_of, may_send_on, next_of}
-use Rattle.host_pairs.specs.Phases.{is_ready}
-use Rattle.host_pairs.specs.Turn.{TurnState, if_ready, message_taken, with_desk}
 use Rattle.host_pairs.specs.declared.entry.Entry.{Entry}
 use Rattle.host_pairs.specs.declared.notice.Notice.{Notice}
 use Rattle.host_pairs.specs.declared.notice.Notice.TheVariants as notice
 use Rattle.host_pairs.proofs.lemmas.{both, what_goes}
 use Rattle.host_keeps_streams.proofs.lemmas.Senders as senders
 use Rattle.host_keeps_streams.proofs.lemmas.{find_passes}
-use Rattle.sockets.specs.Accepting.{accepted, after_turn, turn_of}
-use Rattle.sockets.specs.Pairs.{NcpState, pair_with}
+use Rattle.sockets.specs.Pairs.{pair_with}
 use Rattle.sockets.specs.Peers.{AreInOrder}
-use Rattle.sockets.specs.Sending.{message_for, next_in, offered, offered_by}
+use Rattle.sockets.specs.Sending.{message_for, next_in}
 use Rattle.sockets.specs.declared.peer.Peer.{Peer}
 use Rattle.sockets.specs.declared.request.Request.{Request}
 use Rattle.sockets.specs.declared.request.Request.TheVariants as request
@@ -57,10 +48,9 @@ use Rattle.world_keeps_pairing.proofs.lemmas.{queued_commands}
 use Rattle.world_keeps_lives.specs.Lives.{HasOpenEnd, mine_on}
 use Rattle.world_keeps_lives.proofs.Desks.{open_mine}
 use Rattle.world_keeps_lives.proofs.Laws.{live}
-use Rattle.world_keeps_lives.proofs.DataTold.{Takes, TakesIf, answer_told, asking_told, bytes_told, control_told, message_takes, offer_told}
+use Rattle.world_keeps_lives.proofs.DataTold.{TakesIf, answer_told, asking_told, bytes_told, control_told, message_takes, offer_told}
 use Rattle.world_keeps_lives.proofs.Requests.{Begins, Each, Goes, Hears, MayTell, Rules, each_append, each_filter, each_in, each_map, each_of, each_weaker, first_of, found_in, later_of}
-use Rattle.world_keeps_lives.proofs.RequestCalls.{Ends, answer_keeps, message_keeps, offer_keeps, request_told}
-use Rattle.world_keeps_lives.proofs.Grounds.{Going, Grounded, IsAnswered, IsAsked, May, Nothing, Tells, crossed_below, flow_is, goes_of, going_now, going_rules, grounded_hears, grounded_rules, grounds, step_ends, still_crossed, still_grounded}
+use Rattle.world_keeps_lives.proofs.Grounds.{Going, Grounded, IsAnswered, IsAsked, May, Nothing, Tells, crossed_below, goes_of, going_rules, grounds, step_ends, still_crossed}
 
 no : {A : Type 0} (b : Bool) → b ≡ true → b ≡ false → A
 no b e f = absurd (let both : true ≡ false = sym e ∙ f in cc)

@@ -1,5 +1,5 @@
 -- The notices of data in a book are those of messages that crossed.
-use Rattle.std.proofs.Common.{◌≡◌, ◌⊎◌, inl, inr, ℕ, ◌+◌, ◌*◌, ◌==◌, Bool, true, false, if◌then◌else◌, List, [], ◌∷◌, ◌++◌, take, drop, find, length, Option, Some, None, is_some, refl, ap, sym, subst, ◌∙◌, arith, eq-eqb}
+use Rattle.std.proofs.Common.{◌≡◌, inl, inr, ℕ, ◌+◌, ◌*◌, ◌==◌, Bool, true, false, if◌then◌else◌, List, [], ◌∷◌, ◌++◌, take, drop, length, Option, Some, None, is_some, refl, ap, sym, subst, ◌∙◌, arith, eq-eqb}
 use Rattle.std.specs.List.{Contains}
 use Rattle.std.proofs.lemmas.Bool.{eqb-true}
 use Rattle.std.proofs.Math.Seq.{drop-append_seam}
@@ -25,7 +25,6 @@ use Rattle.host_keeps_streams.proofs.lemmas.Senders as senders
 use Rattle.host_keeps_streams.proofs.lemmas.{find_passes}
 use Rattle.reset_law.specs.Pairs.{pair}
 use Rattle.sockets.specs.Pairs.{pair_with}
-use Rattle.sockets.specs.declared.peer.Peer.{Peer}
 use Rattle.sockets.specs.declared.request.Request.{Request}
 use Rattle.sockets.specs.Sending.{message_for, next_in}
 use Rattle.sockets.proofs.lemmas.{next_is, next_pair}
@@ -45,7 +44,7 @@ use Rattle.world_keeps_pairing.proofs.lemmas.{book_run}
 use Rattle.world_keeps_lives.proofs.Desks.{IsAnOpen, open_mine, open_parts}
 use Rattle.world_keeps_lives.proofs.Requests.{Each, each_in, each_of, each_weaker, found_in}
 use Rattle.world_keeps_lives.proofs.Grounds.{Grounded, IsAnswered, IsAsked, Tells, goes_of, grounds}
-use Rattle.world_keeps_lives.proofs.DataTold.{Takes, TakesIf, answer_told, asking_told, bytes_told, control_told, message_takes, offer_told}
+use Rattle.world_keeps_lives.proofs.DataTold.{TakesIf, answer_told, asking_told, bytes_told, control_told, message_takes, offer_told}
 
 -- ---- lists of notices
 

@@ -1,5 +1,5 @@
 -- The notices of a small book, and wrong ones.
-use Rattle.std.proofs.Common.{◌≡◌, ◌⊎◌, inl, inr, ℕ, ◌+◌, Bool, true, false, List, [], ◌∷◌, drop, length, Option, Some, refl, ap, sym, subst, ◌∙◌, arith}
+use Rattle.std.proofs.Common.{◌≡◌, inl, inr, ℕ, Bool, true, false, List, [], ◌∷◌, drop, Option, Some, refl, ap, sym, subst, ◌∙◌, arith}
 use Rattle.std.specs.List.{Contains}
 use Rattle.bit_messages.specs.Octets.{octets_of}
 use Rattle.leader1822.specs.declared.address.Flow.{Flow}
@@ -17,13 +17,12 @@ use Rattle.sockets.specs.Requests.{refusal, served, served_notices}
 use Rattle.sockets.specs.Sending.{next_out, offered}
 use Rattle.sockets.specs.Worked.{first, second, third}
 use Rattle.net_sim.specs.declared.book.Told.{Told}
-use Rattle.net_sim.specs.Formed.{CrossedAt, HasCrossed, going}
+use Rattle.net_sim.specs.Formed.{CrossedAt, going}
 use Rattle.net_sim.specs.Notices.{AreTold, FormedNotices, HasLink, Tells, data_told}
 use Rattle.net_sim.specs.Safe.{control_flow}
-use Rattle.net_sim.specs.Timeline.{crossings_of}
 use Rattle.net_sim.specs.Told.{kept_in}
 use Rattle.net_sim.specs.Worked.{eight, eight_zeros}
-use Rattle.net_sim.specs.WorkedMoments.{connected, eight_sent, rts, sent_moments, str}
+use Rattle.net_sim.specs.WorkedMoments.{eight_sent, rts, sent_moments, str}
 use Rattle.net_sim.specs.WorkedResets.{rrp, rst}
 use Rattle.world_keeps_lives.specs.WorkedFormed.{arrived_told, sent_log, sent_told, stray, stray_arrived, stray_log, stray_sent, untaken_log}
 use Rattle.world_keeps_lives.proofs.Requests.{Each, each_in}
@@ -183,21 +182,46 @@ unfolding link_in
 another foreign e = let link : 2 ≡ 3 = ap link_in e in omega (arith, link)
 
 all_other : (foreign : ℕ) → Each (NamesOther foreign) (drop 1 stray_log)
-all_other foreign =
-    (from_second foreign stray refl,
-    (not_answer foreign _ _,
-    (not_out foreign str,
-    (not_answer foreign _ _,
-    (from_second foreign str refl,
-    (not_out foreign rts,
-    (of_these foreign rts (Legal (command.Rts 16 33 2) ∷ []) rts_read (another foreign, tt),
-    (not_answer foreign _ _,
-    (not_out foreign (rrp second first),
-    (from_second foreign (rrp second first) refl,
-    (not_answer foreign _ _,
-    (not_out foreign (rst first second),
-    (of_these foreign (rst first second) (Legal command.Rst ∷ []) rst_read (an_rst foreign, tt),
-    tt)))))))))))))
+all_other foreign = (
+  from_second foreign stray refl,
+  (
+    not_answer foreign _ _,
+    (
+      not_out foreign str,
+      (
+        not_answer foreign _ _,
+        (
+          from_second foreign str refl,
+          (
+            not_out foreign rts,
+            (
+              of_these foreign rts (Legal (command.Rts 16 33 2) ∷ []) rts_read (another foreign, tt),
+              (
+                not_answer foreign _ _,
+                (
+                  not_out foreign (rrp second first),
+                  (
+                    from_second foreign (rrp second first) refl,
+                    (
+                      not_answer foreign _ _,
+                      (
+                        not_out foreign (rst first second),
+                        (
+                          of_these foreign (rst first second) (Legal command.Rst ∷ []) rst_read (an_rst foreign, tt),
+                          tt,
+                        ),
+                      ),
+                    ),
+                  ),
+                ),
+              ),
+            ),
+          ),
+        ),
+      ),
+    ),
+  ),
+)
 
 no_link : HasLink first second 16 3 (drop 1 stray_log) → ⊥
 no_link h = crossed_in (NamesOther h.foreign) h.own_stamp (going h.own.message) (drop 1 stray_log) h.own.crossed (all_other h.foreign) h.own.message refl h.own.flow h.own.holds
