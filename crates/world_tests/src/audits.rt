@@ -41,10 +41,7 @@ const AS_IT_IS: Row = Row {
 
 /// The first `count` bits of these octets.
 fn bits(alloc: Global, octets: &[u8], count: usize) -> Option<BitLog> {
-    Some(BitLog::from_bits(
-        alloc,
-        Bits::from_octets(alloc, octets, count).ok()?,
-    ))
+    Some(BitLog::from_bits(alloc, Bits::from_octets(alloc, octets, count).ok()?))
 }
 
 /// The life of 0/2, which sends.
@@ -150,15 +147,40 @@ fn a_book_of_data_is_kept_and_broken_where_one_thing_is_changed(rt: HostRuntime)
         own_book(alloc),
         said(alloc, AS_IT_IS),
         // the last bit that was taken is another: 0C becomes 0D
-        said(alloc, Row { last: 13, ..AS_IT_IS }),
+        said(
+            alloc,
+            Row {
+                last: 13,
+                ..AS_IT_IS
+            },
+        ),
         // 96 bits and the four that were returned are more than was granted
-        said(alloc, Row { granted: 99, ..AS_IT_IS }),
+        said(
+            alloc,
+            Row {
+                granted: 99,
+                ..AS_IT_IS
+            },
+        ),
         // the receiving life stands there twice
-        said(alloc, Row { times: 2, lists: 3, ..AS_IT_IS }),
+        said(
+            alloc,
+            Row {
+                times: 2,
+                lists: 3,
+                ..AS_IT_IS
+            },
+        ),
         // at place 7 a message came in
         said(alloc, Row { own: 7, ..AS_IT_IS }),
         // a life without a list
-        said(alloc, Row { lists: 1, ..AS_IT_IS }),
+        said(
+            alloc,
+            Row {
+                lists: 1,
+                ..AS_IT_IS
+            },
+        ),
         taken_often(alloc, 2),
         taken_often(alloc, 1),
         taken_often(alloc, 0),

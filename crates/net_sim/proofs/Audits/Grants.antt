@@ -1,5 +1,5 @@
 -- The test of grants is true exactly where they are safe.
-use Rattle.std.proofs.Common.{◌≡◌, ℕ, ◌+◌, ◌-◌, ◌<◌, ◌≤◌, Bool, true, false, ◌&&◌, ◌||◌, ◌==◌, not, List, [], ◌∷◌, ◌++◌, length, take, drop, get_or, reverse, refl, ap, sym, subst, ◌∙◌, if◌then◌else◌, arith, inl, inr, ◌⊎◌, Option, Some, None, eq-eqb}
+use Rattle.std.proofs.Common.{◌≡◌, ℕ, ◌+◌, true, ◌&&◌, List, length}
 use Rattle.std.specs.Prelude.{nat_le}
 use Rattle.std.specs.List.{list_all, Contains}
 use Rattle.std.proofs.lemmas.Bool.{leb-true, le-leb}
@@ -7,7 +7,7 @@ use Rattle.leader1822.specs.declared.crossing.Crossing.{Crossing}
 use Rattle.leader1822.proofs.lemmas.{and_true}
 use Rattle.net_sim.specs.Book.{Life}
 use Rattle.net_sim.specs.Inside.Audit.{asked_at, is_match, is_granted, may_send, has_granted, grants_hold}
-use Rattle.net_sim.specs.Safe.{SafeGrants, IsGranted, Match, receives}
+use Rattle.net_sim.specs.Safe.{SafeGrants, IsGranted, receives}
 use Rattle.net_sim.proofs.Audits.Elements.{and_is, when_true, when_is, all_at, all_from}
 use Rattle.net_sim.proofs.Audits.Streams.{match_true, match_is}
 

@@ -1,12 +1,10 @@
 -- The answer that the tests give is the one that says what is so.
-use Rattle.std.proofs.Common.{◌≡◌, ℕ, ◌+◌, ◌-◌, ◌<◌, ◌≤◌, Bool, true, false, ◌&&◌, ◌||◌, ◌==◌, not, List, [], ◌∷◌, ◌++◌, length, take, drop, get_or, reverse, refl, ap, sym, subst, ◌∙◌, if◌then◌else◌, arith, inl, inr, ◌⊎◌, Option, Some, None, eq-eqb}
+use Rattle.std.proofs.Common.{◌≡◌, Bool, true, false, List, refl, subst}
 use Rattle.std.specs.Prelude.{◌↔◌}
-use Rattle.leader1822.specs.Messages.{SafeMessages}
 use Rattle.leader1822.specs.declared.crossing.Crossing.{Crossing}
-use Rattle.net_sim.specs.Audit.{IsWellFormed, Says}
+use Rattle.net_sim.specs.Audit.{Says}
 use Rattle.net_sim.specs.Book.{Life}
 use Rattle.net_sim.specs.Inside.Audit.{messages_hold, partners_hold, streams_hold, grants_hold, is_well_formed, answered_by, judged}
-use Rattle.net_sim.specs.Safe.{SafeBook, SafePartners, SafeStreams, SafeGrants}
 use Rattle.net_sim.specs.declared.auditing.said.Audit.{Audit}
 use Rattle.net_sim.specs.declared.auditing.said.Audit.TheVariants as audit
 use Rattle.net_sim.specs.declared.auditing.said.Part.TheVariants as part

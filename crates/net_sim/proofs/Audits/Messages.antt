@@ -1,5 +1,5 @@
 -- The test of messages is true exactly where they are safe.
-use Rattle.std.proofs.Common.{◌≡◌, ℕ, zero, suc, ◌+◌, ◌-◌, ◌<◌, ◌≤◌, Bool, true, false, ◌&&◌, ◌||◌, ◌==◌, not, List, [], ◌∷◌, ◌++◌, length, take, drop, get_or, reverse, refl, ap, sym, subst, ◌∙◌, if◌then◌else◌, arith, inl, inr, ◌⊎◌, Option, Some, None, eq-eqb}
+use Rattle.std.proofs.Common.{◌≡◌, ℕ, ◌+◌, ◌<◌, Bool, true, false, List, [], ◌∷◌, ◌++◌, length, take, drop, get_or, reverse, refl, ap, sym, subst, ◌∙◌, if◌then◌else◌, inl, inr, ◌⊎◌}
 use Rattle.leader1822.specs.Mailboxes.{same_flow}
 use Rattle.leader1822.specs.Messages.{SafeMessages, SinceLastOut, TakenOnce, taken_in, went_out}
 use Rattle.leader1822.specs.declared.address.Flow.{Flow}
@@ -9,7 +9,7 @@ use Rattle.leader1822.specs.declared.crossing.Crossing.{Crossing}
 use Rattle.leader1822.specs.declared.crossing.Crossing.TheVariants as crossing
 use Rattle.leader1822.specs.declared.message.HostMessage.{HostMessage}
 use Rattle.leader1822.proofs.lemmas.{and_true, or_false, same_flow-true, same_flow-refl}
-use Rattle.net_sim.specs.Inside.Audit.{same_bits, is_fresh, was_taken, answer_holds, crossing_holds, messages_hold}
+use Rattle.net_sim.specs.Inside.Audit.{is_fresh, was_taken, answer_holds, crossing_holds, messages_hold}
 use Rattle.std.proofs.lemmas.List.{take-append-drop, reverse-append}
 use Rattle.net_sim.proofs.Audits.Elements.{and_is, is_false, false_not}
 use Rattle.net_sim.proofs.Audits.Steps.{same_bits-true, same_bits-is, reverse_more}

@@ -1,12 +1,12 @@
 -- The test of partners is true exactly where they are safe.
-use Rattle.std.proofs.Common.{◌≡◌, ℕ, ◌+◌, ◌-◌, ◌<◌, ◌≤◌, Bool, true, false, ◌&&◌, ◌||◌, ◌==◌, not, List, [], ◌∷◌, ◌++◌, length, take, drop, get_or, reverse, refl, ap, sym, subst, ◌∙◌, if◌then◌else◌, arith, inl, inr, ◌⊎◌, Option, Some, None, eq-eqb}
+use Rattle.std.proofs.Common.{◌≡◌, true, not, List, [], ◌∷◌, ◌++◌, refl, ap, subst, Some}
 use Rattle.std.specs.List.{list_all, Contains}
 use Rattle.std.proofs.lemmas.List.Elements.{Contains-append_right}
 use Rattle.leader1822.specs.declared.crossing.Crossing.{Crossing}
 use Rattle.leader1822.proofs.lemmas.{and_true}
 use Rattle.net_sim.specs.Book.{Life}
 use Rattle.net_sim.specs.Inside.Audit.{asked_at, is_there, is_asked, same_own, same_asked, is_apart, are_apart, is_partner, may_stand, is_paired, partners_hold}
-use Rattle.net_sim.specs.Safe.{Name, AreTwo, SafePartners, own_request, partner_request}
+use Rattle.net_sim.specs.Safe.{AreTwo, SafePartners, own_request, partner_request}
 use Rattle.net_sim.proofs.Audits.Elements.{and_is, when_true, when_is, not_true, not_is, contains_head, contains_split, all_at, all_from}
 use Rattle.net_sim.proofs.Audits.Requests.{asks, asks_is, own_is, own_true, asked_is, asked_true, there_is, there_some, partner_true, partner_is}
 

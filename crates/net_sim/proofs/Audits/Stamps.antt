@@ -1,20 +1,18 @@
 -- The test of stamps is true exactly where they name messages.
-use Rattle.std.proofs.Common.{◌≡◌, ℕ, ◌+◌, ◌-◌, ◌<◌, ◌≤◌, Bool, true, false, ◌&&◌, ◌||◌, ◌==◌, not, List, [], ◌∷◌, ◌++◌, length, take, drop, get_or, reverse, refl, ap, sym, subst, ◌∙◌, if◌then◌else◌, arith, inl, inr, ◌⊎◌, Option, Some, None, eq-eqb}
-use Rattle.std.specs.List.{list_all, Contains}
+use Rattle.std.proofs.Common.{◌≡◌, ℕ, ◌+◌, ◌<◌, ◌≤◌, Bool, true, false, ◌&&◌, ◌==◌, List, [], ◌∷◌, ◌++◌, length, take, drop, get_or, reverse, refl, ap, sym, subst, ◌∙◌, if◌then◌else◌, arith, inl, inr, Option, Some, None, eq-eqb}
+use Rattle.std.specs.List.{list_all}
 use Rattle.std.proofs.lemmas.Bool.{eqb-true}
 use Rattle.std.specs.Prelude.{IsSome}
 use Rattle.std.proofs.lemmas.List.{length-reverse, reverse-append, take-append-drop, length-take, drop_more, length-append, append_assoc}
-use Rattle.leader1822.specs.Mailboxes.{same_flow}
 use Rattle.leader1822.specs.declared.address.Flow.{Flow}
 use Rattle.leader1822.specs.declared.crossing.Crossing.{Crossing}
 use Rattle.leader1822.specs.declared.crossing.Crossing.TheVariants as crossing
-use Rattle.leader1822.specs.declared.message.HostMessage.{HostMessage}
-use Rattle.leader1822.proofs.lemmas.{and_true, same_flow-true, same_flow-refl}
+use Rattle.leader1822.proofs.lemmas.{and_true, same_flow-true}
 use Rattle.net_sim.specs.Audit.{Passes, IsStamped, IsWellFormed}
 use Rattle.net_sim.specs.Book.{Life}
 use Rattle.net_sim.specs.Formed.{CrossedAt, going, coming}
 use Rattle.net_sim.specs.Inside.Audit.{asked_at, is_there, crossed_at, is_out, is_in, is_stamped, is_well_formed}
-use Rattle.net_sim.specs.Safe.{control_flow, last_out, before}
+use Rattle.net_sim.specs.Safe.{control_flow}
 use Rattle.net_sim.proofs.Audits.Elements.{and_is, all_at, all_from, is_false}
 use Rattle.net_sim.proofs.Audits.Messages.{same_yes}
 use Rattle.net_sim.proofs.Audits.Requests.{crossed_below}

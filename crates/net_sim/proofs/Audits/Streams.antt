@@ -1,13 +1,13 @@
 -- The test of streams is true exactly where they are safe, in a log with safe partners.
-use Rattle.std.proofs.Common.{◌≡◌, ℕ, zero, suc, add-one, ◌+◌, ◌-◌, ◌<◌, ◌≤◌, Bool, true, false, ◌&&◌, ◌||◌, ◌==◌, not, List, [], ◌∷◌, ◌++◌, length, take, drop, get_or, reverse, refl, ap, sym, subst, ◌∙◌, if◌then◌else◌, arith, inl, inr, ◌⊎◌, Option, Some, None, eq-eqb}
-use Rattle.std.specs.List.{list_all, list_any, Contains, slice_get}
+use Rattle.std.proofs.Common.{◌≡◌, ℕ, zero, suc, add-one, ◌+◌, ◌<◌, ◌≤◌, Bool, true, false, ◌&&◌, ◌||◌, ◌==◌, not, List, [], ◌∷◌, ◌++◌, length, drop, refl, ap, sym, subst, ◌∙◌, arith, inl, inr, Option, Some, None, eq-eqb}
+use Rattle.std.specs.List.{list_all, list_any, slice_get}
 use Rattle.std.proofs.lemmas.Bool.{eqb-true, cases_lt}
 use Rattle.leader1822.specs.declared.crossing.Crossing.{Crossing}
 use Rattle.leader1822.proofs.lemmas.{and_true}
 use Rattle.net_sim.specs.Book.{Life}
 use Rattle.net_sim.specs.Inside.Audit.{asked_at, is_asked, is_partner, is_match, same_bit, same_found, is_front, is_source, is_fed, is_handed, are_handed, streams_hold}
-use Rattle.net_sim.specs.Safe.{Name, AreTwo, SafePartners, SafeStreams, Match, Source, IsFront, AreHanded, own_request, partner_request, receives, sends}
-use Rattle.net_sim.proofs.Audits.Elements.{and_is, or_cases, or_left, or_right, when_true, when_is, all_at, all_from, any_at, any_from, is_false}
+use Rattle.net_sim.specs.Safe.{Name, SafePartners, SafeStreams, Match, Source, IsFront, AreHanded, own_request, partner_request, receives, sends}
+use Rattle.net_sim.proofs.Audits.Elements.{and_is, or_cases, or_right, when_true, when_is, all_at, all_from, any_at, any_from, is_false}
 use Rattle.net_sim.proofs.Audits.Requests.{asks, asks_is, asked_sockets, partner_true, partner_is}
 use Rattle.net_sim.proofs.Audits.Steps.{same_bit-true, same_bit-refl}
 

@@ -1,4 +1,4 @@
-use Rattle.std.proofs.Common.{◌≡◌, ℕ, ◌≤◌, length, take, reverse}
+use Rattle.std.proofs.Common.{◌≡◌, ◌≤◌, length, take, reverse}
 use Rattle.net_sim.specs.Inside.Audit.{is_fresh}
 use Rattle.net_sim.proofs.auditing.messages.is_fresh.Given as goal
 

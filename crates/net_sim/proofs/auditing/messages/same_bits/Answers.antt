@@ -1,5 +1,4 @@
-use Rattle.std.proofs.Common.{◌≡◌, ℕ, Bool, List, length, take, sym, ap, ◌∙◌, ◌==◌, eq-eqb}
-use Rattle.std.proofs.lemmas.Bool.{eqb-true}
+use Rattle.std.proofs.Common.{sym, ◌∙◌}
 use Rattle.net_sim.proofs.Audits.Steps.{same_bits-octets, same_bits-apart}
 use Rattle.net_sim.proofs.auditing.messages.same_bits.Goals as goal
 

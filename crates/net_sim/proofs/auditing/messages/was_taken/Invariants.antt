@@ -1,4 +1,4 @@
-use Rattle.std.proofs.Common.{◌≡◌, ℕ, ◌≤◌, length, take, reverse}
+use Rattle.std.proofs.Common.{◌≡◌, ◌≤◌, length, take, reverse}
 use Rattle.net_sim.specs.Inside.Audit.{was_taken}
 use Rattle.net_sim.proofs.auditing.messages.was_taken.Given as goal
 

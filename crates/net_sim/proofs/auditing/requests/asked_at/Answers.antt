@@ -1,4 +1,4 @@
-use Rattle.std.proofs.Common.{rules, arith, ◌≡◌, reverse, take}
+use Rattle.std.proofs.Common.{rules, arith}
 use Rattle.net_sim.proofs.Audits.Requests.{before_inside}
 use Rattle.net_sim.proofs.auditing.requests.asked_at.Goals as goal
 
