@@ -1,1 +1,2 @@
 mod Promise
+mod Audited

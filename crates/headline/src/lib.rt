@@ -2,9 +2,12 @@
 //!
 //! Each part is proved in a crate of its own: the messages in `net_sim`, the partners in `world_keeps_pairing`, what is about one host alone
 //! in `world_keeps_lives`, what is about two programs together in `world_keeps_streams`, and initial connections in
-//! `world_keeps_connections`. Here they stand as one statement, on the call by which a program gets the book. It asks for nothing: a carrier's law and the programs of all hosts are part of what a `World` is.
+//! `world_keeps_connections`. Here they stand as one statement, on the call by which a program gets the book. It asks for nothing: a carrier's
+//! law and the programs of all hosts are part of what a `World` is.
 #![tactic(auto)]
 
+mod audits;
 mod book;
 
+pub use audits::audit_of;
 pub use book::book_of;

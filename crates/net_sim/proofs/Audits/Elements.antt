@@ -106,9 +106,6 @@ pub all_more : {X : Type 0} (test : X → Bool) (xs : List X) (i : ℕ) (x : X) 
 all_more {X} test xs i x lt at e h =
     list_all_more test xs i x lt ∙ and_is (list_all test (take i xs)) (test (get_or xs i x)) h (subst (λ (z : X). test z ≡ true) at e)
 
-pub all_stops : {X : Type 0} (test : X → Bool) (xs : List X) (i : ℕ) (x : X) → i < length xs → x ≡ get_or xs i x → test x ≡ false → false ≡ list_all test xs
-all_stops {X} test xs i x lt at e = sym (list_all_at test xs i x lt (subst (λ (z : X). test z ≡ false) at e))
-
 pub all_whole : {X : Type 0} (test : X → Bool) (xs : List X) (i : ℕ) → length xs ≤ i → list_all test (take i xs) ≡ true → true ≡ list_all test xs
 all_whole {X} test xs i past h = sym (subst (λ (zs : List X). list_all test zs ≡ true) (take_all i xs past) h)
 
@@ -116,9 +113,3 @@ pub any_more : {X : Type 0} (test : X → Bool) (xs : List X) (i : ℕ) (x : X) 
 any_more {X} test xs i x lt at e h =
     let f : test (get_or xs i x) ≡ false = subst (λ (z : X). test z ≡ false) at e in
     list_any_more test xs i x lt ∙ (rw (h, f) refl)
-
-pub any_stops : {X : Type 0} (test : X → Bool) (xs : List X) (i : ℕ) (x : X) → i < length xs → x ≡ get_or xs i x → test x ≡ true → true ≡ list_any test xs
-any_stops {X} test xs i x lt at e = sym (list_any_at test xs i x lt (subst (λ (z : X). test z ≡ true) at e))
-
-pub any_whole : {X : Type 0} (test : X → Bool) (xs : List X) (i : ℕ) → length xs ≤ i → list_any test (take i xs) ≡ false → false ≡ list_any test xs
-any_whole {X} test xs i past h = sym (subst (λ (zs : List X). list_any test zs ≡ false) (take_all i xs past) h)

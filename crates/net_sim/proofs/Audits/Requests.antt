@@ -25,11 +25,6 @@ before_inside log n h =
     let P : List Crossing → Type 0 = λ z. drop (length (reverse log) - n) z ≡ reverse (take n log) in
     subst P (sym e) (drop_at (reverse (drop n log)) (reverse (take n log)) (length (reverse log) - n) k)
 
-pub before_past : (log : List Crossing) (n : ℕ) → length log ≤ n → before n (reverse log) ≡ reverse log
-before_past log n h =
-    let z : length (reverse log) - n ≡ 0 = omega (arith, length-reverse log) in
-    ap (λ (k : ℕ). drop k (reverse log)) z
-
 -- ---- places of crossings
 
 pub crossed_below : (p : ℕ) (c : Crossing) (log : List Crossing) → CrossedAt p c log → p < length log

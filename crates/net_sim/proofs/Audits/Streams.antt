@@ -89,9 +89,6 @@ front_stops xs ys i a b r h p q s e t =
     let after : is_front (drop i xs) (drop i ys) ≡ false = rw here at step in
     sym after ∙ e
 
-pub front_whole : (xs ys : List Bool) (i : ℕ) → length xs ≤ i → is_front (drop i xs) (drop i ys) ≡ is_front xs ys → true ≡ is_front xs ys
-front_whole xs ys i h e = let d : drop i xs ≡ [] = (past_drop xs i h).1 in rw d at e
-
 -- ---- what was handed over
 
 pub handed_true : (lives : List Life) (handed : List (List Bool)) → are_handed lives handed ≡ true → AreHanded lives handed

@@ -1,0 +1,29 @@
+-- A book that keeps its promise is well-formed, so its audit is kept.
+use Rattle.std.proofs.Common.{◌≡◌, ℕ, Bool, List, [], ◌∷◌, length, refl, ap, sym, arith, Option, Some, None}
+use Rattle.std.specs.Prelude.{IsSome}
+use Rattle.leader1822.specs.declared.crossing.Crossing.{Crossing}
+use Rattle.net_sim.specs.Audit.{IsWellFormed}
+use Rattle.net_sim.specs.Book.{Life}
+use Rattle.net_sim.specs.Formed.{FormedBook}
+use Rattle.net_sim.specs.Safe.{AreHanded, SafeBook, before, control_flow, last_out, named}
+
+as_long : (lives : List Life) (handed : List (List Bool)) → AreHanded lives handed → length lives ≡ length handed
+as_long [] handed h = ap (λ (xs : List (List Bool)). length xs) (sym h)
+as_long (x ∷ lives) [] h = absurd h
+as_long (x ∷ lives) (b ∷ handed) h = let t : length lives ≡ length handed = as_long lives handed h.1 in omega arith
+
+some_of : (x : Life) (a : Option ℕ) → IsSome (named x a) → IsSome a
+some_of x None h = h
+some_of x (Some p) h = refl
+
+pub well_formed : (log : List Crossing) (lives : List Life) (handed : List (List Bool)) → FormedBook log lives → SafeBook log lives handed → IsWellFormed log lives handed
+well_formed log lives handed f s = record {
+  counts = as_long lives handed s.streams.sent;
+  stamped = λ x c.
+      (let t = f x c in
+      record {
+        own = (t.own.message, t.own.flow, t.own.crossed);
+        partner = (t.partner.message, t.partner.flow, t.partner.crossed);
+        asked = some_of x (last_out (control_flow x.peer x.host) (before x.partner_stamp log)) (s.partners.named x c);
+      });
+}
