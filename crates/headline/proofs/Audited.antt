@@ -3,7 +3,7 @@ use Rattle.std.proofs.Common.{◌≡◌, ℕ, Bool, List, [], ◌∷◌, length,
 use Rattle.std.specs.Prelude.{IsSome}
 use Rattle.leader1822.specs.declared.crossing.Crossing.{Crossing}
 use Rattle.net_sim.specs.Audit.{IsWellFormed}
-use Rattle.net_sim.specs.Book.{Life}
+use Rattle.net_sim.specs.declared.life.Life.{Life}
 use Rattle.net_sim.specs.Formed.{FormedBook}
 use Rattle.net_sim.specs.Safe.{AreHanded, SafeBook, before, control_flow, last_out, named}
 

@@ -2,7 +2,8 @@ use Rattle.std.proofs.Common.{◌≡◌, Bool, List, reverse, ap, sym, subst, �
 use Rattle.std.proofs.lemmas.List.{reverse-reverse}
 use Rattle.leader1822.specs.declared.crossing.Crossing.{Crossing}
 use Rattle.net_sim.specs.Audit.{Says}
-use Rattle.net_sim.specs.Book.{Kept, Life}
+use Rattle.net_sim.specs.Book.{Kept}
+use Rattle.net_sim.specs.declared.life.Life.{Life}
 use Rattle.net_sim.specs.declared.auditing.said.Audit.TheVariants as said
 use Rattle.headline.proofs.Audited.{well_formed}
 use Rattle.headline.proofs.audits.audit_of.Goals as goal
@@ -10,10 +11,10 @@ use Rattle.headline.proofs.audits.audit_of.Goals as goal
 pub returns : goal.returns
 returns g c =
     let k : Kept = c.args.world.now.kept in
-    let p = c.book_of.ensures.promise in
+    let p = c.book_of-book.ensures.promise in
     let log : reverse c.crossings.result.now ≡ k.book.crossings =
-    ap (λ (xs : List Crossing). reverse xs) (c.crossings.ensures ∙ ap (λ (x : Kept). reverse x.book.crossings) c.book_of.ensures.value) ∙ reverse-reverse k.book.crossings in
-    let lives : c.lives.result.now ≡ k.book.lives = c.lives.ensures ∙ ap (λ (x : Kept). x.book.lives) c.book_of.ensures.value in
+    ap (λ (xs : List Crossing). reverse xs) (c.crossings.ensures ∙ ap (λ (x : Kept). reverse x.book.crossings) c.book_of-book.ensures.value) ∙ reverse-reverse k.book.crossings in
+    let lives : c.lives.result.now ≡ k.book.lives = c.lives.ensures ∙ ap (λ (x : Kept). x.book.lives) c.book_of-book.ensures.value in
     let handed : c.handed.result.now ≡ k.handed = c.handed.ensures.value in
     let says : Says said.Kept k.book.crossings k.book.lives k.handed = (well_formed k.book.crossings k.book.lives k.handed p.formed p.safe, p.safe) in
     let with_handed = subst (λ (h : List (List Bool)). Says said.Kept k.book.crossings k.book.lives h) (sym handed) says in
