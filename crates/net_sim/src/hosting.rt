@@ -99,9 +99,7 @@ pub(crate) fn write_crossing(
     ensures done { OnOk result (book.new ≡ all_reported deeds.reports.items (all_asked host deeds.asked.items (all_told host notices.items (all_crossed (reverse crossed.items) book.old)))) }
     ensures kept { OnErr result (book.new ≡ book.old) }
 {
-    let Some(place) = book.crossings().len().checked_add(crossed.len()) else {
-        return Err(AllocError);
-    };
+    let place = book.place_after(&crossed);
     let told = told_by(alloc, host, place, notices)?;
     let called = called_in(alloc, host, place, &deeds.asked)?;
     book.write(Page {
