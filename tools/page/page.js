@@ -68,7 +68,7 @@ function legend(data) {
   const it = el("p", "legend");
   const entry = (cls, text) => { const part = el("span", "", text); part.prepend(el("i", cls)); it.append(part); };
   entry("way", data.plain ? "message waits" : "message in transit");
-  entry("answer", "taken or given up, answer not yet here");
+  entry("answer", "taken or given up, not answered yet");
   entry("down", "down");
   if (data.inside) {
     for (const [cls, text] of [["data", "packet of a message"], ["rfnm", "RFNM"], ["dead", "Dead"], ["routes", "distances, acknowledgement"]]) {
