@@ -178,7 +178,7 @@ def wrong_with_text(bits, octets):
         return "The octets are hexadecimal digits, 0 to 9 and A to F; lower-case letters are not accepted."
     digits = 2 * -(-bits // 8)
     if len(octets) != digits:
-        return f"{count(bits, 'bit')} fill {count(digits // 2, 'octet')}, which are {digits} hexadecimal digits. This line has {len(octets)}."
+        return f"{count(bits, 'bit')} fill {count(digits // 2, 'octet')}, which are {digits} hexadecimal digits. This line has {len(octets)}, for {count(4 * len(octets), 'bit')}."
     if int(octets, 16) % (1 << -bits % 8):
         rest = count(-bits % 8, "bit")
         return f"{count(bits, 'bit')} {'leaves' if bits == 1 else 'leave'} {rest} of the last octet unused, which {'has' if rest == '1 bit' else 'have'} to be zero."

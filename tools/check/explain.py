@@ -107,17 +107,17 @@ CHANGES = [
 # an example, the line of an event in it, and words of what is told of the inside
 INSIDES = [
     ("first-message", 13, "That of line 11 waits for host 0/2"),
-    ("no-route-is-dead-at-once", 13, "No IMP knows a way yet: put `calm 1` first."),
+    ("no-route-is-dead-at-once", 13, "No IMP knows a route yet: put `calm 1` first."),
     ("rerouted-over-a-triangle", 25, "IMP 1 sends message 0 of flow 0/1 0/2 5 to IMP 3 on line 1."),
     ("an-rfnm-is-lost", 16, "Message 0 of flow 0/1 0/2 9 arrives at IMP 2 from IMP 1, over line 0. The message is whole and now waits for host 0/2."),
     ("an-rfnm-is-lost", 17, "IMP 1 still holds it, not acknowledged, and sends it again at `resend 1`."),
     ("an-rfnm-is-lost", 18, "It acknowledges message 0 of flow 0/1 0/2 9."),
     ("an-rfnm-is-lost", 22, "Still alive: the RFNM for message 0 of flow 0/1 0/2 9, in channel 0 of line 0 at IMP 2"),
-    ("an-rfnm-is-lost", 26, "No way is left for the RFNM for message 0 of flow 0/1 0/2 9: dropped."),
+    ("an-rfnm-is-lost", 26, "No route is left for the RFNM for message 0 of flow 0/1 0/2 9: dropped."),
     ("a-repeat-is-taken-once", 18, "It came before, so it is only acknowledged again."),
     ("abandon-frees-a-slot", 15, "The message is not whole yet: a slot holds 1 of its pieces."),
     ("an-imp-comes-up-when-its-past-is-gone", 22, "IMP 2 still keeps the last numbers of flows from IMP 1. The next event to clear it: `forget 2 1`."),
-    ("arpanet-of-december-1969", 43, "No way leads from IMP 4 to IMP 1"),
+    ("arpanet-of-december-1969", 43, "No route leads from IMP 4 to IMP 1"),
 ]
 
 # the link and the octets of a text, and what it says
