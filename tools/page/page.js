@@ -120,7 +120,7 @@ function makeAxis(views, place, last, stepsOf, goTo) {
     const x = (step) => axis.x(where(step));
     lines.forEach(([label, kind, parts, signs], at) => {
       const y = 4 + at * (AXIS.bar + AXIS.gap);
-      if (axis.label > 100) draw(svg, "text", { class: "bar-label", x: 18, y: y + 9.5 }, label);
+      if (axis.label > 100) draw(svg, "text", { class: "bar-label", x: 18, y: y + 9.5 }, views.length > 1 ? `${which ? "after" : "before"}: ${label}` : label);
       draw(svg, "line", { class: "rule", x1: axis.from, x2: axis.to, y1: y + 6, y2: y + 6 });
       for (const [from, to, how] of parts) drawBar(svg, x(from), to ? x(to) : axis.to, y, how);
       for (const [step, what] of signs) drawSign(svg, x(step), y + AXIS.bar / 2, what, kind);
