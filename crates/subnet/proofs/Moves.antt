@@ -2,6 +2,7 @@
 -- events), EventSteps `step_sound` (each event keeps a subnet sound), WholeRuns `always_run` (the log is a run of the mailboxes).
 pub mod Deliveries
 pub mod EventSteps
+pub mod Fates
 pub mod Forgetting
 pub mod GivingUp
 pub mod HostsDown

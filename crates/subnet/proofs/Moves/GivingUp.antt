@@ -111,7 +111,7 @@ given_up_turn n f s number at awaited dead accepted is =
     let among : NothingNew n m = subst (λ (o : Option State). NothingNew n (at_imp o i (λ (t : State). give_up t f) n)) at (give_up_nothing n i f) in
     let needs : CanGiveUp (view n f) (Alive n f) number = record {
       awaited = ap (λ (o : Option State). (sender_at o f).outstanding) at ∙ awaited;
-      no_piece = λ x a piece. no_packet n f number none.0 x a;
+      no_request = λ x a request. no_packet n f number none.0 x a;
       unread = unread n f number none.1;
     } in
     let one : OneFollows Piece [] n.log f (GiveUp number ∷ []) (view n) (view m) (Alive n) (Alive m) = record {
