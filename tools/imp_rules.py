@@ -104,6 +104,7 @@ class Imp:
         self.outstanding = {}
         self.last = {}
         self.kept = {}
+        self.fates = {}  # of a flow whose number is kept: what became of its message, "waits", "taken", "dead" or "never"
         self.frames = []
         self.lost = 0  # frames that had no room
 
@@ -185,6 +186,15 @@ class Imp:
             else:
                 self.send(port, content)
 
+    # the numbers noted last
+
+    def note(self, flow, number, fate):
+        self.kept[flow], self.fates[flow] = number, fate
+
+    def end(self, flow, number, fate):
+        if self.kept.get(flow) == number:
+            self.fates[flow] = fate
+
     # calls
 
     def from_host(self, flow, text):
@@ -201,7 +211,7 @@ class Imp:
             if len(waiting) == QUEUE:
                 raise Refused("NoRoom")
             number = self.begin(flow)
-            self.kept[flow] = number
+            self.note(flow, number, "waits")
             waiting.append((flow, number, text))
         elif self.route(destination[1]) is None:
             self.tell("dead", flow)
@@ -258,7 +268,7 @@ class Imp:
         return self.reassembly_of(packet)
 
     def turn_down(self, flow, number, leads):
-        self.kept[flow] = number
+        self.note(flow, number, "dead")
         self.slots.pop(flow, None)
         if leads:
             self.store.append((DEAD, flow, number, 0, True, ""))
@@ -283,7 +293,7 @@ class Imp:
 
         def take():
             self.slots.pop(flow, None)
-            self.kept[flow] = number
+            self.note(flow, number, "waits" if mark else "never")
             if mark:
                 waiting.append((flow, number, mark[:-1]))
 
@@ -304,6 +314,7 @@ class Imp:
         if leads and not self.room(1):
             raise Refused("NoRoom")
         host.messages.pop(0)
+        self.end(flow, message, "taken")
         if source[1] == self.number:
             self.free("rfnm", flow, message)
         elif leads:
@@ -348,6 +359,7 @@ class Imp:
         if imp == self.number:
             raise Refused("NoSuch")
         self.kept = {flow: number for flow, number in self.kept.items() if flow[0][1] != imp}
+        self.fates = {flow: fate for flow, fate in self.fates.items() if flow[0][1] != imp}
 
     def abandon(self, flow):
         if flow not in self.slots:
@@ -362,6 +374,7 @@ class Imp:
         host.answers.clear()
         waiting, host.messages = host.messages, []
         for flow, message, _ in waiting:
+            self.end(flow, message, "dead")
             if flow[0][1] == self.number:
                 self.free("dead", flow, message)
             elif self.route(flow[0][1]) is not None and self.room(1):
@@ -382,6 +395,13 @@ class Imp:
         pieces = [(flow, number, True) for flow, (number, _) in self.slots.items()]
         queued = [(flow, number, True) for host in self.hosts for flow, number, _ in host.messages]
         return pieces + queued + [(packet[1], packet[2], packet[0] == DATA) for packet in self.packets()]
+
+    def next_number(self, flow):
+        return (self.last[flow] + 1) % 256 if flow in self.last else 0
+
+    def awaits(self, imp):
+        """Whether a message from one of its hosts to a host at this IMP is outstanding."""
+        return any(flow[1][1] == imp for flow in self.outstanding)
 
     def begins(self, flow):
         source, destination, _ = flow

@@ -45,40 +45,55 @@ class InTheWay:
     # ---- what is alive
 
     def obstacles(self, kind, parts, message):
-        """What is alive and forbids an event, and IMPs that have to forget, each as it is named in a `forget`."""
+        """What is alive and forbids an event, IMPs that have to forget, each as it is named in a `forget`, and flows to be given up."""
         subnet = self.subnet
         if kind == "impup":
             (number,) = parts
             kept = [(at, number) for at, imp in subnet.imps.items() if imp is not None and at != number and any(flow[0][1] == number for flow in imp.kept)]
-            return [it for it in everything(subnet) if number in (it.flow[0][1], it.flow[1][1])], kept
+            awaited = [flow for at in subnet.imps if at != number for flow in self.awaited(at, number)]
+            return [it for it in everything(subnet) if number in (it.flow[0][1], it.flow[1][1])], kept, awaited
         if kind == "forget":
             at, other = parts
-            return [it for it in everything(subnet) if it.is_data() and (it.flow[0][1], it.flow[1][1]) == (other, at)], []
+            return [it for it in everything(subnet) if it.is_data() and (it.flow[0][1], it.flow[1][1]) == (other, at)], [], self.awaited(other, at)
         flow = message[0] if message else parts[0]
         imp = subnet.imps[flow[0][1]]
-        number = imp.outstanding[flow] if kind == "giveup" else (imp.last[flow] - 127) % 256
-        return [it for it in everything(subnet) if (it.flow, it.number) == (flow, number)], []
+        if kind == "giveup":
+            return self.alive(flow, imp.outstanding[flow]), [], []
+        kept = [(flow[1][1], flow[0][1])] if subnet.is_kept(flow, imp.next_number(flow)) else []
+        return self.alive(flow, (imp.last[flow] - 127) % 256) if flow in imp.last else [], kept, []
+
+    def alive(self, flow, number):
+        return [it for it in everything(self.subnet) if (it.flow, it.number) == (flow, number)]
+
+    def awaited(self, at, other):
+        """The flows from hosts at one IMP to hosts at another of which a message is outstanding."""
+        imp = self.subnet.imps[at]
+        return [flow for flow in imp.outstanding if flow[1][1] == other] if imp is not None else []
 
     def why_StillAlive(self, kind, parts, message):  # noqa: N802 (the name of the refusal)
-        alive, kept = self.obstacles(kind, parts, message)
+        alive, kept, awaited = self.obstacles(kind, parts, message)
         told = [f"{it.what}, {where(self.subnet, it.place)}" for it in alive[:TOLD]]
         more = len(alive) - len(told)
         start = [f"Still alive: {'; '.join(told)}{f'; and {more} more' if more else ''}."] if told else []
         for at, number in kept[:TOLD]:
             start.append(f"IMP {at} still keeps the last numbers of flows from IMP {number}.")
+        for flow in awaited[:TOLD]:
+            start.append(f"Message {self.subnet.imps[flow[0][1]].outstanding[flow]} of flow {spell_flow(flow)} is outstanding.")
         return [*start, self.cleared(kind, parts, message)]
 
     def next_clearing(self, kind, parts, message):
         """One event after which less stands in the way."""
-        alive, kept = self.obstacles(kind, parts, message)
+        alive, kept, awaited = self.obstacles(kind, parts, message)
         frames = [it for it in alive if it.place[0] == "frame"]
         held = [it for it in alive if it.place[0] != "frame"]
         if held:
             return clearing(self.subnet, held[0].place)
         if frames:
             return clearing(self.subnet, frames[-1].place)
-        at, number = kept[0]
-        return f"forget {at} {number}" if kind == "impup" else None
+        for at, number in kept:
+            return f"forget {at} {number}"
+        left = self.alive(awaited[0], self.subnet.imps[awaited[0][0][1]].outstanding[awaited[0]])
+        return clearing(self.subnet, left[0].place) if left else f"giveup {spell_flow(awaited[0])}"
 
     def cleared(self, kind, parts, message):
         event = self.next_clearing(kind, parts, message)
@@ -96,7 +111,7 @@ class InTheWay:
     def settling(self, flow):
         """What ends an outstanding message: nothing of it is alive, or where it is."""
         imp = self.subnet.imps[flow[0][1]]
-        alive = [it for it in everything(self.subnet) if (it.flow, it.number) == (flow, imp.outstanding[flow])]
+        alive = self.alive(flow, imp.outstanding[flow])
         if not alive:
             return f"Nothing of it is alive: `giveup {spell_flow(flow)}` ends it."
         at = listed([f"{it.what}, {where(self.subnet, it.place)}" for it in alive[:TOLD]])

@@ -62,6 +62,15 @@ class Subnet(Crossed):
     def is_alive(self, flow, number):
         return any(entry[:2] == (flow, number) for entry in self.alive())
 
+    def is_kept(self, flow, number):
+        """Whether the destination's IMP is up and keeps this number as the flow's last one."""
+        imp = self.imps.get(flow[1][1])
+        return imp is not None and imp.kept.get(flow) == number
+
+    def is_awaiting(self, other, at):
+        """Whether a message to a host at an IMP is outstanding at another one, if that is up."""
+        return self.imps[other] is not None and self.imps[other].awaits(at)
+
     # ---- what is there
 
     def up(self, number):
@@ -94,8 +103,10 @@ class Subnet(Crossed):
         source = flow[0]
         self.host(source)
         imp = self.imps[source[1]]
-        if imp is not None and imp.begins(flow) and flow in imp.last:
-            if self.is_alive(flow, (imp.last[flow] - 127) % 256):
+        if imp is not None and imp.begins(flow):
+            if flow in imp.last and self.is_alive(flow, (imp.last[flow] - 127) % 256):
+                raise Refused("StillAlive")
+            if self.is_kept(flow, imp.next_number(flow)):
                 raise Refused("StillAlive")
         self.up(source[1])
         self.call(source[1], lambda imp: imp.from_host(flow, text))
@@ -158,7 +169,8 @@ class Subnet(Crossed):
         self.site(number)
         others = [imp for other, imp in self.imps.items() if imp is not None and other != number]
         kept = any(flow[0][1] == number for imp in others for flow in imp.kept)
-        if kept or any(number in (flow[0][1], flow[1][1]) for flow, _, _ in self.alive()):
+        awaited = any(imp.awaits(number) for imp in others)
+        if kept or awaited or any(number in (flow[0][1], flow[1][1]) for flow, _, _ in self.alive()):
             raise Refused("StillAlive")
         if self.imps[number] is not None:
             raise Refused("IsUp")
@@ -192,7 +204,7 @@ class Subnet(Crossed):
         self.site(other)
         if at == other:
             raise Refused("NoSuch")
-        if any(is_data and (flow[0][1], flow[1][1]) == (other, at) for flow, _, is_data in self.alive()):
+        if self.is_awaiting(other, at) or any(is_data and (flow[0][1], flow[1][1]) == (other, at) for flow, _, is_data in self.alive()):
             raise Refused("StillAlive")
         self.up(at)
         self.call(at, lambda imp: imp.forget(other))

@@ -1,6 +1,7 @@
 -- Each move keeps the clauses, and shows the hosts what their mailbox allows.
 use Rattle.std.proofs.Common.{◌≡◌, Bool, true, false, List, [], ◌∷◌, ◌++◌, None, inl, inr, refl, ap, sym, ◌∙◌, subst, append_assoc, if◌then◌else◌}
 use Rattle.leader1822.specs.Mailboxes.{Box, Mail, Passing, WaitsWith, MailNeeds, mail_after, mail_of, IsFlowRun}
+use Rattle.link_table.specs.declared.destination.Fate.TheVariants as fate
 use Rattle.flow_law.specs.View.{View, Packet, Queued, mail_now}
 use Rattle.flow_law.specs.Moves.{Move, Needs, Makes, Either, CanOffer, CanTakeMessage, NeedsAll, Grown, queued_text, view_moved, after_all, shows, shown_by}
 use Rattle.flow_law.specs.Invariant.{Invariant, Held}
@@ -8,7 +9,8 @@ use Rattle.flow_law.specs.Follows.{Sound}
 use Rattle.flow_law.proofs.Clauses.{invariant_less}
 use Rattle.flow_law.proofs.Begins.{dead_now, begin_sent, begin_local}
 use Rattle.flow_law.proofs.Arrivals.{note_gone, whole, freed, given_up, take_message, held_there, take_answer, told}
-use Rattle.flow_law.proofs.Stops.{stop_source, start_source, stop_destination, start_destination, stop_from, start_from, stop_to, without_data}
+use Rattle.flow_law.proofs.Stops.{stop_source, start_source, stop_destination, start_destination, stop_from, start_from, stop_to, unasked}
+use Rattle.flow_law.proofs.Asking.{asks, reply}
 
 -- a move that makes no packet
 none_made : {Piece : List Bool → Packet → Type 0} (v : View) (t made : Packet → Type 0) → ((x : Packet) → made x → ⊥) → Invariant Piece v t → Invariant Piece v (Either t made)
@@ -23,7 +25,7 @@ invariant_after Move.Quiet v t needs h = none_made v t _ (λ x none. none) h
 invariant_after (Move.DeadNow place text) v t needs h = none_made _ t _ (λ x none. none) (dead_now v t place text needs h)
 invariant_after (Move.Begin place text) v t needs h = begin_sent v t place text needs h
 invariant_after (Move.BeginLocal place text) v t needs h = none_made _ t _ (λ x none. none) (begin_local v t place text needs h)
-invariant_after (Move.NoteGone x) v t needs h = note_gone v t x needs h
+invariant_after (Move.NoteGone x new) v t needs h = note_gone v t x new needs.0 needs.1 h
 invariant_after (Move.Whole x text) v t needs h = none_made _ t _ (λ x none. none) (whole v t x text needs h)
 invariant_after (Move.Freed x kind) v t needs h = none_made _ t _ (λ x none. none) (freed v t x kind needs h)
 invariant_after (Move.TakeMessage oldest others) v t needs h = take_message v t oldest others needs h (held_there v t oldest others needs h)
@@ -35,9 +37,11 @@ invariant_after Move.StartDestination v t needs h = none_made _ t _ (λ x none. 
 invariant_after Move.StopFrom v t needs h = none_made _ t _ (λ x none. none) (stop_from v t h)
 invariant_after Move.StartFrom v t needs h = none_made _ t _ (λ x none. none) (start_from v t needs h)
 invariant_after Move.StopTo v t needs h = none_made _ t _ (λ x none. none) (stop_to v t h)
-invariant_after Move.StartTo v t needs h = none_made _ t _ (λ x none. none) (without_data v t true v.kept needs h)
+invariant_after Move.StartTo v t needs h = none_made _ t _ (λ x none. none) (unasked v t true v.kept v.fate needs h)
 invariant_after (Move.GiveUp number) v t needs h = none_made _ t _ (λ x none. none) (given_up v t number needs h)
-invariant_after Move.Forget v t needs h = none_made _ t _ (λ x none. none) (without_data v t v.to_up None needs h)
+invariant_after Move.Forget v t needs h = none_made _ t _ (λ x none. none) (unasked v t v.to_up None fate.Waits needs h)
+invariant_after (Move.Asks number) v t needs h = asks v t number needs h
+invariant_after (Move.Reply x told) v t needs h = reply v t x told needs h
 
 -- ---- what the hosts see
 
@@ -76,7 +80,7 @@ shows_run Move.Quiet v t needs h start seen at run = run
 shows_run (Move.DeadNow place text) v t needs h start seen at run = one_seen (Passing.Put place text) start (mail_now v) seen at (needs.source, offered_empty v t needs h) run
 shows_run (Move.Begin place text) v t needs h start seen at run = one_seen (Passing.Put place text) start (mail_now v) seen at (needs.offer.source, offered_empty v t needs.offer h) run
 shows_run (Move.BeginLocal place text) v t needs h start seen at run = one_seen (Passing.Put place text) start (mail_now v) seen at (needs.offer.source, offered_empty v t needs.offer h) run
-shows_run (Move.NoteGone x) v t needs h start seen at run = run
+shows_run (Move.NoteGone x new) v t needs h start seen at run = run
 shows_run (Move.Whole x text) v t needs h start seen at run = run
 shows_run (Move.Freed x kind) v t needs h start seen at run = run
 shows_run (Move.TakeMessage oldest others) v t needs h start seen at run = one_seen (Passing.Fetched oldest.text) start (mail_now v) seen at (needs.destination, taken_holds v t oldest others needs h) run
@@ -91,6 +95,8 @@ shows_run Move.StopTo v t needs h start seen at run = stopped Passing.Destinatio
 shows_run Move.StartTo v t needs h start seen at run = run
 shows_run (Move.GiveUp number) v t needs h start seen at run = run
 shows_run Move.Forget v t needs h start seen at run = run
+shows_run (Move.Asks number) v t needs h start seen at run = run
+shows_run (Move.Reply x kind) v t needs h start seen at run = run
 
 -- the mail after what a move shows is the mail of its view
 stop_mail : (p : Passing) (up : Bool) (start now later : Mail) (seen : List Passing) → mail_of start seen ≡ now → (up ≡ true → mail_after p now ≡ later) → (up ≡ false → now ≡ later)
@@ -103,7 +109,7 @@ shows_mail Move.Quiet v start seen at = at
 shows_mail (Move.DeadNow place text) v start seen at = ap (mail_after (Passing.Put place text)) at
 shows_mail (Move.Begin place text) v start seen at = ap (mail_after (Passing.Put place text)) at
 shows_mail (Move.BeginLocal place text) v start seen at = ap (mail_after (Passing.Put place text)) at
-shows_mail (Move.NoteGone x) v start seen at = at
+shows_mail (Move.NoteGone x new) v start seen at = at
 shows_mail (Move.Whole x text) v start seen at = at
 shows_mail (Move.Freed x kind) v start seen at = at
 shows_mail (Move.TakeMessage oldest others) v start seen at = ap (mail_after (Passing.Fetched oldest.text)) at
@@ -120,6 +126,8 @@ shows_mail Move.StopTo v start seen at = stop_mail Passing.DestinationDown v.des
 shows_mail Move.StartTo v start seen at = at
 shows_mail (Move.GiveUp number) v start seen at = at
 shows_mail Move.Forget v start seen at = at
+shows_mail (Move.Asks number) v start seen at = at
+shows_mail (Move.Reply x kind) v start seen at = at
 
 -- ---- lists of moves
 

@@ -1,21 +1,47 @@
 -- Packets arrive, and hosts take what waits for them.
-use Rattle.std.proofs.Common.{◌≡◌, ℕ, Bool, true, false, List, [], ◌∷◌, ◌++◌, Option, Some, None, inl, inr, refl, ap, sym, ◌∙◌, subst}
+use Rattle.std.proofs.Common.{◌≡◌, ℕ, Bool, true, false, List, [], ◌∷◌, ◌++◌, Option, Some, None, inl, inr, refl, ap, sym, ◌∙◌, subst, eq-eqb, if◌then◌else◌}
 use Rattle.std.proofs.lemmas.Bool.{cases_Bool}
 use Rattle.leader1822.specs.declared.crossing.Answer.{Answer}
 use Rattle.leader1822.specs.declared.crossing.Answer.TheVariants as answer
 use Rattle.leader1822.specs.Mailboxes.{Box, Fits, fetched}
-use Rattle.flow_law.specs.View.{View, Packet, Queued, Kind}
-use Rattle.flow_law.specs.Moves.{Move, New, CanNote, CanQueue, CanFree, CanTakeMessage, CanGiveUp, Brings, IsTold, Either, with_answer, queued_text, view_moved}
-use Rattle.flow_law.specs.Invariant.{Invariant, Begun, Carried, Held, Gone, Busy}
+use Rattle.link_table.specs.declared.destination.Fate.{Fate}
+use Rattle.link_table.specs.declared.destination.Fate.TheVariants as fate
+use Rattle.flow_law.specs.View.{View, Packet, Queued, Kind, is_request, is_refusal}
+use Rattle.flow_law.specs.Moves.{Move, New, CanNote, CanQueue, CanFree, CanTakeMessage, CanGiveUp, Brings, IsLost, IsTold, IsRefusal, Either, with_answer, with_fate, queued_text, view_moved}
+use Rattle.flow_law.specs.Invariant.{Invariant, Begun, Carried, Held, Gone, Busy, Lost, FateSays, Fated}
 use Rattle.flow_law.proofs.Clauses.{idle_new, idle_queue, dead_fits, shut_new, shut_queue, noted, begun_itself, new_too, one_there}
 
-pub note_gone : {Piece : List Bool → Packet → Type 0} (v : View) (t : Packet → Type 0) (x : Packet) → CanNote v t x → Invariant Piece v t
-    → Invariant Piece (view_moved (Move.NoteGone x) v) (Either t (IsTold Kind.Dead x.number))
-note_gone {Piece} v t x can h =
+-- ---- kinds
+
+pub refusal_asks_not : (told : Kind) → is_refusal told ≡ true → is_request told ≡ true → ⊥
+refusal_asks_not Kind.Data refusal request = absurd (cc)
+refusal_asks_not Kind.Rfnm refusal request = absurd (cc)
+refusal_asks_not Kind.Dead refusal request = absurd (cc)
+refusal_asks_not Kind.Ask refusal request = absurd (cc)
+refusal_asks_not Kind.Never refusal request = absurd (cc)
+
+pub rfnm_asks_not : (x : Packet) → x.kind ≡ Kind.Rfnm → is_request x.kind ≡ true → ⊥
+rfnm_asks_not x told request = let not : is_request x.kind ≡ false = ap is_request told in absurd (cc)
+
+pub rfnm_refuses_not : (x : Packet) → x.kind ≡ Kind.Rfnm → is_refusal x.kind ≡ true → ⊥
+rfnm_refuses_not x told refusal = let not : is_refusal x.kind ≡ false = ap is_refusal told in absurd (cc)
+
+-- ---- new requests
+
+-- a fate without a taking is true of a message that waits in the box and isn't queued
+lost_says : (new : Fate) (queue : List Queued) (box : Box) → IsLost new → Lost queue box → FateSays new queue box
+lost_says fate.Waits queue box gone lost = absurd gone
+lost_says fate.Taken queue box gone lost = absurd gone
+lost_says fate.Dead queue box gone lost = lost
+lost_says fate.Never queue box gone lost = lost
+
+pub note_gone : {Piece : List Bool → Packet → Type 0} (v : View) (t : Packet → Type 0) (x : Packet) (new : Fate) → CanNote v t x → IsLost new → Invariant Piece v t
+    → Invariant Piece (view_moved (Move.NoteGone x new) v) (Either t (IsRefusal x.number))
+note_gone {Piece} v t x new_fate can gone h =
     let c : Carried Piece v.box v.queue x = h.carried x can.there can.new in
-    let old : (y : Packet) → Either t (IsTold Kind.Dead x.number) y → New v.to_up (Some x.number) y → ⊥ = λ y there new. elim there [
+    let old : (y : Packet) → Either t (IsRefusal x.number) y → New v.to_up (Some x.number) y → ⊥ = λ y there new. elim there [
       | inl ty ↦ noted v t h x can.there can.new y ty new
-      | inr made ↦ (let told : y.kind ≡ Kind.Dead = made.kind in let data_packet : y.kind ≡ Kind.Data = new.data_packet in absurd (cc))
+      | inr made ↦ refusal_asks_not y.kind made.refusal new.request
     ] in
     record {
       range = h.range;
@@ -33,9 +59,16 @@ note_gone {Piece} v t x can h =
       waiting = inl c.unread;
       taken = λ y there kind awaited. elim there [
         | inl ty ↦ h.taken y ty kind awaited
-        | inr made ↦ (let told : y.kind ≡ Kind.Dead = made.kind in absurd (cc))
+        | inr made ↦ absurd (rfnm_refuses_not y kind made.refusal)
       ];
       dead = λ y there kind awaited. record { waiting = dead_fits v.box c.place c.text c.waits; unread = c.unread; none = old };
+      fated = λ to number awaited.
+          (let here : v.outstanding ≡ Some x.number = h.expected (h.sender number awaited) x can.there can.new in
+          let same : Some x.number ≡ Some number = sym here ∙ awaited in
+          record {
+            other = λ another. absurd (another same);
+            same = λ kept. lost_says new_fate v.queue v.box gone (record { waiting = dead_fits v.box c.place c.text c.waits; unread = c.unread });
+          });
       busy = h.busy;
       settled = h.settled;
     }
@@ -44,10 +77,10 @@ note_gone {Piece} v t x can h =
 pub same_text : {Piece : List Bool → Packet → Type 0} (v : View) (t : Packet → Type 0) (x : Packet) (text : List Bool) → CanQueue Piece v t x text → Invariant Piece v t
     → (c : Carried Piece v.box v.queue x) → text ≡ c.text
 same_text {Piece} v t x text can h c = can.joined c.text (λ y ty kind number.
-    let d : Carried Piece v.box v.queue y = h.carried y ty (new_too v.to_up v.kept x y can.note.new kind number) in
+    let d : Carried Piece v.box v.queue y = h.carried y ty (new_too v.to_up v.kept x y can.note.new (ap is_request kind) number) in
     let P : List Bool → Type 0 = λ w. Piece w y in
     let same : d.text ≡ c.text = (let one : v.box ≡ Box.Waiting c.place c.text = c.waits in let two : v.box ≡ Box.Waiting d.place d.text = d.waits in cc) in
-    subst P same d.piece)
+    subst P same (d.piece kind))
 
 pub whole : {Piece : List Bool → Packet → Type 0} (v : View) (t : Packet → Type 0) (x : Packet) (text : List Bool) → CanQueue Piece v t x text → Invariant Piece v t
     → Invariant Piece (view_moved (Move.Whole x text) v) t
@@ -74,6 +107,13 @@ whole {Piece} v t x text can h =
       });
       taken = h.taken;
       dead = λ y ty kind awaited. (let g : Gone v.to_up v.kept v.queue v.box t = h.dead y ty kind awaited in absurd (g.none x can.note.there can.note.new));
+      fated = λ to number awaited.
+          (let here : v.outstanding ≡ Some x.number = h.expected (h.sender number awaited) x can.note.there can.note.new in
+          let same : Some x.number ≡ Some number = sym here ∙ awaited in
+          record {
+            other = λ another. absurd (another same);
+            same = λ kept unread. (let one : v.queue ++ queued_text x.number text ∷ [] ≡ queued_text x.number text ∷ [] = ap (λ (q : List Queued). q ++ queued_text x.number text ∷ []) c.unread in absurd (cc));
+          });
       busy = h.busy;
       settled = h.settled;
     }
@@ -111,6 +151,7 @@ ended v t kind number awaited e h =
       waiting = inl e.unread;
       taken = λ x tx told none. absurd (cc);
       dead = λ x tx told none. absurd (cc);
+      fated = λ to n none. absurd (cc);
       busy = λ n none. absurd (cc);
       settled = λ up idle. inr (record { kind = kind; one = told_up v.source kind v.answers up b.none; fits = e.fits });
     }
@@ -121,7 +162,7 @@ brought v t x Kind.Rfnm answer.Rfnm is brings tx awaited h =
     let fits : Fits answer.Rfnm v.box = h.taken x tx is awaited in
     record { fits = fits; unread = shut_queue v t h fits; none = shut_new v t h fits }
 brought v t x Kind.Dead answer.Dead is brings tx awaited h =
-    let g : Gone v.to_up v.kept v.queue v.box t = h.dead x tx is awaited in
+    let g : Gone v.to_up v.kept v.queue v.box t = h.dead x tx (ap is_refusal is) awaited in
     record { fits = g.waiting; unread = g.unread; none = g.none }
 brought v t x Kind.Data answer.Rfnm is brings tx awaited h = absurd brings
 brought v t x Kind.Data answer.Dead is brings tx awaited h = absurd brings
@@ -130,6 +171,12 @@ brought v t x Kind.Rfnm answer.Dead is brings tx awaited h = absurd brings
 brought v t x Kind.Rfnm answer.Incomplete is brings tx awaited h = absurd brings
 brought v t x Kind.Dead answer.Rfnm is brings tx awaited h = absurd brings
 brought v t x Kind.Dead answer.Incomplete is brings tx awaited h = absurd brings
+brought v t x Kind.Ask answer.Rfnm is brings tx awaited h = absurd brings
+brought v t x Kind.Ask answer.Dead is brings tx awaited h = absurd brings
+brought v t x Kind.Ask answer.Incomplete is brings tx awaited h = absurd brings
+brought v t x Kind.Never answer.Rfnm is brings tx awaited h = absurd brings
+brought v t x Kind.Never answer.Dead is brings tx awaited h = absurd brings
+brought v t x Kind.Never answer.Incomplete is brings tx awaited h = absurd brings
 
 pub freed : {Piece : List Bool → Packet → Type 0} (v : View) (t : Packet → Type 0) (x : Packet) (kind : Answer) → CanFree v t x kind → Invariant Piece v t
     → Invariant Piece (view_moved (Move.Freed x kind) v) t
@@ -149,10 +196,15 @@ given_up v t number can h =
             let number : held.number ≡ number = cc in
             absurd (can.unread (queued_text held.number held.text) (one_there v.queue (queued_text held.number held.text) held.one) number))
       ];
-      none = λ x tx new. (let same : v.outstanding ≡ Some x.number = h.expected up x tx new in can.no_piece x tx new.data_packet (cc));
+      none = λ x tx new. (let same : v.outstanding ≡ Some x.number = h.expected up x tx new in can.no_request x tx new.request (cc));
     }) h
 
 -- ---- hosts take what waits for them
+
+-- the fate of the number that is kept is the new one
+fate_of_kept : (kept : Option ℕ) (n number : ℕ) (old : Fate) → kept ≡ Some n → n ≡ number → with_fate kept number fate.Taken old ≡ fate.Taken
+fate_of_kept None n number old is same = absurd (cc)
+fate_of_kept (Some k) n number old is same = ap (λ (b : Bool). if b then fate.Taken else old) (eq-eqb k number (let at : k ≡ n = cc in at ∙ same))
 
 pub take_message : {Piece : List Bool → Packet → Type 0} (v : View) (t : Packet → Type 0) (oldest : Queued) (others : List Queued) → CanTakeMessage v oldest others → Invariant Piece v t
     → Held v.from_up v.outstanding v.queue v.box → Invariant Piece (view_moved (Move.TakeMessage oldest others) v) (Either t (IsTold Kind.Rfnm oldest.number))
@@ -166,7 +218,7 @@ take_message {Piece} v t oldest others can h held =
     let F : Answer → Box → Type 0 = λ a b. Fits a b in
     let old : (y : Packet) → Either t (IsTold Kind.Rfnm oldest.number) y → New v.to_up v.kept y → ⊥ = λ y there new. elim there [
       | inl ty ↦ (let c : Carried Piece v.box v.queue y = h.carried y ty new in let unread : v.queue ≡ [] = c.unread in absurd (cc))
-      | inr made ↦ (let told : y.kind ≡ Kind.Rfnm = made.kind in let data_packet : y.kind ≡ Kind.Data = new.data_packet in absurd (cc))
+      | inr made ↦ rfnm_asks_not y made.kind new.request
     ] in
     record {
       range = h.range;
@@ -185,8 +237,16 @@ take_message {Piece} v t oldest others can h held =
       taken = λ y there kind awaited. subst (λ (b : Box). Fits answer.Rfnm b) (sym box) tt;
       dead = λ y there kind awaited. elim there [
         | inl ty ↦ (let g : Gone v.to_up v.kept v.queue v.box t = h.dead y ty kind awaited in let unread : v.queue ≡ [] = g.unread in absurd (cc))
-        | inr made ↦ (let told : y.kind ≡ Kind.Rfnm = made.kind in absurd (cc))
+        | inr made ↦ absurd (rfnm_refuses_not y made.kind kind)
       ];
+      fated = λ to n awaited.
+          (let k : Fated n v.kept v.fate v.queue v.box t = h.fated to n awaited in
+          let here : v.outstanding ≡ Some held.number = held.awaited (h.sender n awaited) in
+          let at : n ≡ oldest.number = (let there : n ≡ held.number = cc in there ∙ sym number) in
+          record {
+            other = λ another. (let unread : v.queue ≡ [] = (k.other another).lost.unread in absurd (cc));
+            same = λ kept. subst (λ (new : Fate). FateSays new others (fetched v.box)) (sym (fate_of_kept v.kept n oldest.number v.fate kept at)) (subst (λ (b : Box). Fits answer.Rfnm b) (sym box) tt);
+          });
       busy = λ n awaited. (let b : Busy v.answers v.box = h.busy n awaited in record { none = b.none; full = subst (λ (b : Box). Fits answer.Incomplete b) (sym box) tt });
       settled = λ source idle. (let awaited : v.outstanding ≡ Some held.number = held.awaited (h.home source) in absurd (cc));
     }
@@ -249,6 +309,7 @@ take_answer v t oldest others can h =
       waiting = inl (idle_queue v t h up idle);
       taken = λ x tx kind awaited. absurd (cc);
       dead = λ x tx kind awaited. absurd (cc);
+      fated = λ to n awaited. absurd (cc);
       busy = λ n awaited. absurd (cc);
       settled = λ source none. inl (record { none = w.last; empty = refl });
     }

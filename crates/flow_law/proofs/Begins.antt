@@ -1,12 +1,19 @@
 -- A message is offered: a Dead at once, a message to another IMP, a message within one IMP.
-use Rattle.std.proofs.Common.{◌≡◌, ℕ, ◌<◌, Bool, true, List, [], ◌∷◌, ◌++◌, Some, None, inl, inr, refl, ap, sym, subst}
+use Rattle.std.proofs.Common.{◌≡◌, ℕ, ◌<◌, Bool, true, false, List, [], ◌∷◌, ◌++◌, Some, None, inl, inr, refl, ap, sym, ◌∙◌, subst}
 use Rattle.leader1822.specs.declared.crossing.Answer.TheVariants as answer
 use Rattle.link_table.specs.Numbers.{modulus, Near}
 use Rattle.link_table.proofs.lemmas.{near_same}
-use Rattle.flow_law.specs.View.{View, Packet, Queued, Kind}
+use Rattle.flow_law.specs.View.{View, Packet, Queued, Kind, is_request, is_refusal}
 use Rattle.flow_law.specs.Moves.{Move, New, CanOffer, CanBegin, IsPieceOf, Either, queued_text, next_number, view_moved}
-use Rattle.flow_law.specs.Invariant.{Invariant}
+use Rattle.flow_law.specs.Invariant.{Invariant, Fated, Unnoted, Lost}
 use Rattle.flow_law.proofs.Clauses.{idle_new, idle_queue, near_not_new, next_number_in, fresh, still_near}
+
+no_refusal : (x : Packet) → x.kind ≡ Kind.Data → is_refusal x.kind ≡ true → ⊥
+no_refusal x kind refusal = let none : is_refusal x.kind ≡ false = ap is_refusal kind in absurd (cc)
+
+queued_some : (queue : List Queued) (q : Queued) → queue ++ q ∷ [] ≡ [] → ⊥
+queued_some [] q none = absurd (cc)
+queued_some (first ∷ queue) q none = absurd (cc)
 
 pub dead_now : {Piece : List Bool → Packet → Type 0} (v : View) (t : Packet → Type 0) (place : ℕ) (text : List Bool) → CanOffer v → Invariant Piece v t → Invariant Piece (view_moved (Move.DeadNow place text) v) t
 dead_now v t place text can h =
@@ -24,6 +31,7 @@ dead_now v t place text can h =
       waiting = inl (idle_queue v t h up can.idle);
       taken = λ x tx kind awaited. (let idle : v.outstanding ≡ None = can.idle in absurd (cc));
       dead = λ x tx kind awaited. (let idle : v.outstanding ≡ None = can.idle in absurd (cc));
+      fated = λ up number awaited. (let idle : v.outstanding ≡ None = can.idle in absurd (cc));
       busy = λ number awaited. (let idle : v.outstanding ≡ None = can.idle in absurd (cc));
       settled = λ source idle. inr (record { kind = answer.Dead; one = refl; fits = tt });
     }
@@ -51,7 +59,7 @@ begin_sent {Piece} v t place text can h =
       ];
       carried = λ x there new. elim there [
         | inl tx ↦ absurd (idle_new v t h up can.offer.idle x tx new)
-        | inr made ↦ record { place = place; text = text; waits = refl; unread = idle_queue v t h up can.offer.idle; piece = made.piece }
+        | inr made ↦ record { place = place; text = text; waits = refl; unread = idle_queue v t h up can.offer.idle; piece = λ kind. made.piece }
       ];
       orphaned = λ down x y there new ty kind. absurd (cc);
       waiting = inl (idle_queue v t h up can.offer.idle);
@@ -61,8 +69,20 @@ begin_sent {Piece} v t place text can h =
       ];
       dead = λ x there kind awaited. elim there [
         | inl tx ↦ absurd (fresh v t h up x tx (let at : Some n ≡ Some x.number = awaited in cc))
-        | inr made ↦ (let data_packet : x.kind ≡ Kind.Data = made.data_packet in absurd (cc))
+        | inr made ↦ absurd (no_refusal x made.data_packet kind)
       ];
+      fated = λ to number awaited.
+          (let at : n ≡ number = cc in
+          record {
+            other = λ another. record {
+              lost = record { waiting = tt; unread = idle_queue v t h up can.offer.idle };
+              none = λ x there refusal same. elim there [
+                | inl tx ↦ absurd (fresh v t h up x tx (same ∙ sym at))
+                | inr made ↦ absurd (no_refusal x made.data_packet refusal)
+              ];
+            };
+            same = λ kept. absurd (can.unkept (kept ∙ ap (λ (k : ℕ). Some k) (sym at)));
+          });
       busy = λ number awaited. record { none = can.offer.answered; full = tt };
       settled = λ source idle. absurd (cc);
     }
@@ -94,6 +114,10 @@ begin_local {Piece} v t place text can h =
       });
       taken = λ x tx kind awaited. absurd (not_there x tx awaited);
       dead = λ x tx kind awaited. absurd (not_there x tx awaited);
+      fated = λ to number awaited. record {
+        other = λ another. absurd (another awaited);
+        same = λ kept unread. queued_some v.queue (queued_text n text) unread;
+      };
       busy = λ number awaited. record { none = can.offer.answered; full = tt };
       settled = λ source idle. absurd (cc);
     }

@@ -7,9 +7,15 @@ use Rattle.leader1822.specs.declared.crossing.Answer.TheVariants as answer
 use Rattle.leader1822.specs.Mailboxes.{Box, Fits}
 use Rattle.link_table.specs.Numbers.{modulus, next, is_new, Near}
 use Rattle.link_table.proofs.lemmas.{near_next, near_old, near_same, next_in, not_next, two}
-use Rattle.flow_law.specs.View.{View, Packet, Queued, Kind}
+use Rattle.flow_law.specs.View.{View, Packet, Queued, is_request}
 use Rattle.flow_law.specs.Moves.{New, CanBegin, queued_text, next_number}
-use Rattle.flow_law.specs.Invariant.{Invariant, Begun, Carried, Gone}
+use Rattle.flow_law.specs.Invariant.{Invariant, Begun, Carried, Gone, Unnoted, Fated}
+
+fated_less : (v : View) (t s : Packet → Type 0) (number : ℕ) → ((x : Packet) → s x → t x) → Fated number v.kept v.fate v.queue v.box t → Fated number v.kept v.fate v.queue v.box s
+fated_less v t s number less k = record {
+  other = λ another. (let u : Unnoted number v.queue v.box t = k.other another in record { lost = u.lost; none = λ x sx. u.none x (less x sx) });
+  same = k.same;
+}
 
 pub invariant_less : {Piece : List Bool → Packet → Type 0} (v : View) (t s : Packet → Type 0) → ((x : Packet) → s x → t x) → Invariant Piece v t → Invariant Piece v s
 invariant_less v t s less h = record {
@@ -27,6 +33,7 @@ invariant_less v t s less h = record {
   dead = λ x sx kind awaited.
       (let g : Gone v.to_up v.kept v.queue v.box t = h.dead x (less x sx) kind awaited in
       record { waiting = g.waiting; unread = g.unread; none = λ y sy. g.none y (less y sy) });
+  fated = λ up number awaited. fated_less v t s number less (h.fated up number awaited);
   busy = h.busy;
   settled = h.settled;
 }
@@ -85,7 +92,7 @@ noted v t h x tx new y ty again = elim (cases_Bool v.from_up) [
       let last : v.last ≡ Some x.number = h.begun x.number (h.expected up x tx new) in
       let same : x.number ≡ w.begun = (let at : v.last ≡ Some w.begun = w.is in cc) in
       near_not_new v.to_up x.number w.begun y same w.near again)
-  | inr down ↦ near_not_new v.to_up x.number x.number y refl (h.orphaned down x y tx new ty again.data_packet) again
+  | inr down ↦ near_not_new v.to_up x.number x.number y refl (h.orphaned down x y tx new ty again.request) again
 ]
 
 -- the next number is a number
@@ -118,11 +125,11 @@ begun_itself v t h number other awaited same =
     let N : ℕ → Type 0 = λ n. Near number n in
     record { begun = number; is = last; near = subst N (sym same) (near_same number (h.range number last)) }
 
--- two data packets of one number are new together
-pub new_too : (up : Bool) (kept : Option ℕ) (x y : Packet) → New up kept x → y.kind ≡ Kind.Data → y.number ≡ x.number → New up kept y
+-- two requests of one number are new together
+pub new_too : (up : Bool) (kept : Option ℕ) (x y : Packet) → New up kept x → is_request y.kind ≡ true → y.number ≡ x.number → New up kept y
 new_too up kept x y new kind same = record {
   up = new.up;
-  data_packet = kind;
+  request = kind;
   new = ap (λ (n : ℕ). is_new kept n) same ∙ new.new;
 }
 

@@ -1,14 +1,16 @@
 -- Each machine that lacks a need breaks its mailbox.
-use Rattle.std.proofs.Common.{◌≡◌, ◌≢◌, ℕ, true, false, [], ◌∷◌, Some, None, inl, refl, sym, ◌∙◌, arith}
+use Rattle.std.proofs.Common.{◌≡◌, ◌≢◌, ℕ, Bool, true, false, [], ◌∷◌, Some, None, inl, refl, sym, ◌∙◌, subst, arith}
 use Rattle.std.specs.List.{Contains}
 use Rattle.leader1822.specs.Mailboxes.{Box}
-use Rattle.link_table.specs.Numbers.{modulus, window, oldest, is_new}
-use Rattle.flow_law.specs.View.{Packet, Kind}
-use Rattle.flow_law.specs.Moves.{NoData, next_number}
+use Rattle.link_table.specs.Numbers.{modulus, window, next, oldest, is_new, Near}
+use Rattle.link_table.proofs.lemmas.{near_same, not_next, two}
+use Rattle.flow_law.specs.View.{Packet, Kind, is_request}
+use Rattle.flow_law.specs.Moves.{next_number}
+use Rattle.flow_law.specs.Local.{answer_packet}
 use Rattle.flow_law.specs.Example.{first_text}
-use Rattle.flow_law.specs.Counterexamples.{Breaks, second_text, data_of, rfnm_of, dead_of, OffersDown, offers_down, NotIdle, not_idle, NotAnswered, not_answered, NotesNothing, notes_nothing, NotesAway, notes_away, NotesAnswers, notes_answers, NotesOld, notes_old, QueuesOld, queues_old, JoinsAny, joins_any, FreedByNothing, freed_by_nothing, FreedByAny, freed_by_any, FreedByData, freed_by_data, TakesNothing, takes_nothing, ToldNothing, told_nothing, TakesDown, takes_down, SourceStopsTwice, source_stops_twice, DestinationStopsTwice, destination_stops_twice, SourceStartsTwice, source_starts_twice, DestinationStartsTwice, destination_starts_twice, StartsAway, starts_away, StartsUnsettled, starts_unsettled, StartsAlive, starts_alive, StartsQueued, starts_queued, ReturnsAlive, returns_alive, ForgetsAlive, forgets_alive, GivesUpNothing, gives_up_nothing, GivesUpAlive, gives_up_alive, GivesUpQueued, gives_up_queued}
+use Rattle.flow_law.specs.Counterexamples.{Breaks, second_text, data_of, rfnm_of, dead_of, OffersDown, offers_down, NotIdle, not_idle, NotAnswered, not_answered, NotesNothing, notes_nothing, NotesAway, notes_away, NotesTaken, notes_taken, NotesOld, notes_old, QueuesOld, queues_old, JoinsAny, joins_any, FreedByNothing, freed_by_nothing, FreedByAny, freed_by_any, FreedByData, freed_by_data, TakesNothing, takes_nothing, ToldNothing, told_nothing, TakesDown, takes_down, SourceStopsTwice, source_stops_twice, DestinationStopsTwice, destination_stops_twice, SourceStartsTwice, source_starts_twice, DestinationStartsTwice, destination_starts_twice, StartsAway, starts_away, StartsUnsettled, starts_unsettled, StartsAlive, starts_alive, StartsQueued, starts_queued, ReturnsAlive, returns_alive, ForgetsAlive, forgets_alive, GivesUpNothing, gives_up_nothing, GivesUpAlive, gives_up_alive, GivesUpQueued, gives_up_queued}
 use Rattle.flow_law.proofs.Clauses.{none_there}
-use Rattle.flow_law.proofs.Left.{only, first_there, left_none, left_old, left_made}
+use Rattle.flow_law.proofs.Left.{only, first_there, second_there, left_none, left_old, left_made, left_both}
 use Rattle.flow_law.proofs.ExampleLemmas.{new_at_first}
 
 -- number 0 isn't the one that would leave the window after number 0
@@ -26,10 +28,18 @@ first_is_new : is_new None 0 ≡ true
 unfolding is_new
 first_is_new = refl
 
-answer_no_data : NoData (Contains (rfnm_of 0 ∷ []))
-answer_no_data x there data_packet =
-    let told : x.kind ≡ Kind.Rfnm = only (λ (y : Packet). y.kind ≡ Kind.Rfnm) (rfnm_of 0) x refl there in
+-- a packet that tells something is no request
+pub answer_only : (told : Kind) → is_request told ≡ false → (x : Packet) → Contains (answer_packet told 0 ∷ []) x → is_request x.kind ≡ true → ⊥
+answer_only told none x there request =
+    let kind : is_request x.kind ≡ false = only (λ (y : Packet). is_request y.kind ≡ false) (answer_packet told 0) x none there in
     absurd (cc)
+
+-- the second number isn't the first
+pub second_is_other : Some 0 ≢ Some (next_number (Some 0))
+second_is_other same =
+    let at : 0 ≡ next 0 = cc in
+    let N : ℕ → Type 0 = λ n. Near 0 n in
+    not_next 0 (subst N at (near_same 0 (omega (arith, two))))
 
 pub offers_down_breaks : Breaks OffersDown offers_down
 offers_down_breaks = record {
@@ -52,10 +62,13 @@ notes_nothing_breaks = record {
       (
         record { needs = record { there = first_there (dead_of 0) []; brings = tt; awaited = refl }; left = left_none _ _ },
         (
-          record { needs = record { offer = record { source = refl; idle = refl; answered = refl }; free = λ last is. absurd (cc) }; left = λ x there. inl there },
+          record { needs = record { offer = record { source = refl; idle = refl; answered = refl }; free = λ last is. absurd (cc); unkept = λ is. absurd (cc) }; left = λ x there. inl there },
           (
-            record { needs = new_at_first (data_of 0 first_text) refl; left = left_made _ _ (dead_of 0) (record { kind = refl; number = refl }) },
-            tt,
+            record { needs = record { no_request = answer_only Kind.Dead refl; idle = refl }; left = λ x there. inl there },
+            (
+              record { needs = (new_at_first (data_of 0 first_text) refl, tt); left = left_made _ _ (dead_of 0) (record { refusal = refl; number = refl }) },
+              tt,
+            ),
           ),
         ),
       ),
@@ -71,7 +84,7 @@ notes_away_breaks = record {
     (
       record { needs = record { there = first_there (dead_of 0) []; brings = tt; awaited = refl }; left = left_none _ _ },
       (
-        record { needs = (first_there (data_of 0 first_text) [], refl, first_is_new); left = left_made _ _ (dead_of 0) (record { kind = refl; number = refl }) },
+        record { needs = (first_there (data_of 0 first_text) [], refl, first_is_new, tt); left = left_made _ _ (dead_of 0) (record { refusal = refl; number = refl }) },
         (
           record { needs = tt; left = λ x there. inl there },
           (
@@ -79,7 +92,7 @@ notes_away_breaks = record {
             (
               record { needs = record { note = record { there = first_there (data_of 0 first_text) []; new = new_at_first (data_of 0 first_text) refl }; joined = λ whole all. all (data_of 0 first_text) (first_there (data_of 0 first_text) []) refl refl }; left = λ x there. inl there },
               (
-                record { needs = record { offer = record { source = refl; idle = refl; answered = refl }; free = λ last is. absurd (cc) }; left = left_made _ _ (data_of 0 first_text) (record { data_packet = refl; number = refl; piece = refl }) },
+                record { needs = record { offer = record { source = refl; idle = refl; answered = refl }; free = λ last is. absurd (cc); unkept = λ is. absurd (cc) }; left = left_made _ _ (data_of 0 first_text) (record { data_packet = refl; number = refl; piece = refl }) },
                 tt,
               ),
             ),
@@ -91,22 +104,19 @@ notes_away_breaks = record {
   broken = λ run. absurd run.0.1;
 }
 
-pub notes_answers_breaks : Breaks NotesAnswers notes_answers
-notes_answers_breaks = record {
+pub notes_taken_breaks : Breaks NotesTaken notes_taken
+notes_taken_breaks = record {
   history = (
     record { needs = refl; left = left_none _ _ },
     (
-      record { needs = record { there = first_there (dead_of 0) []; brings = tt; awaited = refl }; left = left_none _ _ },
+      record { needs = record { there = first_there (rfnm_of 0) []; brings = tt; awaited = refl }; left = left_none _ _ },
       (
-        record { needs = (first_there (rfnm_of 0) [], refl, first_is_new); left = left_made _ _ (dead_of 0) (record { kind = refl; number = refl }) },
+        record { needs = record { up = refl; there = first_there (data_of 0 first_text) []; kept = refl; tells = refl }; left = left_made _ _ (rfnm_of 0) (record { kind = refl; number = refl }) },
         (
-          record { needs = answer_no_data; left = λ x there. inl there },
+          record { needs = record { there = first_there (data_of 0 first_text) []; new = new_at_first (data_of 0 first_text) refl }; left = λ x there. inl there },
           (
-            record { needs = record { destination = refl; waits = refl }; left = left_made _ _ (rfnm_of 0) (record { kind = refl; number = refl }) },
-            (
-              record { needs = record { offer = record { source = refl; idle = refl; answered = refl }; free = λ last is. absurd (cc) }; left = λ x there. inl there },
-              tt,
-            ),
+            record { needs = record { offer = record { source = refl; idle = refl; answered = refl }; free = λ last is. absurd (cc); unkept = λ is. absurd (cc) }; left = left_made _ _ (data_of 0 first_text) (record { data_packet = refl; number = refl; piece = refl }) },
+            tt,
           ),
         ),
       ),
@@ -122,7 +132,7 @@ freed_by_nothing_breaks = record {
     (
       record { needs = (tt, refl); left = left_none _ _ },
       (
-        record { needs = record { offer = record { source = refl; idle = refl; answered = refl }; free = λ last is. absurd (cc) }; left = left_made _ _ (data_of 0 first_text) (record { data_packet = refl; number = refl; piece = refl }) },
+        record { needs = record { offer = record { source = refl; idle = refl; answered = refl }; free = λ last is. absurd (cc); unkept = λ is. absurd (cc) }; left = left_made _ _ (data_of 0 first_text) (record { data_packet = refl; number = refl; piece = refl }) },
         tt,
       ),
     ),
@@ -205,9 +215,9 @@ gives_up_nothing_breaks = record {
 pub not_idle_breaks : Breaks NotIdle not_idle
 not_idle_breaks = record {
   history = (
-    record { needs = (refl, refl, zero_is_near (data_of 0 first_text) refl); left = left_none _ _ },
+    record { needs = (refl, refl, zero_is_near (data_of 0 first_text) refl, λ is. absurd (cc)); left = left_none _ _ },
     (
-      record { needs = (refl, refl, λ last is. absurd (cc)); left = left_made _ _ (data_of 0 first_text) (record { data_packet = refl; number = refl; piece = refl }) },
+      record { needs = (refl, refl, λ last is. absurd (cc), λ is. absurd (cc)); left = left_made _ _ (data_of 0 first_text) (record { data_packet = refl; number = refl; piece = refl }) },
       tt,
     ),
   );
@@ -235,11 +245,11 @@ notes_old_breaks = record {
       (
         record { needs = record { there = first_there (dead_of 0) []; brings = tt; awaited = refl }; left = left_none _ _ },
         (
-          record { needs = (first_there (data_of 0 first_text) [], refl, refl); left = left_made _ _ (dead_of 0) (record { kind = refl; number = refl }) },
+          record { needs = (first_there (data_of 0 first_text) [], refl, refl, tt); left = left_made _ _ (dead_of 0) (record { refusal = refl; number = refl }) },
           (
             record { needs = record { note = record { there = first_there (data_of 0 first_text) []; new = new_at_first (data_of 0 first_text) refl }; joined = λ whole all. all (data_of 0 first_text) (first_there (data_of 0 first_text) []) refl refl }; left = λ x there. inl there },
             (
-              record { needs = record { offer = record { source = refl; idle = refl; answered = refl }; free = λ last is. absurd (cc) }; left = left_made _ _ (data_of 0 first_text) (record { data_packet = refl; number = refl; piece = refl }) },
+              record { needs = record { offer = record { source = refl; idle = refl; answered = refl }; free = λ last is. absurd (cc); unkept = λ is. absurd (cc) }; left = left_made _ _ (data_of 0 first_text) (record { data_packet = refl; number = refl; piece = refl }) },
               tt,
             ),
           ),
@@ -261,7 +271,7 @@ queues_old_breaks = record {
         (
           record { needs = (first_there (data_of 0 first_text) [], refl, refl, λ whole all. all (data_of 0 first_text) (first_there (data_of 0 first_text) []) refl refl); left = λ x there. inl there },
           (
-            record { needs = record { offer = record { source = refl; idle = refl; answered = refl }; free = λ last is. absurd (cc) }; left = left_made _ _ (data_of 0 first_text) (record { data_packet = refl; number = refl; piece = refl }) },
+            record { needs = record { offer = record { source = refl; idle = refl; answered = refl }; free = λ last is. absurd (cc); unkept = λ is. absurd (cc) }; left = left_made _ _ (data_of 0 first_text) (record { data_packet = refl; number = refl; piece = refl }) },
             tt,
           ),
         ),
@@ -278,7 +288,7 @@ joins_any_breaks = record {
     (
       record { needs = record { there = first_there (data_of 0 first_text) []; new = new_at_first (data_of 0 first_text) refl }; left = left_none _ _ },
       (
-        record { needs = record { offer = record { source = refl; idle = refl; answered = refl }; free = λ last is. absurd (cc) }; left = left_made _ _ (data_of 0 first_text) (record { data_packet = refl; number = refl; piece = refl }) },
+        record { needs = record { offer = record { source = refl; idle = refl; answered = refl }; free = λ last is. absurd (cc); unkept = λ is. absurd (cc) }; left = left_made _ _ (data_of 0 first_text) (record { data_packet = refl; number = refl; piece = refl }) },
         tt,
       ),
     ),
@@ -293,7 +303,7 @@ freed_by_any_breaks = record {
     (
       record { needs = (next_number (Some 0), first_there (rfnm_of 0) [], tt, refl); left = left_none _ _ },
       (
-        record { needs = record { offer = record { source = refl; idle = refl; answered = refl }; free = zero_is_near (rfnm_of 0) refl }; left = left_old _ _ (rfnm_of 0) (first_there (rfnm_of 0) []) },
+        record { needs = record { offer = record { source = refl; idle = refl; answered = refl }; free = zero_is_near (rfnm_of 0) refl; unkept = second_is_other }; left = left_old _ _ (rfnm_of 0) (first_there (rfnm_of 0) []) },
         (
           record { needs = refl; left = λ x there. inl there },
           (
@@ -301,7 +311,7 @@ freed_by_any_breaks = record {
             (
               record { needs = record { destination = refl; waits = refl }; left = left_made _ _ (rfnm_of 0) (record { kind = refl; number = refl }) },
               (
-                record { needs = record { offer = record { source = refl; idle = refl; answered = refl }; free = λ last is. absurd (cc) }; left = λ x there. inl there },
+                record { needs = record { offer = record { source = refl; idle = refl; answered = refl }; free = λ last is. absurd (cc); unkept = λ is. absurd (cc) }; left = λ x there. inl there },
                 tt,
               ),
             ),
@@ -320,7 +330,7 @@ freed_by_data_breaks = record {
     (
       record { needs = (first_there (data_of 0 first_text) [], refl); left = left_none _ _ },
       (
-        record { needs = record { offer = record { source = refl; idle = refl; answered = refl }; free = λ last is. absurd (cc) }; left = left_made _ _ (data_of 0 first_text) (record { data_packet = refl; number = refl; piece = refl }) },
+        record { needs = record { offer = record { source = refl; idle = refl; answered = refl }; free = λ last is. absurd (cc); unkept = λ is. absurd (cc) }; left = left_made _ _ (data_of 0 first_text) (record { data_packet = refl; number = refl; piece = refl }) },
         tt,
       ),
     ),
@@ -333,7 +343,7 @@ takes_down_breaks = record {
   history = (
     record { needs = refl; left = left_none _ _ },
     (
-      record { needs = record { offer = record { source = refl; idle = refl; answered = refl }; free = λ last is. absurd (cc) }; left = λ x there. inl there },
+      record { needs = record { offer = record { source = refl; idle = refl; answered = refl }; free = λ last is. absurd (cc); unkept = λ is. absurd (cc) }; left = λ x there. inl there },
       (
         record { needs = refl; left = left_none _ _ },
         tt,
@@ -352,7 +362,7 @@ starts_away_breaks = record {
       (
         record { needs = tt; left = λ x there. inl there },
         (
-          record { needs = record { offer = record { source = refl; idle = refl; answered = refl }; free = λ last is. absurd (cc) }; left = λ x there. inl there },
+          record { needs = record { offer = record { source = refl; idle = refl; answered = refl }; free = λ last is. absurd (cc); unkept = λ is. absurd (cc) }; left = λ x there. inl there },
           tt,
         ),
       ),
@@ -370,7 +380,7 @@ starts_unsettled_breaks = record {
       (
         record { needs = refl; left = λ x there. inl there },
         (
-          record { needs = record { offer = record { source = refl; idle = refl; answered = refl }; free = λ last is. absurd (cc) }; left = λ x there. inl there },
+          record { needs = record { offer = record { source = refl; idle = refl; answered = refl }; free = λ last is. absurd (cc); unkept = λ is. absurd (cc) }; left = λ x there. inl there },
           tt,
         ),
       ),
@@ -392,7 +402,7 @@ starts_alive_breaks = record {
           (
             record { needs = tt; left = λ x there. inl there },
             (
-              record { needs = record { offer = record { source = refl; idle = refl; answered = refl }; free = λ last is. absurd (cc) }; left = left_made _ _ (data_of 0 first_text) (record { data_packet = refl; number = refl; piece = refl }) },
+              record { needs = record { offer = record { source = refl; idle = refl; answered = refl }; free = λ last is. absurd (cc); unkept = λ is. absurd (cc) }; left = left_made _ _ (data_of 0 first_text) (record { data_packet = refl; number = refl; piece = refl }) },
               tt,
             ),
           ),
@@ -414,7 +424,7 @@ starts_queued_breaks = record {
         (
           record { needs = tt; left = λ x there. inl there },
           (
-            record { needs = record { offer = record { source = refl; idle = refl; answered = refl }; free = λ last is. absurd (cc) }; left = λ x there. inl there },
+            record { needs = record { offer = record { source = refl; idle = refl; answered = refl }; free = λ last is. absurd (cc); unkept = λ is. absurd (cc) }; left = λ x there. inl there },
             tt,
           ),
         ),
@@ -431,18 +441,21 @@ returns_alive_breaks = record {
     (
       record { needs = record { note = record { there = first_there (data_of 0 first_text) []; new = new_at_first (data_of 0 first_text) refl }; joined = λ whole all. all (data_of 0 first_text) (first_there (data_of 0 first_text) []) refl refl }; left = left_none _ _ },
       (
-        record { needs = tt; left = λ x there. inl there },
+        record { needs = refl; left = λ x there. inl there },
         (
           record { needs = refl; left = λ x there. inl there },
           (
             record { needs = tt; left = λ x there. inl there },
             (
-              record { needs = record { destination = refl; waits = refl }; left = left_old _ _ (data_of 0 first_text) (first_there (data_of 0 first_text) []) },
+              record { needs = record { there = first_there (rfnm_of 0) (data_of 0 first_text ∷ []); brings = tt; awaited = refl }; left = left_old _ _ (data_of 0 first_text) (second_there (rfnm_of 0) (data_of 0 first_text) []) },
               (
-                record { needs = record { note = record { there = first_there (data_of 0 first_text) []; new = new_at_first (data_of 0 first_text) refl }; joined = λ whole all. all (data_of 0 first_text) (first_there (data_of 0 first_text) []) refl refl }; left = λ x there. inl there },
+                record { needs = record { destination = refl; waits = refl }; left = left_both _ _ (rfnm_of 0) (data_of 0 first_text) (record { kind = refl; number = refl }) (first_there (data_of 0 first_text) []) },
                 (
-                  record { needs = record { offer = record { source = refl; idle = refl; answered = refl }; free = λ last is. absurd (cc) }; left = left_made _ _ (data_of 0 first_text) (record { data_packet = refl; number = refl; piece = refl }) },
-                  tt,
+                  record { needs = record { note = record { there = first_there (data_of 0 first_text) []; new = new_at_first (data_of 0 first_text) refl }; joined = λ whole all. all (data_of 0 first_text) (first_there (data_of 0 first_text) []) refl refl }; left = λ x there. inl there },
+                  (
+                    record { needs = record { offer = record { source = refl; idle = refl; answered = refl }; free = λ last is. absurd (cc); unkept = λ is. absurd (cc) }; left = left_made _ _ (data_of 0 first_text) (record { data_packet = refl; number = refl; piece = refl }) },
+                    tt,
+                  ),
                 ),
               ),
             ),
@@ -461,14 +474,17 @@ forgets_alive_breaks = record {
     (
       record { needs = record { note = record { there = first_there (data_of 0 first_text) []; new = new_at_first (data_of 0 first_text) refl }; joined = λ whole all. all (data_of 0 first_text) (first_there (data_of 0 first_text) []) refl refl }; left = left_none _ _ },
       (
-        record { needs = tt; left = λ x there. inl there },
+        record { needs = refl; left = λ x there. inl there },
         (
-          record { needs = record { destination = refl; waits = refl }; left = left_old _ _ (data_of 0 first_text) (first_there (data_of 0 first_text) []) },
+          record { needs = record { there = first_there (rfnm_of 0) (data_of 0 first_text ∷ []); brings = tt; awaited = refl }; left = left_old _ _ (data_of 0 first_text) (second_there (rfnm_of 0) (data_of 0 first_text) []) },
           (
-            record { needs = record { note = record { there = first_there (data_of 0 first_text) []; new = new_at_first (data_of 0 first_text) refl }; joined = λ whole all. all (data_of 0 first_text) (first_there (data_of 0 first_text) []) refl refl }; left = λ x there. inl there },
+            record { needs = record { destination = refl; waits = refl }; left = left_both _ _ (rfnm_of 0) (data_of 0 first_text) (record { kind = refl; number = refl }) (first_there (data_of 0 first_text) []) },
             (
-              record { needs = record { offer = record { source = refl; idle = refl; answered = refl }; free = λ last is. absurd (cc) }; left = left_made _ _ (data_of 0 first_text) (record { data_packet = refl; number = refl; piece = refl }) },
-              tt,
+              record { needs = record { note = record { there = first_there (data_of 0 first_text) []; new = new_at_first (data_of 0 first_text) refl }; joined = λ whole all. all (data_of 0 first_text) (first_there (data_of 0 first_text) []) refl refl }; left = λ x there. inl there },
+              (
+                record { needs = record { offer = record { source = refl; idle = refl; answered = refl }; free = λ last is. absurd (cc); unkept = λ is. absurd (cc) }; left = left_made _ _ (data_of 0 first_text) (record { data_packet = refl; number = refl; piece = refl }) },
+                tt,
+              ),
             ),
           ),
         ),
@@ -489,7 +505,7 @@ gives_up_alive_breaks = record {
         (
           record { needs = (refl, λ q there same. none_there q there); left = λ x there. inl there },
           (
-            record { needs = record { offer = record { source = refl; idle = refl; answered = refl }; free = λ last is. absurd (cc) }; left = left_made _ _ (data_of 0 first_text) (record { data_packet = refl; number = refl; piece = refl }) },
+            record { needs = record { offer = record { source = refl; idle = refl; answered = refl }; free = λ last is. absurd (cc); unkept = λ is. absurd (cc) }; left = left_made _ _ (data_of 0 first_text) (record { data_packet = refl; number = refl; piece = refl }) },
             tt,
           ),
         ),
@@ -508,7 +524,7 @@ gives_up_queued_breaks = record {
       (
         record { needs = (refl, λ x there kind same. none_there x there); left = λ x there. inl there },
         (
-          record { needs = record { offer = record { source = refl; idle = refl; answered = refl }; free = λ last is. absurd (cc) }; left = λ x there. inl there },
+          record { needs = record { offer = record { source = refl; idle = refl; answered = refl }; free = λ last is. absurd (cc); unkept = λ is. absurd (cc) }; left = λ x there. inl there },
           tt,
         ),
       ),

@@ -1,16 +1,16 @@
 -- The worked history is one.
 use Rattle.std.proofs.Common.{◌≡◌, true, [], ◌∷◌, None, inl, refl}
 use Rattle.link_table.specs.Numbers.{is_new}
-use Rattle.flow_law.specs.View.{Packet, Kind}
+use Rattle.flow_law.specs.View.{Packet, Kind, is_request}
 use Rattle.flow_law.specs.Moves.{New}
 use Rattle.flow_law.specs.Runs.{IsHistory}
 use Rattle.flow_law.specs.Example.{at_first, worked, data_packet, rfnm, InOnePacket}
 use Rattle.flow_law.proofs.Left.{first_there, second_there, left_old, left_made, left_both}
 
--- where nothing was noted all data is new
-pub new_at_first : (x : Packet) → x.kind ≡ Kind.Data → New true None x
+-- where nothing was noted each request is new
+pub new_at_first : (x : Packet) → is_request x.kind ≡ true → New true None x
 unfolding is_new
-new_at_first x kind = record { up = refl; data_packet = kind; new = refl }
+new_at_first x kind = record { up = refl; request = kind; new = refl }
 
 pub worked_history : IsHistory InOnePacket at_first worked
 worked_history = (
@@ -22,7 +22,7 @@ worked_history = (
       (
         record { needs = record { note = record { there = first_there data_packet []; new = new_at_first data_packet refl }; joined = λ whole all. all data_packet (first_there data_packet []) refl refl }; left = λ x there. inl there },
         (
-          record { needs = record { offer = record { source = refl; idle = refl; answered = refl }; free = λ last is. absurd (cc) }; left = left_made _ _ data_packet (record { data_packet = refl; number = refl; piece = refl }) },
+          record { needs = record { offer = record { source = refl; idle = refl; answered = refl }; free = λ last is. absurd (cc); unkept = λ is. absurd (cc) }; left = left_made _ _ data_packet (record { data_packet = refl; number = refl; piece = refl }) },
           tt,
         ),
       ),

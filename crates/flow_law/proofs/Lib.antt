@@ -2,6 +2,7 @@ pub mod Clauses
 pub mod Begins
 pub mod Arrivals
 pub mod Stops
+pub mod Asking
 pub mod AllMoves
 pub mod RunLemmas
 pub mod FollowLemmas
@@ -9,6 +10,7 @@ pub mod LocalLemmas
 pub mod Left
 pub mod ExampleLemmas
 pub mod CounterexampleLemmas
+pub mod QuestionLemmas
 pub mod RoundLemmas
 pub mod StepLemmas
 pub mod lemmas

@@ -28,7 +28,7 @@ queued_alone v t oldest others h waits = elim h.waiting [
 ]
 
 pub take_here : {Piece : List Bool → Packet → Type 0} (v : View) (t : Packet → Type 0) (oldest : Queued) (others : List Queued) → CanTakeMessage v oldest others
-    → v.outstanding ≡ Some oldest.number → Follows Piece (taken_here oldest others) v (view_taken_here others v) t t
+    → v.outstanding ≡ Some oldest.number → Follows Piece (taken_here oldest others) v (view_taken_here oldest others v) t t
 take_here v t oldest others can awaited = record {
   needs = (record { there = inr (record { kind = refl; number = refl }); brings = tt; awaited = awaited }, (can, tt));
   view = refl;

@@ -1,11 +1,14 @@
 -- Hosts go down and come up, and so do their IMPs.
-use Rattle.std.proofs.Common.{◌≡◌, ℕ, Bool, true, false, List, [], ◌∷◌, Option, Some, None, inl, inr, refl, ◌∙◌, subst}
+use Rattle.std.proofs.Common.{◌≡◌, ℕ, Bool, true, false, List, [], ◌∷◌, Option, Some, None, inl, inr, refl, ap, sym, ◌∙◌, subst, eq-eqb, if◌then◌else◌}
 use Rattle.std.proofs.lemmas.Bool.{cases_Bool}
 use Rattle.link_table.specs.Numbers.{Near}
-use Rattle.flow_law.specs.View.{View, Packet, Kind}
-use Rattle.flow_law.specs.Moves.{Move, New, CanStartSource, CanStartFrom, NoData, IsDeadOf, Either, queued_text, view_moved}
-use Rattle.flow_law.specs.Invariant.{Invariant, Begun, Carried, Held, Gone}
+use Rattle.link_table.specs.declared.destination.Fate.{Fate}
+use Rattle.link_table.specs.declared.destination.Fate.TheVariants as fate
+use Rattle.flow_law.specs.View.{View, Packet, Queued, Kind, is_request, is_refusal}
+use Rattle.flow_law.specs.Moves.{Move, New, CanStartSource, CanStartFrom, CanForget, IsDeadOf, Either, queued_text, view_moved, with_fate, with_fates}
+use Rattle.flow_law.specs.Invariant.{Invariant, Begun, Carried, Held, Gone, Unnoted, Lost, FateSays, Fated}
 use Rattle.flow_law.proofs.Clauses.{invariant_less, idle_new, idle_queue, dead_fits, begun_itself, number_of, none_in}
+use Rattle.flow_law.proofs.Arrivals.{refusal_asks_not}
 
 pub stop_source : {Piece : List Bool → Packet → Type 0} (v : View) (t : Packet → Type 0) → Invariant Piece v t → Invariant Piece (view_moved Move.StopSource v) t
 stop_source v t h = record {
@@ -21,6 +24,7 @@ stop_source v t h = record {
   waiting = h.waiting;
   taken = h.taken;
   dead = h.dead;
+  fated = h.fated;
   busy = λ n awaited. record { none = refl; full = (h.busy n awaited).full };
   settled = λ up idle. absurd (cc);
 }
@@ -41,9 +45,30 @@ start_source v t can h =
       waiting = inl (idle_queue v t h can.from_up idle);
       taken = λ x tx kind awaited. absurd (cc);
       dead = λ x tx kind awaited. absurd (cc);
+      fated = λ to n awaited. absurd (cc);
       busy = λ n awaited. absurd (cc);
       settled = λ up none. inl (record { none = h.away can.down; empty = refl });
     }
+
+-- no fate changes where no message is queued
+same_fate : (kept : Option ℕ) (queue : List Queued) (old : Fate) → queue ≡ [] → with_fates kept queue fate.Dead old ≡ old
+same_fate kept [] old none = refl
+same_fate kept (q ∷ queue) old none = absurd (cc)
+
+unread_fated : (v : View) (t : Packet → Type 0) (number : ℕ) → v.queue ≡ [] → Fated number v.kept v.fate v.queue v.box t → Fated number v.kept (with_fates v.kept v.queue fate.Dead v.fate) [] v.box t
+unread_fated v t number none k =
+    let says : v.kept ≡ Some number → FateSays v.fate [] v.box = λ kept. subst (λ (queue : List Queued). FateSays v.fate queue v.box) none (k.same kept) in
+    record {
+      other = λ another. (let u : Unnoted number v.queue v.box t = k.other another in record { lost = record { waiting = u.lost.waiting; unread = refl }; none = u.none });
+      same = λ kept. subst (λ (new : Fate). FateSays new [] v.box) (sym (same_fate v.kept v.queue v.fate none)) (says kept);
+    }
+
+-- the fate of the one message that is queued is Dead, if its number is kept
+dead_fate : (kept : Option ℕ) (queue : List Queued) (q : Queued) (n : ℕ) (old : Fate) → queue ≡ q ∷ [] → kept ≡ Some n → n ≡ q.number → with_fates kept queue fate.Dead old ≡ fate.Dead
+dead_fate kept queue q n old one is same = ap (λ (queue : List Queued). with_fates kept queue fate.Dead old) one ∙ by kept is where
+  by : (kept : Option ℕ) → kept ≡ Some n → with_fate kept q.number fate.Dead old ≡ fate.Dead
+  by None is = absurd (cc)
+  by (Some k) is = ap (λ (b : Bool). if b then fate.Dead else old) (eq-eqb k q.number (let at : k ≡ n = cc in at ∙ same))
 
 -- the destination goes down while no message is queued
 stop_unread : {Piece : List Bool → Packet → Type 0} (v : View) (t : Packet → Type 0) → v.queue ≡ [] → Invariant Piece v t
@@ -63,6 +88,7 @@ stop_unread {Piece} v t none h = record {
   taken = h.taken;
   dead = λ y ty kind awaited. (let g : Gone v.to_up v.kept v.queue v.box t = h.dead y ty kind awaited in
       record { waiting = g.waiting; unread = refl; none = g.none });
+  fated = λ to number awaited. unread_fated v t number none (h.fated to number awaited);
   busy = h.busy;
   settled = h.settled;
 }
@@ -74,7 +100,7 @@ stop_held {Piece} v t held h =
     let one : v.queue ≡ queued_text held.number held.text ∷ [] = held.one in
     let old : (y : Packet) → Either t (IsDeadOf v.queue) y → New v.to_up v.kept y → ⊥ = λ y there new. elim there [
       | inl ty ↦ (let c : Carried Piece v.box v.queue y = h.carried y ty new in let unread : v.queue ≡ [] = c.unread in absurd (cc))
-      | inr made ↦ (let told : y.kind ≡ Kind.Dead = made.kind in let data_packet : y.kind ≡ Kind.Data = new.data_packet in absurd (cc))
+      | inr made ↦ refusal_asks_not y.kind (ap is_refusal made.kind) new.request
     ] in
     record {
       range = h.range;
@@ -95,6 +121,15 @@ stop_held {Piece} v t held h =
         | inr made ↦ (let told : y.kind ≡ Kind.Dead = made.kind in absurd (cc))
       ];
       dead = λ y there kind awaited. record { waiting = dead_fits v.box held.place held.text held.waits; unread = refl; none = old };
+      fated = λ to n awaited.
+          (let k : Fated n v.kept v.fate v.queue v.box t = h.fated to n awaited in
+          let here : v.outstanding ≡ Some held.number = held.awaited (h.sender n awaited) in
+          let at : n ≡ held.number = cc in
+          let lost : Lost [] v.box = record { waiting = dead_fits v.box held.place held.text held.waits; unread = refl } in
+          record {
+            other = λ another. (let unread : v.queue ≡ [] = (k.other another).lost.unread in absurd (cc));
+            same = λ kept. subst (λ (new : Fate). FateSays new [] v.box) (sym (dead_fate v.kept v.queue (queued_text held.number held.text) n v.fate one kept at)) lost;
+          });
       busy = h.busy;
       settled = h.settled;
     }
@@ -123,14 +158,15 @@ start_destination v t h = record {
   waiting = h.waiting;
   taken = h.taken;
   dead = h.dead;
+  fated = h.fated;
   busy = h.busy;
   settled = h.settled;
 }
 
 -- ---- IMPs
 
--- new data, where the numbers of the source's IMP are lost
-lost : {Piece : List Bool → Packet → Type 0} (v : View) (t : Packet → Type 0) → Invariant Piece v t → (x y : Packet) → t x → New v.to_up v.kept x → t y → y.kind ≡ Kind.Data
+-- a new request, where the numbers of the source's IMP are lost
+lost : {Piece : List Bool → Packet → Type 0} (v : View) (t : Packet → Type 0) → Invariant Piece v t → (x y : Packet) → t x → New v.to_up v.kept x → t y → is_request y.kind ≡ true
     → Near x.number y.number
 lost v t h x y tx new ty kind = elim (cases_Bool v.from_up) [
   | inl up ↦ (let w : Begun v.last y.number = h.window up y ty in
@@ -159,6 +195,7 @@ stop_from v t h = record {
   ];
   taken = λ x tx kind none. absurd (cc);
   dead = λ x tx kind none. absurd (cc);
+  fated = λ to n none. absurd (cc);
   busy = λ n none. absurd (cc);
   settled = λ up idle. absurd (cc);
 }
@@ -177,6 +214,7 @@ start_from v t can h = record {
   waiting = inl can.unread;
   taken = h.taken;
   dead = h.dead;
+  fated = h.fated;
   busy = h.busy;
   settled = h.settled;
 }
@@ -198,15 +236,17 @@ stop_to v t h =
       taken = h.taken;
       dead = λ x tx kind awaited. (let g : Gone v.to_up v.kept v.queue v.box t = h.dead x tx kind awaited in
           record { waiting = g.waiting; unread = refl; none = λ y ty new. old y new });
+      fated = λ to n awaited. absurd (cc);
       busy = h.busy;
       settled = h.settled;
     }
 
--- with no data alive the destination's IMP may come up, and may keep any number or none
-pub without_data : {Piece : List Bool → Packet → Type 0} (v : View) (t : Packet → Type 0) (to_up : Bool) (kept : Option ℕ) → NoData t → Invariant Piece v t
-    → Invariant Piece (record v { to_up = to_up; kept = kept }) t
-without_data v t to_up kept none h =
-    let old : (x : Packet) → t x → New to_up kept x → ⊥ = λ x tx new. none x tx new.data_packet in
+-- with no request alive and nothing outstanding the destination's IMP may come up, and may keep any number or none
+pub unasked : {Piece : List Bool → Packet → Type 0} (v : View) (t : Packet → Type 0) (to_up : Bool) (kept : Option ℕ) (new : Fate) → CanForget v t → Invariant Piece v t
+    → Invariant Piece (record v { to_up = to_up; kept = kept; fate = new }) t
+unasked v t to_up kept new_fate can h =
+    let idle : v.outstanding ≡ None = can.idle in
+    let old : (x : Packet) → t x → New to_up kept x → ⊥ = λ x tx new. can.no_request x tx new.request in
     record {
       range = h.range;
       begun = h.begun;
@@ -221,6 +261,7 @@ without_data v t to_up kept none h =
       taken = h.taken;
       dead = λ x tx kind awaited. (let g : Gone v.to_up v.kept v.queue v.box t = h.dead x tx kind awaited in
           record { waiting = g.waiting; unread = g.unread; none = old });
+      fated = λ to n awaited. absurd (cc);
       busy = h.busy;
       settled = h.settled;
     }

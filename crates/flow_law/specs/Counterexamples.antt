@@ -1,12 +1,13 @@
 -- Counterexamples: machines that lack one need of one move each, and for each a history that is no run of the mailbox.
--- The law of a flow does not rest on them. They show that it asks for no more than it needs.
-use Rattle.std.specs.Prelude.{◌≡◌, ℕ, zero, suc, ◌-◌, Bool, true, false, List, [], ◌∷◌, Some, None}
+-- The law of a flow does not rest on them. They show which of its needs keep the mailbox.
+use Rattle.std.specs.Prelude.{◌≡◌, ◌≢◌, ℕ, zero, suc, ◌-◌, Bool, true, false, List, [], ◌∷◌, Some, None}
 use Rattle.std.specs.List.{Contains}
 use Rattle.leader1822.specs.declared.crossing.Answer.TheVariants as answer
 use Rattle.leader1822.specs.Mailboxes.{IsFlowRun}
 use Rattle.link_table.specs.Numbers.{modulus, window, is_new}
-use Rattle.flow_law.specs.View.{View, Packet, Queued, Kind, mail_now}
-use Rattle.flow_law.specs.Moves.{Move, Needs, New, CanOffer, CanNote, Brings, NumberFree, Joined, queued_text}
+use Rattle.link_table.specs.declared.destination.Fate.TheVariants as fate
+use Rattle.flow_law.specs.View.{View, Packet, Queued, Kind, is_request, mail_now}
+use Rattle.flow_law.specs.Moves.{Move, Needs, New, CanOffer, CanNote, Brings, IsLost, Tells, NumberFree, Joined, next_number, queued_text}
 use Rattle.flow_law.specs.Runs.{FlowTurn, IsHistoryBy, seen_in}
 use Rattle.flow_law.specs.Local.{answer_packet}
 use Rattle.flow_law.specs.Example.{at_first, first_text, InOnePacket}
@@ -37,6 +38,10 @@ rfnm_of = answer_packet Kind.Rfnm
 abbrev pub dead_of : ℕ → Packet
 dead_of = answer_packet Kind.Dead
 
+-- a question about the message of this number
+abbrev pub ask_of : ℕ → Packet
+ask_of = answer_packet Kind.Ask
+
 -- the first message, and its packet
 abbrev pub begun : FlowTurn
 begun = turn (Move.Begin 0 first_text) (data_of 0 first_text ∷ [])
@@ -64,7 +69,7 @@ offers_down = turn (Move.DeadNow 0 first_text) [] ∷ turn Move.StopSource [] �
 
 -- a message is begun while another is outstanding
 abbrev pub NotIdle : Machine
-NotIdle (Move.Begin place text) v alive = (v.source ≡ true) × (v.answers ≡ []) × NumberFree v alive
+NotIdle (Move.Begin place text) v alive = (v.source ≡ true) × (v.answers ≡ []) × NumberFree v alive × (v.kept ≢ Some (next_number v.last))
 NotIdle m v alive = Needs InOnePacket m v alive
 
 abbrev pub not_idle : List FlowTurn
@@ -80,7 +85,7 @@ not_answered = turn (Move.DeadNow 1 first_text) [] ∷ turn (Move.DeadNow 0 firs
 
 -- a number is begun without looking at what is alive
 abbrev pub AnyNumber : Machine
-AnyNumber (Move.Begin place text) v alive = CanOffer v
+AnyNumber (Move.Begin place text) v alive = CanOffer v × (v.kept ≢ Some (next_number v.last))
 AnyNumber m v alive = Needs InOnePacket m v alive
 
 -- each message from 0 to n is noted without being taken and answered by Dead, while a copy of the first one's packet stays
@@ -88,13 +93,13 @@ unfoldable pub rounds : ℕ → List FlowTurn
 rounds zero =
     turn (Move.TakeAnswer answer.Dead []) (data_of 0 first_text ∷ [])
     ∷ turn (Move.Freed (dead_of 0) answer.Dead) (data_of 0 first_text ∷ [])
-    ∷ turn (Move.NoteGone (data_of 0 first_text)) (dead_of 0 ∷ data_of 0 first_text ∷ [])
+    ∷ turn (Move.NoteGone (data_of 0 first_text) fate.Dead) (dead_of 0 ∷ data_of 0 first_text ∷ [])
     ∷ begun
     ∷ []
 rounds (suc n) =
     turn (Move.TakeAnswer answer.Dead []) (data_of 0 first_text ∷ [])
     ∷ turn (Move.Freed (dead_of (suc n)) answer.Dead) (data_of 0 first_text ∷ [])
-    ∷ turn (Move.NoteGone (data_of (suc n) second_text)) (dead_of (suc n) ∷ data_of 0 first_text ∷ [])
+    ∷ turn (Move.NoteGone (data_of (suc n) second_text) fate.Dead) (dead_of (suc n) ∷ data_of 0 first_text ∷ [])
     ∷ turn (Move.Begin 0 second_text) (data_of (suc n) second_text ∷ data_of 0 first_text ∷ [])
     ∷ rounds n
 
@@ -103,7 +108,7 @@ abbrev pub outlived : ℕ → List FlowTurn
 outlived n =
     taken_turn []
     ∷ turn (Move.Whole (data_of 0 first_text) first_text) []
-    ∷ turn (Move.NoteGone (data_of (suc n) second_text)) (data_of 0 first_text ∷ [])
+    ∷ turn (Move.NoteGone (data_of (suc n) second_text) fate.Dead) (data_of 0 first_text ∷ [])
     ∷ turn (Move.Begin 0 second_text) (data_of (suc n) second_text ∷ data_of 0 first_text ∷ [])
     ∷ rounds n
 
@@ -114,11 +119,43 @@ before_new_again = modulus - window - 1
 abbrev pub any_number : List FlowTurn
 any_number = outlived before_new_again
 
+-- a number is begun that is the one noted last
+abbrev pub BeginsKept : Machine
+BeginsKept (Move.Begin place text) v alive = CanOffer v × NumberFree v alive
+BeginsKept m v alive = Needs InOnePacket m v alive
+
+-- message 0 is taken and answered, and each one after it up to n is lost and given up
+unfoldable pub given_up_to : ℕ → List FlowTurn
+given_up_to zero =
+    turn (Move.TakeAnswer answer.Rfnm []) []
+    ∷ turn (Move.Freed (rfnm_of 0) answer.Rfnm) []
+    ∷ taken_turn (rfnm_of 0 ∷ [])
+    ∷ begun_local
+    ∷ []
+given_up_to (suc n) =
+    turn (Move.TakeAnswer answer.Incomplete []) []
+    ∷ turn (Move.GiveUp (suc n)) []
+    ∷ turn (Move.Begin 0 second_text) []
+    ∷ given_up_to n
+
+-- after number n comes number 0 again, which is noted as taken: a question about the new message is answered by RFNM
+abbrev pub asked_after : ℕ → List FlowTurn
+asked_after n =
+    turn (Move.TakeAnswer answer.Rfnm []) []
+    ∷ turn (Move.Freed (rfnm_of 0) answer.Rfnm) []
+    ∷ turn (Move.Reply (ask_of 0) Kind.Rfnm) (rfnm_of 0 ∷ [])
+    ∷ turn (Move.Asks 0) (ask_of 0 ∷ [])
+    ∷ turn (Move.Begin 0 second_text) []
+    ∷ given_up_to n
+
+abbrev pub begins_kept : List FlowTurn
+begins_kept = asked_after (modulus - 1)
+
 -- ---- arrivals
 
 -- data is noted as gone that isn't there: the Dead that is made answers a message that is begun later
 abbrev pub NotesNothing : Machine
-NotesNothing (Move.NoteGone x) v alive = New v.to_up v.kept x
+NotesNothing (Move.NoteGone x new) v alive = New v.to_up v.kept x × IsLost new
 NotesNothing m v alive = Needs InOnePacket m v alive
 
 abbrev pub notes_nothing : List FlowTurn
@@ -127,43 +164,43 @@ notes_nothing =
     ∷ taken_turn []
     ∷ turn (Move.Freed (dead_of 0) answer.Dead) []
     ∷ turn (Move.BeginLocal 0 first_text) (dead_of 0 ∷ [])
-    ∷ turn (Move.NoteGone (data_of 0 first_text)) (dead_of 0 ∷ [])
+    ∷ turn Move.Forget (dead_of 0 ∷ [])
+    ∷ turn (Move.NoteGone (data_of 0 first_text) fate.Dead) (dead_of 0 ∷ [])
     ∷ []
 
 -- data is noted as gone at an IMP that is down: the message was taken, and Dead comes
 abbrev pub NotesAway : Machine
-NotesAway (Move.NoteGone x) v alive = alive x × (x.kind ≡ Kind.Data) × (is_new v.kept x.number ≡ true)
+NotesAway (Move.NoteGone x new) v alive = alive x × (is_request x.kind ≡ true) × (is_new v.kept x.number ≡ true) × IsLost new
 NotesAway m v alive = Needs InOnePacket m v alive
 
 abbrev pub notes_away : List FlowTurn
 notes_away =
     turn (Move.TakeAnswer answer.Dead []) []
     ∷ turn (Move.Freed (dead_of 0) answer.Dead) []
-    ∷ turn (Move.NoteGone (data_of 0 first_text)) (dead_of 0 ∷ [])
+    ∷ turn (Move.NoteGone (data_of 0 first_text) fate.Dead) (dead_of 0 ∷ [])
     ∷ turn Move.StopTo (data_of 0 first_text ∷ [])
     ∷ taken_turn (data_of 0 first_text ∷ [])
     ∷ made_whole
     ∷ begun
     ∷ []
 
--- an answer's packet is noted as gone: the message was taken, and Dead comes
-abbrev pub NotesAnswers : Machine
-NotesAnswers (Move.NoteGone x) v alive = alive x × (v.to_up ≡ true) × (is_new v.kept x.number ≡ true)
-NotesAnswers m v alive = Needs InOnePacket m v alive
+-- data is noted as taken though its message isn't: RFNM comes before it is taken
+abbrev pub NotesTaken : Machine
+NotesTaken (Move.NoteGone x new) v alive = CanNote v alive x
+NotesTaken m v alive = Needs InOnePacket m v alive
 
-abbrev pub notes_answers : List FlowTurn
-notes_answers =
-    turn (Move.TakeAnswer answer.Dead []) []
-    ∷ turn (Move.Freed (dead_of 0) answer.Dead) []
-    ∷ turn (Move.NoteGone (rfnm_of 0)) (dead_of 0 ∷ [])
-    ∷ turn Move.Forget (rfnm_of 0 ∷ [])
-    ∷ taken_turn (rfnm_of 0 ∷ [])
-    ∷ begun_local
+abbrev pub notes_taken : List FlowTurn
+notes_taken =
+    turn (Move.TakeAnswer answer.Rfnm []) []
+    ∷ turn (Move.Freed (rfnm_of 0) answer.Rfnm) []
+    ∷ turn (Move.Reply (data_of 0 first_text) Kind.Rfnm) (rfnm_of 0 ∷ [])
+    ∷ turn (Move.NoteGone (data_of 0 first_text) fate.Taken) (data_of 0 first_text ∷ [])
+    ∷ begun
     ∷ []
 
 -- data is noted as gone that isn't new: the message is queued already, and Dead comes before it is taken
 abbrev pub NotesOld : Machine
-NotesOld (Move.NoteGone x) v alive = alive x × (v.to_up ≡ true) × (x.kind ≡ Kind.Data)
+NotesOld (Move.NoteGone x new) v alive = alive x × (v.to_up ≡ true) × (is_request x.kind ≡ true) × IsLost new
 NotesOld m v alive = Needs InOnePacket m v alive
 
 abbrev pub notes_old : List FlowTurn
@@ -171,14 +208,14 @@ notes_old =
     turn (Move.TakeAnswer answer.Dead []) []
     ∷ taken_turn []
     ∷ turn (Move.Freed (dead_of 0) answer.Dead) []
-    ∷ turn (Move.NoteGone (data_of 0 first_text)) (dead_of 0 ∷ [])
+    ∷ turn (Move.NoteGone (data_of 0 first_text) fate.Dead) (dead_of 0 ∷ [])
     ∷ made_whole
     ∷ begun
     ∷ []
 
 -- data is made whole that isn't new: the message is taken twice
 abbrev pub QueuesOld : Machine
-QueuesOld (Move.Whole x text) v alive = alive x × (v.to_up ≡ true) × (x.kind ≡ Kind.Data) × Joined InOnePacket alive x text
+QueuesOld (Move.Whole x text) v alive = alive x × (v.to_up ≡ true) × (is_request x.kind ≡ true) × Joined InOnePacket alive x text
 QueuesOld m v alive = Needs InOnePacket m v alive
 
 abbrev pub queues_old : List FlowTurn
@@ -320,7 +357,7 @@ starts_queued = taken_turn [] ∷ turn Move.StartSource [] ∷ turn Move.StartFr
 
 -- the destination's IMP comes up while data is alive, and has forgotten what it noted: the message is taken twice
 abbrev pub ReturnsAlive : Machine
-ReturnsAlive Move.StartTo v alive = Unit {0}
+ReturnsAlive Move.StartTo v alive = v.outstanding ≡ None
 ReturnsAlive m v alive = Needs InOnePacket m v alive
 
 abbrev pub returns_alive : List FlowTurn
@@ -330,14 +367,40 @@ returns_alive =
     ∷ turn Move.StartTo (data_of 0 first_text ∷ [])
     ∷ turn Move.StartDestination (data_of 0 first_text ∷ [])
     ∷ turn Move.StopTo (data_of 0 first_text ∷ [])
-    ∷ taken_turn (data_of 0 first_text ∷ [])
+    ∷ turn (Move.Freed (rfnm_of 0) answer.Rfnm) (data_of 0 first_text ∷ [])
+    ∷ taken_turn (rfnm_of 0 ∷ data_of 0 first_text ∷ [])
     ∷ made_whole
     ∷ begun
     ∷ []
 
+-- it comes up while a message is outstanding that was taken: a question of it is new, and the source is told Dead
+abbrev pub ReturnsAwaited : Machine
+ReturnsAwaited Move.StartTo v alive = (x : Packet) → alive x → is_request x.kind ≡ true → ⊥
+ReturnsAwaited m v alive = Needs InOnePacket m v alive
+
+-- the outstanding message is asked for, noted as never come, and its source is told so
+abbrev pub told_never : List FlowTurn → List FlowTurn
+told_never turns =
+    turn (Move.TakeAnswer answer.Dead []) []
+    ∷ turn (Move.Freed (dead_of 0) answer.Dead) []
+    ∷ turn (Move.NoteGone (ask_of 0) fate.Never) (dead_of 0 ∷ [])
+    ∷ turn (Move.Asks 0) (ask_of 0 ∷ [])
+    ∷ turns
+
+abbrev pub returns_awaited : List FlowTurn
+returns_awaited = told_never (turn Move.StartTo [] ∷ turn Move.StopTo [] ∷ taken_turn [] ∷ begun_local ∷ [])
+
+-- it forgets its number while a message is outstanding that was taken: the same
+abbrev pub ForgetsAwaited : Machine
+ForgetsAwaited Move.Forget v alive = (x : Packet) → alive x → is_request x.kind ≡ true → ⊥
+ForgetsAwaited m v alive = Needs InOnePacket m v alive
+
+abbrev pub forgets_awaited : List FlowTurn
+forgets_awaited = told_never (turn Move.Forget [] ∷ taken_turn [] ∷ begun_local ∷ [])
+
 -- it forgets its number while data is alive: the message is taken twice
 abbrev pub ForgetsAlive : Machine
-ForgetsAlive Move.Forget v alive = Unit {0}
+ForgetsAlive Move.Forget v alive = v.outstanding ≡ None
 ForgetsAlive m v alive = Needs InOnePacket m v alive
 
 abbrev pub forgets_alive : List FlowTurn
@@ -345,7 +408,8 @@ forgets_alive =
     taken_turn []
     ∷ turn (Move.Whole (data_of 0 first_text) first_text) []
     ∷ turn Move.Forget (data_of 0 first_text ∷ [])
-    ∷ taken_turn (data_of 0 first_text ∷ [])
+    ∷ turn (Move.Freed (rfnm_of 0) answer.Rfnm) (data_of 0 first_text ∷ [])
+    ∷ taken_turn (rfnm_of 0 ∷ data_of 0 first_text ∷ [])
     ∷ made_whole
     ∷ begun
     ∷ []
@@ -354,7 +418,7 @@ forgets_alive =
 
 -- a message is given up though none is outstanding
 abbrev pub GivesUpNothing : Machine
-GivesUpNothing (Move.GiveUp number) v alive = ((x : Packet) → alive x → (x.kind ≡ Kind.Data) → (x.number ≡ number) → ⊥) × ((q : Queued) → Contains v.queue q → (q.number ≡ number) → ⊥)
+GivesUpNothing (Move.GiveUp number) v alive = ((x : Packet) → alive x → (is_request x.kind ≡ true) → (x.number ≡ number) → ⊥) × ((q : Queued) → Contains v.queue q → (q.number ≡ number) → ⊥)
 GivesUpNothing m v alive = Needs InOnePacket m v alive
 
 abbrev pub gives_up_nothing : List FlowTurn
@@ -376,8 +440,82 @@ gives_up_alive =
 
 -- a message is given up that is queued
 abbrev pub GivesUpQueued : Machine
-GivesUpQueued (Move.GiveUp number) v alive = (v.outstanding ≡ Some number) × ((x : Packet) → alive x → (x.kind ≡ Kind.Data) → (x.number ≡ number) → ⊥)
+GivesUpQueued (Move.GiveUp number) v alive = (v.outstanding ≡ Some number) × ((x : Packet) → alive x → (is_request x.kind ≡ true) → (x.number ≡ number) → ⊥)
 GivesUpQueued m v alive = Needs InOnePacket m v alive
 
 abbrev pub gives_up_queued : List FlowTurn
 gives_up_queued = taken_turn [] ∷ turn (Move.TakeAnswer answer.Incomplete []) [] ∷ turn (Move.GiveUp 0) [] ∷ begun_local ∷ []
+
+-- ---- questions
+
+-- a message is asked for that isn't outstanding: what is answered fits a message that is begun later
+abbrev pub AsksAnything : Machine
+AsksAnything (Move.Asks number) v alive = Unit {0}
+AsksAnything m v alive = Needs InOnePacket m v alive
+
+abbrev pub asks_anything : List FlowTurn
+asks_anything =
+    turn (Move.TakeAnswer answer.Dead []) []
+    ∷ taken_turn []
+    ∷ turn (Move.Freed (dead_of 0) answer.Dead) []
+    ∷ turn (Move.BeginLocal 0 first_text) (dead_of 0 ∷ [])
+    ∷ turn Move.Forget (dead_of 0 ∷ [])
+    ∷ turn (Move.NoteGone (ask_of 0) fate.Never) (dead_of 0 ∷ [])
+    ∷ turn (Move.Asks 0) (ask_of 0 ∷ [])
+    ∷ []
+
+-- something is told though no packet is there: it outlives the source's IMP, and fits the first message after it
+abbrev pub RepliesToNothing : Machine
+RepliesToNothing (Move.Reply x told) v alive = (v.to_up ≡ true) × (v.kept ≡ Some x.number) × Tells v.fate told
+RepliesToNothing m v alive = Needs InOnePacket m v alive
+
+abbrev pub replies_to_nothing : List FlowTurn
+replies_to_nothing =
+    turn (Move.TakeAnswer answer.Rfnm []) []
+    ∷ turn (Move.Freed (rfnm_of 0) answer.Rfnm) []
+    ∷ turn (Move.Begin 0 first_text) (rfnm_of 0 ∷ [])
+    ∷ turn Move.Forget (rfnm_of 0 ∷ [])
+    ∷ turn (Move.Reply (ask_of 0) Kind.Rfnm) (rfnm_of 0 ∷ [])
+    ∷ turn Move.StartSource []
+    ∷ turn Move.StartFrom []
+    ∷ turn Move.StopFrom []
+    ∷ taken_turn []
+    ∷ begun_local
+    ∷ []
+
+-- a question is answered by the fate of another message
+abbrev pub RepliesToAny : Machine
+RepliesToAny (Move.Reply x told) v alive = (v.to_up ≡ true) × alive x × Tells v.fate told
+RepliesToAny m v alive = Needs InOnePacket m v alive
+
+-- the number after 0
+abbrev pub second : ℕ
+second = next_number (Some 0)
+
+abbrev pub replies_to_any : List FlowTurn
+replies_to_any =
+    turn (Move.TakeAnswer answer.Rfnm []) []
+    ∷ turn (Move.Freed (rfnm_of second) answer.Rfnm) []
+    ∷ turn (Move.Reply (ask_of second) Kind.Rfnm) (rfnm_of second ∷ [])
+    ∷ turn (Move.Asks second) (ask_of second ∷ [])
+    ∷ turn (Move.Begin 0 second_text) []
+    ∷ turn (Move.TakeAnswer answer.Rfnm []) []
+    ∷ turn (Move.Freed (rfnm_of 0) answer.Rfnm) []
+    ∷ taken_turn (rfnm_of 0 ∷ [])
+    ∷ begun_local
+    ∷ []
+
+-- something is told that isn't true: Dead of a message that waits, which is taken then
+abbrev pub RepliesFalsely : Machine
+RepliesFalsely (Move.Reply x told) v alive = (v.to_up ≡ true) × alive x × (v.kept ≡ Some x.number)
+RepliesFalsely m v alive = Needs InOnePacket m v alive
+
+abbrev pub replies_falsely : List FlowTurn
+replies_falsely =
+    turn (Move.TakeAnswer answer.Dead []) []
+    ∷ turn (Move.Freed (dead_of 0) answer.Dead) []
+    ∷ taken_turn (dead_of 0 ∷ [])
+    ∷ turn (Move.Reply (ask_of 0) Kind.Dead) (dead_of 0 ∷ [])
+    ∷ turn (Move.Asks 0) (ask_of 0 ∷ [])
+    ∷ begun_local
+    ∷ []

@@ -2,6 +2,7 @@
 use Rattle.std.specs.Prelude.{◌≡◌, Bool, true, false, List, [], ◌∷◌, None}
 use Rattle.leader1822.specs.declared.crossing.Answer.TheVariants as answer
 use Rattle.leader1822.specs.Mailboxes.{Box, Passing}
+use Rattle.link_table.specs.declared.destination.Fate.TheVariants as fate
 use Rattle.flow_law.specs.View.{View, Packet, Kind}
 use Rattle.flow_law.specs.Moves.{Move, queued_text}
 use Rattle.flow_law.specs.Runs.{FlowTurn}
@@ -18,6 +19,7 @@ at_first = record {
   to_up = true;
   destination = true;
   kept = None;
+  fate = fate.Waits;
   queue = [];
   box = Box.Empty;
 }

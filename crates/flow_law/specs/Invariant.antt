@@ -1,13 +1,15 @@
 -- What holds of a flow after every list of moves, in clauses of which each says one thing.
 --
--- Only data that the destination would take for new matters. Each clause speaks of what stands, and of one or two packets
+-- Only requests that the destination would take for new matter. Each clause speaks of what stands, and of one or two packets
 -- at a time; none counts packets, and none asks where they are. So each still holds when packets are lost.
-use Rattle.std.specs.Prelude.{◌≡◌, ℕ, ◌<◌, Bool, true, false, List, [], ◌∷◌, Option, Some, None, ◌⊎◌}
+use Rattle.std.specs.Prelude.{◌≡◌, ◌≢◌, ℕ, ◌<◌, Bool, true, false, List, [], ◌∷◌, Option, Some, None, ◌⊎◌}
 use Rattle.leader1822.specs.declared.crossing.Answer.{Answer}
 use Rattle.leader1822.specs.declared.crossing.Answer.TheVariants as answer
 use Rattle.leader1822.specs.Mailboxes.{Box, Fits}
 use Rattle.link_table.specs.Numbers.{modulus, Near}
-use Rattle.flow_law.specs.View.{View, Packet, Queued, Kind}
+use Rattle.link_table.specs.declared.destination.Fate.{Fate}
+use Rattle.link_table.specs.declared.destination.Fate.TheVariants as fate
+use Rattle.flow_law.specs.View.{View, Packet, Queued, Kind, is_request, is_refusal}
 use Rattle.flow_law.specs.Moves.{New, queued_text}
 
 -- the number was begun, and lies at most a window behind the last one
@@ -16,13 +18,13 @@ pub record Begun (last : Option ℕ) (number : ℕ) : Type 0 where
   pub is : last ≡ Some begun
   pub near : Near begun number
 
--- the packet carries a piece of the text that waits in the box, and no message is queued
+-- the packet is a question, or carries a piece of the text that waits in the box, and no message is queued
 pub record Carried (Piece : List Bool → Packet → Type 0) (box : Box) (queue : List Queued) (x : Packet) : Type 0 where
   pub place : ℕ
   pub text : List Bool
   pub waits : box ≡ Box.Waiting place text
   pub unread : queue ≡ []
-  pub piece : Piece text x
+  pub piece : x.kind ≡ Kind.Data → Piece text x
 
 -- one message is queued: the one that waits in the box, and that is outstanding if the source's IMP is up
 pub record Held (from_up : Bool) (outstanding : Option ℕ) (queue : List Queued) (box : Box) : Type 0 where
@@ -38,6 +40,28 @@ pub record Gone (to_up : Bool) (kept : Option ℕ) (queue : List Queued) (box : 
   pub waiting : Fits answer.Dead box
   pub unread : queue ≡ []
   pub none : (y : Packet) → alive y → New to_up kept y → ⊥
+
+-- the message waits in the box, and isn't queued
+pub record Lost (queue : List Queued) (box : Box) : Type 0 where
+  pub waiting : Fits answer.Dead box
+  pub unread : queue ≡ []
+
+-- so it is with the message of this number, and its source wasn't told that it never will be taken
+pub record Unnoted (number : ℕ) (queue : List Queued) (box : Box) (alive : Packet → Type 0) : Type 0 where
+  pub lost : Lost queue box
+  pub none : (x : Packet) → alive x → is_refusal x.kind ≡ true → x.number ≢ number
+
+-- what a fate says of the outstanding message: it is queued, it was taken, or it is lost
+abbrev pub FateSays : Fate → List Queued → Box → Type 0
+FateSays fate.Waits queue box = queue ≢ []
+FateSays fate.Taken queue box = Fits answer.Rfnm box
+FateSays fate.Dead queue box = Lost queue box
+FateSays fate.Never queue box = Lost queue box
+
+-- what is kept is true of the outstanding message, which has this number
+pub record Fated (number : ℕ) (kept : Option ℕ) (new : Fate) (queue : List Queued) (box : Box) (alive : Packet → Type 0) : Type 0 where
+  pub other : kept ≢ Some number → Unnoted number queue box alive
+  pub same : kept ≡ Some number → FateSays new queue box
 
 -- no answer waits, and the box isn't empty
 pub record Busy (answers : List Answer) (box : Box) : Type 0 where
@@ -69,19 +93,22 @@ pub record Invariant (Piece : List Bool → Packet → Type 0) (v : View) (alive
   -- While the source's IMP is up, whatever is alive lies at most a window behind the last number: so what was noted makes
   -- all that is alive old, and no packet carries a number that is about to be given again.
   pub window : v.from_up ≡ true → (x : Packet) → alive x → Begun v.last x.number
-  -- New data belongs to the outstanding message: so there is none when nothing is outstanding.
+  -- A new request belongs to the outstanding message: so there is none when nothing is outstanding.
   pub expected : v.from_up ≡ true → (x : Packet) → alive x → New v.to_up v.kept x → v.outstanding ≡ Some x.number
-  -- New data carries a piece of the text in the box: so what is joined of it is that text.
+  -- New data carries a piece of the text in the box: so what is joined of it is that text. And while a request is new, that
+  -- text waits there and isn't queued.
   pub carried : (x : Packet) → alive x → New v.to_up v.kept x → Carried Piece v.box v.queue x
-  -- The source's IMP is down and its numbers are gone. Then all data lies at most a window behind new data: so to note new
-  -- data still makes all data old.
-  pub orphaned : v.from_up ≡ false → (x y : Packet) → alive x → New v.to_up v.kept x → alive y → y.kind ≡ Kind.Data → Near x.number y.number
+  -- The source's IMP is down and its numbers are gone. Then all requests lie at most a window behind a new one: so to note a
+  -- new one still makes all old.
+  pub orphaned : v.from_up ≡ false → (x y : Packet) → alive x → New v.to_up v.kept x → alive y → is_request y.kind ≡ true → Near x.number y.number
   -- At most one message is queued, and it is the one in the box: so what the destination takes is what was put in.
   pub waiting : (v.queue ≡ []) ⊎ Held v.from_up v.outstanding v.queue v.box
   -- RFNM of the outstanding number is alive only when the message was taken: so the source is told the truth.
   pub taken : (x : Packet) → alive x → x.kind ≡ Kind.Rfnm → v.outstanding ≡ Some x.number → Fits answer.Rfnm v.box
-  -- Dead of the outstanding number is alive only when the message wasn't taken and never will be.
-  pub dead : (x : Packet) → alive x → x.kind ≡ Kind.Dead → v.outstanding ≡ Some x.number → Gone v.to_up v.kept v.queue v.box alive
+  -- A refusal, Dead or Never, of the outstanding number is alive only when the message wasn't taken and never will be.
+  pub dead : (x : Packet) → alive x → is_refusal x.kind ≡ true → v.outstanding ≡ Some x.number → Gone v.to_up v.kept v.queue v.box alive
+  -- While the destination's IMP is up, what it keeps is true of the outstanding message: so a question is told the truth.
+  pub fated : v.to_up ≡ true → (number : ℕ) → v.outstanding ≡ Some number → Fated number v.kept v.fate v.queue v.box alive
   -- While a message is outstanding its box isn't empty and no answer waits: so there is one answer to a message.
   pub busy : (number : ℕ) → v.outstanding ≡ Some number → Busy v.answers v.box
   -- While none is and the source is up, the box is empty, or one answer waits that fits it.

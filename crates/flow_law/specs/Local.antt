@@ -5,8 +5,9 @@
 use Rattle.std.specs.Prelude.{ℕ, Bool, true, false, List, [], ◌∷◌, ◌++◌, None, if◌then◌else◌}
 use Rattle.leader1822.specs.declared.crossing.Answer.TheVariants as answer
 use Rattle.leader1822.specs.Mailboxes.{Box, fetched}
+use Rattle.link_table.specs.declared.destination.Fate.TheVariants as fate
 use Rattle.flow_law.specs.View.{View, Packet, Queued, Kind}
-use Rattle.flow_law.specs.Moves.{Move, with_answer}
+use Rattle.flow_law.specs.Moves.{Move, with_answer, with_fate, with_fates}
 
 -- the packet that tells the source what became of the message with this number: one packet without bits, and so the last
 abbrev pub answer_packet : Kind → ℕ → Packet
@@ -16,8 +17,8 @@ answer_packet kind number = record { kind = kind; number = number; place = 0; la
 abbrev pub taken_here : Queued → List Queued → List Move
 taken_here oldest others = Move.Freed (answer_packet Kind.Rfnm oldest.number) answer.Rfnm ∷ Move.TakeMessage oldest others ∷ []
 
-abbrev pub view_taken_here : List Queued → View → View
-view_taken_here others v = record v { queue = others; box = fetched v.box; outstanding = None; answers = with_answer v.source answer.Rfnm v.answers }
+abbrev pub view_taken_here : Queued → List Queued → View → View
+view_taken_here oldest others v = record v { fate = with_fate v.kept oldest.number fate.Taken v.fate; queue = others; box = fetched v.box; outstanding = None; answers = with_answer v.source answer.Rfnm v.answers }
 
 -- a host goes down that is the source of a flow or not, and its destination or not: as the source first, so that no answer
 -- waits for it
@@ -34,15 +35,15 @@ stopped_host_queued source message = Move.Freed (answer_packet Kind.Dead message
 
 -- the destination of a queued message went down, and its source is another host
 abbrev pub view_stopped_here : View → View
-view_stopped_here v = record v { destination = false; queue = []; outstanding = None; answers = with_answer v.source answer.Dead v.answers }
+view_stopped_here v = record v { destination = false; fate = with_fates v.kept v.queue fate.Dead v.fate; queue = []; outstanding = None; answers = with_answer v.source answer.Dead v.answers }
 
 -- a host that writes to itself went down while a message to itself was queued
 abbrev pub view_stopped_itself : View → View
-view_stopped_itself v = record v { source = false; destination = false; queue = []; outstanding = None; answers = [] }
+view_stopped_itself v = record v { source = false; destination = false; fate = with_fates v.kept v.queue fate.Dead v.fate; queue = []; outstanding = None; answers = [] }
 
 -- a host that writes to itself went down while no message was queued
 abbrev pub view_stopped_unread : View → View
-view_stopped_unread v = record v { source = false; destination = false; queue = []; answers = [] }
+view_stopped_unread v = record v { source = false; destination = false; fate = with_fates v.kept v.queue fate.Dead v.fate; queue = []; answers = [] }
 
 -- a host that writes to itself came up
 abbrev pub view_started_itself : View → View

@@ -3,13 +3,15 @@
 -- A move says what it needs, what it changes, which packets it may make, and what the hosts see of it. Packets may
 -- be lost, copied and overtaken at any time: after a move any of those before it and of those it made may be alive.
 -- A move asks for no room, no route and no order of packets, so that an IMP that looks at these makes some of the moves.
-use Rattle.std.specs.Prelude.{◌≡◌, ◌≢◌, ℕ, Bool, true, false, List, [], ◌∷◌, ◌++◌, Option, Some, None, ◌⊎◌, if◌then◌else◌}
+use Rattle.std.specs.Prelude.{◌≡◌, ◌≢◌, ℕ, Bool, true, false, List, [], ◌∷◌, ◌++◌, Option, Some, None, ◌⊎◌, if◌then◌else◌, ◌==◌}
 use Rattle.std.specs.List.{Contains}
 use Rattle.leader1822.specs.declared.crossing.Answer.{Answer}
 use Rattle.leader1822.specs.declared.crossing.Answer.TheVariants as answer
 use Rattle.leader1822.specs.Mailboxes.{Box, Passing, fetched}
 use Rattle.link_table.specs.Numbers.{next, oldest, is_new}
-use Rattle.flow_law.specs.View.{View, Packet, Queued, Kind}
+use Rattle.link_table.specs.declared.destination.Fate.{Fate}
+use Rattle.link_table.specs.declared.destination.Fate.TheVariants as fate
+use Rattle.flow_law.specs.View.{View, Packet, Queued, Kind, is_request, is_refusal}
 
 -- `Piece text x`: packet x carries a piece of the text. How a text is cut into pieces is left open here.
 
@@ -22,9 +24,10 @@ pub data Move : Type 0 where
   Begin : (place : ℕ) → (text : List Bool) → Move
   -- the same within one IMP: the number is noted and the message queued at once
   BeginLocal : (place : ℕ) → (text : List Bool) → Move
-  -- new data x came, and its number is noted without the message being taken: the host is down, or the body has no mark
-  NoteGone : (x : Packet) → Move
-  -- new data x made this text whole: its number is noted and the message queued
+  -- a new request x came, and its number is noted with this fate, without the message being taken: the host is down, the body
+  -- has no mark, or all that came of the message is a question
+  NoteGone : (x : Packet) → (new : Fate) → Move
+  -- a new request x came, and the data with its number make this text whole: the number is noted and the message queued
   Whole : (x : Packet) → (text : List Bool) → Move
   -- packet x told the source's IMP what became of the outstanding message: the answer waits for the source, if it is up
   Freed : (x : Packet) → (kind : Answer) → Move
@@ -48,6 +51,10 @@ pub data Move : Type 0 where
   GiveUp : (number : ℕ) → Move
   -- the destination's IMP forgets the number that it noted last
   Forget : Move
+  -- the source's IMP asks what became of the outstanding message, which has this number
+  Asks : (number : ℕ) → Move
+  -- packet x is about the number that was noted last, and the destination's IMP tells what became of that message
+  Reply : (x : Packet) → (told : Kind) → Move
 
 -- ---- what they speak of
 
@@ -59,7 +66,7 @@ next_number (Some last) = next last
 -- the destination would take this packet's message as new
 pub record New (to_up : Bool) (kept : Option ℕ) (x : Packet) : Type 0 where
   pub up : to_up ≡ true
-  pub data_packet : x.kind ≡ Kind.Data
+  pub request : is_request x.kind ≡ true
   pub new : is_new kept x.number ≡ true
 
 -- which answer a packet brings
@@ -67,6 +74,30 @@ abbrev pub Brings : Kind → Answer → Type 0
 Brings Kind.Rfnm answer.Rfnm = Unit {0}
 Brings Kind.Dead answer.Dead = Unit {0}
 Brings kind told = ⊥
+
+-- the message of this number met this fate, if that number is the one noted last
+abbrev pub with_fate : Option ℕ → ℕ → Fate → Fate → Fate
+with_fate None number new old = old
+with_fate (Some kept) number new old = if kept == number then new else old
+
+-- all messages of a queue met this fate
+abbrev pub with_fates : Option ℕ → List Queued → Fate → Fate → Fate
+with_fates kept [] new old = old
+with_fates kept (message ∷ others) new old = with_fates kept others new (with_fate kept message.number new old)
+
+-- a fate of a message that wasn't taken and never will be
+abbrev pub IsLost : Fate → Type 0
+IsLost fate.Waits = ⊥
+IsLost fate.Taken = ⊥
+IsLost fate.Dead = Unit {0}
+IsLost fate.Never = Unit {0}
+
+-- a packet of this kind tells the truth about a message of this fate; of one that waits nothing is told
+abbrev pub Tells : Fate → Kind → Type 0
+Tells fate.Waits told = ⊥
+Tells fate.Taken told = told ≡ Kind.Rfnm
+Tells fate.Dead told = is_refusal told ≡ true
+Tells fate.Never told = is_refusal told ≡ true
 
 -- an answer waits for a host that is up, behind the others
 abbrev pub with_answer : Bool → Answer → List Answer → List Answer
@@ -88,12 +119,13 @@ pub record CanOffer (v : View) : Type 0 where
 abbrev pub NumberFree : View → (Packet → Type 0) → Type 0
 NumberFree v alive = (last : ℕ) → v.last ≡ Some last → (x : Packet) → alive x → x.number ≢ oldest last
 
--- and its message may get a number
+-- and its message may get a number, which isn't the one noted last
 pub record CanBegin (v : View) (alive : Packet → Type 0) : Type 0 where
   pub offer : CanOffer v
   pub free : NumberFree v alive
+  pub unkept : v.kept ≢ Some (next_number v.last)
 
--- new data is there
+-- a new request is there
 pub record CanNote (v : View) (alive : Packet → Type 0) (x : Packet) : Type 0 where
   pub there : alive x
   pub new : New v.to_up v.kept x
@@ -102,7 +134,7 @@ pub record CanNote (v : View) (alive : Packet → Type 0) (x : Packet) : Type 0 
 abbrev pub Joined : (List Bool → Packet → Type 0) → (Packet → Type 0) → Packet → List Bool → Type 0
 Joined Piece alive x text = (whole : List Bool) → ((y : Packet) → alive y → y.kind ≡ Kind.Data → y.number ≡ x.number → Piece whole y) → text ≡ whole
 
--- new data is there, and its message is whole
+-- a new request is there, and its message is whole
 pub record CanQueue (Piece : List Bool → Packet → Type 0) (v : View) (alive : Packet → Type 0) (x : Packet) (text : List Bool) : Type 0 where
   pub note : CanNote v alive x
   pub joined : Joined Piece alive x text
@@ -128,22 +160,30 @@ pub record CanStartFrom (v : View) (alive : Packet → Type 0) : Type 0 where
   pub no_packet : (x : Packet) → alive x → ⊥
   pub unread : v.queue ≡ []
 
--- no data of the flow is alive
-abbrev pub NoData : (Packet → Type 0) → Type 0
-NoData alive = (x : Packet) → alive x → x.kind ≢ Kind.Data
+-- the destination's IMP may lose the number noted last when no request of the flow is alive and no message outstanding
+pub record CanForget (v : View) (alive : Packet → Type 0) : Type 0 where
+  pub no_request : (x : Packet) → alive x → is_request x.kind ≡ true → ⊥
+  pub idle : v.outstanding ≡ None
 
--- the outstanding message is given up when no piece of it is alive and it isn't queued
+-- the outstanding message is given up when no request of it is alive and it isn't queued
 pub record CanGiveUp (v : View) (alive : Packet → Type 0) (number : ℕ) : Type 0 where
   pub awaited : v.outstanding ≡ Some number
-  pub no_piece : (x : Packet) → alive x → x.kind ≡ Kind.Data → x.number ≢ number
+  pub no_request : (x : Packet) → alive x → is_request x.kind ≡ true → x.number ≢ number
   pub unread : (q : Queued) → Contains v.queue q → q.number ≢ number
+
+-- a packet with the number noted last is there, and what is told is true
+pub record CanReply (v : View) (alive : Packet → Type 0) (x : Packet) (told : Kind) : Type 0 where
+  pub up : v.to_up ≡ true
+  pub there : alive x
+  pub kept : v.kept ≡ Some x.number
+  pub tells : Tells v.fate told
 
 abbrev pub Needs : (List Bool → Packet → Type 0) → Move → View → (Packet → Type 0) → Type 0
 Needs Piece Quiet v alive = Unit {0}
 Needs Piece (DeadNow place text) v alive = CanOffer v
 Needs Piece (Begin place text) v alive = CanBegin v alive
 Needs Piece (BeginLocal place text) v alive = CanBegin v alive
-Needs Piece (NoteGone x) v alive = CanNote v alive x
+Needs Piece (NoteGone x new) v alive = CanNote v alive x × IsLost new
 Needs Piece (Whole x text) v alive = CanQueue Piece v alive x text
 Needs Piece (Freed x kind) v alive = CanFree v alive x kind
 Needs Piece (TakeMessage oldest others) v alive = CanTakeMessage v oldest others
@@ -155,9 +195,11 @@ Needs Piece StartDestination v alive = v.destination ≡ false
 Needs Piece StopFrom v alive = Unit {0}
 Needs Piece StartFrom v alive = CanStartFrom v alive
 Needs Piece StopTo v alive = Unit {0}
-Needs Piece StartTo v alive = NoData alive
+Needs Piece StartTo v alive = CanForget v alive
 Needs Piece (GiveUp number) v alive = CanGiveUp v alive number
-Needs Piece Forget v alive = NoData alive
+Needs Piece Forget v alive = CanForget v alive
+Needs Piece (Asks number) v alive = v.outstanding ≡ Some number
+Needs Piece (Reply x told) v alive = CanReply v alive x told
 
 -- ---- what it changes
 
@@ -169,24 +211,27 @@ view_moved (BeginLocal place text) v = record v {
   last = Some (next_number v.last);
   outstanding = Some (next_number v.last);
   kept = Some (next_number v.last);
+  fate = fate.Waits;
   queue = v.queue ++ queued_text (next_number v.last) text ∷ [];
   box = Box.Waiting place text;
 }
-view_moved (NoteGone x) v = record v { kept = Some x.number }
-view_moved (Whole x text) v = record v { kept = Some x.number; queue = v.queue ++ queued_text x.number text ∷ [] }
+view_moved (NoteGone x new) v = record v { kept = Some x.number; fate = new }
+view_moved (Whole x text) v = record v { kept = Some x.number; fate = fate.Waits; queue = v.queue ++ queued_text x.number text ∷ [] }
 view_moved (Freed x kind) v = record v { outstanding = None; answers = with_answer v.source kind v.answers }
-view_moved (TakeMessage oldest others) v = record v { queue = others; box = fetched v.box }
+view_moved (TakeMessage oldest others) v = record v { fate = with_fate v.kept oldest.number fate.Taken v.fate; queue = others; box = fetched v.box }
 view_moved (TakeAnswer oldest others) v = record v { answers = others; box = Box.Empty }
 view_moved StopSource v = record v { source = false; answers = [] }
 view_moved StartSource v = record v { source = true; box = Box.Empty }
-view_moved StopDestination v = record v { destination = false; queue = [] }
+view_moved StopDestination v = record v { destination = false; fate = with_fates v.kept v.queue fate.Dead v.fate; queue = [] }
 view_moved StartDestination v = record v { destination = true }
 view_moved StopFrom v = record v { from_up = false; source = false; last = None; outstanding = None; answers = [] }
 view_moved StartFrom v = record v { from_up = true }
-view_moved StopTo v = record v { to_up = false; destination = false; kept = None; queue = [] }
+view_moved StopTo v = record v { to_up = false; destination = false; kept = None; fate = fate.Waits; queue = [] }
 view_moved StartTo v = record v { to_up = true }
 view_moved (GiveUp number) v = record v { outstanding = None; answers = with_answer v.source answer.Incomplete v.answers }
-view_moved Forget v = record v { kept = None }
+view_moved Forget v = record v { kept = None; fate = fate.Waits }
+view_moved (Asks number) v = v
+view_moved (Reply x told) v = v
 
 -- ---- which packets it may make (it may make fewer)
 
@@ -201,6 +246,11 @@ pub record IsTold (told : Kind) (about : ℕ) (x : Packet) : Type 0 where
   pub kind : x.kind ≡ told
   pub number : x.number ≡ about
 
+-- a packet with this number that tells the source that the message wasn't taken and never will be
+pub record IsRefusal (about : ℕ) (x : Packet) : Type 0 where
+  pub refusal : is_refusal x.kind ≡ true
+  pub number : x.number ≡ about
+
 -- Dead for a message of the queue
 pub record IsDeadOf (queue : List Queued) (x : Packet) : Type 0 where
   pub kind : x.kind ≡ Kind.Dead
@@ -210,9 +260,11 @@ pub record IsDeadOf (queue : List Queued) (x : Packet) : Type 0 where
 
 abbrev pub Makes : (List Bool → Packet → Type 0) → Move → View → Packet → Type 0
 Makes Piece (Begin place text) v x = IsPieceOf Piece (next_number v.last) text x
-Makes Piece (NoteGone y) v x = IsTold Kind.Dead y.number x
+Makes Piece (NoteGone y new) v x = IsRefusal y.number x
 Makes Piece (TakeMessage oldest others) v x = IsTold Kind.Rfnm oldest.number x
 Makes Piece StopDestination v x = IsDeadOf v.queue x
+Makes Piece (Asks number) v x = IsTold Kind.Ask number x
+Makes Piece (Reply y told) v x = IsTold told y.number x
 Makes Piece m v x = ⊥
 
 -- ---- what the hosts see of it, newest first

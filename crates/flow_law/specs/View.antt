@@ -1,13 +1,33 @@
 -- One flow as the whole network holds it: what its two IMPs and its two hosts keep for it, and its packets.
-use Rattle.std.specs.Prelude.{ℕ, Bool, List, Option}
+use Rattle.std.specs.Prelude.{ℕ, Bool, true, false, List, Option}
 use Rattle.leader1822.specs.declared.crossing.Answer.{Answer}
 use Rattle.leader1822.specs.Mailboxes.{Box, Mail}
+use Rattle.link_table.specs.declared.destination.Fate.{Fate}
 
--- a packet carries a piece of a message, or tells the source that the message was taken, or that its host is down
+-- a packet carries a piece of a message, or tells the source that the message was taken, or that its host is down; or it
+-- asks the destination what became of the message, or tells the source that the message never came
 pub data Kind : Type 0 where
   Data : Kind
   Rfnm : Kind
   Dead : Kind
+  Ask : Kind
+  Never : Kind
+
+-- what travels to the destination: data and questions
+abbrev pub is_request : Kind → Bool
+is_request Kind.Data = true
+is_request Kind.Rfnm = false
+is_request Kind.Dead = false
+is_request Kind.Ask = true
+is_request Kind.Never = false
+
+-- what tells the source that the message wasn't taken and never will be
+abbrev pub is_refusal : Kind → Bool
+is_refusal Kind.Data = false
+is_refusal Kind.Rfnm = false
+is_refusal Kind.Dead = true
+is_refusal Kind.Ask = false
+is_refusal Kind.Never = true
 
 -- a packet of the flow. Of data: which piece it is, whether the last one, and the piece's bits
 pub record Packet : Type 0 where
@@ -35,8 +55,9 @@ pub record View : Type 0 where
   -- at the destination: whether its IMP is up, and the host itself
   pub to_up : Bool
   pub destination : Bool
-  -- the last number noted there
+  -- the last number noted there, and what became of its message
   pub kept : Option ℕ
+  pub fate : Fate
   -- the whole messages that wait for the destination
   pub queue : List Queued
   -- what the hosts have seen: the flow's mailbox

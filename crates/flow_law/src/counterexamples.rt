@@ -1,10 +1,10 @@
-//! Counterexamples: without any one need of a move the law of a flow does not hold. The functions here do
-//! nothing: each clause says that a machine which lacks one need alone has a history that the flow's
+//! Counterexamples: without any one of these needs of a move the law of a flow does not hold. The functions
+//! here do nothing: each clause says that a machine which lacks one need alone has a history that the flow's
 //! mailbox does not allow. The law itself rests on none of this.
 
 ghost use Rattle.flow_law.specs.Counterexamples.{Breaks};
-ghost use Rattle.flow_law.specs.Counterexamples.{OffersDown, offers_down, NotIdle, not_idle, NotAnswered, not_answered, AnyNumber, any_number};
-ghost use Rattle.flow_law.specs.Counterexamples.{NotesNothing, notes_nothing, NotesAway, notes_away, NotesAnswers, notes_answers, NotesOld, notes_old};
+ghost use Rattle.flow_law.specs.Counterexamples.{OffersDown, offers_down, NotIdle, not_idle, NotAnswered, not_answered, AnyNumber, any_number, BeginsKept, begins_kept};
+ghost use Rattle.flow_law.specs.Counterexamples.{NotesNothing, notes_nothing, NotesAway, notes_away, NotesOld, notes_old, NotesTaken, notes_taken};
 ghost use Rattle.flow_law.specs.Counterexamples.{QueuesOld, queues_old, JoinsAny, joins_any, FreedByNothing, freed_by_nothing, FreedByAny, freed_by_any};
 ghost use Rattle.flow_law.specs.Counterexamples.{FreedByData, freed_by_data};
 ghost use Rattle.flow_law.specs.Counterexamples.{TakesNothing, takes_nothing, TakesDown, takes_down, ToldNothing, told_nothing, SourceStopsTwice, source_stops_twice};
@@ -12,6 +12,8 @@ ghost use Rattle.flow_law.specs.Counterexamples.{DestinationStopsTwice, destinat
 ghost use Rattle.flow_law.specs.Counterexamples.{StartsUnsettled, starts_unsettled};
 ghost use Rattle.flow_law.specs.Counterexamples.{StartsAlive, starts_alive, StartsQueued, starts_queued, ReturnsAlive, returns_alive, ForgetsAlive, forgets_alive};
 ghost use Rattle.flow_law.specs.Counterexamples.{GivesUpNothing, gives_up_nothing, GivesUpAlive, gives_up_alive, GivesUpQueued, gives_up_queued};
+ghost use Rattle.flow_law.specs.Counterexamples.{ReturnsAwaited, returns_awaited, ForgetsAwaited, forgets_awaited, AsksAnything, asks_anything};
+ghost use Rattle.flow_law.specs.Counterexamples.{RepliesToNothing, replies_to_nothing, RepliesToAny, replies_to_any, RepliesFalsely, replies_falsely};
 
 /// Each need of an offer counts: a machine that lacks it alone has a history that its mailbox doesn't
 /// allow.
@@ -27,6 +29,9 @@ pub fn needs_of_offers()
 
     // a number is begun while a packet lies at the window's far end
     ensures any_number { Breaks AnyNumber any_number }
+
+    // or one that the destination's IMP keeps as the flow's last
+    ensures begins_kept { Breaks BeginsKept begins_kept }
 {}
 
 /// Each need at a packet's arrival counts, in the same way.
@@ -37,11 +42,11 @@ pub fn needs_of_arrivals()
     // or at an IMP that is down
     ensures notes_away { Breaks NotesAway notes_away }
 
-    // or for an answer's packet
-    ensures notes_answers { Breaks NotesAnswers notes_answers }
-
     // or for data that isn't new
     ensures notes_old { Breaks NotesOld notes_old }
+
+    // or with the fate of a message that was taken
+    ensures notes_taken { Breaks NotesTaken notes_taken }
 
     // a message is queued for data that isn't new
     ensures queues_old { Breaks QueuesOld queues_old }
@@ -94,8 +99,14 @@ pub fn needs_of_imps()
     // the destination's IMP comes up while data is alive
     ensures returns_alive { Breaks ReturnsAlive returns_alive }
 
+    // or while a message is outstanding
+    ensures returns_awaited { Breaks ReturnsAwaited returns_awaited }
+
     // it forgets its number while data is alive
     ensures forgets_alive { Breaks ForgetsAlive forgets_alive }
+
+    // or while a message is outstanding
+    ensures forgets_awaited { Breaks ForgetsAwaited forgets_awaited }
 
     // a message is given up though none is outstanding
     ensures gives_up_nothing { Breaks GivesUpNothing gives_up_nothing }
@@ -105,4 +116,19 @@ pub fn needs_of_imps()
 
     // or while it is queued
     ensures gives_up_queued { Breaks GivesUpQueued gives_up_queued }
+{}
+
+/// Each need of a question, and of what is told of it, counts, in the same way.
+pub fn needs_of_questions()
+    // a message is asked for that isn't outstanding
+    ensures asks_anything { Breaks AsksAnything asks_anything }
+
+    // something is told though no packet is there
+    ensures replies_to_nothing { Breaks RepliesToNothing replies_to_nothing }
+
+    // or of another message than the one noted last
+    ensures replies_to_any { Breaks RepliesToAny replies_to_any }
+
+    // or that isn't true
+    ensures replies_falsely { Breaks RepliesFalsely replies_falsely }
 {}

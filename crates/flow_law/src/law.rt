@@ -108,7 +108,7 @@ pub fn one_imp()
     ensures taken { (test : List Bool → Packet → Bool) (v : View) (alive : List Packet) (oldest : Queued) (others : List Queued)
         → CanTakeMessage v oldest others
         → v.outstanding ≡ Some oldest.number
-        → Follows (ByTest test) (taken_here oldest others) v (view_taken_here others v) (Contains alive) (Contains alive) }
+        → Follows (ByTest test) (taken_here oldest others) v (view_taken_here oldest others v) (Contains alive) (Contains alive) }
     ensures taken_shows { (v : View) (oldest : Queued) (others : List Queued)
         → shown_by (taken_here oldest others) v ≡ Passing.Fetched oldest.text ∷ [] }
 

@@ -9,6 +9,7 @@ use Rattle.leader1822.specs.declared.crossing.Answer.{Answer}
 use Rattle.leader1822.specs.declared.crossing.Answer.TheVariants as answer
 use Rattle.leader1822.specs.declared.message.HostMessage.{HostMessage}
 use Rattle.link_table.specs.Flows.{release_in}
+use Rattle.link_table.specs.declared.destination.Fate.TheVariants as fate
 use Rattle.link_table.specs.declared.source.Release.{Release}
 use Rattle.link_table.specs.declared.source.Release.TheVariants as release
 use Rattle.packetiser.specs.PacketFields.{PacketFields, flow_of}
@@ -29,7 +30,7 @@ use Rattle.imp_node.specs.declared.waiting.Message.{Message}
 use Rattle.imp_node.specs.declared.waiting.Told.{Told}
 use Rattle.imp_node.specs.State.{State, ImpTurn, opening_node, up_port, host_at, port_at, with_host, number}
 use Rattle.imp_node.specs.Pump.{pump, stored}
-use Rattle.imp_node.specs.Flows.{freed, answered_by, answer_queued, answer_packet, next_number}
+use Rattle.imp_node.specs.Flows.{freed, answered_by, answer_queued, answer_packet, next_number, fated}
 use Rattle.imp_node.specs.Offering.{Way, Nowhere, Here, Away, way_of, offered, from_host}
 use Rattle.imp_node.specs.Arrival.{Arrival, Passing, Old, Undeliverable, Piece, NoSlot, Whole, Unmarked, Answering, arrival, arrival_has_room, arrived, frame_taken, acknowledged, vector_heard, ignored, fresh, taken_frame, from_line}
 use Rattle.imp_node.specs.Taking.{is_from_here, reply_has_room, replied, taken_by, to_host}
@@ -119,22 +120,31 @@ replied_has P kind packet m s h made = at (is_from_here s m) made where
 taken_by_has : (P : PacketFields → Type 0) (h : ℕ) (told : List Told) (queue : List Message) (s : State) → Has P s → All P (rfnm_for s told queue) → Has P (taken_by h told queue s)
 taken_by_has P h (told ∷ others) queue s has made = record { store = has.store; lines = has.lines; slots = has.slots }
 taken_by_has P h [] (m ∷ others) s has made =
-    replied_has P answer.Rfnm kind.Rfnm m (with_host s h (record (host_at s h) { queue = others })) (record { store = has.store; lines = has.lines; slots = has.slots }) made
+    replied_has P answer.Rfnm kind.Rfnm m (fated m.flow m.number fate.Taken (with_host s h (record (host_at s h) { queue = others }))) (record { store = has.store; lines = has.lines; slots = has.slots }) made
 taken_by_has P h [] [] s has made = has
 
 pub to_host_has : (P : PacketFields → Type 0) (s : State) (h : ℕ) → Has P s → All P (to_host_makes s h) → TurnHas P (to_host s h)
 to_host_has P s h has made = quiet_has P _ (taken_by_has P h (host_at s h).answers (host_at s h).queue s has made)
 
 returned_has : (P : PacketFields → Type 0) (m : Message) (s : State) → Has P s → All P (reply_for kind.Dead s m) → Has P (message_returned m s)
-returned_has P m s h made = at (reply_has_room s m) where
-  at : (room : Bool) → Has P (cond room (replied answer.Dead kind.Dead m s) s)
-  at true = replied_has P answer.Dead kind.Dead m s h made
-  at false = h
+returned_has P m s h made = at (reply_has_room t m) where
+  t : State
+  t = fated m.flow m.number fate.Dead s
+
+  has : Has P t
+  has = record { store = h.store; lines = h.lines; slots = h.slots }
+
+  at : (room : Bool) → Has P (cond room (replied answer.Dead kind.Dead m t) t)
+  at true = replied_has P answer.Dead kind.Dead m t has made
+  at false = has
 
 -- a reply doesn't change the IMP's number, so what the next ones make stays the same
 pub returned_number : (m : Message) (s : State) → number (message_returned m s) ≡ number s
-returned_number m s = at (reply_has_room s m) (is_from_here s m) (release_in m.number (finite.get s.sources m.flow)) where
-  at : (room here : Bool) (r : Release) → number (cond room (cond here (answered_by r answer.Dead m.flow m.number s) (stored (answer_packet kind.Dead m.flow m.number) s)) s) ≡ number s
+returned_number m s = at (reply_has_room t m) (is_from_here s m) (release_in m.number (finite.get s.sources m.flow)) where
+  t : State
+  t = fated m.flow m.number fate.Dead s
+
+  at : (room here : Bool) (r : Release) → number (cond room (cond here (answered_by r answer.Dead m.flow m.number t) (stored (answer_packet kind.Dead m.flow m.number) t)) t) ≡ number s
   at true true release.Freed = refl
   at true true release.Stale = refl
   at true false r = refl

@@ -2,22 +2,25 @@
 use Rattle.std.proofs.Common.{◌≡◌, ℕ, zero, suc, Bool, true, false, List, [], ◌∷◌, ◌++◌, get_or, set, Option, Some, None, refl, ap, sym, ◌∙◌, subst, cond, ◌==◌, ◌⊎◌, inl, inr, eqb-true}
 use Rattle.std.proofs.lemmas.Bool.{cases_Bool}
 use Rattle.std.specs.FinMap as finite
+use Rattle.std.specs.Option.{option_map}
 use Rattle.leader1822.specs.Flow.{same_flow}
 use Rattle.leader1822.specs.declared.address.Flow.{Flow}
 use Rattle.leader1822.specs.declared.crossing.Answer.{Answer}
 use Rattle.leader1822.proofs.lemmas.{same_flow-refl}
-use Rattle.link_table.specs.Flows.{Sources, last_in, outstanding_in, release_in, begun, flow_answered, given_up, handed}
+use Rattle.link_table.specs.Flows.{Sources, Destinations, last_in, outstanding_in, release_in, begun, flow_answered, given_up, handed, ended, ended_in}
+use Rattle.link_table.specs.declared.destination.Fate.{Fate}
+use Rattle.link_table.specs.declared.destination.Noted.{Noted}
 use Rattle.link_table.specs.declared.source.Release.{Release}
 use Rattle.link_table.specs.declared.source.Release.TheVariants as release
 use Rattle.link_table.specs.declared.source.Standing.TheVariants as standing
 use Rattle.link_table.specs.declared.source.Standing.{Standing}
-use Rattle.link_table.proofs.lemmas.{answered_frees, answered_last, get_answered, get_begun, get_given_up, get_put, given_up_frees, given_up_last, handed_last, handed_outstanding}
+use Rattle.link_table.proofs.lemmas.{answered_frees, answered_last, get_answered, get_begun, get_ended, get_given_up, get_put, given_up_frees, given_up_last, handed_last, handed_outstanding}
 use Rattle.imp_node.specs.declared.waiting.Message.{Message}
 use Rattle.imp_node.specs.declared.waiting.Told.{Told}
 use Rattle.imp_node.specs.State.{State, HostState, no_host, host_at, is_up, with_host}
 use Rattle.imp_node.specs.Queries.{last, outstanding}
-use Rattle.imp_node.specs.Flows.{given, answer_queued, answered_by, freed, noted, message_queued, next_number, with_begun}
-use Rattle.imp_node.specs.Sides.{answers_of, messages_of, Sender, Receiver, sender, receiver, begun_with, told_with, ended_with, noted_with, queued_with, AllUnmoved, Moved}
+use Rattle.imp_node.specs.Flows.{given, answer_queued, answered_by, freed, noted, fated, message_queued, next_number, with_begun}
+use Rattle.imp_node.specs.Sides.{answers_of, messages_of, Sender, Receiver, sender, receiver, begun_with, told_with, ended_with, noted_with, fated_with, queued_with, AllUnmoved, Moved}
 
 -- ---- lists
 
@@ -71,7 +74,7 @@ pub same_sender : (a b : Bool) (l m o p : Option ℕ) (xs ys : List Answer) → 
     → (let u : Sender = record { source = a; last = l; outstanding = o; answers = xs } in let v : Sender = record { source = b; last = m; outstanding = p; answers = ys } in u ≡ v)
 same_sender a b l m o p xs ys e f g h = rw (e, f, g, h) refl
 
-pub same_receiver : (a b : Bool) (k l : Option ℕ) (ms ns : List Message) → a ≡ b → k ≡ l → ms ≡ ns
+pub same_receiver : (a b : Bool) (k l : Option Noted) (ms ns : List Message) → a ≡ b → k ≡ l → ms ≡ ns
     → (let u : Receiver = record { destination = a; kept = k; queue = ms } in let v : Receiver = record { destination = b; kept = l; queue = ns } in u ≡ v)
 same_receiver a b k l ms ns e f g = rw (e, f, g) refl
 
@@ -202,15 +205,29 @@ stale_unmoved kind f n s is = subst (λ (r : Release). AllUnmoved s (answered_by
 
 -- ---- at the destination
 
-pub noted_moved : (f : Flow) (n : ℕ) (s : State) → Moved s (noted f n s) f (sender s f) (noted_with n (receiver s f))
-noted_moved f n s = record {
+-- one flow's number changes at its destination
+kept_moved : (f : Flow) (s : State) (m : Destinations) (k : Option Noted) → finite.get m f ≡ k → ((g : Flow) → same_flow g f ≡ false → finite.get m g ≡ finite.get s.kept g)
+    → Moved s (record s { kept = m }) f (sender s f) (record (receiver s f) { kept = k })
+kept_moved f s m k here beside = record {
   sender = refl;
-  receiver = same_receiver (is_up s f.destination.host) (is_up s f.destination.host) (finite.get (finite.insert s.kept f n) f) (Some n) (messages_of f (host_at s f.destination.host).queue) (messages_of f (host_at s f.destination.host).queue) refl (get_put s.kept f f n ∙ ap (λ (b : Bool). cond b (Some n) (finite.get s.kept f)) (same_flow-refl f)) refl;
+  receiver = same_receiver (is_up s f.destination.host) (is_up s f.destination.host) (finite.get m f) k (messages_of f (host_at s f.destination.host).queue) (messages_of f (host_at s f.destination.host).queue) refl here refl;
   others = λ g other. record {
     sender = refl;
-    receiver = same_receiver (is_up s g.destination.host) (is_up s g.destination.host) (finite.get (finite.insert s.kept f n) g) (finite.get s.kept g) (messages_of g (host_at s g.destination.host).queue) (messages_of g (host_at s g.destination.host).queue) refl (get_put s.kept f g n ∙ rw other refl) refl;
+    receiver = same_receiver (is_up s g.destination.host) (is_up s g.destination.host) (finite.get m g) (finite.get s.kept g) (messages_of g (host_at s g.destination.host).queue) (messages_of g (host_at s g.destination.host).queue) refl (beside g other) refl;
   };
 }
+
+pub noted_moved : (f : Flow) (n : ℕ) (new : Fate) (s : State) → Moved s (noted f n new s) f (sender s f) (noted_with n new (receiver s f))
+noted_moved f n new s =
+    let is : Noted = record { number = n; fate = new } in
+    kept_moved f s (finite.insert s.kept f is) (Some is) (get_put s.kept f f is ∙ ap (λ (b : Bool). cond b (Some is) (finite.get s.kept f)) (same_flow-refl f))
+    (λ g other. get_put s.kept f g is ∙ rw other refl)
+
+pub fated_moved : (f : Flow) (n : ℕ) (new : Fate) (s : State) → Moved s (fated f n new s) f (sender s f) (fated_with n new (receiver s f))
+fated_moved f n new s =
+    let is : Option Noted = option_map (ended_in n new) (finite.get s.kept f) in
+    kept_moved f s (ended s.kept f n new) is (get_ended s.kept f f n new ∙ ap (λ (b : Bool). cond b is (finite.get s.kept f)) (same_flow-refl f))
+    (λ g other. get_ended s.kept f g n new ∙ rw other refl)
 
 -- a host's queue is another one: nothing else of any flow changes
 pub queue_sender : (s : State) (h : ℕ) (queue : List Message) (g : Flow) → sender (with_host s h (record (host_at s h) { queue = queue })) g ≡ sender s g

@@ -8,9 +8,11 @@ use Rattle.leader1822.specs.declared.address.Flow.{Flow}
 use Rattle.leader1822.specs.declared.crossing.Answer.{Answer}
 use Rattle.leader1822.specs.declared.crossing.Answer.TheVariants as answer
 use Rattle.leader1822.specs.declared.message.HostMessage.{HostMessage}
-use Rattle.link_table.specs.Flows.{Sources, last_in, outstanding_in, release_in, given_up, handed}
+use Rattle.link_table.specs.Flows.{Sources, kept_in, last_in, outstanding_in, release_in, given_up, handed}
 use Rattle.link_table.specs.Keys.{is_from, drop_from}
 use Rattle.link_table.specs.Numbers.{is_new}
+use Rattle.link_table.specs.declared.destination.Fate.TheVariants as fate
+use Rattle.link_table.specs.declared.destination.Noted.{Noted}
 use Rattle.link_table.specs.declared.source.Release.{Release}
 use Rattle.link_table.specs.declared.source.Release.TheVariants as release
 use Rattle.link_table.proofs.lemmas.{get_dropped, handed_last, handed_outstanding}
@@ -32,16 +34,16 @@ use Rattle.imp_node.specs.declared.waiting.Told.{Told}
 use Rattle.imp_node.specs.State.{State, HostState, no_host, host_at, port_at, with_host, number, is_up}
 use Rattle.imp_node.specs.Room.{has_route}
 use Rattle.imp_node.specs.Pump.{pump, target, stored}
-use Rattle.imp_node.specs.Flows.{freed, answer_queued, next_number, with_begun, noted, message_queued, answer_packet}
+use Rattle.imp_node.specs.Flows.{freed, answer_queued, next_number, with_begun, noted, fated, message_queued, answer_packet}
 use Rattle.imp_node.specs.Queries.{last, outstanding}
 use Rattle.imp_node.specs.Offering.{Way, Nowhere, Here, Away, way_of, offered, from_host}
 use Rattle.imp_node.specs.Arrival.{Arrival, Passing, Old, Undeliverable, Piece, NoSlot, Whole, Unmarked, Answering, piece_arrival, arrival_by, arrival, arrival_has_room, arrived, frame_taken, acknowledged, ignored, fresh, taken_frame, from_line}
 use Rattle.imp_node.specs.Taking.{is_from_here, reply_has_room, replied, taken_by, to_host}
 use Rattle.imp_node.specs.Lines.{resend, route, end_down, end_up}
-use Rattle.imp_node.specs.Stopping.{give_up, forget, abandon, all_handed, message_returned, stopped, host_up}
-use Rattle.imp_node.specs.Sides.{answers_of, messages_of, Sender, Receiver, sender, receiver, begun_with, ended_with, noted_with, queued_with, Unmoved, AllUnmoved, Moved}
-use Rattle.imp_node.specs.Moves.{OfferMoves, AnswerMoves, MakesWhole, Tells, ArrivalSays, ArrivalMoves, FrameMoves, without_first, sender_told, TellingMoves, source_down, destination_down, source_up, destination_up, Becomes}
-use Rattle.imp_node.proofs.SideLemmas.{same_at, set_there, same_sender, same_receiver, told_moved, begun_moved, given_up_moved, ended_moved, freed_moved, stale_unmoved, noted_moved, queued_moved, queue_sender, queue_elsewhere, queue_here}
+use Rattle.imp_node.specs.Stopping.{give_up, forget, abandon, all_handed, told_back, message_returned, stopped, host_up}
+use Rattle.imp_node.specs.Sides.{answers_of, messages_of, Sender, Receiver, sender, receiver, begun_with, ended_with, noted_with, fated_with, queued_with, Unmoved, AllUnmoved, Moved}
+use Rattle.imp_node.specs.Moves.{OfferMoves, AnswerMoves, MakesWhole, Tells, ArrivalSays, ArrivalMoves, FrameMoves, without_first, sender_told, TellingMoves, ReturningMoves, source_down, destination_down, source_up, destination_up, Becomes}
+use Rattle.imp_node.proofs.SideLemmas.{same_at, set_there, same_sender, same_receiver, told_moved, begun_moved, given_up_moved, ended_moved, freed_moved, stale_unmoved, fated_moved, noted_moved, queued_moved, queue_sender, queue_elsewhere, queue_here}
 
 -- ---- calls that move no flow
 
@@ -82,9 +84,9 @@ offered_moved Here m s up =
     let n : ℕ = next_number s m.flow in
     let begun : State = with_begun m.flow s in
     let first : Moved s begun m.flow (begun_with n (sender s m.flow)) (receiver s m.flow) = begun_moved m.flow s in
-    let second : Moved begun (noted m.flow n begun) m.flow (sender begun m.flow) (noted_with n (receiver begun m.flow)) = noted_moved m.flow n begun in
-    let third : Moved (noted m.flow n begun) (message_queued (record { flow = m.flow; number = n; text = m.text }) (noted m.flow n begun)) m.flow (sender (noted m.flow n begun) m.flow) (queued_with (record { flow = m.flow; number = n; text = m.text }) (receiver (noted m.flow n begun) m.flow)) =
-    queued_moved (record { flow = m.flow; number = n; text = m.text }) (noted m.flow n begun) (up refl) in
+    let second : Moved begun (noted m.flow n fate.Waits begun) m.flow (sender begun m.flow) (noted_with n fate.Waits (receiver begun m.flow)) = noted_moved m.flow n fate.Waits begun in
+    let third : Moved (noted m.flow n fate.Waits begun) (message_queued (record { flow = m.flow; number = n; text = m.text }) (noted m.flow n fate.Waits begun)) m.flow (sender (noted m.flow n fate.Waits begun) m.flow) (queued_with (record { flow = m.flow; number = n; text = m.text }) (receiver (noted m.flow n fate.Waits begun) m.flow)) =
+    queued_moved (record { flow = m.flow; number = n; text = m.text }) (noted m.flow n fate.Waits begun) (up refl) in
     record {
       sender = third.sender ∙ second.sender ∙ first.sender;
       receiver = third.receiver ∙ ap (queued_with (record { flow = m.flow; number = n; text = m.text })) second.receiver;
@@ -109,7 +111,7 @@ give_up_moves s f = pumped_moved s (answer_queued answer.Incomplete f (record s 
 
 -- ---- what arrivals say
 
-data_says : (s : State) (p : PacketFields) (new up : Bool) (a : Added) → is_new (finite.get s.kept (flow_of p)) p.number ≡ new → is_up s p.destination.host ≡ up → answer_of s.slots p ≡ a
+data_says : (s : State) (p : PacketFields) (new up : Bool) (a : Added) → is_new (kept_in (finite.get s.kept (flow_of p))) p.number ≡ new → is_up s p.destination.host ≡ up → answer_of s.slots p ≡ a
     → p.kind ≡ kind.Data → p.destination.imp ≡ number s → ArrivalSays (cond (not new) Old (cond (not up) Undeliverable (piece_arrival a))) s p
 data_says s p false up a is_n is_u is_a kind here = tt
 data_says s p true false a is_n is_u is_a kind here = (record { data_kind = kind; here = here; new = is_n }, is_u)
@@ -126,7 +128,7 @@ data_says s p true true (piece.Whole body) is_n is_u is_a kind here = at (has_ma
 
 kind_says : (s : State) (p : PacketFields) (k : PacketKind) → p.kind ≡ k → (target p == number s) ≡ true → ArrivalSays (arrival_by k s p) s p
 kind_says s p kind.Data is own =
-    data_says s p (is_new (finite.get s.kept (flow_of p)) p.number) (is_up s p.destination.host) (answer_of s.slots p) refl refl refl is
+    data_says s p (is_new (kept_in (finite.get s.kept (flow_of p))) p.number) (is_up s p.destination.host) (answer_of s.slots p) refl refl refl is
     (eqb-true p.destination.imp (number s) (let same : (p.destination.imp == number s) ≡ true = rw is at own in same))
 kind_says s p kind.Rfnm is own =
     (eqb-true p.source.imp (number s) (let same : (p.source.imp == number s) ≡ true = rw is at own in same), subst (λ (k : PacketKind). Tells k answer.Rfnm) (sym is) tt)
@@ -147,16 +149,16 @@ taken_moves Passing k f p s says = λ g. record { sender = refl; receiver = refl
 taken_moves Old k f p s says = λ g. record { sender = refl; receiver = refl }
 taken_moves Undeliverable k f p s says = record {
   sender = refl;
-  receiver = (noted_moved (flow_of p) p.number s).receiver;
-  others = λ g other. record { sender = refl; receiver = ((noted_moved (flow_of p) p.number s).others g other).receiver };
+  receiver = (noted_moved (flow_of p) p.number fate.Dead s).receiver;
+  others = λ g other. record { sender = refl; receiver = ((noted_moved (flow_of p) p.number fate.Dead s).others g other).receiver };
 }
 taken_moves Piece k f p s says = λ g. record { sender = refl; receiver = refl }
 taken_moves NoSlot k f p s says = λ g. record { sender = refl; receiver = refl }
 taken_moves (Whole text) k f p s says =
     let m : Message = record { flow = flow_of p; number = p.number; text = text } in
-    let first : Moved s (noted (flow_of p) p.number s) (flow_of p) (sender s (flow_of p)) (noted_with p.number (receiver s (flow_of p))) = noted_moved (flow_of p) p.number s in
-    let second : Moved (noted (flow_of p) p.number s) (message_queued m (noted (flow_of p) p.number s)) (flow_of p) (sender (noted (flow_of p) p.number s) (flow_of p)) (queued_with m (receiver (noted (flow_of p) p.number s) (flow_of p))) =
-    queued_moved m (noted (flow_of p) p.number s) says.1.up in
+    let first : Moved s (noted (flow_of p) p.number fate.Waits s) (flow_of p) (sender s (flow_of p)) (noted_with p.number fate.Waits (receiver s (flow_of p))) = noted_moved (flow_of p) p.number fate.Waits s in
+    let second : Moved (noted (flow_of p) p.number fate.Waits s) (message_queued m (noted (flow_of p) p.number fate.Waits s)) (flow_of p) (sender (noted (flow_of p) p.number fate.Waits s) (flow_of p)) (queued_with m (receiver (noted (flow_of p) p.number fate.Waits s) (flow_of p))) =
+    queued_moved m (noted (flow_of p) p.number fate.Waits s) says.1.up in
     record {
       sender = second.sender;
       receiver = second.receiver ∙ ap (queued_with m) first.receiver;
@@ -164,8 +166,8 @@ taken_moves (Whole text) k f p s says =
     }
 taken_moves Unmarked k f p s says = record {
   sender = refl;
-  receiver = (noted_moved (flow_of p) p.number s).receiver;
-  others = λ g other. record { sender = refl; receiver = ((noted_moved (flow_of p) p.number s).others g other).receiver };
+  receiver = (noted_moved (flow_of p) p.number fate.Never s).receiver;
+  others = λ g other. record { sender = refl; receiver = ((noted_moved (flow_of p) p.number fate.Never s).others g other).receiver };
 }
 taken_moves (Answering answer) k f p s says = by (release_in p.number (finite.get s.sources (flow_of p))) refl where
   t : State
@@ -252,24 +254,26 @@ replied_moves kind packet m s = at (is_from_here s m) where
   at false = record { sender = refl; receiver = refl; others = λ g other. record { sender = refl; receiver = refl } }
 
 message_moves : (s : State) (h : ℕ) (m : Message) (others : List Message) → is_up s h ≡ true → (host_at s h).queue ≡ m ∷ others → m.flow.destination.host ≡ h
-    → Moved s (pump [] (taken_by h [] (m ∷ others) s)).state m.flow (sender_told (is_from_here s m) (release_in m.number (finite.get s.sources m.flow)) answer.Rfnm (sender s m.flow)) (without_first others m.flow (receiver s m.flow))
+    → Moved s (pump [] (taken_by h [] (m ∷ others) s)).state m.flow (sender_told (is_from_here s m) (release_in m.number (finite.get s.sources m.flow)) answer.Rfnm (sender s m.flow)) (without_first others m.flow (fated_with m.number fate.Taken (receiver s m.flow)))
 message_moves s h m others up is at =
-    let mid : State = with_host s h (record (host_at s h) { queue = others }) in
+    let left : State = with_host s h (record (host_at s h) { queue = others }) in
+    let mid : State = fated m.flow m.number fate.Taken left in
+    let ends : Moved left mid m.flow (sender left m.flow) (fated_with m.number fate.Taken (receiver left m.flow)) = fated_moved m.flow m.number fate.Taken left in
     let told : TellingMoves answer.Rfnm m mid (replied answer.Rfnm kind.Rfnm m mid) = replied_moves answer.Rfnm kind.Rfnm m mid in
     record {
       sender = told.sender ∙ ap (sender_told (is_from_here s m) (release_in m.number (finite.get s.sources m.flow)) answer.Rfnm) (queue_sender s h others m.flow);
-      receiver = told.receiver ∙ queue_here s h others m.flow at up;
+      receiver = told.receiver ∙ ends.receiver ∙ ap (fated_with m.number fate.Taken) (queue_here s h others m.flow at up);
       others = λ g other. record {
         sender = (told.others g other).sender ∙ queue_sender s h others g;
-        receiver = (told.others g other).receiver ∙ queue_elsewhere s h others g (rw is (rw other refl));
+        receiver = (told.others g other).receiver ∙ (ends.others g other).receiver ∙ queue_elsewhere s h others g (rw is (rw other refl));
       };
     }
 
 pub message_taken : (s : State) (h : ℕ) (m : Message) (others : List Message) → is_up s h ≡ true → (host_at s h).answers ≡ [] → (host_at s h).queue ≡ m ∷ others → m.flow.destination.host ≡ h
-    → Moved s (to_host s h).state m.flow (sender_told (is_from_here s m) (release_in m.number (finite.get s.sources m.flow)) answer.Rfnm (sender s m.flow)) (without_first others m.flow (receiver s m.flow))
+    → Moved s (to_host s h).state m.flow (sender_told (is_from_here s m) (release_in m.number (finite.get s.sources m.flow)) answer.Rfnm (sender s m.flow)) (without_first others m.flow (fated_with m.number fate.Taken (receiver s m.flow)))
 message_taken s h m others up none is at =
     let from : Sender = sender_told (is_from_here s m) (release_in m.number (finite.get s.sources m.flow)) answer.Rfnm (sender s m.flow) in
-    let to : Receiver = without_first others m.flow (receiver s m.flow) in
+    let to : Receiver = without_first others m.flow (fated_with m.number fate.Taken (receiver s m.flow)) in
     subst (λ (told : List Told). Moved s (pump [] (taken_by h told (host_at s h).queue s)).state m.flow from to) (sym none)
     (subst (λ (queue : List Message). Moved s (pump [] (taken_by h [] queue s)).state m.flow from to) (sym is) (message_moves s h m others up is at))
 
@@ -313,7 +317,7 @@ source_down_is : (b u : Bool) (l o : Option ℕ) (xs ys : List Answer) (v : Bool
 source_down_is true u l o xs ys v e f = rw (e, f) refl
 source_down_is false u l o xs ys v e f = rw (e, f) refl
 
-destination_down_is : (b u : Bool) (k : Option ℕ) (ms ns : List Message) (v : Bool) → v ≡ cond b false u → ns ≡ cond b [] ms
+destination_down_is : (b u : Bool) (k : Option Noted) (ms ns : List Message) (v : Bool) → v ≡ cond b false u → ns ≡ cond b [] ms
     → (let t : Receiver = record { destination = v; kept = k; queue = ns } in let s : Receiver = record { destination = u; kept = k; queue = ms } in t ≡ destination_down b s)
 destination_down_is true u k ms ns v e f = rw (e, f) refl
 destination_down_is false u k ms ns v e f = rw (e, f) refl
@@ -334,9 +338,9 @@ stopped_becomes s h f =
           (field_set (λ (x : HostState). messages_of f x.queue) s.hosts h f.destination.host no_host there);
     }
 
-pub returned_moves : (m : Message) (s : State) → TellingMoves answer.Dead m s (message_returned m s)
-returned_moves m s = by (is_from_here s m) refl (replied_moves answer.Dead kind.Dead m s) where
-  by : (here : Bool) → is_from_here s m ≡ here → TellingMoves answer.Dead m s (replied answer.Dead kind.Dead m s) → TellingMoves answer.Dead m s (message_returned m s)
+told_back_moves : (m : Message) (s : State) → TellingMoves answer.Dead m s (told_back m s)
+told_back_moves m s = by (is_from_here s m) refl (replied_moves answer.Dead kind.Dead m s) where
+  by : (here : Bool) → is_from_here s m ≡ here → TellingMoves answer.Dead m s (replied answer.Dead kind.Dead m s) → TellingMoves answer.Dead m s (told_back m s)
   by true is moves = let all : reply_has_room s m ≡ true = rw is refl in subst (λ (room : Bool). TellingMoves answer.Dead m s (cond room (replied answer.Dead kind.Dead m s) s)) (sym all) moves
   by false is moves = at (reply_has_room s m) where
     still : TellingMoves answer.Dead m s s
@@ -346,6 +350,17 @@ returned_moves m s = by (is_from_here s m) refl (replied_moves answer.Dead kind.
     at true = moves
     at false = still
 
+pub returned_moves : (m : Message) (s : State) → ReturningMoves m s (message_returned m s)
+returned_moves m s =
+    let mid : State = fated m.flow m.number fate.Dead s in
+    let ends : Moved s mid m.flow (sender s m.flow) (fated_with m.number fate.Dead (receiver s m.flow)) = fated_moved m.flow m.number fate.Dead s in
+    let told : TellingMoves answer.Dead m mid (told_back m mid) = told_back_moves m mid in
+    record {
+      sender = told.sender;
+      receiver = told.receiver ∙ ends.receiver;
+      others = λ g other. record { sender = (told.others g other).sender; receiver = (told.others g other).receiver ∙ (ends.others g other).receiver };
+    }
+
 -- ---- a host comes up
 
 source_up_is : (b u : Bool) (l o : Option ℕ) (xs ys : List Answer) (v : Bool) → v ≡ cond b true u → ys ≡ xs
@@ -353,7 +368,7 @@ source_up_is : (b u : Bool) (l o : Option ℕ) (xs ys : List Answer) (v : Bool) 
 source_up_is true u l o xs ys v e f = rw (e, f) refl
 source_up_is false u l o xs ys v e f = rw (e, f) refl
 
-destination_up_is : (b u : Bool) (k : Option ℕ) (ms ns : List Message) (v : Bool) → v ≡ cond b true u → ns ≡ ms
+destination_up_is : (b u : Bool) (k : Option Noted) (ms ns : List Message) (v : Bool) → v ≡ cond b true u → ns ≡ ms
     → (let t : Receiver = record { destination = v; kept = k; queue = ns } in let s : Receiver = record { destination = u; kept = k; queue = ms } in t ≡ destination_up b s)
 destination_up_is true u k ms ns v e f = rw (e, f) refl
 destination_up_is false u k ms ns v e f = rw (e, f) refl

@@ -10,6 +10,8 @@ use Rattle.leader1822.specs.declared.crossing.Answer.{Answer}
 use Rattle.leader1822.specs.declared.crossing.Answer.TheVariants as answer
 use Rattle.leader1822.specs.declared.message.HostMessage.{HostMessage}
 use Rattle.link_table.specs.Flows.{release_in, given_up}
+use Rattle.link_table.specs.declared.destination.Fate.{Fate}
+use Rattle.link_table.specs.declared.destination.Fate.TheVariants as fate
 use Rattle.link_table.specs.declared.source.Release.{Release}
 use Rattle.link_table.specs.declared.source.Release.TheVariants as release
 use Rattle.packetiser.specs.PacketFields.{PacketFields, IsPacket, flow_of}
@@ -30,7 +32,7 @@ use Rattle.imp_node.specs.declared.waiting.Told.{Told}
 use Rattle.imp_node.specs.State.{State, HostState, opening_node, up_host, no_host, host_at, port_at, with_host, number, is_up}
 use Rattle.imp_node.specs.Room.{has_route}
 use Rattle.imp_node.specs.Pump.{pump}
-use Rattle.imp_node.specs.Flows.{given, answer_queued, answered_by, noted, message_queued, next_number, with_begun}
+use Rattle.imp_node.specs.Flows.{given, answer_queued, answered_by, noted, fated, message_queued, next_number, with_begun}
 use Rattle.imp_node.specs.Offering.{Way, Nowhere, Here, Away, way_of, is_own, offered, from_host, from_host_refusal}
 use Rattle.imp_node.specs.Arrival.{Arrival, Passing, Old, Undeliverable, Piece, NoSlot, Whole, Unmarked, Answering, arrival, arrival_has_room, arrived, frame_taken, acknowledged, ignored, fresh, taken_frame, from_line}
 use Rattle.imp_node.specs.Taking.{is_from_here, reply_has_room, replied, taken_by, to_host}
@@ -133,7 +135,7 @@ own_source s f others is = elim (cases_Bool (f.source.imp == number s)) [
 offered_imp : (imp : ℕ) (way : Way) (m : HostMessage) (s : State) → m.flow.source.imp ≡ imp → (way ≡ Here → m.flow.destination.imp ≡ imp) → IsImp imp s → IsImp imp (offered way m s)
 offered_imp imp Nowhere m s from to is = told_imp imp answer.Dead m.flow s from is
 offered_imp imp Here m s from to is =
-    queued_imp imp (record { flow = m.flow; number = next_number s m.flow; text = m.text }) (noted m.flow (next_number s m.flow) (with_begun m.flow s)) (to refl)
+    queued_imp imp (record { flow = m.flow; number = next_number s m.flow; text = m.text }) (noted m.flow (next_number s m.flow) fate.Waits (with_begun m.flow s)) (to refl)
     (record { own = is.own; live = is.live; answers = is.answers; queues = is.queues; slots = is.slots })
 offered_imp imp Away m s from to is = record { own = is.own; live = is.live; answers = is.answers; queues = is.queues; slots = is.slots }
 
@@ -165,7 +167,7 @@ arrived_imp imp Undeliverable p s t says own format is = record { own = is.own; 
 arrived_imp imp Piece p s t says own format is = record { own = is.own; live = is.live; answers = is.answers; queues = is.queues; slots = added_table t.slots p is.slots format says.0.data_kind }
 arrived_imp imp NoSlot p s t says own format is = is
 arrived_imp imp (Whole text) p s t says own format is =
-    queued_imp imp (record { flow = flow_of p; number = p.number; text = text }) (noted (flow_of p) p.number (record t { slots = added t.slots p })) (says.1.new.here ∙ own)
+    queued_imp imp (record { flow = flow_of p; number = p.number; text = text }) (noted (flow_of p) p.number fate.Waits (record t { slots = added t.slots p })) (says.1.new.here ∙ own)
     (record { own = is.own; live = is.live; answers = is.answers; queues = is.queues; slots = added_table t.slots p is.slots format says.1.new.data_kind })
 arrived_imp imp Unmarked p s t says own format is = record { own = is.own; live = is.live; answers = is.answers; queues = is.queues; slots = added_table t.slots p is.slots format says.1.new.data_kind }
 arrived_imp imp (Answering kind) p s t says own format is = answered_imp imp (release_in p.number (finite.get t.sources (flow_of p))) kind (flow_of p) p.number t (says.0 ∙ own) is
@@ -197,6 +199,9 @@ from_line_imp imp s k f formats is = at (port_at s.ports k).up where
 
 -- ---- to_host, host_down, host_up
 
+fated_imp : (imp : ℕ) (f : Flow) (n : ℕ) (new : Fate) (s : State) → IsImp imp s → IsImp imp (fated f n new s)
+fated_imp imp f n new s is = record { own = is.own; live = is.live; answers = is.answers; queues = is.queues; slots = is.slots }
+
 replied_imp : (imp : ℕ) (kind : Answer) (packet : PacketKind) (m : Message) (s : State) → IsImp imp s → IsImp imp (replied kind packet m s)
 replied_imp imp kind packet m s is = elim (cases_Bool (is_from_here s m)) [
   | inl here ↦ rw here (answered_imp imp (release_in m.number (finite.get s.sources m.flow)) kind m.flow m.number s (eqb-true m.flow.source.imp (number s) here ∙ is.own) is)
@@ -211,18 +216,24 @@ taken_by_imp imp h (t ∷ others) queue s answers queues is =
     record { own = at.own; live = at.live; answers = at.answers; queues = at.queues; slots = at.slots }
 taken_by_imp imp h [] (m ∷ others) s answers queues is =
     let old : All (λ (x : Message). x.flow.destination ≡ record { imp = imp; host = h }) (m ∷ others) = subst (All (λ (x : Message). x.flow.destination ≡ record { imp = imp; host = h })) queues (is.queues h) in
-    replied_imp imp answer.Rfnm kind.Rfnm m (with_host s h (record (host_at s h) { queue = others }))
-    (with_host_imp imp s h (record (host_at s h) { queue = others }) is (is.answers h) (All-tail (λ (x : Message). x.flow.destination ≡ record { imp = imp; host = h }) m others old))
+    replied_imp imp answer.Rfnm kind.Rfnm m (fated m.flow m.number fate.Taken (with_host s h (record (host_at s h) { queue = others })))
+    (fated_imp imp m.flow m.number fate.Taken _ (with_host_imp imp s h (record (host_at s h) { queue = others }) is (is.answers h) (All-tail (λ (x : Message). x.flow.destination ≡ record { imp = imp; host = h }) m others old)))
 taken_by_imp imp h [] [] s answers queues is = is
 
 pub to_host_imp : (imp : ℕ) (s : State) (h : ℕ) → IsImp imp s → IsImp imp (to_host s h).state
 to_host_imp imp s h is = pumped_imp imp [] _ (taken_by_imp imp h (host_at s h).answers (host_at s h).queue s refl refl is)
 
 returned_imp : (imp : ℕ) (m : Message) (s : State) → IsImp imp s → IsImp imp (message_returned m s)
-returned_imp imp m s is = at (reply_has_room s m) where
-  at : (room : Bool) → IsImp imp (cond room (replied answer.Dead kind.Dead m s) s)
-  at true = replied_imp imp answer.Dead kind.Dead m s is
-  at false = is
+returned_imp imp m s is = at (reply_has_room t m) where
+  t : State
+  t = fated m.flow m.number fate.Dead s
+
+  has : IsImp imp t
+  has = fated_imp imp m.flow m.number fate.Dead s is
+
+  at : (room : Bool) → IsImp imp (cond room (replied answer.Dead kind.Dead m t) t)
+  at true = replied_imp imp answer.Dead kind.Dead m t has
+  at false = has
 
 all_returned_imp : (imp : ℕ) (ms : List Message) (s : State) → IsImp imp s → IsImp imp (all_returned ms s)
 all_returned_imp imp [] s is = is

@@ -13,12 +13,13 @@ use Rattle.imp_channel.specs.declared.fault.ChannelFault.{ChannelFault}
 use Rattle.imp_channel.specs.declared.frame.Frame.{Frame}
 use Rattle.imp_channel.specs.declared.line.Received.{Received}
 use Rattle.imp_channel.specs.declared.line.Received.TheVariants as received
+use Rattle.link_table.specs.declared.destination.Fate.TheVariants as fate
 use Rattle.link_table.specs.declared.source.Release.{Release}
 use Rattle.link_table.specs.declared.source.Release.TheVariants as release
 use Rattle.imp_node.specs.declared.waiting.Message.{Message}
 use Rattle.imp_node.specs.declared.waiting.Told.{Told}
 use Rattle.imp_node.specs.State.{State, ImpTurn, host_at, with_host, port_at}
-use Rattle.imp_node.specs.Flows.{answered_by}
+use Rattle.imp_node.specs.Flows.{answered_by, fated}
 use Rattle.imp_node.specs.Arrival.{Arrival, Passing, Old, Undeliverable, Piece, NoSlot, Whole, Unmarked, Answering, arrival, arrived, arrival_has_room, frame_taken, taken_frame, from_line}
 use Rattle.imp_node.specs.Offering.{Way, Nowhere, Here, Away, way_of, offered, from_host}
 use Rattle.imp_node.specs.Stopping.{message_returned, all_returned, stopped, host_down}
@@ -69,14 +70,16 @@ from_host_spent s m = offered_spent (way_of s m.flow) m s
 
 taken_by_spent : (h : ℕ) (answers : List Told) (queue : List Message) (s : State) → (taken_by h answers queue s).spent ≡ s.spent
 taken_by_spent h (told ∷ others) queue s = refl
-taken_by_spent h [] (m ∷ others) s = replied_spent answer.Rfnm kind.Rfnm m (with_host s h (record (host_at s h) { queue = others }))
+taken_by_spent h [] (m ∷ others) s = replied_spent answer.Rfnm kind.Rfnm m (fated m.flow m.number fate.Taken (with_host s h (record (host_at s h) { queue = others })))
 taken_by_spent h [] [] s = refl
 
 pub to_host_spent : (s : State) (h : ℕ) → (to_host s h).state.spent ≡ s.spent
 to_host_spent s h = taken_by_spent h (host_at s h).answers (host_at s h).queue s
 
 returned_spent : (m : Message) (s : State) → (message_returned m s).spent ≡ s.spent
-returned_spent m s = either_spent (reply_has_room s m) s (replied answer.Dead kind.Dead m s) s (replied_spent answer.Dead kind.Dead m s) refl
+returned_spent m s =
+    let t : State = fated m.flow m.number fate.Dead s in
+    either_spent (reply_has_room t m) s (replied answer.Dead kind.Dead m t) t (replied_spent answer.Dead kind.Dead m t) refl
 
 all_returned_spent : (ms : List Message) (s : State) → (all_returned ms s).spent ≡ s.spent
 all_returned_spent [] s = refl

@@ -6,7 +6,10 @@ use Rattle.leader1822.specs.declared.carrier.CarrierFault.{CarrierFault}
 use Rattle.leader1822.specs.declared.carrier.CarrierFault.TheVariants as fault
 use Rattle.leader1822.specs.declared.crossing.Answer.{Answer}
 use Rattle.leader1822.specs.declared.crossing.Answer.TheVariants as answer
+use Rattle.link_table.specs.Flows.{kept_in}
 use Rattle.link_table.specs.Numbers.{is_new}
+use Rattle.link_table.specs.declared.destination.Fate.{Fate}
+use Rattle.link_table.specs.declared.destination.Fate.TheVariants as fate
 use Rattle.packetiser.specs.PacketFields.{PacketFields, flow_of}
 use Rattle.packetiser.specs.Slots.{answer_of, added, without}
 use Rattle.packetiser.specs.declared.packet.PacketKind.{PacketKind}
@@ -54,7 +57,7 @@ piece_arrival piece.Full = NoSlot
 -- first its number is judged, then its host is looked for, then it goes to reassembly
 abbrev pub data_arrival : State → PacketFields → Arrival
 data_arrival s p =
-    if not (is_new (map.get s.kept (flow_of p)) p.number) then Old
+    if not (is_new (kept_in (map.get s.kept (flow_of p))) p.number) then Old
     else (if not (is_up s p.destination.host) then Undeliverable
     else piece_arrival (answer_of s.slots p))
 
@@ -81,9 +84,9 @@ arrival_has_room (Answering kind) s p = true
 
 -- ---- what becomes of it
 
--- the number of a piece is its flow's last one
-abbrev pub with_number : PacketFields → State → State
-with_number p s = noted (flow_of p) p.number s
+-- the number of a piece is its flow's last one, with this fate
+abbrev pub with_number : Fate → PacketFields → State → State
+with_number new p s = noted (flow_of p) p.number new s
 
 -- a piece goes to reassembly
 abbrev pub with_piece : PacketFields → State → State
@@ -96,11 +99,11 @@ without_slot p s = record s { slots = without s.slots (flow_of p) }
 abbrev pub arrived : Arrival → PacketFields → State → State
 arrived Passing p s = stored p s
 arrived Old p s = s
-arrived Undeliverable p s = stored (answer_packet kind.Dead (flow_of p) p.number) (with_number p (without_slot p s))
+arrived Undeliverable p s = stored (answer_packet kind.Dead (flow_of p) p.number) (with_number fate.Dead p (without_slot p s))
 arrived Piece p s = with_piece p s
 arrived NoSlot p s = s
-arrived (Whole text) p s = message_queued (record { flow = flow_of p; number = p.number; text = text }) (with_number p (with_piece p s))
-arrived Unmarked p s = with_number p (with_piece p s)
+arrived (Whole text) p s = message_queued (record { flow = flow_of p; number = p.number; text = text }) (with_number fate.Waits p (with_piece p s))
+arrived Unmarked p s = with_number fate.Never p (with_piece p s)
 arrived (Answering kind) p s = freed kind (flow_of p) p.number s
 
 -- ---- a frame

@@ -8,7 +8,9 @@ use Rattle.std.specs.List.{list_any}
 use Rattle.leader1822.specs.Flow.{same_flow}
 use Rattle.leader1822.specs.declared.address.Flow.{Flow}
 use Rattle.leader1822.specs.declared.crossing.Answer.{Answer}
+use Rattle.link_table.specs.Flows as tables
 use Rattle.link_table.specs.Flows.{is_idle_in, number_in, release_in, begun, flow_answered, handed}
+use Rattle.link_table.specs.declared.destination.Fate.{Fate}
 use Rattle.link_table.specs.declared.source.Release.{Release}
 use Rattle.link_table.specs.declared.source.Release.TheVariants as release
 use Rattle.packetiser.specs.PacketFields.{PacketFields}
@@ -56,9 +58,13 @@ freed kind f n s = answered_by (release_in n (map.get s.sources f)) kind f n s
 
 -- ---- at the destination
 
--- a number is the last that was noted of its flow
-abbrev pub noted : Flow → ℕ → State → State
-noted f n s = record s { kept = map.insert s.kept f n }
+-- a number is the last that was noted of its flow, with the fate of its message
+abbrev pub noted : Flow → ℕ → Fate → State → State
+noted f n new s = record s { kept = tables.noted s.kept f n new }
+
+-- the message of this number met another fate, if the number is still its flow's last
+abbrev pub fated : Flow → ℕ → Fate → State → State
+fated f n new s = record s { kept = tables.ended s.kept f n new }
 
 -- a whole message waits for its host behind the others
 abbrev pub message_queued : Message → State → State

@@ -6,8 +6,9 @@ use Rattle.leader1822.specs.declared.address.Flow.{Flow}
 use Rattle.leader1822.specs.declared.crossing.Answer.{Answer}
 use Rattle.leader1822.specs.declared.crossing.Answer.TheVariants as answer
 use Rattle.leader1822.specs.declared.message.HostMessage.{HostMessage}
-use Rattle.link_table.specs.Flows.{release_in}
+use Rattle.link_table.specs.Flows.{release_in, kept_in}
 use Rattle.link_table.specs.Numbers.{is_new}
+use Rattle.link_table.specs.declared.destination.Fate.TheVariants as fate
 use Rattle.link_table.specs.declared.source.Release.{Release}
 use Rattle.link_table.specs.declared.source.Release.TheVariants as release
 use Rattle.packetiser.specs.PacketFields.{PacketFields, flow_of}
@@ -23,7 +24,7 @@ use Rattle.imp_node.specs.Flows.{next_number}
 use Rattle.imp_node.specs.Offering.{Way, Nowhere, Here, Away}
 use Rattle.imp_node.specs.Arrival.{Arrival, Passing, Old, Undeliverable, Piece, NoSlot, Whole, Unmarked, Answering, arrival}
 use Rattle.imp_node.specs.Taking.{is_from_here}
-use Rattle.imp_node.specs.Sides.{Sender, Receiver, sender, receiver, messages_of, begun_with, told_with, ended_with, noted_with, queued_with, AllUnmoved, Moved}
+use Rattle.imp_node.specs.Sides.{Sender, Receiver, sender, receiver, messages_of, begun_with, told_with, ended_with, noted_with, fated_with, queued_with, AllUnmoved, Moved}
 
 -- ---- a message is offered
 
@@ -32,7 +33,7 @@ abbrev pub OfferMoves : Way → HostMessage → State → State → Type 0
 OfferMoves Nowhere m s t = Moved s t m.flow (told_with answer.Dead (sender s m.flow)) (receiver s m.flow)
 OfferMoves Here m s t =
     Moved s t m.flow (begun_with (next_number s m.flow) (sender s m.flow))
-    (queued_with (record { flow = m.flow; number = next_number s m.flow; text = m.text }) (noted_with (next_number s m.flow) (receiver s m.flow)))
+    (queued_with (record { flow = m.flow; number = next_number s m.flow; text = m.text }) (noted_with (next_number s m.flow) fate.Waits (receiver s m.flow)))
 OfferMoves Away m s t = Moved s t m.flow (begun_with (next_number s m.flow) (sender s m.flow)) (receiver s m.flow)
 
 -- ---- a message ends
@@ -48,7 +49,7 @@ AnswerMoves release.Stale kind f s t = AllUnmoved s t
 pub record IsNewHere (s : State) (p : PacketFields) : Type 0 where
   pub data_kind : p.kind ≡ kind.Data
   pub here : p.destination.imp ≡ number s
-  pub new : is_new (map.get s.kept (flow_of p)) p.number ≡ true
+  pub new : is_new (kept_in (map.get s.kept (flow_of p))) p.number ≡ true
 
 -- a piece that made this body whole, for a host that is up
 pub record MakesWhole (s : State) (p : PacketFields) (body : List Bool) : Type 0 where
@@ -77,12 +78,12 @@ ArrivalSays (Answering kind) s p = (p.source.imp ≡ number s) × Tells p.kind k
 abbrev pub ArrivalMoves : Arrival → PacketFields → State → State → Type 0
 ArrivalMoves Passing p s t = AllUnmoved s t
 ArrivalMoves Old p s t = AllUnmoved s t
-ArrivalMoves Undeliverable p s t = Moved s t (flow_of p) (sender s (flow_of p)) (noted_with p.number (receiver s (flow_of p)))
+ArrivalMoves Undeliverable p s t = Moved s t (flow_of p) (sender s (flow_of p)) (noted_with p.number fate.Dead (receiver s (flow_of p)))
 ArrivalMoves Piece p s t = AllUnmoved s t
 ArrivalMoves NoSlot p s t = AllUnmoved s t
 ArrivalMoves (Whole text) p s t =
-    Moved s t (flow_of p) (sender s (flow_of p)) (queued_with (record { flow = flow_of p; number = p.number; text = text }) (noted_with p.number (receiver s (flow_of p))))
-ArrivalMoves Unmarked p s t = Moved s t (flow_of p) (sender s (flow_of p)) (noted_with p.number (receiver s (flow_of p)))
+    Moved s t (flow_of p) (sender s (flow_of p)) (queued_with (record { flow = flow_of p; number = p.number; text = text }) (noted_with p.number fate.Waits (receiver s (flow_of p))))
+ArrivalMoves Unmarked p s t = Moved s t (flow_of p) (sender s (flow_of p)) (noted_with p.number fate.Never (receiver s (flow_of p)))
 ArrivalMoves (Answering kind) p s t = AnswerMoves (release_in p.number (map.get s.sources (flow_of p))) kind (flow_of p) s t
 
 -- a frame moves no flow, or brings a packet that moves flows by its arrival
@@ -107,6 +108,11 @@ TellingMoves kind m s t =
     Moved s t m.flow (sender_told (is_from_here s m) (release_in m.number (map.get s.sources m.flow)) kind (sender s m.flow)) (receiver s m.flow)
 
 -- ---- a host goes down, or comes up
+
+-- a message that waited is dead, and its source is told if it is here and the message is outstanding, or nothing is known to it yet
+abbrev pub ReturningMoves : Message → State → State → Type 0
+ReturningMoves m s t =
+    Moved s t m.flow (sender_told (is_from_here s m) (release_in m.number (map.get s.sources m.flow)) answer.Dead (sender s m.flow)) (fated_with m.number fate.Dead (receiver s m.flow))
 
 -- a flow's sides where one of its hosts is this one
 abbrev pub source_down : Bool → Sender → Sender

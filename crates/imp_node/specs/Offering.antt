@@ -7,6 +7,7 @@ use Rattle.leader1822.specs.declared.carrier.CarrierFault.{CarrierFault}
 use Rattle.leader1822.specs.declared.carrier.CarrierFault.TheVariants as fault
 use Rattle.leader1822.specs.declared.crossing.Answer.TheVariants as answer
 use Rattle.leader1822.specs.declared.message.HostMessage.{HostMessage}
+use Rattle.link_table.specs.declared.destination.Fate.TheVariants as fate
 use Rattle.packetiser.specs.Pieces.{piece_count, packets_of}
 use Rattle.imp_node.specs.State.{State, ImpTurn, number, is_there, is_up}
 use Rattle.imp_node.specs.Room.{has_room, has_route, queue_has_room}
@@ -56,7 +57,7 @@ from_host_refusal s m =
 abbrev pub offered : Way → HostMessage → State → State
 offered Nowhere m s = answer_queued answer.Dead m.flow s
 offered Here m s =
-    message_queued (record { flow = m.flow; number = next_number s m.flow; text = m.text }) (noted m.flow (next_number s m.flow) (with_begun m.flow s))
+    message_queued (record { flow = m.flow; number = next_number s m.flow; text = m.text }) (noted m.flow (next_number s m.flow) fate.Waits (with_begun m.flow s))
 offered Away m s = record (with_begun m.flow s) { store = s.store ++ packets_of m.flow (next_number s m.flow) (body m.text) }
 
 abbrev pub from_host : State → HostMessage → ImpTurn

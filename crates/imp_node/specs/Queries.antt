@@ -7,7 +7,7 @@ use Rattle.std.specs.FinMap as map
 use Rattle.std.specs.List.{list_any}
 use Rattle.leader1822.specs.Flow.{same_flow}
 use Rattle.leader1822.specs.declared.address.Flow.{Flow}
-use Rattle.link_table.specs.Flows.{last_in, outstanding_in}
+use Rattle.link_table.specs.Flows.{last_in, outstanding_in, kept_in, has_outstanding_to}
 use Rattle.link_table.specs.Keys.{has_from}
 use Rattle.packetiser.specs.PacketFields.{PacketFields, flow_of}
 use Rattle.packetiser.specs.declared.packet.PacketKind.{PacketKind}
@@ -25,6 +25,14 @@ outstanding s f = outstanding_in (map.get s.sources f)
 -- the number begun last
 abbrev pub last : State → Flow → Option ℕ
 last s f = last_in (map.get s.sources f)
+
+-- whether a message to a host at this IMP is outstanding
+abbrev pub awaits : State → ℕ → Bool
+awaits s imp = has_outstanding_to imp s.sources
+
+-- the last number that it keeps of a flow
+abbrev pub kept : State → Flow → Option ℕ
+kept s f = kept_in (map.get s.kept f)
 
 -- whether it keeps a last number of a flow from this IMP
 abbrev pub keeps : State → ℕ → Bool

@@ -1,9 +1,13 @@
 -- What an IMP knows of one flow, at its source and at its destination, and how a call moves it.
 use Rattle.std.specs.Prelude.{◌≡◌, ℕ, Bool, false, List, [], ◌∷◌, ◌++◌, Option, Some, None, filter, All, if◌then◌else◌}
 use Rattle.std.specs.FinMap as map
+use Rattle.std.specs.Option.{option_map}
 use Rattle.leader1822.specs.Flow.{same_flow}
 use Rattle.leader1822.specs.declared.address.Flow.{Flow}
 use Rattle.leader1822.specs.declared.crossing.Answer.{Answer}
+use Rattle.link_table.specs.Flows.{ended_in}
+use Rattle.link_table.specs.declared.destination.Fate.{Fate}
+use Rattle.link_table.specs.declared.destination.Noted.{Noted}
 use Rattle.packetiser.specs.Slots.{IsTable}
 use Rattle.imp_node.specs.declared.waiting.Message.{Message}
 use Rattle.imp_node.specs.declared.waiting.Told.{Told}
@@ -28,10 +32,10 @@ pub record Sender : Type 0 where
   pub outstanding : Option ℕ
   pub answers : List Answer
 
--- at the destination: whether the host is up, the number noted last, and the messages that wait
+-- at the destination: whether the host is up, the number noted last with its message's fate, and the messages that wait
 pub record Receiver : Type 0 where
   pub destination : Bool
-  pub kept : Option ℕ
+  pub kept : Option Noted
   pub queue : List Message
 
 abbrev pub sender : State → Flow → Sender
@@ -63,9 +67,13 @@ told_with kind s = record s { answers = if s.source then s.answers ++ kind ∷ [
 abbrev pub ended_with : Answer → Sender → Sender
 ended_with kind s = told_with kind (record s { outstanding = None })
 
--- a number was noted
-abbrev pub noted_with : ℕ → Receiver → Receiver
-noted_with n r = record r { kept = Some n }
+-- a number was noted, with the fate of its message
+abbrev pub noted_with : ℕ → Fate → Receiver → Receiver
+noted_with n new r = record r { kept = Some (record { number = n; fate = new }) }
+
+-- the message of this number met another fate
+abbrev pub fated_with : ℕ → Fate → Receiver → Receiver
+fated_with n new r = record r { kept = option_map (ended_in n new) r.kept }
 
 -- a message waits behind the others
 abbrev pub queued_with : Message → Receiver → Receiver

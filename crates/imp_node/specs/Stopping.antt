@@ -8,12 +8,13 @@ use Rattle.leader1822.specs.declared.carrier.CarrierFault.TheVariants as fault
 use Rattle.leader1822.specs.declared.crossing.Answer.TheVariants as answer
 use Rattle.link_table.specs.Flows.{Sources, outstanding_in, given_up, handed, has_outstanding}
 use Rattle.link_table.specs.Keys.{drop_from}
+use Rattle.link_table.specs.declared.destination.Fate.TheVariants as fate
 use Rattle.packetiser.specs.Slots.{slot_of, without}
 use Rattle.packetiser.specs.declared.packet.PacketKind.TheVariants as kind
 use Rattle.imp_node.specs.declared.waiting.Message.{Message}
 use Rattle.imp_node.specs.declared.waiting.Told.{Told}
 use Rattle.imp_node.specs.State.{State, ImpTurn, number, no_host, host_at, is_there, is_up, with_host}
-use Rattle.imp_node.specs.Flows.{answer_queued}
+use Rattle.imp_node.specs.Flows.{answer_queued, fated}
 use Rattle.imp_node.specs.Offering.{is_own}
 use Rattle.imp_node.specs.Pump.{pump}
 use Rattle.imp_node.specs.Taking.{host_refusal, replied, reply_has_room}
@@ -56,9 +57,13 @@ abbrev pub all_handed : List Told → Sources → Sources
 all_handed [] sources = sources
 all_handed (told ∷ others) sources = all_handed others (handed sources told.flow)
 
--- each message that nobody will take gives its source Dead, where there is room for that, one after another
+-- a message gives its source Dead, where there is room for that
+abbrev pub told_back : Message → State → State
+told_back m s = if reply_has_room s m then replied answer.Dead kind.Dead m s else s
+
+-- each message that nobody will take is dead, and its source is told where there is room, one after another
 abbrev pub message_returned : Message → State → State
-message_returned m s = if reply_has_room s m then replied answer.Dead kind.Dead m s else s
+message_returned m s = told_back m (fated m.flow m.number fate.Dead s)
 
 abbrev pub all_returned : List Message → State → State
 all_returned [] s = s

@@ -7,13 +7,14 @@ use Rattle.leader1822.specs.declared.crossing.Answer.TheVariants as answer
 use Rattle.leader1822.specs.declared.crossing.Inbound.{Inbound}
 use Rattle.leader1822.specs.declared.crossing.Inbound.TheVariants as inbound
 use Rattle.link_table.specs.Flows.{handed}
+use Rattle.link_table.specs.declared.destination.Fate.TheVariants as fate
 use Rattle.packetiser.specs.declared.packet.PacketKind.{PacketKind}
 use Rattle.packetiser.specs.declared.packet.PacketKind.TheVariants as kind
 use Rattle.imp_node.specs.declared.waiting.Message.{Message}
 use Rattle.imp_node.specs.declared.waiting.Told.{Told}
 use Rattle.imp_node.specs.State.{State, ImpTurn, number, host_at, is_there, is_up, with_host}
 use Rattle.imp_node.specs.Room.{has_room_to}
-use Rattle.imp_node.specs.Flows.{freed, answer_packet}
+use Rattle.imp_node.specs.Flows.{freed, fated, answer_packet}
 use Rattle.imp_node.specs.Pump.{stored, pump}
 
 -- ---- what it gets: the oldest answer, else the oldest message
@@ -58,10 +59,10 @@ to_host_refusal s h = host_refusal s h (if taking_has_room (host_at s h).answers
 
 -- ---- the call
 
--- With its answer a flow becomes idle. For a message an RFNM goes to the source in the same step
+-- With its answer a flow becomes idle. A message is taken now, and an RFNM goes to its source in the same step
 abbrev pub taken_by : ℕ → List Told → List Message → State → State
 taken_by h (told ∷ others) queue s = record (with_host s h (record (host_at s h) { answers = others })) { sources = handed s.sources told.flow }
-taken_by h [] (m ∷ others) s = replied answer.Rfnm kind.Rfnm m (with_host s h (record (host_at s h) { queue = others }))
+taken_by h [] (m ∷ others) s = replied answer.Rfnm kind.Rfnm m (fated m.flow m.number fate.Taken (with_host s h (record (host_at s h) { queue = others })))
 taken_by h [] [] s = s
 
 abbrev pub to_host : State → ℕ → ImpTurn

@@ -23,7 +23,7 @@ use crate::{Imp, Outgoing};
 use bit_messages::{BitFault, Bits};
 use imp_channel::{Content, Frame, Received};
 use leader1822::{Answer, CarrierFault, Flow, Text};
-use link_table::{Age, Number};
+use link_table::{Age, Fate, Number};
 use packetiser::{Added, Outcome, Packet, PacketFault, PacketKind};
 use std::alloc::AllocError;
 
@@ -191,7 +191,7 @@ impl Imp {
         ensures { OnOk result (self.new ≡ turned_away flow number self.old) }
     {
         self.slots.discard(flow);
-        self.note(&flow, number)?;
+        self.note(&flow, number, Fate::Dead)?;
         let answer = answer_packet(self.alloc, PacketKind::Dead, flow, number);
         self.admit(answer)
     }
@@ -224,14 +224,14 @@ impl Imp {
         requires place { has_mark body ≡ true → queue_has_room self.old flow.destination.host ≡ true }
         ensures { OnOk result (self.new ≡ completed flow number body self.old) }
     {
-        self.note(&flow, number)?;
         match body.strip(self.alloc) {
             Ok(bits) => {
                 let text = Text::new(bits).unwrap();
+                self.note(&flow, number, Fate::Waits)?;
                 self.enqueue(Message { flow, number, text });
                 Ok(())
             }
-            Err(BitFault::NoMark) => Ok(()),
+            Err(BitFault::NoMark) => self.note(&flow, number, Fate::Never),
             Err(BitFault::OutOfMemory) => Err(AllocError),
             Err(BitFault::TooLong | BitFault::Range) => unreachable!(),
         }

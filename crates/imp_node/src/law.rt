@@ -26,13 +26,14 @@ ghost use Rattle.imp_node.specs.Queries.{outstanding, last, packet_has, message_
 ghost use Rattle.imp_node.specs.Room.{stored_count};
 ghost use Rattle.imp_node.specs.State.{State, host_at, is_up, opening_node};
 ghost use Rattle.imp_node.specs.Stopping.{give_up, give_up_refusal, forget_refusal, abandon_refusal, host_down_refusal, host_up_refusal, forget, abandon, stopped, message_returned, host_down, host_up};
-ghost use Rattle.imp_node.specs.Sides.{IsImp, sender, receiver, answers_of, ended_with, AllUnmoved, Moved};
-ghost use Rattle.imp_node.specs.Moves.{OfferMoves, ArrivalSays, FrameMoves, TellingMoves, Becomes, without_first, sender_told, source_down, destination_down, source_up, destination_up};
+ghost use Rattle.imp_node.specs.Sides.{IsImp, sender, receiver, answers_of, ended_with, fated_with, AllUnmoved, Moved};
+ghost use Rattle.imp_node.specs.Moves.{OfferMoves, ArrivalSays, FrameMoves, ReturningMoves, Becomes, without_first, sender_told, source_down, destination_down, source_up, destination_up};
 ghost use Rattle.imp_node.specs.declared.waiting.Message.{Message};
 ghost use Rattle.imp_node.specs.declared.waiting.Told.{Told};
 ghost use Rattle.std.specs.FinMap as map;
 ghost use Rattle.link_table.specs.Flows.{release_in};
 ghost use Rattle.link_table.specs.Keys.{is_from};
+ghost use Rattle.link_table.specs.declared.destination.Fate.TheVariants as fate;
 ghost use Rattle.packetiser.specs.PacketFields.{PacketFields, IsPacket};
 ghost use Rattle.imp_node.specs.Taking.{is_from_here, to_host, to_host_refusal, next_for};
 ghost use Rattle.imp_node.specs.Turns.{from_line_grows, to_host_grows, resend_grows, route_grows, end_down_grows, end_up_grows, give_up_grows, forget_grows, abandon_grows, host_down_grows, host_up_grows};
@@ -78,8 +79,8 @@ pub fn moving()
     // a host takes the oldest answer that waits for it: its flow has one answer less
     ensures answer_taken { (s : State) (h : ℕ) (t : Told) (others : List Told) → is_up s h ≡ true → (host_at s h).answers ≡ t ∷ others → t.flow.source.host ≡ h → Moved s (to_host s h).state t.flow (record (sender s t.flow) { answers = answers_of t.flow others }) (receiver s t.flow) }
 
-    // else the oldest message: its flow has one message less, and its source is told where it is at this IMP
-    ensures message_taken { (s : State) (h : ℕ) (m : Message) (others : List Message) → is_up s h ≡ true → (host_at s h).answers ≡ [] → (host_at s h).queue ≡ m ∷ others → m.flow.destination.host ≡ h → Moved s (to_host s h).state m.flow (sender_told (is_from_here s m) (release_in m.number (map.get s.sources m.flow)) answer.Rfnm (sender s m.flow)) (without_first others m.flow (receiver s m.flow)) }
+    // else the oldest message: its flow has one message less, its fate is Taken, and its source is told where it is at this IMP
+    ensures message_taken { (s : State) (h : ℕ) (m : Message) (others : List Message) → is_up s h ≡ true → (host_at s h).answers ≡ [] → (host_at s h).queue ≡ m ∷ others → m.flow.destination.host ≡ h → Moved s (to_host s h).state m.flow (sender_told (is_from_here s m) (release_in m.number (map.get s.sources m.flow)) answer.Rfnm (sender s m.flow)) (without_first others m.flow (fated_with m.number fate.Taken (receiver s m.flow))) }
 
     // if neither waits, nothing changes
     ensures nothing_taken { (s : State) (h : ℕ) → (host_at s h).answers ≡ [] → (host_at s h).queue ≡ [] → AllUnmoved s (to_host s h).state }
@@ -88,9 +89,9 @@ pub fn moving()
     ensures give_up { (s : State) (f : Flow) → Moved s (give_up s f).state f (ended_with answer.Incomplete (sender s f)) (receiver s f) }
     ensures forget { (s : State) (imp : ℕ) (f : Flow) → Becomes s (forget s imp).state f (sender s f) (record (receiver s f) { kept = if is_from imp f then None else map.get s.kept f }) }
 
-    // a host goes down by these two steps: it stops, and then the source of each message that waited for it is told
+    // a host goes down by these two steps: it stops, and then each message that waited for it is dead, and its source is told
     ensures stopped { (s : State) (h : ℕ) (f : Flow) → Becomes s (stopped s h) f (source_down (f.source.host == h) (sender s f)) (destination_down (f.destination.host == h) (receiver s f)) }
-    ensures returned { (m : Message) (s : State) → TellingMoves answer.Dead m s (message_returned m s) }
+    ensures returned { (m : Message) (s : State) → ReturningMoves m s (message_returned m s) }
 
     // a host comes up
     ensures host_up { (s : State) (h : ℕ) (f : Flow) → h < length s.hosts → Becomes s (host_up s h).state f (source_up (f.source.host == h) (sender s f)) (destination_up (f.destination.host == h) (receiver s f)) }

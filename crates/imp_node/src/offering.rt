@@ -16,7 +16,7 @@ use crate::waiting::Message;
 use crate::{Imp, Outgoing};
 use bit_messages::BODY_UNIT;
 use leader1822::{Answer, CarrierFault, Flow, HostMessage, Text};
-use link_table::{FlowFault, Number};
+use link_table::{Fate, FlowFault, Number};
 use packetiser::cut;
 use packetiser::format::PACKET_BITS;
 use std::alloc::AllocError;
@@ -134,7 +134,7 @@ impl Imp {
         ensures { OnOk result (self.new ≡ offering.offered Here (record { flow = flow; text = text }) self.old) }
     {
         let number = self.begin(&flow)?;
-        self.note(&flow, number)?;
+        self.note(&flow, number, Fate::Waits)?;
         self.enqueue(Message { flow, number, text });
         Ok(())
     }

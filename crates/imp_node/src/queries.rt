@@ -24,6 +24,20 @@ impl Imp {
         self.sources.last(flow)
     }
 
+    /// Whether a message from one of its hosts to a host at this IMP is outstanding.
+    pub fn awaits(&self, imp: ImpNumber) -> bool
+        ensures { result ≡ queries.awaits self.now imp }
+    {
+        self.sources.has_outstanding_to(imp)
+    }
+
+    /// The last number that it keeps of a flow; `None` where none is kept.
+    pub fn kept(&self, flow: &Flow) -> Option<Number>
+        ensures { result ≡ queries.kept self.now flow.now }
+    {
+        self.kept.kept(flow)
+    }
+
     /// Whether it keeps a last number of a flow from a host at this IMP.
     pub fn keeps(&self, imp: ImpNumber) -> bool
         ensures { result ≡ queries.keeps self.now imp }

@@ -4,7 +4,7 @@ ghost use Rattle.std.specs.Prelude.{◌≡◌, ◌<◌, ◌++◌, ◌∷◌, [],
 ghost use Rattle.packetiser.specs.PacketFields.{Carries};
 ghost use Rattle.imp_node.specs.State as states;
 ghost use Rattle.imp_node.specs.Room as room;
-ghost use Rattle.imp_node.specs.Flows.{answer_packet, answer_queued, freed, noted, message_queued};
+ghost use Rattle.imp_node.specs.Flows.{answer_packet, answer_queued, freed, noted, fated, message_queued};
 ghost use Rattle.imp_node.specs.Pump as pumps;
 ghost use Rattle.imp_node.specs.Taking.{replied, reply_has_room};
 ghost use Rattle.imp_node.specs.Turns.{Takes, sends};
@@ -16,7 +16,7 @@ use crate::waiting::{Message, Told};
 use crate::{Imp, Outgoing};
 use bit_messages::Bits;
 use leader1822::{Answer, CarrierFault, Flow};
-use link_table::Number;
+use link_table::{Fate, Number};
 use packetiser::{Packet, PacketKind};
 use std::alloc::{AllocError, Global};
 
@@ -82,11 +82,18 @@ impl Imp {
         self.tell(kind, flow)
     }
 
-    /// A number is the last that was noted of its flow.
-    pub(crate) fn note(&mut self, flow: &Flow, number: Number) -> Result<(), AllocError>
-        ensures { OnOk result (self.new ≡ noted flow.now number self.old) }
+    /// A number is the last that was noted of its flow, with the fate of its message.
+    pub(crate) fn note(&mut self, flow: &Flow, number: Number, fate: Fate) -> Result<(), AllocError>
+        ensures { OnOk result (self.new ≡ noted flow.now number fate self.old) }
     {
-        self.kept.note(flow, number)
+        self.kept.note(flow, number, fate)
+    }
+
+    /// The message of this number met another fate, if the number is still its flow's last.
+    pub(crate) fn end(&mut self, flow: &Flow, number: Number, fate: Fate)
+        ensures { self.new ≡ fated flow.now number fate self.old }
+    {
+        self.kept.end(flow, number, fate);
     }
 
     /// A whole message waits for its host, which is there and has room for it, behind the others.

@@ -12,7 +12,7 @@ use crate::waiting::{Message, Told};
 use crate::{Imp, Outgoing};
 use circular_buffer::HeapCircularBuffer;
 use leader1822::{Answer, CarrierFault, Flow, HostAddr};
-use link_table::{Number, SourceFlows};
+use link_table::{Fate, Number, SourceFlows};
 use packetiser::PacketKind;
 use std::alloc::AllocError;
 use std::collections::VecDeque;
@@ -87,7 +87,7 @@ impl Imp {
         self.return_all(queue)
     }
 
-    /// Each message that nobody will take gives its source Dead, where there is room for that.
+    /// Each message that nobody will take is dead, and gives its source Dead where there is room for that.
     fn return_all(&mut self, mut queue: HeapCircularBuffer<Message>) -> Result<(), AllocError>
         requires { AreOfPackets queue.items }
         ensures state { OnOk result (self.new ≡ all_returned queue.items self.old) }
@@ -98,12 +98,13 @@ impl Imp {
         Ok(())
     }
 
-    /// A message that nobody will take gives its source Dead, if there is room for that.
+    /// A message that nobody will take is dead, and gives its source Dead if there is room for that.
     fn return_one(&mut self, message: Message) -> Result<(), AllocError>
         requires { IsPacketFlow message.flow }
         ensures { OnOk result (self.new ≡ message_returned message self.old) }
     {
         let Message { flow, number, .. } = message;
+        self.end(&flow, number, Fate::Dead);
         if self.reply_has_room(&flow) {
             self.reply(Answer::Dead, PacketKind::Dead, &flow, number)?;
         }

@@ -9,6 +9,7 @@ ghost use Rattle.imp_node.specs.Turns.{Turned, Takes, to_host_grows, takes_messa
 use crate::waiting::{Message, Told};
 use crate::{Imp, Outgoing};
 use leader1822::{Answer, CarrierFault, HostMessage, Inbound};
+use link_table::Fate;
 use packetiser::PacketKind;
 use std::alloc::AllocError;
 
@@ -93,6 +94,7 @@ impl Imp {
             return Ok(None);
         }
         let Message { flow, number, text } = self.hosts[host as usize].take_message();
+        self.end(&flow, number, Fate::Taken);
         self.reply(Answer::Rfnm, PacketKind::Rfnm, &flow, number)?;
         Ok(Some(Inbound::Message(HostMessage { flow, text })))
     }

@@ -1,5 +1,5 @@
 -- The entries of a map, in the order of its flows.
-use Rattle.std.proofs.Common.{T, unwrap_or, ◌≡◌, Bool, true, false, List, [], ◌∷◌, ◌||◌, ◌&&◌, Option, Some, None, IsSome, is_some, refl, ap, sym, ◌∙◌, cond}
+use Rattle.std.proofs.Common.{T, unwrap_or, ◌≡◌, ◌==◌, ℕ, Bool, true, false, List, [], ◌∷◌, ◌||◌, ◌&&◌, Option, Some, None, IsSome, is_some, refl, ap, sym, ◌∙◌, cond}
 use Rattle.std.specs.List.{list_any, AllByRecursion}
 use Rattle.std.specs.List.Sorted.{IsStrictlySortedBy}
 use Rattle.std.specs.declared.cmp.Ordering.{Ordering}
@@ -12,7 +12,7 @@ use Rattle.std.specs.Map.{keys_of}
 use Rattle.leader1822.specs.Host.{Host, same_host}
 use Rattle.leader1822.specs.declared.address.Flow.{Flow}
 use Rattle.link_table.specs.Keys.{flow_cmp}
-use Rattle.link_table.specs.Flows.{Sources, outstanding_in, is_outstanding_from, has_outstanding}
+use Rattle.link_table.specs.Flows.{Sources, outstanding_in, has_outstanding, has_outstanding_to}
 use Rattle.link_table.specs.declared.source.Standing.{Standing}
 use Rattle.leader1822.proofs.lemmas.{exact_flows, flows_total, or_false}
 
@@ -120,7 +120,7 @@ none_found {V} test (e ∷ es) f v none at = by (eq_by_cmp flow_cmp f e.0) refl 
       ap (λ (g : Flow). test (g, v)) flow ∙ ap (λ (w : V). test (e.0, w)) (sym value) ∙ parts.0
   by false other found rest = rest parts.1 found
 
--- ---- a host with an outstanding message
+-- ---- a host, or an IMP, with an outstanding message
 
 nothing : {V : Type 0} (o : Option V) → is_some o ≡ false → o ≡ None
 nothing None e = refl
@@ -130,21 +130,41 @@ neither_of : (a b : Bool) → a ≡ true → (a && b) ≡ false → b ≡ false
 neither_of true b e h = h
 neither_of false b e h = absurd (cc)
 
+-- flows that pass a test and have a message without an answer
+abbrev awaits : (Flow → Bool) → Flow × Standing → Bool
+awaits test entry = test entry.0 && is_some (outstanding_in (Some entry.1))
+
+none_awaits : (test : Flow → Bool) (m : Sources) → list_any (awaits test) (entries m) ≡ false → (g : Flow) → test g ≡ true → outstanding_in (get m g) ≡ None
+none_awaits test m none g from = by (get m g) refl where
+  by : (o : Option Standing) → get m g ≡ o → outstanding_in o ≡ None
+  by None e = refl
+  by (Some s) e = nothing (outstanding_in (Some s)) (neither_of (test g) (is_some (outstanding_in (Some s))) from
+      (none_found (awaits test) (entries m) g s none (sym (get-entries m g) ∙ e)))
+
+one_awaits : (test : Flow → Bool) (m : Sources) → list_any (awaits test) (entries m) ≡ true → (g : Flow) × (test g ≡ true) × IsSome (outstanding_in (get m g))
+one_awaits test m some =
+    let one : Found (awaits test) (entries m) = found (awaits test) (entries m) (known (is_sorted flow_cmp (entries m)) (entries_sorted m)) some in (
+      one.flow,
+      first_of (test one.flow) (is_some (outstanding_in (Some one.value))) one.passes,
+      ap (λ (o : Option Standing). is_some (outstanding_in o)) (get-entries m one.flow ∙ one.at) ∙ second_of (test one.flow) (is_some (outstanding_in (Some one.value))) one.passes,
+    )
+
 -- where a host has none, no flow from it has
 pub outstanding_none : (m : Sources) (h : Host) → has_outstanding h m ≡ false → (g : Flow) → same_host g.source h ≡ true → outstanding_in (get m g) ≡ None
 unfolding has_outstanding
-outstanding_none m h none g from = by (get m g) refl where
-  by : (o : Option Standing) → get m g ≡ o → outstanding_in o ≡ None
-  by None e = refl
-  by (Some s) e = nothing (outstanding_in (Some s)) (neither_of (same_host g.source h) (is_some (outstanding_in (Some s))) from
-      (none_found (is_outstanding_from h) (entries m) g s none (sym (get-entries m g) ∙ e)))
+outstanding_none m h none g from = none_awaits (λ f. same_host f.source h) m none g from
 
 -- where it has one, a flow from it has
 pub outstanding_one : (m : Sources) (h : Host) → has_outstanding h m ≡ true → (g : Flow) × (same_host g.source h ≡ true) × IsSome (outstanding_in (get m g))
 unfolding has_outstanding
-outstanding_one m h some =
-    let one : Found (is_outstanding_from h) (entries m) = found (is_outstanding_from h) (entries m) (known (is_sorted flow_cmp (entries m)) (entries_sorted m)) some in (
-      one.flow,
-      first_of (same_host one.flow.source h) (is_some (outstanding_in (Some one.value))) one.passes,
-      ap (λ (o : Option Standing). is_some (outstanding_in o)) (get-entries m one.flow ∙ one.at) ∙ second_of (same_host one.flow.source h) (is_some (outstanding_in (Some one.value))) one.passes,
-    )
+outstanding_one m h some = one_awaits (λ f. same_host f.source h) m some
+
+-- where none to an IMP has, no flow to a host there has
+pub outstanding_to_none : (m : Sources) (imp : ℕ) → has_outstanding_to imp m ≡ false → (g : Flow) → (g.destination.imp == imp) ≡ true → outstanding_in (get m g) ≡ None
+unfolding has_outstanding_to
+outstanding_to_none m imp none g to = none_awaits (λ f. f.destination.imp == imp) m none g to
+
+-- where one has, a flow to a host there has
+pub outstanding_to_one : (m : Sources) (imp : ℕ) → has_outstanding_to imp m ≡ true → (g : Flow) × ((g.destination.imp == imp) ≡ true) × IsSome (outstanding_in (get m g))
+unfolding has_outstanding_to
+outstanding_to_one m imp some = one_awaits (λ f. f.destination.imp == imp) m some

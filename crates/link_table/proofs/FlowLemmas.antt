@@ -10,8 +10,9 @@ use Rattle.std.specs.FinMap.{FinMap, get, insert, keys, get-insert, get-retain_k
 use Rattle.leader1822.specs.Host.{Host, same_host, host_cmp}
 use Rattle.leader1822.specs.Mailboxes.{same_flow}
 use Rattle.leader1822.specs.declared.address.Flow.{Flow}
-use Rattle.link_table.specs.Flows.{Sources, changed, changed_from, begun, flow_answered, given_up, handed, number_in, answered_in, given_up_in, handed_in}
+use Rattle.link_table.specs.Flows.{Sources, Destinations, ended, ended_in, changed, changed_from, begun, flow_answered, given_up, handed, number_in, answered_in, given_up_in, handed_in}
 use Rattle.link_table.specs.Keys.{flow_cmp, is_from, drop_from, has_from}
+use Rattle.link_table.specs.declared.destination.Fate.{Fate}
 use Rattle.link_table.specs.declared.source.Standing.{Standing}
 use Rattle.link_table.specs.declared.source.Standing.TheVariants as standing
 use Rattle.leader1822.proofs.lemmas.{exact_flows, flows_total, or_false}
@@ -69,19 +70,19 @@ equal_from Equal e = refl
 equal_from Greater e = absurd (cc)
 
 -- what a map has at a flow goes for the same flow by another name
-pub get_same : (m : Sources) (f g : Flow) → same_flow g f ≡ true → get m g ≡ get m f
+pub get_same : {V : Type 0} (m : FinMap flow_cmp V) (f g : Flow) → same_flow g f ≡ true → get m g ≡ get m f
 get_same m f g e = ap (get m) (exact_flows g f (equal_from (flow_cmp g f) (tied_flows g f ∙ e)))
 
--- after one flow's standing was changed
-pub get_changed : (change : Standing → Standing) (m : Sources) (f g : Flow) → get (changed change m f) g ≡ (if same_flow g f then option_map change (get m f) else get m g)
-get_changed change m f g = by (get m f) refl where
+-- after what is known of one flow was changed
+pub get_changed : {V : Type 0} (change : V → V) (m : FinMap flow_cmp V) (f g : Flow) → get (changed change m f) g ≡ (if same_flow g f then option_map change (get m f) else get m g)
+get_changed {V} change m f g = by (get m f) refl where
   none : (b : Bool) → same_flow g f ≡ b → get m f ≡ None → get m g ≡ (if b then None else get m g)
   none true e n = get_same m f g e ∙ n
   none false e n = refl
 
-  by : (o : Option Standing) → get m f ≡ o → get (changed_from change m f o) g ≡ (if same_flow g f then option_map change o else get m g)
+  by : (o : Option V) → get m f ≡ o → get (changed_from change m f o) g ≡ (if same_flow g f then option_map change o else get m g)
   by None e = none (same_flow g f) refl e
-  by (Some s) e = get_put m f g (change s)
+  by (Some v) e = get_put m f g (change v)
 
 pub get_begun : (m : Sources) (f g : Flow) → get (begun m f) g ≡ (if same_flow g f then Some (standing.Outstanding (number_in (get m f))) else get m g)
 unfolding begun
@@ -98,6 +99,11 @@ get_given_up m f g = get_changed given_up_in m f g
 pub get_handed : (m : Sources) (f g : Flow) → get (handed m f) g ≡ (if same_flow g f then option_map handed_in (get m f) else get m g)
 unfolding handed
 get_handed m f g = get_changed handed_in m f g
+
+-- after a message met another fate
+pub get_ended : (m : Destinations) (f g : Flow) (n : ℕ) (new : Fate) → get (ended m f n new) g ≡ (if same_flow g f then option_map (ended_in n new) (get m f) else get m g)
+unfolding ended
+get_ended m f g n new = get_changed (ended_in n new) m f g
 
 -- what is begun is a number
 pub number_begun : (s : Option Standing) → number_in s < modulus

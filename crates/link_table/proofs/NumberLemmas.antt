@@ -51,6 +51,11 @@ pub next_below : (n : ℕ) → n + 1 < modulus → next n ≡ n + 1
 unfolding next
 next_below n below = any.next_below modulus n below
 
+-- the numbers wrap around
+pub next_last : next (modulus - 1) ≡ 0
+unfolding next
+next_last = any.next_last modulus some_number
+
 pub next_new : (l : ℕ) → l < modulus → is_new (Some l) (next l) ≡ true
 unfolding next is_new
 next_new l lm = any.next_new modulus window l wide some_ahead lm

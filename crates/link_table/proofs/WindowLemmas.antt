@@ -55,6 +55,9 @@ after m l lm = elim (cases_lt (l + 1) m) [
 pub next_below : (m n : ℕ) → n + 1 < m → next_of m n ≡ n + 1
 next_below m n below = mod-eq_of_lt below
 
+pub next_last : (m : ℕ) → 0 < m → next_of m (m - 1) ≡ 0
+next_last m some = ap (λ (y : ℕ). y % m) (let e : m - 1 + 1 ≡ m = omega (arith, some) in e) ∙ mod_self m
+
 pub next_new : (m w l : ℕ) → 2 * w + 1 ≤ m → 1 ≤ w → l < m → is_new_of m w (Some l) (next_of m l) ≡ true
 next_new m w l wide some lm = by (after m l lm) (way m l (next_of m l) lm (next_in m w l wide)) where
   by : After m l (next_of m l) → Way m l (next_of m l) (ahead_of m l (next_of m l)) → is_new_of m w (Some l) (next_of m l) ≡ true

@@ -12,6 +12,11 @@ use Rattle.link_table.specs.declared.source.Standing.{Standing}
 use Rattle.link_table.specs.declared.source.Standing.TheVariants as standing
 use Rattle.link_table.specs.declared.source.Release.{Release}
 use Rattle.link_table.specs.declared.source.Release.TheVariants as release
+use Rattle.link_table.specs.declared.destination.Fate.{Fate}
+use Rattle.link_table.specs.declared.destination.Fate.TheVariants as fate
+use Rattle.link_table.specs.declared.destination.Noted.{Noted}
+use Rattle.link_table.specs.declared.destination.Asked.{Asked}
+use Rattle.link_table.specs.declared.destination.Asked.TheVariants as asked
 use Rattle.link_table.specs.declared.destination.Age.{Age}
 use Rattle.link_table.specs.declared.destination.Age.TheVariants as age
 
@@ -63,18 +68,18 @@ abbrev pub release_in : ℕ → Option Standing → Release
 release_in n (Some (standing.Outstanding l)) = if l == n then release.Freed else release.Stale
 release_in n s = release.Stale
 
+-- what is known of one flow is changed; a flow of which nothing is known has nothing to change
+abbrev pub changed_from : {V : Type 0} → (V → V) → map.FinMap flow_cmp V → Flow → Option V → map.FinMap flow_cmp V
+changed_from change m f None = m
+changed_from change m f (Some v) = map.insert m f (change v)
+
+abbrev pub changed : {V : Type 0} → (V → V) → map.FinMap flow_cmp V → Flow → map.FinMap flow_cmp V
+changed change m f = changed_from change m f (map.get m f)
+
 -- ---- all flows of a source
 
 abbrev pub Sources : Type 0
 Sources = map.FinMap flow_cmp Standing
-
--- one flow's standing is changed; a flow of which nothing was begun has none to change
-abbrev pub changed_from : (Standing → Standing) → Sources → Flow → Option Standing → Sources
-changed_from change m f None = m
-changed_from change m f (Some s) = map.insert m f (change s)
-
-abbrev pub changed : (Standing → Standing) → Sources → Flow → Sources
-changed change m f = changed_from change m f (map.get m f)
 
 -- why no message of a flow is begun
 abbrev pub begin_fault : Sources → Flow → Option FlowFault
@@ -104,10 +109,58 @@ is_outstanding_from h entry = same_host entry.0.source h && is_some (outstanding
 unfoldable pub has_outstanding : Host → Sources → Bool
 has_outstanding h m = list_any (is_outstanding_from h) (map.entries m)
 
--- ---- all flows of a destination: the number that was taken last, where one is kept
+-- whether this flow is to a host at the IMP and a message of it has no answer yet
+abbrev pub is_outstanding_to : ℕ → Flow × Standing → Bool
+is_outstanding_to imp entry = entry.0.destination.imp == imp && is_some (outstanding_in (Some entry.1))
+
+-- whether a message to a host at this IMP has no answer yet
+unfoldable pub has_outstanding_to : ℕ → Sources → Bool
+has_outstanding_to imp m = list_any (is_outstanding_to imp) (map.entries m)
+
+-- ---- one flow at its destination: no number is kept (None), or the last one with the fate of its message
+
+-- the number that is kept
+abbrev pub kept_in : Option Noted → Option ℕ
+kept_in None = None
+kept_in (Some k) = Some k.number
+
+-- the fate that is kept, and Waits where there is none
+abbrev pub fate_in : Option Noted → Fate
+fate_in None = fate.Waits
+fate_in (Some k) = k.fate
+
+-- the message of this number has met another fate: it is kept where that number is
+abbrev pub ended_in : ℕ → Fate → Noted → Noted
+ended_in n new k = if k.number == n then record k { fate = new } else k
+
+-- what is answered to a question about a message of this fate
+abbrev pub told_by : Fate → Asked
+told_by fate.Waits = asked.Silent
+told_by fate.Taken = asked.Rfnm
+told_by fate.Dead = asked.Dead
+told_by fate.Never = asked.Never
+
+-- what is answered where the number isn't new: nothing is said of another number than the one that is kept
+abbrev pub told_in : Option Noted → ℕ → Asked
+told_in None n = asked.Silent
+told_in (Some k) n = if k.number == n then told_by k.fate else asked.Silent
+
+-- what a question about the message of this number comes to: if the number is new, it is to be noted as never come
+abbrev pub asked_in : Option Noted → ℕ → Asked
+asked_in kept n = if is_new (kept_in kept) n then asked.Note else told_in kept n
+
+-- ---- all flows of a destination
 
 abbrev pub Destinations : Type 0
-Destinations = map.FinMap flow_cmp ℕ
+Destinations = map.FinMap flow_cmp Noted
+
+-- a number was noted as a flow's last, with the fate of its message
+abbrev pub noted : Destinations → Flow → ℕ → Fate → Destinations
+noted m f n new = map.insert m f (record { number = n; fate = new })
+
+-- a flow's message of this number has met another fate
+unfoldable pub ended : Destinations → Flow → ℕ → Fate → Destinations
+ended m f n new = changed (ended_in n new) m f
 
 -- what a number is against the one that is kept
 abbrev pub age_of : Option ℕ → ℕ → Age

@@ -3,7 +3,7 @@
 ghost use Rattle.std.specs.Prelude.{◌≡◌, OnOk, OnErr, None};
 ghost use Rattle.std.specs.FinMap as map;
 ghost use Rattle.link_table.specs.Keys.{drop_from, has_from};
-ghost use Rattle.link_table.specs.Flows.{age_of};
+ghost use Rattle.link_table.specs.Flows.{age_of, kept_in, asked_in, told_by, ended_in, noted, ended};
 
 use crate::flow_map::FlowMap;
 use crate::numbers::{Number, is_new};
@@ -20,10 +20,78 @@ pub enum Age {
     Old,
 }
 
-/// The flows of a destination, with the number that was taken last of each, where one is kept.
+/// What became of a message at its destination.
+#[derive(Clone, Copy, Debug, PartialEq, Eq)]
+pub enum Fate {
+    /// It waits for its host.
+    Waits,
+    /// Its host took it.
+    Taken,
+    /// Its host was down, or went down before it took the message.
+    Dead,
+    /// It never came as a message, and can't be taken any more.
+    Never,
+}
+
+impl Fate {
+    /// What a question about a message of this fate is answered.
+    fn told(self) -> Asked
+        ensures { result ≡ told_by self }
+    {
+        match self {
+            Fate::Waits => Asked::Silent,
+            Fate::Taken => Asked::Rfnm,
+            Fate::Dead => Asked::Dead,
+            Fate::Never => Asked::Never,
+        }
+    }
+}
+
+/// The last number that is kept of a flow.
+#[derive(Clone, Copy, Debug, PartialEq, Eq)]
+pub struct Noted {
+    /// The number.
+    pub number: Number,
+    /// What became of its message.
+    pub fate: Fate,
+}
+
+impl Noted {
+    /// What is kept after the message of this number met another fate.
+    fn ended(self, number: Number, fate: Fate) -> Noted
+        ensures { result ≡ ended_in number fate self }
+    {
+        if self.number == number {
+            Noted {
+                number: self.number,
+                fate,
+            }
+        } else {
+            self
+        }
+    }
+}
+
+/// What a question about a message comes to.
+#[derive(Clone, Copy, Debug, PartialEq, Eq)]
+pub enum Asked {
+    /// Its number is new: it is to be noted as never come.
+    Note,
+    /// Nothing is answered: the message waits, or another number is kept.
+    Silent,
+    /// The message was taken.
+    Rfnm,
+    /// Its host was down.
+    Dead,
+    /// It never came.
+    Never,
+}
+
+/// The flows of a destination, with the number that was noted last of each and the fate of its message,
+/// where one is kept.
 #[derive(Drop)]
 pub struct DestFlows {
-    flows: FlowMap<Number>,
+    flows: FlowMap<Noted>,
 }
 
 impl Model for DestFlows {
@@ -50,24 +118,49 @@ impl DestFlows {
     /// Judges a number of a flow: it is new if none is kept, or if it lies within the window ahead of the
     /// kept one.
     pub fn judge(&self, flow: &Flow, number: Number) -> Age
-        ensures { result ≡ age_of (map.get self.now flow.now) number }
+        ensures { result ≡ age_of (kept_in (map.get self.now flow.now)) number }
     {
-        if is_new(self.flows.get(flow), number) {
+        if is_new(self.kept(flow), number) {
             Age::New
         } else {
             Age::Old
         }
     }
 
-    /// Keeps this number as the flow's last.
+    /// Keeps this number as the flow's last, with the fate of its message.
     ///
     /// Errors: memory can run out only for a flow of which no number is kept. Then nothing changes.
-    pub fn note(&mut self, flow: &Flow, number: Number) -> Result<(), AllocError>
-        ensures ok { OnOk result (self.new ≡ map.insert self.old flow.now number) }
+    pub fn note(&mut self, flow: &Flow, number: Number, fate: Fate) -> Result<(), AllocError>
+        ensures ok { OnOk result (self.new ≡ noted self.old flow.now number fate) }
         ensures err { OnErr result (self.new ≡ self.old) }
         ensures fresh { OnErr result (map.get self.old flow.now ≡ None) }
     {
-        self.flows.set(*flow, number)
+        self.flows.set(*flow, Noted { number, fate })
+    }
+
+    /// Changes the fate of the message of this number. If another number is the flow's last, or none is
+    /// kept, nothing changes.
+    #[tactic(auto, unfolding(crate::specs::Flows::ended))]
+    pub fn end(&mut self, flow: &Flow, number: Number, fate: Fate)
+        ensures { self.new ≡ ended self.old flow.now number fate }
+    {
+        if let Some(noted) = self.flows.get(flow) {
+            self.flows.replace(*flow, noted.ended(number, fate));
+        }
+    }
+
+    /// What a question about the message of this number comes to: `Note` if the number is new, else the
+    /// answer by its fate if the number is the flow's last, and else `Silent`.
+    pub fn asked(&self, flow: &Flow, number: Number) -> Asked
+        ensures { result ≡ asked_in (map.get self.now flow.now) number }
+    {
+        if is_new(self.kept(flow), number) {
+            return Asked::Note;
+        }
+        match self.flows.get(flow) {
+            Some(noted) if noted.number == number => noted.fate.told(),
+            _ => Asked::Silent,
+        }
     }
 
     /// Drops the last numbers of flows whose source is at this IMP, and no others.
@@ -86,8 +179,11 @@ impl DestFlows {
 
     /// The last number that it keeps of a flow.
     pub fn kept(&self, flow: &Flow) -> Option<Number>
-        ensures { result ≡ map.get self.now flow.now }
+        ensures { result ≡ kept_in (map.get self.now flow.now) }
     {
-        self.flows.get(flow)
+        match self.flows.get(flow) {
+            Some(noted) => Some(noted.number),
+            None => None,
+        }
     }
 }

@@ -1,14 +1,15 @@
 //! What the window and the two tables promise, as laws over their definitions. The functions here do
 //! nothing: each clause is the law.
 
-ghost use Rattle.std.specs.Prelude.{◌≡◌, ◌≢◌, ℕ, ◌+◌, ◌-◌, ◌*◌, ◌<◌, ◌≤◌, false, true, Option, Some, None, ◌↔◌, IsSome, if◌then◌else◌};
+ghost use Rattle.std.specs.Prelude.{◌≡◌, ◌≢◌, ℕ, ◌+◌, ◌-◌, ◌*◌, ◌<◌, ◌≤◌, ◌==◌, false, true, Option, Some, None, ◌↔◌, IsSome, if◌then◌else◌};
 ghost use Rattle.std.specs.Option.{option_map};
 ghost use Rattle.std.specs.FinMap as map;
 ghost use Rattle.leader1822.specs.Host.{Host, same_host};
 ghost use Rattle.leader1822.specs.Mailboxes.{same_flow};
 ghost use Rattle.leader1822.specs.declared.address.Flow.{Flow};
-ghost use Rattle.link_table.specs.Flows.{Sources, Destinations, begun, flow_answered, given_up, handed, number_in, last_in, outstanding_in, is_idle_in, answered_in, given_up_in, handed_in, release_in, has_outstanding};
+ghost use Rattle.link_table.specs.Flows.{Sources, Destinations, noted, ended, ended_in, begun, flow_answered, given_up, handed, number_in, last_in, outstanding_in, is_idle_in, answered_in, given_up_in, handed_in, release_in, has_outstanding, has_outstanding_to};
 ghost use Rattle.link_table.specs.Keys.{is_from, drop_from, has_from};
+ghost use Rattle.link_table.specs.declared.destination.Fate.{Fate};
 ghost use Rattle.link_table.specs.declared.source.Standing.{Standing};
 ghost use Rattle.link_table.specs.declared.source.Standing.TheVariants as standing;
 ghost use Rattle.link_table.specs.declared.source.Release.TheVariants as release;
@@ -89,6 +90,10 @@ pub fn source_flows()
     ensures outstanding_none { (m : Sources) (h : Host) → has_outstanding h m ≡ false → (g : Flow) → same_host g.source h ≡ true → outstanding_in (map.get m g) ≡ None }
     ensures outstanding_one { (m : Sources) (h : Host) → has_outstanding h m ≡ true → (g : Flow) × (same_host g.source h ≡ true) × IsSome (outstanding_in (map.get m g)) }
 
+    // a message to a host at an IMP has no answer exactly if a flow to such a host has one outstanding
+    ensures outstanding_to_none { (m : Sources) (imp : ℕ) → has_outstanding_to imp m ≡ false → (g : Flow) → (g.destination.imp == imp) ≡ true → outstanding_in (map.get m g) ≡ None }
+    ensures outstanding_to_one { (m : Sources) (imp : ℕ) → has_outstanding_to imp m ≡ true → (g : Flow) × ((g.destination.imp == imp) ≡ true) × IsSome (outstanding_in (map.get m g)) }
+
     // an answer frees a flow only with the outstanding number, and always with it
     ensures freed { (s : Option Standing) (n : ℕ) → (release_in n s ≡ release.Freed) ↔ (outstanding_in s ≡ Some n) }
 {}
@@ -119,7 +124,10 @@ pub fn numbers_of_sources()
 /// What the calls of a destination do to each flow.
 pub fn destination_flows()
     // note
-    ensures noted { (m : Destinations) (f g : Flow) (n : ℕ) → map.get (map.insert m f n) g ≡ (if same_flow g f then Some n else map.get m g) }
+    ensures noted { (m : Destinations) (f g : Flow) (n : ℕ) (new : Fate) → map.get (noted m f n new) g ≡ (if same_flow g f then Some (record { number = n; fate = new }) else map.get m g) }
+
+    // end
+    ensures ended { (m : Destinations) (f g : Flow) (n : ℕ) (new : Fate) → map.get (ended m f n new) g ≡ (if same_flow g f then option_map (ended_in n new) (map.get m f) else map.get m g) }
 
     // forget
     ensures forgotten { (m : Destinations) (imp : ℕ) (g : Flow) → map.get (drop_from imp m) g ≡ (if is_from imp g then None else map.get m g) }

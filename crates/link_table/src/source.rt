@@ -2,12 +2,12 @@
 
 ghost use Rattle.std.specs.Prelude.{◌≡◌, OnErr, Err, None, Some, is_some};
 ghost use Rattle.std.specs.FinMap as map;
-ghost use Rattle.link_table.specs.Flows.{FlowDecided, begin_fault, begun, flow_answered, given_up, handed, number_in, last_of, last_in, outstanding_in, is_idle_in, answered_in, given_up_in, handed_in, release_in, has_outstanding};
+ghost use Rattle.link_table.specs.Flows.{FlowDecided, begin_fault, begun, flow_answered, given_up, handed, number_in, last_of, last_in, outstanding_in, is_idle_in, answered_in, given_up_in, handed_in, release_in, has_outstanding, has_outstanding_to};
 
 use crate::FlowFault;
 use crate::flow_map::FlowMap;
 use crate::numbers::{Number, next};
-use leader1822::{Flow, HostAddr};
+use leader1822::{Flow, HostAddr, ImpNumber};
 use std::alloc::Global;
 use std::marker::Model;
 
@@ -182,6 +182,16 @@ impl SourceFlows {
         ensures { result ≡ has_outstanding host self.now }
     {
         self.flows.iter().any(|(flow, standing)| flow.source == host && standing.is_outstanding())
+    }
+
+    /// Whether any message to a host at this IMP has no answer yet. That IMP forgets the numbers of this
+    /// source's flows only when this is false.
+    pub fn has_outstanding_to(&self, imp: ImpNumber) -> bool
+        ensures { result ≡ has_outstanding_to imp self.now }
+    {
+        let number = imp.number();
+        self.flows.iter().any(|(flow, standing)| flow.destination.imp() == number
+            && standing.is_outstanding())
     }
 
     /// The number of the outstanding message of a flow.

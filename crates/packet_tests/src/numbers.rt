@@ -3,7 +3,7 @@
 use crate::values::{flow, from_imp_3, from_imp_4, is_told};
 use leader1822::{Flow, HostAddr, ImpNumber};
 use link_table::numbers::{is_new, next, oldest};
-use link_table::{Age, DestFlows, FlowFault, Number, Release, SourceFlows, Standing};
+use link_table::{Age, Asked, DestFlows, Fate, FlowFault, Noted, Number, Release, SourceFlows, Standing};
 use std::alloc::{AllocError, Global};
 
 const BLOCKED: Result<Number, FlowFault> = Err(FlowFault::Blocked);
@@ -12,7 +12,7 @@ const BLOCKED: Result<Number, FlowFault> = Err(FlowFault::Blocked);
 
 /// How old a number is where this one is the flow's last.
 fn judged(flows: &mut DestFlows, flow: &Flow, last: Number, number: Number) -> Option<Age> {
-    flows.note(flow, last).ok()?;
+    flows.note(flow, last, Fate::Waits).ok()?;
     Some(flows.judge(flow, number))
 }
 
@@ -267,6 +267,30 @@ fn a_host_has_a_message_without_an_answer_until_the_answer_is_there(rt: HostRunt
     }
 }
 
+/// Whether a message to a host at this IMP has no answer yet: at first, once a flow to 0/2 has begun one,
+/// and once that is answered.
+fn awaited_in_turn(alloc: Global, imp: ImpNumber) -> Option<[bool; 3]> {
+    let flow = flow(5);
+    let mut flows = SourceFlows::new(alloc);
+    let nothing = flows.has_outstanding_to(imp);
+    flows.begin(&flow).ok()?;
+    let begun = flows.has_outstanding_to(imp);
+    flows.answer(&flow, 0);
+    Some([nothing, begun, flows.has_outstanding_to(imp)])
+}
+
+#[test]
+fn a_message_to_an_imp_is_outstanding_until_its_answer_is_there(rt: HostRuntime) {
+    // the source is at IMP 1, the destination at IMP 2
+    for (imp, awaited) in [(1, [false; 3]), (2, [false, true, false]), (3, [false; 3])] {
+        let found = match ImpNumber::new(imp) {
+            Some(number) => awaited_in_turn(rt.alloc(), number),
+            None => None,
+        };
+        assert_eq!(rt; found, Some(awaited), "IMP {imp}");
+    }
+}
+
 /// The number of a flow's next message, which is given up, so that the one after it can begin.
 fn number_of_next(flows: &mut SourceFlows, flow: &Flow) -> Result<Number, FlowFault> {
     let number = flows.begin(flow);
@@ -299,14 +323,87 @@ fn noted(alloc: Global) -> Result<[Option<Number>; 3], FlowFault> {
     let (flow, other) = (flow(5), flow(6));
     let mut flows = DestFlows::new(alloc);
     let before = flows.kept(&flow);
-    flows.note(&flow, 7)?;
-    flows.note(&flow, 3)?;
+    flows.note(&flow, 7, Fate::Waits)?;
+    flows.note(&flow, 3, Fate::Never)?;
     Ok([before, flows.kept(&flow), flows.kept(&other)])
 }
 
 #[test]
 fn a_flow_keeps_the_number_that_was_noted_last(rt: HostRuntime) {
     assert_eq!(rt; noted(rt.alloc()), Ok([None, Some(3), None]));
+}
+
+/// What questions about messages 6, 7 and 8 of a flow come to, once 7 was noted with this fate.
+fn asked(alloc: Global, fate: Fate) -> Result<[Asked; 3], FlowFault> {
+    let flow = flow(5);
+    let mut flows = DestFlows::new(alloc);
+    flows.note(&flow, 7, fate)?;
+    Ok([
+        flows.asked(&flow, 6),
+        flows.asked(&flow, 7),
+        flows.asked(&flow, 8),
+    ])
+}
+
+#[test]
+fn a_question_is_answered_by_the_fate_of_the_number_noted_last(rt: HostRuntime) {
+    for (fate, told) in [
+        (Fate::Waits, Asked::Silent),
+        (Fate::Taken, Asked::Rfnm),
+        (Fate::Dead, Asked::Dead),
+        (Fate::Never, Asked::Never),
+    ] {
+        assert_eq!(rt;
+            asked(rt.alloc(), fate),
+            Ok([Asked::Silent, told, Asked::Note])
+        );
+    }
+}
+
+/// What questions come to where no number is kept, and where the kept one lies 127 and 128 behind.
+fn asked_far_off(alloc: Global) -> Result<[Asked; 3], FlowFault> {
+    let flow = flow(5);
+    let mut flows = DestFlows::new(alloc);
+    let none = flows.asked(&flow, 9);
+    flows.note(&flow, 0, Fate::Taken)?;
+    Ok([none, flows.asked(&flow, 127), flows.asked(&flow, 128)])
+}
+
+#[test]
+fn a_question_about_a_new_number_is_to_be_noted(rt: HostRuntime) {
+    assert_eq!(rt;
+        asked_far_off(rt.alloc()),
+        Ok([Asked::Note, Asked::Note, Asked::Silent])
+    );
+}
+
+/// What questions about the last messages of two flows come to, once message 7 of the first was noted and
+/// ended, and after that messages 6 and 8 of it and message 7 of a flow without a number.
+fn ended(alloc: Global) -> Result<[Asked; 4], FlowFault> {
+    let (flow, other, neither) = (flow(5), flow(6), from_imp_3());
+    let mut flows = DestFlows::new(alloc);
+    flows.note(&flow, 7, Fate::Waits)?;
+    flows.note(&other, 7, Fate::Waits)?;
+    flows.end(&flow, 7, Fate::Taken);
+    let taken = flows.asked(&flow, 7);
+    for number in [6, 8] {
+        flows.end(&flow, number, Fate::Dead);
+    }
+    flows.end(&neither, 7, Fate::Dead);
+    Ok([
+        taken,
+        flows.asked(&flow, 7),
+        flows.asked(&other, 7),
+        flows.asked(&neither, 7),
+    ])
+}
+
+#[test]
+fn a_fate_changes_where_its_number_is_the_last(rt: HostRuntime) {
+    assert_eq!(rt;
+        ended(rt.alloc()),
+        Ok([Asked::Rfnm, Asked::Rfnm, Asked::Silent, Asked::Note])
+    );
 }
 
 /// Whether numbers are kept of flows from this IMP.
@@ -318,9 +415,9 @@ fn keeps(flows: &DestFlows, imp: u8) -> Option<bool> {
 /// numbers are kept of flows from IMPs 1, 2 and 3 before and after, and what is kept of each flow then.
 fn forgotten(alloc: Global) -> Result<([Option<bool>; 6], [Option<Number>; 3]), FlowFault> {
     let mut flows = DestFlows::new(alloc);
-    flows.note(&flow(5), 7)?;
-    flows.note(&from_imp_3(), 9)?;
-    flows.note(&from_imp_4(), 8)?;
+    flows.note(&flow(5), 7, Fate::Waits)?;
+    flows.note(&from_imp_3(), 9, Fate::Taken)?;
+    flows.note(&from_imp_4(), 8, Fate::Dead)?;
     let (one, two, three) = (keeps(&flows, 1), keeps(&flows, 2), keeps(&flows, 3));
     flows.forget(ImpNumber::new(3).unwrap());
     flows.forget(ImpNumber::new(2).unwrap());
@@ -362,6 +459,8 @@ fn copies_are_equal<T: Copy + PartialEq>(values: &[T]) -> Result<bool, AllocErro
     Ok(true)
 }
 
+const FATES: [Fate; 4] = [Fate::Waits, Fate::Taken, Fate::Dead, Fate::Never];
+
 #[test]
 fn values_of_flows_are_equal_to_their_copies_alone(rt: HostRuntime) {
     let standings = [
@@ -374,9 +473,13 @@ fn values_of_flows_are_equal_to_their_copies_alone(rt: HostRuntime) {
         standings[1].last(),
         standings[2].last(),
     ];
+    let noted_as_each = FATES.map(|fate| Noted { number: 7, fate });
     let same = [
         copies_are_equal(&standings),
         copies_are_equal(&[Age::New, Age::Old]),
+        copies_are_equal(&FATES),
+        copies_are_equal(&noted_as_each),
+        copies_are_equal(&[Asked::Note, Asked::Silent, Asked::Rfnm, Asked::Dead, Asked::Never]),
         copies_are_equal(&[Release::Freed, Release::Stale]),
         copies_are_equal(&[FlowFault::Blocked, FlowFault::OutOfMemory]),
     ];
@@ -386,12 +489,17 @@ fn values_of_flows_are_equal_to_their_copies_alone(rt: HostRuntime) {
         standings[2] == standings[0],
         standings[0] == Standing::Idle(8),
         Age::New == Age::Old,
+        FATES[0] == FATES[1],
+        FATES[2] == FATES[3],
+        noted_as_each[0] == noted_as_each[1],
+        Asked::Note == Asked::Never,
+        Asked::Rfnm == Asked::Dead,
         Release::Freed == Release::Stale,
         FlowFault::Blocked == FlowFault::OutOfMemory,
     ];
     assert_eq!(rt;
         (lasts, same, other),
-        ([7, 7, 7], [Ok(true); 4], [false; 7])
+        ([7, 7, 7], [Ok(true); 7], [false; 12])
     );
 }
 

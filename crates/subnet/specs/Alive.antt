@@ -8,7 +8,7 @@ use Rattle.imp_channel.specs.declared.frame.Frame.{Frame}
 use Rattle.imp_node.specs.declared.waiting.Message.{Message}
 use Rattle.imp_node.specs.State.{State, number}
 use Rattle.imp_node.specs.Contents as imp
-use Rattle.imp_node.specs.Queries.{holds, packet_has, holds_data, is_data_between, touches, packet_touches, keeps}
+use Rattle.imp_node.specs.Queries.{holds, packet_has, holds_data, is_data_between, touches, packet_touches, keeps, awaits}
 use Rattle.subnet.specs.Net.{Net, Wire}
 
 -- ---- the packets and messages
@@ -64,3 +64,11 @@ has_flow n i = anywhere n (λ s. touches s i) (packet_touches i)
 -- another IMP keeps the last number of a flow from this one
 abbrev pub is_remembered : Net → ℕ → Bool
 is_remembered n i = list_any (says (λ s. not (number s == i) && keeps s i)) n.imps
+
+-- a message to a host at this IMP is outstanding at another IMP that is up
+abbrev pub is_awaited : Net → ℕ → Bool
+is_awaited n i = list_any (says (λ s. not (number s == i) && awaits s i)) n.imps
+
+-- the same of one IMP, if that is up
+abbrev pub is_awaited_at : Option State → ℕ → Bool
+is_awaited_at o i = says (λ s. awaits s i) o

@@ -2,7 +2,7 @@
 --
 -- Refusals stand in one order everywhere: what isn't there, then what is still alive, then IMPs, hosts and ends that are down or
 -- up, and then the IMP's own. So a step that waits for packets to die is refused for that also where its IMP is down.
-use Rattle.std.specs.Prelude.{ℕ, zero, suc, ◌+◌, Bool, false, not, List, [], ◌∷◌, ◌++◌, length, replicate, Option, Some, None, slice_get, slice_set, slice_index_or, is_some, nat_lt, ◌==◌, ◌&&◌, if◌then◌else◌, count_by}
+use Rattle.std.specs.Prelude.{ℕ, zero, suc, ◌+◌, Bool, false, not, List, [], ◌∷◌, ◌++◌, length, replicate, Option, Some, None, slice_get, slice_set, slice_index_or, is_some, nat_lt, ◌==◌, ◌&&◌, ◌||◌, if◌then◌else◌, count_by}
 use Rattle.std.specs.List.{range_with_len}
 use Rattle.leader1822.specs.Calls.{crossing_of}
 use Rattle.leader1822.specs.Host.{Host, is_host}
@@ -18,6 +18,7 @@ use Rattle.leader1822.specs.declared.event.NetEvent.{NetEvent}
 use Rattle.leader1822.specs.declared.event.NetEvent.TheVariants as event
 use Rattle.leader1822.specs.declared.message.HostMessage.{HostMessage}
 use Rattle.link_table.specs.Numbers.{oldest}
+use Rattle.flow_law.specs.Moves.{next_number}
 use Rattle.imp_channel.specs.declared.frame.Frame.{Frame}
 use Rattle.imp_node.specs.State.{State, HostState, ImpTurn, no_host}
 use Rattle.imp_node.specs.State as imp
@@ -26,9 +27,9 @@ use Rattle.imp_node.specs.Arrival.{from_line}
 use Rattle.imp_node.specs.Taking.{next_for, to_host, to_host_refusal}
 use Rattle.imp_node.specs.Lines.{resend, route, end_down, end_up, end_down_refusal, end_up_refusal}
 use Rattle.imp_node.specs.Stopping.{give_up, give_up_refusal, forget, abandon, abandon_refusal, host_down, host_down_refusal, host_up, host_up_refusal}
-use Rattle.imp_node.specs.Queries.{last, outstanding}
+use Rattle.imp_node.specs.Queries.{last, outstanding, kept}
 use Rattle.subnet.specs.Net.{Net, imp_at, wire_at, ends_at, port_of, with_turn, frames_on, far_end, dropping}
-use Rattle.subnet.specs.Alive.{is_alive, has_data, has_flow, is_remembered}
+use Rattle.subnet.specs.Alive.{says, is_alive, has_data, has_flow, is_remembered, is_awaited, is_awaited_at}
 
 -- ---- small words
 
@@ -61,10 +62,20 @@ abbrev pub alive_behind : Net → Flow → Option ℕ → Bool
 alive_behind n f None = false
 alive_behind n f (Some number) = is_alive n f (oldest number)
 
--- An offer would begin a number, if there were room, while the number 127 before the flow's last one is alive
+-- whether this is the number, if there is one
+abbrev pub is_number : Option ℕ → ℕ → Bool
+is_number None number = false
+is_number (Some kept) number = kept == number
+
+-- the destination's IMP is up and keeps this number as the flow's last one
+abbrev pub is_kept : Net → Flow → ℕ → Bool
+is_kept n f number = says (λ s. is_number (kept s f) number) (imp_at n.imps f.destination.imp)
+
+-- An offer would begin a number, if there were room, while the number 127 before the flow's last one is alive, or while the
+-- destination's IMP keeps the number that would be begun
 abbrev pub offer_alive : Net → Flow → Option State → Bool
 offer_alive n f None = false
-offer_alive n f (Some s) = begins s f && alive_behind n f (last s f)
+offer_alive n f (Some s) = begins s f && (alive_behind n f (last s f) || is_kept n f (next_number (last s f)))
 
 abbrev pub offer_refusal : Net → HostMessage → Option CarrierFault
 offer_refusal n m =
@@ -171,12 +182,12 @@ site_at n i = slice_index_or n.sites i None
 abbrev pub is_imp : Net → ℕ → Bool
 is_imp n i = is_some (site_at n i)
 
--- an IMP forgets another's flows only where no data and no message from there to here is alive
+-- an IMP forgets another's flows only where no data and no message from there to here is alive, and no message outstanding there
 abbrev pub forgetting_refusal : Net → ℕ → ℕ → Option CarrierFault
 forgetting_refusal n at from =
     first_of (not (is_imp n at && is_imp n from)) fault.NoSuch
     (first_of (at == from) fault.NoSuch
-    (first_of (has_data n from at) fault.StillAlive
+    (first_of (has_data n from at || is_awaited_at (imp_at n.imps from) at) fault.StillAlive
     (at_up (imp_at n.imps at) accepted)))
 
 -- an IMP that is down has no slot
@@ -215,13 +226,15 @@ imp_refusal n i = first_of (not (is_imp n i)) fault.NoSuch (at_up (imp_at n.imps
 abbrev pub started_imp : ℕ → ℕ → ℕ → State
 started_imp i hosts ports = record (imp.opening_node i hosts ports) { hosts = replicate hosts no_host }
 
--- it starts only where nothing of its flows is alive and no other IMP keeps a number of one from it
+-- it starts only where nothing of its flows is alive, no other IMP keeps a number of one from it, and at no other IMP a message
+-- to a host at it is outstanding
 abbrev pub starting_refusal : Net → ℕ → Option CarrierFault
 starting_refusal n i =
     first_of (not (is_imp n i)) fault.NoSuch
     (first_of (has_flow n i) fault.StillAlive
     (first_of (is_remembered n i) fault.StillAlive
-    (if is_some (imp_at n.imps i) then Some fault.IsUp else None)))
+    (first_of (is_awaited n i) fault.StillAlive
+    (if is_some (imp_at n.imps i) then Some fault.IsUp else None))))
 
 abbrev pub hosts_at : Option ℕ → ℕ
 hosts_at None = 0

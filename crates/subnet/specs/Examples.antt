@@ -3,7 +3,8 @@ use Rattle.std.specs.Prelude.{ℕ, true, false, List, [], ◌∷◌, Option, Som
 use Rattle.std.specs.FinMap as map
 use Rattle.leader1822.specs.declared.address.Flow.{Flow}
 use Rattle.leader1822.specs.declared.message.HostMessage.{HostMessage}
-use Rattle.link_table.specs.Flows.{begun}
+use Rattle.link_table.specs.Flows.{begun, noted}
+use Rattle.link_table.specs.declared.destination.Fate.TheVariants as fate
 use Rattle.link_table.specs.declared.source.Standing.TheVariants as standing
 use Rattle.packetiser.specs.declared.packet.PacketKind.TheVariants as kind
 use Rattle.imp_channel.specs.Line as line
@@ -92,13 +93,13 @@ cut_off = record imp_2 { ports = down_port ∷ [] }
 abbrev pub serving_ours : State
 serving_ours = record imp_2 { hosts = record up_host { queue = our_queued 0 ∷ [] } ∷ up_host ∷ [] }
 
--- IMP 2 that has noted number 0 of our flow
+-- IMP 2 that has noted number 0 of our flow, whose message was taken
 abbrev pub keeping_ours : State
-keeping_ours = record imp_2 { kept = map.insert map.empty ours 0 }
+keeping_ours = record imp_2 { kept = noted map.empty ours 0 fate.Taken }
 
 -- IMP 1 that has noted number 0 of a flow between its own hosts
 abbrev pub keeping_own : State
-keeping_own = record imp_1 { kept = map.insert map.empty (flow (host 0 1) (host 1 1) 7) 0 }
+keeping_own = record imp_1 { kept = noted map.empty (flow (host 0 1) (host 1 1) 7) 0 fate.Taken }
 
 -- IMP 1 with our packet 0 in channel 0 of the line
 abbrev pub sending_ours : State

@@ -4,6 +4,7 @@ use Rattle.bit_messages.specs.Body.{body}
 use Rattle.leader1822.specs.Mailboxes.{Box, box_of}
 use Rattle.leader1822.specs.declared.address.Flow.{Flow}
 use Rattle.leader1822.specs.declared.crossing.Crossing.{Crossing}
+use Rattle.link_table.specs.Flows.{kept_in, fate_in}
 use Rattle.packetiser.specs.PacketFields.{PacketFields, flow_of}
 use Rattle.packetiser.specs.Pieces.{IsPieceOf}
 use Rattle.packetiser.specs.declared.packet.PacketKind.{PacketKind}
@@ -72,7 +73,8 @@ view_of from_up s to_up r box = record {
   answers = s.answers;
   to_up = to_up;
   destination = r.destination;
-  kept = r.kept;
+  kept = kept_in r.kept;
+  fate = fate_in r.kept;
   queue = map queued_of r.queue;
   box = box;
 }

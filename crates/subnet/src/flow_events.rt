@@ -3,6 +3,7 @@
 ghost use Rattle.std.specs.Prelude.{◌≡◌, OnOk};
 ghost use Rattle.leader1822.specs.declared.event.NetEvent.TheVariants as event;
 ghost use Rattle.subnet.specs.Net.{imp_at};
+ghost use Rattle.subnet.specs.Alive.{is_awaited_at};
 ghost use Rattle.subnet.specs.Events.{give_up_alive, outstanding_at};
 ghost use Rattle.subnet.specs.Inside.Calling.{AreLive, Steps, SameLog};
 
@@ -79,9 +80,19 @@ impl Parts {
         if at.number() == from.number() {
             return Err(CarrierFault::NoSuch);
         }
-        if self.finds(&Sought::Between(from, at)) {
+        if self.finds(&Sought::Between(from, at)) || self.is_awaiting(from, at) {
             return Err(CarrierFault::StillAlive);
         }
         self.at_imp(at.number(), ImpCall::Forget(from))
+    }
+
+    /// Whether a message to a host at one IMP is outstanding at another, if that is up.
+    fn is_awaiting(&self, from: ImpNumber, at: ImpNumber) -> bool
+        ensures { result ≡ is_awaited_at (imp_at self.now.imps from) at }
+    {
+        match self.imp(from.number()) {
+            Some(imp) => imp.awaits(at),
+            None => false,
+        }
     }
 }

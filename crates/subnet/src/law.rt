@@ -261,6 +261,13 @@ pub fn worked_still_alive()
     // before the first number nothing is in the way
     ensures offer_first { offer_refusal (pair (Some imp_1) (Some imp_2) (data_frame 129 ∷ []) []) our_message ≡ None }
 
+    // or the destination's IMP keeps the number that would be begun: number 0 was taken and answered, and 1 to 255 were given up.
+    // Another number that it keeps is not in the way, and neither is this one once it was forgotten
+    ensures offer_kept { offer_refusal (pair (Some (begun_up_to 255)) (Some keeping_ours) [] []) our_message ≡ Some fault.StillAlive }
+    ensures offer_unkept { offer_refusal (pair (Some (begun_up_to 254)) (Some keeping_ours) [] []) our_message ≡ None }
+    ensures forget_kept { step_refusal (pair (Some (begun_up_to 255)) (Some keeping_ours) [] []) (event.Forget 2 1) ≡ None }
+    ensures offer_forgotten { offer_refusal (stepped (pair (Some (begun_up_to 255)) (Some keeping_ours) [] []) (event.Forget 2 1)) our_message ≡ None }
+
     // `NoRoom` comes after it; and what would begin no number, without a route or from a host that is down, does not wait
     ensures offer_full { (offer_refusal (pair (Some (record (begun_up_to 127) { store = packets_to 3 32 })) (Some imp_2) (data_frame 0 ∷ []) []) our_message ≡ Some fault.StillAlive) × (offer_refusal (pair (Some (record (begun_up_to 127) { store = packets_to 3 32 })) (Some imp_2) (data_frame 1 ∷ []) []) our_message ≡ Some fault.NoRoom) }
     ensures offer_nowhere { offer_refusal (pair (Some (record (begun_up_to 127) { routes = record { own = 1; heard = None ∷ [] } })) (Some imp_2) (data_frame 0 ∷ []) []) our_message ≡ None }
@@ -280,6 +287,10 @@ pub fn worked_still_alive()
     ensures forget_back { step_refusal (pair (Some imp_1) (Some imp_2) (data_frame 0 ∷ []) []) (event.Forget 1 2) ≡ None }
     ensures forget_answer { step_refusal (pair (Some imp_1) (Some imp_2) [] (rfnm_frame 0 ∷ [])) (event.Forget 2 1) ≡ None }
 
+    // or a message from there to here is outstanding; one the other way doesn't count
+    ensures forget_awaited { step_refusal (pair (Some expecting) (Some imp_2) [] []) (event.Forget 2 1) ≡ Some fault.StillAlive }
+    ensures forget_own { step_refusal (pair (Some expecting) (Some imp_2) [] []) (event.Forget 1 2) ≡ None }
+
     // an IMP comes up: something of a flow from it is alive, also an answer. What only travelled over it for others doesn't count
     ensures start_answer { starting_refusal (pair None (Some imp_2) [] (rfnm_frame 0 ∷ [])) 1 ≡ Some fault.StillAlive }
     ensures start_destination { starting_refusal (pair (Some imp_1) None (data_frame 0 ∷ []) []) 2 ≡ Some fault.StillAlive }
@@ -289,6 +300,9 @@ pub fn worked_still_alive()
     ensures start_kept { starting_refusal (pair None (Some keeping_ours) [] []) 1 ≡ Some fault.StillAlive }
     ensures start_own { starting_refusal (pair (Some keeping_own) (Some imp_2) [] []) 1 ≡ Some fault.IsUp }
     ensures start_keeper { starting_refusal (pair (Some imp_1) (Some keeping_ours) [] []) 2 ≡ Some fault.IsUp }
+
+    // or a message to a host at it is outstanding at another IMP
+    ensures start_awaited { starting_refusal (pair (Some expecting) None [] []) 2 ≡ Some fault.StillAlive }
 {}
 
 /// IMPs that stop and start.

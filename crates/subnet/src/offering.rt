@@ -1,18 +1,20 @@
 //! A host hands a message to the subnet.
 
-ghost use Rattle.std.specs.Prelude.{◌≡◌, ◌∷◌, [], ◌&&◌, true, OnOk, OnErr};
+ghost use Rattle.std.specs.Prelude.{◌≡◌, ◌∷◌, [], ◌&&◌, ◌||◌, true, OnOk, OnErr};
 ghost use Rattle.imp_node.specs.Offering.{begins};
 ghost use Rattle.imp_node.specs.Queries as queries;
 ghost use Rattle.subnet.specs.Net.{imp_at};
 ghost use Rattle.subnet.specs.Events as events;
-ghost use Rattle.subnet.specs.Events.{offer_alive, alive_behind};
+ghost use Rattle.flow_law.specs.Moves.{next_number};
+ghost use Rattle.subnet.specs.Events.{offer_alive, alive_behind, is_kept};
 ghost use Rattle.subnet.specs.Inside.Calling.{AreLive, CallEnds, SameLog};
 
 use crate::imp_call::ImpCall;
 use crate::parts::Parts;
 use imp_node::Imp;
 use leader1822::{CarrierFault, Crossing, Flow, HostMessage};
-use link_table::numbers::oldest;
+use link_table::Number;
+use link_table::numbers::{next, oldest};
 
 impl Parts {
     /// A message goes out: its source's IMP takes it.
@@ -41,26 +43,46 @@ impl Parts {
     }
 
     /// Whether an offer would begin a number of this flow while the number that lies too far behind the last
-    /// one is alive.
+    /// one is alive, or while the destination's IMP keeps the number that would be begun.
     fn is_in_the_way(&self, flow: &Flow) -> bool
         ensures { result ≡ offer_alive self.now flow.now (imp_at self.now.imps flow.now.source.imp) }
     {
         let source = flow.source;
         match self.imp(source.imp()) {
-            Some(imp) => self.is_behind(imp, flow),
+            Some(imp) => imp.begins(flow)
+                && (self.is_behind(imp, flow) || self.is_next_kept(imp, flow)),
             None => false,
         }
     }
 
-    /// The same at the source's IMP.
+    /// Whether the number that lies too far behind the last one of this source's IMP is alive.
     fn is_behind(&self, imp: &Imp, flow: &Flow) -> bool
-        ensures { result ≡ (begins imp.now flow.now && alive_behind self.now flow.now (queries.last imp.now flow.now)) }
+        ensures { result ≡ alive_behind self.now flow.now (queries.last imp.now flow.now) }
     {
-        if !imp.begins(flow) {
-            return false;
-        }
         match imp.last(flow) {
             Some(number) => self.is_alive(flow, oldest(number)),
+            None => false,
+        }
+    }
+
+    /// Whether the destination's IMP keeps the number that this source's IMP would begin.
+    fn is_next_kept(&self, imp: &Imp, flow: &Flow) -> bool
+        ensures { result ≡ is_kept self.now flow.now (next_number (queries.last imp.now flow.now)) }
+    {
+        let number = match imp.last(flow) {
+            Some(last) => next(last),
+            None => 0,
+        };
+        self.is_kept(flow, number)
+    }
+
+    /// Whether the destination's IMP is up and keeps this number as the flow's last one.
+    fn is_kept(&self, flow: &Flow, number: Number) -> bool
+        ensures { result ≡ is_kept self.now flow.now number }
+    {
+        let destination = flow.destination;
+        match self.imp(destination.imp()) {
+            Some(imp) => imp.kept(flow) == Some(number),
             None => false,
         }
     }

@@ -7,7 +7,7 @@ ghost use Rattle.leader1822.specs.declared.event.NetEvent.TheVariants as event;
 ghost use Rattle.imp_node.specs.State.{number};
 ghost use Rattle.imp_node.specs.Queries as queries;
 ghost use Rattle.subnet.specs.Net.{ends_at};
-ghost use Rattle.subnet.specs.Alive.{says, is_remembered};
+ghost use Rattle.subnet.specs.Alive.{says, is_remembered, is_awaited};
 ghost use Rattle.subnet.specs.Events as events;
 ghost use Rattle.subnet.specs.Events.{hosts_at, site_at, is_imp};
 ghost use Rattle.subnet.specs.Inside.Calling.{IsLive, AreLive, Steps, SameLog};
@@ -31,7 +31,7 @@ impl Parts {
         if !self.is_imp(number) {
             return Err(CarrierFault::NoSuch);
         }
-        if self.finds(&Sought::Touching(imp)) || self.is_remembered(imp) {
+        if self.finds(&Sought::Touching(imp)) || self.is_remembered(imp) || self.is_awaited(imp) {
             return Err(CarrierFault::StillAlive);
         }
         if self.is_up(number) {
@@ -50,6 +50,14 @@ impl Parts {
         ensures { result ≡ is_remembered self.now imp }
     {
         is_kept_beside(&self.imps, imp)
+    }
+
+    /// Whether a message to a host at this IMP is outstanding at another IMP.
+    fn is_awaited(&self, imp: ImpNumber) -> bool
+        requires { AreLive self.now.imps }
+        ensures { result ≡ is_awaited self.now imp }
+    {
+        is_awaited_beside(&self.imps, imp)
     }
 
     /// An IMP of the network as it starts.
@@ -132,6 +140,42 @@ fn is_kept_beside(imps: &[Option<Imp>], imp: ImpNumber) -> bool
 {
     for (at, place) in imps.iter().enumerate() {
         if is_kept_at(at, place, imp) {
+            return true;
+        }
+    }
+    false
+}
+
+/// Whether the IMP of a place is up and has a message to a host at this IMP outstanding.
+fn awaits(place: &Option<Imp>, imp: ImpNumber) -> bool
+    ensures { result ≡ says (λ s. queries.awaits s imp) place.now }
+{
+    match place {
+        Some(other) => other.awaits(imp),
+        None => false,
+    }
+}
+
+/// Whether the IMP of this place is another one that is up and has a message to a host at this IMP
+/// outstanding.
+#[tactic(auto, using(crate::proofs::Calls::Starts::awaited_same, crate::proofs::Calls::Starts::awaited_other))]
+fn is_awaited_at(at: usize, place: &Option<Imp>, imp: ImpNumber) -> bool
+    requires { IsLive at place.now }
+    ensures { result ≡ says (λ s. not (number s == imp) && queries.awaits s imp) place.now }
+{
+    if at == imp.number() as usize {
+        return false;
+    }
+    awaits(place, imp)
+}
+
+/// Whether an IMP at another place has a message to a host at this IMP outstanding.
+fn is_awaited_beside(imps: &[Option<Imp>], imp: ImpNumber) -> bool
+    requires { AreLive imps.now }
+    ensures { result ≡ list_any (says (λ s. not (number s == imp) && queries.awaits s imp)) imps.now }
+{
+    for (at, place) in imps.iter().enumerate() {
+        if is_awaited_at(at, place, imp) {
             return true;
         }
     }

@@ -2,6 +2,7 @@
 use Rattle.std.specs.Prelude.{ℕ, Bool, true, false, not, List, Result, Ok, Err, if◌then◌else◌}
 use Rattle.bit_messages.specs.Body.{has_mark, text_of}
 use Rattle.leader1822.specs.declared.address.Flow.{Flow}
+use Rattle.link_table.specs.declared.destination.Fate.TheVariants as fate
 use Rattle.packetiser.specs.PacketFields.{PacketFields}
 use Rattle.packetiser.specs.Slots.{without}
 use Rattle.packetiser.specs.declared.packet.PacketKind.TheVariants as kind
@@ -35,9 +36,9 @@ has_place (Answering kind) s p = true
 
 -- a new message for a host that is down or not there
 abbrev pub turned_away : Flow → ℕ → State → State
-turned_away f n s = stored (answer_packet kind.Dead f n) (noted f n (record s { slots = without s.slots f }))
+turned_away f n s = stored (answer_packet kind.Dead f n) (noted f n fate.Dead (record s { slots = without s.slots f }))
 
 -- a body is whole
 abbrev pub completed : Flow → ℕ → List Bool → State → State
 completed f n body s =
-    if has_mark body then message_queued (record { flow = f; number = n; text = text_of body }) (noted f n s) else noted f n s
+    if has_mark body then message_queued (record { flow = f; number = n; text = text_of body }) (noted f n fate.Waits s) else noted f n fate.Never s

@@ -18,7 +18,8 @@ use Rattle.link_table.specs.declared.source.Release.TheVariants as release
 use Rattle.imp_node.specs.declared.waiting.Message.{Message}
 use Rattle.imp_node.specs.declared.waiting.Told.{Told}
 use Rattle.imp_node.specs.State.{State, ImpTurn, number, host_at, with_host, port_at}
-use Rattle.imp_node.specs.Flows.{answered_by}
+use Rattle.imp_node.specs.Flows.{answered_by, fated}
+use Rattle.link_table.specs.declared.destination.Fate.TheVariants as fate
 use Rattle.imp_node.specs.Arrival.{Arrival, Passing, Old, Undeliverable, Piece, NoSlot, Whole, Unmarked, Answering, arrival, arrived, arrival_has_room, frame_taken, taken_frame, from_line}
 use Rattle.imp_node.specs.Offering.{Way, Nowhere, Here, Away, way_of, offered}
 use Rattle.imp_node.specs.Stopping.{message_returned, all_returned, stopped}
@@ -69,14 +70,16 @@ offered_own Away m s = refl
 
 taken_by_own : (h : ℕ) (answers : List Told) (queue : List Message) (s : State) → number (taken_by h answers queue s) ≡ number s
 taken_by_own h (told ∷ others) queue s = refl
-taken_by_own h [] (m ∷ others) s = replied_own answer.Rfnm kind.Rfnm m (with_host s h (record (host_at s h) { queue = others }))
+taken_by_own h [] (m ∷ others) s = replied_own answer.Rfnm kind.Rfnm m (fated m.flow m.number fate.Taken (with_host s h (record (host_at s h) { queue = others })))
 taken_by_own h [] [] s = refl
 
 pub to_host_own : (s : State) (h : ℕ) → number (to_host s h).state ≡ number s
 to_host_own s h = taken_by_own h (host_at s h).answers (host_at s h).queue s
 
 returned_own : (m : Message) (s : State) → number (message_returned m s) ≡ number s
-returned_own m s = either_own (reply_has_room s m) s (replied answer.Dead kind.Dead m s) s (replied_own answer.Dead kind.Dead m s) refl
+returned_own m s =
+    let t : State = fated m.flow m.number fate.Dead s in
+    either_own (reply_has_room t m) s (replied answer.Dead kind.Dead m t) t (replied_own answer.Dead kind.Dead m t) refl
 
 all_returned_own : (ms : List Message) (s : State) → number (all_returned ms s) ≡ number s
 all_returned_own [] s = refl

@@ -90,5 +90,20 @@ beside_other i at (Some s) live other =
     let foreign : (number s == i) ≡ false = unlike (number s) i (λ same. other (sym live.0 ∙ same)) in
     rw foreign refl
 
+abbrev pub is_awaited_beside_it : ℕ → Option State → Bool
+is_awaited_beside_it i = says (λ s. not (number s == i) && queries.awaits s i)
+
+pub awaited_same : (i at : ℕ) (o : Option State) → IsLive at o → at ≡ i → is_awaited_beside_it i o ≡ false
+awaited_same i at None live same = refl
+awaited_same i at (Some s) live same =
+    let own : (number s == i) ≡ true = eq-eqb (number s) i (live.0 ∙ same) in
+    rw own refl
+
+pub awaited_other : (i at : ℕ) (o : Option State) → IsLive at o → (at ≡ i → ⊥) → says (λ s. queries.awaits s i) o ≡ is_awaited_beside_it i o
+awaited_other i at None live other = refl
+awaited_other i at (Some s) live other =
+    let foreign : (number s == i) ≡ false = unlike (number s) i (λ same. other (sym live.0 ∙ same)) in
+    rw foreign refl
+
 pub started_lives : (imps : List (Option State)) (i hosts ports : ℕ) → AreLive imps → AreLive (set imps i (Some (started_imp i hosts ports)))
 started_lives imps i hosts ports live = λ h. at_set IsLive imps i h (Some (started_imp i hosts ports)) None (live h) (refl, refl)

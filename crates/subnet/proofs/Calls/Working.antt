@@ -26,7 +26,7 @@ use Rattle.imp_node.specs.Queries.{outstanding}
 use Rattle.imp_node.specs.Lines.{end_down_refusal, end_up_refusal}
 use Rattle.imp_node.specs.Stopping.{own_host, give_up_refusal, host_down_refusal, host_up_refusal}
 use Rattle.subnet.specs.Net.{Net, imp_at, wire_at, port_of, frames_on}
-use Rattle.subnet.specs.Alive.{has_data, has_flow, is_remembered}
+use Rattle.subnet.specs.Alive.{has_data, has_flow, is_remembered, is_awaited, is_awaited_at}
 use Rattle.subnet.specs.Calls.{Kept, running, refusal_of, HasHalted, Fails, take_grows, step_grows, round_grows}
 use Rattle.subnet.specs.Events.{at_up, first_of, accepted, is_imp, has_end, give_up_alive, outstanding_at, offer_refusal, offer_out, take_refusal, taken_by_host, crossings_of, take_in, frame_refusal, imp_refusal, at_end_refusal, at_host_refusal, starting_refusal, abandoning_refusal, giving_up_refusal, forgetting_refusal, step_refusal, stepped, quiet_round}
 use Rattle.subnet.specs.Flows.{Alive, view}
@@ -119,11 +119,13 @@ host_up_plain h s =
 starting_plain : (n : Net) (i : ℕ) → Plain (starting_refusal n i)
 starting_plain n i =
     let last : Option CarrierFault = if is_some (imp_at n.imps i) then Some fault.IsUp else None in
-    let third : Option CarrierFault = first_of (is_remembered n i) fault.StillAlive last in
+    let fourth : Option CarrierFault = first_of (is_awaited n i) fault.StillAlive last in
+    let third : Option CarrierFault = first_of (is_remembered n i) fault.StillAlive fourth in
     let second : Option CarrierFault = first_of (has_flow n i) fault.StillAlive third in
     first_plain (not (is_imp n i)) fault.NoSuch second refl
     (first_plain (has_flow n i) fault.StillAlive third refl
-    (first_plain (is_remembered n i) fault.StillAlive last refl (first_plain (is_some (imp_at n.imps i)) fault.IsUp None refl tt)))
+    (first_plain (is_remembered n i) fault.StillAlive fourth refl
+    (first_plain (is_awaited n i) fault.StillAlive last refl (first_plain (is_some (imp_at n.imps i)) fault.IsUp None refl tt))))
 
 give_up_plain : (f : Flow) (s : State) → Plain (give_up_refusal s f)
 give_up_plain f s =
@@ -140,10 +142,11 @@ giving_up_plain n f =
 forgetting_plain : (n : Net) (at from : ℕ) → Plain (forgetting_refusal n at from)
 forgetting_plain n at from =
     let last : Option CarrierFault = at_up (imp_at n.imps at) accepted in
-    let third : Option CarrierFault = first_of (has_data n from at) fault.StillAlive last in
+    let alive : Bool = has_data n from at || is_awaited_at (imp_at n.imps from) at in
+    let third : Option CarrierFault = first_of alive fault.StillAlive last in
     first_plain (not (is_imp n at && is_imp n from)) fault.NoSuch (first_of (at == from) fault.NoSuch third) refl
     (first_plain (at == from) fault.NoSuch third refl
-    (first_plain (has_data n from at) fault.StillAlive last refl (up_plain (imp_at n.imps at) accepted (λ s. tt))))
+    (first_plain alive fault.StillAlive last refl (up_plain (imp_at n.imps at) accepted (λ s. tt))))
 
 frame_plain : (n : Net) (l : ℕ) (d : Direction) (k : ℕ) → Plain (frame_refusal n l d k)
 frame_plain n l d k = last_plain (nat_lt l (length n.lines) && nat_lt k (length (frames_on d (wire_at n.lines l)))) fault.NoSuch refl

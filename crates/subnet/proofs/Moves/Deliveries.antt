@@ -11,7 +11,9 @@ use Rattle.leader1822.specs.declared.address.Flow.{Flow}
 use Rattle.leader1822.specs.declared.crossing.Answer.{Answer}
 use Rattle.leader1822.specs.declared.crossing.Answer.TheVariants as answer
 use Rattle.leader1822.specs.declared.event.Direction.{Direction}
-use Rattle.link_table.specs.Flows.{outstanding_in, release_in}
+use Rattle.link_table.specs.Flows.{outstanding_in, release_in, kept_in}
+use Rattle.link_table.specs.declared.destination.Fate.{Fate}
+use Rattle.link_table.specs.declared.destination.Fate.TheVariants as fate
 use Rattle.link_table.specs.Numbers.{is_new}
 use Rattle.link_table.specs.declared.source.Release.{Release}
 use Rattle.link_table.specs.declared.source.Release.TheVariants as release
@@ -32,8 +34,8 @@ use Rattle.imp_channel.specs.declared.frame.Frame.{Frame}
 use Rattle.imp_channel.specs.declared.line.Received.{Received}
 use Rattle.imp_channel.specs.declared.line.Received.TheVariants as received
 use Rattle.imp_channel.proofs.lemmas.{fresh_carried}
-use Rattle.flow_law.specs.View.{View, Packet, Queued, Kind}
-use Rattle.flow_law.specs.Moves.{Move, NoteGone, Whole, Freed, Brings, CanNote, Joined, IsTold, view_moved}
+use Rattle.flow_law.specs.View.{View, Packet, Queued, is_request}
+use Rattle.flow_law.specs.Moves.{Move, NoteGone, Whole, Freed, Brings, CanNote, Joined, IsLost, IsRefusal, view_moved}
 use Rattle.flow_law.proofs.lemmas.{makes_one}
 use Rattle.imp_node.specs.declared.waiting.Message.{Message}
 use Rattle.imp_node.specs.State.{State, ImpTurn, number, host_at, port_at}
@@ -111,20 +113,20 @@ can_note n i s p turn b new =
       there = alive_here n p b.there;
       new = record {
         up = ap imp_is_up at;
-        data_packet = ap kind_of new.data_kind;
-        new = ap (λ (o : Option State). is_new (receiver_at o g).kept p.number) at ∙ new.new;
+        request = ap (λ (k : PacketKind). is_request (kind_of k)) new.data_kind;
+        new = ap (λ (o : Option State). is_new (kept_in (receiver_at o g).kept) p.number) at ∙ new.new;
       };
     }
 
--- its number is noted, and the message is gone
-noted_sound : (n : Net) (i : ℕ) (s : State) (p : PacketFields) (turn : ImpTurn) (made : List PacketFields) → IsBrought n i s p turn → IsNewHere s p
-    → Moved s turn.state (flow_of p) (sender s (flow_of p)) (noted_with p.number (receiver s (flow_of p)))
-    → OnlyNew n made (with_turn i turn n) → All (λ q. flow_of q ≡ flow_of p) made → All IsPacket made → All (λ q. IsTold Kind.Dead p.number (packet_of q)) made
+-- its number is noted with a fate, and the message is gone
+noted_sound : (n : Net) (i : ℕ) (s : State) (p : PacketFields) (turn : ImpTurn) (made : List PacketFields) (lost : Fate) → IsLost lost → IsBrought n i s p turn → IsNewHere s p
+    → Moved s turn.state (flow_of p) (sender s (flow_of p)) (noted_with p.number lost (receiver s (flow_of p)))
+    → OnlyNew n made (with_turn i turn n) → All (λ q. flow_of q ≡ flow_of p) made → All IsPacket made → All (λ q. IsRefusal p.number (packet_of q)) made
     → IsSound n → IsSound (with_turn i turn n)
-noted_sound n i s p turn made b new moved only of_flow formats dead is =
+noted_sound n i s p turn made lost gone b new moved only of_flow formats dead is =
     let g : Flow = flow_of p in
     let next : Net = with_turn i turn n in
-    let move : Move = NoteGone (packet_of p) in
+    let move : Move = NoteGone (packet_of p) lost in
     followed_turn n i s turn [] g (move ∷ []) made (record {
       at = b.at;
       sound = b.new;
@@ -135,29 +137,30 @@ noted_sound n i s p turn made b new moved only of_flow formats dead is =
       formats = formats;
       answers = b.answers;
       here =
-          makes_one move (view n g) (view next g) (Alive n g) (Alive next g) (can_note n i s p turn b new)
-          (moved_view n i s turn [] g (sender_at (imp_at n.imps g.source.imp) g) (noted_with p.number (receiver_at (imp_at n.imps g.destination.imp) g)) (view n g).box b.at
+          makes_one move (view n g) (view next g) (Alive n g) (Alive next g) (can_note n i s p turn b new, gone)
+          (moved_view n i s turn [] g (sender_at (imp_at n.imps g.source.imp) g) (noted_with p.number lost (receiver_at (imp_at n.imps g.destination.imp) g)) (view n g).box b.at
           (source_same n.imps i s turn.state g b.at moved.sender)
-          (destination_changed (noted_with p.number) n.imps i s turn.state g b.at (home n i s p turn b new) moved.receiver)
+          (destination_changed (noted_with p.number lost) n.imps i s turn.state g b.at (home n i s p turn b new) moved.receiver)
           refl)
-          (λ x. alive_or_made n next made (IsTold Kind.Dead p.number) g x only dead);
+          (λ x. alive_or_made n next made (IsRefusal p.number) g x only dead);
       shown = refl;
+      begun = inl refl;
     }) is
 
 -- it came for a host that is down or not there: Dead is made
 undeliverable_sound : (n : Net) (i : ℕ) (s : State) (p : PacketFields) (turn : ImpTurn) → IsBrought n i s p turn → IsNewHere s p
-    → Moved s turn.state (flow_of p) (sender s (flow_of p)) (noted_with p.number (receiver s (flow_of p)))
+    → Moved s turn.state (flow_of p) (sender s (flow_of p)) (noted_with p.number fate.Dead (receiver s (flow_of p)))
     → OnlyNew n (answer_packet kind.Dead (flow_of p) p.number ∷ []) (with_turn i turn n) → IsSound n → IsSound (with_turn i turn n)
 undeliverable_sound n i s p turn b new moved only is =
     let g : Flow = flow_of p in
     let dead : PacketFields = answer_packet kind.Dead g p.number in
     let format : IsPacket dead = answer_format kind.Dead g p.number (record { first = refl; only = refl; empty = refl }) b.format.source b.format.destination b.format.link b.format.number in
     let Ours : PacketFields → Type 0 = λ q. flow_of q ≡ g in
-    let Told : PacketFields → Type 0 = λ q. IsTold Kind.Dead p.number (packet_of q) in
-    noted_sound n i s p turn (dead ∷ []) b new moved only
+    let Told : PacketFields → Type 0 = λ q. IsRefusal p.number (packet_of q) in
+    noted_sound n i s p turn (dead ∷ []) fate.Dead tt b new moved only
     (All-cons Ours dead [] refl (All-nil Ours))
     (All-cons IsPacket dead [] format (All-nil IsPacket))
-    (All-cons Told dead [] (record { kind = refl; number = refl }) (All-nil Told)) is
+    (All-cons Told dead [] (record { refusal = refl; number = refl }) (All-nil Told)) is
 
 -- ---- a piece makes its message whole
 
@@ -182,7 +185,7 @@ whole_joined n i s p turn w b makes text pieces =
     ap text_of (r.bits ∙ joined_whole (body text) ps carry r.one_message.whole) ∙ text_of-body text
 
 whole_sound : (n : Net) (i : ℕ) (s : State) (p : PacketFields) (turn : ImpTurn) (w text : List Bool) → IsBrought n i s p turn → MakesWhole s p w → text ≡ text_of w
-    → Moved s turn.state (flow_of p) (sender s (flow_of p)) (queued_with (record { flow = flow_of p; number = p.number; text = text }) (noted_with p.number (receiver s (flow_of p))))
+    → Moved s turn.state (flow_of p) (sender s (flow_of p)) (queued_with (record { flow = flow_of p; number = p.number; text = text }) (noted_with p.number fate.Waits (receiver s (flow_of p))))
     → OnlyNew n [] (with_turn i turn n) → IsSound n → IsSound (with_turn i turn n)
 whole_sound n i s p turn w text b makes is_text moved only is =
     let g : Flow = flow_of p in
@@ -192,10 +195,10 @@ whole_sound n i s p turn w text b makes is_text moved only is =
     let from : Sender = sender_at (imp_at n.imps g.source.imp) g in
     let to : Receiver = receiver_at (imp_at n.imps g.destination.imp) g in
     let joins : Joined flows.Piece (Alive n g) (packet_of p) text = λ other pieces. is_text ∙ whole_joined n i s p turn w b makes other pieces in
-    let waits : view next g ≡ view_of (imp_is_up (imp_at n.imps g.source.imp)) from (imp_is_up (imp_at n.imps g.destination.imp)) (queued_with message (noted_with p.number to)) (view n g).box =
-    moved_view n i s turn [] g from (queued_with message (noted_with p.number to)) (view n g).box b.at
+    let waits : view next g ≡ view_of (imp_is_up (imp_at n.imps g.source.imp)) from (imp_is_up (imp_at n.imps g.destination.imp)) (queued_with message (noted_with p.number fate.Waits to)) (view n g).box =
+    moved_view n i s turn [] g from (queued_with message (noted_with p.number fate.Waits to)) (view n g).box b.at
     (source_same n.imps i s turn.state g b.at moved.sender)
-    (destination_changed (λ (r : Receiver). queued_with message (noted_with p.number r)) n.imps i s turn.state g b.at (home n i s p turn b makes.new) moved.receiver)
+    (destination_changed (λ (r : Receiver). queued_with message (noted_with p.number fate.Waits r)) n.imps i s turn.state g b.at (home n i s p turn b makes.new) moved.receiver)
     refl in
     followed_turn n i s turn [] g (move ∷ []) [] (record {
       at = b.at;
@@ -212,6 +215,7 @@ whole_sound n i s p turn w text b makes is_text moved only is =
           (waits ∙ ap (λ (q : List Queued). (let v : View = record (view_moved move (view n g)) { queue = q } in v)) (map-append queued_of to.queue (message ∷ [])))
           (λ x. alive_or_made n next [] (λ (y : Packet). ⊥) g x only (All-nil (λ (q : PacketFields). ⊥)));
       shown = refl;
+      begun = inl refl;
     }) is
 
 -- ---- an answer comes to its source
@@ -264,6 +268,7 @@ answered_sound n i s p turn k b here tells frees moved only is =
           refl)
           (λ x. alive_or_made n next [] (λ (y : Packet). ⊥) g x only (All-nil (λ (q : PacketFields). ⊥)));
       shown = refl;
+      begun = inl refl;
     }) is
 
 -- ---- an arrival
@@ -277,7 +282,7 @@ arrival_sound Piece n i s p turn b says moves only is = silent_arrival n i s p t
 arrival_sound NoSlot n i s p turn b says moves only is = silent_arrival n i s p turn b moves only is
 arrival_sound (arrivals.Whole text) n i s p turn b says moves only is = whole_sound n i s p turn says.0 text b says.1 says.3 moves only is
 arrival_sound Unmarked n i s p turn b says moves only is =
-    noted_sound n i s p turn [] b says.1.new moves only (All-nil (λ (q : PacketFields). flow_of q ≡ flow_of p)) (All-nil IsPacket) (All-nil (λ (q : PacketFields). IsTold Kind.Dead p.number (packet_of q))) is
+    noted_sound n i s p turn [] fate.Never tt b says.1.new moves only (All-nil (λ (q : PacketFields). flow_of q ≡ flow_of p)) (All-nil IsPacket) (All-nil (λ (q : PacketFields). IsRefusal p.number (packet_of q))) is
 arrival_sound (Answering k) n i s p turn b says moves only is = by (release_in p.number (finite.get s.sources (flow_of p))) refl moves where
   by : (r : Release) → release_in p.number (finite.get s.sources (flow_of p)) ≡ r → AnswerMoves r k (flow_of p) s turn.state → IsSound (with_turn i turn n)
   by release.Freed frees moved = answered_sound n i s p turn k b says.0 says.1 frees moved only is
@@ -291,7 +296,7 @@ still_sound Old k f n i s p b says still only is = silent_arrival n i s p _ b st
 still_sound Undeliverable k f n i s p b says still only is =
     let turn : ImpTurn = pump (acknowledged k (frame_taken k f s)) (arrived Undeliverable p (frame_taken k f s)) in
     let g : Flow = flow_of p in
-    let moved : Moved s turn.state g (sender s g) (noted_with p.number (receiver s g)) = record { sender = (still g).sender; receiver = (noted_moved g p.number s).receiver; others = λ f other. still f } in
+    let moved : Moved s turn.state g (sender s g) (noted_with p.number fate.Dead (receiver s g)) = record { sender = (still g).sender; receiver = (noted_moved g p.number fate.Dead s).receiver; others = λ f other. still f } in
     undeliverable_sound n i s p turn b says.0 moved only is
 still_sound Piece k f n i s p b says still only is = silent_arrival n i s p _ b still only is
 still_sound NoSlot k f n i s p b says still only is = silent_arrival n i s p _ b still only is

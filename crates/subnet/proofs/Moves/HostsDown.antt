@@ -16,24 +16,26 @@ use Rattle.leader1822.specs.declared.crossing.Answer.TheVariants as answer
 use Rattle.leader1822.specs.declared.crossing.Crossing.{Crossing}
 use Rattle.leader1822.specs.declared.crossing.Crossing.TheVariants as crossing
 use Rattle.leader1822.proofs.lemmas.{and_true, guard, not_false, same_flow-refl, same_flow-true, same_host-refl, same_host-true}
-use Rattle.link_table.specs.Flows.{release_in}
+use Rattle.link_table.specs.Flows.{release_in, kept_in, fate_in}
+use Rattle.link_table.specs.declared.destination.Fate.TheVariants as fate
 use Rattle.link_table.specs.declared.source.Release.{Release}
 use Rattle.packetiser.specs.PacketFields.{PacketFields, IsPacket, flow_of}
 use Rattle.packetiser.specs.declared.packet.PacketKind.TheVariants as kind
-use Rattle.flow_law.specs.View.{View, Packet, Queued}
-use Rattle.flow_law.specs.Moves.{Move, IsDeadOf, after_all, shown_by}
+use Rattle.flow_law.specs.View.{View, Packet, Queued, Kind}
+use Rattle.flow_law.specs.Moves.{Move, IsDeadOf, with_fates, view_moved, after_all, shown_by}
 use Rattle.flow_law.specs.Follows.{Follows, AllFollow, passed_over}
 use Rattle.flow_law.specs.Invariant.{Invariant}
+use Rattle.flow_law.specs.Local as local
 use Rattle.flow_law.specs.Local.{stopped_host, stopped_host_queued}
 use Rattle.flow_law.proofs.lemmas.{down_shown, queued_alone, queued_awaited}
 use Rattle.imp_node.specs.declared.waiting.Message.{Message}
 use Rattle.imp_node.specs.State.{State, ImpTurn, no_host, number, host_at, is_up, is_there}
 use Rattle.imp_node.specs.Contents as contents
-use Rattle.imp_node.specs.Flows.{answer_packet, freed}
+use Rattle.imp_node.specs.Flows.{answer_packet, freed, fated}
 use Rattle.imp_node.specs.Making.{reply_for, host_down_makes}
 use Rattle.imp_node.specs.Pump.{stored}
 use Rattle.imp_node.specs.Queries.{outstanding}
-use Rattle.imp_node.specs.Sides.{IsImp, Sender, Receiver, sender, receiver, messages_of, ended_with}
+use Rattle.imp_node.specs.Sides.{IsImp, Sender, Receiver, sender, receiver, messages_of, ended_with, fated_with}
 use Rattle.imp_node.specs.Moves.{sender_told, source_down, destination_down}
 use Rattle.imp_node.specs.Stopping.{message_returned, all_returned, stopped, host_down, host_down_refusal}
 use Rattle.imp_node.specs.Taking.{is_from_here, reply_has_room}
@@ -48,15 +50,20 @@ use Rattle.subnet.proofs.Packets.HavingByEvents.{stop_only}
 use Rattle.subnet.proofs.Calls.Silence.{at_host_all}
 use Rattle.subnet.proofs.Moves.Takes.{freed_messages}
 use Rattle.subnet.proofs.Moves.Turns.{Answerable, set_here, set_queue, set_messages, answerable, source_changed}
+use Rattle.subnet.proofs.Moves.Fates.{ended_all, kept_all, fate_all, view_fated}
 use Rattle.subnet.proofs.Moves.Views.{view_parts}
+use Rattle.subnet.proofs.Moves.Askable.{one_begins}
 use Rattle.subnet.proofs.Moves.ManyFlows.{all_moved, at_end, at_end_if}
 
 -- ---- messages are given back, one after another
 
 returned_answers : (m : Message) (s : State) → All Answerable (contents.messages s) → All Answerable (contents.messages (message_returned m s))
-returned_answers m s all = at (reply_has_room s m) (is_from_here s m) where
-  at : (room here : Bool) → All Answerable (contents.messages (cond room (cond here (freed answer.Dead m.flow m.number s) (stored (answer_packet kind.Dead m.flow m.number) s)) s))
-  at true true = freed_messages answer.Dead m.flow m.number s all
+returned_answers m s all = at (reply_has_room t m) (is_from_here s m) where
+  t : State
+  t = fated m.flow m.number fate.Dead s
+
+  at : (room here : Bool) → All Answerable (contents.messages (cond room (cond here (freed answer.Dead m.flow m.number t) (stored (answer_packet kind.Dead m.flow m.number) t)) t))
+  at true true = freed_messages answer.Dead m.flow m.number t all
   at true false = all
   at false here = all
 
@@ -64,15 +71,20 @@ all_answers : (ms : List Message) (s : State) → All Answerable (contents.messa
 all_answers [] s all = all
 all_answers (m ∷ ms) s all = all_answers ms (message_returned m s) (returned_answers m s all)
 
-returned_receiver : (m : Message) (s : State) (f : Flow) → receiver (message_returned m s) f ≡ receiver s f
-returned_receiver m s f = elim (cases_Bool (same_flow f m.flow)) [
-  | inl same ↦ (let F : Flow → Type 0 = λ k. receiver (message_returned m s) k ≡ receiver s k in subst F (sym (same_flow-true f m.flow same)) (returned_moves m s).receiver)
-  | inr other ↦ ((returned_moves m s).others f other).receiver
-]
+-- a flow's side where messages were returned: those of the flow are dead
+abbrev with_dead : List Message → Receiver → Receiver
+with_dead ms r = record r { kept = ended_all fate.Dead ms r.kept }
 
-all_receiver : (ms : List Message) (s : State) (f : Flow) → receiver (all_returned ms s) f ≡ receiver s f
+all_receiver : (ms : List Message) (s : State) (f : Flow) → receiver (all_returned ms s) f ≡ with_dead (messages_of f ms) (receiver s f)
 all_receiver [] s f = refl
-all_receiver (m ∷ ms) s f = all_receiver ms (message_returned m s) f ∙ returned_receiver m s f
+all_receiver (m ∷ ms) s f = elim (cases_Bool (same_flow f m.flow)) [
+  | inl same ↦ (let F : Flow → Type 0 = λ k. receiver (message_returned m s) k ≡ fated_with m.number fate.Dead (receiver s k) in
+      let dead : receiver (message_returned m s) f ≡ fated_with m.number fate.Dead (receiver s f) = subst F (sym (same_flow-true f m.flow same)) (returned_moves m s).receiver in
+      let list : messages_of f (m ∷ ms) ≡ m ∷ messages_of f ms = rw same refl in
+      all_receiver ms (message_returned m s) f ∙ ap (with_dead (messages_of f ms)) dead ∙ ap (λ (xs : List Message). with_dead xs (receiver s f)) (sym list))
+  | inr other ↦ (let list : messages_of f (m ∷ ms) ≡ messages_of f ms = rw other refl in
+      all_receiver ms (message_returned m s) f ∙ ap (with_dead (messages_of f ms)) ((returned_moves m s).others f other).receiver ∙ ap (λ (xs : List Message). with_dead xs (receiver s f)) (sym list))
+]
 
 -- where none is of the flow, its source hears nothing
 none_of_it : (ms : List Message) (s : State) (f : Flow) → messages_of f ms ≡ [] → sender (all_returned ms s) f ≡ sender s f
@@ -120,6 +132,17 @@ not_for h f (m ∷ ms) all other = by (same_flow f m.flow) refl (not_for h f ms 
       let no : true ≡ false = sym found ∙ other in
       absurd (cc)
   by false same rest = rest
+
+-- so those of a flow are its whole queue there, or none
+all_of_it : (h : Host) (s : State) (f : Flow) → IsImp h.imp s → messages_of f (host_at s h.host).queue ≡ cond (f.destination.host == h.host) (receiver s f).queue []
+all_of_it h s f imp = by (f.destination.host == h.host) refl where
+  nothing : (b : Bool) → (b && false) ≡ false
+  nothing true = refl
+  nothing false = refl
+
+  by : (b : Bool) → (f.destination.host == h.host) ≡ b → messages_of f (host_at s h.host).queue ≡ cond b (receiver s f).queue []
+  by true same = ap (λ (k : ℕ). messages_of f (host_at s k).queue) (sym (eqb-true f.destination.host h.host same))
+  by false other = not_for h f (host_at s h.host).queue (imp.queues h.host) (ap (λ (b : Bool). f.destination.imp == h.imp && b) other ∙ nothing (f.destination.imp == h.imp))
 
 -- a message of the flow is in its queue
 abbrev IsQueued : Flow → List Message → Message → Type 0
@@ -181,16 +204,29 @@ shown f h s v log (Some m) is =
 
 -- ---- what they change
 
-quiet_view : (a b u w : Bool) (s : Sender) (r : Receiver) (box : Box) → view_of u (source_down a s) w (destination_down b r) box ≡ after_all (stopped_host a b) (view_of u s w r box)
-quiet_view true true u w s r box = refl
+-- a flow's side where its destination went down, with its messages returned
+abbrev gone_down : Bool → Receiver → Receiver
+gone_down b r = if b then record r { destination = false; kept = ended_all fate.Dead r.queue r.kept; queue = [] } else r
+
+gone_is : (b : Bool) (r : Receiver) (ms : List Message) → ms ≡ cond b r.queue [] → with_dead ms (destination_down b r) ≡ gone_down b r
+gone_is true r ms is = rw is refl
+gone_is false r ms is = rw is refl
+
+stopped_view : (u : Bool) (s : Sender) (w : Bool) (r : Receiver) (box : Box) → view_of u s w (gone_down true r) box ≡ view_moved Move.StopDestination (view_of u s w r box)
+stopped_view u s w r box =
+    let down : Receiver = record r { destination = false; queue = [] } in
+    view_fated u s w down box (ended_all fate.Dead r.queue r.kept) (with_fates (kept_in r.kept) (map queued_of r.queue) fate.Dead (fate_in r.kept)) (kept_all fate.Dead r.queue r.kept) (fate_all fate.Dead r.queue r.kept)
+
+quiet_view : (a b u w : Bool) (s : Sender) (r : Receiver) (box : Box) → view_of u (source_down a s) w (gone_down b r) box ≡ after_all (stopped_host a b) (view_of u s w r box)
+quiet_view true true u w s r box = stopped_view u (source_down true s) w r box
 quiet_view true false u w s r box = refl
-quiet_view false true u w s r box = refl
+quiet_view false true u w s r box = stopped_view u s w r box
 quiet_view false false u w s r box = refl
 
 told_view : (a u w : Bool) (m : Queued) (s : Sender) (r : Receiver) (box : Box)
-    → view_of u (ended_with answer.Dead (source_down a s)) w (destination_down true r) box ≡ after_all (stopped_host_queued a m) (view_of u s w r box)
-told_view true u w m s r box = refl
-told_view false u w m s r box = refl
+    → view_of u (ended_with answer.Dead (source_down a s)) w (gone_down true r) box ≡ after_all (stopped_host_queued a m) (view_of u s w r box)
+told_view true u w m s r box = ap (view_moved (Move.Freed (local.answer_packet Kind.Dead m.number) answer.Dead)) (stopped_view u (source_down true s) w r box)
+told_view false u w m s r box = ap (view_moved (Move.Freed (local.answer_packet Kind.Dead m.number) answer.Dead)) (stopped_view u s w r box)
 
 record Stopping (n : Net) (h : Host) (s : State) : Type 0 where
   at : imp_at n.imps h.imp ≡ Some s
@@ -203,23 +239,25 @@ after_stop n h s = logging (crossing.Down h ∷ []) (with_turn h.imp (host_down 
 -- its view, where its source becomes so
 gone_view : (n : Net) (h : Host) (s : State) (f : Flow) (from : Sender) → Stopping n h s
     → sender_at (imp_at (slice_set n.imps h.imp (Some (host_down s h.host).state)) f.source.imp) f ≡ from
-    → view (after_stop n h s) f ≡ view_of (imp_is_up (imp_at n.imps f.source.imp)) from (imp_is_up (imp_at n.imps f.destination.imp)) (destination_down (same_host f.destination h) (receiver_at (imp_at n.imps f.destination.imp) f)) (box_of f n.log)
+    → view (after_stop n h s) f ≡ view_of (imp_is_up (imp_at n.imps f.source.imp)) from (imp_is_up (imp_at n.imps f.destination.imp)) (gone_down (same_host f.destination h) (receiver_at (imp_at n.imps f.destination.imp) f)) (box_of f n.log)
 gone_view n h s f from stop source =
     let t : State = (host_down s h.host).state in
     let imps : List (Option State) = slice_set n.imps h.imp (Some t) in
     let i : ℕ = f.source.imp in
     let j : ℕ = f.destination.imp in
     let c : Bool = f.destination.host == h.host in
-    let becomes : receiver t f ≡ destination_down c (receiver s f) = all_receiver (host_at s h.host).queue (stopped s h.host) f ∙ (stopped_becomes s h.host f).receiver in
+    let q : List Message = (host_at s h.host).queue in
+    let becomes : receiver t f ≡ gone_down c (receiver s f) =
+    all_receiver q (stopped s h.host) f ∙ ap (with_dead (messages_of f q)) (stopped_becomes s h.host f).receiver ∙ gone_is c (receiver s f) (messages_of f q) (all_of_it h s f stop.imp) in
     view_parts
     (imp_is_up (imp_at imps i)) (imp_is_up (imp_at n.imps i)) (sender_at (imp_at imps i) f) from
-    (imp_is_up (imp_at imps j)) (imp_is_up (imp_at n.imps j)) (receiver_at (imp_at imps j) f) (destination_down (same_host f.destination h) (receiver_at (imp_at n.imps j) f))
+    (imp_is_up (imp_at imps j)) (imp_is_up (imp_at n.imps j)) (receiver_at (imp_at imps j) f) (gone_down (same_host f.destination h) (receiver_at (imp_at n.imps j) f))
     (box_of f n.log)
     (same_at imp_is_up n.imps h.imp i (Some t) None (ap imp_is_up (sym stop.at)))
     source
     (same_at imp_is_up n.imps h.imp j (Some t) None (ap imp_is_up (sym stop.at)))
-    (at_end (λ (o : Option State). receiver_at o f) destination_down n.imps h.imp j (Some t) c (λ r. refl) (set_here n.imps h.imp (Some t) s stop.at)
-    (becomes ∙ ap (λ (o : Option State). destination_down c (receiver_at o f)) (sym stop.at)))
+    (at_end (λ (o : Option State). receiver_at o f) gone_down n.imps h.imp j (Some t) c (λ r. refl) (set_here n.imps h.imp (Some t) s stop.at)
+    (becomes ∙ ap (λ (o : Option State). gone_down c (receiver_at o f)) (sym stop.at)))
 
 -- where none of its messages waits at this IMP for a source there
 quiet_source : (n : Net) (h : Host) (s : State) (f : Flow) → Stopping n h s → ((f.source.imp == h.imp) ≡ true → messages_of f (host_at s h.host).queue ≡ [])
@@ -394,13 +432,21 @@ flow_goes n h s f stop only law (Some m) is =
     told_follows a (queued_of m) (view n f) (view (after_stop n h s) f) (Alive n f) (Alive (after_stop n h s) f) (was_source n h s f stop) (was_destination n h s f stop both.0)
     (subst (λ (ms : List Queued). Contains ms (queued_of m)) (sym queue) first) awaited
     (gone_view n h s f from stop (told_source n h s f m stop both.1 one here)
-    ∙ ap (λ (b : Bool). view_of (imp_is_up (imp_at n.imps f.source.imp)) from (imp_is_up (imp_at n.imps f.destination.imp)) (destination_down b (receiver_at (imp_at n.imps f.destination.imp) f)) (box_of f n.log)) both.0
+    ∙ ap (λ (b : Bool). view_of (imp_is_up (imp_at n.imps f.source.imp)) from (imp_is_up (imp_at n.imps f.destination.imp)) (gone_down b (receiver_at (imp_at n.imps f.destination.imp) f)) (box_of f n.log)) both.0
     ∙ told_view a (imp_is_up (imp_at n.imps f.source.imp)) (imp_is_up (imp_at n.imps f.destination.imp)) (queued_of m) (sender_at (imp_at n.imps f.source.imp) f) (receiver_at (imp_at n.imps f.destination.imp) f) (box_of f n.log))
     (λ x l. dead x (dead_or_old n h s f x stop only l))
   where
     dead : (x : Packet) → Alive n f x ⊎ ((same_host f.destination h ≡ true) × IsDeadOf (view n f).queue x) → Alive n f x ⊎ IsDeadOf (view n f).queue x
     dead x (inl alive) = inl alive
     dead x (inr made) = inr made.1
+
+none_begins : (a b : Bool) (o : Option Message) → one_begins (moves_by a b o) ≡ false
+none_begins true true None = refl
+none_begins true false None = refl
+none_begins false true None = refl
+none_begins false false None = refl
+none_begins true b (Some m) = refl
+none_begins false b (Some m) = refl
 
 -- ---- the event
 
@@ -423,6 +469,7 @@ gone n h s stop is =
     (λ k. at_set IsAt n.imps h.imp k (Some turn.state) None (is.imps k) (host_down_imp h.imp s h.host stop.imp))
     (All-weaker (Contains (packets n ++ made)) IsPacket (λ p there. All-contains IsPacket (packets n ++ made) p all there) (packets m) only)
     (set_messages Answerable n.imps h.imp turn.state is.answers (all_answers q (stopped s h.host) (set_queue Answerable s.hosts h.host no_host held (All-nil Answerable))))
+    (λ f. none_begins (same_host f.source h) (same_host f.destination h) (waiting s h f))
     is
 
 pub host_down_sound : (n : Net) (h : Host) → at_host_refusal n h host_down_refusal ≡ None → IsSound n → IsSound (host_stopped n h)

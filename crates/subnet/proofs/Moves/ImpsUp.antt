@@ -1,39 +1,41 @@
 -- An IMP starts, empty: so do the ends of all flows from it and to it.
-use Rattle.std.proofs.Common.{◌≡◌, ℕ, zero, suc, Bool, true, false, not, List, [], ◌∷◌, ◌++◌, map, get_or, Option, Some, None, is_some, refl, ap, sym, subst, ◌∙◌, ◌==◌, ◌||◌, if◌then◌else◌, inl, inr, ◌⊎◌, cond, replicate, All}
+use Rattle.std.proofs.Common.{◌≡◌, ℕ, zero, suc, Bool, true, false, not, List, [], ◌∷◌, ◌++◌, map, get_or, Option, Some, None, is_some, refl, ap, sym, subst, ◌∙◌, ◌==◌, ◌&&◌, ◌||◌, if◌then◌else◌, eqb-true, inl, inr, ◌⊎◌, cond, replicate, All}
 use Rattle.std.specs.Prelude.{slice_set, count_by}
 use Rattle.std.specs.FinMap.{get-empty}
-use Rattle.std.specs.List.{flat_map}
+use Rattle.std.specs.List.{flat_map, list_any}
 use Rattle.std.proofs.lemmas.List.Elements.{All-nil, All-head, All-tail, All-contains}
 use Rattle.leader1822.specs.Flow.{same_flow, flow_cmp}
 use Rattle.leader1822.specs.Mailboxes.{Box, box_of}
 use Rattle.leader1822.specs.declared.address.Flow.{Flow}
 use Rattle.leader1822.specs.declared.carrier.CarrierFault.{CarrierFault}
 use Rattle.leader1822.specs.declared.carrier.CarrierFault.TheVariants as fault
-use Rattle.leader1822.proofs.lemmas.{guard, same_flow-true}
+use Rattle.leader1822.proofs.lemmas.{guard, or_false, same_flow-true}
 use Rattle.link_table.specs.Flows.{last_in, outstanding_in}
 use Rattle.packetiser.specs.PacketFields.{PacketFields}
-use Rattle.flow_law.specs.View.{View, Packet}
-use Rattle.flow_law.specs.Moves.{Move, NoData, after_all, shown_by}
+use Rattle.flow_law.specs.View.{View, Packet, is_request}
+use Rattle.flow_law.specs.Moves.{Move, after_all, shown_by}
 use Rattle.flow_law.specs.Follows.{Follows, AllFollow}
 use Rattle.flow_law.proofs.lemmas.{makes_one, stays}
 use Rattle.imp_node.specs.declared.waiting.Message.{Message}
 use Rattle.imp_node.specs.declared.waiting.Told.{Told}
-use Rattle.imp_node.specs.State.{State, HostState, no_host, host_at}
+use Rattle.imp_node.specs.State.{State, HostState, no_host, host_at, number}
 use Rattle.imp_node.specs.State as imp
-use Rattle.imp_node.specs.Queries.{is_at_end, packet_touches, message_touches}
+use Rattle.imp_node.specs.Queries.{is_at_end, packet_touches, message_touches, awaits}
 use Rattle.imp_node.specs.Sides.{IsImp, Sender, Receiver, sender, receiver, answers_of, messages_of}
 use Rattle.imp_node.proofs.lemmas.{at_set, opening_imp, same_at, same_receiver, same_sender}
 use Rattle.subnet.specs.Net.{Net, imp_at, ends_at}
-use Rattle.subnet.specs.Alive.{packets, messages, messages_at_imp, has_flow, is_remembered}
+use Rattle.subnet.specs.Alive.{packets, messages, messages_at_imp, has_flow, is_remembered, says, is_awaited}
 use Rattle.subnet.specs.Events.{first_of, is_imp, site_at, hosts_at, started_imp, starting_refusal, imp_started}
 use Rattle.subnet.specs.Flows.{Piece, Alive, queued_of, no_sender, no_receiver, imp_is_up, sender_at, receiver_at, view_of, view}
 use Rattle.subnet.specs.Making.{NothingNew}
 use Rattle.subnet.specs.Sound.{IsAt, IsSound}
 use Rattle.subnet.proofs.Packets.HavingByEvents.{start_imp_nothing}
+use Rattle.subnet.proofs.Moves.Forgetting.{none_awaited}
 use Rattle.subnet.proofs.Moves.QuietCalls.{formats_less}
 use Rattle.subnet.proofs.Calls.Silence.{nowhere, host_queue, queue_all}
 use Rattle.subnet.proofs.Moves.Views.{view_parts, alive_less}
 use Rattle.subnet.proofs.Moves.Turns.{Answerable}
+use Rattle.subnet.proofs.Moves.Askable.{one_begins}
 use Rattle.subnet.proofs.Moves.ManyFlows.{all_moved, at_end, kept_messages, and_true_is}
 
 -- ---- an IMP that just started
@@ -96,24 +98,25 @@ shown true false v = refl
 shown false true v = refl
 shown false false v = refl
 
--- nothing of the flow is alive
+-- nothing of the flow is alive, and none of its messages is outstanding
 record Gone (v : View) (alive : Packet → Type 0) : Type 0 where
   no_packet : (x : Packet) → alive x → ⊥
   unread : v.queue ≡ []
+  idle : v.outstanding ≡ None
 
 follows : (a b : Bool) (old new : View) (before later : Packet → Type 0) → ((a || b) ≡ true → Gone old before) → new ≡ after_all (moves_by a b) old → ((x : Packet) → later x → before x)
     → Follows Piece (moves_by a b) old new before later
 follows true true old new before later gone same less = record {
-  needs = (to, (record { no_packet = (gone refl).no_packet; unread = (gone refl).unread }, tt));
+  needs = (record { no_request = to; idle = (gone refl).idle }, (record { no_packet = (gone refl).no_packet; unread = (gone refl).unread }, tt));
   view = same;
   packets = λ x l. inl (inl (less x l));
 } where
-  to : NoData (λ x. before x ⊎ ⊥)
-  to x (inl alive) data_kind = (gone refl).no_packet x alive
-  to x (inr none) data_kind = none
+  to : (x : Packet) → before x ⊎ ⊥ → is_request x.kind ≡ true → ⊥
+  to x (inl alive) request = (gone refl).no_packet x alive
+  to x (inr none) request = none
 follows true false old new before later gone same less =
     makes_one Move.StartFrom old new before later (record { no_packet = (gone refl).no_packet; unread = (gone refl).unread }) same (λ x l. inl (less x l))
-follows false true old new before later gone same less = makes_one Move.StartTo old new before later (λ x alive data_kind. (gone refl).no_packet x alive) same (λ x l. inl (less x l))
+follows false true old new before later gone same less = makes_one Move.StartTo old new before later (record { no_request = λ x alive request. (gone refl).no_packet x alive; idle = (gone refl).idle }) same (λ x l. inl (less x l))
 follows false false old new before later gone same less = stays old new before later same less
 
 -- ---- what they need
@@ -144,6 +147,28 @@ unread n i f silent ours = by (imp_at n.imps f.destination.imp) (queue_all (λ (
   by : (o : Option State) → All (λ (m : Message). message_touches i m ≡ false) (host_queue o f) → map queued_of (receiver_at o f).queue ≡ []
   by None all = refl
   by (Some s) all = ap (λ (ms : List Message). map queued_of ms) (none_of i f (host_at s f.destination.host).queue ours all)
+
+-- what no IMP says, none at a place says
+none_says : (test : Option State → Bool) (imps : List (Option State)) (k : ℕ) → test None ≡ false → list_any test imps ≡ false → test (imp_at imps k) ≡ false
+none_says test [] k nobody none = nobody
+none_says test (o ∷ imps) zero nobody none = (or_false (test o) (list_any test imps) none).0
+none_says test (o ∷ imps) (suc k) nobody none = none_says test imps k nobody (or_false (test o) (list_any test imps) none).1
+
+-- an IMP that is down has nothing outstanding, and another one awaits nothing from it
+idle : (n : Net) (i : ℕ) (f : Flow) → imp_at n.imps i ≡ None → is_awaited n i ≡ false → IsSound n → is_at_end i f ≡ true → (view n f).outstanding ≡ None
+idle n i f down none is ours = by (f.source.imp == i) refl (imp_at n.imps f.source.imp) refl ours where
+  asks : Option State → Bool
+  asks o = says (λ s. not (number s == i) && awaits s i) o
+
+  by : (b : Bool) → (f.source.imp == i) ≡ b → (o : Option State) → imp_at n.imps f.source.imp ≡ o → (b || f.destination.imp == i) ≡ true → (sender_at o f).outstanding ≡ None
+  by b here None at ours = refl
+  by true here (Some s) at ours = (let gone : imp_at n.imps f.source.imp ≡ None = ap (imp_at n.imps) (eqb-true f.source.imp i here) ∙ down in absurd (cc))
+  by false here (Some s) at ours =
+      let own : number s ≡ f.source.imp = (subst (IsAt f.source.imp) at (is.imps f.source.imp)).own in
+      let other : (number s == i) ≡ false = ap (λ (k : ℕ). k == i) own ∙ here in
+      let silent : (not (number s == i) && awaits s i) ≡ false = sym (ap asks at) ∙ none_says asks n.imps f.source.imp refl none in
+      let waits : awaits s i ≡ false = ap (λ (b : Bool). not b && awaits s i) (sym other) ∙ silent in
+      none_awaited (Some s) i f waits ours
 
 -- ---- what they change
 
@@ -177,6 +202,12 @@ new_view n i s f start =
         at_end imp_is_up up_where n.imps i j (Some s) true (λ x. refl) start.there refl
         ∙ ap (λ (c : Bool). up_where c (imp_is_up (imp_at n.imps j))) (and_true_is (j == i))
 
+none_begins : (a b : Bool) → one_begins (moves_by a b) ≡ false
+none_begins true true = refl
+none_begins true false = refl
+none_begins false true = refl
+none_begins false false = refl
+
 -- ---- the event
 
 -- an IMP is set in its place, if there is one
@@ -188,8 +219,8 @@ set_or_not (p ∷ imps) (suc i) o = elim (set_or_not imps i o) [
   | inr same ↦ inr (ap (λ (ps : List (Option State)). p ∷ ps) same)
 ]
 
-started : (n : Net) (i : ℕ) → imp_at n.imps i ≡ None → has_flow n i ≡ false → IsSound n → IsSound (imp_started n i)
-started n i down none is =
+started : (n : Net) (i : ℕ) → imp_at n.imps i ≡ None → has_flow n i ≡ false → is_awaited n i ≡ false → IsSound n → IsSound (imp_started n i)
+started n i down none alone is =
     let hosts : ℕ = hosts_at (site_at n i) in
     let ports : ℕ = count_by (ends_at i) n.lines in
     let s : State = started_imp i hosts ports in
@@ -202,7 +233,7 @@ started n i down none is =
           let among : NothingNew n m = start_imp_nothing n i in
           let follow : AllFollow Piece n.hosts [] n.log (moves i) (view n) (view m) (Alive n) (Alive m) = record {
             follows = λ f. follows (f.source.imp == i) (f.destination.imp == i) (view n f) (view m f) (Alive n f) (Alive m f)
-                (λ ours. record { no_packet = no_packet n i f silent.0 ours; unread = unread n i f silent.1 ours }) (new_view n i s f start) (λ x. alive_less n m f x among);
+                (λ ours. record { no_packet = no_packet n i f silent.0 ours; unread = unread n i f silent.1 ours; idle = idle n i f down alone is ours }) (new_view n i s f start) (λ x. alive_less n m f x among);
             shown = λ f. shown (f.source.imp == i) (f.destination.imp == i) (view n f);
             ups = tt;
           } in
@@ -210,20 +241,23 @@ started n i down none is =
           (λ k. at_set IsAt n.imps i k (Some s) None (is.imps k) (started_is i hosts ports))
           (formats_less n m among is.formats)
           (subst (All Answerable) (sym (kept_messages n.imps i (Some s) (none_wait hosts ∙ ap messages_at_imp (sym down)))) is.answers)
+          (λ f. none_begins (f.source.imp == i) (f.destination.imp == i))
           is)
     ]
 
 pub imp_up_sound : (n : Net) (i : ℕ) → starting_refusal n i ≡ None → IsSound n → IsSound (imp_started n i)
 imp_up_sound n i allowed is =
     let last : Option CarrierFault = if is_some (imp_at n.imps i) then Some fault.IsUp else None in
-    let third : Option CarrierFault = first_of (is_remembered n i) fault.StillAlive last in
+    let fourth : Option CarrierFault = first_of (is_awaited n i) fault.StillAlive last in
+    let third : Option CarrierFault = first_of (is_remembered n i) fault.StillAlive fourth in
     let second : Option CarrierFault = first_of (has_flow n i) fault.StillAlive third in
     let there : (not (is_imp n i) ≡ false) × (second ≡ None) = guard (not (is_imp n i)) fault.NoSuch second allowed in
     let gone : (has_flow n i ≡ false) × (third ≡ None) = guard (has_flow n i) fault.StillAlive third there.1 in
-    let forgotten : (is_remembered n i ≡ false) × (last ≡ None) = guard (is_remembered n i) fault.StillAlive last gone.1 in
-    let down : (is_some (imp_at n.imps i) ≡ false) × (let rest : Option CarrierFault = None in rest ≡ None) = guard (is_some (imp_at n.imps i)) fault.IsUp None forgotten.1 in
-    by (imp_at n.imps i) refl down.0 gone.0
+    let forgotten : (is_remembered n i ≡ false) × (fourth ≡ None) = guard (is_remembered n i) fault.StillAlive fourth gone.1 in
+    let alone : (is_awaited n i ≡ false) × (last ≡ None) = guard (is_awaited n i) fault.StillAlive last forgotten.1 in
+    let down : (is_some (imp_at n.imps i) ≡ false) × (let rest : Option CarrierFault = None in rest ≡ None) = guard (is_some (imp_at n.imps i)) fault.IsUp None alone.1 in
+    by (imp_at n.imps i) refl down.0 gone.0 alone.0
   where
-    by : (o : Option State) → imp_at n.imps i ≡ o → is_some o ≡ false → has_flow n i ≡ false → IsSound (imp_started n i)
-    by None at down gone = started n i at gone is
-    by (Some s) at down gone = absurd (cc)
+    by : (o : Option State) → imp_at n.imps i ≡ o → is_some o ≡ false → has_flow n i ≡ false → is_awaited n i ≡ false → IsSound (imp_started n i)
+    by None at down gone alone = started n i at gone alone is
+    by (Some s) at down gone alone = absurd (cc)

@@ -1,5 +1,5 @@
 -- A message is offered.
-use Rattle.std.proofs.Common.{arith, ◌≡◌, ℕ, ◌+◌, ◌<◌, ◌≤◌, ◌==◌, Bool, true, false, not, List, [], ◌∷◌, ◌++◌, length, Option, Some, None, refl, ap, sym, ◌∙◌, subst, All, Contains}
+use Rattle.std.proofs.Common.{arith, ◌≡◌, ◌≢◌, ℕ, ◌+◌, ◌<◌, ◌≤◌, ◌==◌, ◌||◌, eq-eqb, inl, inr, Bool, true, false, not, List, [], ◌∷◌, ◌++◌, length, Option, Some, None, refl, ap, sym, ◌∙◌, subst, All, Contains}
 use Rattle.std.proofs.lemmas.List.{map-append}
 use Rattle.std.proofs.lemmas.List.Elements.{All-nil, All-push, All-weaker, All-contains, All-contains_itself}
 use Rattle.std.specs.FinMap as finite
@@ -17,7 +17,8 @@ use Rattle.leader1822.specs.declared.crossing.Crossing.{Crossing}
 use Rattle.leader1822.specs.declared.crossing.Crossing.TheVariants as crossing
 use Rattle.leader1822.specs.declared.message.HostMessage.{HostMessage}
 use Rattle.leader1822.proofs.lemmas.{and_true, guard, not_false, or_false, same_flow-refl}
-use Rattle.link_table.specs.Flows.{last_in, outstanding_in, is_idle_in, number_in}
+use Rattle.link_table.specs.Flows.{last_in, outstanding_in, is_idle_in, number_in, kept_in}
+use Rattle.link_table.specs.declared.destination.Fate.TheVariants as fate
 use Rattle.link_table.specs.Numbers.{modulus, oldest}
 use Rattle.link_table.specs.declared.source.Standing.{Standing}
 use Rattle.link_table.specs.declared.source.Standing.TheVariants as standing
@@ -40,12 +41,12 @@ use Rattle.imp_node.specs.Flows.{answer_packet, given, is_about, is_idle, next_n
 use Rattle.imp_node.specs.Making.{cut_for}
 use Rattle.imp_node.specs.Moves.{OfferMoves}
 use Rattle.imp_node.specs.Offering.{Way, Nowhere, Here, Away, way_of, way_has_room, is_own, goes, begins, offered, from_host, from_host_refusal}
-use Rattle.imp_node.specs.Queries.{last}
+use Rattle.imp_node.specs.Queries.{last, kept}
 use Rattle.imp_node.specs.Sides.{Sender, Receiver, sender, receiver, answers_of, begun_with, told_with, noted_with, queued_with, IsImp}
 use Rattle.imp_node.proofs.lemmas.{from_host_has, from_host_imp, from_host_moves, here_imp}
 use Rattle.subnet.specs.Net.{Net, imp_at, with_turn}
-use Rattle.subnet.specs.Alive.{packets, is_alive}
-use Rattle.subnet.specs.Events.{at_imp, at_up, first_of, logging, alive_behind, offer_alive, offer_refusal, offer_out}
+use Rattle.subnet.specs.Alive.{packets, is_alive, says}
+use Rattle.subnet.specs.Events.{at_imp, at_up, first_of, logging, alive_behind, is_number, is_kept, offer_alive, offer_refusal, offer_out}
 use Rattle.subnet.specs.Flows.{Piece, Alive, kind_of, packet_of, queued_of, imp_is_up, sender_at, receiver_at, view_of, view}
 use Rattle.subnet.specs.Making.{OnlyNew}
 use Rattle.subnet.specs.Offers.{IsCarriable, CanGo, CanGoFrom}
@@ -136,14 +137,42 @@ can_offer n s g at is =
       answered = ap (λ (o : Option State). (sender_at o g).answers) at ∙ no_answers g (host_at s g.source.host).answers (not_true (list_any (is_about g) (host_at s g.source.host).answers) both.1);
     }
 
--- nothing is alive that would lie too far behind
-number_free : (n : Net) (s : State) (g : Flow) → imp_at n.imps g.source.imp ≡ Some s → IsReady s g → goes (way_of s g) ≡ true → offer_alive n g (Some s) ≡ false → NumberFree (view n g) (Alive n g)
-number_free n s g at is away dead l lasts x alive =
-    let was : last s g ≡ Some l = sym (ap (λ (o : Option State). (sender_at o g).last) at) ∙ lasts in
+-- the number that is not kept is another one than the one that is
+not_kept : (o : Option State) (g : Flow) (number : ℕ) → says (λ s. is_number (kept s g) number) o ≡ false → kept_in (receiver_at o g).kept ≢ Some number
+not_kept None g number none is = absurd (cc)
+not_kept (Some s) g number none is = by (kept s g) none is where
+  by : (o : Option ℕ) → is_number o number ≡ false → o ≢ Some number
+  by None none is = absurd (cc)
+  by (Some k) none is = (let same : k ≡ number = cc in let both : true ≡ false = sym (eq-eqb k number same) ∙ none in absurd (cc))
+
+-- what an offer that begins a number may not meet
+record IsFree (n : Net) (s : State) (g : Flow) : Type 0 where
+  behind : alive_behind n g (last s g) ≡ false
+  unkept : is_kept n g (moves.next_number (last s g)) ≡ false
+
+is_free : (n : Net) (s : State) (g : Flow) → IsReady s g → goes (way_of s g) ≡ true → offer_alive n g (Some s) ≡ false → IsFree n s g
+is_free n s g is away dead =
     let begins_so : begins s g ≡ true = rw (is.own, is.up, is.idle, away) refl in
-    let behind : alive_behind n g (last s g) ≡ false = rw begins_so at dead in
+    let none : (alive_behind n g (last s g) || is_kept n g (moves.next_number (last s g))) ≡ false = rw begins_so at dead in
+    let both : (alive_behind n g (last s g) ≡ false) × (is_kept n g (moves.next_number (last s g)) ≡ false) = or_false (alive_behind n g (last s g)) (is_kept n g (moves.next_number (last s g))) none in
+    record { behind = both.0; unkept = both.1 }
+
+-- nothing is alive that would lie too far behind
+number_free : (n : Net) (s : State) (g : Flow) → imp_at n.imps g.source.imp ≡ Some s → alive_behind n g (last s g) ≡ false → NumberFree (view n g) (Alive n g)
+number_free n s g at behind l lasts x alive =
+    let was : last s g ≡ Some l = sym (ap (λ (o : Option State). (sender_at o g).last) at) ∙ lasts in
     let gone : is_alive n g (oldest l) ≡ false = rw was at behind in
     no_packet n g (oldest l) (not_alive n g (oldest l) gone).0 x alive
+
+can_begin : (n : Net) (s : State) (g : Flow) → imp_at n.imps g.source.imp ≡ Some s → IsReady s g → goes (way_of s g) ≡ true → offer_alive n g (Some s) ≡ false → CanBegin (view n g) (Alive n g)
+can_begin n s g at is away dead =
+    let free : IsFree n s g = is_free n s g is away dead in
+    let was : last s g ≡ (view n g).last = sym (ap (λ (o : Option State). (sender_at o g).last) at) in
+    record {
+      offer = can_offer n s g at is;
+      free = number_free n s g at free.behind;
+      unkept = not_kept (imp_at n.imps g.destination.imp) g (moves.next_number (view n g).last) (ap (λ (l : Option ℕ). is_kept n g (moves.next_number l)) (sym was) ∙ free.unkept);
+    }
 
 -- ---- what waits after it
 
@@ -157,6 +186,14 @@ offered_answers Here m s can all =
     (All-push Answerable (host_at s h).queue q (at_host_all Answerable s.hosts h all)
     (answer_format kind.Rfnm m.flow (next_number s m.flow) (record { first = refl; only = refl; empty = refl }) can.source can.destination can.link (number_small s m.flow)))
 offered_answers Away m s can all = all
+
+-- a question about the message that was begun is a packet by the format
+begun_format : (m : HostMessage) (s : State) → IsCarriable m → (number : ℕ) → next_number s m.flow ≡ number → IsPacket (answer_packet kind.Rfnm m.flow number)
+begun_format m s can number same =
+    answer_format kind.Rfnm m.flow number (record { first = refl; only = refl; empty = refl }) can.source can.destination can.link (subst (λ (k : ℕ). k < 256) same (number_small s m.flow))
+
+begun_is : (k number : ℕ) → Some k ≡ Some number → k ≡ number
+begun_is k number is = cc
 
 -- ---- the event, by where the message goes
 
@@ -212,6 +249,7 @@ to_nowhere n s m o is moved sound =
           (box_put m n.log))
           (λ x. alive_or_made n next [] (λ (y : Packet). ⊥) g x only (All-nil (λ (p : PacketFields). ⊥)));
       shown = out_here m n.log;
+      begun = inl refl;
     }) sound
 
 -- the number of the next message, as its flow sees it
@@ -232,6 +270,11 @@ over_lines n s m o is carriable moved sound =
     let only : OnlyNew n made (with_turn i (from_host s m) n) = offer_only n i s m Away o.at is in
     let pieces : All (λ (p : PacketFields). IsPieceOf Piece k m.text (packet_of p)) made =
     each_packet g (next_number s g) w (λ p. IsPieceOf Piece k m.text (packet_of p)) (λ p of carries. record { data_packet = ap kind_of of.data_kind; number = of.same_number ∙ same; piece = record { there = carries.there; flag = carries.flag; same = carries.same } }) in
+    let new : view next g ≡ view_moved move (view n g) =
+    moved_view n i s (from_host s m) entries g (begun_with k (sender_at (imp_at n.imps i) g)) (receiver_at (imp_at n.imps g.destination.imp) g) (Box.Waiting (length n.log) m.text) o.at
+    (source_changed (begun_with k) n.imps i s (from_host s m).state g o.at refl (moved.sender ∙ ap (λ (j : ℕ). begun_with j (sender s g)) same))
+    (destination_same n.imps i s (from_host s m).state g o.at moved.receiver)
+    (box_put m n.log) in
     followed_turn n i s (from_host s m) entries g (move ∷ []) made (record {
       at = o.at;
       sound = from_host_imp i s m o.accepted o.imp;
@@ -243,13 +286,11 @@ over_lines n s m o is carriable moved sound =
       answers = offer_answers n s m Away o.at is carriable sound;
       here =
           makes_one move (view n g) (view next g) (Alive n g) (Alive next g)
-          (record { offer = can_offer n s g o.at o.ready; free = number_free n s g o.at o.ready (ap goes is) o.dead })
-          (moved_view n i s (from_host s m) entries g (begun_with k (sender_at (imp_at n.imps i) g)) (receiver_at (imp_at n.imps g.destination.imp) g) (Box.Waiting (length n.log) m.text) o.at
-          (source_changed (begun_with k) n.imps i s (from_host s m).state g o.at refl (moved.sender ∙ ap (λ (j : ℕ). begun_with j (sender s g)) same))
-          (destination_same n.imps i s (from_host s m).state g o.at moved.receiver)
-          (box_put m n.log))
+          (can_begin n s g o.at o.ready (ap goes is) o.dead)
+          new
           (λ x. alive_or_made n next made (IsPieceOf Piece k m.text) g x only pieces);
       shown = out_here m n.log;
+      begun = inr (λ number awaited. begun_format m s carriable number (same ∙ begun_is k number (ap (λ (v : View). v.outstanding) (sym new) ∙ awaited)));
     }) sound
 
 within : (n : Net) (s : State) (m : HostMessage) → IsOffered n s m → way_of s m.flow ≡ Here → IsCarriable m → OfferMoves Here m s (from_host s m).state → IsSound n → IsSound (logging (crossing.Out m ∷ []) (with_turn m.flow.source.imp (from_host s m) n))
@@ -266,10 +307,10 @@ within n s m o is carriable moved sound =
     let to : Receiver = receiver_at (imp_at n.imps g.destination.imp) g in
     let here : g.destination.imp ≡ i = here_imp s g is ∙ o.imp.own in
     let only : OnlyNew n [] (with_turn i (from_host s m) n) = offer_only n i s m Here o.at is in
-    let waits : view next g ≡ view_of (imp_is_up (imp_at n.imps i)) (begun_with k from) (imp_is_up (imp_at n.imps g.destination.imp)) (queued_with (message k) (noted_with k to)) (Box.Waiting (length n.log) m.text) =
-    moved_view n i s (from_host s m) entries g (begun_with k from) (queued_with (message k) (noted_with k to)) (Box.Waiting (length n.log) m.text) o.at
+    let waits : view next g ≡ view_of (imp_is_up (imp_at n.imps i)) (begun_with k from) (imp_is_up (imp_at n.imps g.destination.imp)) (queued_with (message k) (noted_with k fate.Waits to)) (Box.Waiting (length n.log) m.text) =
+    moved_view n i s (from_host s m) entries g (begun_with k from) (queued_with (message k) (noted_with k fate.Waits to)) (Box.Waiting (length n.log) m.text) o.at
     (source_changed (begun_with k) n.imps i s (from_host s m).state g o.at refl (moved.sender ∙ ap (λ (j : ℕ). begun_with j (sender s g)) same))
-    (destination_changed (λ (r : Receiver). queued_with (message k) (noted_with k r)) n.imps i s (from_host s m).state g o.at here (moved.receiver ∙ ap (λ (j : ℕ). queued_with (message j) (noted_with j (receiver s g))) same))
+    (destination_changed (λ (r : Receiver). queued_with (message k) (noted_with k fate.Waits r)) n.imps i s (from_host s m).state g o.at here (moved.receiver ∙ ap (λ (j : ℕ). queued_with (message j) (noted_with j fate.Waits (receiver s g))) same))
     (box_put m n.log) in
     followed_turn n i s (from_host s m) entries g (move ∷ []) [] (record {
       at = o.at;
@@ -282,10 +323,11 @@ within n s m o is carriable moved sound =
       answers = offer_answers n s m Here o.at is carriable sound;
       here =
           makes_one move (view n g) (view next g) (Alive n g) (Alive next g)
-          (record { offer = can_offer n s g o.at o.ready; free = number_free n s g o.at o.ready (ap goes is) o.dead })
+          (can_begin n s g o.at o.ready (ap goes is) o.dead)
           (waits ∙ ap (λ (q : List Queued). (let v : View = record (view_moved move (view n g)) { queue = q } in v)) (map-append queued_of to.queue (message k ∷ [])))
           (λ x. alive_or_made n next [] (λ (y : Packet). ⊥) g x only (All-nil (λ (p : PacketFields). ⊥)));
       shown = out_here m n.log;
+      begun = inr (λ number awaited. begun_format m s carriable number (same ∙ begun_is k number (ap (λ (v : View). v.outstanding) (sym waits) ∙ awaited)));
     }) sound
 
 -- ---- the event

@@ -1,5 +1,5 @@
 -- An event as the call of one IMP that it is.
-use Rattle.std.proofs.Common.{◌≡◌, ℕ, ◌==◌, ◌&&◌, Bool, true, false, not, Option, Some, None, Result, Err, refl, ap, subst, arith}
+use Rattle.std.proofs.Common.{◌≡◌, ℕ, ◌==◌, ◌&&◌, ◌||◌, Bool, true, false, not, Option, Some, None, Result, Err, refl, ap, subst, arith}
 use Rattle.std.proofs.lemmas.Bool.Decides.{nat_tests}
 use Rattle.leader1822.specs.declared.carrier.CarrierFault.{CarrierFault}
 use Rattle.leader1822.specs.declared.carrier.CarrierFault.TheVariants as fault
@@ -10,7 +10,7 @@ use Rattle.imp_node.specs.Stopping.{forget_refusal}
 use Rattle.leader1822.specs.Calls.{is_memory}
 use Rattle.leader1822.specs.Host.{Host, is_host}
 use Rattle.leader1822.specs.declared.message.HostMessage.{HostMessage}
-use Rattle.subnet.specs.Alive.{has_data}
+use Rattle.subnet.specs.Alive.{has_data, is_awaited_at}
 use Rattle.subnet.specs.Calls.{grows_at}
 use Rattle.subnet.specs.Events.{first_of, has_end, at_up, at_imp, accepted, is_imp, offer_alive, offer_refusal, offer_out, host_stopped, host_started}
 use Rattle.subnet.specs.declared.imp_call.ImpCall.TheVariants as call
@@ -42,11 +42,11 @@ forget_accepted i from (Some s) live apart =
     let other : (from == number s) ≡ false = other_number i from (number s) live.0 apart in
     rw other refl
 
-pub forget_step : (n new : Net) (at from : ℕ) (r : Result (Unit {0}) CarrierFault) → Makes at (call.Forget from) n new r → AreLive n.imps → is_imp n at ≡ true → is_imp n from ≡ true → (at == from) ≡ false → has_data n from at ≡ false → Steps (event.Forget at from) n new r
+pub forget_step : (n new : Net) (at from : ℕ) (r : Result (Unit {0}) CarrierFault) → Makes at (call.Forget from) n new r → AreLive n.imps → is_imp n at ≡ true → is_imp n from ≡ true → (at == from) ≡ false → (has_data n from at || is_awaited_at (imp_at n.imps from) at) ≡ false → Steps (event.Forget at from) n new r
 forget_step n new at from r made live here there apart gone =
     passed (not (is_imp n at && is_imp n from)) fault.NoSuch _ _ _ n new r (ap not (both _ _ here there))
     (passed (at == from) fault.NoSuch _ _ _ n new r apart
-    (passed (has_data n from at) fault.StillAlive _ _ _ n new r gone
+    (passed (has_data n from at || is_awaited_at (imp_at n.imps from) at) fault.StillAlive _ _ _ n new r gone
     (subst (λ (o : Option CarrierFault). CallEnds o (grows_at (imp_at n.imps at) (call_grows (call.Forget from))) (λ (done : Unit {0}). new ≡ at_imp (imp_at n.imps at) at (call_turn (call.Forget from)) n) n new r) (forget_accepted at from (imp_at n.imps at) (live at) apart) made)))
 
 -- ---- an offer

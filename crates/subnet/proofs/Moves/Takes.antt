@@ -15,6 +15,7 @@ use Rattle.leader1822.specs.declared.crossing.Crossing.TheVariants as crossing
 use Rattle.leader1822.specs.declared.message.HostMessage.{HostMessage}
 use Rattle.leader1822.proofs.lemmas.{guard, not_false, same_flow-refl}
 use Rattle.link_table.specs.Flows.{release_in}
+use Rattle.link_table.specs.declared.destination.Fate.TheVariants as fate
 use Rattle.link_table.specs.declared.source.Release.{Release}
 use Rattle.link_table.specs.declared.source.Release.TheVariants as release
 use Rattle.packetiser.specs.PacketFields.{PacketFields, IsPacket, flow_of}
@@ -28,11 +29,11 @@ use Rattle.imp_node.specs.declared.waiting.Message.{Message}
 use Rattle.imp_node.specs.declared.waiting.Told.{Told}
 use Rattle.imp_node.specs.State.{State, number, host_at, is_there, is_up, with_host}
 use Rattle.imp_node.specs.Contents as contents
-use Rattle.imp_node.specs.Flows.{answer_packet, given, answered_by, freed}
+use Rattle.imp_node.specs.Flows.{answer_packet, given, answered_by, freed, fated}
 use Rattle.imp_node.specs.Making.{rfnm_for}
 use Rattle.imp_node.specs.Moves.{without_first, sender_told}
 use Rattle.imp_node.specs.Pump.{stored}
-use Rattle.imp_node.specs.Sides.{Sender, sender, receiver, answers_of, messages_of, ended_with, IsImp, Moved}
+use Rattle.imp_node.specs.Sides.{Sender, Receiver, sender, receiver, fated_with, answers_of, messages_of, ended_with, IsImp, Moved}
 use Rattle.imp_node.specs.Taking.{first_of, is_from_here, replied, taking_has_room, taken_by, to_host, to_host_refusal}
 use Rattle.imp_node.proofs.lemmas.{answer_taken, freed_with, message_taken, nothing_taken, to_host_has, to_host_imp}
 use Rattle.subnet.specs.Net.{Net, imp_at, with_turn}
@@ -43,6 +44,7 @@ use Rattle.subnet.specs.Flows.{Piece, Alive, packet_of, queued_of, imp_is_up, se
 use Rattle.subnet.specs.Making.{NothingNew, OnlyNew}
 use Rattle.subnet.specs.Sound.{IsAt, IsSound}
 use Rattle.subnet.proofs.Calls.Silence.{at_host_all}
+use Rattle.subnet.proofs.Moves.Fates.{taken_view}
 use Rattle.subnet.proofs.Moves.Turns.{Answerable, turn_only, turn_nothing, alive_or_made, set_queue, answerable, source_changed, source_same, destination_changed, destination_same, moved_view, in_crosses, answer_crosses, followed_turn, silent_turn}
 
 -- ---- what waits after it
@@ -65,7 +67,7 @@ taken_messages : (h : ℕ) (ts : List Told) (ms : List Message) (s : State) → 
 taken_messages h (t ∷ others) ms s is all = set_queue Answerable s.hosts h (record (host_at s h) { answers = others }) all (at_host_all Answerable s.hosts h all)
 taken_messages h [] (m ∷ others) s is all =
     let waiting : All Answerable (m ∷ others) = subst (All Answerable) is (at_host_all Answerable s.hosts h all) in
-    replied_messages m (with_host s h (record (host_at s h) { queue = others })) (set_queue Answerable s.hosts h (record (host_at s h) { queue = others }) all (All-tail Answerable m others waiting))
+    replied_messages m (fated m.flow m.number fate.Taken (with_host s h (record (host_at s h) { queue = others }))) (set_queue Answerable s.hosts h (record (host_at s h) { queue = others }) all (All-tail Answerable m others waiting))
 taken_messages h [] [] s is all = all
 
 -- ---- a call that is not refused, where these answers and messages wait
@@ -133,6 +135,7 @@ take_answer n i s k t others ms take is =
           (box_told t.kind g n.log))
           (λ x. alive_or_made n next [] (λ (y : Packet). ⊥) g x only (All-nil (λ (p : PacketFields). ⊥)));
       shown = answer_here t.kind g n.log;
+      begun = inl refl;
     }) is
 
 -- ---- a message is taken
@@ -184,7 +187,7 @@ take_from_far n i s k m others take far is =
     let move : Move = TakeMessage (queued_of m) rest in
     let first : IsFirst n i s k m others = is_first n i s k m others take in
     let release : Release = release_in m.number (finite.get s.sources g) in
-    let moved : Moved s (to_host s k).state g (sender_told (is_from_here s m) release answer.Rfnm (sender s g)) (without_first others g (receiver s g)) = message_taken s k m others take.up take.answers take.queue first.host in
+    let moved : Moved s (to_host s k).state g (sender_told (is_from_here s m) release answer.Rfnm (sender s g)) (without_first others g (fated_with m.number fate.Taken (receiver s g))) = message_taken s k m others take.up take.answers take.queue first.host in
     let still : sender (to_host s k).state g ≡ sender s g = moved.sender ∙ ap (λ (b : Bool). sender_told b release answer.Rfnm (sender s g)) far in
     let rfnm : PacketFields = answer_packet kind.Rfnm g m.number in
     let only : OnlyNew n (rfnm ∷ []) (with_turn i (to_host s k) n) =
@@ -202,12 +205,14 @@ take_from_far n i s k m others take far is =
       answers = take_messages n i s k [] (m ∷ others) take is;
       here =
           makes_one move (view n g) (view next g) (Alive n g) (Alive next g) first.can
-          (moved_view n i s (to_host s k) entries g (sender_at (imp_at n.imps g.source.imp) g) (without_first others g (receiver_at (imp_at n.imps g.destination.imp) g)) (fetched (box_of g n.log)) take.at
+          (moved_view n i s (to_host s k) entries g (sender_at (imp_at n.imps g.source.imp) g) (without_first others g (fated_with m.number fate.Taken (receiver_at (imp_at n.imps g.destination.imp) g))) (fetched (box_of g n.log)) take.at
           (source_same n.imps i s (to_host s k).state g take.at still)
-          (destination_changed (without_first others g) n.imps i s (to_host s k).state g take.at first.here moved.receiver)
-          (box_fetched m n.log))
+          (destination_changed (λ (r : Receiver). without_first others g (fated_with m.number fate.Taken r)) n.imps i s (to_host s k).state g take.at first.here moved.receiver)
+          (box_fetched m n.log)
+          ∙ taken_view (imp_is_up (imp_at n.imps g.source.imp)) (sender_at (imp_at n.imps g.source.imp) g) (imp_is_up (imp_at n.imps g.destination.imp)) (receiver_at (imp_at n.imps g.destination.imp) g) (fetched (box_of g n.log)) m.number g others)
           (λ x. alive_or_made n next (rfnm ∷ []) Told g x only (All-cons (λ (p : PacketFields). Told (packet_of p)) rfnm [] (record { kind = refl; number = refl }) (All-nil (λ (p : PacketFields). Told (packet_of p)))));
       shown = in_here (host_message m) n.log;
+      begun = inl refl;
     }) is
 
 -- its source is at this IMP, and is told at once
@@ -223,7 +228,7 @@ take_from_here n i s k m others take near is =
     let at : imp_at n.imps g.source.imp ≡ Some s = ap (imp_at n.imps) home ∙ take.at in
     let awaited : (view n g).outstanding ≡ Some m.number = queued_awaited (view n g) (Alive n g) (queued_of m) rest (is.flows.flows g).clauses (ap imp_is_up at) first.can.waits in
     let frees : release_in m.number (finite.get s.sources g) ≡ release.Freed = freed_with (finite.get s.sources g) m.number (sym (ap (λ (o : Option State). (sender_at o g).outstanding) at) ∙ awaited) in
-    let moved : Moved s (to_host s k).state g (sender_told (is_from_here s m) (release_in m.number (finite.get s.sources g)) answer.Rfnm (sender s g)) (without_first others g (receiver s g)) =
+    let moved : Moved s (to_host s k).state g (sender_told (is_from_here s m) (release_in m.number (finite.get s.sources g)) answer.Rfnm (sender s g)) (without_first others g (fated_with m.number fate.Taken (receiver s g))) =
     message_taken s k m others take.up take.answers take.queue first.host in
     let ends : sender (to_host s k).state g ≡ ended_with answer.Rfnm (sender s g) =
     moved.sender
@@ -231,7 +236,7 @@ take_from_here n i s k m others take near is =
     ∙ ap (λ (r : Release). sender_told true r answer.Rfnm (sender s g)) frees in
     let only : OnlyNew n [] (with_turn i (to_host s k) n) =
     subst (λ (b : Bool). OnlyNew n (cond b [] (answer_packet kind.Rfnm g m.number ∷ [])) (with_turn i (to_host s k) n)) near (take_only n i s k [] (m ∷ others) take) in
-    let old : Follows Piece (taken_here (queued_of m) rest) (view n g) (view_taken_here rest (view n g)) (Alive n g) (Alive n g) = take_here (view n g) (Alive n g) (queued_of m) rest first.can awaited in
+    let old : Follows Piece (taken_here (queued_of m) rest) (view n g) (view_taken_here (queued_of m) rest (view n g)) (Alive n g) (Alive n g) = take_here (view n g) (Alive n g) (queued_of m) rest first.can awaited in
     followed_turn n i s (to_host s k) entries g (taken_here (queued_of m) rest) [] (record {
       at = take.at;
       sound = to_host_imp i s k take.imp;
@@ -244,14 +249,16 @@ take_from_here n i s k m others take near is =
       here = record {
         needs = old.needs;
         view =
-            moved_view n i s (to_host s k) entries g (ended_with answer.Rfnm (sender_at (imp_at n.imps g.source.imp) g)) (without_first others g (receiver_at (imp_at n.imps g.destination.imp) g)) (fetched (box_of g n.log)) take.at
+            moved_view n i s (to_host s k) entries g (ended_with answer.Rfnm (sender_at (imp_at n.imps g.source.imp) g)) (without_first others g (fated_with m.number fate.Taken (receiver_at (imp_at n.imps g.destination.imp) g))) (fetched (box_of g n.log)) take.at
             (source_changed (ended_with answer.Rfnm) n.imps i s (to_host s k).state g take.at home ends)
-            (destination_changed (without_first others g) n.imps i s (to_host s k).state g take.at first.here moved.receiver)
+            (destination_changed (λ (r : Receiver). without_first others g (fated_with m.number fate.Taken r)) n.imps i s (to_host s k).state g take.at first.here moved.receiver)
             (box_fetched m n.log)
+            ∙ taken_view (imp_is_up (imp_at n.imps g.source.imp)) (ended_with answer.Rfnm (sender_at (imp_at n.imps g.source.imp) g)) (imp_is_up (imp_at n.imps g.destination.imp)) (receiver_at (imp_at n.imps g.destination.imp) g) (fetched (box_of g n.log)) m.number g others
             ∙ old.view;
         packets = λ x a. old.packets x (only_old (Alive n g x) (alive_or_made n next [] (λ (y : Packet). ⊥) g x only (All-nil (λ (p : PacketFields). ⊥)) a));
       };
       shown = in_here (host_message m) n.log;
+      begun = inl refl;
     }) is
   where
     only_old : (A : Type 0) → A ⊎ ⊥ → A

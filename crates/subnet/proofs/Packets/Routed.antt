@@ -38,7 +38,8 @@ use Rattle.imp_node.specs.declared.waiting.Message.{Message}
 use Rattle.imp_node.specs.declared.waiting.Told.{Told}
 use Rattle.imp_node.specs.State.{State, ImpTurn, number, host_at, with_host, port_at}
 use Rattle.imp_node.specs.Room.{has_route}
-use Rattle.imp_node.specs.Flows.{answered_by}
+use Rattle.imp_node.specs.Flows.{answered_by, fated}
+use Rattle.link_table.specs.declared.destination.Fate.TheVariants as fate
 use Rattle.imp_node.specs.Arrival as arrivals
 use Rattle.imp_node.specs.Arrival.{Arrival, Passing, Old, Undeliverable, Piece, NoSlot, Unmarked, Answering, arrival, arrived, arrival_has_room, frame_taken, acknowledged, vector_heard, ignored, taken_frame, from_line}
 use Rattle.imp_node.specs.Offering.{Way, Nowhere, Here, Away, way_of, offered, from_host}
@@ -116,13 +117,14 @@ offered_routes Away m s = refl
 
 taken_by_routes : (h : ℕ) (ts : List Told) (ms : List Message) (s : State) → (taken_by h ts ms s).routes ≡ s.routes
 taken_by_routes h (t ∷ others) ms s = refl
-taken_by_routes h [] (m ∷ others) s = replied_routes answer.Rfnm kind.Rfnm m (with_host s h (record (host_at s h) { queue = others }))
+taken_by_routes h [] (m ∷ others) s = replied_routes answer.Rfnm kind.Rfnm m (fated m.flow m.number fate.Taken (with_host s h (record (host_at s h) { queue = others })))
 taken_by_routes h [] [] s = refl
 
 all_returned_routes : (ms : List Message) (s : State) → (all_returned ms s).routes ≡ s.routes
 all_returned_routes [] s = refl
 all_returned_routes (m ∷ others) s =
-    all_returned_routes others (message_returned m s) ∙ either_routes (reply_has_room s m) s (replied answer.Dead kind.Dead m s) s (replied_routes answer.Dead kind.Dead m s) refl
+    let t : State = fated m.flow m.number fate.Dead s in
+    all_returned_routes others (message_returned m s) ∙ either_routes (reply_has_room t m) s (replied answer.Dead kind.Dead m t) t (replied_routes answer.Dead kind.Dead m t) refl
 
 -- a call that leaves what was heard
 same_heard : (s t : State) → t.routes ≡ s.routes → All HeardVector s.routes.heard → All HeardVector t.routes.heard

@@ -1,4 +1,4 @@
-use Rattle.flow_law.proofs.RoundLemmas.{any_number_breaks}
+use Rattle.flow_law.proofs.RoundLemmas.{any_number_breaks, begins_kept_breaks}
 use Rattle.flow_law.proofs.CounterexampleLemmas.{offers_down_breaks, not_idle_breaks, not_answered_breaks}
 use Rattle.flow_law.proofs.counterexamples.needs_of_offers.Goals as goal
 
@@ -13,3 +13,6 @@ returns-clause-not_answered c = not_answered_breaks
 
 pub returns-clause-any_number : goal.returns-clause-any_number
 returns-clause-any_number c = any_number_breaks
+
+pub returns-clause-begins_kept : goal.returns-clause-begins_kept
+returns-clause-begins_kept c = begins_kept_breaks

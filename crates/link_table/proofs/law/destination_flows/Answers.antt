@@ -1,8 +1,11 @@
-use Rattle.link_table.proofs.FlowLemmas.{get_put, get_dropped, kept_none, kept_one}
+use Rattle.link_table.proofs.FlowLemmas.{get_put, get_ended, get_dropped, kept_none, kept_one}
 use Rattle.link_table.proofs.law.destination_flows.Goals as goal
 
 pub returns-clause-noted : goal.returns-clause-noted
-returns-clause-noted c = λ m f g n. get_put m f g n
+returns-clause-noted c = λ m f g n new. get_put m f g (record { number = n; fate = new })
+
+pub returns-clause-ended : goal.returns-clause-ended
+returns-clause-ended c = get_ended
 
 pub returns-clause-forgotten : goal.returns-clause-forgotten
 returns-clause-forgotten c = λ m imp g. get_dropped m imp g

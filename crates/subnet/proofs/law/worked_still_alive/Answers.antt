@@ -1,14 +1,18 @@
-use Rattle.std.proofs.Common.{◌≡◌, ℕ, true, false, [], ◌∷◌, Option, Some, refl, ap, sym, ◌∙◌}
+use Rattle.std.proofs.Common.{◌≡◌, ℕ, Bool, true, false, [], ◌∷◌, Option, Some, None, IsSome, is_some, refl, ap, sym, ◌∙◌, ◌==◌, inl, inr, if◌then◌else◌}
+use Rattle.std.proofs.lemmas.Bool.{cases_Bool}
 use Rattle.std.specs.FinMap.{get, insert, empty, get-empty}
-use Rattle.leader1822.specs.Flow.{flow_cmp}
-use Rattle.link_table.specs.Flows.{begun, number_in}
-use Rattle.link_table.specs.Keys.{has_from}
+use Rattle.leader1822.specs.Flow.{flow_cmp, same_flow}
+use Rattle.leader1822.specs.declared.address.Flow.{Flow}
+use Rattle.link_table.specs.Flows.{Sources, begun, number_in, outstanding_in, has_outstanding_to}
+use Rattle.link_table.specs.Keys.{has_from, drop_from}
+use Rattle.link_table.specs.declared.destination.Fate.TheVariants as fate
+use Rattle.link_table.specs.declared.destination.Noted.{Noted}
 use Rattle.link_table.specs.declared.source.Standing.{Standing}
 use Rattle.link_table.specs.declared.source.Standing.TheVariants as standing
-use Rattle.link_table.proofs.lemmas.{asked, get_begun, get_put}
+use Rattle.link_table.proofs.lemmas.{asked, get_begun, get_dropped, get_put, outstanding_to_none, outstanding_to_one}
 use Rattle.subnet.specs.Examples.{ours}
 use Rattle.imp_channel.specs.Line.{submitted}
-use Rattle.link_table.specs.Numbers.{is_new, oldest, modulus, window}
+use Rattle.link_table.specs.Numbers.{is_new, oldest, modulus, next, window}
 use Rattle.routing.specs.RouteTable.{next_of, distance_to, vector_of}
 use Rattle.subnet.proofs.law.worked_still_alive.Goals as goal
 
@@ -20,11 +24,48 @@ is_begun : get (begun empty ours) ours ≡ Some (standing.Outstanding 0)
 is_begun = get_begun empty ours ours ∙ ap (λ (s : Option Standing). Some (standing.Outstanding (number_in s))) (get-empty flow_cmp ours)
 
 -- what IMPs keep of flows from others
-none_kept : (imp : ℕ) → has_from {V = ℕ} imp empty ≡ false
-none_kept imp = sym (asked {V = ℕ} imp [])
+none_kept : (imp : ℕ) → has_from {V = Noted} imp empty ≡ false
+none_kept imp = sym (asked {V = Noted} imp [])
 
-one_kept : has_from {V = ℕ} 1 (insert empty ours 0) ≡ true
-one_kept = sym (asked {V = ℕ} 1 ((ours, 0) ∷ []))
+abbrev first_taken : Noted
+first_taken = record { number = 0; fate = fate.Taken }
+
+one_kept : has_from {V = Noted} 1 (insert empty ours first_taken) ≡ true
+one_kept = sym (asked {V = Noted} 1 ((ours, first_taken) ∷ []))
+
+is_kept_there : get {R = flow_cmp} (insert empty ours first_taken) ours ≡ Some first_taken
+is_kept_there = get_put empty ours ours first_taken
+
+is_forgotten : get (drop_from 1 (insert empty ours first_taken)) ours ≡ None
+is_forgotten = get_dropped (insert empty ours first_taken) 1 ours
+
+-- what is outstanding
+some_outstanding : (m : Sources) (imp : ℕ) (g : Flow) (n : ℕ) → (g.destination.imp == imp) ≡ true → outstanding_in (get m g) ≡ Some n → has_outstanding_to imp m ≡ true
+some_outstanding m imp g n to is = elim (cases_Bool (has_outstanding_to imp m)) [
+  | inl yes ↦ yes
+  | inr no ↦ (let none : outstanding_in (get m g) ≡ None = outstanding_to_none m imp no g to in absurd (cc))
+]
+
+none_outstanding : (m : Sources) (imp : ℕ) → ((g : Flow) → outstanding_in (get m g) ≡ None) → has_outstanding_to imp m ≡ false
+none_outstanding m imp none = elim (cases_Bool (has_outstanding_to imp m)) [
+  | inl yes ↦ (let one : (g : Flow) × ((g.destination.imp == imp) ≡ true) × IsSome (outstanding_in (get m g)) = outstanding_to_one m imp yes in
+      let some : is_some (outstanding_in (get m one.0)) ≡ true = one.1.1 in
+      let missing : is_some (outstanding_in (get m one.0)) ≡ false = ap is_some (none one.0) in
+      absurd (cc))
+  | inr no ↦ no
+]
+
+nothing_begun : (imp : ℕ) → has_outstanding_to imp empty ≡ false
+nothing_begun imp = none_outstanding empty imp (λ g. ap outstanding_in (get-empty flow_cmp g))
+
+all_answered : (last imp : ℕ) → has_outstanding_to imp (insert empty ours (standing.Idle last)) ≡ false
+all_answered last imp = none_outstanding (insert empty ours (standing.Idle last)) imp (λ g. ap outstanding_in (get_put empty ours g (standing.Idle last)) ∙ by g (same_flow g ours)) where
+  by : (g : Flow) (b : Bool) → outstanding_in (if b then Some (standing.Idle last) else get empty g) ≡ None
+  by g true = refl
+  by g false = ap outstanding_in (get-empty flow_cmp g)
+
+ours_outstanding : has_outstanding_to 2 (begun empty ours) ≡ true
+ours_outstanding = some_outstanding (begun empty ours) 2 ours 0 refl (ap outstanding_in is_begun)
 
 pub returns-clause-alive : goal.returns-clause-alive
 unfolding next_of submitted distance_to vector_of is_new oldest modulus window
@@ -40,7 +81,7 @@ returns-clause-offer_window c = rw (is_known 127) refl
 
 pub returns-clause-offer_within : goal.returns-clause-offer_within
 unfolding next_of submitted distance_to vector_of is_new oldest modulus window
-returns-clause-offer_within c = rw (is_known 127) refl
+returns-clause-offer_within c = rw (is_known 127) (rw (get-empty flow_cmp ours) refl)
 
 pub returns-clause-offer_round : goal.returns-clause-offer_round
 unfolding next_of submitted distance_to vector_of is_new oldest modulus window
@@ -48,11 +89,11 @@ returns-clause-offer_round c = rw (is_known 0) refl
 
 pub returns-clause-offer_first : goal.returns-clause-offer_first
 unfolding next_of submitted distance_to vector_of is_new oldest modulus window
-returns-clause-offer_first c = rw (get-empty flow_cmp ours) refl
+returns-clause-offer_first c = rw (get-empty flow_cmp ours) (rw (get-empty flow_cmp ours) refl)
 
 pub returns-clause-offer_full : goal.returns-clause-offer_full
 unfolding next_of submitted distance_to vector_of is_new oldest modulus window
-returns-clause-offer_full c = (rw (is_known 127) refl, rw (is_known 127) refl)
+returns-clause-offer_full c = (rw (is_known 127) refl, rw (is_known 127) (rw (get-empty flow_cmp ours) refl))
 
 pub returns-clause-offer_nowhere : goal.returns-clause-offer_nowhere
 unfolding next_of submitted distance_to vector_of is_new oldest modulus window
@@ -92,11 +133,11 @@ returns-clause-forget_queued c = refl
 
 pub returns-clause-forget_back : goal.returns-clause-forget_back
 unfolding next_of submitted distance_to vector_of is_new oldest modulus window
-returns-clause-forget_back c = refl
+returns-clause-forget_back c = rw (nothing_begun 1) refl
 
 pub returns-clause-forget_answer : goal.returns-clause-forget_answer
 unfolding next_of submitted distance_to vector_of is_new oldest modulus window
-returns-clause-forget_answer c = refl
+returns-clause-forget_answer c = rw (nothing_begun 2) refl
 
 pub returns-clause-start_answer : goal.returns-clause-start_answer
 unfolding next_of submitted distance_to vector_of is_new oldest modulus window
@@ -108,7 +149,7 @@ returns-clause-start_destination c = refl
 
 pub returns-clause-start_passing : goal.returns-clause-start_passing
 unfolding next_of submitted distance_to vector_of is_new oldest modulus window
-returns-clause-start_passing c = rw (none_kept 1) refl
+returns-clause-start_passing c = rw (none_kept 1, nothing_begun 1) refl
 
 pub returns-clause-start_kept : goal.returns-clause-start_kept
 unfolding next_of submitted distance_to vector_of is_new oldest modulus window
@@ -116,8 +157,36 @@ returns-clause-start_kept c = rw one_kept refl
 
 pub returns-clause-start_keeper : goal.returns-clause-start_keeper
 unfolding next_of submitted distance_to vector_of is_new oldest modulus window
-returns-clause-start_keeper c = rw (none_kept 2) refl
+returns-clause-start_keeper c = rw (none_kept 2, nothing_begun 2) refl
 
 pub returns-clause-start_own : goal.returns-clause-start_own
 unfolding next_of submitted distance_to vector_of is_new oldest modulus window
-returns-clause-start_own c = rw (none_kept 1) refl
+returns-clause-start_own c = rw (none_kept 1, nothing_begun 1) refl
+
+pub returns-clause-offer_kept : goal.returns-clause-offer_kept
+unfolding next_of submitted distance_to vector_of is_new oldest modulus window next
+returns-clause-offer_kept c = rw (is_known 255, is_kept_there) refl
+
+pub returns-clause-offer_unkept : goal.returns-clause-offer_unkept
+unfolding next_of submitted distance_to vector_of is_new oldest modulus window next
+returns-clause-offer_unkept c = rw (is_known 254, is_kept_there) refl
+
+pub returns-clause-forget_kept : goal.returns-clause-forget_kept
+unfolding next_of submitted distance_to vector_of is_new oldest modulus window next
+returns-clause-forget_kept c = rw (all_answered 255 2) refl
+
+pub returns-clause-offer_forgotten : goal.returns-clause-offer_forgotten
+unfolding next_of submitted distance_to vector_of is_new oldest modulus window next
+returns-clause-offer_forgotten c = rw (is_known 255, is_forgotten) refl
+
+pub returns-clause-forget_awaited : goal.returns-clause-forget_awaited
+unfolding next_of submitted distance_to vector_of is_new oldest modulus window next
+returns-clause-forget_awaited c = rw ours_outstanding refl
+
+pub returns-clause-forget_own : goal.returns-clause-forget_own
+unfolding next_of submitted distance_to vector_of is_new oldest modulus window next
+returns-clause-forget_own c = rw (nothing_begun 1) refl
+
+pub returns-clause-start_awaited : goal.returns-clause-start_awaited
+unfolding next_of submitted distance_to vector_of is_new oldest modulus window next
+returns-clause-start_awaited c = rw (none_kept 2, ours_outstanding) refl

@@ -1,0 +1,185 @@
+-- Machines that ask, tell or forget what is asked for where they shouldn't.
+use Rattle.std.proofs.Common.{◌≡◌, true, [], ◌∷◌, Some, None, inl, refl}
+use Rattle.flow_law.specs.View.{Kind}
+use Rattle.flow_law.specs.Counterexamples.{Breaks, dead_of, rfnm_of, ask_of, second, ReturnsAwaited, returns_awaited, ForgetsAwaited, forgets_awaited, AsksAnything, asks_anything, RepliesToNothing, replies_to_nothing, RepliesToAny, replies_to_any, RepliesFalsely, replies_falsely}
+use Rattle.flow_law.proofs.Clauses.{none_there}
+use Rattle.flow_law.proofs.Left.{first_there, left_none, left_old, left_made}
+use Rattle.flow_law.proofs.ExampleLemmas.{new_at_first}
+use Rattle.flow_law.proofs.CounterexampleLemmas.{answer_only, second_is_other}
+
+pub returns_awaited_breaks : Breaks ReturnsAwaited returns_awaited
+returns_awaited_breaks = record {
+  history = (
+    record { needs = refl; left = left_none _ _ },
+    (
+      record { needs = record { there = first_there (dead_of 0) []; brings = tt; awaited = refl }; left = left_none _ _ },
+      (
+        record { needs = (record { there = first_there (ask_of 0) []; new = new_at_first (ask_of 0) refl }, tt); left = left_made _ _ (dead_of 0) (record { refusal = refl; number = refl }) },
+        (
+          record { needs = refl; left = left_made _ _ (ask_of 0) (record { kind = refl; number = refl }) },
+          (
+            record { needs = λ x there request. none_there x there; left = λ x there. inl there },
+            (
+              record { needs = tt; left = λ x there. inl there },
+              (
+                record { needs = record { destination = refl; waits = refl }; left = left_none _ _ },
+                (
+                  record { needs = record { offer = record { source = refl; idle = refl; answered = refl }; free = λ last is. absurd (cc); unkept = λ is. absurd (cc) }; left = λ x there. inl there },
+                  tt,
+                ),
+              ),
+            ),
+          ),
+        ),
+      ),
+    ),
+  );
+  broken = λ run. absurd run.0.1;
+}
+
+pub forgets_awaited_breaks : Breaks ForgetsAwaited forgets_awaited
+forgets_awaited_breaks = record {
+  history = (
+    record { needs = refl; left = left_none _ _ },
+    (
+      record { needs = record { there = first_there (dead_of 0) []; brings = tt; awaited = refl }; left = left_none _ _ },
+      (
+        record { needs = (record { there = first_there (ask_of 0) []; new = new_at_first (ask_of 0) refl }, tt); left = left_made _ _ (dead_of 0) (record { refusal = refl; number = refl }) },
+        (
+          record { needs = refl; left = left_made _ _ (ask_of 0) (record { kind = refl; number = refl }) },
+          (
+            record { needs = λ x there request. none_there x there; left = λ x there. inl there },
+            (
+              record { needs = record { destination = refl; waits = refl }; left = left_none _ _ },
+              (
+                record { needs = record { offer = record { source = refl; idle = refl; answered = refl }; free = λ last is. absurd (cc); unkept = λ is. absurd (cc) }; left = λ x there. inl there },
+                tt,
+              ),
+            ),
+          ),
+        ),
+      ),
+    ),
+  );
+  broken = λ run. absurd run.0.1;
+}
+
+pub asks_anything_breaks : Breaks AsksAnything asks_anything
+asks_anything_breaks = record {
+  history = (
+    record { needs = refl; left = left_none _ _ },
+    (
+      record { needs = record { destination = refl; waits = refl }; left = left_none _ _ },
+      (
+        record { needs = record { there = first_there (dead_of 0) []; brings = tt; awaited = refl }; left = left_none _ _ },
+        (
+          record { needs = record { offer = record { source = refl; idle = refl; answered = refl }; free = λ last is. absurd (cc); unkept = λ is. absurd (cc) }; left = λ x there. inl there },
+          (
+            record { needs = record { no_request = answer_only Kind.Dead refl; idle = refl }; left = λ x there. inl there },
+            (
+              record { needs = (record { there = first_there (ask_of 0) []; new = new_at_first (ask_of 0) refl }, tt); left = left_made _ _ (dead_of 0) (record { refusal = refl; number = refl }) },
+              (
+                record { needs = tt; left = left_made _ _ (ask_of 0) (record { kind = refl; number = refl }) },
+                tt,
+              ),
+            ),
+          ),
+        ),
+      ),
+    ),
+  );
+  broken = λ run. absurd run.0.1;
+}
+
+pub replies_to_nothing_breaks : Breaks RepliesToNothing replies_to_nothing
+replies_to_nothing_breaks = record {
+  history = (
+    record { needs = refl; left = left_none _ _ },
+    (
+      record { needs = record { there = first_there (rfnm_of 0) []; brings = tt; awaited = refl }; left = left_none _ _ },
+      (
+        record { needs = record { offer = record { source = refl; idle = refl; answered = refl }; free = λ last is. absurd (cc); unkept = λ is. absurd (cc) }; left = left_old _ _ (rfnm_of 0) (first_there (rfnm_of 0) []) },
+        (
+          record { needs = record { no_request = answer_only Kind.Rfnm refl; idle = refl }; left = λ x there. inl there },
+          (
+            record { needs = (refl, refl, refl); left = left_made _ _ (rfnm_of 0) (record { kind = refl; number = refl }) },
+            (
+              record { needs = record { from_up = refl; down = refl; idle = refl }; left = λ x there. inl there },
+              (
+                record { needs = record { no_packet = none_there; unread = refl }; left = λ x there. inl there },
+                (
+                  record { needs = tt; left = λ x there. inl there },
+                  (
+                    record { needs = record { destination = refl; waits = refl }; left = left_none _ _ },
+                    (
+                      record { needs = record { offer = record { source = refl; idle = refl; answered = refl }; free = λ last is. absurd (cc); unkept = λ is. absurd (cc) }; left = λ x there. inl there },
+                      tt,
+                    ),
+                  ),
+                ),
+              ),
+            ),
+          ),
+        ),
+      ),
+    ),
+  );
+  broken = λ run. absurd run.0.1;
+}
+
+pub replies_to_any_breaks : Breaks RepliesToAny replies_to_any
+replies_to_any_breaks = record {
+  history = (
+    record { needs = refl; left = left_none _ _ },
+    (
+      record { needs = record { there = first_there (rfnm_of second) []; brings = tt; awaited = refl }; left = left_none _ _ },
+      (
+        record { needs = (refl, first_there (ask_of second) [], refl); left = left_made _ _ (rfnm_of second) (record { kind = refl; number = refl }) },
+        (
+          record { needs = refl; left = left_made _ _ (ask_of second) (record { kind = refl; number = refl }) },
+          (
+            record { needs = record { offer = record { source = refl; idle = refl; answered = refl }; free = λ last is x there. absurd (none_there x there); unkept = second_is_other }; left = left_none _ _ },
+            (
+              record { needs = refl; left = left_none _ _ },
+              (
+                record { needs = record { there = first_there (rfnm_of 0) []; brings = tt; awaited = refl }; left = left_none _ _ },
+                (
+                  record { needs = record { destination = refl; waits = refl }; left = left_made _ _ (rfnm_of 0) (record { kind = refl; number = refl }) },
+                  (
+                    record { needs = record { offer = record { source = refl; idle = refl; answered = refl }; free = λ last is. absurd (cc); unkept = λ is. absurd (cc) }; left = λ x there. inl there },
+                    tt,
+                  ),
+                ),
+              ),
+            ),
+          ),
+        ),
+      ),
+    ),
+  );
+  broken = λ run. absurd run.0.1;
+}
+
+pub replies_falsely_breaks : Breaks RepliesFalsely replies_falsely
+replies_falsely_breaks = record {
+  history = (
+    record { needs = refl; left = left_none _ _ },
+    (
+      record { needs = record { there = first_there (dead_of 0) []; brings = tt; awaited = refl }; left = left_none _ _ },
+      (
+        record { needs = record { destination = refl; waits = refl }; left = λ x there. inl there },
+        (
+          record { needs = (refl, first_there (ask_of 0) [], refl); left = left_made _ _ (dead_of 0) (record { kind = refl; number = refl }) },
+          (
+            record { needs = refl; left = left_made _ _ (ask_of 0) (record { kind = refl; number = refl }) },
+            (
+              record { needs = record { offer = record { source = refl; idle = refl; answered = refl }; free = λ last is. absurd (cc); unkept = λ is. absurd (cc) }; left = λ x there. inl there },
+              tt,
+            ),
+          ),
+        ),
+      ),
+    ),
+  );
+  broken = λ run. absurd run.0.1;
+}
