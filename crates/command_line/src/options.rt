@@ -54,7 +54,8 @@ impl Options {
     pub fn read(alloc: Global, words: &[String]) -> Result<Options, OptionsFault>
         ensures { Asked (options_of (map string_bytes words.now)) result }
     {
-        Options::read_texts(alloc, &texts_of(alloc, words)?)
+        let texts = texts_of(alloc, words)?;
+        Options::read_texts(alloc, &texts)
     }
 
     /// The options that these words ask for.
