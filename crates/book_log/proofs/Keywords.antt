@@ -297,24 +297,13 @@ short_line (line.Lived x) is = absurd is
 short_line (line.Handed bits) is = absurd is
 short_line line.End is = tt
 
--- a line whose operand spells none of its keyword's kind is none without octets, and neither is one with another first word
+-- a line whose operand spells none of its keyword's kind is none without octets
 pub no_short_operand : (key first : List ℕ) (left : List (List ℕ)) → first ≡ key → ((z : OperandOf (made key)) → IsMeant (made key) z → left ≢ words_of (made key) z)
     → (l : Line) → IsShort l → first ∷ left ≢ line_words l
 no_short_operand key first left is none l short e =
     let both : first ∷ left ≡ keyword l ∷ words_of (made (keyword l)) (operand l) = e ∙ words_are l in
     let F : List ℕ → Type 0 = λ w. (z : OperandOf (made w)) → IsMeant (made w) z → left ≢ words_of (made w) z in
     subst F (sym is ∙ first_same both) none (operand l) (is_meant l (short_line l short)) (rest_same both)
-
-pub no_short_keyword : (first : List ℕ) (left : List (List ℕ)) → first ≢ codes "answer" → first ≢ codes "down" → first ≢ codes "up" → (first ≡ codes "end" → left ≢ [])
-    → (l : Line) → IsShort l → first ∷ left ≢ line_words l
-no_short_keyword first left answer down up end (line.Crossed (crossing.Out m)) short e = short
-no_short_keyword first left answer down up end (line.Crossed (crossing.In m)) short e = short
-no_short_keyword first left answer down up end (line.Crossed (crossing.Answer kind f)) short e = answer (first_same e)
-no_short_keyword first left answer down up end (line.Crossed (crossing.Down h)) short e = down (first_same e)
-no_short_keyword first left answer down up end (line.Crossed (crossing.Up h)) short e = up (first_same e)
-no_short_keyword first left answer down up end (line.Lived x) short e = short
-no_short_keyword first left answer down up end (line.Handed bits) short e = short
-no_short_keyword first left answer down up end line.End short e = end (first_same e) (rest_same e)
 
 -- what is read of a line without octets
 pub short_read : (text first : List ℕ) (left : List (List ℕ)) (r : Option Line) → words_in text ≡ first ∷ left
