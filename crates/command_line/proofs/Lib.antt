@@ -1,6 +1,8 @@
 mod CommandLine
 mod Faults
 mod Hyphens
+mod Judged
+mod Logs
 mod Once
 mod OneInput
 mod Printed

@@ -1,8 +1,10 @@
+pub mod Audits
 pub mod Carriers
 pub mod Described
 pub mod Events
 pub mod Faults
 pub mod Input
+pub mod Logs
 pub mod Options
 pub mod Parser
 pub mod Printed

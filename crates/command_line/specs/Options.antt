@@ -4,6 +4,8 @@ use Rattle.std.specs.Str.{bytes_eq}
 use Rattle.replay.specs.declared.print.Detail.{Detail}
 use Rattle.replay.specs.declared.print.Detail.TheVariants.{Sizes, Texts}
 use Rattle.command_line.specs.declared.options.Options.{Options}
+use Rattle.command_line.specs.declared.options.Task.{Task}
+use Rattle.command_line.specs.declared.options.Task.TheVariants as task
 use Rattle.command_line.specs.declared.options.OptionsFault.{OptionsFault}
 use Rattle.command_line.specs.declared.options.OptionsFault.TheVariants as fault
 
@@ -23,6 +25,15 @@ options_after options (word ∷ words) = option_and_then (λ more. options_after
 -- the options that words ask for; none where a word is no option or an option stands twice
 abbrev pub options_of : List (List ℕ) → Option Options
 options_of words = options_after (record { book = false; check = false; texts = false }) words
+
+-- what one word asks for that stands alone
+abbrev pub task_of : List (List ℕ) → Option Task
+task_of [] = None
+task_of (word ∷ []) =
+    if bytes_eq word (codes "--log") then Some task.Log
+    else (if bytes_eq word (codes "--audit") then Some task.Audit
+    else None)
+task_of (word ∷ next ∷ words) = None
 
 -- how much is printed of a message, where its text is asked for and where it isn't
 abbrev pub detail_of : Bool → Detail

@@ -160,7 +160,7 @@ fn write_lives<W: Output>(lives: &[Life], book: bool, writer: &mut W) -> Result<
 /// The subnet of a topology's IMPs and lines, at its opening.
 ///
 /// Errors: `AllocError`.
-fn subnet_of(alloc: Global, network: &Topology) -> Result<Subnet, AllocError>
+pub(crate) fn subnet_of(alloc: Global, network: &Topology) -> Result<Subnet, AllocError>
     ensures { IfOk result (λ subnet. subnet ≡ subnet_of network.now) }
 {
     let hosts = network.hosts(alloc)?;

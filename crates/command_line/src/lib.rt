@@ -14,16 +14,21 @@
 //! Nothing here knows where words and octets come from, nor what becomes of a fault.
 #![tactic(auto)]
 
+mod auditing;
 mod carriers;
 mod fault;
 mod input;
 pub mod law;
+mod logging;
 mod options;
 mod simulator;
 mod source;
 
+pub use auditing::{AuditFault, audit_status, run_audit};
 pub use fault::ScriptFault;
-pub use options::{Options, OptionsFault};
+pub use logging::run_log;
+pub use net_sim::Audit;
+pub use options::{Options, OptionsFault, Task};
 pub use replay::{Detail, Output, Printer, WriteFailed};
 pub use simulator::{run, run_script};
 pub use source::{ReadFailed, Reader, Source};

@@ -4,7 +4,7 @@ ghost use Rattle.std.specs.Prelude.{◌≡◌, codes, map, IfOk, string_bytes};
 ghost use Rattle.std.specs.List.{list_any};
 ghost use Rattle.std.specs.Str.{bytes_eq};
 ghost use Rattle.clap.specs.Words.{app_of};
-ghost use Rattle.command_line.specs.Options.{Asked, detail_of, options_of};
+ghost use Rattle.command_line.specs.Options.{Asked, detail_of, options_of, task_of};
 ghost use Rattle.command_line.specs.Parser.{command_line};
 
 use clap::error::ErrorKind;
@@ -22,6 +22,33 @@ pub struct Options {
     pub check: bool,
     /// Whether the texts of messages are printed behind their bits.
     pub texts: bool,
+}
+
+/// What a word asks for that stands alone, in place of a replay's output.
+#[derive(Clone, Copy, Debug, PartialEq, Eq)]
+pub enum Task {
+    /// The log of the replay's book.
+    Log,
+    /// The audit of a log.
+    Audit,
+}
+
+impl Task {
+    /// What the words behind the program's name ask for, where they are one word: `--log` or `--audit`.
+    pub fn of(words: &[String]) -> Option<Task>
+        ensures { result ≡ task_of (map string_bytes words.now) }
+    {
+        if words.len() != 1 {
+            return None;
+        }
+        if words[0].as_str() == "--log" {
+            Some(Task::Log)
+        } else if words[0].as_str() == "--audit" {
+            Some(Task::Audit)
+        } else {
+            None
+        }
+    }
 }
 
 /// Why words are no options.

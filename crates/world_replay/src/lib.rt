@@ -19,5 +19,6 @@ mod print;
 pub mod worked;
 
 pub use events::replay_events;
+pub use lines::LifeLine;
 pub use print::print_lives;
 pub use replay::{Detail, Output, ReplayFault, WriteFailed};

@@ -103,9 +103,9 @@ fn reason_name(failure: &Failure) -> &'static str
     }
 }
 
-/// The line for a life of a connection.
+/// The line for a life of a connection, without its end.
 #[derive(Drop)]
-pub(crate) struct LifeLine<'a>(pub &'a Life);
+pub struct LifeLine<'a>(pub &'a Life);
 
 /// Prints both ends, the places of their requests in the log, the kind, what was carried, granted and returned, and
 /// whether it has ended.

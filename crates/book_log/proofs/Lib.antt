@@ -1,0 +1,8 @@
+mod Books
+mod Cuts
+mod Going
+mod Keywords
+mod Numbers
+mod Once
+mod Printed
+mod Reading

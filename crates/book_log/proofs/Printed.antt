@@ -1,0 +1,116 @@
+-- What is written of a book is its log.
+use Rattle.std.proofs.Common.{◌≡◌, ℕ, ◌+◌, ◌*◌, ◌/◌, ◌%◌, ◌<◌, ◌≤◌, Bool, false, List, [], ◌∷◌, ◌++◌, Option, codes, drop, length, map, slice_index, slice_index_or, refl, sym, ap, ap₂, ◌∙◌, arith, subst, append_assoc, append-nil}
+use Rattle.std.proofs.lemmas.List.{drop-drop, drop_all, get_or-drop, length-drop}
+use Rattle.std.proofs.lemmas.Grind.{flat_map-append}
+use Rattle.std.specs.Io.KnownBytes.{Appends}
+use Rattle.bit_messages.specs.Octets.{octet, octets_of}
+use Rattle.hex.specs.Hex.{encode_upper, encode_with, upper_digits}
+use Rattle.replay.specs.InTurn.{text_of}
+use Rattle.replay.specs.Output.{crossing_line}
+use Rattle.replay.specs.declared.print.Detail.TheVariants.{Texts}
+use Rattle.replay.proofs.lemmas.{appends_more, appends_none}
+use Rattle.script.specs.Input.{ended_line}
+use Rattle.script.specs.Spelling.{octets_text}
+use Rattle.book_log.specs.Log.{Book, handed_line, life_line, log_text, text_of_lines}
+use Rattle.book_log.specs.Steps.{octet_at}
+
+-- ---- octets of bits
+
+abbrev at : List Bool → ℕ → Bool
+at bits k = slice_index_or bits k false
+
+-- the first octet, and those of the bits behind it
+first_octet : (bits : List Bool) → 0 < length bits → octets_of bits ≡ octet_at 0 bits ∷ octets_of (drop 8 bits)
+unfolding octets_of
+first_octet [] some = absurd (omega (arith, some))
+first_octet (a ∷ []) some = refl
+first_octet (a ∷ b ∷ []) some = refl
+first_octet (a ∷ b ∷ c ∷ []) some = refl
+first_octet (a ∷ b ∷ c ∷ d ∷ []) some = refl
+first_octet (a ∷ b ∷ c ∷ d ∷ e ∷ []) some = refl
+first_octet (a ∷ b ∷ c ∷ d ∷ e ∷ f ∷ []) some = refl
+first_octet (a ∷ b ∷ c ∷ d ∷ e ∷ f ∷ g ∷ []) some = refl
+first_octet (a ∷ b ∷ c ∷ d ∷ e ∷ f ∷ g ∷ h ∷ rest) some = refl
+
+-- the octet of the bits behind a place
+moved : (n : ℕ) (bits : List Bool) → octet_at 0 (drop n bits) ≡ octet_at n bits
+moved n bits =
+    let e : (k : ℕ) → at (drop n bits) k ≡ at bits (n + k) = λ k. get_or-drop n bits k false in
+    λ i. octet (e 0 i) (e 1 i) (e 2 i) (e 3 i) (e 4 i) (e 5 i) (e 6 i) (e 7 i)
+
+-- the octets up to this one are written: with those that are left it is the whole
+pub record Written (bits : List Bool) (i : ℕ) (a b : Option (List ℕ)) : Type 0 where
+  pub front : List ℕ
+  pub whole : front ++ encode_upper (octets_of (drop (8 * i) bits)) ≡ encode_upper (octets_of bits)
+  pub written : Appends a b front
+
+pub none_written : (bits : List Bool) (a : Option (List ℕ)) → Written bits 0 a a
+none_written bits a = record { front = []; whole = refl; written = appends_none a }
+
+two_digits : (o : ℕ) (octets : List ℕ) → encode_upper (o ∷ octets) ≡ (slice_index upper_digits (o / 16) ∷ slice_index upper_digits (o % 16) ∷ []) ++ encode_upper octets
+unfolding encode_with
+two_digits o octets = refl
+
+pub one_written : (bits : List Bool) (i o : ℕ) (a b c : Option (List ℕ)) → 8 * i < length bits → o ≡ octet_at (8 * i) bits → Written bits i a b
+    → Appends b c (slice_index upper_digits (o / 16) ∷ slice_index upper_digits (o % 16) ∷ []) → Written bits (i + 1) a c
+one_written bits i o a b c lt is h now =
+    let pair : List ℕ = slice_index upper_digits (o / 16) ∷ slice_index upper_digits (o % 16) ∷ [] in
+    let left : 0 < length (drop (8 * i) bits) = omega (arith, length-drop (8 * i) bits) in
+    let further : drop 8 (drop (8 * i) bits) ≡ drop (8 * (i + 1)) bits = drop-drop 8 (8 * i) bits ∙ ap (λ n. drop n bits) (omega arith) in
+    let next : octets_of (drop (8 * i) bits) ≡ o ∷ octets_of (drop (8 * (i + 1)) bits) =
+    first_octet (drop (8 * i) bits) left ∙ ap₂ (λ (n : ℕ) (xs : List Bool). n ∷ octets_of xs) (moved (8 * i) bits ∙ sym is) further in
+    record {
+      front = h.front ++ pair;
+      whole = append_assoc h.front pair (encode_upper (octets_of (drop (8 * (i + 1)) bits)))
+          ∙ ap (λ xs. h.front ++ xs) (sym (ap encode_upper next ∙ two_digits o (octets_of (drop (8 * (i + 1)) bits)))) ∙ h.whole;
+      written = appends_more a b c h.front pair h.written now;
+    }
+
+none_left : (bits : List Bool) (i : ℕ) → length bits ≤ 8 * i → encode_upper (octets_of (drop (8 * i) bits)) ≡ []
+unfolding encode_with octets_of
+none_left bits i le = ap (λ xs. encode_upper (octets_of xs)) (drop_all (8 * i) bits le)
+
+pub all_written : (bits : List Bool) (i : ℕ) (a b : Option (List ℕ)) → length bits ≤ 8 * i → Written bits i a b → Appends a b (encode_upper (octets_of bits))
+all_written bits i a b le h =
+    subst (Appends a b) (sym (append-nil h.front) ∙ ap (λ xs. h.front ++ xs) (sym (none_left bits i le)) ∙ h.whole) h.written
+
+pub no_bits : (bits : List Bool) (a b : Option (List ℕ)) → length bits ≡ 0 → Appends a b (codes "-") → Appends a b (octets_text bits)
+no_bits [] a b none h = h
+no_bits (x ∷ bits) a b none h = absurd (omega (arith, none))
+
+pub some_bits : (bits : List Bool) (a b : Option (List ℕ)) → 0 < length bits → Appends a b (encode_upper (octets_of bits)) → Appends a b (octets_text bits)
+some_bits [] a b some h = absurd (omega (arith, some))
+some_bits (x ∷ bits) a b some h = h
+
+-- ---- lines
+
+-- three writes make a line: what stands before the octets, the octets, and the end
+pub line_written : (front octets : List ℕ) (a b c d : Option (List ℕ)) → Appends a b (front ++ codes " ") → Appends b c octets → Appends c d (codes "\n") → Appends a d (ended_line (front ++ (codes " " ++ octets)))
+line_written front octets a b c d h k l =
+    subst (Appends a d) (ap (λ xs. xs ++ codes "\n") (append_assoc front (codes " ") octets))
+    (appends_more a c d ((front ++ codes " ") ++ octets) (codes "\n") (appends_more a b c (front ++ codes " ") octets h k) l)
+
+-- ---- the whole
+
+lines_text : {X : Type 0} (text : X → List ℕ) (xs : List X) → text_of_lines (map text xs) ≡ text_of text xs
+lines_text text [] = refl
+lines_text text (x ∷ xs) = ap (λ ys. ended_line (text x) ++ ys) (lines_text text xs)
+
+append_lines : (xs ys : List (List ℕ)) → text_of_lines (xs ++ ys) ≡ text_of_lines xs ++ text_of_lines ys
+append_lines xs ys = flat_map-append ended_line xs ys
+
+log_is : (b : Book) → log_text b ≡ text_of (crossing_line Texts) b.crossings ++ (text_of life_line b.lives ++ (text_of handed_line b.handed ++ codes "end\n"))
+log_is b =
+    append_lines (map (crossing_line Texts) b.crossings) (map life_line b.lives ++ (map handed_line b.handed ++ codes "end" ∷ []))
+    ∙ ap₂ (λ (u v : List ℕ). u ++ v) (lines_text (crossing_line Texts) b.crossings)
+    (append_lines (map life_line b.lives) (map handed_line b.handed ++ codes "end" ∷ [])
+    ∙ ap₂ (λ (u v : List ℕ). u ++ v) (lines_text life_line b.lives)
+    (append_lines (map handed_line b.handed) (codes "end" ∷ []) ∙ ap (λ u. u ++ codes "end\n") (lines_text handed_line b.handed)))
+
+pub log_written : (b : Book) (first second third fourth last : Option (List ℕ)) → Appends first second (text_of (crossing_line Texts) b.crossings) → Appends second third (text_of life_line b.lives)
+    → Appends third fourth (text_of handed_line b.handed) → Appends fourth last (codes "end\n") → Appends first last (log_text b)
+log_written b first second third fourth last crossings lives handed end =
+    subst (Appends first last) (sym (log_is b))
+    (appends_more first second last (text_of (crossing_line Texts) b.crossings) (text_of life_line b.lives ++ (text_of handed_line b.handed ++ codes "end\n")) crossings
+    (appends_more second third last (text_of life_line b.lives) (text_of handed_line b.handed ++ codes "end\n") lives
+    (appends_more third fourth last (text_of handed_line b.handed) (codes "end\n") handed end)))

@@ -1,0 +1,104 @@
+-- Words read one after the other.
+use Rattle.std.proofs.Common.{◌≡◌, ◌≢◌, ℕ, ◌<◌, ◌≤◌, ◌^◌, Bool, true, false, List, [], ◌∷◌, ◌++◌, Option, Some, None, Result, Ok, Err, IfOk, drop, length, refl, sym, ap, ◌∙◌, arith, subst}
+use Rattle.std.specs.Prelude.{IsTrue, ◌↔◌}
+use Rattle.std.specs.Fmt.{decimal}
+use Rattle.leader1822.specs.declared.address.Flow.{Flow}
+use Rattle.leader1822.specs.declared.message.HostMessage.{HostMessage}
+use Rattle.net_sim.specs.declared.life.Life.{Life}
+use Rattle.script.specs.Spelling.{IsMessage, octets_text}
+use Rattle.world_replay.specs.Printed.{kind_text}
+use Rattle.book_log.specs.Log.{IsHanded, IsLife}
+use Rattle.book_log.specs.Steps.{AreCounts, AreEnds, TakesAs, TakesWords, counts_words, ends_words, flow_words, handed_words, is_over, life_words, message_words}
+use Rattle.book_log.specs.declared.lines.Counts.{Counts}
+use Rattle.book_log.specs.declared.lines.Ends.{Ends}
+use Rattle.book_log.proofs.Cuts.{after, first_same, front, rest_same}
+use Rattle.book_log.proofs.Numbers.{decimal_once}
+
+-- where no word is left there is none
+pub no_word : {words more : List (List ℕ)} {w : List ℕ} → words ≡ [] → words ≡ w ∷ more → ⊥
+no_word none e = by (sym none ∙ e)
+  where
+    by : {v : List ℕ} {ws : List (List ℕ)} → [] ≡ v ∷ ws → ⊥
+    by is = cc
+
+-- and where some are left there is not none
+pub some_word : (words : List (List ℕ)) → is_over words ≡ false → words ≡ [] → ⊥
+some_word [] more none = absurd (true_not more)
+  where
+    true_not : true ≡ false → ⊥
+    true_not e = cc
+some_word (w ∷ words) more none = absurd (no_word refl (sym none))
+
+pub over : (words : List (List ℕ)) → is_over words ≡ true → words ≡ []
+over [] none = refl
+over (w ∷ words) none = absurd (false_not none)
+  where
+    false_not : false ≡ true → ⊥
+    false_not e = cc
+
+-- what stands behind two words
+pub after_two : {words left more : List (List ℕ)} {w x v y : List ℕ} → words ≡ w ∷ x ∷ left → words ≡ v ∷ y ∷ more → left ≡ more
+after_two e d = rest_same (after e d)
+
+-- and behind three
+pub after_three : {words left more : List (List ℕ)} {w x u v y z : List ℕ} → words ≡ w ∷ x ∷ u ∷ left → words ≡ v ∷ y ∷ z ∷ more → left ≡ more
+after_three e d = rest_same (after_two e d)
+
+-- one word, and those behind it
+pub link : {words left more : List (List ℕ)} {w : List ℕ} → words ≡ w ∷ left → left ≡ more → words ≡ w ∷ more
+link {words} {left} {more} {w} e d = e ∙ ap (λ ws. w ∷ ws) d
+
+-- the kind of another socket
+pub other_kind : (socket other : ℕ) (word : List ℕ) (t : Bool) → socket < 2 ^ 32 → other < 2 ^ 32 → decimal socket ≡ decimal other → word ≡ kind_text other → IsTrue t ↔ (word ≡ kind_text socket) → t ≡ false → ⊥
+other_kind socket other word t small few same is tells fails =
+    let one : socket ≡ other = decimal_once socket other (omega arith) (omega arith) same in
+    absurd (true_false t (tells.1 (is ∙ ap kind_text (sym one))) fails)
+  where
+    true_false : (b : Bool) → IsTrue b → b ≡ false → ⊥
+    true_false true h e = cc
+    true_false false h e = absurd (cc)
+
+-- ---- bits, and how many
+
+pub counted : {E : Type 0} (words left last : List (List ℕ)) (count : ℕ) (r : Result (Option (List Bool)) E) → words ≡ decimal count ∷ left → count < 2 ^ 32
+    → IfOk r (λ read. TakesAs octets_text (λ bits. length bits ≡ count) left read last) → IfOk r (λ read. TakesWords handed_words IsHanded words read last)
+counted words left last count (Err e) is small h = tt
+counted words left last count (Ok (Some bits)) is small h =
+    (is ∙ ap (λ n. decimal n ∷ left) (sym h.1) ∙ ap (λ ws. decimal (length bits) ∷ ws) h.0, subst (λ n. n < 2 ^ 32) (sym h.1) small)
+counted words left last count (Ok None) is small h = λ x rest meant e.
+    let long : count ≡ length x = decimal_once count (length x) (omega arith) (omega (arith, meant)) (front is e) in
+    h x rest (sym long) (after is e)
+
+-- a text that is too long
+pub too_long : (words left last : List (List ℕ)) (f : Flow) (bits : List Bool) → words ≡ flow_words f ++ left → left ≡ handed_words bits ++ last → length bits < 2 ^ 32 → (length bits ≤ 8063 → ⊥)
+    → (m : HostMessage) → IsMessage m → words ≢ message_words m
+too_long words left last f bits is behind small long m meant e =
+    let few : length m.text ≤ 8063 = meant.1 in
+    let same : length bits ≡ length m.text = decimal_once (length bits) (length m.text) (omega arith) (omega arith) (front behind (after_three is e)) in
+    long (omega arith)
+
+-- ---- lives
+
+abbrev pub ends_of : Life → Ends
+ends_of x = record { host = x.host; socket = x.socket; peer = x.peer; foreign = x.foreign; own_stamp = x.own_stamp; partner_stamp = x.partner_stamp }
+
+abbrev pub counts_of : Life → Counts
+counts_of x = record { messages = x.messages; bits = length x.bits; granted = x.granted; returned = x.returned; ended = x.ended }
+
+after_seven : {words left more : List (List ℕ)} {a b d e f g h i j k l m n o : List ℕ} → words ≡ a ∷ b ∷ d ∷ e ∷ f ∷ g ∷ h ∷ left → words ≡ i ∷ j ∷ k ∷ l ∷ m ∷ n ∷ o ∷ more → left ≡ more
+after_seven p q = rest_same (rest_same (rest_same (rest_same (after_three p q))))
+
+pub no_ends : (words : List (List ℕ)) → TakesWords ends_words AreEnds words None [] → (x : Life) → IsLife x → words ≢ life_words x
+no_ends words none x meant e =
+    none (ends_of x) (drop 7 (life_words x)) (record { host = meant.host; socket = meant.socket; peer = meant.peer; foreign = meant.foreign; own = meant.own; partner = meant.partner }) e
+
+pub no_counts : (words left : List (List ℕ)) (ends : Ends) → words ≡ ends_words ends ++ left → TakesWords counts_words AreCounts left None [] → (x : Life) → IsLife x → words ≢ life_words x
+no_counts words left ends is none x meant e =
+    none (counts_of x) (octets_text x.bits ∷ []) (record { messages = meant.messages; bits = meant.bits; granted = meant.granted; returned = meant.returned }) (after_seven is e)
+
+pub no_life_bits : (words left behind last : List (List ℕ)) (ends : Ends) (counts : Counts) → words ≡ ends_words ends ++ left → left ≡ counts_words counts ++ behind → counts.bits < 2 ^ 32
+    → TakesAs octets_text (λ bits. length bits ≡ counts.bits) behind None last → (x : Life) → IsLife x → words ≢ life_words x
+no_life_bits words left behind last ends counts is then_is small none x meant e =
+    let few : length x.bits < 2 ^ 32 = meant.bits in
+    let same : counts.bits ≡ length x.bits = decimal_once counts.bits (length x.bits) (omega arith) (omega arith) (first_same (after then_is (after_seven is e))) in
+    none x.bits [] (sym same) (after_seven then_is (after_seven is e))

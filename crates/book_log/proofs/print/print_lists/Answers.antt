@@ -1,0 +1,15 @@
+use Rattle.std.proofs.Common.{subst}
+use Rattle.std.specs.Io.KnownBytes.{Appends}
+use Rattle.replay.proofs.lemmas.{text_more}
+use Rattle.script.specs.Input.{ended_line}
+use Rattle.std.proofs.Common.{List, Bool}
+use Rattle.book_log.specs.Log.{handed_line}
+use Rattle.book_log.proofs.print.print_lists.Goals as goal
+
+pub loop-bits-preserved : goal.loop-bits-preserved
+loop-bits-preserved g c = (
+  text_more (handed_line) c.args.handed.now c.loop-bits.bits-index c.bits-item.result (g.W.Output.contents c.args.writer.now) (g.W.Output.contents c.loop-bits.writer) (g.W.Output.contents c.print_list.new.writer)
+      c.loop-bits-test.true c.loop-bits.invariant.0
+      (subst (λ (x : List Bool). Appends (g.W.Output.contents c.loop-bits.writer) (g.W.Output.contents c.print_list.new.writer) (ended_line (handed_line x))) c.bits-item.is c.in_ok-print_list.ensures.written),
+  c.in_ok-print_list.ensures.failed,
+)

@@ -1,0 +1,106 @@
+-- The log of a book: its lines, and which octets are one.
+use Rattle.std.specs.Prelude.{◌≡◌, ℕ, ◌^◌, ◌<◌, Bool, List, [], ◌∷◌, ◌++◌, length, map, codes, suc}
+use Rattle.std.specs.Fmt.{decimal}
+use Rattle.std.specs.List.{All, flat_map}
+use Rattle.leader1822.specs.declared.crossing.Crossing.{Crossing}
+use Rattle.leader1822.specs.declared.crossing.Crossing.TheVariants as crossing
+use Rattle.net_sim.specs.declared.life.Amount.{Amount}
+use Rattle.net_sim.specs.declared.life.Life.{Life}
+use Rattle.replay.specs.Output.{crossing_line}
+use Rattle.replay.specs.declared.print.Detail.TheVariants.{Texts}
+use Rattle.script.specs.Input.{ended_line}
+use Rattle.script.specs.Spelling.{IsFlow, IsHost, IsMessage, octets_text}
+use Rattle.world_replay.specs.Printed.{life_text}
+use Rattle.book_log.specs.declared.fault.LogFault.{LogFault}
+use Rattle.book_log.specs.declared.fault.LogFault.TheVariants as fault
+
+-- what a log tells: what crossed, oldest first, the lives of connections, and lists of bits that were handed over
+pub record Book : Type 0 where
+  pub crossings : List Crossing
+  pub lives : List Life
+  pub handed : List (List Bool)
+
+-- ---- lines
+
+-- a life as `--book` prints it, and the octets of what it sent or took
+abbrev pub life_line : Life → List ℕ
+life_line x = life_text x ++ (codes " " ++ octets_text x.bits)
+
+-- how many bits were handed over in a life, and their octets
+abbrev pub handed_line : List Bool → List ℕ
+handed_line bits = codes "handed " ++ (decimal (length bits) ++ (codes " " ++ octets_text bits))
+
+-- the lines of a log: all crossings with their texts, then all lives, then what was handed over, and `end`
+abbrev pub log_lines : Book → List (List ℕ)
+log_lines b = map (crossing_line Texts) b.crossings ++ (map life_line b.lives ++ (map handed_line b.handed ++ codes "end" ∷ []))
+
+-- each line has its end
+abbrev pub text_of_lines : List (List ℕ) → List ℕ
+text_of_lines lines = flat_map ended_line lines
+
+abbrev pub log_text : Book → List ℕ
+log_text b = text_of_lines (log_lines b)
+
+-- ---- which values a log tells
+
+abbrev pub IsCrossing : Crossing → Type 0
+IsCrossing (crossing.Out m) = IsMessage m
+IsCrossing (crossing.In m) = IsMessage m
+IsCrossing (crossing.Answer kind f) = IsFlow f
+IsCrossing (crossing.Down h) = IsHost h
+IsCrossing (crossing.Up h) = IsHost h
+
+-- a list of fewer than 2^32 bits
+abbrev pub IsHanded : List Bool → Type 0
+IsHanded bits = length bits < 2 ^ 32
+
+abbrev pub IsAmount : Amount → Type 0
+IsAmount a = (a.messages < 2 ^ 128) × (a.bits < 2 ^ 128)
+
+-- sockets have 32 bits, places 64, and counts 128; which socket sends and which receives, its line tells by the socket
+pub record IsLife (x : Life) : Type 0 where
+  pub host : IsHost x.host
+  pub socket : x.socket < 2 ^ 32
+  pub peer : IsHost x.peer
+  pub foreign : x.foreign < 2 ^ 32
+  pub own : x.own_stamp < 2 ^ 64
+  pub partner : x.partner_stamp < 2 ^ 64
+  pub messages : x.messages < 2 ^ 128
+  pub bits : length x.bits < 2 ^ 32
+  pub granted : IsAmount x.granted
+  pub returned : IsAmount x.returned
+
+pub record IsBook (b : Book) : Type 0 where
+  pub crossings : All IsCrossing b.crossings
+  pub lives : All IsLife b.lives
+  pub handed : All IsHanded b.handed
+
+-- ---- reading
+
+-- octets are the log of this book
+pub record IsLog (octets : List ℕ) (b : Book) : Type 0 where
+  pub spelled : octets ≡ log_text b
+  pub valid : IsBook b
+
+-- some log begins with these lines
+pub record Begins (lines : List (List ℕ)) : Type 0 where
+  pub book : Book
+  pub valid : IsBook book
+  pub more : List (List ℕ)
+  pub whole : log_lines book ≡ lines ++ more
+
+-- the first bad line, counted from 1: some log begins with the lines before it. With it no log begins so, or it doesn't end with a line feed,
+-- or it stands behind the last line of a log
+pub record IsBadLine (octets : List ℕ) (number : ℕ) : Type 0 where
+  pub before : List (List ℕ)
+  pub rest : List ℕ
+  pub parted : octets ≡ text_of_lines before ++ rest
+  pub counted : number ≡ suc (length before)
+  pub begins : Begins before
+  pub bad : (line more : List ℕ) → rest ≡ ended_line line ++ more → Begins (before ++ line ∷ []) → ⊥
+  pub none : (b : Book) → IsLog octets b → ⊥
+
+-- why octets are no log; memory may run out at any octets
+abbrev pub IsLogFault : List ℕ → LogFault → Type 0
+IsLogFault octets (fault.BadLine number) = IsBadLine octets number
+IsLogFault octets fault.OutOfMemory = Unit {0}

@@ -1,0 +1,23 @@
+//! Logs of whole books: lines that this program writes, and that any program can write.
+//!
+//! A log has the crossings of a book with the texts of their messages, its lives with what each of them sent or took,
+//! what was handed over in each life, and a last line `end`. [`print_log`] writes it, and [`read_log`] reads it.
+//!
+//! A caller may rely on this: octets are read exactly if they are the spelling of a book, which is then the book that is answered. All
+//! others are refused by the number of their first bad line. No two books are spelled alike, so what is written is read again.
+//!
+//! Nothing here says whether a book keeps its promise, nor whether it has as many lists of bits as lives: that an audit tells.
+#![tactic(auto)]
+
+mod book;
+mod fault;
+pub mod law;
+mod lines;
+mod print;
+mod read;
+mod words;
+
+pub use book::LoggedBook;
+pub use fault::LogFault;
+pub use print::print_log;
+pub use read::{MAX_LOG, read_log};

@@ -1,0 +1,302 @@
+//! The lines of a log.
+
+ghost use Rattle.std.specs.Prelude.{◌≡◌, ◌↔◌, IfOk, IsTrue};
+ghost use Rattle.leader1822.specs.Printed.{answer_text};
+ghost use Rattle.script.specs.Spelling.{IsHost, IsMessage, ReadsAs};
+ghost use Rattle.world_replay.specs.Printed.{kind_text, state_text};
+ghost use Rattle.book_log.specs.Log.{IsAmount, IsHanded, IsLife};
+ghost use Rattle.book_log.specs.Steps.{AreCounts, AreEnds, IsAnswer, IsKind, IsLine, IsState, ReadsShort, ReadsWords, TakesWords, amount_words, answer_words, counts_words, ends_words, handed_words, host_words, life_of, life_words, line_text, message_words, words_left};
+
+use crate::words::Words;
+use bit_messages::Bits;
+use leader1822::{Answer, Crossing, Flow, HostAddr, HostMessage, Text};
+use net_sim::{Amount, BitLog, Life};
+use std::alloc::{AllocError, Global};
+
+/// What a line of a log tells.
+#[derive(Drop)]
+pub(crate) enum Line {
+    /// What crossed.
+    Crossed(Crossing),
+    /// A life.
+    Lived(Life),
+    /// What was handed over in a life.
+    Handed(BitLog),
+    /// That nothing follows.
+    End,
+}
+
+/// What a line tells. `None` where it is no line of a log.
+///
+/// Errors: `AllocError`.
+pub(crate) fn read_line(alloc: Global, line: &[u8]) -> Result<Option<Line>, AllocError>
+    ensures { IfOk result (ReadsAs line_text IsLine line.now) }
+{
+    let mut words = Words::of(line);
+    let Some(first) = words.next() else {
+        return Ok(None);
+    };
+    if first == b"out".as_slice() {
+        let Some(message) = read_message(alloc, words)? else {
+            return Ok(None);
+        };
+        return Ok(Some(Line::Crossed(Crossing::Out(message))));
+    }
+    if first == b"in".as_slice() {
+        let Some(message) = read_message(alloc, words)? else {
+            return Ok(None);
+        };
+        return Ok(Some(Line::Crossed(Crossing::In(message))));
+    }
+    if first == b"life".as_slice() {
+        let Some(life) = read_life(alloc, words)? else {
+            return Ok(None);
+        };
+        return Ok(Some(Line::Lived(life)));
+    }
+    if first == b"handed".as_slice() {
+        let Some(bits) = read_handed(alloc, words)? else {
+            return Ok(None);
+        };
+        return Ok(Some(Line::Handed(bits)));
+    }
+    Ok(read_short(first, words))
+}
+
+/// What a line without octets tells, by its first word and those behind it.
+fn read_short(first: &[u8], words: Words<'_>) -> Option<Line>
+    ensures { ReadsShort first.now (words_left words.entry) result }
+{
+    if first == b"answer".as_slice() {
+        let (answer, flow) = read_answer(words)?;
+        return Some(Line::Crossed(Crossing::Answer(answer, flow)));
+    }
+    if first == b"down".as_slice() {
+        return Some(Line::Crossed(Crossing::Down(read_one(words)?)));
+    }
+    if first == b"up".as_slice() {
+        return Some(Line::Crossed(Crossing::Up(read_one(words)?)));
+    }
+    if first == b"end".as_slice() && words.is_over() {
+        return Some(Line::End);
+    }
+    None
+}
+
+/// `HOST`
+fn read_one(mut words: Words<'_>) -> Option<HostAddr>
+    ensures { ReadsWords host_words IsHost (words_left words.entry) result }
+{
+    let host = words.host()?;
+    if words.is_over() { Some(host) } else { None }
+}
+
+/// `KIND S D N`
+fn read_answer(mut words: Words<'_>) -> Option<(Answer, Flow)>
+    ensures { ReadsWords answer_words IsAnswer (words_left words.entry) result }
+{
+    let answer = read_kind(words.next()?)?;
+    let flow = words.flow()?;
+    if words.is_over() {
+        Some((answer, flow))
+    } else {
+        None
+    }
+}
+
+/// The answer that a word names.
+fn read_kind(word: &[u8]) -> Option<Answer>
+    ensures { ReadsAs answer_text IsKind word.now result }
+{
+    if word == b"rfnm".as_slice() {
+        Some(Answer::Rfnm)
+    } else if word == b"dead".as_slice() {
+        Some(Answer::Dead)
+    } else if word == b"incomplete".as_slice() {
+        Some(Answer::Incomplete)
+    } else {
+        None
+    }
+}
+
+/// `BITS OCTETS`
+///
+/// Errors: `AllocError`.
+fn read_handed(alloc: Global, mut words: Words<'_>) -> Result<Option<BitLog>, AllocError>
+    ensures { IfOk result (ReadsWords handed_words IsHanded (words_left words.entry)) }
+{
+    match read_counted(alloc, &mut words)? {
+        Some(bits) if words.is_over() => Ok(Some(BitLog::from_bits(alloc, bits))),
+        _ => Ok(None),
+    }
+}
+
+/// `S D N BITS OCTETS`
+///
+/// Errors: `AllocError`.
+fn read_message(alloc: Global, mut words: Words<'_>) -> Result<Option<HostMessage>, AllocError>
+    ensures { IfOk result (ReadsWords message_words IsMessage (words_left words.entry)) }
+{
+    let Some(flow) = words.flow() else {
+        return Ok(None);
+    };
+    let Some(bits) = read_counted(alloc, &mut words)? else {
+        return Ok(None);
+    };
+    if !words.is_over() {
+        return Ok(None);
+    }
+    let Some(text) = Text::new(bits) else {
+        return Ok(None);
+    };
+    Ok(Some(HostMessage { flow, text }))
+}
+
+/// `BITS OCTETS`, and what stands behind them.
+///
+/// Errors: `AllocError`.
+fn read_counted(alloc: Global, words: &mut Words<'_>) -> Result<Option<Bits>, AllocError>
+    ensures { IfOk result (λ read. TakesWords handed_words IsHanded (words_left words.old) read (words_left words.new)) }
+{
+    let Some(count) = words.number() else {
+        return Ok(None);
+    };
+    words.bits(alloc, count as usize)
+}
+
+/// Both ends of a life, and its requests.
+#[derive(Drop)]
+pub(crate) struct Ends {
+    pub host: HostAddr,
+    pub socket: u32,
+    pub peer: HostAddr,
+    pub foreign: u32,
+    pub own_stamp: usize,
+    pub partner_stamp: usize,
+}
+
+/// The counts of a life, and whether it has ended.
+#[derive(Drop)]
+pub(crate) struct Counts {
+    pub messages: u128,
+    pub bits: u32,
+    pub granted: Amount,
+    pub returned: Amount,
+    pub ended: bool,
+}
+
+/// `HOST SOCKET PEER FOREIGN OWN PARTNER KIND MESSAGES BITS GM GB RM RB STATE OCTETS`
+///
+/// Errors: `AllocError`.
+fn read_life(alloc: Global, mut words: Words<'_>) -> Result<Option<Life>, AllocError>
+    ensures { IfOk result (ReadsWords life_words IsLife (words_left words.entry)) }
+{
+    let Some(ends) = read_ends(&mut words) else {
+        return Ok(None);
+    };
+    let Some(counts) = read_counts(&mut words) else {
+        return Ok(None);
+    };
+    let Some(bits) = words.bits(alloc, counts.bits as usize)? else {
+        return Ok(None);
+    };
+    if !words.is_over() {
+        return Ok(None);
+    }
+    Ok(Some(life_of(ends, counts, BitLog::from_bits(alloc, bits))))
+}
+
+/// The life with these ends, counts and bits.
+fn life_of(ends: Ends, counts: Counts, bits: BitLog) -> Life
+    ensures { result ≡ life_of ends counts bits }
+{
+    Life {
+        host: ends.host,
+        socket: ends.socket,
+        peer: ends.peer,
+        foreign: ends.foreign,
+        own_stamp: ends.own_stamp,
+        partner_stamp: ends.partner_stamp,
+        bits,
+        messages: counts.messages,
+        granted: counts.granted,
+        returned: counts.returned,
+        ended: counts.ended,
+    }
+}
+
+/// `HOST SOCKET PEER FOREIGN OWN PARTNER KIND`
+fn read_ends(words: &mut Words<'_>) -> Option<Ends>
+    ensures { TakesWords ends_words AreEnds (words_left words.old) result (words_left words.new) }
+{
+    let host = words.host()?;
+    let socket = words.number()?;
+    let peer = words.host()?;
+    let foreign = words.number()?;
+    let own_stamp = words.place()?;
+    let partner_stamp = words.place()?;
+    let kind = words.next()?;
+    if !is_kind(kind, socket) {
+        return None;
+    }
+    Some(Ends {
+        host,
+        socket,
+        peer,
+        foreign,
+        own_stamp,
+        partner_stamp,
+    })
+}
+
+/// Whether a word names the kind of a socket's life.
+fn is_kind(word: &[u8], socket: u32) -> bool
+    ensures { IsTrue result ↔ (word.now ≡ kind_text socket) }
+{
+    if socket % 2 == 0 {
+        word == b"receive".as_slice()
+    } else {
+        word == b"send".as_slice()
+    }
+}
+
+/// `MESSAGES BITS GM GB RM RB STATE`
+fn read_counts(words: &mut Words<'_>) -> Option<Counts>
+    ensures { TakesWords counts_words AreCounts (words_left words.old) result (words_left words.new) }
+{
+    let messages = words.count()?;
+    let bits = words.number()?;
+    let granted = read_amount(words)?;
+    let returned = read_amount(words)?;
+    let state = words.next()?;
+    let ended = read_state(state)?;
+    Some(Counts {
+        messages,
+        bits,
+        granted,
+        returned,
+        ended,
+    })
+}
+
+/// Messages and bits.
+fn read_amount(words: &mut Words<'_>) -> Option<Amount>
+    ensures { TakesWords amount_words IsAmount (words_left words.old) result (words_left words.new) }
+{
+    let messages = words.count()?;
+    let bits = words.count()?;
+    Some(Amount { messages, bits })
+}
+
+/// Whether a word tells that a life has ended.
+fn read_state(word: &[u8]) -> Option<bool>
+    ensures { ReadsAs state_text IsState word.now result }
+{
+    if word == b"ended".as_slice() {
+        Some(true)
+    } else if word == b"open".as_slice() {
+        Some(false)
+    } else {
+        None
+    }
+}

@@ -1,0 +1,179 @@
+//! Writing a log.
+
+ghost use Rattle.std.specs.Prelude.{◌≡◌, ◌∷◌, [], ◌+◌, ◌*◌, ◌/◌, ◌%◌, ◌<◌, ◌≤◌, OnOk, false, length, slice_index, slice_index_or};
+ghost use Rattle.std.specs.Io.KnownBytes.{Appends};
+ghost use Rattle.bit_messages.specs.Octets.{bit_value, octets_of};
+ghost use Rattle.hex.specs.Hex.{encode_upper, upper_digits};
+ghost use Rattle.replay.specs.Failing.{TellsFailure};
+ghost use Rattle.replay.specs.InTurn.{text_of};
+ghost use Rattle.replay.specs.Output.{crossing_line};
+ghost use Rattle.replay.specs.declared.print.Detail.TheVariants.{Texts};
+ghost use Rattle.script.specs.Input.{ended_line};
+ghost use Rattle.script.specs.Spelling.{octets_text};
+ghost use Rattle.book_log.specs.Log.{handed_line, life_line, log_text};
+ghost use Rattle.book_log.specs.Steps.{octet_at};
+
+use leader1822::Crossing;
+use net_sim::{BitLog, Life};
+use replay::{Detail, Output, WriteFailed, print_crossing};
+use world_replay::LifeLine;
+
+/// Writes the log of a book: these crossings, the oldest first, these lives, and what was handed over in each.
+///
+/// Errors: `WriteFailed`.
+pub fn print_log<W: Output>(
+    crossings: &[Crossing],
+    lives: &[Life],
+    handed: &[BitLog],
+    writer: &mut W,
+) -> Result<(), WriteFailed>
+    requires { W.failed writer.old ≡ false }
+    ensures written { OnOk result (Appends (W.contents writer.old) (W.contents writer.new) (log_text (record { crossings = crossings.now; lives = lives.now; handed = handed.now }))) }
+    ensures failed { TellsFailure result (W.failed writer.new) }
+{
+    print_crossings(crossings, writer)?;
+    print_lives(lives, writer)?;
+    print_lists(handed, writer)?;
+    writer.write_all(b"end\n")
+}
+
+/// Prints crossings with their texts.
+fn print_crossings<W: Output>(crossings: &[Crossing], writer: &mut W) -> Result<(), WriteFailed>
+    requires { W.failed writer.old ≡ false }
+    ensures written { OnOk result (Appends (W.contents writer.old) (W.contents writer.new) (text_of (crossing_line Texts) crossings.now)) }
+    ensures failed { TellsFailure result (W.failed writer.new) }
+{
+    for crossing in crossings {
+        print_crossing(crossing, Detail::Texts, writer)?;
+    }
+    Ok(())
+}
+
+/// Prints lives with their bits.
+fn print_lives<W: Output>(lives: &[Life], writer: &mut W) -> Result<(), WriteFailed>
+    requires { W.failed writer.old ≡ false }
+    ensures written { OnOk result (Appends (W.contents writer.old) (W.contents writer.new) (text_of life_line lives.now)) }
+    ensures failed { TellsFailure result (W.failed writer.new) }
+{
+    for life in lives {
+        print_life(life, writer)?;
+    }
+    Ok(())
+}
+
+/// Prints a life with its bits.
+fn print_life<W: Output>(life: &Life, writer: &mut W) -> Result<(), WriteFailed>
+    requires { W.failed writer.old ≡ false }
+    ensures written { OnOk result (Appends (W.contents writer.old) (W.contents writer.new) (ended_line (life_line life.now))) }
+    ensures failed { TellsFailure result (W.failed writer.new) }
+{
+    write!(writer, "{} ", LifeLine(life))?;
+    print_bits(&life.bits, writer)?;
+    writer.write_all(b"\n")
+}
+
+/// Prints lists of bits.
+fn print_lists<W: Output>(handed: &[BitLog], writer: &mut W) -> Result<(), WriteFailed>
+    requires { W.failed writer.old ≡ false }
+    ensures written { OnOk result (Appends (W.contents writer.old) (W.contents writer.new) (text_of handed_line handed.now)) }
+    ensures failed { TellsFailure result (W.failed writer.new) }
+{
+    for bits in handed {
+        print_list(bits, writer)?;
+    }
+    Ok(())
+}
+
+/// Prints a list of bits.
+fn print_list<W: Output>(bits: &BitLog, writer: &mut W) -> Result<(), WriteFailed>
+    requires { W.failed writer.old ≡ false }
+    ensures written { OnOk result (Appends (W.contents writer.old) (W.contents writer.new) (ended_line (handed_line bits.now))) }
+    ensures failed { TellsFailure result (W.failed writer.new) }
+{
+    let count = bits.len();
+    write!(writer, "handed {count} ")?;
+    print_bits(bits, writer)?;
+    writer.write_all(b"\n")
+}
+
+/// Prints the octets of bits, as a script spells them: a hyphen for no bits.
+fn print_bits<W: Output>(bits: &BitLog, writer: &mut W) -> Result<(), WriteFailed>
+    requires { W.failed writer.old ≡ false }
+    ensures written { OnOk result (Appends (W.contents writer.old) (W.contents writer.new) (octets_text bits.now)) }
+    ensures failed { TellsFailure result (W.failed writer.new) }
+{
+    if bits.len() == 0 {
+        return writer.write_all(b"-");
+    }
+    print_octets(bits, writer)
+}
+
+/// Prints the octets of bits in upper case hexadecimal, two digits each.
+fn print_octets<W: Output>(bits: &BitLog, writer: &mut W) -> Result<(), WriteFailed>
+    requires { W.failed writer.old ≡ false }
+    ensures written { OnOk result (Appends (W.contents writer.old) (W.contents writer.new) (encode_upper (octets_of bits.now))) }
+    ensures failed { TellsFailure result (W.failed writer.new) }
+{
+    let count = octets_for(bits.len());
+    for i in 0..count {
+        let octet = octet_at(bits, 8 * i);
+        print_octet(octet, writer)?;
+    }
+    Ok(())
+}
+
+/// How many octets so many bits take.
+fn octets_for(count: usize) -> usize
+    ensures low { count ≤ 8 * result }
+    ensures high { 8 * result < count + 8 }
+{
+    let whole = count / 8;
+    if count % 8 == 0 { whole } else { whole + 1 }
+}
+
+/// Prints an octet by two digits.
+fn print_octet<W: Output>(octet: u8, writer: &mut W) -> Result<(), WriteFailed>
+    requires { W.failed writer.old ≡ false }
+    ensures written { OnOk result (Appends (W.contents writer.old) (W.contents writer.new) (slice_index upper_digits (octet / 16) ∷ slice_index upper_digits (octet % 16) ∷ [])) }
+    ensures failed { TellsFailure result (W.failed writer.new) }
+{
+    writer.write_all(&[digit(octet / 16), digit(octet % 16)])
+}
+
+/// The upper case hexadecimal digit of a number.
+fn digit(number: u8) -> u8
+    requires { number < 16 }
+    ensures { result ≡ slice_index upper_digits number }
+{
+    b"0123456789ABCDEF"[number as usize]
+}
+
+/// The octet of the eight bits from a place on; past the end they are zeros.
+fn octet_at(bits: &BitLog, from: usize) -> u8
+    requires { from ≤ length bits.now }
+    ensures { result ≡ octet_at from bits.now }
+{
+    128 * bit_at(bits, from, 0)
+        + 64 * bit_at(bits, from, 1)
+        + 32 * bit_at(bits, from, 2)
+        + 16 * bit_at(bits, from, 3)
+        + 8 * bit_at(bits, from, 4)
+        + 4 * bit_at(bits, from, 5)
+        + 2 * bit_at(bits, from, 6)
+        + bit_at(bits, from, 7)
+}
+
+/// The bit so far behind a place, as 0 or 1; past the end it is 0.
+fn bit_at(bits: &BitLog, from: usize, behind: usize) -> u8
+    requires { from ≤ length bits.now }
+    ensures same { result ≡ bit_value (slice_index_or bits.now (from + behind) false) }
+    ensures small { result ≤ 1 }
+{
+    if behind >= bits.len() - from {
+        return 0;
+    }
+    match bits.get(from + behind) {
+        Some(true) => 1,
+        Some(false) | None => 0,
+    }
+}

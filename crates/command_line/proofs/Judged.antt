@@ -1,0 +1,70 @@
+-- What is written of a log is what its audit says.
+use Rattle.std.proofs.Common.{◌≡◌, ◌<◌, ◌≤◌, ◌+◌, ◌*◌, ℕ, Bool, true, false, List, [], ◌∷◌, ◌++◌, length, take, get_or, reverse, slice_get, Option, Some, None, IfSome, Result, Ok, Err, IfOk, IfErr, MatchResult, OnOk, inl, inr, ap, refl, sym, ◌∙◌, subst, arith}
+use Rattle.std.specs.Prelude.{◌↔◌}
+use Rattle.std.proofs.lemmas.Bool.{false≢true}
+use Rattle.std.specs.Io.KnownBytes.{Appends}
+use Rattle.book_log.specs.Log.{Book, IsLog}
+use Rattle.leader1822.specs.declared.crossing.Crossing.{Crossing}
+use Rattle.net_sim.specs.Audit.{Says}
+use Rattle.net_sim.specs.declared.auditing.said.Audit.{Audit}
+use Rattle.net_sim.specs.declared.life.Life.{Life}
+use Rattle.net_sim.specs.declared.auditing.said.Audit.TheVariants as audit
+use Rattle.command_line.specs.Audits.{Audited, AuditsLog, IsAuditFault, IsBookFault, IsLogReadFault, IsSomeLog, SaysOf, WritesVerdict}
+use Rattle.command_line.specs.declared.auditing.AuditFault.{AuditFault}
+use Rattle.command_line.specs.declared.auditing.AuditFault.TheVariants as fault
+
+pub audits : (octets : List ℕ) (b : Book) (said : Audit) (before after : Option (List ℕ)) → IsLog octets b → SaysOf said b → WritesVerdict said before after → AuditsLog octets said before after
+audits octets b said before after log says written = record { book = b; log = log; says = says; written = written }
+
+pub audited : (octets : List ℕ) (said : Audit) (before after : Option (List ℕ)) → AuditsLog octets said before after → Audited said before after
+audited octets said before after h = record { octets = octets; audits = h }
+
+pub known_audited : (known : Option (List ℕ)) (octets : List ℕ) (said : Audit) (before after : Option (List ℕ)) → IfSome known (λ k. octets ≡ k) → AuditsLog octets said before after → IfSome known (λ k. AuditsLog k said before after)
+known_audited None octets said before after same h = tt
+known_audited (Some k) octets said before after same h = subst (λ (o : List ℕ). AuditsLog o said before after) same h
+
+pub some_log : (known : Option (List ℕ)) (octets : List ℕ) (b : Book) → IfSome known (λ k. octets ≡ k) → length octets ≤ 33554432 → IsLog octets b → IfSome known IsSomeLog
+some_log None octets b same short log = tt
+some_log (Some k) octets b same short log = subst IsSomeLog same (record { short = short; book = b; log = log })
+
+-- what is written is what was read
+pub says_of : (b : Book) (said : Audit) (crossings : List Crossing) (lives : List Life) (handed : List (List Bool)) → crossings ≡ b.crossings → lives ≡ b.lives → handed ≡ b.handed
+    → ((s : Audit) → (said ≡ s) ↔ Says s (reverse crossings) lives handed) → SaysOf said b
+says_of b said crossings lives handed p q r tells =
+    subst (λ (cs : List Crossing). Says said (reverse cs) b.lives b.handed) p
+    (subst (λ (xs : List Life). Says said (reverse crossings) xs b.handed) q (subst (λ (hs : List (List Bool)). Says said (reverse crossings) lives hs) r ((tells said).0 refl)))
+
+-- ---- faults
+
+unread_known : (k : List ℕ) (f : AuditFault) (failed : Bool) → IsLogReadFault f → (f ≡ fault.LongLog → 33554432 < length k) → (f ≡ fault.CannotRead → failed ≡ true) → failed ≡ false → IsAuditFault k f
+unread_known k fault.LongLog failed read long told whole = long refl
+unread_known k fault.OutOfMemory failed read long told whole = tt
+unread_known k fault.CannotRead failed read long told whole = absurd (false≢true (sym whole ∙ told refl))
+unread_known k (fault.BadLog number) failed read long told whole = absurd read
+unread_known k fault.CannotWrite failed read long told whole = absurd read
+
+pub unread : (known : Option (List ℕ)) (r : Result Audit AuditFault) (f : AuditFault) (failed : Bool) → r ≡ Err f → IsLogReadFault f → (f ≡ fault.LongLog → IfSome known (λ k. 33554432 < length k))
+    → (f ≡ fault.CannotRead → failed ≡ true) → failed ≡ false → IfSome known (λ k. MatchResult r (λ said. IsSomeLog k) (IsAuditFault k))
+unread None r f failed is read long told whole = tt
+unread (Some k) r f failed is read long told whole = subst (λ (q : Result Audit AuditFault). MatchResult q (λ said. IsSomeLog k) (IsAuditFault k)) (sym is) (unread_known k f failed read long told whole)
+
+unlogged_known : (k : List ℕ) (f : AuditFault) → IsBookFault k f → length k ≤ 33554432 → IsAuditFault k f
+unlogged_known k (fault.BadLog number) bad short = (short, bad)
+unlogged_known k fault.OutOfMemory bad short = tt
+unlogged_known k fault.LongLog bad short = absurd bad
+unlogged_known k fault.CannotRead bad short = absurd bad
+unlogged_known k fault.CannotWrite bad short = absurd bad
+
+pub unlogged : (known : Option (List ℕ)) (octets : List ℕ) (r : Result Audit AuditFault) (f : AuditFault) → IfSome known (λ k. octets ≡ k) → r ≡ Err f → IsBookFault octets f → length octets ≤ 33554432
+    → IfSome known (λ k. MatchResult r (λ said. IsSomeLog k) (IsAuditFault k))
+unlogged None octets r f same is bad short = tt
+unlogged (Some k) octets r f same is bad short =
+    subst (λ (q : Result Audit AuditFault). MatchResult q (λ said. IsSomeLog k) (IsAuditFault k)) (sym is)
+    (unlogged_known k f (subst (λ (o : List ℕ). IsBookFault o f) same bad) (subst (λ (o : List ℕ). length o ≤ 33554432) same short))
+
+-- a failed write is told of a log
+pub unwritten : (known : Option (List ℕ)) (octets : List ℕ) (b : Book) (r : Result Audit AuditFault) → IfSome known (λ k. octets ≡ k) → r ≡ Err fault.CannotWrite → length octets ≤ 33554432 → IsLog octets b
+    → IfSome known (λ k. MatchResult r (λ said. IsSomeLog k) (IsAuditFault k))
+unwritten None octets b r same is short log = tt
+unwritten (Some k) octets b r same is short log =
+    subst (λ (q : Result Audit AuditFault). MatchResult q (λ said. IsSomeLog k) (IsAuditFault k)) (sym is) (subst IsSomeLog same (record { short = short; book = b; log = log }))

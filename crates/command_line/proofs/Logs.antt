@@ -1,0 +1,54 @@
+-- What `--log` writes is the log of the book that a replay leaves.
+use Rattle.std.proofs.Common.{◌≡◌, ℕ, Bool, List, [], ◌++◌, Option, Some, None, IfSome, Result, Ok, Err, OnOk, reverse, refl, sym, ap, ◌∙◌, subst}
+use Rattle.std.specs.Io.KnownBytes.{Appends}
+use Rattle.book_log.specs.Log.{Book, log_text}
+use Rattle.headline.specs.Promise.{KeepsPromise}
+use Rattle.leader1822.specs.Messages.{SafeMessages}
+use Rattle.leader1822.specs.declared.crossing.Crossing.{Crossing}
+use Rattle.net_sim.specs.Carriers.{shown}
+use Rattle.net_sim.specs.World.{WorldState, opening_world}
+use Rattle.net_sim.specs.declared.life.Life.{Life}
+use Rattle.replay.specs.Output.{Writes}
+use Rattle.replay.specs.Replay.{Calls, Replays}
+use Rattle.replay.specs.declared.print.Detail.{Detail}
+use Rattle.script.specs.declared.event.RawEvent.{RawEvent}
+use Rattle.topology.specs.Topology.{TopologyFields}
+use Rattle.world_replay.specs.Output as lines
+use Rattle.world_replay.specs.Replay as worlds
+use Rattle.world_script.specs.declared.event.WorldEvent.{WorldEvent}
+use Rattle.command_line.specs.Carriers.{hosting}
+use Rattle.command_line.specs.Events.{Asked}
+use Rattle.command_line.specs.Input.{IsInput}
+use Rattle.command_line.specs.Logs.{Logged, LogsInput, LogsOn, LogsRaw, LogsWorld}
+use Rattle.command_line.specs.declared.fault.ScriptFault.{ScriptFault}
+use Rattle.command_line.specs.declared.fault.ScriptFault.TheVariants as fault
+
+pub logs_raw : {C : Type 0} (calls : Calls C) (opening last : C) (events : List RawEvent) (detail : Detail) (log : List Crossing) (x y before after : Option (List ℕ)) → Writes detail (Replays calls opening events last) x y
+    → SafeMessages (calls.seen last).log → log ≡ reverse (calls.seen last).log → Appends before after (log_text (record { crossings = log; lives = []; handed = [] })) → LogsRaw calls opening events before after
+logs_raw calls opening last events detail log x y before after w safe is written = record {
+  last = last;
+  shown = w.shown;
+  replayed = w.is_shown;
+  messages = safe;
+  written = subst (λ (cs : List Crossing). Appends before after (log_text (record { crossings = cs; lives = []; handed = [] }))) is written;
+}
+
+pub logs_world : {C : Type 0} (calls : Calls C) (opening : C) (first last : WorldState C) (events : List WorldEvent) (detail : Detail) (log : List Crossing) (lives : List Life) (handed : List (List Bool)) (x y before after : Option (List ℕ))
+    → first ≡ opening_world (shown (hosting calls)) opening → lines.Writes detail (worlds.Replays (shown (hosting calls)) first events last) x y → KeepsPromise calls.seen last
+    → log ≡ reverse last.kept.book.crossings → lives ≡ last.kept.book.lives → handed ≡ last.kept.handed → Appends before after (log_text (record { crossings = log; lives = lives; handed = handed })) → LogsWorld (hosting calls) opening events before after
+logs_world {C} calls opening first last events detail log lives handed x y before after begins w promise crossings alive given written = record {
+  last = last;
+  shows = w.shown;
+  replayed = subst (λ (s : WorldState C). worlds.Replays (shown (hosting calls)) s events last w.shown) begins w.is_shown;
+  promise = promise;
+  written = subst (λ (b : Book). Appends before after (log_text b)) (λ i. record { crossings = crossings i; lives = alive i; handed = given i }) written;
+}
+
+pub logged : (network : TopologyFields) (events : Asked) (before after : Option (List ℕ)) → LogsOn network events before after → Logged before after
+logged network events before after h = record { network = network; events = events; logged = h }
+
+pub known_logged : (known : Option (List ℕ)) (octets : List ℕ) (network : TopologyFields) (events : Asked) (r : Result (Unit {0}) ScriptFault) (before after : Option (List ℕ))
+    → IfSome known (λ k. octets ≡ k) → IsInput octets network events → OnOk r (LogsOn network events before after) → OnOk r (IfSome known (λ k. LogsInput k before after))
+known_logged None octets network events (Ok done) before after same read h = tt
+known_logged (Some k) octets network events (Ok done) before after same read h = record { network = network; events = events; input = subst (λ o. IsInput o network events) same read; logged = h }
+known_logged known octets network events (Err f) before after same read h = tt

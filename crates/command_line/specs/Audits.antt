@@ -1,0 +1,82 @@
+-- What is written of a log as its audit.
+use Rattle.std.specs.Prelude.{ℕ, ◌<◌, ◌≤◌, List, ◌++◌, length, reverse, Option, codes}
+use Rattle.std.specs.Fmt.{decimal}
+use Rattle.std.specs.Io.KnownBytes.{Appends}
+use Rattle.book_log.specs.Log.{Book, IsBadLine, IsLog}
+use Rattle.net_sim.specs.Audit.{Says, part_text}
+use Rattle.net_sim.specs.declared.auditing.said.Audit.{Audit}
+use Rattle.net_sim.specs.declared.auditing.said.Audit.TheVariants as audit
+use Rattle.command_line.specs.declared.auditing.AuditFault.{AuditFault}
+use Rattle.command_line.specs.declared.auditing.AuditFault.TheVariants as fault
+
+-- what an audit says of a book
+abbrev pub SaysOf : Audit → Book → Type 0
+SaysOf said b = Says said (reverse b.crossings) b.lives b.handed
+
+-- ---- what is written
+
+-- one line for each answer of the audit; of a malformed book it names a line
+abbrev pub WritesVerdict : Audit → Option (List ℕ) → Option (List ℕ) → Type 0
+WritesVerdict audit.Kept before after = Appends before after (codes "kept\n")
+WritesVerdict audit.Malformed before after = (line : ℕ) × Appends before after (codes "malformed line " ++ (decimal line ++ codes "\n"))
+WritesVerdict (audit.Broken p) before after = Appends before after (codes "broken " ++ (part_text p ++ codes "\n"))
+
+-- octets are a log, and what an audit says of its book is written
+pub record AuditsLog (octets : List ℕ) (said : Audit) (before after : Option (List ℕ)) : Type 0 where
+  pub book : Book
+  pub log : IsLog octets book
+  pub says : SaysOf said book
+  pub written : WritesVerdict said before after
+
+-- the same of some octets, for any reader
+pub record Audited (said : Audit) (before after : Option (List ℕ)) : Type 0 where
+  pub octets : List ℕ
+  pub audits : AuditsLog octets said before after
+
+-- ---- faults
+
+-- a log of at most 33,554,432 octets
+pub record IsSomeLog (octets : List ℕ) : Type 0 where
+  pub short : length octets ≤ 33554432
+  pub book : Book
+  pub log : IsLog octets book
+
+-- when each fault may be given for these octets, where no read failed. Memory may run out at any octets
+abbrev pub IsAuditFault : List ℕ → AuditFault → Type 0
+IsAuditFault octets fault.LongLog = 33554432 < length octets
+IsAuditFault octets (fault.BadLog number) = (length octets ≤ 33554432) × IsBadLine octets number
+IsAuditFault octets fault.OutOfMemory = Unit {0}
+IsAuditFault octets fault.CannotWrite = IsSomeLog octets
+IsAuditFault octets fault.CannotRead = ⊥
+
+-- the exit status of a fault
+abbrev pub status_at : AuditFault → ℕ
+status_at fault.CannotRead = 1
+status_at fault.LongLog = 2
+status_at (fault.BadLog number) = 2
+status_at fault.OutOfMemory = 3
+status_at fault.CannotWrite = 3
+
+-- and after an audit
+abbrev pub status_said : Audit → ℕ
+status_said audit.Kept = 0
+status_said audit.Malformed = 4
+status_said (audit.Broken p) = 4
+
+-- ---- what the contracts of private functions say
+
+-- the faults of reading octets
+abbrev pub IsLogReadFault : AuditFault → Type 0
+IsLogReadFault fault.CannotRead = Unit {0}
+IsLogReadFault fault.LongLog = Unit {0}
+IsLogReadFault fault.OutOfMemory = Unit {0}
+IsLogReadFault (fault.BadLog number) = ⊥
+IsLogReadFault fault.CannotWrite = ⊥
+
+-- the faults of octets that are no log
+abbrev pub IsBookFault : List ℕ → AuditFault → Type 0
+IsBookFault octets (fault.BadLog number) = IsBadLine octets number
+IsBookFault octets fault.OutOfMemory = Unit {0}
+IsBookFault octets fault.CannotRead = ⊥
+IsBookFault octets fault.LongLog = ⊥
+IsBookFault octets fault.CannotWrite = ⊥

@@ -1,0 +1,74 @@
+-- What is written of a replay as a log.
+use Rattle.std.specs.Prelude.{ℕ, List, [], reverse, Option}
+use Rattle.std.specs.Io.KnownBytes.{Appends}
+use Rattle.book_log.specs.Log.{Book, log_text}
+use Rattle.headline.specs.Promise.{KeepsPromise}
+use Rattle.leader1822.specs.Messages.{SafeMessages}
+use Rattle.net_sim.specs.Book.{Kept}
+use Rattle.net_sim.specs.Carriers.{shown}
+use Rattle.net_sim.specs.World.{WorldState, opening_world}
+use Rattle.net_sim.specs.World as world
+use Rattle.leader1822.specs.declared.crossing.Crossing.{Crossing}
+use Rattle.replay.specs.Output.{Shown}
+use Rattle.replay.specs.Replay.{Calls, Replays}
+use Rattle.script.specs.declared.event.RawEvent.{RawEvent}
+use Rattle.topology.specs.Topology.{TopologyFields}
+use Rattle.topology.specs.declared.network.CarrierKind.{CarrierKind}
+use Rattle.topology.specs.declared.network.CarrierKind.TheVariants as kind
+use Rattle.world_replay.specs.Output as lines
+use Rattle.world_replay.specs.Replay as worlds
+use Rattle.world_script.specs.declared.event.WorldEvent.{WorldEvent}
+use Rattle.command_line.specs.Carriers.{hosting, plain_calls, plain_of, subnet_calls, subnet_of}
+use Rattle.command_line.specs.Events.{Asked, Raw, World}
+use Rattle.command_line.specs.Input.{IsInput}
+
+-- ---- the log of a replay
+
+-- what a log tells of a raw network: what crossed, and no lives
+abbrev pub raw_book : List Crossing → Book
+raw_book log = record { crossings = reverse log; lives = []; handed = [] }
+
+-- what a log tells of a world
+abbrev pub world_book : Kept → Book
+world_book k = record { crossings = reverse k.book.crossings; lives = k.book.lives; handed = k.handed }
+
+-- events are replayed over a carrier with such calls, and the log of what crossed is written, and nothing else
+pub record LogsRaw {C : Type 0} (calls : Calls C) (opening : C) (events : List RawEvent) (before after : Option (List ℕ)) : Type 0 where
+  pub last : C
+  pub shown : List Shown
+  pub replayed : Replays calls opening events last shown
+  pub messages : SafeMessages (calls.seen last).log
+  pub written : Appends before after (log_text (raw_book (calls.seen last).log))
+
+-- events are replayed in a world over such a carrier, whose book keeps its promise, and the log of this book is written, and nothing else
+pub record LogsWorld {C : Type 0} (calls : world.Calls C) (opening : C) (events : List WorldEvent) (before after : Option (List ℕ)) : Type 0 where
+  pub last : WorldState C
+  pub shows : List lines.Shown
+  pub replayed : worlds.Replays (shown calls) (opening_world (shown calls) opening) events last shows
+  pub promise : KeepsPromise calls.seen last
+  pub written : Appends before after (log_text (world_book last.kept))
+
+abbrev pub LogsFrom : {C : Type 0} → Calls C → C → Asked → Option (List ℕ) → Option (List ℕ) → Type 0
+LogsFrom calls opening (Raw events) before after = LogsRaw calls opening events before after
+LogsFrom calls opening (World events) before after = LogsWorld (hosting calls) opening events before after
+
+-- over the carrier that a topology names: plain mailboxes between its hosts, or the subnet of its IMPs and lines
+abbrev pub LogsOver : CarrierKind → TopologyFields → Asked → Option (List ℕ) → Option (List ℕ) → Type 0
+LogsOver kind.Plain t events before after = LogsFrom plain_calls (plain_of t) events before after
+LogsOver kind.Subnet t events before after = LogsFrom subnet_calls (subnet_of t) events before after
+
+abbrev pub LogsOn : TopologyFields → Asked → Option (List ℕ) → Option (List ℕ) → Type 0
+LogsOn t events before after = LogsOver t.carrier t events before after
+
+-- the script of an input is replayed over the carrier of its topology, and the log of its book is written
+pub record LogsInput (octets : List ℕ) (before after : Option (List ℕ)) : Type 0 where
+  pub network : TopologyFields
+  pub events : Asked
+  pub input : IsInput octets network events
+  pub logged : LogsOn network events before after
+
+-- the same of some script over the carrier of some topology, for any reader
+pub record Logged (before after : Option (List ℕ)) : Type 0 where
+  pub network : TopologyFields
+  pub events : Asked
+  pub logged : LogsOn network events before after

@@ -1,0 +1,250 @@
+//! The audit of a log.
+
+ghost use Rattle.std.specs.Prelude.{◌≡◌, ◌≢◌, ◌≤◌, ◌<◌, ◌↔◌, Err, IfErr, IfOk, IfSome, MatchResult, OnOk, false, length, true};
+ghost use Rattle.book_log.specs.Log.{IsLog};
+ghost use Rattle.replay.specs.Failing.{TellsFailure};
+ghost use Rattle.command_line.specs.Audits.{Audited, AuditsLog, IsAuditFault, IsBookFault, IsLogReadFault, IsSomeLog, WritesVerdict, status_at, status_said};
+
+use crate::source::{ReadFailed, Source};
+use book_log::{LogFault, LoggedBook, MAX_LOG, read_log};
+use net_sim::{Audit, audit};
+use replay::{Output, WriteFailed};
+use std::alloc::{AllocError, AllocFailed, Global};
+use thiserror::Error;
+
+/// Why a log was not audited. Where several apply, the first one of this list is given. Only `OutOfMemory` may come in place of
+/// any other.
+#[derive(Clone, Copy, Debug, Drop, PartialEq, Eq, Error)]
+pub enum AuditFault {
+    /// The log could not be read.
+    #[error("arpasim: cannot read")]
+    CannotRead,
+    /// The log has more than 33,554,432 octets.
+    #[error("arpasim: log too long")]
+    LongLog,
+    /// This line of the log, counted from 1, is the first bad one.
+    #[error("arpasim: bad log line {0}")]
+    BadLog(usize),
+    /// No memory was left. Nothing was written.
+    #[error("arpasim: stopped")]
+    OutOfMemory,
+    /// The output could not be written.
+    #[error("arpasim: stopped")]
+    CannotWrite,
+}
+
+impl AuditFault {
+    /// The exit status: 1 for reading, 2 for a log that is too long or has a bad line, 3 when memory runs out or a write fails.
+    pub fn status(&self) -> u8
+        ensures { result ≡ status_at self.now }
+    {
+        match self {
+            AuditFault::CannotRead => 1,
+            AuditFault::LongLog | AuditFault::BadLog(_) => 2,
+            AuditFault::OutOfMemory | AuditFault::CannotWrite => 3,
+        }
+    }
+}
+
+impl From<AllocError> for AuditFault {
+    ghost use Rattle.command_line.specs.declared.auditing.AuditFault.TheVariants.{OutOfMemory};
+
+    ghost from_gives = { λ _ e. e ≡ OutOfMemory };
+
+    fn from(_error: AllocError) -> AuditFault {
+        AuditFault::OutOfMemory
+    }
+}
+
+impl<T: Drop> From<AllocFailed<T>> for AuditFault {
+    ghost use Rattle.command_line.specs.declared.auditing.AuditFault.TheVariants.{OutOfMemory};
+
+    ghost from_gives = { λ _ e. e ≡ OutOfMemory };
+
+    fn from(_error: AllocFailed<T>) -> AuditFault {
+        AuditFault::OutOfMemory
+    }
+}
+
+impl From<ReadFailed> for AuditFault {
+    ghost use Rattle.command_line.specs.declared.auditing.AuditFault.TheVariants.{CannotRead};
+
+    ghost from_gives = { λ _ e. e ≡ CannotRead };
+
+    fn from(_error: ReadFailed) -> AuditFault {
+        AuditFault::CannotRead
+    }
+}
+
+impl From<WriteFailed> for AuditFault {
+    ghost use Rattle.command_line.specs.declared.auditing.AuditFault.TheVariants.{CannotWrite};
+
+    ghost from_gives = { λ _ e. e ≡ CannotWrite };
+
+    fn from(_error: WriteFailed) -> AuditFault {
+        AuditFault::CannotWrite
+    }
+}
+
+/// The exit status after an audit that says this: 0 for a safe book, 4 for any other.
+pub fn audit_status(said: Audit) -> u8
+    ensures { result ≡ status_said said }
+{
+    match said {
+        Audit::Kept => 0,
+        Audit::Malformed | Audit::Broken(_) => 4,
+    }
+}
+
+/// Reads a log, and writes one line: `kept` where its book is safe, `malformed line N` where line `N` shows that it is no
+/// book, or `broken PART` with the first part of a safe book that fails. It answers what the audit says.
+///
+/// Errors, in this order:
+/// - `CannotRead`: a read failed. Nothing more is asked of the reader.
+/// - `LongLog`: there are more than 33,554,432 octets.
+/// - `BadLog`: the first bad line. Nothing is written.
+/// - `CannotWrite`: a write or a flush failed. Nothing more is asked of the writer.
+///
+/// `OutOfMemory` may come at any step before anything is written.
+pub fn run_audit<R: Source, W: Output>(
+    alloc: Global,
+    reader: &mut R,
+    writer: &mut W,
+) -> Result<Audit, AuditFault>
+    // no read and no write has failed yet
+    requires reads { R.failed reader.old ≡ false }
+    requires writes { W.failed writer.old ≡ false }
+
+    // what is written is what the audit of some book says, whatever the reader
+    ensures audited { IfOk result (λ said. Audited said (W.contents writer.old) (W.contents writer.new)) }
+
+    // and of a reader whose octets are known they are the log of this book
+    ensures says { IfOk result (λ said. IfSome (R.remaining reader.old) (λ octets. AuditsLog octets said (W.contents writer.old) (W.contents writer.new))) }
+
+    // what is read is a log, or the first fault is given
+    ensures read { R.failed reader.new ≡ false → IfSome (R.remaining reader.old) (λ octets. MatchResult result (λ _. IsSomeLog octets) (IsAuditFault octets)) }
+
+    // where a read or a write fails it is told, and nowhere else
+    ensures cannot_read { (result ≡ Err AuditFault.CannotRead) ↔ (R.failed reader.new ≡ true) }
+    ensures cannot_write { (result ≡ Err AuditFault.CannotWrite) ↔ (W.failed writer.new ≡ true) }
+
+    // at the end all that was written is handed on
+    ensures flushed { OnOk result (W.flushed writer.new ≡ true) }
+
+    // a fault that is found before the audit leaves nothing written, and so does running out of memory
+    ensures untouched { IfErr result (λ f. f ≢ AuditFault.CannotWrite → writer.new ≡ writer.old) }
+{
+    let octets = read_octets(alloc, reader)?;
+    let book = read_book(alloc, &octets)?;
+    let said = audit(book.crossings(), book.lives(), book.handed());
+    write_said(&book, said, writer)?;
+    Ok(said)
+}
+
+/// How many octets are asked for at once.
+const CHUNK: usize = 4096;
+
+/// All octets that the reader gives. It is asked for one octet more than a log may have, and for none after that.
+///
+/// Errors: `CannotRead` where a read fails, `LongLog` where there are more octets than a log may have, `OutOfMemory`.
+fn read_octets<R: Source>(alloc: Global, reader: &mut R) -> Result<Vec<u8>, AuditFault>
+    requires { R.failed reader.old ≡ false }
+    ensures long { IfOk result (λ octets. length octets.items ≤ MAX_LOG) }
+    ensures whole { IfOk result (λ octets. IfSome (R.remaining reader.old) (λ known. octets.items ≡ known)) }
+    ensures too_long { result ≡ Err AuditFault.LongLog → IfSome (R.remaining reader.old) (λ known. MAX_LOG < length known) }
+    ensures fault { IfErr result IsLogReadFault }
+    ensures failed { (result ≡ Err AuditFault.CannotRead) ↔ (R.failed reader.new ≡ true) }
+{
+    let mut octets = Vec::new(alloc);
+    let mut buffer = [0; CHUNK];
+    while octets.len() <= MAX_LOG {
+        let room = CHUNK.min(MAX_LOG + 1 - octets.len());
+        let chunk = &mut buffer[..room];
+        let count = reader.read(chunk)?;
+        if count == 0 {
+            return Ok(octets);
+        }
+        octets.extend_from_slice(&chunk[..count])?;
+    }
+    Err(AuditFault::LongLog)
+}
+
+/// The book of a log.
+///
+/// Errors: `BadLog`, `OutOfMemory`.
+fn read_book(alloc: Global, octets: &[u8]) -> Result<LoggedBook, AuditFault>
+    requires { length octets.now ≤ MAX_LOG }
+    ensures { MatchResult result (IsLog octets.now) (IsBookFault octets.now) }
+{
+    match read_log(alloc, octets) {
+        Ok(book) => Ok(book),
+        Err(LogFault::BadLine(number)) => Err(AuditFault::BadLog(number)),
+        Err(LogFault::OutOfMemory) => Err(AuditFault::OutOfMemory),
+    }
+}
+
+/// Writes what an audit says of a book, and all that the writer still holds back.
+///
+/// Errors: `WriteFailed`.
+fn write_said<W: Output>(book: &LoggedBook, said: Audit, writer: &mut W) -> Result<(), WriteFailed>
+    requires { W.failed writer.old ≡ false }
+    ensures written { OnOk result (WritesVerdict said (W.contents writer.old) (W.contents writer.new)) }
+    ensures failed { TellsFailure result (W.failed writer.new) }
+    ensures flushed { OnOk result (W.flushed writer.new ≡ true) }
+{
+    write_verdict(book, said, writer)?;
+    writer.flush()
+}
+
+/// Writes the line of what an audit says of a book.
+///
+/// Errors: `WriteFailed`.
+fn write_verdict<W: Output>(
+    book: &LoggedBook,
+    said: Audit,
+    writer: &mut W,
+) -> Result<(), WriteFailed>
+    requires { W.failed writer.old ≡ false }
+    ensures written { OnOk result (WritesVerdict said (W.contents writer.old) (W.contents writer.new)) }
+    ensures failed { TellsFailure result (W.failed writer.new) }
+{
+    match said {
+        Audit::Kept => writer.write_all(b"kept\n"),
+        Audit::Malformed => {
+            let line = malformed_line(book);
+            writeln!(writer, "malformed line {line}")
+        }
+        Audit::Broken(part) => writeln!(writer, "broken {part}"),
+    }
+}
+
+/// The line that shows that a book is malformed: that of the first life without a list, of the first list without a life, or of the
+/// first life whose stamps name no requests.
+fn malformed_line(book: &LoggedBook) -> u128 {
+    let crossings = book.crossings().len() as u128;
+    let lives = book.lives().len();
+    let lists = book.handed().len();
+    if lists < lives {
+        return crossings + lists as u128 + 1;
+    }
+    if lives < lists {
+        return crossings + 2 * (lives as u128) + 1;
+    }
+    crossings + first_unstamped(book) as u128 + 1
+}
+
+/// The place of the first life whose stamps name no requests, where there is one list for each life.
+fn first_unstamped(book: &LoggedBook) -> usize {
+    let log = book.crossings();
+    let handed = book.handed();
+    for (i, _life) in book.lives().iter().enumerate() {
+        if i < handed.len() {
+            let life = &book.lives()[i..=i];
+            let list = &handed[i..=i];
+            if audit(log, life, list) == Audit::Malformed {
+                return i;
+            }
+        }
+    }
+    0
+}

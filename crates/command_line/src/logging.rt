@@ -1,0 +1,229 @@
+//! The log of a replay's book, in place of what the replay shows.
+
+ghost use Rattle.std.specs.Prelude.{◌≡◌, ◌≢◌, ◌↔◌, Err, IfErr, IfSome, MatchResult, OnOk, None, [], false, true};
+ghost use Rattle.std.specs.Io.KnownBytes.{Appends};
+ghost use Rattle.book_log.specs.Log.{log_text};
+ghost use Rattle.replay.specs.Failing.{TellsFailure};
+ghost use Rattle.command_line.specs.Carriers.{hosting};
+ghost use Rattle.command_line.specs.Events.{asked_of};
+ghost use Rattle.command_line.specs.Input.{IsInputFault, IsSomeInput};
+ghost use Rattle.command_line.specs.Logs.{Logged, LogsFrom, LogsInput, LogsOn, LogsRaw, LogsWorld};
+ghost use Rattle.command_line.specs.Steps.{IsReplayFault};
+
+use crate::carriers::subnet_of;
+use crate::fault::ScriptFault;
+use crate::input::{Events, Input, read_input, read_octets};
+use crate::source::Source;
+use book_log::print_log;
+use headline::book_of;
+use leader1822::{Carrier, Crossing, PlainBoxes};
+use net_sim::{BitLog, Life, World};
+use replay::{Detail, Output, WriteFailed};
+use script::RawEvent;
+use std::alloc::Global;
+use std::fmt::Display;
+use topology::{CarrierKind, Topology};
+use world_script::WorldEvent;
+
+/// An output that prints nothing, and never fails.
+#[derive(Drop)]
+struct Silent {
+    /// Whether the last call was a flush.
+    flushed: bool,
+}
+
+impl Output for Silent {
+    ghost contents = { λ s. None };
+
+    ghost failed = { λ s. false };
+
+    ghost flushed = { λ s. s.flushed };
+
+    fn write_fmt<D: Display>(&mut self, _text: D) -> Result<(), WriteFailed>
+    where
+        D: Drop,
+    {
+        self.flushed = false;
+        Ok(())
+    }
+
+    fn write_all(&mut self, _octets: &[u8]) -> Result<(), WriteFailed> {
+        self.flushed = false;
+        Ok(())
+    }
+
+    fn flush(&mut self) -> Result<(), WriteFailed> {
+        self.flushed = true;
+        Ok(())
+    }
+}
+
+/// Reads a topology, the marker line `%` and a script, replays the script, and writes the log of the book that it leaves: what
+/// crossed with its texts, the lives of connections, and what was handed over in each.
+///
+/// Errors: as [`crate::run_script`]. Nothing is written before the replay has come to its end.
+pub fn run_log<R: Source, W: Output>(
+    alloc: Global,
+    reader: &mut R,
+    writer: &mut W,
+) -> Result<(), ScriptFault>
+    // no read and no write has failed yet
+    requires reads { R.failed reader.old ≡ false }
+    requires writes { W.failed writer.old ≡ false }
+
+    // a script is replayed over the carrier of a topology, whatever the reader, and the log of the book that it leaves is written
+    ensures ran { OnOk result (Logged (W.contents writer.old) (W.contents writer.new)) }
+
+    // and of a reader whose octets are known these are the script and the topology that were read
+    ensures logged { OnOk result (IfSome (R.remaining reader.old) (λ octets. LogsInput octets (W.contents writer.old) (W.contents writer.new))) }
+
+    // what is read is an input, or the first fault is given
+    ensures read { R.failed reader.new ≡ false → IfSome (R.remaining reader.old) (λ octets. MatchResult result (λ _. IsSomeInput octets) (IsInputFault octets)) }
+    ensures options { IfErr result (λ f. f ≢ ScriptFault.BadOptions) }
+
+    // where a read or a write fails it is told, and nowhere else
+    ensures cannot_read { (result ≡ Err ScriptFault.CannotRead) ↔ (R.failed reader.new ≡ true) }
+    ensures cannot_write { (result ≡ Err ScriptFault.CannotWrite) ↔ (W.failed writer.new ≡ true) }
+
+    // at the end all that was written is handed on
+    ensures flushed { OnOk result (W.flushed writer.new ≡ true) }
+
+    // a fault leaves nothing written, but for a write that failed
+    ensures untouched { IfErr result (λ f. f ≢ ScriptFault.CannotWrite → writer.new ≡ writer.old) }
+{
+    let octets = read_octets(alloc, reader)?;
+    let Input { network, events } = read_input(alloc, &octets)?;
+    log_on(alloc, &network, events, writer)
+}
+
+/// Replays events over the carrier that a topology names, and writes the log of the book that they leave.
+///
+/// Errors: `CannotWrite`; `OutOfMemory`, after which nothing is written.
+pub(crate) fn log_on<W: Output>(
+    alloc: Global,
+    network: &Topology,
+    events: Events,
+    writer: &mut W,
+) -> Result<(), ScriptFault>
+    requires { W.failed writer.old ≡ false }
+    ensures logged { OnOk result (LogsOn network.now (asked_of events) (W.contents writer.old) (W.contents writer.new)) }
+    ensures untouched { IfErr result (λ f. f ≢ ScriptFault.CannotWrite → writer.new ≡ writer.old) }
+    ensures fault { IfErr result IsReplayFault }
+    ensures failed { (result ≡ Err ScriptFault.CannotWrite) ↔ (W.failed writer.new ≡ true) }
+    ensures flushed { OnOk result (W.flushed writer.new ≡ true) }
+{
+    match network.carrier() {
+        CarrierKind::Plain => {
+            let hosts = network.hosts(alloc)?;
+            log_over(alloc, PlainBoxes::new(alloc, hosts), events, writer)
+        }
+        CarrierKind::Subnet => {
+            let subnet = subnet_of(alloc, network)?;
+            log_over(alloc, subnet, events, writer)
+        }
+    }
+}
+
+/// Replays events over a carrier at its opening, without host programs or with them, and writes the log of the book that they leave.
+///
+/// Errors: `CannotWrite`; `OutOfMemory`, after which nothing is written.
+fn log_over<C: Carrier, W: Output>(
+    alloc: Global,
+    carrier: C,
+    events: Events,
+    writer: &mut W,
+) -> Result<(), ScriptFault>
+    requires unused { (C.seen carrier).log ≡ [] }
+    requires whole { W.failed writer.old ≡ false }
+    requires running { (C.seen carrier).stopped ≡ false }
+    ensures logged { OnOk result (LogsFrom (record { seen = C.seen; offers = C.offers; takes = C.takes; steps = C.steps; rounds = C.rounds }) carrier (asked_of events) (W.contents writer.old) (W.contents writer.new)) }
+    ensures untouched { IfErr result (λ f. f ≢ ScriptFault.CannotWrite → writer.new ≡ writer.old) }
+    ensures fault { IfErr result IsReplayFault }
+    ensures failed { (result ≡ Err ScriptFault.CannotWrite) ↔ (W.failed writer.new ≡ true) }
+    ensures flushed { OnOk result (W.flushed writer.new ≡ true) }
+{
+    match events {
+        Events::Raw(events) => log_raw(carrier, &events, writer),
+        Events::World(events) => log_world(alloc, carrier, events, writer),
+    }
+}
+
+/// Replays events without host programs, and writes what crossed.
+///
+/// Errors: `CannotWrite`; `OutOfMemory`, after which nothing is written.
+fn log_raw<C: Carrier, W: Output>(
+    mut carrier: C,
+    events: &[RawEvent],
+    writer: &mut W,
+) -> Result<(), ScriptFault>
+    requires unused { (C.seen carrier).log ≡ [] }
+    requires whole { W.failed writer.old ≡ false }
+    ensures logged { OnOk result (LogsRaw (record { seen = C.seen; offers = C.offers; takes = C.takes; steps = C.steps; rounds = C.rounds }) carrier events.now (W.contents writer.old) (W.contents writer.new)) }
+    ensures untouched { IfErr result (λ f. f ≢ ScriptFault.CannotWrite → writer.new ≡ writer.old) }
+    ensures fault { IfErr result IsReplayFault }
+    ensures failed { (result ≡ Err ScriptFault.CannotWrite) ↔ (W.failed writer.new ≡ true) }
+    ensures flushed { OnOk result (W.flushed writer.new ≡ true) }
+{
+    // what prints nothing doesn't fail, so only memory runs out
+    match replay::replay_events(
+        &mut carrier,
+        events,
+        Detail::Sizes,
+        &mut Silent { flushed: false },
+    ) {
+        Ok(()) => Ok(write_log(carrier.log(), &[], &[], writer)?),
+        Err(_) => Err(ScriptFault::OutOfMemory),
+    }
+}
+
+/// Replays events of hosts with programs, and writes the log of their world's book.
+///
+/// Errors: `CannotWrite`; `OutOfMemory`, after which nothing is written.
+fn log_world<C: Carrier, W: Output>(
+    alloc: Global,
+    carrier: C,
+    events: Vec<WorldEvent>,
+    writer: &mut W,
+) -> Result<(), ScriptFault>
+    requires unused { (C.seen carrier).log ≡ [] }
+    requires whole { W.failed writer.old ≡ false }
+    requires running { (C.seen carrier).stopped ≡ false }
+    ensures logged { OnOk result (LogsWorld (hosting (record { seen = C.seen; offers = C.offers; takes = C.takes; steps = C.steps; rounds = C.rounds })) carrier events.items (W.contents writer.old) (W.contents writer.new)) }
+    ensures untouched { IfErr result (λ f. f ≢ ScriptFault.CannotWrite → writer.new ≡ writer.old) }
+    ensures fault { IfErr result IsReplayFault }
+    ensures failed { (result ≡ Err ScriptFault.CannotWrite) ↔ (W.failed writer.new ≡ true) }
+    ensures flushed { OnOk result (W.flushed writer.new ≡ true) }
+{
+    let mut world = World::new(alloc, carrier)?;
+    // what prints nothing doesn't fail, so only memory runs out
+    match world_replay::replay_events(
+        &mut world,
+        events,
+        Detail::Sizes,
+        &mut Silent { flushed: false },
+    ) {
+        Ok(()) => {
+            let book = book_of(&world);
+            Ok(write_log(book.crossings(), book.lives(), world.handed(), writer)?)
+        }
+        Err(_) => Err(ScriptFault::OutOfMemory),
+    }
+}
+
+/// Writes a log, and all that the writer still holds back.
+///
+/// Errors: `WriteFailed`.
+fn write_log<W: Output>(
+    crossings: &[Crossing],
+    lives: &[Life],
+    handed: &[BitLog],
+    writer: &mut W,
+) -> Result<(), WriteFailed>
+    requires { W.failed writer.old ≡ false }
+    ensures written { OnOk result (Appends (W.contents writer.old) (W.contents writer.new) (log_text (record { crossings = crossings.now; lives = lives.now; handed = handed.now }))) }
+    ensures failed { TellsFailure result (W.failed writer.new) }
+    ensures flushed { OnOk result (W.flushed writer.new ≡ true) }
+{
+    print_log(crossings, lives, handed, writer)?;
+    writer.flush()
+}
