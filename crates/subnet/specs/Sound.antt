@@ -1,5 +1,6 @@
 -- What holds of a subnet after every event that keeps it sound.
-use Rattle.std.specs.Prelude.{ℕ, Option, Some, None, All}
+use Rattle.std.specs.Prelude.{◌≡◌, ℕ, Option, Some, None, All}
+use Rattle.leader1822.specs.declared.address.Flow.{Flow}
 use Rattle.packetiser.specs.PacketFields.{IsPacket}
 use Rattle.packetiser.specs.declared.packet.PacketKind.TheVariants as kind
 use Rattle.flow_law.specs.Follows.{AllSound}
@@ -23,3 +24,5 @@ pub record IsSound (n : Net) : Type 0 where
   -- packets are by the format, and so is the answer to each message that waits
   pub formats : All IsPacket (packets n)
   pub answers : All (λ m. IsPacket (answer_packet kind.Rfnm m.flow m.number)) (messages n)
+  -- and so is a packet about each message that is outstanding: its source's IMP could ask about it
+  pub askable : (f : Flow) (number : ℕ) → (view n f).outstanding ≡ Some number → IsPacket (answer_packet kind.Rfnm f number)

@@ -144,6 +144,7 @@ noted_sound n i s p turn made lost gone b new moved only of_flow formats dead is
           refl)
           (λ x. alive_or_made n next made (IsRefusal p.number) g x only dead);
       shown = refl;
+      begun = inl refl;
     }) is
 
 -- it came for a host that is down or not there: Dead is made
@@ -214,6 +215,7 @@ whole_sound n i s p turn w text b makes is_text moved only is =
           (waits ∙ ap (λ (q : List Queued). (let v : View = record (view_moved move (view n g)) { queue = q } in v)) (map-append queued_of to.queue (message ∷ [])))
           (λ x. alive_or_made n next [] (λ (y : Packet). ⊥) g x only (All-nil (λ (q : PacketFields). ⊥)));
       shown = refl;
+      begun = inl refl;
     }) is
 
 -- ---- an answer comes to its source
@@ -266,6 +268,7 @@ answered_sound n i s p turn k b here tells frees moved only is =
           refl)
           (λ x. alive_or_made n next [] (λ (y : Packet). ⊥) g x only (All-nil (λ (q : PacketFields). ⊥)));
       shown = refl;
+      begun = inl refl;
     }) is
 
 -- ---- an arrival

@@ -33,6 +33,7 @@ use Rattle.subnet.proofs.Calls.Silence.{nowhere}
 use Rattle.subnet.proofs.Moves.Fates.{request_is}
 use Rattle.subnet.proofs.Moves.Views.{view_parts, alive_less}
 use Rattle.subnet.proofs.Moves.Turns.{Answerable, set_here}
+use Rattle.subnet.proofs.Moves.Askable.{one_begins}
 use Rattle.subnet.proofs.Moves.ManyFlows.{all_moved, at_end, kept_messages}
 
 -- ---- the moves
@@ -119,6 +120,10 @@ shown : (b : Bool) (v : View) → [] ≡ shown_by (if b then Move.Forget ∷ [] 
 shown true v = refl
 shown false v = refl
 
+none_begins : (b : Bool) → one_begins (if b then Move.Forget ∷ [] else []) ≡ false
+none_begins true = refl
+none_begins false = refl
+
 -- ---- the event
 
 forgot : (n : Net) (at from : ℕ) (s : State) → imp_at n.imps at ≡ Some s → has_data n from at ≡ false → is_awaited_at (imp_at n.imps from) at ≡ false → IsSound n → IsSound (with_turn at (forget s from) n)
@@ -136,6 +141,7 @@ forgot n at from s there none idle is =
     (λ k. at_set IsAt n.imps at k (Some turn.state) None (is.imps k) (forget_imp at s from (subst (IsAt at) there (is.imps at))))
     (formats_less n m among is.formats)
     (subst (All Answerable) (sym (kept_messages n.imps at (Some turn.state) (ap messages_at_imp (sym there)))) is.answers)
+    (λ f. none_begins (goes at from f))
     is
 
 pub forget_sound : (n : Net) (at from : ℕ) → forgetting_refusal n at from ≡ None → IsSound n → IsSound (at_imp (imp_at n.imps at) at (λ s. forget s from) n)

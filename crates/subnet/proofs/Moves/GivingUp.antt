@@ -1,7 +1,8 @@
 -- A message is given up.
-use Rattle.std.proofs.Common.{◌≡◌, ◌≢◌, ℕ, zero, suc, Bool, true, false, not, List, [], ◌∷◌, ◌++◌, ◌&&◌, ◌==◌, get_or, set, map, Option, Some, None, refl, ap, sym, ◌∙◌, subst, inl, eq-eqb, All, Contains}
+use Rattle.std.proofs.Common.{◌≡◌, ◌≢◌, ℕ, zero, suc, Bool, true, false, not, List, [], ◌∷◌, ◌++◌, ◌&&◌, ◌==◌, get_or, set, map, Option, Some, None, refl, ap, sym, ◌∙◌, subst, inl, inr, eq-eqb, All, Contains}
 use Rattle.std.specs.Prelude.{is_none, slice_set}
 use Rattle.std.specs.List.{flat_map}
+use Rattle.std.proofs.lemmas.Bool.{cases_Bool}
 use Rattle.std.proofs.lemmas.List.Elements.{All-contains, All-head, All-tail, All-cons, All-nil}
 use Rattle.leader1822.specs.Flow.{same_flow}
 use Rattle.leader1822.specs.Host.{is_host}
@@ -9,7 +10,7 @@ use Rattle.leader1822.specs.declared.address.Flow.{Flow}
 use Rattle.leader1822.specs.declared.carrier.CarrierFault.{CarrierFault}
 use Rattle.leader1822.specs.declared.carrier.CarrierFault.TheVariants as fault
 use Rattle.leader1822.specs.declared.crossing.Answer.TheVariants as answer
-use Rattle.leader1822.proofs.lemmas.{guard, same_flow-refl}
+use Rattle.leader1822.proofs.lemmas.{guard, same_flow-refl, same_flow-true}
 use Rattle.packetiser.specs.PacketFields.{PacketFields, IsPacket, flow_of}
 use Rattle.packetiser.specs.declared.packet.PacketKind.TheVariants as kind
 use Rattle.flow_law.specs.View.{Packet, Queued}
@@ -31,6 +32,7 @@ use Rattle.subnet.specs.Flows.{Piece, Alive, queued_of, imp_is_up, sender_at, re
 use Rattle.subnet.specs.Making.{NothingNew}
 use Rattle.subnet.specs.Sound.{IsAt, IsSound}
 use Rattle.subnet.proofs.Packets.HavingByEvents.{give_up_nothing}
+use Rattle.subnet.proofs.Moves.Askable.{Askable, same_askable, moved_askable}
 use Rattle.subnet.proofs.Moves.QuietCalls.{formats_less}
 use Rattle.subnet.proofs.Calls.Silence.{NotIn, NotOf, not_alive, queue_silent}
 use Rattle.subnet.proofs.Moves.Views.{view_parts, turn_view, alive_less, held_messages}
@@ -126,6 +128,10 @@ given_up_turn n f s number at awaited dead accepted is =
       imps = λ k. at_set IsAt n.imps i k (Some turn.state) None (is.imps k) (give_up_imp i s f accepted (subst (IsAt i) at (is.imps i)));
       formats = formats_less n m among is.formats;
       answers = subst (All (λ (q : Message). IsPacket (answer_packet kind.Rfnm q.flow q.number))) (sym (held_messages n.imps i s turn.state at (given_queue s.hosts f.source.host (given (host_at s f.source.host) (record { kind = answer.Incomplete; flow = f })) refl))) is.answers;
+      askable = λ g. elim (cases_Bool (same_flow g f)) [
+        | inl same ↦ subst (Askable m) (sym (same_flow-true g f same)) (moved_askable n m f (GiveUp number ∷ []) (given_up_view n f s number at moved) refl is)
+        | inr other ↦ same_askable n m g (turn_view n i s turn g at (moved.others g other)) is
+      ];
     }
 
 pub give_up_sound : (n : Net) (f : Flow) → giving_up_refusal n f ≡ None → IsSound n → IsSound (at_imp (imp_at n.imps f.source.imp) f.source.imp (λ s. give_up s f) n)

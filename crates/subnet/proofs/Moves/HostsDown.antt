@@ -52,6 +52,7 @@ use Rattle.subnet.proofs.Moves.Takes.{freed_messages}
 use Rattle.subnet.proofs.Moves.Turns.{Answerable, set_here, set_queue, set_messages, answerable, source_changed}
 use Rattle.subnet.proofs.Moves.Fates.{ended_all, kept_all, fate_all, view_fated}
 use Rattle.subnet.proofs.Moves.Views.{view_parts}
+use Rattle.subnet.proofs.Moves.Askable.{one_begins}
 use Rattle.subnet.proofs.Moves.ManyFlows.{all_moved, at_end, at_end_if}
 
 -- ---- messages are given back, one after another
@@ -439,6 +440,14 @@ flow_goes n h s f stop only law (Some m) is =
     dead x (inl alive) = inl alive
     dead x (inr made) = inr made.1
 
+none_begins : (a b : Bool) (o : Option Message) → one_begins (moves_by a b o) ≡ false
+none_begins true true None = refl
+none_begins true false None = refl
+none_begins false true None = refl
+none_begins false false None = refl
+none_begins true b (Some m) = refl
+none_begins false b (Some m) = refl
+
 -- ---- the event
 
 gone : (n : Net) (h : Host) (s : State) → Stopping n h s → IsSound n → IsSound (after_stop n h s)
@@ -460,6 +469,7 @@ gone n h s stop is =
     (λ k. at_set IsAt n.imps h.imp k (Some turn.state) None (is.imps k) (host_down_imp h.imp s h.host stop.imp))
     (All-weaker (Contains (packets n ++ made)) IsPacket (λ p there. All-contains IsPacket (packets n ++ made) p all there) (packets m) only)
     (set_messages Answerable n.imps h.imp turn.state is.answers (all_answers q (stopped s h.host) (set_queue Answerable s.hosts h.host no_host held (All-nil Answerable))))
+    (λ f. none_begins (same_host f.source h) (same_host f.destination h) (waiting s h f))
     is
 
 pub host_down_sound : (n : Net) (h : Host) → at_host_refusal n h host_down_refusal ≡ None → IsSound n → IsSound (host_stopped n h)

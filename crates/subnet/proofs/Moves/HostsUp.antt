@@ -32,6 +32,7 @@ use Rattle.subnet.proofs.Packets.HavingByEvents.{start_host_nothing}
 use Rattle.subnet.proofs.Moves.QuietCalls.{formats_less}
 use Rattle.subnet.proofs.Moves.Views.{view_parts, alive_less}
 use Rattle.subnet.proofs.Moves.Turns.{Answerable, set_here}
+use Rattle.subnet.proofs.Moves.Askable.{one_begins}
 use Rattle.subnet.proofs.Moves.ManyFlows.{all_moved, at_end, kept_messages}
 
 -- ---- the moves
@@ -107,6 +108,12 @@ new_view n h s f there within =
     (at_end (λ (o : Option State). receiver_at o f) destination_up n.imps h.imp j (Some t) b (λ x. refl) set (becomes.receiver ∙ ap (λ (o : Option State). destination_up b (receiver_at o f)) (sym there)))
     ∙ started_view (same_host f.source h) (same_host f.destination h) (imp_is_up (imp_at n.imps i)) (imp_is_up (imp_at n.imps j)) (sender_at (imp_at n.imps i) f) (receiver_at (imp_at n.imps j) f) (box_of f n.log)
 
+none_begins : (a b : Bool) → one_begins (started_host a b) ≡ false
+none_begins true true = refl
+none_begins true false = refl
+none_begins false true = refl
+none_begins false false = refl
+
 -- ---- the event
 
 started : (n : Net) (h : Host) (s : State) → Startable n h s → IsSound n → IsSound (logging (crossing.Up h ∷ []) (with_turn h.imp (host_up s h.host) n))
@@ -126,6 +133,7 @@ started n h s can is =
     (formats_less n m among is.formats)
     (subst (All Answerable) (sym (kept_messages n.imps h.imp (Some turn.state)
     (given_queue s.hosts h.host (let x : HostState = record (host_at s h.host) { up = true } in x) refl ∙ ap messages_at_imp (sym there)))) is.answers)
+    (λ f. none_begins (same_host f.source h) (same_host f.destination h))
     is
 
 pub host_up_sound : (n : Net) (h : Host) → at_host_refusal n h host_up_refusal ≡ None → IsSound n → IsSound (host_started n h)

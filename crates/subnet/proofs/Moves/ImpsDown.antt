@@ -28,6 +28,7 @@ use Rattle.subnet.proofs.Packets.HavingByEvents.{stop_imp_nothing}
 use Rattle.subnet.proofs.Moves.QuietCalls.{formats_less}
 use Rattle.subnet.proofs.Moves.Views.{view_parts, alive_less}
 use Rattle.subnet.proofs.Moves.Turns.{Answerable, set_here}
+use Rattle.subnet.proofs.Moves.Askable.{one_begins, moved_askable}
 use Rattle.subnet.proofs.Moves.ManyFlows.{at_end, and_true_is, set_all}
 
 -- ---- the hosts of an IMP from number `k` on
@@ -254,6 +255,12 @@ new_view n i s f there =
         at_end F change n.imps i j None true still (set_here n.imps i None s there) gone
         ∙ ap (λ (b : Bool). change b (F (imp_at n.imps j))) (and_true_is (j == i))
 
+none_begins : (a b : Bool) → one_begins (moves_by a b) ≡ false
+none_begins true true = refl
+none_begins true false = refl
+none_begins false true = refl
+none_begins false false = refl
+
 -- ---- the event
 
 stopped : (n : Net) (i : ℕ) (s : State) → imp_at n.imps i ≡ Some s → IsSound n → IsSound (stopped_net n i s)
@@ -276,6 +283,7 @@ stopped n i s there is =
       imps = λ k. at_set IsAt n.imps i k None None (is.imps k) tt;
       formats = formats_less n m among is.formats;
       answers = set_all Answerable n.imps i None is.answers (All-nil Answerable);
+      askable = λ f. moved_askable n m f (moves i f) (new_view n i s f there) (none_begins (f.source.imp == i) (f.destination.imp == i)) is;
     }
   where
     at : (j : ℕ) → (j == i) ≡ true → imp_at n.imps j ≡ Some s

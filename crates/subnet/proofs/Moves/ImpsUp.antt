@@ -35,6 +35,7 @@ use Rattle.subnet.proofs.Moves.QuietCalls.{formats_less}
 use Rattle.subnet.proofs.Calls.Silence.{nowhere, host_queue, queue_all}
 use Rattle.subnet.proofs.Moves.Views.{view_parts, alive_less}
 use Rattle.subnet.proofs.Moves.Turns.{Answerable}
+use Rattle.subnet.proofs.Moves.Askable.{one_begins}
 use Rattle.subnet.proofs.Moves.ManyFlows.{all_moved, at_end, kept_messages, and_true_is}
 
 -- ---- an IMP that just started
@@ -201,6 +202,12 @@ new_view n i s f start =
         at_end imp_is_up up_where n.imps i j (Some s) true (λ x. refl) start.there refl
         ∙ ap (λ (c : Bool). up_where c (imp_is_up (imp_at n.imps j))) (and_true_is (j == i))
 
+none_begins : (a b : Bool) → one_begins (moves_by a b) ≡ false
+none_begins true true = refl
+none_begins true false = refl
+none_begins false true = refl
+none_begins false false = refl
+
 -- ---- the event
 
 -- an IMP is set in its place, if there is one
@@ -234,6 +241,7 @@ started n i down none alone is =
           (λ k. at_set IsAt n.imps i k (Some s) None (is.imps k) (started_is i hosts ports))
           (formats_less n m among is.formats)
           (subst (All Answerable) (sym (kept_messages n.imps i (Some s) (none_wait hosts ∙ ap messages_at_imp (sym down)))) is.answers)
+          (λ f. none_begins (f.source.imp == i) (f.destination.imp == i))
           is)
     ]
 

@@ -18,19 +18,21 @@ use Rattle.subnet.specs.Alive.{packets, messages, messages_at_imp}
 use Rattle.subnet.specs.Flows.{Piece, Alive, view}
 use Rattle.subnet.specs.Sound.{IsAt, IsSound}
 use Rattle.subnet.proofs.Calls.Silence.{parts_left, parts_right}
+use Rattle.subnet.proofs.Moves.Askable.{one_begins, moved_askable}
 use Rattle.subnet.proofs.Moves.Turns.{Answerable}
 
 -- a step in which each flow makes moves of its own
 pub all_moved : (n : Net) (imps : List (Option State)) (lines : List Wire) (entries : List Crossing) (moves : Flow → List Move)
     → (let m : Net = record n { imps = imps; lines = lines; log = entries ++ n.log } in
-    AllFollow Piece n.hosts entries n.log moves (view n) (view m) (Alive n) (Alive m) → ((k : ℕ) → IsAt k (imp_at imps k)) → All IsPacket (packets m) → All Answerable (messages m) → IsSound n → IsSound m)
-all_moved n imps lines entries moves follow at formats answers is =
+    AllFollow Piece n.hosts entries n.log moves (view n) (view m) (Alive n) (Alive m) → ((k : ℕ) → IsAt k (imp_at imps k)) → All IsPacket (packets m) → All Answerable (messages m) → ((f : Flow) → one_begins (moves f) ≡ false) → IsSound n → IsSound m)
+all_moved n imps lines entries moves follow at formats answers none is =
     let m : Net = record n { imps = imps; lines = lines; log = entries ++ n.log } in
     record {
       flows = all_follow n.hosts entries n.log moves (view n) (view m) (Alive n) (Alive m) follow is.flows;
       imps = at;
       formats = formats;
       answers = answers;
+      askable = λ f. moved_askable n m f (moves f) (follow.follows f).view (none f) is;
     }
 
 -- ---- one IMP is another one

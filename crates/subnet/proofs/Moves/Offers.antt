@@ -1,5 +1,5 @@
 -- A message is offered.
-use Rattle.std.proofs.Common.{arith, ◌≡◌, ◌≢◌, ℕ, ◌+◌, ◌<◌, ◌≤◌, ◌==◌, ◌||◌, eq-eqb, Bool, true, false, not, List, [], ◌∷◌, ◌++◌, length, Option, Some, None, refl, ap, sym, ◌∙◌, subst, All, Contains}
+use Rattle.std.proofs.Common.{arith, ◌≡◌, ◌≢◌, ℕ, ◌+◌, ◌<◌, ◌≤◌, ◌==◌, ◌||◌, eq-eqb, inl, inr, Bool, true, false, not, List, [], ◌∷◌, ◌++◌, length, Option, Some, None, refl, ap, sym, ◌∙◌, subst, All, Contains}
 use Rattle.std.proofs.lemmas.List.{map-append}
 use Rattle.std.proofs.lemmas.List.Elements.{All-nil, All-push, All-weaker, All-contains, All-contains_itself}
 use Rattle.std.specs.FinMap as finite
@@ -187,6 +187,14 @@ offered_answers Here m s can all =
     (answer_format kind.Rfnm m.flow (next_number s m.flow) (record { first = refl; only = refl; empty = refl }) can.source can.destination can.link (number_small s m.flow)))
 offered_answers Away m s can all = all
 
+-- a question about the message that was begun is a packet by the format
+begun_format : (m : HostMessage) (s : State) → IsCarriable m → (number : ℕ) → next_number s m.flow ≡ number → IsPacket (answer_packet kind.Rfnm m.flow number)
+begun_format m s can number same =
+    answer_format kind.Rfnm m.flow number (record { first = refl; only = refl; empty = refl }) can.source can.destination can.link (subst (λ (k : ℕ). k < 256) same (number_small s m.flow))
+
+begun_is : (k number : ℕ) → Some k ≡ Some number → k ≡ number
+begun_is k number is = cc
+
 -- ---- the event, by where the message goes
 
 -- what is known of an offer that is not refused
@@ -241,6 +249,7 @@ to_nowhere n s m o is moved sound =
           (box_put m n.log))
           (λ x. alive_or_made n next [] (λ (y : Packet). ⊥) g x only (All-nil (λ (p : PacketFields). ⊥)));
       shown = out_here m n.log;
+      begun = inl refl;
     }) sound
 
 -- the number of the next message, as its flow sees it
@@ -261,6 +270,11 @@ over_lines n s m o is carriable moved sound =
     let only : OnlyNew n made (with_turn i (from_host s m) n) = offer_only n i s m Away o.at is in
     let pieces : All (λ (p : PacketFields). IsPieceOf Piece k m.text (packet_of p)) made =
     each_packet g (next_number s g) w (λ p. IsPieceOf Piece k m.text (packet_of p)) (λ p of carries. record { data_packet = ap kind_of of.data_kind; number = of.same_number ∙ same; piece = record { there = carries.there; flag = carries.flag; same = carries.same } }) in
+    let new : view next g ≡ view_moved move (view n g) =
+    moved_view n i s (from_host s m) entries g (begun_with k (sender_at (imp_at n.imps i) g)) (receiver_at (imp_at n.imps g.destination.imp) g) (Box.Waiting (length n.log) m.text) o.at
+    (source_changed (begun_with k) n.imps i s (from_host s m).state g o.at refl (moved.sender ∙ ap (λ (j : ℕ). begun_with j (sender s g)) same))
+    (destination_same n.imps i s (from_host s m).state g o.at moved.receiver)
+    (box_put m n.log) in
     followed_turn n i s (from_host s m) entries g (move ∷ []) made (record {
       at = o.at;
       sound = from_host_imp i s m o.accepted o.imp;
@@ -273,12 +287,10 @@ over_lines n s m o is carriable moved sound =
       here =
           makes_one move (view n g) (view next g) (Alive n g) (Alive next g)
           (can_begin n s g o.at o.ready (ap goes is) o.dead)
-          (moved_view n i s (from_host s m) entries g (begun_with k (sender_at (imp_at n.imps i) g)) (receiver_at (imp_at n.imps g.destination.imp) g) (Box.Waiting (length n.log) m.text) o.at
-          (source_changed (begun_with k) n.imps i s (from_host s m).state g o.at refl (moved.sender ∙ ap (λ (j : ℕ). begun_with j (sender s g)) same))
-          (destination_same n.imps i s (from_host s m).state g o.at moved.receiver)
-          (box_put m n.log))
+          new
           (λ x. alive_or_made n next made (IsPieceOf Piece k m.text) g x only pieces);
       shown = out_here m n.log;
+      begun = inr (λ number awaited. begun_format m s carriable number (same ∙ begun_is k number (ap (λ (v : View). v.outstanding) (sym new) ∙ awaited)));
     }) sound
 
 within : (n : Net) (s : State) (m : HostMessage) → IsOffered n s m → way_of s m.flow ≡ Here → IsCarriable m → OfferMoves Here m s (from_host s m).state → IsSound n → IsSound (logging (crossing.Out m ∷ []) (with_turn m.flow.source.imp (from_host s m) n))
@@ -315,6 +327,7 @@ within n s m o is carriable moved sound =
           (waits ∙ ap (λ (q : List Queued). (let v : View = record (view_moved move (view n g)) { queue = q } in v)) (map-append queued_of to.queue (message k ∷ [])))
           (λ x. alive_or_made n next [] (λ (y : Packet). ⊥) g x only (All-nil (λ (p : PacketFields). ⊥)));
       shown = out_here m n.log;
+      begun = inr (λ number awaited. begun_format m s carriable number (same ∙ begun_is k number (ap (λ (v : View). v.outstanding) (sym waits) ∙ awaited)));
     }) sound
 
 -- ---- the event

@@ -167,4 +167,5 @@ opening_sound hosts sites ends are =
       imps = λ k. subst (IsAt k) (sym (opened_at 0 sites ports k)) (opened_is k (0 + k) (slice_index_or sites k None) (ports (0 + k)) (omega arith));
       formats = net_packets IsPacket n (opening_has IsPacket hosts sites ends);
       answers = subst (All Answerable) (sym (no_messages 0 sites ports)) (All-nil Answerable);
+      askable = λ f number awaited. (let none : (view n f).outstanding ≡ None = (flow_opens hosts sites ends f).outstanding in absurd (cc));
     }

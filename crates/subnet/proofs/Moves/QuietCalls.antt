@@ -19,6 +19,7 @@ use Rattle.subnet.specs.Events.{at_imp, drop_frame}
 use Rattle.subnet.specs.Flows.{Alive, view}
 use Rattle.subnet.specs.Making.{NothingNew}
 use Rattle.subnet.specs.Sound.{IsAt, IsSound}
+use Rattle.subnet.proofs.Moves.Askable.{same_askable}
 use Rattle.subnet.proofs.Moves.Views.{turn_view, alive_less, same_messages}
 use Rattle.subnet.proofs.Packets.HavingByEvents.{drop_nothing, resend_nothing, route_nothing, end_down_nothing, end_up_nothing, abandon_nothing}
 
@@ -36,6 +37,7 @@ quiet_turn n i s turn at still imp hosts among is =
       imps = λ k. at_set IsAt n.imps i k (Some turn.state) None (is.imps k) imp;
       formats = formats_less n m among is.formats;
       answers = subst (All (λ (q : Message). IsPacket (answer_packet kind.Rfnm q.flow q.number))) (sym (same_messages n.imps i s turn.state at hosts)) is.answers;
+      askable = λ f. same_askable n m f (turn_view n i s turn f at (still f)) is;
     }
 
 quiet_call : (n : Net) (i : ℕ) (call : State → ImpTurn) → ((s : State) → AllUnmoved s (call s).state) → ((s : State) → IsImp i s → IsImp i (call s).state) → ((s : State) → (call s).state.hosts ≡ s.hosts)
@@ -55,6 +57,7 @@ drop_sound n l d k is =
       imps = is.imps;
       formats = formats_less n m (drop_nothing n l d k) is.formats;
       answers = is.answers;
+      askable = is.askable;
     }
 
 pub resend_sound : (n : Net) (i : ℕ) → IsSound n → IsSound (at_imp (imp_at n.imps i) i resend n)

@@ -135,6 +135,7 @@ take_answer n i s k t others ms take is =
           (box_told t.kind g n.log))
           (λ x. alive_or_made n next [] (λ (y : Packet). ⊥) g x only (All-nil (λ (p : PacketFields). ⊥)));
       shown = answer_here t.kind g n.log;
+      begun = inl refl;
     }) is
 
 -- ---- a message is taken
@@ -211,6 +212,7 @@ take_from_far n i s k m others take far is =
           ∙ taken_view (imp_is_up (imp_at n.imps g.source.imp)) (sender_at (imp_at n.imps g.source.imp) g) (imp_is_up (imp_at n.imps g.destination.imp)) (receiver_at (imp_at n.imps g.destination.imp) g) (fetched (box_of g n.log)) m.number g others)
           (λ x. alive_or_made n next (rfnm ∷ []) Told g x only (All-cons (λ (p : PacketFields). Told (packet_of p)) rfnm [] (record { kind = refl; number = refl }) (All-nil (λ (p : PacketFields). Told (packet_of p)))));
       shown = in_here (host_message m) n.log;
+      begun = inl refl;
     }) is
 
 -- its source is at this IMP, and is told at once
@@ -256,6 +258,7 @@ take_from_here n i s k m others take near is =
         packets = λ x a. old.packets x (only_old (Alive n g x) (alive_or_made n next [] (λ (y : Packet). ⊥) g x only (All-nil (λ (p : PacketFields). ⊥)) a));
       };
       shown = in_here (host_message m) n.log;
+      begun = inl refl;
     }) is
   where
     only_old : (A : Type 0) → A ⊎ ⊥ → A

@@ -2,6 +2,7 @@
 use Rattle.std.proofs.Common.{◌≡◌, ℕ, zero, suc, Bool, true, false, List, [], ◌∷◌, ◌++◌, set, Option, Some, None, refl, ap, sym, ◌∙◌, subst, ◌⊎◌, inl, inr, All, Contains}
 use Rattle.std.specs.Prelude.{slice_set}
 use Rattle.std.specs.List.{flat_map}
+use Rattle.std.proofs.lemmas.Bool.{cases_Bool}
 use Rattle.std.proofs.lemmas.List.Elements.{All-append, All-weaker, All-contains, All-contains_itself, Contains-append_left, Contains-append_right, Contains-append_cases}
 use Rattle.leader1822.specs.Flow.{same_flow}
 use Rattle.leader1822.specs.Host.{Host}
@@ -11,7 +12,7 @@ use Rattle.leader1822.specs.declared.crossing.Answer.{Answer}
 use Rattle.leader1822.specs.declared.crossing.Crossing.{Crossing}
 use Rattle.leader1822.specs.declared.crossing.Crossing.TheVariants as crossing
 use Rattle.leader1822.specs.declared.message.HostMessage.{HostMessage}
-use Rattle.leader1822.proofs.lemmas.{same_flow-refl}
+use Rattle.leader1822.proofs.lemmas.{same_flow-refl, same_flow-true}
 use Rattle.packetiser.specs.PacketFields.{PacketFields, IsPacket, flow_of}
 use Rattle.packetiser.specs.declared.packet.PacketKind.TheVariants as kind
 use Rattle.flow_law.specs.View.{Packet}
@@ -31,6 +32,7 @@ use Rattle.subnet.specs.Flows.{Piece, Alive, packet_of, imp_is_up, sender_at, re
 use Rattle.subnet.specs.Making.{NothingNew, OnlyNew}
 use Rattle.subnet.specs.Sound.{IsAt, IsSound}
 use Rattle.subnet.proofs.Packets.Having.{ImpHas, NetHas, net_packets, packets_net, net_itself, imp_has, with_turn_has}
+use Rattle.subnet.proofs.Moves.Askable.{Askable, one_begins, same_askable, moved_askable}
 use Rattle.subnet.proofs.Moves.QuietCalls.{formats_less}
 use Rattle.subnet.proofs.Calls.Silence.{parts_left, parts_right, at_imp_all}
 use Rattle.subnet.proofs.Moves.Views.{turn_view, alive_less}
@@ -177,6 +179,7 @@ pub record IsTurnOf (n : Net) (i : ℕ) (s : State) (turn : ImpTurn) (entries : 
   pub answers : All Answerable (contents.messages turn.state)
   pub here : Follows Piece moves (view n g) (view (logging entries (with_turn i turn n)) g) (Alive n g) (Alive (logging entries (with_turn i turn n)) g)
   pub shown : passed_over g entries n.log ≡ shown_by moves (view n g)
+  pub begun : (one_begins moves ≡ false) ⊎ Askable (logging entries (with_turn i turn n)) g
 
 -- it keeps a subnet sound
 pub followed_turn : (n : Net) (i : ℕ) (s : State) (turn : ImpTurn) (entries : List Crossing) (g : Flow) (moves : List Move) (made : List PacketFields)
@@ -185,19 +188,28 @@ followed_turn n i s turn entries g moves made t is =
     let m : Net = logging entries (with_turn i turn n) in
     let imps : List (Option State) = slice_set n.imps i (Some turn.state) in
     let all : All IsPacket (packets n ++ made) = All-append IsPacket (packets n) made is.formats t.formats in
+    let still : (f : Flow) → same_flow f g ≡ false → view m f ≡ view n f = λ f other.
+        ap (λ (b : Box). view_of (imp_is_up (imp_at imps f.source.imp)) (sender_at (imp_at imps f.source.imp) f) (imp_is_up (imp_at imps f.destination.imp)) (receiver_at (imp_at imps f.destination.imp) f) b) (t.crossings.boxes f other)
+        ∙ turn_view n i s turn f t.at (t.others f other) in
+    let here : Askable m g = elim t.begun [
+      | inl none ↦ moved_askable n m g moves t.here.view none is
+      | inr asked ↦ asked
+    ] in
     record {
       flows = one_follows n.hosts entries n.log g moves (view n) (view m) (Alive n) (Alive m) t.crossings.ups (record {
         here = t.here;
         shown = t.shown;
-        view = λ f other.
-            ap (λ (b : Box). view_of (imp_is_up (imp_at imps f.source.imp)) (sender_at (imp_at imps f.source.imp) f) (imp_is_up (imp_at imps f.destination.imp)) (receiver_at (imp_at imps f.destination.imp) f) b) (t.crossings.boxes f other)
-            ∙ turn_view n i s turn f t.at (t.others f other);
+        view = still;
         packets = λ f other x. alive_beside n m made f g x t.only t.of_flow other;
         unseen = t.crossings.unseen;
       }) is.flows;
       imps = λ k. at_set IsAt n.imps i k (Some turn.state) None (is.imps k) t.sound;
       formats = All-weaker (Contains (packets n ++ made)) IsPacket (λ p there. All-contains IsPacket (packets n ++ made) p all there) (packets m) t.only;
       answers = set_messages Answerable n.imps i turn.state is.answers t.answers;
+      askable = λ f. elim (cases_Bool (same_flow f g)) [
+        | inl same ↦ subst (Askable m) (sym (same_flow-true f g same)) here
+        | inr other ↦ same_askable n m f (still f other) is
+      ];
     }
 
 -- ---- a silent turn
@@ -212,6 +224,7 @@ silent_turn n i s turn at still imp answers among is =
       imps = λ k. at_set IsAt n.imps i k (Some turn.state) None (is.imps k) imp;
       formats = formats_less n m among is.formats;
       answers = set_messages Answerable n.imps i turn.state is.answers answers;
+      askable = λ f. same_askable n m f (turn_view n i s turn f at (still f)) is;
     }
 
 -- ---- what waits at an IMP of a sound subnet
