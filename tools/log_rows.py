@@ -3,10 +3,13 @@
 Most are made of one short log, that of docs/audit.md, with something changed in it.
 """
 
+import re
+import subprocess
+
 from parts import ROOT
 
-with open(f"{ROOT}/logs/two-octets", encoding="utf-8") as file:
-    SHORT = file.read()
+with open(f"{ROOT}/logs/two-octets", encoding="utf-8") as log, open(f"{ROOT}/docs/audit.md", encoding="utf-8") as page:
+    SHORT, PAGE = log.read(), page.read()
 
 # ---- the short log with a text changed, and the verdict. Its crossings are the lines 1 to 9, its lives 10 and 11, its lists 12 and 13
 
@@ -135,8 +138,19 @@ def ends(wanted):
     return 0 if wanted == "kept" else 4, f"{wanted}\n", ""
 
 
+def rows_of_page():
+    """The changes of the page's log, as sed makes them, and what the page says of each."""
+    if f"```text\n{SHORT}```" not in PAGE:
+        raise ValueError("docs/audit.md has another log than logs/two-octets")
+    for script, said in re.findall(r"^\| `sed '(.*)'` \| `?([^|`]*?)`? \|", PAGE, re.MULTILINE):
+        changed = subprocess.run(["sed", script], input=SHORT.encode(), capture_output=True, check=True).stdout
+        wanted = int(said.split()[-1]) if said.startswith("bad log line") else said
+        yield changed, ends(wanted)
+
+
 def rows():
     """Each log, and how the program has to end on it."""
+    yield from rows_of_page()
     for text, other, wanted in VERDICTS:
         if text not in SHORT:
             raise ValueError(f"the short log has no {text}")
