@@ -172,6 +172,14 @@ def different_line(found, owed):
     return f"prints {found[at : at + 1]} as line {at + 1}, for {owed[at : at + 1]}"
 
 
+def check_stored():
+    """What is wrong with the stored logs and inputs of the folder `logs`."""
+    cases = [*cases_below(f"{ROOT}/logs")]
+    found = [(case, run(case.octets, *case.args.decode().split())) for case in cases]
+    print(f"check audit: {len(cases)} stored in the folder `logs`")
+    return [f"{case.name}: {ended}" for case, ended in found if ended != (case.status, case.printed.decode(), case.words)]
+
+
 def check_inputs():
     cases = [case for folder in ("examples", "cases") for case in cases_below(f"{ROOT}/{folder}")]
     with ThreadPoolExecutor(CORES) as threads:
@@ -248,7 +256,7 @@ def main():
     if PROGRAM is None:
         print("check audit: there is no program of these sources")
         return 1
-    wrong = [*check_logs(), *check_options(), *check_inputs(), *check_without(), *check_chance(count)]
+    wrong = [*check_logs(), *check_stored(), *check_options(), *check_inputs(), *check_without(), *check_chance(count)]
     print(*wrong[:20], sep="\n", end="\n" if wrong else "")
     print(f"check audit: {len(wrong)} wrong" if wrong else "check audit: the program says what it should of each log, and prints the logs that it should")
     return 1 if wrong else 0
