@@ -47,8 +47,8 @@ VERDICTS = [
     (SENDER + "\n", "", "malformed line 12"),
     (RECEIVER + "\n" + SENDER + "\n", "", "malformed line 10"),
     # partners
-    (f"{SENDER}\n{LIST}", f"{SENDER}\n{RECEIVER}\n{LIST}{LIST}", "broken partners line 10"),
-    (f"{SENDER}\n{LISTS}", f"{SENDER}\n{SENDER}\n{LISTS}handed 24 484950\n", "broken partners line 11"),
+    (f"{SENDER}\n{LIST}", f"{SENDER}\n{RECEIVER}\n{LIST}{LIST}", "broken partners line 12"),
+    (f"{SENDER}\n{LISTS}", f"{SENDER}\n{SENDER}\n{LISTS}handed 24 484950\n", "broken partners line 12"),
     ("33 0/1 16 3 1", "33 0/1 18 3 1", "broken streams line 10"),
     # streams
     ("open 4849\nlife", "open 4848\nlife", "broken streams line 10"),

@@ -9,7 +9,7 @@ import re
 from dataclasses import replace
 from typing import NamedTuple
 
-from audit_rules import audit, is_granted, is_well_formed, match, messages_are_kept, own_request, partner_request
+from audit_rules import audit, is_granted, is_well_formed, match, messages_are_kept, partners_are_kept
 from crossings import spell_crossing
 from script_rules import FLOW, HOST, MOST_TEXT, BadLine, opened, read_bits, read_flow, read_line, read_number, spelled_text
 from world_rules import Life
@@ -155,7 +155,9 @@ def verdict(book):
     if part == "malformed":
         return f"malformed line {len(log) + first(lives, lambda life: not is_well_formed(log, [life]))}"
     if part == "messages":
-        return f"broken messages line {first_break(log)}"
+        return f"broken messages line {first_break(log, messages_are_kept)}"
+    if part == "partners":
+        return f"broken partners line {len(log) + first_break(lives, lambda lives: partners_are_kept(log, lives))}"
     if part:
         return f"broken {part} line {len(log) + first(lives, lambda life: FAILS[part](log, lives, life))}"
     return "kept"
@@ -173,27 +175,12 @@ def first(lives, is_meant):
     return next(place for place, life in enumerate(lives, 1) if is_meant(life))
 
 
-def first_break(log):
-    """The number of crossings with which what is promised of messages is first broken."""
-    return next(count for count in range(1, len(log) + 1) if not messages_are_kept(log[:count]))
+def first_break(entries, are_kept):
+    """The place, counted from 1, of the entry with which those up to it first break what is promised of them."""
+    return next(count for count in range(1, len(entries) + 1) if not are_kept(entries[:count]))
 
 
 # ---- whether a part fails at a life
-
-
-def partners_fail(log, lives, life):
-    """A later life has its own request, or its partner's one; or the life whose own request is its partner's is no partner of it."""
-    partner, own = partner_request(log, life), own_request(life)
-    later = lives[next(place for place, it in enumerate(lives) if it is life) + 1 :]
-    if partner[0] is None or any(own_request(it) == own or is_asked_alike(log, it, life) for it in later):
-        return True
-    partners = [it for it in lives if own_request(it) == partner]
-    return any((it.host, it.peer) != (life.peer, life.host) or partner_request(log, it) != own for it in partners)
-
-
-def is_asked_alike(log, life, other):
-    """Whether two lives have one partner's request."""
-    return (life.socket, life.foreign) == (other.socket, other.foreign) and partner_request(log, life) == partner_request(log, other)
 
 
 def streams_fail(log, lives, life):
@@ -210,4 +197,4 @@ def grants_fail(log, lives, life):
     return not all(is_granted(life, it.messages, len(it.bits)) for it in passed)
 
 
-FAILS = {"partners": partners_fail, "streams": streams_fail, "grants": grants_fail}
+FAILS = {"streams": streams_fail, "grants": grants_fail}

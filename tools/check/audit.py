@@ -51,9 +51,10 @@ WRONG_READINGS = [
     ("lists may be more", " if len(handed) > len(lives) else None", " if False else None"),
     ("a life too many is told of its list", "        return len(handed) + 1", "        return len(lives) + len(handed)"),
     ("the line of a life is that of its number", 'return f"broken {part} line {len(log) + first', 'return f"broken {part} line {first'),
-    ("a break is told of the crossing before it", "for count in range(1, len(log) + 1) if not messages_are_kept(log[:count])", "for count in range(len(log)) if not messages_are_kept(log[: count + 1])"),
+    ("a break is told of the crossing before it", "for count in range(1, len(entries) + 1) if not are_kept(entries[:count])", "for count in range(len(entries)) if not are_kept(entries[: count + 1])"),
     ("the last life is told that is malformed", "enumerate(lives, 1)", "[*enumerate(lives, 1)][::-1]"),
-    ("the life is told with which partners first fail", "later = lives[next(place for place, it in enumerate(lives) if it is life) + 1 :]", "later = lives[: next(place for place, it in enumerate(lives) if it is life)]"),
+    ("the first of two lives is told", "first_break(lives, lambda lives: partners_are_kept(log, lives))", "first(lives, lambda life: not partners_are_kept(log, [it for it in lives if it == life]))"),
+    ("a life is told that breaks partners with a later one", "first_break(lives, lambda lives: partners_are_kept(log, lives))", "first_break(lives[::-1], lambda lives: partners_are_kept(log, lives))"),
     ("what is wrong with a stream is told of its sender too", "return not life.handed.startswith(life.bits)", "return True"),
     ("what is not granted is told of the sender too", "if life.receives() else []\n    return not all", "if life.receives() else []\n    return not life.receives() or not all"),
 ]
@@ -71,7 +72,7 @@ def run(octets, *options):
 def compared(what, octets, owed):
     """What is wrong with the audit of a log, None where nothing is."""
     if (found := run(octets, "--audit")) != owed:
-        return f"{what}: found {found}, wanted {owed}, of\n{octets.decode('latin-1')[-4000:]}"
+        return f"{what}: found {found}, wanted {owed}, of {octets[-1000:]}"
     return None
 
 
@@ -257,6 +258,6 @@ def main():
         print("check audit: there is no program of these sources")
         return 1
     wrong = [*check_logs(), *check_stored(), *check_options(), *check_inputs(), *check_without(), *check_chance(count)]
-    print(*wrong[:20], sep="\n", end="\n" if wrong else "")
+    print(*wrong[:10], sep="\n", end="\n" if wrong else "")
     print(f"check audit: {len(wrong)} wrong" if wrong else "check audit: the program says what it should of each log, and prints the logs that it should")
     return 1 if wrong else 0
