@@ -14,6 +14,7 @@ from crossings import spell_crossing
 from script_rules import FLOW, HOST, MOST_TEXT, BadLine, opened, read_bits, read_flow, read_line, read_number, spelled_text
 from world_rules import Life
 
+MOST_OCTETS = 33_554_432
 NUMBER = r"(0|[1-9][0-9]{0,38})"  # none of 128 bits has more digits
 OCTETS = r"(-|(?:[0-9A-F][0-9A-F])+)"
 MESSAGE = re.compile(f"(out|in) {FLOW} {NUMBER} {OCTETS}")
@@ -137,6 +138,8 @@ def ends_log(network, lines):
 
 def ends_audit(octets):
     """How `--audit` ends on a log: its status, its output and its words."""
+    if len(octets) > MOST_OCTETS:
+        return 2, "", "arpasim: log too long\n"
     try:
         book = read_log(octets)
     except BadLog as line:

@@ -4,7 +4,8 @@ Tries what the program says of logs and prints as logs, against an independent r
 
 - Logs that were written by hand (tools/log_rows.py), each with its verdict or the number of its bad line. Readings of these rules
   that are wrong in one place have to be told from the right one by these.
-- Each prefix of a short log, and the same log with each octet changed to 00, 7F and FF.
+- Each prefix of a short log, and the same log with each octet changed to 00, 7F and FF; logs of as many octets as may be read, and of
+  one more.
 - What `--log` prints of each example and each stored input is the log that the model makes of it, and `--audit` says `kept`.
 - The books that break where a rule is lacking, in the folder `without`: the part that each file names is told.
 - Books made by chance (tools/book_chance.py): COUNT of worlds that the model runs, every other one broken on purpose in one place,
@@ -65,7 +66,7 @@ WRONG_READINGS = [
 
 def run(octets, *options):
     """How the program ends: its status, its output and its words."""
-    ran = subprocess.run([PROGRAM, *options], input=octets, capture_output=True, timeout=120)
+    ran = subprocess.run([PROGRAM, *options], input=octets, capture_output=True, timeout=600)
     return ran.returncode, ran.stdout.decode("latin-1"), ran.stderr.decode("latin-1")
 
 
@@ -173,6 +174,14 @@ def different_line(found, owed):
     return f"prints {found[at : at + 1]} as line {at + 1}, for {owed[at : at + 1]}"
 
 
+def check_long():
+    """What is wrong with logs of so many octets as are read, and of one more. The first line of each is bad."""
+    rows = [(b"\n" * 33_554_432, (2, "", "arpasim: bad log line 1\n")), (b"\n" * 33_554_433, (2, "", "arpasim: log too long\n"))]
+    found = [(len(octets), owed, run(octets, "--audit"), ends_audit(octets)) for octets, owed in rows]
+    print("check audit: a log of 33,554,432 octets, and one of 33,554,433")
+    return [f"a log of {count} octets: found {ended}, in Python {in_python}, wanted {owed}" for count, owed, ended, in_python in found if not ended == in_python == owed]
+
+
 def check_stored():
     """What is wrong with the stored logs and inputs of the folder `logs`."""
     cases = [*cases_below(f"{ROOT}/logs")]
@@ -257,7 +266,7 @@ def main():
     if PROGRAM is None:
         print("check audit: there is no program of these sources")
         return 1
-    wrong = [*check_logs(), *check_stored(), *check_options(), *check_inputs(), *check_without(), *check_chance(count)]
+    wrong = [*check_logs(), *check_long(), *check_stored(), *check_options(), *check_inputs(), *check_without(), *check_chance(count)]
     print(*wrong[:10], sep="\n", end="\n" if wrong else "")
     print(f"check audit: {len(wrong)} wrong" if wrong else "check audit: the program says what it should of each log, and prints the logs that it should")
     return 1 if wrong else 0
