@@ -176,7 +176,7 @@ def different_line(found, owed):
 
 def check_long():
     """What is wrong with logs of so many octets as are read, and of one more. The first line of each is bad."""
-    rows = [(b"\n" * 33_554_432, (2, "", "arpasim: bad log line 1\n")), (b"\n" * 33_554_433, (2, "", "arpasim: log too long\n"))]
+    rows = [(b"x" * 33_554_432, (2, "", "arpasim: bad log line 1\n")), (b"x" * 33_554_433, (2, "", "arpasim: log too long\n"))]
     found = [(len(octets), owed, run(octets, "--audit"), ends_audit(octets)) for octets, owed in rows]
     print("check audit: a log of 33,554,432 octets, and one of 33,554,433")
     return [f"a log of {count} octets: found {ended}, in Python {in_python}, wanted {owed}" for count, owed, ended, in_python in found if not ended == in_python == owed]
