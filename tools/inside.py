@@ -86,17 +86,17 @@ class Inside:
         return f"IMP {number} {words} {listed(told)}." if told else ""
 
     def ways(self, number):
-        """For each other IMP whether a way to it is known."""
+        """For each other IMP whether a route to it is known."""
         imp = self.subnet.imps[number]
         return {it: imp is not None and imp.route(it) is not None for it in self.subnet.sites if it != number}
 
     def new_ways(self, number, before):
-        """How the ways that an IMP knows have changed."""
+        """How the routes that an IMP knows have changed."""
         now = self.ways(number)
         gained = [f"IMP {it}" for it in now if now[it] and not before[it]]
         lost = [f"IMP {it}" for it in now if before[it] and not now[it]]
-        told = f"It now knows a way to {listed(gained)}." if gained else ""
-        return f"{told} It knows no way to {listed(lost)} any more.".strip() if lost else told
+        told = f"It now knows a route to {listed(gained)}." if gained else ""
+        return f"{told} It no longer knows a route to {listed(lost)}.".strip() if lost else told
 
     # ---- messages
 
@@ -129,9 +129,9 @@ class Inside:
             return f"Host {spell_host(destination)} is down or not there, and its own IMP knows, so Dead waits for the source at once."
         steps = hops(self.subnet, number, far)
         if steps is None:
-            return f"No way leads from IMP {number} to IMP {far}, so Dead waits for the source at once."
+            return f"No route leads from IMP {number} to IMP {far}, so Dead waits for the source at once."
         knows = any(any(self.ways(it).values()) for it in self.subnet.sites)
-        who = f"IMP {number} knows no way to IMP {far} yet" if knows else "No IMP knows a way yet"
+        who = f"IMP {number} knows no route to IMP {far} yet" if knows else "No IMP knows a route yet"
         return f"{who}: put `calm {steps}` first. So Dead waits for the source at once."
 
     def see_take(self, host):
@@ -144,7 +144,7 @@ class Inside:
             if flow[0][1] == host[1]:
                 return [f"Its source is at the same IMP, so the RFNM waits for host {spell_host(flow[0])} at once."]
             sent = self.sendings(host[1])
-            return [sent or f"The RFNM waits in the store of IMP {host[1]}." if self.leads(host[1], flow[0][1]) else f"IMP {host[1]} knows no way to IMP {flow[0][1]}, so no RFNM goes back."]
+            return [sent or f"The RFNM waits in the store of IMP {host[1]}." if self.leads(host[1], flow[0][1]) else f"IMP {host[1]} knows no route to IMP {flow[0][1]}, so no RFNM goes back."]
 
         return told if flow is not None or not self.answers_of(host) else None
 
@@ -201,7 +201,7 @@ class Inside:
         if content is None:
             return ""
         if content[0] == "routes":
-            return self.new_ways(number, was.ways) or "The ways that it knows stay the same."
+            return self.new_ways(number, was.ways) or "The routes that it knows stay the same."
         if was.is_repeat:
             return "It came before, so it is only acknowledged again."
         if imp.lost > was.lost:
@@ -215,7 +215,7 @@ class Inside:
     def passed_on(self, number, packet, ways):
         to = (packet[1][1] if packet[0] == DATA else packet[1][0])[1]
         if not ways.get(to):
-            return f"IMP {number} knows no way to IMP {to}, so the packet is dropped."
+            return f"IMP {number} knows no route to IMP {to}, so the packet is dropped."
         return self.sendings(number, "sends on") or f"IMP {number} stores it: all channels of the line towards IMP {to} are busy."
 
     def taken_in(self, was, imp, kind, flow, message):
@@ -292,14 +292,14 @@ class Inside:
         told = f"{listed([packet_in_words(it) for it in held])} went back to the store."
         told = [told[0].upper() + told[1:], self.sendings(number)]
         if gone:
-            told.append(f"No way is left for {listed(gone)}: dropped.")
+            told.append(f"No route is left for {listed(gone)}: dropped.")
         return " ".join(filter(None, told))
 
     def see_endup(self, number, line):
         if not self.is_up(number) or line >= len(self.subnet.ends) or number not in self.subnet.ends[line]:
             return None
         far = sum(self.subnet.ends[line]) - number
-        return lambda: [f"The end of line {line} at IMP {number} is up again. It knows no way over it until IMP {far} tells its distances (`route {far}` or a calm)."]
+        return lambda: [f"The end of line {line} at IMP {number} is up again. It knows no route over it until IMP {far} tells its distances (`route {far}` or a calm)."]
 
     # ---- stops and starts
 
@@ -357,13 +357,13 @@ class Inside:
         return [self.known_ways(before), left]
 
     def known_ways(self, before):
-        """Which ways the IMPs know that they did not know before."""
+        """Which routes the IMPs know that they did not know before."""
         now = {number: self.ways(number) for number in self.subnet.sites}
         if now == before:
             return ""
         if all(all(ways.values()) for ways in now.values()):
-            return "Now every IMP knows a way to every other."
-        told = [f"IMP {number} {'now knows a way' if now[number][it] else 'knows no way any more'} to IMP {it}" for number in now for it in now[number] if now[number][it] != before[number][it]]
+            return "Now every IMP knows a route to every other."
+        told = [f"IMP {number} {'now knows a route' if now[number][it] else 'no longer knows a route'} to IMP {it}" for number in now for it in now[number] if now[number][it] != before[number][it]]
         return f"{listed(told)}."
 
 

@@ -19,7 +19,7 @@ from urllib.parse import parse_qs
 
 MOST_OCTETS = 1_048_576  # of what a browser sends
 SECONDS = 60  # so long may a run take
-USAGE = "usage: ./explain --serve FILE [--seconds N]"
+USAGE = "usage: ./explain --serve FILE [--seconds N]\n(N seconds are the limit of one run, 60 without the option)"
 
 # what the form may do: no script, nothing from elsewhere; the page of a replay lies in a frame that can't reach the form
 POLICY = "default-src 'none'; style-src 'unsafe-inline'; frame-src 'self'; form-action 'self'; frame-ancestors 'none'; base-uri 'none'"
@@ -38,7 +38,7 @@ iframe {{ flex: 1; border: 0; border-left: 1px solid #888 }}
 {script}</textarea>
 <button>Run</button>
 </form>
-<iframe name="replay" title="The replay" sandbox="allow-scripts"></iframe>
+<iframe name="replay" title="The replay" sandbox="allow-scripts" srcdoc="&lt;p style='font: 16px system-ui, sans-serif; margin: 2em'&gt;Press Run to see the replay."></iframe>
 </body></html>
 """
 

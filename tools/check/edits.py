@@ -1,9 +1,10 @@
-"""Each planted bug of crates/*/wrong-bodies is refused by the proofs (minutes for a crate, hours for all): ./check edits [CRATE..]
+"""Each planted bug of crates/*/wrong-bodies is refused by the proofs (minutes for a crate, an hour for all): ./check edits [CRATE | CRATE/NAME ..]
 
-`rt must-fail` tries each edit of must-fail/ by itself, and each costs a start of the checker. Here edits of different functions of a
-crate are tried together, in a copy of the crate and of what its last check kept. An edit counts as refused only if its own
-function is refused, on its own grounds, and calls no function that isn't proved. What this leaves open is tried in a second
-and a third batch, and then alone, by `rt must-fail` in that copy. Nothing is written beside the copy, which is removed.
+`rt must-fail` tries each edit of must-fail/ by itself, and the first of a crate costs a whole check. Here edits of different
+functions of a crate are tried together, in a copy of the crate and of what its last check kept. A function is proved over the
+contracts of those it calls, so an edit counts as refused only at goals of its own function, which are printed. What a batch leaves
+open is tried alone. An edit that doesn't compile is named, and so is one that is refused only because a proof file names what it
+took away: neither says anything of the contract. Nothing is written beside the copy, which is removed.
 """
 
 import os
@@ -17,7 +18,8 @@ import time
 from drivers import crates_below
 from parts import ROOT
 
-BATCHES = 3
+# what antt says of a proof that names what is no longer there, or answers a goal that says nothing any more
+GONE = r"has no field|is not in scope|has no `|was not admitted|types are `Unit \{0\}` \(expected\)"
 
 
 class Edit:
@@ -27,7 +29,7 @@ class Edit:
         self.crate, self.path, self.name = crate, path, os.path.basename(path)
         with open(path, encoding="utf-8") as file:
             text = file.read()
-        self.files = [it.strip() for it in re.findall(r"^file: (.*)$", text, re.MULTILINE)]
+        self.files = sorted({it.strip() for it in re.findall(r"^file: (.*)$", text, re.MULTILINE)})
         self.pairs = re.findall(r"^old: (.*)\nnew: ?(.*)$", text, re.MULTILINE)
         self.function = self.function_of()
 
@@ -52,12 +54,15 @@ class Edit:
         if len(found) != 1:
             return None
         ((owner, name),) = found
+        if owner:  # named by the module of its type, which may be another
+            return rf"{self.crate}::(?:\w+::)*{owner}[\w+]*::{name}(?=$|::)"
         module = "::".join([self.crate, *(it for it in self.files[0][len("src/") : -len(".rt")].split("/") if it not in ("lib", "main", "mod"))])
-        of_type = rf"{owner}\w*::" if owner else ""
-        return rf"{module}::(?:fn::)?{of_type}{name}(?=$|::)"
+        return rf"{module}::(?:fn::)?{name}(?=$|::)"
 
     def applied(self, texts):
         """The texts with this edit, None where it doesn't fit them."""
+        if len(self.files) != 1 or not self.pairs:
+            return None
         text = texts.get(self.files[0]) or self.source()
         for old, new in self.pairs:
             if text.count(old) != 1:
@@ -77,16 +82,39 @@ def first_batch(edits):
     return batch, texts
 
 
-def is_refused(edit, said):
-    """Whether the checker refused the function of an edit on its own grounds: a goal of it or of a closure in it is not proved, and no other function that it calls is unproved."""
-    own = {name: why for name, why in re.findall(r"^fn (\S+): (.*)$", said, re.MULTILINE) if re.match(edit.function, name)}
-    refused = False
-    for name, why in own.items():
-        called = re.findall(r"`([\w:+<>]+::[\w:+<>]+)`", why.partition("it calls ")[2])
-        if any(it not in own for it in called):
-            return False
-        refused = refused or why.startswith(("no proof: expected answers in", "not proved")) and not re.match(r"(not proved|no proof); it (calls|waits)", why)
-    return refused
+def answer_errors(name, said):
+    """The errors in the answers to the goals of a function."""
+    folder = "/".join(it for it in name.split("::")[1:] if it != "fn")
+    return re.findall(rf"^(?:\./)?proofs/{re.escape(folder)}/[\w/]*\.antt:\d+:\d+: error: (.*)$", said, re.MULTILINE)
+
+
+def open_goals(said):
+    """The goals that are not proved, of each function that has any. That it calls a function which isn't proved is no goal of its own."""
+    found = {}
+    for name, why in re.findall(r"^fn (\S+): (.*)$", said, re.MULTILINE):
+        if why.startswith("no proof: expected answers in"):
+            found[name] = re.findall(r"`([\w-]+)`", why.partition("did not prove")[2].partition("; it ")[0])
+        elif why.startswith("not proved"):
+            errors = answer_errors(name, said)
+            if errors and not all(re.search(GONE, it) for it in errors):
+                found[name] = [f"the answer to {it[1]}: {it[2][:120]}" if (it := re.match(r"`([\w-]+)`: (.*)", error)) else f"an answer: {error[:120]}" for error in errors]
+    return {name: goals for name, goals in found.items() if goals}
+
+
+def refusal(edit, said):
+    """The goals of its own at which the checker refused the function of an edit, or a closure in it; "" where it didn't."""
+    return ", ".join(dict.fromkeys(goal for name, goals in open_goals(said).items() if re.match(edit.function, name) for goal in goals))
+
+
+def not_compiled(batch, texts, said):
+    """The edits of a batch at whose lines the compiler stopped."""
+    found = []
+    for edit in batch:
+        lines = texts[edit.files[0]].split("\n")
+        at = {number for number, line in enumerate(lines, 1) if any(new and new in line for _, new in edit.pairs)}
+        if any(path == edit.files[0] and int(number) in at for path, number in re.findall(r"^(?:\./)?(src/\S+?):(\d+):\d+: error\[", said, re.MULTILINE)):
+            found.append(edit)
+    return found
 
 
 class Copy:
@@ -98,7 +126,8 @@ class Copy:
             lines = dict(re.match(r"(\w+)[^:]*:(.*)", line).groups() for line in file if line.strip() and not line.startswith("#"))
         needed = crates_below({name: below.split() for name, below in lines.items()}, crate)
         for name in needed:
-            shutil.copytree(f"{ROOT}/crates/{name}", f"{folder}/crates/{name}", symlinks=True)
+            # of those below, what is built serves
+            shutil.copytree(f"{ROOT}/crates/{name}", f"{folder}/crates/{name}", symlinks=True, ignore=shutil.ignore_patterns(*["incremental"] * (name != crate)))
         with open(f"{folder}/crates.txt", "w", encoding="utf-8") as file:
             file.writelines(f"{name}:{lines[name]}\n" for name in needed)
         self.own = f"{folder}/crates/{crate}"
@@ -128,39 +157,63 @@ class Copy:
             shutil.rmtree(f"{self.own}/out")
             shutil.copytree(f"{self.folder}/kept", f"{self.own}/out", symlinks=True)
 
-    def alone(self, edits):
-        """What `rt must-fail` says of each of these edits."""
-        os.makedirs(f"{self.own}/must-fail")
-        for edit in edits:
-            shutil.copy(edit.path, f"{self.own}/must-fail/{edit.name}")
-        ran = subprocess.run(["rt", "must-fail", self.crate], cwd=self.folder, stdin=subprocess.DEVNULL, stdout=subprocess.PIPE, stderr=subprocess.STDOUT, text=True, errors="replace")
-        said = dict(re.findall(rf"must-fail {self.crate}/([\w.-]+\.edit): (.*)", ran.stdout))
-        return {edit: said.get(edit.name, f"NOT TRIED: {ran.stdout[-500:]}") for edit in edits}
+
+def verdict_alone(edit, said):
+    """What a check with this edit alone says of it, as whether it is refused and in words."""
+    if not re.search(r"^logic=", said, re.MULTILINE):
+        error = re.search(r"^.*\berror.*$", said, re.MULTILINE)
+        return False, f"DOES NOT COMPILE: {error[0] if error else said[-300:]}"
+    if re.search(r"^logic=proved", said, re.MULTILINE):
+        return False, "NOT REFUSED: the crate is still proved with this edit"
+    goals = refusal(edit, said) if edit.function else "; ".join(f"{name}: {', '.join(goals)}" for name, goals in open_goals(said).items())
+    if goals:
+        return True, f"refused, alone ({goals})"
+    errors = re.findall(r"^(?:\./)?\S+:\d+:\d+: error.*$|^fn \S+: (?!proved$).*$", said, re.MULTILINE)
+    return False, f"SAYS NOTHING: it is refused, but at no goal of its own function: {'; '.join(errors)[:400]}"
 
 
-def try_batches(copy, edits):
-    """Tries edits together. Gives those that stay open, and prints those that are refused."""
-    left = edits
-    for number in range(BATCHES):
-        batch, texts = first_batch(left)
+def try_all(copy, edits):
+    """Tries the edits, together where that can tell. Gives those that are not refused, and prints what comes of each."""
+    waiting, alone, failed, batches = edits, [], [], 0
+    while True:
+        batch, texts = first_batch(waiting)
+        waiting = [it for it in waiting if it not in batch]
         if len(batch) < 2:
             break
+        batches += 1
         said = copy.check_with(texts)
-        refused = [it for it in batch if is_refused(it, said)]
-        for edit in refused:
-            print(f"{copy.crate}/{edit.name}: refused (in batch {number + 1}, with {len(batch) - 1} others)", flush=True)
-        # what this batch left open comes last, so that the next one begins with others
-        left = [it for it in left if it not in batch] + [it for it in batch if it not in refused]
-        if not refused and not re.search(r"^fn ", said, re.MULTILINE):
-            break  # one of them was not read at all
-    return left
+        if not re.search(r"^fn ", said, re.MULTILINE):
+            bad = not_compiled(batch, texts, said)
+            alone += bad or batch
+            waiting = [it for it in batch if bad and it not in bad] + waiting
+            continue
+        # a function without an edit has no open goals, whatever it calls; where one has some, the batch doesn't tell whose they are
+        others = [name for name in open_goals(said) if not any(re.match(it.function, name) for it in batch)]
+        for edit in batch:
+            if not others and (goals := refusal(edit, said)):
+                print(f"{copy.crate}/{edit.name}: refused, in batch {batches} ({goals})", flush=True)
+            else:
+                alone.append(edit)
+        if others:
+            print(f"{copy.crate}: batch {batches} tells nothing, since it leaves goals open in {', '.join(others)}", flush=True)
+    for edit in batch + waiting + alone:
+        texts = edit.applied({})
+        is_refused, words = verdict_alone(edit, copy.check_with(texts)) if texts else (False, "DOES NOT FIT: what it replaces doesn't stand once in its file")
+        print(f"{copy.crate}/{edit.name}: {words}", flush=True)
+        if not is_refused:
+            failed.append(edit)
+    return failed
 
 
-def check_crate(crate):
-    """Tries the edits of a crate. Gives how many are refused, and how many are not."""
-    begun = time.monotonic()
+def edits_of(crate):
     folder = f"{ROOT}/crates/{crate}/wrong-bodies"
-    edits = [Edit(crate, f"{folder}/{it}") for it in sorted(os.listdir(folder)) if it.endswith(".edit")]
+    return [Edit(crate, f"{folder}/{it}") for it in sorted(os.listdir(folder)) if it.endswith(".edit")]
+
+
+def check_crate(crate, names):
+    """Tries the edits of a crate, all of them or those that are named. Gives how many are refused, and how many are not."""
+    begun = time.monotonic()
+    edits = [it for it in edits_of(crate) if not names or it.name.removesuffix(".edit") in names]
     with tempfile.TemporaryDirectory(prefix="edits-") as room:
         copy = Copy(crate, room)
         status, said = copy.check()
@@ -168,24 +221,26 @@ def check_crate(crate):
             print(f"{crate}: its edits can't be tried, since it is not proved as it stands:\n{said[-2000:]}")
             return 0, len(edits)
         copy.keep()
-        left = try_batches(copy, edits)
-        came_to = copy.alone(left) if left else {}
-    for edit, what in came_to.items():
-        print(f"{crate}/{edit.name}: {'refused (alone)' if what.startswith('refused') else what}", flush=True)
-    failed = sum(not what.startswith("refused") for what in came_to.values())
-    print(f"{crate}: {len(edits) - failed} of {len(edits)} refused, {len(left)} of them tried alone, {time.monotonic() - begun:.0f} seconds", flush=True)
-    return len(edits) - failed, failed
+        failed = try_all(copy, edits)
+    print(f"{crate}: {len(edits) - len(failed)} of {len(edits)} refused, {time.monotonic() - begun:.0f} seconds", flush=True)
+    return len(edits) - len(failed), len(failed)
 
 
 def main():
     having = [it for it in sorted(os.listdir(f"{ROOT}/crates")) if os.path.isdir(f"{ROOT}/crates/{it}/wrong-bodies")]
-    asked = sys.argv[1:] or having
-    if unknown := [it for it in asked if it not in having]:
-        print(f"check edits: no planted bugs stand in crates/{unknown[0]}/wrong-bodies; there are some in {', '.join(having)}")
-        return 1
+    asked = {}
+    for word in sys.argv[1:] or having:
+        crate, _, name = word.partition("/")
+        if crate not in having:
+            print(f"check edits: no planted bugs stand in crates/{crate}/wrong-bodies; there are some in {', '.join(having)}")
+            return 1
+        if name and name not in [it.name.removesuffix(".edit") for it in edits_of(crate)]:
+            print(f"check edits: no planted bug of {crate} is called {name}")
+            return 1
+        asked.setdefault(crate, []).extend([name] if name else [])
     refused = failed = 0
-    for crate in asked:
-        counts = check_crate(crate)
+    for crate, names in asked.items():
+        counts = check_crate(crate, names)
         refused, failed = refused + counts[0], failed + counts[1]
     print(f"{refused} refused, {failed} not")
     return 1 if failed else 0

@@ -29,55 +29,56 @@ from parts import ROOT, loaded
 
 explain, model, subnets = loaded("explain"), loaded("tools/check/model.py"), loaded("tools/check/subnet.py")
 
-from decode import text_in_words  # noqa: E402 (explain has put tools/ on the path)
+import refused  # noqa: E402 (explain has put tools/ on the path)
+from decode import text_in_words  # noqa: E402
 from inside import Inside  # noqa: E402
 from script_rules import read_line  # noqa: E402
 
 # a script line, and words of the cause that is meant
 BAD_LINES = [
-    (b"jump", "`jump` is no event"),
+    (b"jump", "`jump` is not an event"),
     (b"tak 0/1", "Is `take` meant?"),
     (b"Take 0/1", "Is `take` meant?"),
-    (b"%", "a second one is no event"),
+    (b"%", "A second one is not an event"),
     (b"take 0/1\r", "carriage return"),
-    (b"take\t0/1", "no printable ASCII"),
+    (b"take\t0/1", "not a printable ASCII"),
     (b"take  0/1", "single spaces"),
     (b"take 0/1 ", "single spaces"),
     (b" ", "single spaces"),
-    (b"take", "is followed by 1 word: take H. Here are 0"),
-    (b"out 0/1 0/2 5 0", "is followed by 5 words: out S D N BITS OCTETS. Here are 4"),
-    (b"take 1", "`1` is no host"),
+    (b"take", "needs 1 word after it: take H. This line has 0"),
+    (b"out 0/1 0/2 5 0", "needs 5 words after it: out S D N BITS OCTETS. This line has 4"),
+    (b"take 1", "`1` is not a host"),
     (b"take 4/1", "out of range: the host's number is 0 to 3"),
     (b"take 0/64", "out of range: the IMP's number is 1 to 63"),
     (b"take 0/0", "out of range: the IMP's number is 1 to 63"),
-    (b"take 00/1", "without sign and leading zeros"),
+    (b"take 00/1", "without a sign and without leading zeros"),
     (b"giveup 0/1 0/2 256", "out of range: the link is 0 to 255"),
-    (b"giveup 0/1 0/2 +1", "without sign and leading zeros"),
+    (b"giveup 0/1 0/2 +1", "without a sign and without leading zeros"),
     (b"giveup 0/1 0/2 4294967301", "out of range: the link is 0 to 255"),
     (b"out 0/1 0/2 5 8064 " + b"FF" * 1008, "out of range: the number of bits is 0 to 8063"),
     (b"out 0/1 0/2 5 0 00", "A text of no bits is written `0 -`"),
     (b"out 0/1 0/2 5 8 -", "`-` stands for no octets, but 8 bits are asked for"),
-    (b"out 0/1 0/2 5 8 ff", "small letters are not read"),
-    (b"out 0/1 0/2 5 8 FFF", "8 bits fill 1 octet, which are 2 hexadecimal digits. Here are 3"),
-    (b"out 0/1 0/2 5 24 4142", "24 bits fill 3 octets, which are 6 hexadecimal digits. Here are 4"),
-    (b"out 0/1 0/2 5 16 FF", "16 bits fill 2 octets, which are 4 hexadecimal digits. Here are 2"),
-    (b"out 0/1 0/2 5 8 FFFF", "8 bits fill 1 octet, which are 2 hexadecimal digits. Here are 4"),
+    (b"out 0/1 0/2 5 8 ff", "lower-case letters are not accepted"),
+    (b"out 0/1 0/2 5 8 FFF", "8 bits fill 1 octet, which are 2 hexadecimal digits. This line has 3"),
+    (b"out 0/1 0/2 5 24 4142", "24 bits fill 3 octets, which are 6 hexadecimal digits. This line has 4"),
+    (b"out 0/1 0/2 5 16 FF", "16 bits fill 2 octets, which are 4 hexadecimal digits. This line has 2"),
+    (b"out 0/1 0/2 5 8 FFFF", "8 bits fill 1 octet, which are 2 hexadecimal digits. This line has 4"),
     (b"out 0/1 0/2 5 8 FG", "hexadecimal digits, 0 to 9 and A to F"),
-    (b"out 0/1 0/2 5 08 FF", "without sign and leading zeros"),
+    (b"out 0/1 0/2 5 08 FF", "without a sign and without leading zeros"),
     (b"out 0/1 0/2 256 0 -", "out of range: the link is 0 to 255"),
     (b"impdown 64", "out of range: the IMP's number is 1 to 63"),
-    (b"resend", "is followed by 1 word: resend I. Here are 0"),
+    (b"resend", "needs 1 word after it: resend I. This line has 0"),
     (b"enddown 1 4294967296", "out of range: the line's number is 0 to 4294967295"),
-    (b"deliver 0 * 0", "`*` is no direction"),
-    (b"drop 0 - 01", "without sign and leading zeros"),
+    (b"deliver 0 * 0", "`*` is not a direction"),
+    (b"drop 0 - 01", "without a sign and without leading zeros"),
     (b"forget 1 0", "out of range: the IMP's number is 1 to 63"),
     (b"abandon 0/1 0/64 5", "out of range: the IMP's number is 1 to 63"),
-    (b"calm", "is followed by 1 word: calm ROUNDS. Here are 0"),
-    (b"calm 01", "without sign and leading zeros"),
+    (b"calm", "needs 1 word after it: calm ROUNDS. This line has 0"),
+    (b"calm 01", "without a sign and without leading zeros"),
     (b"calm 4294967296", "out of range: the number of rounds is 0 to 4294967295"),
     (b"offer 0/1", "`offer` is an event of networks with host programs"),
-    (b"out 0/1 0/2 5 7 FF", "7 bits leave the last 1 bit of the last octet over, which has to be zero"),
-    (b"out 0/1 0/2 5 1 FF", "1 bit leaves the last 7 bits of the last octet over, which have to be zero"),
+    (b"out 0/1 0/2 5 7 FF", "7 bits leave 1 bit of the last octet unused, which has to be zero"),
+    (b"out 0/1 0/2 5 1 FF", "1 bit leaves 7 bits of the last octet unused, which have to be zero"),
 ]
 
 # an example, the line of a refused event in it, and words of the cause that is meant
@@ -106,17 +107,17 @@ CHANGES = [
 # an example, the line of an event in it, and words of what is told of the inside
 INSIDES = [
     ("first-message", 13, "That of line 11 waits for host 0/2"),
-    ("no-route-is-dead-at-once", 13, "No IMP knows a way yet: put `calm 1` first."),
+    ("no-route-is-dead-at-once", 13, "No IMP knows a route yet: put `calm 1` first."),
     ("rerouted-over-a-triangle", 25, "IMP 1 sends message 0 of flow 0/1 0/2 5 to IMP 3 on line 1."),
     ("an-rfnm-is-lost", 16, "Message 0 of flow 0/1 0/2 9 arrives at IMP 2 from IMP 1, over line 0. The message is whole and now waits for host 0/2."),
     ("an-rfnm-is-lost", 17, "IMP 1 still holds it, not acknowledged, and sends it again at `resend 1`."),
     ("an-rfnm-is-lost", 18, "It acknowledges message 0 of flow 0/1 0/2 9."),
     ("an-rfnm-is-lost", 22, "Still alive: the RFNM for message 0 of flow 0/1 0/2 9, in channel 0 of line 0 at IMP 2"),
-    ("an-rfnm-is-lost", 26, "No way is left for the RFNM for message 0 of flow 0/1 0/2 9: dropped."),
+    ("an-rfnm-is-lost", 26, "No route is left for the RFNM for message 0 of flow 0/1 0/2 9: dropped."),
     ("a-repeat-is-taken-once", 18, "It came before, so it is only acknowledged again."),
     ("abandon-frees-a-slot", 15, "The message is not whole yet: a slot holds 1 of its pieces."),
     ("an-imp-comes-up-when-its-past-is-gone", 22, "IMP 2 still keeps the last numbers of flows from IMP 1. The next event to clear it: `forget 2 1`."),
-    ("arpanet-of-december-1969", 43, "No way leads from IMP 4 to IMP 1"),
+    ("arpanet-of-december-1969", 43, "No route leads from IMP 4 to IMP 1"),
 ]
 
 # the link and the octets of a text, and what it says
@@ -148,25 +149,26 @@ TEXTS = [
 # the example whose dialogue is told line by line
 DIALOGUE = "from-a-terminal-to-a-server"
 
-ONLY_RAW = "Only raw networks"  # no cause of a program that runs hosts' programs too
 GOOD = b'carrier = "plain"\nraw = true\n[[imp]]\nid = 1\nhosts = 1\n'
 # what stands before the script, and words of the cause that is meant
 BAD_TOPOLOGIES = [
     (GOOD, "No line is exactly `%`"),
-    (GOOD + b"% \n", "Line 6 has other octets beside it"),
-    (GOOD + b"%\r\n", "Line 6 has other octets beside it"),
-    (GOOD + b"# \xff\n%\n", "not UTF-8: see line 6"),
-    (GOOD + b"imp\n%\n", "no TOML document"),
-    (b"raw = false\n[[imp]]\nid = 1\nhosts = 1\n%\n", ONLY_RAW),
-    (b'carrier = "plain"\n[[imp]]\nid = 1\nhosts = 1\n%\n', ONLY_RAW),
+    (GOOD + b"% \n", "Line 6 of the file:\n  % \nNo line is exactly `%`"),
+    (GOOD + b"%\r\n", "It ends in a carriage return"),
+    (GOOD + b"# \xff\n%\n", "Line 6 of the file:\n  # \\xff\nThe topology is not UTF-8"),
+    (GOOD + b"imp\n%\n", "Line 6 of the file:\n  imp\nThe topology is not a TOML document"),
+    (b" \n", "The input is empty"),
+    (GOOD.decode().encode("utf-16"), "The file is UTF-16"),
+    (GOOD + b"take 0/1\n", "Line 6 of the file:\n  take 0/1\nNo line is exactly `%`, which separates the topology from the script. Does the script begin here?"),
+    (b"carier" + GOOD[7:] + b"%\n", "Line 1 of the file:\n  carier = \"plain\"\nThere is no key `carier`"),
     (b'carrier = "plain"\nraw = true\n%\n', "1 to 16 IMPs"),
-    (b'carrier = "plain"\nraw = true\nimps = 3\n%\n', "no key `imps`"),
-    (GOOD + b"[[imp]]\nid = 1\nhosts = 1\n%\n", "Two IMPs"),
-    (b'carrier = "plain"\nraw = "true"\n[[imp]]\nid = 1\nhosts = 1\n%\n', "`raw` is `true` or `false`"),
+    (b'carrier = "plain"\nraw = true\nimps = 3\n%\n', "Line 3 of the file:\n  imps = 3\nThere is no key `imps`"),
+    (GOOD + b"[[imp]]\nid = 1\nhosts = 1\n%\n", "Line 6 of the file:\n  [[imp]]\nTwo IMPs have the `id` 1"),
+    (b'carrier = "plain"\nraw = "true"\n[[imp]]\nid = 1\nhosts = 1\n%\n', "Line 2 of the file:\n  raw = \"true\"\n`raw` is `true` or `false`"),
     (GOOD + b"[[imp]]\nid = 2\n%\n", "exactly the keys id and hosts; here it has id"),
-    (GOOD + b"[[imp]]\nid = 2\nhosts = 5\n%\n", "whole number from 0 to 4"),
+    (GOOD + b"[[imp]]\nid = 2\nhosts = 5\n%\n", "Line 8 of the file:\n  hosts = 5\n`hosts` of `[[imp]]` is a whole number from 0 to 4"),
     (GOOD + b"[[imp]]\nid = 2\nhosts = true\n%\n", "whole number from 0 to 4"),
-    (GOOD + b"[[line]]\na = 1\nb = 2\n%\n", "from 1 to 2 does not join"),
+    (GOOD + b"[[line]]\na = 1\nb = 2\n%\n", "Line 6 of the file:\n  [[line]]\nThe line from 1 to 2 does not join"),
     (GOOD + b"[[imp]]\nid = 2\nhosts = 1\n[[line]]\na = 1\nb = 2\n[[line]]\na = 2\nb = 1\n%\n", "Two lines join"),
     (GOOD + b"[[imp]]\nid = 2\nhosts = 1\n[[line]]\na = 1\nb = 2\n[[line]]\na = 1\nb = 2\n%\n", "Two lines join"),
     (GOOD + b"[[imp]]\nid = 2\nhosts = 1\n[[line]]\na = 1\nb = 2\nc = 1\n%\n", "exactly the keys a and b; here it has a, b, c"),
@@ -330,10 +332,7 @@ def check_causes(program, seeds):
         status, said, _ = explain.replay(given, program)
         same((status, said), (2, "arpasim: bad script line 2\n"), line)
         same(words in explain.diagnose(given, said), True, f"{line}: {explain.diagnose(given, said)}")
-    runs = model.what_it_runs(model.Kept(program))
     for octets, words in BAD_TOPOLOGIES:
-        if words == ONLY_RAW and "worlds" in runs:
-            continue
         given = explain.Input(octets)
         status, said, _ = explain.replay(given, program)
         same((status, said), (1, "arpasim: bad topology\n"), octets[-80:])
@@ -342,9 +341,8 @@ def check_causes(program, seeds):
     for seed in range(seeds):
         chance = random.Random(seed)
         network = model.some_network(chance)
-        if not network[1] and "worlds" in runs:
-            network = network[0], True, *network[2:]
-        is_refused = explain.wrong_with_topology(explain.Input(f"{model.spelled(network)}\n%\n".encode())) is not None
+        network = network[0], True, *network[2:]
+        is_refused = refused.wrong_with_topology(explain.Input(f"{model.spelled(network)}\n%\n".encode())) is not None
         same(is_refused, not model.network_is_good(network), f"the topology {network}")
         bad += is_refused
         for line in model.some_script(chance, network)[:20]:
@@ -355,7 +353,7 @@ def check_causes(program, seeds):
             except model.BadLine:
                 is_bad = True
             octets = line.encode("latin-1")
-            why = explain.is_event(octets) and explain.wrong_with_line(octets)
+            why = explain.is_event(octets) and refused.wrong_with_line(octets)
             same(bool(why), is_bad, f"the line {line!r}: {why}")
             bad += is_bad
     print(f"check explain: a cause named for {len(BAD_LINES) + len(BAD_TOPOLOGIES)} inputs written by hand and for {bad} made by chance")
@@ -375,7 +373,7 @@ def check_worlds(seeds):
             except model.BadLine:
                 is_bad = True
             octets = line.encode("latin-1")
-            why = explain.is_event(octets) and explain.wrong_with_line(octets, raw=False)
+            why = explain.is_event(octets) and refused.wrong_with_line(octets, raw=False)
             same(bool(why), is_bad, f"the line {line!r} of a network with host programs: {why}")
             lines, bad = lines + 1, bad + is_bad
         for words in (output.split(" ") for output in script.world.printed + script.world.end_of_book()):

@@ -13,7 +13,7 @@ and writes are whole ones, as big as the program asks for. Of the other short ex
 examples in LONG, whose output is longer than what the program gathers before it writes, reads and writes move 500 octets, and
 then are whole ones; not each of their allocations fails.
 
-No refused allocation may end with status 0, save those that EXCEPTIONS says.
+So no refused allocation may end with status 0.
 
 Then it runs the program on an input that never ends, and on one of two million octets, of which it may read 1,048,577; and
 with an output that takes nothing.
@@ -43,11 +43,6 @@ FIVE = (
 LONG = ("numbers-come-round-under-a-stream",)
 LONGEST = 1000  # octets of a short example
 CORES = os.cpu_count() or 1
-# Where options are given, two lists of words are gathered before the input is read: the words of the command line, and the same
-# for the library that reads options. Each time the library of lists asks for room for all items at once, and where that is
-# refused it goes on item by item (`grow_by_hint` of `Vec`, below `words_of` and `Options::read`).
-EXCEPTIONS = 2
-NO_READS = "after 0 reads"
 
 
 class Way:
@@ -87,7 +82,7 @@ class Trial:
         self.program, self.before, self.room, self.name = program, before, room, os.path.basename(path)
         self.path = path
         self.words = self.beside(".args").decode().split()
-        self.wrong, self.exceptions = [], []
+        self.wrong = []
         self.whole = (int(self.beside(".status") or 0), self.beside(".stderr")), self.beside(".stdout")
         if self.run({}) != self.whole:
             self.wrong.append("without a failure it ends otherwise than it should")
@@ -115,25 +110,21 @@ class Trial:
                 self.wrong.append(f"{way.name}: nothing failed, and it ended otherwise: {ended}")
             return False
         with open(told, encoding="utf-8") as lines:
-            first, *later = lines.read().splitlines()
+            _, *later = lines.read().splitlines()
         os.remove(told)
-        if not self.is_right(way, ended, output, first, later):
+        if not self.is_right(way, ended, output, later):
             self.wrong.append(f"{way.name}, {number}: {ended}, written again: {len(later)}, output: {output!r}")
         return True
 
-    def is_right(self, way, ended, output, first, later):
+    def is_right(self, way, ended, output, later):
         """Whether a run may end so."""
         if way.how == "INTERRUPTED":
             return (ended, output) == self.whole
         if way.kind == "reads":
             return ended == CANNOT_READ and output == b""
-        is_prefix = self.whole[1].startswith(output)
-        if way.kind == "writes":
-            return ended == STOPPED and is_prefix and not later
-        if (ended, output) == self.whole and first == NO_READS and self.words:
-            self.exceptions.append(first)
-            return len(self.exceptions) <= EXCEPTIONS
-        return ended == STOPPED and is_prefix
+        if way.kind == "writes" and later:
+            return False
+        return ended == STOPPED and self.whole[1].startswith(output)
 
     def all_of(self, way, threads):
         """Has each call of a kind fail, and counts them."""
@@ -169,7 +160,7 @@ def main():
     if not compiler:
         print("check failures: NOT TRIED, for want of a C compiler")
         return 1 if os.environ.get("CI") else 0
-    wrong, total, without = 0, Counter(), 0
+    wrong, total = 0, Counter()
     paths = [f"{ROOT}/{folder}/{name}" for folder in ("examples", "logs") for name in sorted(os.listdir(f"{ROOT}/{folder}")) if "." not in name]
     paths = [it for it in paths if os.path.basename(it) in FIVE + LONG or os.path.getsize(it) <= LONGEST]
     with tempfile.TemporaryDirectory() as room, ThreadPoolExecutor(CORES) as threads:
@@ -183,8 +174,6 @@ def main():
             print(f"{trial.name}: failed in turn {'; '.join(f'{number} {way.name}' for number, way in failed)}")
             print(*sorted(trial.wrong), sep="\n", end="\n" if trial.wrong else "")
             wrong += len(trial.wrong)
-            without += len(trial.exceptions)
     print(f"check failures: {len(paths)} inputs; failed in turn {', '.join(f'{number} {kind}' for kind, number in total.items())}")
-    print(f"check failures: {without} allocations refused while words were gathered, without which the program goes on; after no other status 0")
     wrong += check_streams(program)
     return 1 if wrong else 0

@@ -94,7 +94,7 @@ def check_good(served):
     status, text, _ = served.run(example().replace("\n", "\r\n"))
     same((status, "answer rfnm 0/1 0/2 5" in text), (200, True), "a run with a browser's ends of lines")
     status, text, _ = served.run(example() + "<b>jump</b>\n")
-    same((status, "&lt;b&gt;jump&lt;/b&gt;" in text and "<b>jump" not in text, "is no event" in text), (422, True, True), "a bad line")
+    same((status, "&lt;b&gt;jump&lt;/b&gt;" in text and "<b>jump" not in text, "is not an event" in text), (422, True, True), "a bad line")
 
 
 def check_others(served):

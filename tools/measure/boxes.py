@@ -6,7 +6,7 @@ so that a busy machine slows both.
 The scripts fit into an input. They begin with as many messages as have room, which wait for 35 hosts, and then
 
 - a host for which nothing waits takes, again and again;
-- the messages are given up, the newest first;
+- the messages are given up, the newest first, or the oldest first;
 - a message is offered on each flow again, and refused;
 - a host that has sent nothing stops and starts, and one whose message waits stops and may not start again.
 
@@ -49,6 +49,11 @@ def givings_up(count):
     return out(waiting) + [f"giveup {flow}" for flow in reversed(FLOWS[:waiting])]
 
 
+def givings_up_in_order(count):
+    waiting = 45 * count // 100
+    return out(waiting) + [f"giveup {flow}" for flow in FLOWS[:waiting]]
+
+
 def refused_offers(count):
     return 2 * out(43 * count // 100)
 
@@ -58,7 +63,13 @@ def stops_and_starts(count):
     return out(count // 2) + [changes[at % 4] for at in range(count // 2)]
 
 
-SCRIPTS = {"takes where nothing waits": takes, "givings up from the newest": givings_up, "refused offers": refused_offers, "stops and starts": stops_and_starts}
+SCRIPTS = {
+    "takes where nothing waits": takes,
+    "givings up from the newest": givings_up,
+    "givings up from the oldest": givings_up_in_order,
+    "refused offers": refused_offers,
+    "stops and starts": stops_and_starts,
+}
 
 
 def printed(program, source):

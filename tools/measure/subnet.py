@@ -1,9 +1,14 @@
-"""How many hops and events a second a subnet runs: ./measure subnet [ROUNDS]
+"""How many hops and events a second a subnet runs: ./measure subnet [--program FILE] [--beside FILE] [--only WORDS] [ROUNDS]
 
-./build has to be run before. Two kinds of scripts are measured, each at one size and at ten times that size:
+./build has to be run before, or FILE is the program. With --beside, the program of an earlier state is run in turn with it, so
+that a busy machine slows both; both have to print the same. With --only, the kinds whose names have these words are measured.
+Each kind of script is measured at one size and at ten times that size:
 
 - messages over a chain of eight IMPs: eight messages at a time go from the first to the last, and then `calm` lets them
   and their RFNMs pass. Each makes 14 hops of a packet, besides the routes and acknowledgements that go along.
+- messages between 64 hosts, four at each of 16 IMPs in a ring: one from each host at a time, each for another host, and then
+  `calm` lets them and their RFNMs pass.
+- quiet rounds in that ring, with nothing but distances in transit: in each, 32 frames are delivered and 64 hosts take.
 - single events by chance in a ring of 16 IMPs with eight chords. The independent model of the rules in Python goes along, so
   that frames that are there are delivered and dropped, and messages are begun on idle flows.
 
@@ -13,8 +18,10 @@ and for ten times the events at most eleven times as long. It wants GNU time at 
 gate.
 """
 
+import argparse
 import random
 import statistics
+import subprocess
 import sys
 import tempfile
 
@@ -23,6 +30,7 @@ from parts import proved_program
 from subnet_rules import Subnet
 
 HOPS = 14
+RING = [(number, number % 16 + 1) for number in range(1, 17)]
 
 
 def network(imps, lines):
@@ -39,10 +47,23 @@ def chain(messages):
     return network(imps, [(number, number + 1) for number in range(1, 8)]), lines
 
 
+def between_many(messages):
+    hosts = [f"{host}/{number}" for number in range(1, 17) for host in range(4)]
+    lines = ["calm 16"]
+    for at in range(messages // 64):
+        lines += [f"out {source} {hosts[(place + 7 * at % 63 + 1) % 64]} {at % 8} 0 -" for place, source in enumerate(hosts)]
+        lines += ["calm 20"]
+    return network([(number, 4) for number in range(1, 17)], RING), lines
+
+
+def quiet(rounds):
+    return network([(number, 4) for number in range(1, 17)], RING), ["calm 100"] * (rounds // 100)
+
+
 def chance(events):
     chosen = random.Random(1972)
     imps = [(number, 1) for number in range(1, 17)]
-    ends = [(number, number % 16 + 1) for number in range(1, 17)] + [(number, number + 8) for number in range(1, 9)]
+    ends = RING + [(number, number + 8) for number in range(1, 9)]
     subnet = Subnet(imps, ends)
     lines = []
 
@@ -78,22 +99,59 @@ def input_of(head, lines):
 
 MEASURED = [
     ("messages over a chain of 8 IMPs", chain, (1_000, 10_000), "hops", HOPS),
+    ("messages between 64 hosts, 16 IMPs", between_many, (3_200, 32_000), "messages", 1),
+    ("quiet rounds of 64 hosts, 16 IMPs", quiet, (1_000, 10_000), "rounds", 1),
     ("single events by chance, 16 IMPs", chance, (8_000, 80_000), "events", 1),
 ]
 
 
+def printed(program, source):
+    with open(source, "rb") as octets:
+        return subprocess.run([program], stdin=octets, capture_output=True, check=True).stdout
+
+
+def alone(program, source, rounds):
+    """The median and the best processor time of so many runs."""
+    runs = [processor_time([program], source) for _ in range(rounds)]
+    return statistics.median(runs), min(runs)
+
+
+def beside(programs, source, rounds):
+    """The best processor time of each of two programs, run in turn."""
+    runs = [[processor_time([program], source) for program in programs] for _ in range(rounds)]
+    return [min(times) for times in zip(*runs)]
+
+
+def words_of():
+    words = argparse.ArgumentParser(prog="measure subnet")
+    words.add_argument("--program")
+    words.add_argument("--beside")
+    words.add_argument("--only", default="")
+    words.add_argument("rounds", nargs="?", type=int, default=11)
+    return words.parse_args()
+
+
 def main():
-    rounds = int(sys.argv[1]) if len(sys.argv) == 2 else 11
-    program = proved_program()
+    words = words_of()
+    program = words.program or proved_program()
     with tempfile.TemporaryDirectory() as folder:
-        print("| Measured | Count | Median | Best | A second | Most memory | Ten times the count |\n|---|---|---|---|---|---|---|")
+        if words.beside:
+            print("| Measured | Count | Before | After | Times | Ten times the count |\n|---|---|---|---|---|---|")
+        else:
+            print("| Measured | Count | Median | Best | A second | Most memory | Ten times the count |\n|---|---|---|---|---|---|---|")
         for name, make, counts, unit, each in MEASURED:
             short = 0
-            for count in counts:
+            for count in counts if words.only in name else []:
                 source = written(folder, f"{make.__name__}-{count}", input_of(*make(count)))
-                runs = [processor_time([program], source) for _ in range(rounds)]
-                median, best = statistics.median(runs), min(runs)
-                speed = f"{each * count / median:,.0f} {unit}"
+                if words.beside:
+                    if printed(words.beside, source) != printed(program, source):
+                        sys.exit(f"measure subnet: {name}: the two programs print something else")
+                    before, best = beside([words.beside, program], source, words.rounds)
+                    told = f"{1000 * before:.1f} ms | {1000 * best:.1f} ms | {before / best:.2f}"
+                else:
+                    median, best = alone(program, source, words.rounds)
+                    memory = most_memory(program, source)[0]
+                    told = f"{1000 * median:.1f} ms | {1000 * best:.1f} ms | {each * count / median:,.0f} {unit} | {memory:,} KiB"
                 growth = f"{best / short:.1f} times" if short else "-"
-                print(f"| {name} | {count:,} | {1000 * median:.1f} ms | {1000 * best:.1f} ms | {speed} | {most_memory(program, source)[0]:,} KiB | {growth} |", flush=True)
+                print(f"| {name} | {count:,} | {told} | {growth} |", flush=True)
                 short = best

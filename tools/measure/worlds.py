@@ -17,7 +17,10 @@ Over plain mailboxes alone:
 
 - ECOs that all wait to go out before the first of them does;
 - sockets that listen, and servers that wait, with nobody to ask them;
-- connections that are all open at once at one host of 64, at most 30 with each other host, and then close.
+- connections that are all open at once at one host of 64, at most 30 with each other host, and then close;
+- connections that are open at once over pairs of 64 hosts, ten with each, and initial connections over such pairs, all at once;
+- bits that are handed over to be sent and wait, since nobody grants anything, and bits for sockets that have no connection;
+- quiet rounds of 64 hosts that have nothing to say.
 
 Each is run at one size and at ten times that size. For each the median and the best processor time of the rounds are told,
 from the start of the process to its end, and the greatest memory; growth compares the best. At most eleven times as long
@@ -50,8 +53,17 @@ CARRIERS = {
         "0/2",
         1,
     ),
+    "a ring of 16 IMPs with 4 hosts": (
+        'carrier = "subnet"\nraw = false\n'
+        + "".join(f"[[imp]]\nid={number}\nhosts=4\n" for number in range(1, 17))
+        + "".join(f"[[line]]\na={number}\nb={number % 16 + 1}\n" for number in range(1, 17))
+        + "%\n",
+        "0/2",
+        9,
+    ),
 }
 BETWEEN_TWO = ["plain mailboxes", "a chain of 4 IMPs"]
+OF_64 = ["plain mailboxes of 64 hosts", "a ring of 16 IMPs with 4 hosts"]
 
 
 def octets(bits):
@@ -145,6 +157,48 @@ def at_one_host(_, __, count):
     return lines, {"opened": 2 * count, "ended": 2 * count}
 
 
+def pairs_of(count):
+    """So many pairs of the 64 hosts, as far apart as they go: each host has to do with a few others."""
+    hosts = [f"{host}/{imp}" for imp in range(1, 17) for host in range(4)]
+    return [(hosts[at % 64], hosts[(at + 1 + at // 64) % 64]) for at in range(count)]
+
+
+def over_pairs(_, rounds, count):
+    pairs = pairs_of(-(-count // 10))
+    lines = [f"calm {4 * rounds}", *(f"contact {one} {other}" for one, other in pairs), f"calm {6 * rounds}"]
+    for at in range(count):
+        one, other = pairs[at // 10]
+        lines += [f"listen {other} {2 * at + 101} 8", f"openrecv {one} {other} {2 * at + 100} {2 * at + 101}"]
+    lines += [f"calm {30 * rounds}"]
+    for at in range(count):
+        lines += [f"close {pairs[at // 10][0]} {2 * at + 100}"]
+    lines += [f"calm {30 * rounds}"]
+    return lines, {"opened": 2 * count, "ended": 2 * count}
+
+
+def initial_over_pairs(_, rounds, count):
+    pairs = pairs_of(min(count, 200))
+    lines = [f"calm {4 * rounds}", *(f"contact {one} {other}" for one, other in pairs), f"calm {6 * rounds}"]
+    for at in range(count):
+        one, other = pairs[at % len(pairs)]
+        lines += [f"server {other} {10 * at + 7} {10 * at + 100}", f"user {one} {other} {10 * at + 7} {10 * at + 16}"]
+    lines += [f"calm {60 * rounds}"]
+    return lines, {"done": 2 * count}
+
+
+def waiting_bits(other, rounds, count):
+    lines = ready(other, rounds) + opened("0/1", other, rounds)
+    return [*lines, *(["send 0/1 133 8 2A"] * count), f"calm {rounds}"], {"opened": 2, "sent": 0}
+
+
+def to_nobody(_, __, count):
+    return ["send 0/1 133 8 2A"] * count, {"refused": count}
+
+
+def quiet(_, __, count):
+    return [f"calm {count}"], {"opened": 0}
+
+
 # What is measured, over which carriers, and at which sizes.
 MEASURED = [
     ("a stream of so many bits", stream, BETWEEN_TWO, [(1_000_000,), (400_000, 4_000_000)]),
@@ -156,7 +210,12 @@ MEASURED = [
     ("ECOs that wait", queued, BETWEEN_TWO[:1], [(6_000, 60_000)]),
     ("sockets that listen", listening, BETWEEN_TWO[:1], [(3_000, 30_000)]),
     ("servers that wait", waiting, BETWEEN_TWO[:1], [(3_000, 30_000)]),
+    ("bits that wait to be sent", waiting_bits, BETWEEN_TWO[:1], [(2_400, 24_000)]),
+    ("bits for sockets without a connection", to_nobody, BETWEEN_TWO[:1], [(2_400, 24_000)]),
     ("connections open at one host", at_one_host, ["plain mailboxes of 64 hosts"], [(180, 1_800)]),
+    ("connections open over pairs of hosts", over_pairs, OF_64, [(200, 2_000)]),
+    ("initial connections over pairs of hosts", initial_over_pairs, OF_64, [(60, 600)]),
+    ("quiet rounds", quiet, OF_64, [(400, 4_000)]),
 ]
 
 

@@ -15,7 +15,7 @@ def main(explain, words):
     if words.count("--page") > 1 or words.count("--inside") > 1 or len(others) > 1 or any(it.startswith("-") for it in others):
         print(USAGE, file=sys.stderr)
         return 1
-    inputs = [(explain.Input(sys.stdin.buffer.read()), name_of_input())]
+    inputs = [(explain.Input(explain.standard_input()), name_of_input())]
     for path in others:
         try:
             with open(path, "rb") as file:

@@ -68,7 +68,7 @@ function legend(data) {
   const it = el("p", "legend");
   const entry = (cls, text) => { const part = el("span", "", text); part.prepend(el("i", cls)); it.append(part); };
   entry("way", data.plain ? "message waits" : "message in transit");
-  entry("answer", "taken or given up, answer not yet here");
+  entry("answer", "taken or given up, not answered yet");
   entry("down", "down");
   if (data.inside) {
     for (const [cls, text] of [["data", "packet of a message"], ["rfnm", "RFNM"], ["dead", "Dead"], ["routes", "distances, acknowledgement"]]) {
@@ -120,7 +120,7 @@ function makeAxis(views, place, last, stepsOf, goTo) {
     const x = (step) => axis.x(where(step));
     lines.forEach(([label, kind, parts, signs], at) => {
       const y = 4 + at * (AXIS.bar + AXIS.gap);
-      if (axis.label > 100) draw(svg, "text", { class: "bar-label", x: 18, y: y + 9.5 }, label);
+      if (axis.label > 100) draw(svg, "text", { class: "bar-label", x: 18, y: y + 9.5 }, views.length > 1 ? `${which ? "after" : "before"}: ${label}` : label);
       draw(svg, "line", { class: "rule", x1: axis.from, x2: axis.to, y1: y + 6, y2: y + 6 });
       for (const [from, to, how] of parts) drawBar(svg, x(from), to ? x(to) : axis.to, y, how);
       for (const [step, what] of signs) drawSign(svg, x(step), y + AXIS.bar / 2, what, kind);

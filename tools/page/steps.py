@@ -155,7 +155,7 @@ def steps_of(events, along=None):
         words = ["calm", "1"] if place else words
         if place and not printed and last and last.number == number and last.printed is None:
             last.rounds = (last.rounds[0], place)
-            # the last sentence is of the frames that are live then, and one before it of ways that have become known
+            # the last sentence is of the frames that are live then, and one before it of routes that have become known
             last.told = told if len(told) > 1 else last.told[:-1] + told
             continue
         for line in printed or [None]:

@@ -41,9 +41,16 @@ fn from_command_line<R: Env + Input + Print + AllocGlobal>(rt: &R) -> Result<(),
 
 /// The words of the command line behind the program's name.
 fn words_of<R: Env + AllocGlobal>(rt: &R) -> Result<Vec<String>, ScriptFault> {
-    match env::args(rt) {
-        Ok(words) => Ok(words.skip(1).collect(rt.alloc())?),
-        Err(error) if error.kind() == ErrorKind::OutOfMemory => Err(ScriptFault::OutOfMemory),
-        Err(_) => Err(ScriptFault::BadOptions),
+    let arguments = match env::args(rt) {
+        Ok(arguments) => arguments,
+        Err(error) if error.kind() == ErrorKind::OutOfMemory => {
+            return Err(ScriptFault::OutOfMemory);
+        }
+        Err(_) => return Err(ScriptFault::BadOptions),
+    };
+    let mut words = Vec::new(rt.alloc());
+    for word in arguments.skip(1) {
+        words.push(word)?;
     }
+    Ok(words)
 }

@@ -54,8 +54,7 @@ impl Options {
     pub fn read(alloc: Global, words: &[String]) -> Result<Options, OptionsFault>
         ensures { Asked (options_of (map string_bytes words.now)) result }
     {
-        let words: Vec<&str> = words.iter().map(|word| word.as_str()).collect(alloc)?;
-        Options::read_texts(alloc, &words)
+        Options::read_texts(alloc, &texts_of(alloc, words)?)
     }
 
     /// The options that these words ask for.
@@ -86,6 +85,17 @@ impl Options {
             Detail::Sizes
         }
     }
+}
+
+/// The texts of these words. They are put into a list one by one: `collect` would go on where the room for all of them is refused.
+fn texts_of<'a>(alloc: Global, words: &'a [String]) -> Result<Vec<&'a str>, AllocError>
+    ensures { IfOk result (λ texts. map (λ text. text.now) texts.items ≡ map string_bytes words.now) }
+{
+    let mut texts = Vec::new(alloc);
+    for word in words {
+        texts.push(word.as_str())?;
+    }
+    Ok(texts)
 }
 
 /// Whether `--` is one of the words.

@@ -3,6 +3,7 @@ pub mod EntryLemmas
 pub mod FoundLemmas
 pub mod GoingLemmas
 pub mod GoneLemmas
+pub mod ListenerLemmas
 pub mod NoticeLemmas
 pub mod OpeningLemmas
 pub mod ParcelLemmas

@@ -9,7 +9,7 @@ ghost use Rattle.host_pairs.specs.Desk.{command_queued, desk_told};
 
 use crate::Notice;
 use crate::entry::Entry;
-use crate::listener::Listener;
+use crate::listener::Listeners;
 use crate::queue::Queue;
 use ncp_control::Command;
 use std::alloc::{AllocError, Global};
@@ -21,7 +21,7 @@ use std::marker::Model;
 pub(crate) struct Desk {
     pub entries: Vec<Entry>,
     pub queue: Queue,
-    pub listening: Vec<Listener>,
+    pub listening: Listeners,
     pub notices: Vec<Notice>,
 }
 
@@ -30,7 +30,7 @@ impl Model for Desk {
 
     ghost Value = { DeskState };
 
-    ghost view = { λ d. record { entries = d.entries.items; queue = d.queue; listening = d.listening.items; notices = d.notices.items } };
+    ghost view = { λ d. record { entries = d.entries.items; queue = d.queue; listening = d.listening; notices = d.notices.items } };
 }
 
 impl Desk {

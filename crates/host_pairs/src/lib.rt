@@ -32,7 +32,7 @@ mod turn_gone;
 
 pub use ends::{free_link, own_place};
 pub use entry::{Closing, Entry, is_busy};
-pub use listener::{Listener, listens_on, stop_listening};
+pub use listener::{Listener, Listeners, listens_on, stop_listening};
 pub use notice::Notice;
 pub use outgoing::Outgoing;
 pub use pair::Pair;

@@ -9,7 +9,7 @@ ghost use Rattle.host_pairs.specs.Desk.{desk_of};
 
 use crate::Notice;
 use crate::desk::Desk;
-use crate::listener::Listener;
+use crate::listener::Listeners;
 use crate::pair::Pair;
 use crate::phase::Phase;
 use crate::queue::Queue;
@@ -26,7 +26,7 @@ pub struct Turn {
     /// The pair that is worked on.
     pub pair: Pair,
     /// The host's sockets that listen.
-    pub listening: Vec<Listener>,
+    pub listening: Listeners,
     /// What the user is told, the oldest first.
     pub notices: Vec<Notice>,
 }
@@ -36,7 +36,7 @@ impl Model for Turn {
 
     ghost Value = { TurnState };
 
-    ghost view = { λ t. record { pair = t.pair; listening = t.listening.items; notices = t.notices.items } };
+    ghost view = { λ t. record { pair = t.pair; listening = t.listening; notices = t.notices.items } };
 }
 
 // ---- the connections
@@ -58,7 +58,7 @@ impl Turn {
         Desk {
             entries: mem::replace(&mut self.pair.entries, Vec::new(alloc)),
             queue: mem::replace(&mut self.pair.queue, Queue::new(alloc)),
-            listening: mem::replace(&mut self.listening, Vec::new(alloc)),
+            listening: mem::replace(&mut self.listening, Listeners::new(alloc)),
             notices: Vec::new(alloc),
         }
     }

@@ -1,8 +1,11 @@
 -- The turns of services, one by one.
-use Rattle.std.proofs.Common.{◌≡◌, ℕ, zero, suc, ◌+◌, ◌<◌, List, [], ◌∷◌, ◌++◌, length, take, drop, slice_set, slice_index_or, ap, ◌∙◌, arith}
+use Rattle.std.proofs.Common.{◌≡◌, ℕ, zero, suc, ◌+◌, ◌<◌, List, [], ◌∷◌, ◌++◌, length, take, drop, slice_set, slice_index_or, map, ap, sym, ◌∙◌, arith}
+use Rattle.std.proofs.lemmas.List.{get_or-map, length-map, map-append, map-set}
 use Rattle.host_pairs.specs.declared.notice.Notice.{Notice}
+use Rattle.host_services.specs.Ears.{ear_of}
 use Rattle.host_services.specs.Services.{Service, ServiceDeskState}
 use Rattle.host_services.specs.Turns.{Turned, heard_by, notice_heard}
+use Rattle.host_services.specs.declared.hearing.Ear.{Ear}
 
 -- these come before the others
 abbrev pub behind : List Service → List Service × ServiceDeskState → List Service × ServiceDeskState
@@ -23,3 +26,19 @@ pub more_heard : (n : Notice) (xs : List Service) (i : ℕ) (o y : Service) (d e
 more_heard n xs i o y d e lt is =
     let next : suc i ≡ i + 1 = omega arith in
     one_heard n xs i o y d e lt is ∙ ap (λ (k : ℕ). behind (take k (slice_set xs i y)) (notice_heard n (drop k (slice_set xs i y)) e)) next
+
+-- ---- ears beside services
+
+pub ear_at : (xs : List Service) (es : List Ear) (i : ℕ) (o : Service) (d : Ear) → es ≡ map ear_of xs → i < length xs → slice_index_or es i d ≡ ear_of (slice_index_or xs i o)
+ear_at xs es i o d is lt = ap (λ (ys : List Ear). slice_index_or ys i d) is ∙ get_or-map ear_of xs i o d lt
+
+pub ears_long : (xs : List Service) (es : List Ear) → es ≡ map ear_of xs → length es ≡ length xs
+ears_long xs es is = ap (λ (ys : List Ear). length ys) is ∙ length-map xs ear_of
+
+pub ears_set : (xs : List Service) (es : List Ear) (i : ℕ) (y : Service) (e : Ear) → es ≡ map ear_of xs → e ≡ ear_of y → slice_set es i e ≡ map ear_of (slice_set xs i y)
+ears_set xs es i y e is one =
+    ap (λ (ys : List Ear). slice_set ys i e) is ∙ ap (λ (f : Ear). slice_set (map ear_of xs) i f) one ∙ sym (map-set ear_of xs i y)
+
+pub ears_joined : (xs : List Service) (es : List Ear) (y : Service) (e : Ear) → es ≡ map ear_of xs → e ≡ ear_of y → es ++ e ∷ [] ≡ map ear_of (xs ++ y ∷ [])
+ears_joined xs es y e is one =
+    ap (λ (ys : List Ear). ys ++ e ∷ []) is ∙ ap (λ (f : Ear). map ear_of xs ++ f ∷ []) one ∙ sym (map-append ear_of xs (y ∷ []))

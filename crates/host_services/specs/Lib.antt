@@ -1,5 +1,6 @@
 pub mod Services
 pub mod Turns
+pub mod Ears
 pub mod Named
 pub mod TypedLines
 pub mod Worked

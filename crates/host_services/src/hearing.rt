@@ -3,11 +3,28 @@
 ghost use Rattle.std.specs.Prelude.{◌≡◌, None, []};
 ghost use Rattle.std.specs.Bool.{OnFalse};
 ghost use Rattle.terminal.specs.Ends.{arrived_on, closed_by};
-ghost use Rattle.host_services.specs.Services.{ServiceDeskState};
+ghost use Rattle.host_services.specs.Ears.{ear_by, ear_of};
+ghost use Rattle.host_services.specs.Services.{Service, ServiceDeskState};
 ghost use Rattle.host_services.specs.Turns.{heard_by};
 
 use crate::Service;
 use sockets::Notice;
+
+/// What a service may hear of. It stands beside the service, so that all can be gone through quickly.
+#[derive(Clone, Copy)]
+pub(crate) enum Ear {
+    /// Nothing any more.
+    Nothing,
+    /// Every notice.
+    Everything,
+    /// What arrives on one socket, and what ends on this and on another one.
+    Ends {
+        /// The socket on which it receives.
+        receive: u32,
+        /// The socket on which it sends.
+        send: u32,
+    },
+}
 
 /// Whether a notice tells of bits on the first of two sockets, or of the end of a connection of one of them.
 fn is_about(notice: &Notice, receive: u32, send: u32) -> bool
@@ -21,24 +38,44 @@ fn is_about(notice: &Notice, receive: u32, send: u32) -> bool
     }
 }
 
-impl Service {
-    /// Whether a notice may do something to it. Nothing does to a server or a user with its outcome, and to an echo service or
-    /// a terminal only what arrives and what ends on its two sockets.
-    #[tactic(auto, using(crate::proofs::HearingLemmas::over_server, crate::proofs::HearingLemmas::over_user, crate::proofs::HearingLemmas::quiet_echo, crate::proofs::HearingLemmas::quiet_terminal))]
+/// What a server or a user hears.
+fn ear_by(over: bool) -> Ear
+    ensures { result ≡ ear_by over }
+{
+    if over { Ear::Nothing } else { Ear::Everything }
+}
+
+impl Ear {
+    /// Whether a notice may do something to a service with this ear.
+    #[tactic(auto, using(crate::proofs::HearingLemmas::deaf, crate::proofs::HearingLemmas::elsewhere))]
     pub(crate) fn hears(&self, notice: &Notice) -> bool
-        ensures { OnFalse result ((d : ServiceDeskState) → heard_by notice.now self.now d ≡ (self.now, d)) }
+        ensures { OnFalse result ((s : Service) (d : ServiceDeskState) → self.now ≡ ear_of s → heard_by notice.now s d ≡ (s, d)) }
     {
         match self {
-            Service::Server(server) => !server.is_over(),
-            Service::User(user) => !user.is_over(),
-            Service::Echo(echo) => is_about(notice, echo.receive().number(), echo.send().number()),
-            Service::Terminal(terminal) => {
-                is_about(
-                    notice,
-                    terminal.receive().number(),
-                    terminal.send().number(),
-                )
-            }
+            Ear::Nothing => false,
+            Ear::Everything => true,
+            Ear::Ends { receive, send } => is_about(notice, *receive, *send),
+        }
+    }
+}
+
+impl Service {
+    /// What it may hear of. Nothing does anything to a server or a user with its outcome, and to an echo service or a terminal only
+    /// what arrives and what ends on its two sockets.
+    pub(crate) fn ear(&self) -> Ear
+        ensures { result ≡ ear_of self.now }
+    {
+        match self {
+            Service::Server(server) => ear_by(server.is_over()),
+            Service::User(user) => ear_by(user.is_over()),
+            Service::Echo(echo) => Ear::Ends {
+                receive: echo.receive().number(),
+                send: echo.send().number(),
+            },
+            Service::Terminal(terminal) => Ear::Ends {
+                receive: terminal.receive().number(),
+                send: terminal.send().number(),
+            },
         }
     }
 }

@@ -191,7 +191,7 @@ impl ServiceDesk {
         }
     }
 
-    /// A service is told of a notice, and what follows it takes its place. One that can't hear it has no turn.
+    /// A service is told of a notice, and what follows it takes its place.
     pub(crate) fn tell(
         &mut self,
         alloc: Global,
@@ -200,9 +200,6 @@ impl ServiceDesk {
     ) -> Result<(), AllocError>
         ensures { IfOk result (λ _. turns.heard_by notice.now service.old self.old ≡ (service.new, self.new)) }
     {
-        if !service.hears(notice) {
-            return Ok(());
-        }
         if let Some(next) = self.tell_one(alloc, service, notice)? {
             *service = next;
         }

@@ -1,12 +1,14 @@
 //! The services of a host.
 
-ghost use Rattle.std.specs.Prelude.{◌≡◌, ◌<◌, IfOk, OnErr, length};
+ghost use Rattle.std.specs.Prelude.{◌≡◌, ◌<◌, ◌++◌, ◌∷◌, [], IfOk, OnErr, OnOk, length, map};
+ghost use Rattle.host_services.specs.Ears.{ear_of};
 ghost use Rattle.host_services.specs.Services.{no_services};
 ghost use Rattle.host_services.specs.Turns as turns;
 ghost use Rattle.icp.specs.declared.outcome.Failure.TheVariants as failure;
 ghost use Rattle.icp.specs.declared.outcome.Outcome.TheVariants as outcome;
 
 use crate::desk::ServiceDesk;
+use crate::hearing::Ear;
 use crate::{Report, Service};
 use icp::{Failure, Outcome, Said, Server, StartFault, User};
 use leader1822::HostAddr;
@@ -16,32 +18,63 @@ use std::alloc::{AllocError, Global};
 use std::marker::Model;
 
 /// The services of a host, in the order in which they began.
+///
+/// Beside each stands what it may hear of, so that a notice passes by the others quickly.
 #[derive(Drop)]
 pub struct Services {
     running: Vec<Service>,
+    ears: Vec<Ear>,
     typing: Option<SendSocket>,
     alloc: Global,
 }
 
 impl Model for Services {
+    ghost use Rattle.std.specs.Prelude.{◌≡◌, map};
+    ghost use Rattle.host_services.specs.Ears.{ear_of};
     ghost use Rattle.host_services.specs.Services.{ServicesState};
 
     ghost Value = { ServicesState };
 
     ghost view = { λ s. record { running = s.running.items; typing = s.typing } };
+
+    ghost invariant = { λ s. s.ears.items ≡ map ear_of s.running.items };
 }
 
-/// Each of these services is told of a notice, one after another.
-fn tell_each(
+/// A service is told of a notice, unless it can't hear it.
+fn tell_one(
     alloc: Global,
-    services: &mut [Service],
+    service: &mut Service,
+    ear: &mut Ear,
     desk: &mut ServiceDesk,
     notice: &Notice,
 ) -> Result<(), AllocError>
-    ensures { IfOk result (λ _. turns.notice_heard notice.now services.old desk.old ≡ (services.new, desk.new)) }
+    requires { ear.old ≡ ear_of service.old }
+    ensures heard { IfOk result (λ _. turns.heard_by notice.now service.old desk.old ≡ (service.new, desk.new)) }
+    ensures ear { ear.new ≡ ear_of service.new }
+{
+    if !ear.hears(notice) {
+        return Ok(());
+    }
+    let told = desk.tell(alloc, service, notice);
+    *ear = service.ear();
+    told
+}
+
+/// Each of these services is told of a notice, one after another.
+#[tactic(auto, using(crate::proofs::TurnLemmas::more_heard, crate::proofs::TurnLemmas::ear_at, crate::proofs::TurnLemmas::ears_long, crate::proofs::TurnLemmas::ears_set))]
+fn tell_each(
+    alloc: Global,
+    services: &mut [Service],
+    ears: &mut [Ear],
+    desk: &mut ServiceDesk,
+    notice: &Notice,
+) -> Result<(), AllocError>
+    requires { ears.old ≡ map ear_of services.old }
+    ensures heard { IfOk result (λ _. turns.notice_heard notice.now services.old desk.old ≡ (services.new, desk.new)) }
+    ensures ears { ears.new ≡ map ear_of services.new }
 {
     for at in 0..services.len() {
-        desk.tell(alloc, &mut services[at], notice)?;
+        tell_one(alloc, &mut services[at], &mut ears[at], desk, notice)?;
     }
     Ok(())
 }
@@ -50,15 +83,18 @@ fn tell_each(
 fn tell_all(
     alloc: Global,
     services: &mut [Service],
+    ears: &mut [Ear],
     desk: &mut ServiceDesk,
     notices: &[Notice],
 ) -> Result<(), AllocError>
+    requires { ears.old ≡ map ear_of services.old }
     ensures heard { IfOk result (λ _. turns.all_heard notices.now services.old desk.old ≡ (services.new, desk.new)) }
+    ensures ears { ears.new ≡ map ear_of services.new }
     ensures memory { OnErr result (0 < length notices.now) }
 {
     for notice in notices {
         desk.count()?;
-        tell_each(alloc, services, desk, notice)?;
+        tell_each(alloc, services, ears, desk, notice)?;
     }
     Ok(())
 }
@@ -77,6 +113,7 @@ impl Services {
     {
         Services {
             running: Vec::new(alloc),
+            ears: Vec::new(alloc),
             typing: None,
             alloc,
         }
@@ -89,6 +126,18 @@ impl Services {
         self.typing
     }
 
+    /// A service is the last now.
+    #[tactic(auto, using(crate::proofs::TurnLemmas::ears_joined))]
+    fn join(&mut self, service: Service) -> Result<(), AllocError>
+        ensures { OnOk result (self.new ≡ record self.old { running = self.old.running ++ service ∷ [] }) }
+    {
+        self.running.reserve(1)?;
+        self.ears.reserve(1)?;
+        self.ears.push_reserved(service.ear());
+        self.running.push_reserved(service);
+        Ok(())
+    }
+
     /// They are told of these notices of their host, one after another. What they ask for is asked at once.
     ///
     /// Errors: `AllocError` when memory runs out, only where there is a notice.
@@ -98,7 +147,7 @@ impl Services {
         ensures told { IfOk result (λ _. turns.services_told notices.now self.old desk.old ≡ (self.new, desk.new)) }
     {
         desk.typing = self.typing;
-        tell_all(self.alloc, &mut self.running, desk, notices)?;
+        tell_all(self.alloc, &mut self.running, &mut self.ears, desk, notices)?;
         self.typing = desk.typing;
         Ok(())
     }
@@ -127,7 +176,7 @@ impl Services {
             outcome: None,
         };
         let next = desk.settle_server(self.alloc, &mut server, said)?;
-        self.running.push(next.unwrap_or(Service::Server(server)))?;
+        self.join(next.unwrap_or(Service::Server(server)))?;
         self.typing = desk.typing;
         Ok(())
     }
@@ -157,7 +206,7 @@ impl Services {
             outcome: None,
         };
         let next = desk.settle_user(self.alloc, &mut user, said)?;
-        self.running.push(next.unwrap_or(Service::User(user)))?;
+        self.join(next.unwrap_or(Service::User(user)))?;
         self.typing = desk.typing;
         Ok(())
     }

@@ -1,12 +1,13 @@
 -- What the calls of an end need of its definitions.
-use Rattle.std.proofs.Common.{arith, zero, suc, IsSome, subst, ◌≡◌, ℕ, ◌+◌, ◌<◌, List, ◌∷◌, ◌++◌, length, get_or, set, drop, true, is_none, Option, None, Some, refl, sym, ap, ◌∙◌, position, cond, count_by, is_some, []}
+use Rattle.std.proofs.Common.{arith, Bool, false, zero, suc, IsSome, subst, ◌≡◌, ℕ, ◌+◌, ◌<◌, List, ◌∷◌, ◌++◌, length, get_or, set, drop, true, is_none, Option, None, Some, refl, sym, ap, ◌∙◌, position, cond, count_by, is_some, []}
 use Rattle.std.proofs.lemmas.List.{length-append, append_assoc, drop_more, get_or_read}
-use Rattle.std.proofs.lemmas.List.Sums.{sum_by-cons}
+use Rattle.std.proofs.lemmas.List.Quantifiers.{position-Some}
+use Rattle.std.proofs.lemmas.List.Sums.{sum_by-cons, sum_by-set}
 use Rattle.packetiser.specs.PacketFields.{PacketFields}
 use Rattle.imp_channel.specs.declared.channel.Channel.{Channel}
 use Rattle.imp_channel.specs.declared.frame.Frame.{Frame}
 use Rattle.imp_channel.specs.Holding.{packet_of, packets_in}
-use Rattle.imp_channel.specs.Line.{End, opening_channel, is_free, submitted, frame_on, frames_of, frames_from}
+use Rattle.imp_channel.specs.Line.{End, opening_channel, is_free, submitted, frame_on, frames_of, frames_from, acknowledged, all_acknowledged}
 
 -- a channel that is free holds nothing
 pub none_from : (o : Option PacketFields) → is_none o ≡ true → o ≡ None
@@ -52,3 +53,51 @@ unfolding submitted
 submitted_at e p at x found within is =
     let read : get_or e.sending at opening_channel ≡ x = sym (get_or_read e.sending at x within is opening_channel) in
     rw (found, read) refl
+
+-- ---- how many channels are busy
+
+abbrev weight : Option PacketFields → ℕ
+weight o = cond (is_some o) 1 0
+
+free_weighs : (o : Option PacketFields) → is_none o ≡ true → weight o ≡ 0
+free_weighs None free = refl
+free_weighs (Some p) free = cc
+
+-- a packet in a free channel makes one more busy
+pub filled_counted : (chs : List Channel) (at : ℕ) (bit : Bool) (p : PacketFields) → position is_free chs ≡ Some at
+    → count_by (λ channel. is_some channel.packet) (set chs at (record { bit = bit; packet = Some p })) ≡ count_by (λ channel. is_some channel.packet) chs + 1
+filled_counted chs at bit p found =
+    let first = position-Some is_free chs at opening_channel found in
+    let sums = sum_by-set (λ (ch : Channel). cond (is_some ch.packet) 1 0) chs at (record { bit = bit; packet = Some p }) opening_channel first.0 in
+    let none : weight (get_or chs at opening_channel).packet ≡ 0 = free_weighs (get_or chs at opening_channel).packet first.1 in
+    omega (arith, sums, none)
+
+none_busy : (o : Option PacketFields) (count : ℕ) → cond (is_some o) 1 0 + count ≡ 0 → (o ≡ None) × (count ≡ 0)
+none_busy None count none = (refl, omega (arith, none))
+none_busy (Some p) count none = absurd (omega (arith, none))
+
+none_busy_in : (ch : Channel) (chs : List Channel) → count_by (λ channel. is_some channel.packet) (ch ∷ chs) ≡ 0 → (ch.packet ≡ None) × (count_by (λ channel. is_some channel.packet) chs ≡ 0)
+none_busy_in ch chs none = none_busy ch.packet (count_by (λ channel. is_some channel.packet) chs) (sym (sum_by-cons (λ (other : Channel). cond (is_some other.packet) 1 0) ch chs) ∙ none)
+
+still_free : (ack : Bool) (ch : Channel) → ch.packet ≡ None → acknowledged ack ch ≡ ch
+still_free ack ch free = rw free refl
+
+-- where no channel is busy, acknowledgements change nothing
+pub none_acknowledged : (acks : List Bool) (chs : List Channel) → count_by (λ channel. is_some channel.packet) chs ≡ 0 → all_acknowledged acks chs ≡ chs
+none_acknowledged acks [] none = refl
+none_acknowledged [] (ch ∷ chs) none =
+    let free = none_busy_in ch chs none in
+    ap (λ (c : Channel). c ∷ all_acknowledged [] chs) (still_free false ch free.0) ∙ ap (λ (cs : List Channel). ch ∷ cs) (none_acknowledged [] chs free.1)
+none_acknowledged (ack ∷ acks) (ch ∷ chs) none =
+    let free = none_busy_in ch chs none in
+    ap (λ (c : Channel). c ∷ all_acknowledged acks chs) (still_free ack ch free.0) ∙ ap (λ (cs : List Channel). ch ∷ cs) (none_acknowledged acks chs free.1)
+
+free_sends : (e : End) (c : ℕ) (bit : Bool) (o : Option PacketFields) → o ≡ None → frames_of e c bit o ≡ []
+free_sends e c bit o free = ap (frames_of e c bit) free
+
+-- and nothing is sent again
+pub none_sent : (e : End) (c : ℕ) (chs : List Channel) → count_by (λ channel. is_some channel.packet) chs ≡ 0 → frames_from e c chs ≡ []
+none_sent e c [] none = refl
+none_sent e c (ch ∷ chs) none =
+    let free = none_busy_in ch chs none in
+    ap (λ (fs : List Frame). fs ++ frames_from e (c + 1) chs) (free_sends e c ch.bit ch.packet free.0) ∙ none_sent e (c + 1) chs free.1

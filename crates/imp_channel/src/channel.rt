@@ -39,6 +39,13 @@ impl Channel {
             self.bit = !self.bit;
         }
     }
+
+    /// Whether a packet waits in it.
+    fn is_busy(&self) -> bool
+        ensures { result ≡ is_some self.now.packet }
+    {
+        self.packet.is_some()
+    }
 }
 
 /// Takes the acknowledgement bit of each channel.
@@ -55,10 +62,7 @@ pub(crate) fn acknowledge_all(channels: &mut [Channel], acks: &[bool])
 pub(crate) fn count_packets(channels: &[Channel]) -> usize
     ensures { result ≡ count_by (λ channel. is_some channel.packet) channels.now }
 {
-    channels
-        .iter()
-        .filter(|channel| channel.packet.is_some())
-        .count()
+    channels.iter().filter(|channel| channel.is_busy()).count()
 }
 
 /// Resets the channels, and puts the packets that waited there at the end of a list with room for them.

@@ -1,9 +1,9 @@
 //! One end of a line.
 
-ghost use Rattle.std.specs.Prelude.{◌≡◌, ◌<◌, ◌≤◌, ◌++◌, length, IfOk, IfErr, IsSome, OnOk, OnErr, Ok, Some, None, false, position};
+ghost use Rattle.std.specs.Prelude.{◌≡◌, ◌<◌, ◌≤◌, ◌+◌, ◌++◌, length, IfOk, IfErr, IsSome, OnOk, OnErr, Ok, Some, None, false, position, count_by, is_some, slice_index_or, slice_set};
 ghost use Rattle.std.specs.Option.{option_copied};
 ghost use Rattle.imp_channel.specs.Holding.{packets_in};
-ghost use Rattle.imp_channel.specs.Line.{IsRefusal, is_free, frames_of, opening_end, frame_of, submitted, resent, acknowledgement, routes_frame, channel_at, is_foreign, has_expected_bit, expected_after, brought, state_after, answer_to, is_fresh_answer};
+ghost use Rattle.imp_channel.specs.Line.{IsRefusal, is_free, frames_of, opening_channel, opening_end, frame_of, submitted, resent, acknowledgement, routes_frame, channel_at, is_foreign, has_expected_bit, expected_after, brought, state_after, all_acknowledged, answer_to, is_fresh_answer};
 
 use crate::channel::{acknowledge_all, count_packets, reset_all};
 use crate::{ACKS, CHANNELS, Carried, Channel, Content, Frame, SubmitFault};
@@ -31,10 +31,12 @@ pub enum Received {
 pub struct Line {
     channels: Vec<Channel>,
     expected: [bool; ACKS],
+    // how many channels are busy
+    busy: usize,
 }
 
 impl Model for Line {
-    ghost use Rattle.std.specs.Prelude.{◌≡◌, length};
+    ghost use Rattle.std.specs.Prelude.{◌≡◌, length, count_by, is_some};
     ghost use Rattle.imp_channel.specs.declared.channel.TheConstants.{CHANNELS};
     ghost use Rattle.imp_channel.specs.Line.{End};
 
@@ -42,7 +44,7 @@ impl Model for Line {
 
     ghost view = { λ l. record { sending = l.channels.items; expected = l.expected } };
 
-    ghost invariant = { λ l. length l.channels.items ≡ CHANNELS };
+    ghost invariant = { λ l. (length l.channels.items ≡ CHANNELS) × (l.busy ≡ count_by (λ channel. is_some channel.packet) l.channels.items) };
 }
 
 impl Line {
@@ -57,6 +59,7 @@ impl Line {
         Ok(Line {
             channels,
             expected: [false; ACKS],
+            busy: 0,
         })
     }
 
@@ -77,9 +80,9 @@ impl Line {
         let Ok(copy) = packet.clone() else {
             return Err(SubmitFault::OutOfMemory(packet));
         };
-        let channel = &mut self.channels[at];
-        channel.packet = Some(packet);
-        let carried = Carried::new(at as u8, channel.bit, copy);
+        let bit = fill(&mut self.channels, at, packet);
+        self.busy += 1;
+        let carried = Carried::new(at as u8, bit, copy);
         Ok(self.frame(Content::Packet(carried)))
     }
 
@@ -91,7 +94,7 @@ impl Line {
     {
         channel_in_use(&frame.content);
         let Frame { acks, content } = frame;
-        acknowledge_all(&mut self.channels, &acks);
+        self.acknowledge(&acks);
         take_content(&mut self.expected, content)
     }
 
@@ -108,12 +111,15 @@ impl Line {
 
     /// The frames of all busy channels once more, in channel order. Only a packet's copy needs memory, so a
     /// line without a busy channel always answers.
-    #[tactic(auto, using(crate::proofs::Calls::frames_more))]
+    #[tactic(auto, using(crate::proofs::Calls::frames_more, crate::proofs::Calls::none_sent))]
     pub fn resend(&self, alloc: Global) -> Result<Vec<Frame>, AllocError>
         ensures ok { IfOk result (λ frames. frames.items ≡ resent self.now) }
         ensures memory { OnErr result (0 < length (packets_in self.now.sending)) }
     {
         let mut frames = Vec::new(alloc);
+        if self.busy == 0 {
+            return Ok(frames);
+        }
         for (c, channel) in self.channels.iter().enumerate() {
             self.push_frame(&mut frames, c as u8, channel)?;
         }
@@ -129,8 +135,9 @@ impl Line {
         ensures err { OnErr result (self.new ≡ self.old) }
         ensures memory { OnErr result (0 < length (packets_in self.old.sending)) }
     {
-        let mut packets = Vec::with_capacity(alloc, count_packets(&self.channels))?;
+        let mut packets = Vec::with_capacity(alloc, self.busy)?;
         reset_all(&mut self.channels, &mut packets);
+        self.busy = 0;
         self.expected = [false; ACKS];
         Ok(packets)
     }
@@ -169,7 +176,19 @@ impl Line {
         ensures count { result ≡ length (packets_in self.now.sending) }
         ensures most { result ≤ CHANNELS }
     {
-        count_packets(&self.channels)
+        self.busy
+    }
+
+    /// Takes the acknowledgement bit of each channel. They matter to a busy one alone.
+    #[tactic(auto, using(crate::proofs::Calls::none_acknowledged))]
+    fn acknowledge(&mut self, acks: &[bool; ACKS])
+        ensures { self.new ≡ record self.old { sending = all_acknowledged acks.now self.old.sending } }
+    {
+        if self.busy == 0 {
+            return;
+        }
+        acknowledge_all(&mut self.channels, acks);
+        self.busy = count_packets(&self.channels);
     }
 
     /// Puts the frame of a channel, if it is busy, at the end of a list.
@@ -199,6 +218,19 @@ impl Line {
             content,
         }
     }
+}
+
+/// Puts a packet into a free channel, and tells the bit that it goes out under.
+#[tactic(auto, using(crate::proofs::Calls::filled_counted))]
+fn fill(channels: &mut [Channel], at: usize, packet: Packet) -> bool
+    requires { position is_free channels.old ≡ Some at }
+    ensures bit { result ≡ (slice_index_or channels.old at opening_channel).bit }
+    ensures channels { channels.new ≡ slice_set channels.old at (record { bit = result; packet = Some packet }) }
+    ensures busy { count_by (λ channel. is_some channel.packet) channels.new ≡ count_by (λ channel. is_some channel.packet) channels.old + 1 }
+{
+    let channel = &mut channels[at];
+    channel.packet = Some(packet);
+    channel.bit
 }
 
 /// The lowest free one of these channels.

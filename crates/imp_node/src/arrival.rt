@@ -60,20 +60,21 @@ impl Imp {
         if !self.is_live(port) || self.is_lost(port, &frame) {
             return Ok(Vec::new(self.alloc));
         }
+        let frames = self.spare.take(self.alloc);
         match self.receive(port, frame) {
             Received::Fresh(packet) => {
-                let frames = self.acknowledge(port)?;
+                let frames = self.acknowledge(port, frames)?;
                 self.arrive(packet)?;
                 self.pump(frames)
             }
             Received::Repeat => {
-                let frames = self.acknowledge(port)?;
+                let frames = self.acknowledge(port, frames)?;
                 self.pump(frames)
             }
-            Received::AckOnly => self.pump(Vec::new(self.alloc)),
+            Received::AckOnly => self.pump(frames),
             Received::Routes(vector) => {
                 self.routes.hear(port, vector);
-                self.pump(Vec::new(self.alloc))
+                self.pump(frames)
             }
         }
     }
@@ -140,12 +141,12 @@ impl Imp {
     }
 
     /// The acknowledgement that goes back at once.
-    fn acknowledge(&self, port: u8) -> Result<Vec<Outgoing>, AllocError>
-        requires { port < length self.now.ports }
+    fn acknowledge(&self, port: u8, mut frames: Vec<Outgoing>) -> Result<Vec<Outgoing>, AllocError>
+        requires there { port < length self.now.ports }
+        requires none { frames.items ≡ [] }
         ensures { IfOk result (λ frames. frames.items ≡ acknowledged port self.now) }
     {
         let frame = self.ports[port as usize].line.ack_frame();
-        let mut frames = Vec::new(self.alloc);
         frames.push(Outgoing { port, frame })?;
         Ok(frames)
     }

@@ -48,7 +48,7 @@ impl Imp {
     {
         self.sources.give_up(&flow);
         self.tell(Answer::Incomplete, flow)?;
-        self.pump(Vec::new(self.alloc))
+        self.pump_alone()
     }
 
     /// The last numbers that it keeps of flows from another IMP are dropped. It answers the frames to put on
@@ -75,7 +75,7 @@ impl Imp {
         ensures memory { OnErr result (forget_grows self.old imp ≡ true) }
     {
         self.kept.forget(imp);
-        self.pump(Vec::new(self.alloc))
+        self.pump_alone()
     }
 
     /// The slot of a flow is thrown away, with what it holds of a message. It answers the frames to put on
@@ -103,6 +103,6 @@ impl Imp {
         ensures memory { OnErr result (abandon_grows self.old flow ≡ true) }
     {
         self.slots.discard(flow);
-        self.pump(Vec::new(self.alloc))
+        self.pump_alone()
     }
 }

@@ -1,6 +1,6 @@
 //! One IMP, what it keeps, and what its calls ask of that.
 
-ghost use Rattle.std.specs.Prelude.{◌≡◌, ◌+◌, ◌*◌, ◌<◌, ◌≤◌, ◌&&◌, Bool, true, false, length, replicate, nat_lt, nat_le, IfOk};
+ghost use Rattle.std.specs.Prelude.{◌≡◌, [], ◌+◌, ◌*◌, ◌<◌, ◌≤◌, ◌&&◌, Bool, true, false, length, replicate, nat_lt, nat_le, IfOk};
 ghost use Rattle.std.specs.List.{list_any, sum_by};
 ghost use Rattle.packetiser.specs.Limits.{greatest_imp};
 ghost use Rattle.imp_node.specs.State as states;
@@ -10,8 +10,10 @@ ghost use Rattle.imp_node.specs.Flows as flows;
 ghost use Rattle.imp_node.specs.Flows.{is_about};
 ghost use Rattle.imp_node.specs.Offering as offering;
 
+use crate::Outgoing;
 use crate::host::Host;
 use crate::port::Port;
+use crate::spare::Spare;
 use imp_channel::Line;
 use leader1822::{Flow, HostAddr, ImpNumber};
 use link_table::{DestFlows, SourceFlows};
@@ -37,6 +39,7 @@ pub struct Imp {
     pub(crate) sources: SourceFlows,
     pub(crate) kept: DestFlows,
     pub(crate) spent: bool,
+    pub(crate) spare: Spare,
     pub(crate) alloc: Global,
 }
 
@@ -74,8 +77,17 @@ impl Imp {
             sources: SourceFlows::new(alloc),
             kept: DestFlows::new(alloc),
             spent: false,
+            spare: Spare::new(alloc),
             alloc,
         })
+    }
+
+    /// Hands back a list that a call answered, once its frames are on their lines. A later call uses its memory again.
+    pub fn reuse(&mut self, frames: Vec<Outgoing>)
+        requires { frames.items ≡ [] }
+        ensures { self.new ≡ self.old }
+    {
+        self.spare.keep(frames);
     }
 
     /// The IMP's own number, 1 to 16.

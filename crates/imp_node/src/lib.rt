@@ -21,6 +21,7 @@ mod port;
 mod pump;
 mod queries;
 mod seeking;
+mod spare;
 mod steps;
 mod stopping;
 mod taking;

@@ -34,7 +34,8 @@ impl Imp {
         ensures ok { IfOk result (λ frames. Takes (lines.resend self.old) self.new frames.items) }
         ensures memory { OnErr result (resend_grows self.old ≡ true) }
     {
-        let frames = resent_from(self.alloc, &self.ports)?;
+        let spare = self.spare.take(self.alloc);
+        let frames = resent_from(self.alloc, spare, &self.ports)?;
         self.pump(frames)
     }
 
@@ -57,7 +58,8 @@ impl Imp {
         ensures ok { IfOk result (λ frames. Takes (lines.route self.old) self.new frames.items) }
         ensures memory { OnErr result (route_grows self.old ≡ true) }
     {
-        let frames = told_from(self.alloc, &self.routes.vector(), &self.ports)?;
+        let spare = self.spare.take(self.alloc);
+        let frames = told_from(spare, &self.routes.vector(), &self.ports)?;
         self.pump(frames)
     }
 
@@ -101,7 +103,7 @@ impl Imp {
         let mut packets = reset_port(self.alloc, &mut self.ports, port as usize)?;
         self.routes.lost(port);
         self.store.append(&mut packets)?;
-        self.pump(Vec::new(self.alloc))
+        self.pump_alone()
     }
 
     /// An end comes up. It answers the frames to put on lines.
@@ -132,7 +134,7 @@ impl Imp {
         ensures memory { OnErr result (end_up_grows self.old port ≡ true) }
     {
         self.ports[port as usize].up = true;
-        self.pump(Vec::new(self.alloc))
+        self.pump_alone()
     }
 }
 
@@ -153,13 +155,17 @@ fn reset_port(
     Ok(packets)
 }
 
-/// The frames of all busy channels of live ports again, in order of ports and channels.
-fn resent_from(alloc: Global, ports: &[Port]) -> Result<Vec<Outgoing>, AllocError>
-    requires { length ports.now < 256 }
+/// The frames of all busy channels of live ports again, in order of ports and channels, put on an empty list.
+fn resent_from(
+    alloc: Global,
+    mut frames: Vec<Outgoing>,
+    ports: &[Port],
+) -> Result<Vec<Outgoing>, AllocError>
+    requires few { length ports.now < 256 }
+    requires none { frames.items ≡ [] }
     ensures ok { IfOk result (λ frames. frames.items ≡ lines.resent_from 0 ports.now) }
     ensures memory { OnErr result (0 < length (lines.resent_from 0 ports.now)) }
 {
-    let mut frames = Vec::new(alloc);
     for (at, port) in ports.iter().enumerate() {
         push_resent(alloc, &mut frames, at as u8, port)?;
     }
@@ -184,13 +190,17 @@ fn push_resent(
     Ok(())
 }
 
-/// The frames that tell these distances on live ports, in order of ports.
-fn told_from(alloc: Global, distances: &Vector, ports: &[Port]) -> Result<Vec<Outgoing>, AllocError>
-    requires { length ports.now < 256 }
+/// The frames that tell these distances on live ports, in order of ports, put on an empty list.
+fn told_from(
+    mut frames: Vec<Outgoing>,
+    distances: &Vector,
+    ports: &[Port],
+) -> Result<Vec<Outgoing>, AllocError>
+    requires few { length ports.now < 256 }
+    requires none { frames.items ≡ [] }
     ensures ok { IfOk result (λ frames. frames.items ≡ lines.told_from distances.now 0 ports.now) }
     ensures memory { OnErr result (0 < length (lines.told_from distances.now 0 ports.now)) }
 {
-    let mut frames = Vec::new(alloc);
     for (at, port) in ports.iter().enumerate() {
         push_told(&mut frames, distances, at as u8, port)?;
     }

@@ -102,7 +102,7 @@ impl Imp {
         ensures { IfOk result (λ frames. Takes (offering.from_host self.old message) self.new frames.items) }
     {
         self.place(message)?;
-        self.pump(Vec::new(self.alloc))
+        self.pump_alone()
     }
 
     /// Takes a message that isn't refused.

@@ -30,6 +30,15 @@ impl Imp {
         Ok(frames)
     }
 
+    /// A call that answers no frames of its own ends so.
+    pub(crate) fn pump_alone(&mut self) -> Result<Vec<Outgoing>, AllocError>
+        ensures ok { IfOk result (λ out. Takes (pumps.pump [] self.old) self.new out.items) }
+        ensures memory { OnErr result (sends (pumps.pump [] self.old) ≡ true) }
+    {
+        let frames = self.spare.take(self.alloc);
+        self.pump(frames)
+    }
+
     /// Memory ran out: it is not to be used again.
     pub(crate) fn exhaust(&mut self) -> CarrierFault
         ensures state { self.new ≡ record self.old { spent = true } }

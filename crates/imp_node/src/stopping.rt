@@ -61,7 +61,7 @@ impl Imp {
     {
         self.drop_answers(host);
         self.return_messages(host)?;
-        self.pump(Vec::new(self.alloc))
+        self.pump_alone()
     }
 
     /// Takes a host down and clears its answers.
@@ -159,7 +159,7 @@ impl Imp {
         ensures memory { OnErr result (host_up_grows self.old host ≡ true) }
     {
         self.hosts[host as usize].start();
-        self.pump(Vec::new(self.alloc))
+        self.pump_alone()
     }
 }
 

@@ -74,7 +74,7 @@ impl Imp {
         ensures memory { OnErr result (to_host_grows self.old host ≡ true) }
     {
         let given = self.take_next(host)?;
-        let frames = self.pump(Vec::new(self.alloc))?;
+        let frames = self.pump_alone()?;
         Ok((given, frames))
     }
 

@@ -4,6 +4,7 @@
 pub mod Always
 pub mod BookEvents
 pub mod Booked
+pub mod Counts
 pub mod Held
 pub mod InOrder
 pub mod LifeLoops

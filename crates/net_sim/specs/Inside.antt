@@ -1,4 +1,5 @@
 -- What a value of this crate keeps true of itself. No public clause cites it, so a caller need not read it.
+pub mod Counts
 pub mod Lives
 pub mod Open
 pub mod Places

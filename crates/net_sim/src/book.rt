@@ -1,6 +1,6 @@
 //! What a world writes down.
 
-ghost use Rattle.std.specs.Prelude.{◌≡◌, OnErr, OnOk, reverse};
+ghost use Rattle.std.specs.Prelude.{◌≡◌, ◌+◌, OnErr, OnOk, length, reverse};
 ghost use Rattle.net_sim.specs.Book.{opening_kept};
 ghost use Rattle.net_sim.specs.Inside.Lives.{written};
 
@@ -97,6 +97,13 @@ impl Book {
         ensures { result.now ≡ reverse self.now.book.crossings }
     {
         &self.crossings
+    }
+
+    /// How many crossings there will be once these are written, too.
+    pub(crate) fn place_after(&self, crossed: &Vec<Crossing>) -> usize
+        ensures { result ≡ length self.now.book.crossings + length crossed.now.items }
+    {
+        self.crossings.len() + crossed.len()
     }
 
     /// What users were told.

@@ -1,12 +1,14 @@
 //! What the hosts do with what the carrier gives, and what is written down of it.
 
-ghost use Rattle.std.specs.Prelude.{◌≡◌, false, IfOk, OnOk, OnErr, map, reverse, length};
+ghost use Rattle.std.specs.Prelude.{◌≡◌, ◌<◌, true, false, IfOk, OnOk, OnErr, map, reverse, length, slice_index_or};
+ghost use Rattle.std.specs.Bool.{OnTrue};
 ghost use Rattle.std.specs.List.{position};
 ghost use Rattle.leader1822.specs.Host.{same_host};
 ghost use Rattle.net_sim.specs.Book.{all_asked, all_told, all_crossed, all_reported};
 ghost use Rattle.net_sim.specs.Inside.Lives.{told_at};
-ghost use Rattle.net_sim.specs.Inside.Parts.{IsDone};
+ghost use Rattle.net_sim.specs.Inside.Parts.{IsDone, IsOnce, hosts_of};
 ghost use Rattle.net_sim.specs.World as world;
+ghost use Rattle.net_sim.specs.World.{Seat};
 ghost use Rattle.sockets.specs.Accepting.{accepted};
 ghost use Rattle.sockets.specs.Sending.{offered};
 
@@ -18,11 +20,45 @@ use leader1822::{Crossing, HostAddr, Inbound};
 use sockets::{Ncp, Notice};
 use std::alloc::{AllocError, Global};
 
-/// The place of a host's seat.
-pub(crate) fn place(seats: &[Seat], host: HostAddr) -> Option<usize>
+/// Where a host's seat stands in a network whose IMPs are numbered from 1 on and have as many hosts each. It promises nothing: in
+/// another network another host may sit there, or none.
+fn likely_place(seats: &[Seat], host: HostAddr) -> usize {
+    let Some(last) = seats.last() else {
+        return 0;
+    };
+    let each = seats.len() / usize::from(last.host.imp());
+    usize::from(host.imp() - 1)
+        .saturating_mul(each)
+        .saturating_add(usize::from(host.host()))
+}
+
+/// Whether a host's seat is at this place.
+fn sits_at(seats: &[Seat], at: usize, host: HostAddr) -> bool
+    ensures { OnTrue result ((at < length seats.now) × ((d : Seat) → same_host host (slice_index_or seats.now at d).host ≡ true)) }
+{
+    if at >= seats.len() {
+        return false;
+    }
+    host == seats[at].host
+}
+
+/// The first place of a host's seat.
+fn first_place(seats: &[Seat], host: HostAddr) -> Option<usize>
     ensures { result ≡ position (λ s. same_host host s.host) seats.now }
 {
     seats.iter().position(|seat| host == seat.host)
+}
+
+/// The place of a host's seat. The likely place is looked at before the others.
+pub(crate) fn place(seats: &[Seat], host: HostAddr) -> Option<usize>
+    requires once { IsOnce (hosts_of seats.now) }
+    ensures { result ≡ position (λ s. same_host host s.host) seats.now }
+{
+    let at = likely_place(seats, host);
+    if sits_at(seats, at, host) {
+        return Some(at);
+    }
+    first_place(seats, host)
 }
 
 /// A copy of something that crossed.
@@ -99,9 +135,7 @@ pub(crate) fn write_crossing(
     ensures done { OnOk result (book.new ≡ all_reported deeds.reports.items (all_asked host deeds.asked.items (all_told host notices.items (all_crossed (reverse crossed.items) book.old)))) }
     ensures kept { OnErr result (book.new ≡ book.old) }
 {
-    let Some(place) = book.crossings().len().checked_add(crossed.len()) else {
-        return Err(AllocError);
-    };
+    let place = book.place_after(&crossed);
     let told = told_by(alloc, host, place, notices)?;
     let called = called_in(alloc, host, place, &deeds.asked)?;
     book.write(Page {

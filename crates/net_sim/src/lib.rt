@@ -24,6 +24,7 @@ mod lives;
 mod open;
 mod parts;
 mod seat;
+mod tally;
 mod undo;
 pub mod worked;
 pub mod worked_moments;

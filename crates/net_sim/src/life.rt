@@ -1,12 +1,14 @@
 //! Lives of connections: each opened end, from its opening on.
 
-ghost use Rattle.std.specs.Prelude.{◌≡◌, ◌++◌, if◌then◌else◌, OnErr, OnOk};
+ghost use Rattle.std.specs.Prelude.{◌≡◌, ◌+◌, ◌<◌, ◌≤◌, ◌^◌, ◌++◌, ℕ, if◌then◌else◌, OnOk};
 ghost use Rattle.net_sim.specs.Book as book;
 ghost use Rattle.net_sim.specs.Book.{lives_at, lives_between, lives_with, lives_on, changed_when};
+ghost use Rattle.net_sim.specs.Inside.Counts.{IsWithin};
 ghost use Rattle.net_sim.specs.Inside.Endings.{ends};
-ghost use Rattle.net_sim.specs.Inside.Undo.{AreNoted, IsEndNoted, IsNoted, life_back, mark_of};
+ghost use Rattle.net_sim.specs.Inside.Undo.{AreNoted, IsEndNoted, IsNoted, cut_amount, life_back, mark_of};
 
 use crate::bit_log::BitLog;
+use crate::tally::Tally;
 use crate::undo::{Mark, Undo};
 use bit_messages::Bits;
 use leader1822::HostAddr;
@@ -32,20 +34,22 @@ impl Amount {
         }
     }
 
-    /// So much more. A count that can't be held counts as running out of memory.
-    fn add(&mut self, messages: u16, bits: u32) -> Result<(), AllocError>
-        ensures done { OnOk result (self.new ≡ book.more messages bits self.old) }
-        ensures kept { OnErr result (self.new ≡ self.old) }
+    /// So much more, where both counts have room for it.
+    fn add(&mut self, messages: u16, bits: u32)
+        requires messages { self.old.messages + messages < 2 ^ 128 }
+        requires bits { self.old.bits + bits < 2 ^ 128 }
+        ensures { self.new ≡ book.more messages bits self.old }
     {
-        let Some(messages) = self.messages.checked_add(u128::from(messages)) else {
-            return Err(AllocError);
-        };
-        let Some(bits) = self.bits.checked_add(u128::from(bits)) else {
-            return Err(AllocError);
-        };
-        self.messages = messages;
-        self.bits = bits;
-        Ok(())
+        self.messages += u128::from(messages);
+        self.bits += u128::from(bits);
+    }
+
+    /// No more than it was.
+    fn cut(&mut self, was: &Amount)
+        ensures { self.new ≡ cut_amount was.now self.old }
+    {
+        self.messages = self.messages.min(was.messages);
+        self.bits = self.bits.min(was.bits);
     }
 }
 
@@ -160,6 +164,7 @@ impl Life {
     ) -> Result<(), AllocError>
         ensures done { OnOk result (self.new ≡ changed_when (ends ending.now self.old) book.life_ended self.old) }
         ensures noted { IsEndNoted at done.old.items self.old done.new.items self.new }
+        ensures within { (n : ℕ) → IsWithin n self.old → IsWithin n self.new }
     {
         if !self.is_of(ending) {
             return Ok(());
@@ -181,14 +186,14 @@ impl Life {
         }
     }
 
-    /// Its counts are these again.
+    /// Its counts, which only grew, are these again.
     pub(crate) fn put_back(&mut self, was: &Mark)
         ensures { self.new ≡ life_back was.now self.old }
     {
         self.bits.cut(was.bits);
-        self.messages = was.messages;
-        self.granted = was.granted;
-        self.returned = was.returned;
+        self.messages = self.messages.min(was.messages);
+        self.granted.cut(&was.granted);
+        self.returned.cut(&was.returned);
     }
 
     /// A message more was sent or taken at a socket, with these bits: in this life, where it is that of the socket. How it was
@@ -199,23 +204,25 @@ impl Life {
         host: HostAddr,
         socket: u32,
         bits: &Bits,
+        changes: &mut Tally,
         done: &mut Vec<Undo>,
     ) -> Result<(), AllocError>
+        requires { IsWithin changes.old self.old }
         ensures done { OnOk result (self.new ≡ changed_when (lives_at host socket self.old) (book.carried bits.now) self.old) }
         ensures noted { IsNoted at done.old.items self.old done.new.items self.new }
+        ensures within { IsWithin changes.new self.new }
+        ensures more { changes.old ≤ changes.new }
     {
         if !self.is_at(host, socket) {
             return Ok(());
         }
+        changes.add_one()?;
         done.push(Undo::Changed {
             at,
             was: self.mark(),
         })?;
-        let Some(messages) = self.messages.checked_add(1) else {
-            return Err(AllocError);
-        };
         self.bits.append(bits)?;
-        self.messages = messages;
+        self.messages += 1;
         Ok(())
     }
 
@@ -227,19 +234,25 @@ impl Life {
         socket: u32,
         messages: u16,
         bits: u32,
+        changes: &mut Tally,
         done: &mut Vec<Undo>,
     ) -> Result<(), AllocError>
+        requires { IsWithin changes.old self.old }
         ensures done { OnOk result (self.new ≡ changed_when (lives_at host socket self.old) (book.granted messages bits) self.old) }
         ensures noted { IsNoted at done.old.items self.old done.new.items self.new }
+        ensures within { IsWithin changes.new self.new }
+        ensures more { changes.old ≤ changes.new }
     {
         if !self.is_at(host, socket) {
             return Ok(());
         }
+        changes.add_one()?;
         done.push(Undo::Changed {
             at,
             was: self.mark(),
         })?;
-        self.granted.add(messages, bits)
+        self.granted.add(messages, bits);
+        Ok(())
     }
 
     /// So much more was returned at a socket. How the life was is noted.
@@ -250,19 +263,25 @@ impl Life {
         socket: u32,
         messages: u16,
         bits: u32,
+        changes: &mut Tally,
         done: &mut Vec<Undo>,
     ) -> Result<(), AllocError>
+        requires { IsWithin changes.old self.old }
         ensures done { OnOk result (self.new ≡ changed_when (lives_at host socket self.old) (book.returned messages bits) self.old) }
         ensures noted { IsNoted at done.old.items self.old done.new.items self.new }
+        ensures within { IsWithin changes.new self.new }
+        ensures more { changes.old ≤ changes.new }
     {
         if !self.is_at(host, socket) {
             return Ok(());
         }
+        changes.add_one()?;
         done.push(Undo::Changed {
             at,
             was: self.mark(),
         })?;
-        self.returned.add(messages, bits)
+        self.returned.add(messages, bits);
+        Ok(())
     }
 
     /// Bits more were handed over to be sent at a socket. How many there were is noted.

@@ -1,8 +1,9 @@
 //! What each thing that happens does to all lives.
 
-ghost use Rattle.std.specs.Prelude.{◌≡◌, Bool, List, OnErr, OnOk};
+ghost use Rattle.std.specs.Prelude.{◌≡◌, ℕ, Bool, List, OnErr, OnOk};
 ghost use Rattle.net_sim.specs.Book as book;
 ghost use Rattle.net_sim.specs.Book.{lives_at, where_it, handed_to};
+ghost use Rattle.net_sim.specs.Inside.Counts.{AreWithin, IsWithin};
 ghost use Rattle.net_sim.specs.Inside.Endings.{ends};
 ghost use Rattle.net_sim.specs.Inside.Lives as all;
 ghost use Rattle.net_sim.specs.Inside.Open.{AreKept, Holds};
@@ -12,6 +13,7 @@ use crate::bit_log::BitLog;
 use crate::book::{Page, Told};
 use crate::life::{Amount, Ending, Life};
 use crate::open::Open;
+use crate::tally::Tally;
 use crate::undo::{Undo, take_back};
 use bit_messages::Bits;
 use leader1822::{Crossing, HostAddr};
@@ -22,15 +24,19 @@ use std::marker::Model;
 /// The lives, and what was handed over to be sent in each.
 ///
 /// Nothing changes a life that has ended. So it is known where those stand that are open, and only these are looked at.
+///
+/// No count of a life passes 4294967295 times the number of changes that were written, so none overflows.
 #[derive(Drop)]
 pub(crate) struct Lives {
     lives: Vec<Life>,
     handed: Vec<BitLog>,
     open: Open,
+    changes: Tally,
     alloc: Global,
 }
 
 impl Model for Lives {
+    ghost use Rattle.net_sim.specs.Inside.Counts.{AreWithin};
     ghost use Rattle.net_sim.specs.Inside.Lives.{LivesState};
     ghost use Rattle.net_sim.specs.Inside.Open.{AreKnown};
 
@@ -38,7 +44,7 @@ impl Model for Lives {
 
     ghost view = { λ l. record { lives = l.lives.items; handed = l.handed.items } };
 
-    ghost invariant = { λ l. AreKnown l.open.known l.open.hosts l.open.sockets l.lives.items };
+    ghost invariant = { λ l. AreKnown l.open.known l.open.hosts l.open.sockets l.lives.items × AreWithin l.changes l.lives.items };
 }
 
 /// Lives end, of those at these places.
@@ -51,6 +57,7 @@ fn end(
     requires { Holds (ends ending.now) places.now lives.old }
     ensures done { OnOk result (lives.new ≡ where_it (ends ending.now) book.life_ended lives.old) }
     ensures kept { AreKept lives.old lives.new }
+    ensures within { (n : ℕ) → AreWithin n lives.old → AreWithin n lives.new }
     ensures back { (handed : List (List Bool)) → GoesBack done.old.items (record { lives = lives.old; handed = handed }) done.new.items (record { lives = lives.new; handed = handed }) }
 {
     for at in places {
@@ -66,15 +73,18 @@ fn carry(
     host: HostAddr,
     socket: u32,
     bits: &Bits,
+    changes: &mut Tally,
     done: &mut Vec<Undo>,
 ) -> Result<(), AllocError>
-    requires { Holds (lives_at host socket) places.now lives.old }
+    requires places { Holds (lives_at host socket) places.now lives.old }
+    requires within { AreWithin changes.old lives.old }
     ensures done { OnOk result (lives.new ≡ where_it (lives_at host socket) (book.carried bits.now) lives.old) }
     ensures kept { AreKept lives.old lives.new }
+    ensures within { AreWithin changes.new lives.new }
     ensures back { (handed : List (List Bool)) → GoesBack done.old.items (record { lives = lives.old; handed = handed }) done.new.items (record { lives = lives.new; handed = handed }) }
 {
     for at in places {
-        lives[*at].carry_at(*at, host, socket, bits, done)?;
+        lives[*at].carry_at(*at, host, socket, bits, changes, done)?;
     }
     Ok(())
 }
@@ -87,15 +97,18 @@ fn grant(
     socket: u32,
     messages: u16,
     bits: u32,
+    changes: &mut Tally,
     done: &mut Vec<Undo>,
 ) -> Result<(), AllocError>
-    requires { Holds (lives_at host socket) places.now lives.old }
+    requires places { Holds (lives_at host socket) places.now lives.old }
+    requires within { AreWithin changes.old lives.old }
     ensures done { OnOk result (lives.new ≡ where_it (lives_at host socket) (book.granted messages bits) lives.old) }
     ensures kept { AreKept lives.old lives.new }
+    ensures within { AreWithin changes.new lives.new }
     ensures back { (handed : List (List Bool)) → GoesBack done.old.items (record { lives = lives.old; handed = handed }) done.new.items (record { lives = lives.new; handed = handed }) }
 {
     for at in places {
-        lives[*at].grant_at(*at, host, socket, messages, bits, done)?;
+        lives[*at].grant_at(*at, host, socket, messages, bits, changes, done)?;
     }
     Ok(())
 }
@@ -108,15 +121,18 @@ fn give_back(
     socket: u32,
     messages: u16,
     bits: u32,
+    changes: &mut Tally,
     done: &mut Vec<Undo>,
 ) -> Result<(), AllocError>
-    requires { Holds (lives_at host socket) places.now lives.old }
+    requires places { Holds (lives_at host socket) places.now lives.old }
+    requires within { AreWithin changes.old lives.old }
     ensures done { OnOk result (lives.new ≡ where_it (lives_at host socket) (book.returned messages bits) lives.old) }
     ensures kept { AreKept lives.old lives.new }
+    ensures within { AreWithin changes.new lives.new }
     ensures back { (handed : List (List Bool)) → GoesBack done.old.items (record { lives = lives.old; handed = handed }) done.new.items (record { lives = lives.new; handed = handed }) }
 {
     for at in places {
-        lives[*at].give_back_at(*at, host, socket, messages, bits, done)?;
+        lives[*at].give_back_at(*at, host, socket, messages, bits, changes, done)?;
     }
     Ok(())
 }
@@ -152,6 +168,7 @@ impl Lives {
             lives: Vec::new(alloc),
             handed: Vec::new(alloc),
             open: Open::new(alloc),
+            changes: Tally::new(alloc),
             alloc,
         }
     }
@@ -178,7 +195,15 @@ impl Lives {
     {
         self.open.know(self.alloc, &self.lives)?;
         let places = self.open.at(host, socket);
-        carry(&mut self.lives, places, host, socket, bits, done)
+        carry(
+            &mut self.lives,
+            places,
+            host,
+            socket,
+            bits,
+            &mut self.changes,
+            done,
+        )
     }
 
     /// So much was granted in the life of a socket.
@@ -195,7 +220,16 @@ impl Lives {
     {
         self.open.know(self.alloc, &self.lives)?;
         let places = self.open.at(host, socket);
-        grant(&mut self.lives, places, host, socket, messages, bits, done)
+        grant(
+            &mut self.lives,
+            places,
+            host,
+            socket,
+            messages,
+            bits,
+            &mut self.changes,
+            done,
+        )
     }
 
     /// So much was returned in the life of a socket.
@@ -212,7 +246,16 @@ impl Lives {
     {
         self.open.know(self.alloc, &self.lives)?;
         let places = self.open.at(host, socket);
-        give_back(&mut self.lives, places, host, socket, messages, bits, done)
+        give_back(
+            &mut self.lives,
+            places,
+            host,
+            socket,
+            messages,
+            bits,
+            &mut self.changes,
+            done,
+        )
     }
 
     /// Bits were handed over to be sent in the life of a socket.
@@ -239,8 +282,9 @@ impl Lives {
         )
     }
 
-    /// A life begins, with nothing handed over yet.
+    /// A life begins, with nothing counted or handed over yet.
     fn begin(&mut self, life: Life, done: &mut Vec<Undo>) -> Result<(), AllocError>
+        requires { IsWithin 0 life }
         ensures done { OnOk result (self.new ≡ all.begun life self.old) }
         ensures back { GoesBack done.old.items self.old done.new.items self.new }
     {

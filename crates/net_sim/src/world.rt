@@ -3,7 +3,6 @@
 ghost use Rattle.std.specs.Prelude.{◌≡◌, false, List, [], IfOk, OnOk, All};
 ghost use Rattle.leader1822.specs.Calls.{InOrder};
 ghost use Rattle.leader1822.specs.Host.{Host, IsAddress};
-ghost use Rattle.leader1822.specs.Messages.{SafeMessages};
 ghost use Rattle.net_sim.specs.Carriers.{shown};
 ghost use Rattle.net_sim.specs.Clean.{IsLawful};
 ghost use Rattle.net_sim.specs.Handed.{AreUnhanded};
@@ -71,12 +70,11 @@ impl<C: Carrier> World<C> {
     }
 
     /// What happened so far. It is that of a lawful world, of which `law::clean_resets` speaks: a host that is through a
-    /// reset with a peer takes of it only what went out after its last clean point. And a message that was answered by
-    /// RFNM was taken exactly once, and none was taken twice.
+    /// reset with a peer takes of it only what went out after its last clean point. And by `law::books` a message that was
+    /// answered by RFNM was taken exactly once, and none was taken twice.
     pub fn book(&self) -> &Book
         ensures value { result.now ≡ self.now.kept }
         ensures lawful { IsLawful C.seen (C.seen self.now.carrier).hosts self.now }
-        ensures messages { SafeMessages self.now.kept.book.crossings }
     {
         &self.book
     }

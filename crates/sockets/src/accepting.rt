@@ -12,7 +12,7 @@ ghost use Rattle.sockets.specs.Pairs.{pair_with, with_pair};
 
 use crate::ncp::Ncp;
 use crate::{NcpFault, Notice};
-use host_pairs::{Turn, is_busy};
+use host_pairs::{Listeners, Turn, is_busy};
 use leader1822::{Answer, Flow, HostAddr, HostMessage, Inbound};
 use std::alloc::AllocError;
 use std::mem;
@@ -27,7 +27,7 @@ impl Ncp {
     {
         Turn {
             pair: self.peers.take(self.alloc, peer),
-            listening: mem::replace(&mut self.listening, Vec::new(self.alloc)),
+            listening: mem::replace(&mut self.listening, Listeners::new(self.alloc)),
             notices: Vec::new(self.alloc),
         }
     }

@@ -7,7 +7,7 @@ ghost use Rattle.sockets.specs.declared.fault.NcpFault.TheVariants as fault;
 
 use crate::NcpFault;
 use crate::peers::Peers;
-use host_pairs::Listener;
+use host_pairs::Listeners;
 use leader1822::HostAddr;
 use std::alloc::{AllocError, Global};
 use std::marker::Model;
@@ -21,7 +21,7 @@ use std::marker::Model;
 pub struct Ncp {
     pub(crate) own: HostAddr,
     pub(crate) peers: Peers,
-    pub(crate) listening: Vec<Listener>,
+    pub(crate) listening: Listeners,
     pub(crate) spent: bool,
     pub(crate) alloc: Global,
 }
@@ -31,7 +31,7 @@ impl Model for Ncp {
 
     ghost Value = { NcpState };
 
-    ghost view = { λ n. record { own = n.own; peers = n.peers; listening = n.listening.items; spent = n.spent } };
+    ghost view = { λ n. record { own = n.own; peers = n.peers; listening = n.listening; spent = n.spent } };
 }
 
 impl Ncp {
@@ -42,7 +42,7 @@ impl Ncp {
         Ncp {
             own,
             peers: Peers::new(alloc),
-            listening: Vec::new(alloc),
+            listening: Listeners::new(alloc),
             spent: false,
             alloc,
         }

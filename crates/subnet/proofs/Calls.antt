@@ -17,4 +17,5 @@ pub mod Silence
 pub mod SiteHosts
 pub mod Starts
 pub mod Stopping
+pub mod Taken
 pub mod Working

@@ -1,6 +1,6 @@
 //! Calls of one IMP, as data.
 
-ghost use Rattle.std.specs.Prelude.{◌≡◌, ◌<◌, length, false, OnOk, IfSome};
+ghost use Rattle.std.specs.Prelude.{◌≡◌, [], ◌<◌, length, false, OnOk, IfSome};
 ghost use Rattle.imp_node.specs.Turns.{Turned, Takes};
 ghost use Rattle.subnet.specs.Events.{at_up};
 ghost use Rattle.subnet.specs.Calls.{grows_at};
@@ -91,4 +91,25 @@ pub(crate) fn call_imp(
         return Err(CarrierFault::IsDown);
     }
     call.make_at(&mut imps[at])
+}
+
+/// Hands an empty list of frames back to the IMP of this number, if it is up.
+pub(crate) fn reuse(imps: &mut [Option<Imp>], imp: u8, spare: Vec<Outgoing>)
+    requires { spare.items ≡ [] }
+    ensures { imps.new ≡ imps.old }
+{
+    let at = imp as usize;
+    if at < imps.len() {
+        reuse_at(&mut imps[at], spare);
+    }
+}
+
+/// The same at the IMP of a place.
+fn reuse_at(place: &mut Option<Imp>, spare: Vec<Outgoing>)
+    requires { spare.items ≡ [] }
+    ensures { place.new ≡ place.old }
+{
+    if let Some(imp) = place {
+        imp.reuse(spare);
+    }
 }

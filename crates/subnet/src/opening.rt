@@ -6,6 +6,7 @@ ghost use Rattle.subnet.specs.Net.{ends_at};
 ghost use Rattle.subnet.specs.Opening as start;
 ghost use Rattle.subnet.specs.Inside.Calling.{AreLive};
 
+use crate::hosts::Hosts;
 use crate::parts::Parts;
 use crate::wire::{Ends, Wire, port_of};
 use imp_node::Imp;
@@ -34,7 +35,7 @@ impl Parts {
         let lines = empty_lines(alloc, ends)?;
         let imps = opened_imps(alloc, &sites, &lines)?;
         Ok(Parts {
-            hosts,
+            hosts: Hosts::new(hosts),
             sites,
             imps,
             lines,

@@ -3,17 +3,19 @@
 ghost use Rattle.std.specs.Prelude.{◌≡◌, ◌<◌, ◌∷◌, [], Some, None, true, false, length, OnOk, OnErr, IfOk, if◌then◌else◌, option_copied, slice_get};
 ghost use Rattle.leader1822.specs.Host.{is_host};
 ghost use Rattle.leader1822.specs.declared.carrier.CarrierFault.TheVariants as fault;
-ghost use Rattle.subnet.specs.Net.{imp_at, wire_at, far_end, frames_on, port_of};
+ghost use Rattle.subnet.specs.Net.{imp_at, wire_at, far_end, frames_on, port_of, put_all};
 ghost use Rattle.subnet.specs.Calls.{grows_at};
 ghost use Rattle.subnet.specs.Flows.{imp_is_up};
 ghost use Rattle.subnet.specs.Events as events;
 ghost use Rattle.subnet.specs.Events.{is_imp, has_end, logging};
 ghost use Rattle.subnet.specs.Inside.Calling.{call_turn, call_grows, AreLive, Makes, Ignores, SameLog, runs_out, copied_grows};
+ghost use Rattle.subnet.specs.Inside.Taking.{frame_taken};
 
-use crate::imp_call::{ImpCall, call_imp};
+use crate::hosts::Hosts;
+use crate::imp_call::{ImpCall, call_imp, reuse};
 use crate::wire::{Wire, port_of, put_all};
 use imp_channel::Frame;
-use imp_node::Imp;
+use imp_node::{Imp, Outgoing};
 use leader1822::{CarrierFault, Crossing, Direction, HostAddr};
 use std::alloc::{AllocError, Global};
 use std::marker::Model;
@@ -23,7 +25,7 @@ use std::marker::Model;
 /// Any IMPs are allowed here, also those that were short of memory. Calls of an IMP ask that none was.
 #[derive(Drop)]
 pub(crate) struct Parts {
-    pub(crate) hosts: Vec<HostAddr>,
+    pub(crate) hosts: Hosts,
     pub(crate) sites: Vec<Option<u8>>,
     pub(crate) imps: Vec<Option<Imp>>,
     pub(crate) lines: Vec<Wire>,
@@ -42,7 +44,7 @@ impl Model for Parts {
 
     ghost coded = { Prim.hlevel (codes, coded_sources, coded_destinations) };
 
-    ghost view = { λ p. record { hosts = p.hosts.items; sites = p.sites.items; imps = p.imps.items; lines = p.lines.items; log = reverse p.log.items } };
+    ghost view = { λ p. record { hosts = p.hosts; sites = p.sites.items; imps = p.imps.items; lines = p.lines.items; log = reverse p.log.items } };
 
     ghost invariant = { λ p. AreParts p.imps.items p.sites.items p.lines.items };
 }
@@ -134,6 +136,17 @@ impl Parts {
         wire.copy(direction, place)
     }
 
+    /// Takes out the oldest frame of a directed line. An empty frame stands in its place.
+    pub(crate) fn take_first(&mut self, line: usize, direction: Direction) -> Frame
+        requires line { line < length self.old.lines }
+        requires some { 0 < length (frames_on direction (wire_at self.old.lines line)) }
+        ensures frame { slice_get (frames_on direction (wire_at self.old.lines line)) 0 ≡ Some result }
+        ensures state { self.new ≡ frame_taken self.old line direction }
+    {
+        let wire = &mut self.lines[line];
+        wire.take_first(direction)
+    }
+
     /// The frame at a place of a directed line is lost.
     pub(crate) fn lose(&mut self, line: usize, direction: Direction, place: usize)
         requires line { line < length self.old.lines }
@@ -156,9 +169,23 @@ impl Parts {
         ensures keeps { SameLog self.old self.new }
     {
         let frames = call_imp(&mut self.imps, imp, call)?;
-        if put_all(&mut self.lines, imp, frames).is_err() {
+        if self.put(imp, frames).is_err() {
             return Err(CarrierFault::OutOfMemory);
         }
+        Ok(())
+    }
+
+    /// Puts the frames that an IMP's call answered on lines. Their list goes back to the IMP.
+    ///
+    /// Errors: memory runs out, and nothing else.
+    pub(crate) fn put(&mut self, imp: u8, frames: Vec<Outgoing>) -> Result<(), AllocError>
+        ensures ok { OnOk result (self.new ≡ record self.old { lines = put_all self.old.lines imp frames.items }) }
+        ensures imps { self.new.imps ≡ self.old.imps }
+        ensures memory { OnErr result (0 < length frames.items) }
+        ensures keeps { SameLog self.old self.new }
+    {
+        let spare = put_all(&mut self.lines, imp, frames)?;
+        reuse(&mut self.imps, imp, spare);
         Ok(())
     }
 

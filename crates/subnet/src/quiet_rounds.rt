@@ -1,10 +1,10 @@
 //! Quiet rounds: every IMP tells and sends again, and every frame arrives once.
 
-ghost use Rattle.std.specs.Prelude.{◌≡◌, length, true, OnOk, OnErr};
+ghost use Rattle.std.specs.Prelude.{◌≡◌, ◌<◌, length, slice_get, true, OnOk, OnErr};
 ghost use Rattle.std.specs.List.{range_with_len};
 ghost use Rattle.subnet.specs.Net.{wire_at, frames_on};
 ghost use Rattle.subnet.specs.Events as events;
-ghost use Rattle.subnet.specs.Calls.{round_grows};
+ghost use Rattle.subnet.specs.Calls.{round_grows, delivered_grows};
 ghost use Rattle.subnet.specs.Inside.Calling.{AreLive, SameLog, carried_first};
 
 use crate::imp_call::ImpCall;
@@ -131,7 +131,7 @@ impl Parts {
     }
 
     /// The oldest frame of a directed line, if there is one, is delivered and dropped.
-    #[tactic(auto, using(crate::proofs::Calls::Carries::delivered_none, crate::proofs::Calls::RoundMemory::delivering_wants))]
+    #[tactic(auto, using(crate::proofs::Calls::Carries::none_carried, crate::proofs::Calls::RoundMemory::delivering_wants))]
     fn carry_first(&mut self, line: usize, direction: Direction) -> Result<(), AllocError>
         requires { AreLive self.old.imps }
         ensures ok { OnOk result (self.new ≡ carried_first line direction self.old) }
@@ -139,11 +139,35 @@ impl Parts {
         ensures memory { OnErr result (round_grows self.old ≡ true) }
         ensures keeps { SameLog self.old self.new }
     {
-        if self.has_frame(line, direction, 0) {
-            self.bring(line, direction, 0)?;
+        if !self.has_frame(line, direction, 0) {
+            return Ok(());
         }
+        self.hand_over(line, direction)?;
         self.lose_first(line, direction);
         Ok(())
+    }
+
+    /// The oldest frame of a directed line arrives at the far end, if the IMP there is up. It isn't copied: an empty
+    /// frame stands in its place until that is dropped.
+    ///
+    /// Errors: memory runs out, and nothing else.
+    #[tactic(auto, using(crate::proofs::Calls::Taken::not_handed, crate::proofs::Calls::Taken::taken_lives, crate::proofs::Calls::Taken::taken_keeps))]
+    fn hand_over(&mut self, line: usize, direction: Direction) -> Result<(), AllocError>
+        requires live { AreLive self.old.imps }
+        requires there { line < length self.old.lines }
+        requires some { 0 < length (frames_on direction (wire_at self.old.lines line)) }
+        ensures ok { OnOk result (events.drop_frame self.new line direction 0 ≡ carried_first line direction self.old) }
+        ensures live { OnOk result (AreLive self.new.imps) }
+        ensures memory { OnErr result (delivered_grows self.old line direction (slice_get (frames_on direction (wire_at self.old.lines line)) 0) ≡ true) }
+        ensures keeps { SameLog self.old self.new }
+    {
+        let imp = self.far_end(line, direction);
+        if !self.is_up(imp) {
+            return Ok(());
+        }
+        let port = self.port(imp, line);
+        let frame = self.take_first(line, direction);
+        self.attempt(imp, ImpCall::Arrive(port, frame))
     }
 
     /// The oldest frame of a directed line, if there is one, is lost.

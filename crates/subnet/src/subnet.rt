@@ -220,7 +220,7 @@ impl Parts {
     fn hosts(&self) -> &[HostAddr]
         ensures { result.now ≡ self.now.hosts }
     {
-        &self.hosts
+        self.hosts.all()
     }
 }
 

@@ -11,7 +11,6 @@ ghost use Rattle.subnet.specs.Calls.{grows_at, take_grows};
 ghost use Rattle.subnet.specs.Inside.Calling.{AreLive, CallEnds, SameLog, imp_by, imps_by, frames_by};
 
 use crate::parts::Parts;
-use crate::wire::put_all;
 use imp_node::{Imp, Outgoing};
 use leader1822::{CarrierFault, Crossing, HostAddr, Inbound};
 use std::alloc::AllocError;
@@ -44,7 +43,7 @@ impl Parts {
         ensures keeps { SameLog self.old self.new }
     {
         let (given, frames) = take_at_imp(&mut self.imps, imp, host)?;
-        if put_all(&mut self.lines, imp, frames).is_err() {
+        if self.put(imp, frames).is_err() {
             return Err(CarrierFault::OutOfMemory);
         }
         Ok(given)

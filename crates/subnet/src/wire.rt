@@ -1,17 +1,19 @@
 //! A line between two IMPs, and the frames that are live on it.
 
-ghost use Rattle.std.specs.Prelude.{◌≡◌, ◌<◌, length, slice_get, slice_set, IfOk, IfSome, OnOk, OnErr, true, option_copied};
+ghost use Rattle.std.specs.Prelude.{◌≡◌, ◌<◌, [], length, slice_get, slice_set, IfOk, IfSome, OnOk, OnErr, Some, true, option_copied};
 ghost use Rattle.subnet.specs.Net as net;
 ghost use Rattle.subnet.specs.Net.{ends_at, far_end, frames_on, followed_by, with_frame, dropping, port_of, line_from, put_one, put_all};
 ghost use Rattle.subnet.specs.Inside.Calling.{copied_grows};
+ghost use Rattle.subnet.specs.Inside.Taking.{hollow, hollowed};
 ghost use Rattle.subnet.specs.Opening as start;
 
-use imp_channel::Frame;
+use imp_channel::{ACKS, Content, Frame};
 use imp_node::Outgoing;
 use leader1822::Direction;
 use std::alloc::{AllocError, Global};
 use std::collections::VecDeque;
 use std::marker::Model;
+use std::mem;
 
 /// How many frames can be live on a line each way.
 const LINE_PLACES: usize = 256;
@@ -107,6 +109,18 @@ impl Wire {
         }
     }
 
+    /// Takes out the oldest frame that goes one way. An empty frame stands in its place.
+    pub(crate) fn take_first(&mut self, direction: Direction) -> Frame
+        requires { 0 < length (frames_on direction self.old) }
+        ensures frame { slice_get (frames_on direction self.old) 0 ≡ Some result }
+        ensures line { self.new ≡ hollowed direction self.old }
+    {
+        match direction {
+            Direction::Forward => take_first(&mut self.forward),
+            Direction::Back => take_first(&mut self.back),
+        }
+    }
+
     /// The frame at a place of those that go one way is lost.
     pub(crate) fn lose(&mut self, direction: Direction, place: usize)
         requires { place < length (frames_on direction self.old) }
@@ -152,12 +166,29 @@ fn copied(frames: &VecDeque<Frame>, place: usize) -> Result<Option<Frame>, Alloc
     }
 }
 
+/// Takes the oldest frame out, and puts an empty one in its place.
+fn take_first(frames: &mut VecDeque<Frame>) -> Frame
+    requires { 0 < length frames.old.items }
+    ensures frame { slice_get frames.old.items 0 ≡ Some result }
+    ensures frames { frames.new.items ≡ slice_set frames.old.items 0 hollow }
+{
+    let empty = Frame {
+        acks: [false; ACKS],
+        content: Content::Nothing,
+    };
+    mem::replace(&mut frames[0], empty)
+}
+
 /// Takes the frame at a place out.
 fn lose(frames: &mut VecDeque<Frame>, place: usize)
     requires { place < length frames.old.items }
     ensures { frames.new.items ≡ net.without_at place frames.old.items }
 {
-    let _ = frames.remove(place);
+    if place == 0 {
+        let _ = frames.pop_front();
+    } else {
+        let _ = frames.remove(place);
+    }
 }
 
 /// Puts a frame behind the others, if there is a place for it.
@@ -213,14 +244,20 @@ fn put_one(lines: &mut [Wire], imp: u8, outgoing: Outgoing) -> Result<(), AllocE
     }
 }
 
-/// An IMP puts one frame after another on the lines at its ports.
-#[tactic(auto, using(crate::proofs::Calls::Putting::put_more))]
-pub(crate) fn put_all(lines: &mut [Wire], imp: u8, frames: Vec<Outgoing>) -> Result<(), AllocError>
+/// An IMP puts one frame after another on the lines at its ports. The list comes back empty.
+#[tactic(auto, using(crate::proofs::Calls::Putting::none_left))]
+pub(crate) fn put_all(
+    lines: &mut [Wire],
+    imp: u8,
+    frames: Vec<Outgoing>,
+) -> Result<Vec<Outgoing>, AllocError>
     ensures ok { OnOk result (lines.new ≡ put_all lines.old imp frames.items) }
+    ensures none { IfOk result (λ spare. spare.items ≡ []) }
     ensures memory { OnErr result (0 < length frames.items) }
 {
-    for outgoing in frames {
+    let mut queue = VecDeque::from_vec(frames);
+    'frames: while let Some(outgoing) = queue.pop_front() {
         put_one(lines, imp, outgoing)?;
     }
-    Ok(())
+    Ok(queue.into_vec())
 }

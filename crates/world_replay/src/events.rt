@@ -54,7 +54,7 @@ pub fn replay_events<C: Carrier, W: Output>(
     ensures cannot_write { result ≡ Err ReplayFault.CannotWrite → (lines : List Shown) × EndsIn (shown (record { seen = C.seen; offers = C.offers; takes = C.takes; steps = C.steps; rounds = C.rounds })) (MayDo (shown (record { seen = C.seen; offers = C.offers; takes = C.takes; steps = C.steps; rounds = C.rounds }))) world.old events.items world.new lines }
 {
     let outcome = replay_in_turn(world, events, detail, writer);
-    // for the proof alone: the promise about messages is a clause of `World::book`
+    // for the proof alone: by `World::book` the world is lawful, from which the promise about messages follows
     let _book = world.book();
     outcome
 }

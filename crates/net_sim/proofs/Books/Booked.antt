@@ -99,6 +99,15 @@ step_of_one seen (event.Abandon f) = tt
 
 -- ---- one event
 
+-- ---- the messages
+
+-- where the carrier's log is a run of the mailboxes, a message answered by RFNM was taken exactly once, and none is taken twice
+pub booked_messages : {C : Type 0} (seen : C → Seen) (w : WorldState C) → IsBooked seen w → IsRun (seen w.carrier).hosts (seen w.carrier).log → SafeMessages w.kept.book.crossings
+booked_messages seen w b is =
+    let hosts : List Host = (seen w.carrier).hosts in
+    let run : IsRun hosts (b.unbooked ++ w.kept.book.crossings) = subst (λ (log : List Crossing). IsRun hosts log) b.book is in
+    safe_messages hosts w.kept.book.crossings (run_below hosts b.unbooked w.kept.book.crossings run)
+
 module _ {C : Type 0} (own : Calls C) where
   abbrev calls : Calls C
   calls = shown own
@@ -247,13 +256,7 @@ module _ {C : Type 0} (own : Calls C) where
   pub calm_books : (times : ℕ) (old : WorldState C) (r : Result (Unit {0}) WorldFault) (new : WorldState C) → IsBooked own.seen old → CalmGives calls times old r new → IsBooked own.seen new
   calm_books times old r new b h = calm_keeps calls (IsBooked own.seen) (λ e. Unit {0}) tt (λ x. tt) (λ x. tt) (λ e v q w n. step_books e v q w) times old r new b h
 
-  -- ---- the opening, and the messages
+  -- ---- the opening
 
   pub opening_booked : (c : C) → (own.seen c).log ≡ [] → IsBooked own.seen (opening_world calls c)
   opening_booked c none = record { unbooked = []; book = none; all = λ running. refl; one = tt }
-
-  pub booked_messages : (w : WorldState C) → IsBooked own.seen w → IsRun (own.seen w.carrier).hosts (own.seen w.carrier).log → SafeMessages w.kept.book.crossings
-  booked_messages w b is =
-      let hosts : List Host = (own.seen w.carrier).hosts in
-      let run : IsRun hosts (b.unbooked ++ w.kept.book.crossings) = subst (λ (log : List Crossing). IsRun hosts log) b.book is in
-      safe_messages hosts w.kept.book.crossings (run_below hosts b.unbooked w.kept.book.crossings run)

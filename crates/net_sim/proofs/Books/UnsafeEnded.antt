@@ -1,5 +1,5 @@
 -- Books that aren't safe though each of their lives has ended.
-use Rattle.std.proofs.Common.{◌≡◌, ◌≤◌, [], ◌∷◌, ◌++◌, ℕ, Some, IsSome, refl, ap, arith}
+use Rattle.std.proofs.Common.{◌≡◌, ◌≤◌, [], ◌∷◌, ◌++◌, Some, IsSome, refl, ap, arith}
 use Rattle.leader1822.specs.declared.crossing.Crossing.TheVariants as crossing
 use Rattle.leader1822.specs.Host.{Host}
 use Rattle.sockets.specs.Worked.{first, second, third}

@@ -1,7 +1,9 @@
 -- Where a host sits.
-use Rattle.std.proofs.Common.{◌≡◌, ℕ, ◌<◌, Bool, true, false, not, is_some, cond, List, [], ◌∷◌, length, Option, Some, None, Result, find, slice_index_or, refl, ap, sym, subst, ◌∙◌}
-use Rattle.std.specs.List.{position}
-use Rattle.std.proofs.lemmas.List.{get_or_default}
+use Rattle.std.proofs.Common.{◌≡◌, ℕ, zero, suc, ◌+◌, ◌<◌, ◌≤◌, nat_lt, Bool, true, false, not, is_some, cond, List, [], ◌∷◌, length, Option, Some, None, Result, find, slice_index_or, refl, ap, sym, subst, ◌∙◌, arith}
+use Rattle.std.specs.List.{position, position_or_len}
+use Rattle.std.proofs.lemmas.Bool.{ltb-false}
+use Rattle.std.proofs.lemmas.List.{get_or-map, get_or_default, length-map}
+use Rattle.std.proofs.lemmas.List.Folds.{list_any_at}
 use Rattle.leader1822.specs.Host.{Host, same_host, is_host}
 use Rattle.leader1822.proofs.lemmas.{or_false}
 use Rattle.host_pairs.proofs.lemmas.{one_changed, one_found}
@@ -67,3 +69,35 @@ no_program (Some s) h = absurd (cc)
 pub sits_gives : {C : Type 0} (Gives : NcpState → Type 0) (h : Host) (place : ℕ) (s : NcpState) (old : WorldState C) (r : Result (Unit {0}) WorldFault) (new : WorldState C) → Sits h place s old.seats → Gives s
     → AtSeat Gives (seat_of h old.seats) old r new
 sits_gives {C} Gives h place s old r new sits gives = subst (λ (o : Option Seat). AtSeat Gives o old r new) (sym sits.found) gives
+
+-- ---- a host's seat at a place
+
+listed : (h : Host) (seats : List Seat) (at : ℕ) (d : Seat) → at < length seats → same_host h (slice_index_or seats at d).host ≡ true → is_host (hosts_of seats) h ≡ true
+listed h seats at d lt is =
+    let long : length (hosts_of seats) ≡ length seats = length-map seats (λ (s : Seat). s.host) in
+    list_any_at (same_host h) (hosts_of seats) at d.host (omega (arith, lt, long)) (ap (same_host h) (get_or-map (λ (s : Seat). s.host) seats at d d.host lt) ∙ is)
+
+not_first : (h : Host) (x : Seat) (seats : List Seat) → IsOnce (hosts_of (x ∷ seats)) → is_host (hosts_of seats) h ≡ true → (b : Bool) → same_host h x.host ≡ b → same_host h x.host ≡ false
+not_first h x seats once here true e = absurd (let f : true ≡ false = sym here ∙ once.0 h e in cc)
+not_first h x seats once here false e = e
+
+first_stands : (h : Host) (seats : List Seat) (at : ℕ) (d : Seat) → IsOnce (hosts_of seats) → at < length seats → same_host h (slice_index_or seats at d).host ≡ true
+    → position_or_len (λ s. same_host h s.host) seats ≡ at
+first_stands h [] at d once lt is = absurd (omega (arith, lt))
+first_stands h (x ∷ seats) zero d once lt is = let here : same_host h x.host ≡ true = is in rw here refl
+first_stands h (x ∷ seats) (suc at) d once lt is =
+    let lower : at < length seats = omega (arith, lt) in
+    let other : same_host h x.host ≡ false = not_first h x seats once (listed h seats at d lower is) (same_host h x.host) refl in
+    let one : 1 + position_or_len (λ s. same_host h s.host) seats ≡ suc (position_or_len (λ s. same_host h s.host) seats) = omega arith in
+    rw other (one ∙ ap suc (first_stands h seats at d once.1 lower is))
+
+some_place : (b : Bool) (n at len : ℕ) → nat_lt n len ≡ b → n ≡ at → at < len → cond b (Some n) None ≡ Some at
+some_place true n at len e same lt = ap (λ (k : ℕ). Some k) same
+some_place false n at len e same lt = absurd (let le : len ≤ n = ltb-false n len e in omega (arith, le, same, lt))
+
+-- where a host's seat stands it is found
+pub placed : (h : Host) (seats : List Seat) (at : ℕ) → IsOnce (hosts_of seats) → at < length seats → ((d : Seat) → same_host h (slice_index_or seats at d).host ≡ true)
+    → position (λ s. same_host h s.host) seats ≡ Some at
+placed h seats at once lt is =
+    let d : Seat = record { host = h; program = None } in
+    some_place (nat_lt (position_or_len (λ s. same_host h s.host) seats) (length seats)) (position_or_len (λ s. same_host h s.host) seats) at (length seats) refl (first_stands h seats at d once lt (is d)) lt

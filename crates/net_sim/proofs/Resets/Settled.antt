@@ -24,7 +24,7 @@ use Rattle.net_sim.specs.World.{WorldState}
 use Rattle.net_sim.specs.Projection.{Agrees, event_of, phase_of}
 use Rattle.net_sim.specs.Story.{Crossed, Asked, Moment, events_of, places}
 use Rattle.net_sim.specs.Story as story
-use Rattle.net_sim.specs.Timeline.{IsTimeline, contacts_of, crossings_of, events_in, seen_box}
+use Rattle.net_sim.specs.Timeline.{IsTimeline, contacts_of, crossings_of, events_in}
 use Rattle.net_sim.proofs.Books.BookEvents.{box_in, pair_told, run_at, run_told, same_events}
 use Rattle.net_sim.proofs.Resets.Clean.{seen_waiting, waiting_out}
 use Rattle.net_sim.proofs.Resets.Coupled.{Coupled, coupled}

@@ -1,6 +1,6 @@
 -- How what was done to the lives is taken back.
-use Rattle.std.specs.Prelude.{◌≡◌, ◌⊎◌, ℕ, zero, suc, Bool, false, List, [], ◌∷◌, ◌++◌, length, take}
-use Rattle.net_sim.specs.Book.{Life}
+use Rattle.std.specs.Prelude.{◌≡◌, ◌⊎◌, ℕ, zero, suc, Bool, false, List, [], ◌∷◌, ◌++◌, length, min, take}
+use Rattle.net_sim.specs.Book.{Amount, Life}
 use Rattle.net_sim.specs.Inside.Lives.{LivesState}
 use Rattle.net_sim.specs.Inside.Places.{changed_here}
 pub use Rattle.net_sim.specs.declared.undo.Mark.{Mark}
@@ -11,9 +11,13 @@ use Rattle.net_sim.specs.declared.undo.Undo.TheVariants as undo
 abbrev pub mark_of : Life → Mark
 mark_of x = record { bits = length x.bits; messages = x.messages; granted = x.granted; returned = x.returned }
 
--- a life with the counts that it had
+-- no more than it was
+abbrev pub cut_amount : Amount → Amount → Amount
+cut_amount was a = record { messages = min a.messages was.messages; bits = min a.bits was.bits }
+
+-- a life with the counts that it had: they only grew since
 abbrev pub life_back : Mark → Life → Life
-life_back m x = record x { bits = take m.bits x.bits; messages = m.messages; granted = m.granted; returned = m.returned }
+life_back m x = record x { bits = take m.bits x.bits; messages = min x.messages m.messages; granted = cut_amount m.granted x.granted; returned = cut_amount m.returned x.returned }
 
 abbrev pub reopened : Life → Life
 reopened x = record x { ended = false }

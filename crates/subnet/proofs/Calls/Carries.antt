@@ -54,3 +54,6 @@ pub delivered_none : (n : Net) (l : ℕ) (d : Direction) → frame_refusal n l d
 delivered_none n l d refused =
     let empty : frames_on d (wire_at n.lines l) ≡ [] = no_frame n l d _ _ refl refl refused in
     ap (λ (frames : List Frame). delivered n l d (slice_get frames 0)) (sym empty)
+
+pub none_carried : (n : Net) (l : ℕ) (d : Direction) → frame_refusal n l d 0 ≡ Some fault.NoSuch → n ≡ carried_first l d n
+none_carried n l d refused = lost_none n l d refused ∙ ap (λ (m : Net). drop_frame m l d 0) (delivered_none n l d refused)

@@ -1,8 +1,11 @@
-use Rattle.std.proofs.Common.{◌≡◌, take, drop}
+use Rattle.std.proofs.Common.{◌≡◌, map, take, drop}
+use Rattle.host_services.specs.Ears.{ear_of}
 use Rattle.host_services.specs.Turns.{notice_heard}
 use Rattle.host_services.proofs.TurnLemmas.{behind}
 use Rattle.host_services.proofs.services.tell_each.Given as goal
 
--- those before this place have had their turns
+-- those before this place have had their turns, and each ear is that of its service
 abbrev pub invariant-loop-at : goal.invariant-loop-at
-invariant-loop-at l = notice_heard l.notice l.fn.services l.fn.desk ≡ behind (take l.at l.services) (notice_heard l.notice (drop l.at l.services) l.desk)
+invariant-loop-at l =
+    (notice_heard l.notice l.fn.services l.fn.desk ≡ behind (take l.at l.services) (notice_heard l.notice (drop l.at l.services) l.desk))
+    × (l.ears ≡ map ear_of l.services)

@@ -25,6 +25,4 @@ returns-clause-calm g c =
     λ old new times r b h. calm_books calls times old r new b h
 
 pub returns-clause-messages : goal.returns-clause-messages
-returns-clause-messages g c =
-    let calls : Calls g.row.C.Denot = record { seen = g.C.Carrier.seen; offers = g.C.Carrier.offers; takes = g.C.Carrier.takes; steps = g.C.Carrier.steps; rounds = g.C.Carrier.rounds } in
-    λ w b is. booked_messages calls w b is
+returns-clause-messages g c = λ w b is. booked_messages g.C.Carrier.seen w b is

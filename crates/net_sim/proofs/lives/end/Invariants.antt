@@ -1,5 +1,6 @@
-use Rattle.std.proofs.Common.{◌≡◌, Bool, List, drop}
+use Rattle.std.proofs.Common.{◌≡◌, ℕ, Bool, List, drop}
 use Rattle.net_sim.specs.Book.{life_ended}
+use Rattle.net_sim.specs.Inside.Counts.{AreWithin}
 use Rattle.net_sim.specs.Inside.Endings.{ends}
 use Rattle.net_sim.specs.Inside.Open.{AreKept}
 use Rattle.net_sim.specs.Inside.Undo.{GoesBack}
@@ -7,10 +8,11 @@ use Rattle.net_sim.proofs.Books.Places.{changed_at, where_here}
 use Rattle.net_sim.proofs.Books.Undoing.{state}
 use Rattle.net_sim.proofs.lives.end.Given as goal
 
--- what is left makes of the lives what the whole does, each is where it was, and what was done is noted
+-- what is left makes of the lives what the whole does, each is where it was, their counts are not greater, and what was done is noted
 abbrev pub invariant-loop-at : goal.invariant-loop-at
 invariant-loop-at l = record {
   rest : changed_at (where_here (ends l.ending) life_ended) (drop l.at-index l.places) l.lives ≡ changed_at (where_here (ends l.ending) life_ended) l.places l.fn.lives;
   kept : AreKept l.fn.lives l.lives;
+  within : (n : ℕ) → AreWithin n l.fn.lives → AreWithin n l.lives;
   back : (handed : List (List Bool)) → GoesBack l.fn.done.items (state l.fn.lives handed) l.done.items (state l.lives handed);
 }

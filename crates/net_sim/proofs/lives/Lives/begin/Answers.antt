@@ -1,7 +1,10 @@
-use Rattle.std.proofs.Common.{◌≡◌, rules, List, [], ◌∷◌, ◌++◌, refl, ap, sym, subst, ◌∙◌}
+use Rattle.std.proofs.Common.{◌≡◌, arith, rules, List, [], ◌∷◌, ◌++◌, refl, ap, sym, subst, ◌∙◌}
+use Rattle.std.proofs.lemmas.List.Elements.{All-push}
 use Rattle.net_sim.specs.Book.{Life}
+use Rattle.net_sim.specs.Inside.Counts.{AreWithin, IsWithin}
 use Rattle.net_sim.specs.Inside.Open.{AreKnown}
 use Rattle.net_sim.specs.declared.undo.Undo.TheVariants as undo
+use Rattle.net_sim.proofs.Books.Counts.{counts_later}
 use Rattle.net_sim.proofs.Books.Undoing.{state, begun_back, one_back}
 use Rattle.net_sim.proofs.lives.Lives.begin.Goals as goal
 
@@ -10,9 +13,12 @@ invariant_of-self-2 c =
     let there : c.deref.result.now ≡ c.self.inside.lives.items = search rules in
     let more : c.push_reserved-3.new.self.items ≡ c.self.inside.lives.items ++ c.args.life ∷ [] = search rules in
     let known : AreKnown c.self.inside.open.known c.self.inside.open.hosts c.self.inside.open.sockets c.deref.result.now =
-    subst (λ (xs : List Life). AreKnown c.self.inside.open.known c.self.inside.open.hosts c.self.inside.open.sockets xs) (sym there) c.self.invariant in
-    subst (λ (xs : List Life). AreKnown c.enter.new.self.known c.enter.new.self.hosts c.enter.new.self.sockets xs) (ap (λ (xs : List Life). xs ++ c.args.life ∷ []) there ∙ sym more)
-    (c.in_ok-enter.ensures.done c.args.life refl refl known)
+    subst (λ (xs : List Life). AreKnown c.self.inside.open.known c.self.inside.open.hosts c.self.inside.open.sockets xs) (sym there) c.self.invariant.0 in (
+      subst (λ (xs : List Life). AreKnown c.enter.new.self.known c.enter.new.self.hosts c.enter.new.self.sockets xs) (ap (λ (xs : List Life). xs ++ c.args.life ∷ []) there ∙ sym more)
+          (c.in_ok-enter.ensures.done c.args.life refl refl known),
+      subst (λ (xs : List Life). AreWithin c.self.inside.changes xs) (sym more)
+          (All-push (IsWithin c.self.inside.changes) c.self.inside.lives.items c.args.life c.self.invariant.1 (counts_later 0 c.self.inside.changes c.args.life (omega arith) c.requires)),
+    )
 
 pub returns-clause-back : goal.returns-clause-back
 returns-clause-back c =
