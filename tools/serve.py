@@ -224,6 +224,10 @@ def main(root, words):
     if len(script) > MOST_OCTETS:
         print(f"explain: {path}: more than {MOST_OCTETS} octets", file=sys.stderr)
         return 1
+    # the first call builds the program, which takes longer than a run may
+    subprocess.run([f"{root}/tools/program"], stdout=subprocess.DEVNULL)
+    # a shell without job control has SIGINT ignored in what it starts in the background
+    signal.signal(signal.SIGINT, signal.default_int_handler)
     signal.signal(signal.SIGTERM, signal.default_int_handler)
     with Server(root, os.path.basename(path), script, seconds) as server:
         print(f"Open {server.address()} in a browser of this machine. Ctrl-C stops.", flush=True)

@@ -15,7 +15,7 @@ const DATA: &str =
 /// The octets that are handed over.
 const HANDED: [u8; 13] = [1, 2, 3, 4, 5, 6, 7, 8, 9, 10, 11, 12, 13];
 
-/// What a book's lives and lists are.
+/// What a book's lives and lists are, and what an audit says of it.
 #[derive(Clone, Copy)]
 struct Row {
     /// The last octet that was taken.
@@ -28,6 +28,8 @@ struct Row {
     times: usize,
     /// How many lists of handed bits there are.
     lists: usize,
+    /// The answer.
+    wanted: Audit,
 }
 
 /// As they are after `DATA`.
@@ -37,7 +39,44 @@ const AS_IT_IS: Row = Row {
     own: 6,
     times: 1,
     lists: 2,
+    wanted: Audit::Kept,
 };
+
+/// The book of `DATA`, as it is and with one thing changed.
+const ROWS: [Row; 6] = [
+    AS_IT_IS,
+    // the last bit that was taken is another: 0C becomes 0D
+    Row {
+        last: 13,
+        wanted: Audit::Broken(Part::Streams),
+        ..AS_IT_IS
+    },
+    // 96 bits and the four that were returned are more than was granted
+    Row {
+        granted: 99,
+        wanted: Audit::Broken(Part::Grants),
+        ..AS_IT_IS
+    },
+    // the receiving life stands there twice
+    Row {
+        times: 2,
+        lists: 3,
+        wanted: Audit::Broken(Part::Partners),
+        ..AS_IT_IS
+    },
+    // at place 7 a message came in
+    Row {
+        own: 7,
+        wanted: Audit::Malformed,
+        ..AS_IT_IS
+    },
+    // a life without a list
+    Row {
+        lists: 1,
+        wanted: Audit::Malformed,
+        ..AS_IT_IS
+    },
+];
 
 /// The first `count` bits of these octets.
 fn bits(alloc: Global, octets: &[u8], count: usize) -> Option<BitLog> {
@@ -91,20 +130,43 @@ fn receiver(alloc: Global, row: Row) -> Option<Life> {
     })
 }
 
-/// What an audit says of the log after `DATA`, with these lives and lists.
-fn said(alloc: Global, row: Row) -> Option<Audit> {
-    let world: World<PlainBoxes> = happened(alloc, DATA)?;
+/// The lives of a row: one that sends, and one that receives so many times.
+fn lives(alloc: Global, row: Row) -> Option<Vec<Life>> {
     let mut lives = Vec::new(alloc);
-    let mut handed = Vec::new(alloc);
     lives.push(sender(alloc)?).ok()?;
-    handed.push(bits(alloc, &HANDED, 104)?).ok()?;
     for _ in 0..row.times {
         lives.push(receiver(alloc, row)?).ok()?;
     }
-    for _ in 1..row.lists {
-        handed.push(bits(alloc, &HANDED, 0)?).ok()?;
+    Some(lives)
+}
+
+/// So many lists, the first of which has what was handed over, and the others nothing.
+fn lists(alloc: Global, count: usize) -> Option<Vec<BitLog>> {
+    let mut lists = Vec::new(alloc);
+    for place in 0..count {
+        lists
+            .push(bits(alloc, &HANDED, if place == 0 { 104 } else { 0 })?)
+            .ok()?;
     }
-    Some(audit(world.book().crossings(), &lives, &handed))
+    Some(lists)
+}
+
+/// Whether an audit says of a log, with the lives and lists of a row, what the row wants.
+fn fits(alloc: Global, log: &[Crossing], row: Row) -> Option<bool> {
+    let lives = lives(alloc, row)?;
+    let handed = lists(alloc, row.lists)?;
+    Some(audit(log, &lives, &handed) == row.wanted)
+}
+
+/// Whether all rows fit.
+fn all_fit(alloc: Global) -> Option<bool> {
+    let world: World<PlainBoxes> = happened(alloc, DATA)?;
+    for row in ROWS {
+        if !fits(alloc, world.book().crossings(), row)? {
+            return Some(false);
+        }
+    }
+    Some(true)
 }
 
 /// What the book of `DATA` itself is.
@@ -135,69 +197,36 @@ fn taken_often(alloc: Global, times: usize) -> Option<Audit> {
     for _ in 0..times {
         log.push(Crossing::In(message(alloc)?)).ok()?;
     }
-    let lives: Vec<Life> = Vec::new(alloc);
-    let handed: Vec<BitLog> = Vec::new(alloc);
-    Some(audit(&log, &lives, &handed))
+    Some(audit(&log, &[], &[]))
 }
 
 #[test]
 fn a_book_of_data_is_kept_and_broken_where_one_thing_is_changed(rt: HostRuntime) {
-    let alloc = rt.alloc();
-    let found = [
-        own_book(alloc),
-        said(alloc, AS_IT_IS),
-        // the last bit that was taken is another: 0C becomes 0D
-        said(
-            alloc,
-            Row {
-                last: 13,
-                ..AS_IT_IS
-            },
-        ),
-        // 96 bits and the four that were returned are more than was granted
-        said(
-            alloc,
-            Row {
-                granted: 99,
-                ..AS_IT_IS
-            },
-        ),
-        // the receiving life stands there twice
-        said(
-            alloc,
-            Row {
-                times: 2,
-                lists: 3,
-                ..AS_IT_IS
-            },
-        ),
-        // at place 7 a message came in
-        said(alloc, Row { own: 7, ..AS_IT_IS }),
-        // a life without a list
-        said(
-            alloc,
-            Row {
-                lists: 1,
-                ..AS_IT_IS
-            },
-        ),
+    assert_eq!(rt; all_fit(rt.alloc()), Some(true));
+}
+
+#[test]
+fn the_audit_of_a_worlds_own_book_is_kept(rt: HostRuntime) {
+    assert_eq!(rt; own_book(rt.alloc()), Some(Audit::Kept));
+}
+
+/// What audits of logs without lives say, where a message is taken twice, once, and where nothing crosses.
+fn without_lives(alloc: Global) -> [Option<Audit>; 3] {
+    [
         taken_often(alloc, 2),
         taken_often(alloc, 1),
         taken_often(alloc, 0),
-    ];
+    ]
+}
+
+#[test]
+fn a_message_is_taken_at_most_once(rt: HostRuntime) {
     let wanted = [
-        Some(Audit::Kept),
-        Some(Audit::Kept),
-        Some(Audit::Broken(Part::Streams)),
-        Some(Audit::Broken(Part::Grants)),
-        Some(Audit::Broken(Part::Partners)),
-        Some(Audit::Malformed),
-        Some(Audit::Malformed),
         Some(Audit::Broken(Part::Messages)),
         Some(Audit::Kept),
         Some(Audit::Kept),
     ];
-    assert_eq!(rt; found, wanted);
+    assert_eq!(rt; without_lives(rt.alloc()), wanted);
 }
 
 #[test]

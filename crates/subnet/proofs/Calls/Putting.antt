@@ -1,5 +1,5 @@
 -- Frames that are put on lines.
-use Rattle.std.proofs.Common.{◌≡◌, ℕ, List, [], ◌∷◌, length, refl, arith}
+use Rattle.std.proofs.Common.{◌≡◌, List, [], ◌∷◌, length, refl, arith}
 
 -- a list without elements is the empty one
 pub none_left : {A : Type 0} (xs : List A) → length xs ≡ 0 → xs ≡ []
