@@ -1,4 +1,4 @@
-"""Logs that were written by hand, and what the audit has to say of each: rows for `check audit`.
+"""Logs that were written by hand, and what is to be said of each, with the line: rows for `check audit`.
 
 Most are made of one short log, that of docs/audit.md, with something changed in it.
 """
@@ -105,7 +105,7 @@ BAD_LINES = [
     *(LIFE.replace("1 16 1", "1 0 1"), LIFE.replace("4849", "-"), LIFE.replace("0/1 16", "0/0 16"), LIFE.replace("life 0/1", "life 4/1"), LIFE.replace(" open", "")),
 ]
 
-# ---- whole logs, octet by octet, and how the program ends: a verdict, or the number of a bad line
+# ---- whole logs, octet by octet, and the verdict or the number of the bad line
 
 OCTETS = [
     (b"", 1),
@@ -131,32 +131,23 @@ OCTETS = [
 ]
 
 
-def ends(wanted):
-    """How the program ends: with a verdict, or at the line of a number."""
-    if isinstance(wanted, int):
-        return 2, "", f"arpasim: bad log line {wanted}\n"
-    return 0 if wanted == "kept" else 4, f"{wanted}\n", ""
-
-
 def rows_of_page():
-    """The changes of the page's log, as sed makes them, and what the page says of each."""
+    """The changes of the page's log, as sed makes them, and what the program prints of each."""
     if f"```text\n{SHORT}```" not in PAGE:
         raise ValueError("docs/audit.md has another log than logs/two-octets")
     for script, said in re.findall(r"^\| `sed '(.*)'` \| `?([^|`]*?)`? \|", PAGE, re.MULTILINE):
         changed = subprocess.run(["sed", script], input=SHORT.encode(), capture_output=True, check=True).stdout
-        wanted = int(said.split()[-1]) if said.startswith("bad log line") else said
-        yield changed, ends(wanted)
+        yield changed, said
 
 
 def rows():
-    """Each log, and how the program has to end on it."""
-    yield from rows_of_page()
+    """Each log, and what is to be said of it, with the line."""
     for text, other, wanted in VERDICTS:
         if text not in SHORT:
             raise ValueError(f"the short log has no {text}")
-        yield SHORT.replace(text, other, 1).encode(), ends(wanted)
+        yield SHORT.replace(text, other, 1).encode(), wanted
     for wanted, lines in LINES.items():
-        yield from ((f"{line}\nend\n".encode(), ends(wanted)) for line in lines)
-    yield from ((f"{line}\nend\n".encode("latin-1"), ends(1)) for line in BAD_LINES)
-    yield from ((f"down 0/1\n{line}\nend\n".encode("latin-1"), ends(2)) for line in BAD_LINES)
-    yield from ((octets, ends(wanted)) for octets, wanted in OCTETS)
+        yield from ((f"{line}\nend\n".encode(), wanted) for line in lines)
+    yield from ((f"{line}\nend\n".encode("latin-1"), "bad log line 1") for line in BAD_LINES)
+    yield from ((f"down 0/1\n{line}\nend\n".encode("latin-1"), "bad log line 2") for line in BAD_LINES)
+    yield from ((octets, f"bad log line {wanted}" if isinstance(wanted, int) else wanted) for octets, wanted in OCTETS)

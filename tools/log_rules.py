@@ -2,7 +2,8 @@
 
 They were written from docs/program.md and docs/audit.md, in another language and another form than the definitions. A log is read
 into a book: its crossings, its lives, and a list of bits for each life that was handed over to be sent. What a book keeps or
-breaks says `audit_rules`; here it is said too at which line. `check audit` and `check stops` compare the program with this.
+breaks says `audit_rules`; here it is said too at which line, which the program tells of malformed logs alone. `check audit` and
+`check stops` compare the program with this.
 """
 
 import re
@@ -138,18 +139,29 @@ def ends_log(network, lines):
 
 def ends_audit(octets):
     """How `--audit` ends on a log: its status, its output and its words."""
+    return ended(says(octets))
+
+
+def ended(said):
+    """How the program ends where this is said of a log. Of a broken part it tells no line."""
+    if said.startswith(("bad log", "log too long")):
+        return 2, "", f"arpasim: {said}\n"
+    shown = said.split(" line")[0] if said.startswith("broken") else said
+    return 0 if said == "kept" else 4, f"{shown}\n", ""
+
+
+def says(octets):
+    """What is to be said of a log, with the line at which it is bad, malformed or broken."""
     if len(octets) > MOST_OCTETS:
-        return 2, "", "arpasim: log too long\n"
+        return "log too long"
     try:
-        book = read_log(octets)
+        return verdict(read_log(octets))
     except BadLog as line:
-        return 2, "", f"arpasim: bad log line {line}\n"
-    said = verdict(book)
-    return 0 if said == "kept" else 4, f"{said}\n", ""
+        return f"bad log line {line}"
 
 
 def verdict(book):
-    """What is printed about a book."""
+    """What is to be said of a book, with the line that shows it."""
     log, lives, handed = book
     if place := unmatched(lives, handed):
         return f"malformed line {len(log) + place}"

@@ -2,8 +2,9 @@
 
 Tries what the program says of logs and prints as logs, against an independent reader and judge in Python (tools/log_rules.py).
 
-- Logs that were written by hand (tools/log_rows.py), each with its verdict or the number of its bad line. Readings of these rules
-  that are wrong in one place have to be told from the right one by these.
+- Logs that were written by hand (tools/log_rows.py), each with its verdict or the number of its bad line, and those of docs/audit.md.
+  Readings of these rules that are wrong in one place have to be told from the right one by these. In Python the verdict has the line
+  at which a part is broken; the program doesn't tell it.
 - Each prefix of a short log, and the same log with each octet changed to 00, 7F and FF; logs of as many octets as may be read, and of
   one more.
 - What `--log` prints of each example and each stored input is the log that the model makes of it, and `--audit` says `kept`.
@@ -26,7 +27,7 @@ import log_rows
 from audit_rules import PARTS
 from book_chance import WAYS, of_world, small
 from cases import cases_below
-from log_rules import book_of, ends_audit, ends_log, read_log, spelled_log
+from log_rules import book_of, ended, ends_audit, ends_log, read_log, says, spelled_log
 from model import network_of
 from parts import ROOT, any_program, loaded
 
@@ -90,7 +91,7 @@ def unnoticed():
             continue
         names = {}
         exec(source.replace(text, other), names)
-        if all(judged(names["ends_audit"], octets) == owed for octets, owed in log_rows.rows()):
+        if all(judged(names["says"], octets) == wanted for octets, wanted in log_rows.rows()):
             yield name
 
 
@@ -117,10 +118,10 @@ def octets_around(octets):
 def check_logs():
     """What is wrong with logs by hand, and with prefixes and changed octets of one."""
     wrong = [f"no log by hand tells this wrong reading: {it}" for it in unnoticed()]
-    rows = [*log_rows.rows()]
-    for octets, owed in rows:
-        if ends_audit(octets) != owed:
-            wrong.append(f"the reader in Python says {ends_audit(octets)}, and {owed} is wanted, of {octets[-400:]}")
+    by_hand = [(octets, wanted, says(octets)) for octets, wanted in log_rows.rows()]
+    of_page = [(octets, ended(wanted), ends_audit(octets)) for octets, wanted in log_rows.rows_of_page()]
+    wrong += [f"the reader in Python says {found}, and {wanted} is wanted, of {octets[-400:]}" for octets, wanted, found in [*by_hand, *of_page] if found != wanted]
+    rows = [*((octets, ended(wanted)) for octets, wanted, _ in by_hand), *((octets, owed) for octets, owed, _ in of_page)]
     around = [(it, ends_audit(it)) for it in octets_around(log_rows.SHORT.encode())]
     with ThreadPoolExecutor(CORES) as threads:
         found = threads.map(lambda row: compared("a log by hand", *row), [*rows, *around])
