@@ -17,10 +17,10 @@ def processor_time(words, source="/dev/null"):
     return used.ru_utime + used.ru_stime
 
 
-def most_memory(program, source):
+def most_memory(program, source, *options):
     """The most memory that a process held, in KiB by GNU time, and what it printed."""
     with open(source, "rb") as octets:
-        words = ["/usr/bin/time", "-f", "%M", program]
+        words = ["/usr/bin/time", "-f", "%M", program, *options]
         ran = subprocess.run(words, stdin=octets, capture_output=True, check=True)
     return int(ran.stderr), ran.stdout
 

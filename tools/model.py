@@ -1,5 +1,6 @@
 #!/usr/bin/env python3
 """Runs an input by the independent model of the rules alone, without the program: tools/model.py [--book] [--check] [--texts] < FILE
+With --log it prints the log, and with --audit it judges one.
 
 With --cases FOLDER it runs each file of a folder, with the options of NAME.args, and compares what it prints with
 NAME.stdout. Of TOML it reads the plain spelling that the examples have, one key a line.
@@ -9,7 +10,8 @@ import glob
 import os
 import sys
 
-from script_rules import expected
+from log_rules import ends_audit, ends_log
+from script_rules import expected, network_is_good
 
 
 def network_of(text):
@@ -30,9 +32,14 @@ def network_of(text):
 
 def ends(octets, options):
     """How the program has to end on an input."""
+    if options == ["--audit"]:
+        return ends_audit(octets)
     lines = octets.decode("latin-1").split("\n")
     marker = lines.index("%")
-    return expected(options, network_of("\n".join(lines[:marker])), lines[marker + 1 :])
+    network, script = network_of("\n".join(lines[:marker])), lines[marker + 1 :]
+    if options == ["--log"] and network_is_good(network, ["worlds"]):
+        return ends_log(network, script)
+    return expected(options, network, script)
 
 
 def read(path):

@@ -35,10 +35,10 @@ from parts import ROOT, any_program
 STOPPED = (3, b"arpasim: stopped\n")
 CANNOT_READ = (1, b"arpasim: cannot read\n")
 # the first message; the routes of three IMPs; resets that cross, and one that fails; the dialogue from terminal to server; bits
-# sent within the allocation and asked back
+# sent within the allocation and asked back; a log that is judged, and a connection whose log is printed
 FIVE = (
     "first-message", "three-imps-in-a-row", "resets-that-cross", "a-reset-that-fails-and-one-that-works",
-    "from-a-terminal-to-a-server", "sent-within-the-allocation-and-asked-back",
+    "from-a-terminal-to-a-server", "sent-within-the-allocation-and-asked-back", "two-octets", "a-connection",
 )  # fmt: skip
 LONG = ("numbers-come-round-under-a-stream",)
 LONGEST = 1000  # octets of a short example
@@ -78,9 +78,9 @@ def ways_of(name):
 class Trial:
     """The program on one example."""
 
-    def __init__(self, program, before, room, name):
-        self.program, self.before, self.room, self.name = program, before, room, name
-        self.path = f"{ROOT}/examples/{name}"
+    def __init__(self, program, before, room, path):
+        self.program, self.before, self.room, self.name = program, before, room, os.path.basename(path)
+        self.path = path
         self.words = self.beside(".args").decode().split()
         self.wrong = []
         self.whole = (int(self.beside(".status") or 0), self.beside(".stderr")), self.beside(".stdout")
@@ -161,19 +161,19 @@ def main():
         print("check failures: NOT TRIED, for want of a C compiler")
         return 1 if os.environ.get("CI") else 0
     wrong, total = 0, Counter()
-    names = sorted(it for it in os.listdir(f"{ROOT}/examples") if "." not in it)
-    names = [it for it in names if it in FIVE + LONG or os.path.getsize(f"{ROOT}/examples/{it}") <= LONGEST]
+    paths = [f"{ROOT}/{folder}/{name}" for folder in ("examples", "logs") for name in sorted(os.listdir(f"{ROOT}/{folder}")) if "." not in name]
+    paths = [it for it in paths if os.path.basename(it) in FIVE + LONG or os.path.getsize(it) <= LONGEST]
     with tempfile.TemporaryDirectory() as room, ThreadPoolExecutor(CORES) as threads:
         before = f"{room}/failing.so"
         subprocess.run([compiler, "-O1", "-shared", "-fPIC", "-o", before, f"{ROOT}/tools/failing.c", "-ldl"], check=True)
-        for name in names:
-            trial = Trial(program, before, room, name)
-            failed = [(trial.all_of(way, threads), way) for way in ways_of(name)]
+        for path in paths:
+            trial = Trial(program, before, room, path)
+            failed = [(trial.all_of(way, threads), way) for way in ways_of(trial.name)]
             for number, way in failed:
                 total[way.kind] += number
-            print(f"{name}: failed in turn {'; '.join(f'{number} {way.name}' for number, way in failed)}")
+            print(f"{trial.name}: failed in turn {'; '.join(f'{number} {way.name}' for number, way in failed)}")
             print(*sorted(trial.wrong), sep="\n", end="\n" if trial.wrong else "")
             wrong += len(trial.wrong)
-    print(f"check failures: {len(names)} inputs; failed in turn {', '.join(f'{number} {kind}' for kind, number in total.items())}")
+    print(f"check failures: {len(paths)} inputs; failed in turn {', '.join(f'{number} {kind}' for kind, number in total.items())}")
     wrong += check_streams(program)
     return 1 if wrong else 0

@@ -7,7 +7,8 @@ with a new contact, on the same sockets. `./check stops 10` stops after every te
 tools/stopping.py makes the scripts by the independent model, and the program runs them. It has to print what the model prints,
 refusals included. In the book the hosts have stopped that should; after the new contact both services are done and the typed line comes
 back; and the audit in Python (tools/audit_rules.py) finds the promise kept. What was sent and taken is read off the printed messages,
-and what was handed over, which isn't printed, is the model's. Books that are spoiled in one place have to be found broken.
+and what was handed over, which isn't printed there, is the model's. So spelled as a log, this book has to be what the program prints
+with `--log`, and its own `--audit` has to say `kept`. Of books that are spoiled in one place both audits have to name the part.
 
 It takes the proved program, or where ./build has not made that the one that was built without proofs, which is slow.
 """
@@ -21,6 +22,7 @@ from concurrent.futures import ProcessPoolExecutor
 from dataclasses import replace
 
 from audit_rules import audit, match
+from log_rules import Book, ends_audit, spelled_log
 from model import network_of
 from parts import ROOT, any_program
 from script_rules import read_bits, read_flow, with_texts
@@ -162,8 +164,9 @@ def tried(count):
             wrong.append(f"after event {count}, {DIALOGUE.lines[count - 1]}, {things}: {found}")
     for part, log, lives in spoiled(*book) if book and not wrong else ():
         seen["spoiled"] += 1
-        if audit(log, lives) != part:
-            wrong.append(f"a book that breaks {part} is found to break {audit(log, lives)}")
+        octets = log_of(log, lives)
+        if audit(log, lives) != part or run(octets, "--audit") != (owed := ends_audit(octets)) or part not in owed[1]:
+            wrong.append(f"a book that breaks {part} is found to break {audit(log, lives)}; --audit says {run(octets, '--audit')}")
     return seen, wrong
 
 
@@ -174,14 +177,36 @@ def judged(stop, seen):
         return (found,)
     book = book_of(lines, stop.world)
     seen.update(counted(stop, lines, *book))
-    return wrong_with(stop, lines, *book), *book
+    return wrong_with(stop, lines, *book) or wrong_with_log(stop, log_of(*book)), *book
+
+
+def run(octets, *options):
+    """How the program ends: its status, its output and its words."""
+    ran = subprocess.run([PROGRAM, *options], input=octets, capture_output=True)
+    return ran.returncode, ran.stdout.decode(), ran.stderr.decode()
+
+
+def input_of(stop):
+    return "\n".join([TOPOLOGY, "%", *stop.lines, ""]).encode()
 
 
 def printed(stop):
     """The lines that the program prints for a run, with its book."""
-    asked = "\n".join([TOPOLOGY, "%", *stop.lines, ""])
-    ran = subprocess.run([PROGRAM, "--texts", "--book"], input=asked.encode(), capture_output=True)
-    return [*ran.stdout.decode().splitlines(), *([f"status {ran.returncode}"] if ran.returncode else [])]
+    status, output, _ = run(input_of(stop), "--texts", "--book")
+    return [*output.splitlines(), *([f"status {status}"] if status else [])]
+
+
+def log_of(log, lives):
+    return spelled_log(Book(log, lives, [it.handed for it in lives]))
+
+
+def wrong_with_log(stop, octets):
+    """What is wrong with the log of a run, None where nothing is."""
+    if run(input_of(stop), "--log") != (0, octets.decode(), ""):
+        return "its log is not what it printed"
+    if (said := run(octets, "--audit")) != (0, "kept\n", ""):
+        return f"--audit says {said}"
+    return None
 
 
 def counted(stop, lines, log, lives):
@@ -206,7 +231,7 @@ def tell(seen, events, stops):
     print(f"check stops: {seen['runs']} runs of {seen['events']} events; what stops: {listed(seen, 'stop: ')}; {seen['down']} times a host goes down, {seen['up']} times up")
     print(f"check stops: {seen['refusals']} refusals until something was cleared: {listed(seen, 'tried: ')}; cleared by {listed(seen, 'cleared: ')}")
     print(f"check stops: the dialogues come to {listed(seen, 'end: ')}; in {seen['pauses']} of them the contact is done only when a host lets a round pass")
-    print(f"check stops: {seen['runs']} books audited, with {seen['crossings']} crossings and {seen['lives']} lives, and {seen['spoiled']} that are spoiled")
+    print(f"check stops: {seen['runs']} books audited, by the program and in Python, with {seen['crossings']} crossings and {seen['lives']} lives, and {seen['spoiled']} that are spoiled")
 
 
 def main():
