@@ -19,7 +19,7 @@ from drivers import crates_below
 from parts import ROOT
 
 # what antt says of a proof that names what is no longer there, or answers a goal that says nothing any more
-GONE = r"has no field|is not in scope|has no `|was not admitted|types are `Unit \{0\}` \(expected\)"
+GONE = r"has no field|is not in scope|has no `|was not admitted|\(nearest: \.|types are `Unit \{0\}` \(expected\)"
 
 
 class Edit:
