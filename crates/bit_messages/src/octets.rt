@@ -63,7 +63,7 @@ fn begun(alloc: Global, octets: &[u8], from: usize, count: usize) -> Result<Vec<
     shifted(alloc, rest, from % 8, size)
 }
 
-/// So many octets of the bits behind the first `by` bits; behind the last bit there are zeros.
+/// The first `size` octets of the bits after the first `by` bits, with zeros after the last bit.
 fn shifted(alloc: Global, octets: &[u8], by: usize, size: usize) -> Result<Vec<u8>, AllocError>
     requires some { 0 < by }
     requires few { by < 8 }

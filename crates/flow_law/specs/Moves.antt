@@ -16,7 +16,7 @@ use Rattle.flow_law.specs.View.{View, Packet, Queued, Kind, is_request, is_refus
 -- `Piece text x`: packet x carries a piece of the text. How a text is cut into pieces is left open here.
 
 pub data Move : Type 0 where
-  -- nothing but what may befall packets
+  -- nothing, but packets may be lost, copied and overtaken as at any move
   Quiet : Move
   -- the source offers a message that cannot be sent: Dead waits for it at once
   DeadNow : (place : ℕ) → (text : List Bool) → Move

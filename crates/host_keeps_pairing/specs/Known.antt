@@ -21,7 +21,7 @@ abbrev pub all_known : (ℕ → ℕ) → Host → ℕ → ℕ → List Notice �
 all_known origin peer own foreign [] known = known
 all_known origin peer own foreign (n ∷ notices) known = all_known origin peer own foreign notices (known_after origin peer own foreign n known)
 
--- what is known is so: the law's end is open by these two requests
+-- what is known is true: the law's end is open by these two requests
 abbrev pub Knows : List Life → End → Type 0
 Knows [] x = Unit {0}
 Knows (l ∷ known) x = IsOpen l.own l.partner x × Knows known x

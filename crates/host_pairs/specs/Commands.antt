@@ -154,7 +154,7 @@ ret_taken link messages bits e d =
 abbrev pub interrupted : Entry → DeskState → DeskState
 interrupted e d = desk_told (notice.Interrupt e.own ∷ []) d
 
--- ---- all commands. RST and RRP are no matter of connections
+-- ---- all commands; RST and RRP do nothing to the connections here
 
 abbrev pub desk_taken : Host → List ℕ → ℕ → Command → DeskState → DeskState
 desk_taken peer busy stamp command.Nop d = d

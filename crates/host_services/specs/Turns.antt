@@ -32,7 +32,7 @@ tried_by (Some f) r d = d
 abbrev pub tried : ServiceDeskState → Request → ServiceDeskState
 tried d r = tried_by (refusal d.program r) r d
 
--- an echo service and a terminal ask on, whatever is refused
+-- an echo service and a terminal go on asking, whatever is refused
 abbrev pub tries : ServiceDeskState → List Request → ServiceDeskState
 tries d requests = fold tried d requests
 

@@ -34,11 +34,11 @@ opening_server listen base =
 abbrev pub server_requests : ℕ → ℕ → List Request
 server_requests listen base = request.Listen listen 32 ∷ request.Listen base 8 ∷ request.Listen (base + 1) 8 ∷ []
 
--- one of its connections has ended before it came to be used
+-- one of its connections ended before it was used
 abbrev pub server_refused : ServerState → Notice → Bool
 server_refused s n = has_ended s.receive n || (has_ended s.send n || (is_none s.user && has_ended s.listen n))
 
--- all is gone with a host with which one of its connections was opened
+-- all connections are gone with a host with which one of its own was opened
 abbrev pub server_reset : ServerState → Notice → Bool
 server_reset s n = is_reset_of s.user n || (is_reset_of s.receiving n || is_reset_of s.sending n)
 
@@ -84,6 +84,6 @@ server_by s n None = server_judged (server_met s n) (server_says s n)
 unfoldable pub server_turn : ServerState → Notice → IcpTurn ServerState
 server_turn s n = if s.over then passed s else server_by s n (server_failure s n)
 
--- a request of it was refused: it has its outcome then, whether before or now
+-- one of its requests was refused: it has an outcome then, an earlier one or this one
 abbrev pub server_local : ServerState → NcpFault → ServerState × Option Outcome
 server_local s f = (record s { over = true }, local_outcome s.over f)

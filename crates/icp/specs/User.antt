@@ -108,6 +108,6 @@ user_turn s n = if s.over then passed s else user_by s n (user_failure s n)
 abbrev pub user_reads : UserState → Notice → Bool
 user_reads s n = s.opened && (is_none s.base && brings_bits s.own n)
 
--- a request of it was refused: it has its outcome then, whether before or now
+-- one of its requests was refused: it has an outcome then, an earlier one or this one
 abbrev pub user_local : UserState → NcpFault → UserState × Option Outcome
 user_local s f = (record s { over = true }, local_outcome s.over f)

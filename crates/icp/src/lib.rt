@@ -2,7 +2,7 @@
 //!
 //! A server listens on a socket that users know. A user asks for a connection from there, over which the
 //! server says the number of a socket, its base, in 32 bits. Then both have two connections, one each way,
-//! between the base and the socket above it and two sockets of the user (RFC 165, Proposed Initial
+//! between the base and the socket above it and two sockets of the user (RFC 165, A Proffered Official Initial
 //! Connection Protocol). Here live the server's part and the user's part. Each is a machine: a notice of
 //! the network control program goes in, requests to it come out, and at the end an outcome.
 //!

@@ -151,7 +151,7 @@ impl Server {
         self.spent
     }
 
-    /// Whether a connection of it has ended before it came to be used.
+    /// Whether one of its connections ended before it was used.
     fn is_refused(&self, notice: &Notice) -> bool
         ensures { result ≡ servers.server_refused self.now notice.now }
     {
@@ -160,7 +160,7 @@ impl Server {
             || self.user.is_none() && has_ended(self.listen.number(), notice)
     }
 
-    /// Whether all is gone with a host with which one of its connections was opened.
+    /// Whether the notice says that all connections are gone with a host with which one of its own was opened.
     fn is_reset(&self, notice: &Notice) -> bool
         ensures { result ≡ servers.server_reset self.now notice.now }
     {

@@ -55,7 +55,7 @@ pumped routes ports [] = record { ports = ports; waits = []; frames = [] }
 pumped routes ports (p ∷ ps) =
     and_then (packet_sent ports p (next_of routes (target p))) (pumped routes (packet_sent ports p (next_of routes (target p))).ports ps)
 
--- every call of an IMP ends so. The frames that the call itself puts on lines go first
+-- every call of an IMP ends with the pump. The frames that the call itself puts on lines go first
 abbrev pub pump : List Outgoing → State → ImpTurn
 pump frames s = record {
   state = record s { ports = (pumped s.routes s.ports s.store).ports; store = (pumped s.routes s.ports s.store).waits };

@@ -12,8 +12,8 @@ ghost use Rattle.leader1822.specs.declared.message.HostMessage.{HostMessage};
 use crate::{Crossing, HostAddr, HostMessage, Inbound, NetEvent};
 use thiserror::Error;
 
-/// Why a carrier refuses a call. They stand in the order in which a carrier looks for them, save that it
-/// looks for `Stopped` before all others.
+/// Why a carrier refuses a call. They stand in the order in which a carrier looks for them, except
+/// that it looks for `Stopped` before all others.
 #[derive(Clone, Copy, Debug, Drop, PartialEq, Eq, Error)]
 pub enum CarrierFault {
     /// There is no such host, IMP, line or frame, or the carrier has no such event.
@@ -51,10 +51,10 @@ pub enum CarrierFault {
 /// A network as its hosts see it: it takes their messages, gives them what came for them, and keeps the
 /// log of all crossings, which is a run of the mailboxes.
 ///
-/// A carrier has hosts, a log, and whether running out of memory has stopped it. A call that succeeds comes
-/// before a stop, and adds the crossings named at the call and no others. An error adds none. `OutOfMemory`
-/// stops the carrier, and any other error leaves hosts, log and stop as they were. Where the carrier has
-/// stopped, a call that can fail answers `Stopped`, and nowhere else.
+/// A carrier has hosts, a log, and whether running out of memory has stopped it. No call succeeds
+/// once the carrier has stopped. A call that succeeds adds the crossings named at the call and no others, and an
+/// error adds none. `OutOfMemory` stops the carrier, and any other error leaves hosts, log and stop as they were.
+/// A call that can fail answers `Stopped` exactly if the carrier has stopped before.
 ///
 /// When each of the other errors comes, and what the carrier keeps beside its log, each carrier says by
 /// its own relations.

@@ -57,13 +57,13 @@ pub record UserIsDone (notices : List Notice) (receive send : ℕ) : Type 0 wher
   pub sends : send ≡ began.own + 3
   pub connected : IsConnected began.peer began.listen began.own began.since
 
--- a report is so, on a host that was told all this: Done is reported of machines that are done
+-- a report is true of a host that was told these notices: a machine that is reported done is done. Of other reports nothing is asked
 abbrev pub IsSo : List Notice → Report → Type 0
 IsSo notices (report.Server (outcome.Done receive send)) = ServerIsDone notices receive send
 IsSo notices (report.User (outcome.Done receive send)) = UserIsDone notices receive send
 IsSo notices r = Unit {0}
 
--- a report is so at its place: by what its host was told until then
+-- a report is true at its place in the book: of what its host was told until then
 pub record IsBacked (told : List Told) (r : Reported) : Type 0 where
   pub within : r.notices ≤ length told
   pub so : IsSo (told_to r.host (take r.notices told)) r.report
@@ -76,11 +76,11 @@ IsRunning notices (service.Server s) = (s.over ≡ true) ⊎ ((b : BegunServer n
 IsRunning notices (service.User s) = (s.over ≡ true) ⊎ ((b : BegunUser notices) × (s ≡ (user_played (opening_user b.peer b.listen b.own) b.since).0))
 IsRunning notices s = Unit {0}
 
--- and so are all of these hosts
+-- the same of all services of all these hosts
 abbrev pub AreRunning : List Told → List ServiceSeat → Type 0
 AreRunning told all = All (λ s. All (IsRunning (told_to s.host told)) s.services.running) all
 
--- each report in the book is so at its place; and until memory runs out all that runs is as its host was told
+-- each report in the book is true at its place; and until memory runs out all that runs is as its host was told
 pub record AreReported {C : Type 0} (w : WorldState C) : Type 0 where
   pub reports : All (IsBacked w.kept.book.notices) w.kept.book.reports
   pub services : w.stopped ≡ false → AreRunning w.kept.book.notices w.services

@@ -1,5 +1,5 @@
--- What is kept of a world, told by its moments: by each something crosses or is asked for, and then its host's program tells its user
--- what came of it (NIC 8246).
+-- What is kept of a world, as its moments determine it. At each moment something crosses or is asked for, and the host's program tells
+-- its user what came of it (NIC 8246).
 use Rattle.std.specs.Prelude.{List, [], ◌∷◌}
 use Rattle.leader1822.specs.Host.{Host}
 use Rattle.leader1822.specs.declared.crossing.Crossing.TheVariants as crossing
@@ -20,7 +20,7 @@ host_in (Crossed (crossing.Down h)) = h
 host_in (Crossed (crossing.Up h)) = h
 host_in (Asked h r) = h
 
--- what its user is told by it, after older moments
+-- what the host's user is told at a moment, after older moments
 abbrev pub notices_by : Moment → List Moment → List Notice
 notices_by (Crossed (crossing.Out m)) moments = (offered (program m.flow.source moments) (places moments)).1
 notices_by (Crossed (crossing.In m)) moments = (accepted (program m.flow.destination moments) (inbound.Message m) (places moments)).1
@@ -29,7 +29,7 @@ notices_by (Crossed (crossing.Down h)) moments = []
 notices_by (Crossed (crossing.Up h)) moments = []
 notices_by (Asked h r) moments = served_notices (program h moments) r
 
--- what it is itself
+-- the moment itself is kept: its crossing, or its request
 abbrev pub kept_by : Moment → Kept → Kept
 kept_by (Crossed c) k = crossed c k
 kept_by (Asked h r) k = asked h r k

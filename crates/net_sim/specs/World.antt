@@ -150,12 +150,12 @@ tended h t w = record w {
   kept = done_by h t.1 w.kept;
 }
 
--- a host's program is this now, and told this: that goes into the book, and then to the host's services, notice by notice. What
+-- a host's program is now this one and told these notices, which go into the book, and then to the host's services one by one. What
 -- they ask for is asked at once
 abbrev pub world_heard : {C : Type 0} → Host → NcpState × List Notice → WorldState C → WorldState C
 world_heard h turn w = tended h (turn_of h (noticed w) (services_of h w.services) turn) (record w { kept = all_told h turn.1 w.kept })
 
--- this crossed, and the host's program told that of it, at a world whose carrier is now this one
+-- this crossed, the host's program is now this one and told these notices, and the world's carrier is now this one
 abbrev pub world_moved : {C : Type 0} → C → Host → Crossing → NcpState × List Notice → WorldState C → WorldState C
 world_moved c h x turn w = world_heard h turn (record w { carrier = c; kept = crossed x w.kept })
 

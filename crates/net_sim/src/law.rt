@@ -137,7 +137,7 @@ pub fn clean_resets<C: Carrier>()
     ensures agrees { (hosts : List Host) (w : WorldState C) → IsLawful C.seen hosts w → w.stopped ≡ false → (a b : Host) (s : NcpState) → seat_of a w.seats ≡ Some (record { host = a; program = Some s }) → Agrees (pair_with b s.peers) (pairs.pair a b (events_in w.kept.book.contacts w.kept.book.crossings)) }
 {}
 
-/// Both halves of a clean reset, over any list of moments: of whatever a host takes of a peer, but for RST and RRP, either it went out
+/// Both halves of a clean reset, over any list of moments: of whatever a host takes of a peer, except for RST and RRP, either it went out
 /// after the host's last clean point for that peer, or its taking leaves every pair and what listens as they were, and tells nothing.
 pub fn clean_takings<C: Carrier>()
     ensures stories { (hosts : List Host) (newer older : List Moment) (m : HostMessage) → HaveAddresses hosts → IsRun hosts (crossings_of (newer ++ Crossed (crossing.In m) ∷ older)) → IsTimeline hosts (newer ++ Crossed (crossing.In m) ∷ older) → IsText m → IsFresh m (contacts_of older) (crossings_of older) ⊎ IsUnheard (program m.flow.destination older) (accepted (program m.flow.destination older) (inbound.Message m) (places older)) }

@@ -15,8 +15,8 @@ const SOCKET_LISTS: usize = 1024;
 
 /// Lists of places, by a number.
 ///
-/// In each stand, in order, at least the places of the lives with its number that haven't ended. Those that have may stand there too,
-/// until the list has to grow.
+/// Each list has, in order, at least the places of the lives with its number that haven't ended. Places of ended lives may stay in it
+/// until it has to grow.
 #[derive(Drop)]
 struct Table {
     lists: Vec<Vec<usize>>,
@@ -48,7 +48,7 @@ fn forget_ended(list: &mut Vec<usize>, lives: &[Life])
     list.retain(|at| is_open(lives, *at));
 }
 
-/// A place more at the end, behind those of lives that haven't ended. There is room then for as many again.
+/// Keeps the places of lives that haven't ended, and puts one more at the end. Room is reserved for as many again.
 fn put_behind_open(list: &mut Vec<usize>, lives: &[Life], at: usize) -> Result<(), AllocError>
     ensures { OnOk result (list.new.items ≡ filter (is_open_at lives.now) list.old.items ++ at ∷ []) }
 {
@@ -90,7 +90,7 @@ impl Table {
         }
     }
 
-    /// There is a list with this number.
+    /// Makes empty lists until there is one with this number.
     fn widen(&mut self, key: usize) -> Result<(), AllocError>
         ensures there { OnOk result (key < length self.new) }
         ensures same { (k : ℕ) → slice_index_or self.new k [] ≡ slice_index_or self.old k [] }

@@ -3,7 +3,9 @@
 use crate::values::{flow, from_imp_3, from_imp_4, is_told};
 use leader1822::{Flow, HostAddr, ImpNumber};
 use link_table::numbers::{is_new, next, oldest};
-use link_table::{Age, Asked, DestFlows, Fate, FlowFault, Noted, Number, Release, SourceFlows, Standing};
+use link_table::{
+    Age, Asked, DestFlows, Fate, FlowFault, Noted, Number, Release, SourceFlows, Standing,
+};
 use std::alloc::{AllocError, Global};
 
 const BLOCKED: Result<Number, FlowFault> = Err(FlowFault::Blocked);
@@ -479,7 +481,13 @@ fn values_of_flows_are_equal_to_their_copies_alone(rt: HostRuntime) {
         copies_are_equal(&[Age::New, Age::Old]),
         copies_are_equal(&FATES),
         copies_are_equal(&noted_as_each),
-        copies_are_equal(&[Asked::Note, Asked::Silent, Asked::Rfnm, Asked::Dead, Asked::Never]),
+        copies_are_equal(&[
+            Asked::Note,
+            Asked::Silent,
+            Asked::Rfnm,
+            Asked::Dead,
+            Asked::Never,
+        ]),
         copies_are_equal(&[Release::Freed, Release::Stale]),
         copies_are_equal(&[FlowFault::Blocked, FlowFault::OutOfMemory]),
     ];

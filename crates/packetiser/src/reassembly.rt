@@ -157,7 +157,7 @@ impl Reassembly {
     }
 
     /// The `k`th message in reassembly, counted from 0; `None` past the last. Each message stands at one
-    /// `k`, in an order that isn't told.
+    /// `k`, in an order that isn't specified.
     #[tactic(auto, unfolding(crate::specs::Slots::in_some_order))]
     pub fn held(&self, k: usize) -> Option<Held>
         ensures message { result ≡ option_map (λ s. record { flow = s.flow; number = s.number }) (slice_get (in_some_order self.now) k) }

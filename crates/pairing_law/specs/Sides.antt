@@ -58,7 +58,7 @@ says m x = record {
   next = above m x.next;
 }
 
--- what is an error changes nothing
+-- a mark that is an error changes nothing
 abbrev pub hears : Mark → Side → Side
 hears m x = record {
   end = if fits m x.end then mark_taken m x.end else x.end;

@@ -59,7 +59,7 @@ impl From<WriteFailed> for ReplayFault {
 ///
 /// Errors:
 /// - `OutOfMemory`: memory ran out at one event. The lines of the events before it were written, and no line
-///   of its own, save that of a calm what crossed before memory ran out was written.
+///   of its own. If it was a calm, what crossed before memory ran out was written too.
 /// - `CannotWrite`: a write failed. The carrier had already processed the event whose line it was, or of a
 ///   calm all rounds up to the one whose line it was. Nothing more was asked of the writer, which alone knows
 ///   how much of its last lines it wrote.
@@ -78,8 +78,8 @@ pub fn replay_events<C: Carrier, W: Output>(
     // crossed, and then its refusal
     ensures replayed { OnOk result (Writes detail (Replays (record { seen = C.seen; offers = C.offers; takes = C.takes; steps = C.steps; rounds = C.rounds }) carrier.old events.now carrier.new) (W.contents writer.old) (W.contents writer.new)) }
 
-    // memory ran out at one event: what the events before it showed was printed, and nothing of that event, save what crossed in
-    // a calm before memory ran out
+    // memory ran out at one event: what the events before it showed was printed, and nothing of that event, except for
+    // what crossed in a calm before memory ran out
     ensures memory { result ≡ Err ReplayFault.OutOfMemory → Writes detail (EndsIn (record { seen = C.seen; offers = C.offers; takes = C.takes; steps = C.steps; rounds = C.rounds }) StopsIn carrier.old events.now carrier.new) (W.contents writer.old) (W.contents writer.new) }
 
     // `CannotWrite` is answered where a write failed, and nowhere else

@@ -30,7 +30,7 @@ pub trait Output {
 
     /// Prints a text, as `write!` and `writeln!` ask for it.
     ///
-    /// Errors: `WriteFailed`. How much of the text was written then the writer alone knows.
+    /// Errors: `WriteFailed`. Then only the writer knows how much of the text was written.
     fn write_fmt<D: Display>(&mut self, text: D) -> Result<(), WriteFailed>
     where
         D: Drop,
@@ -48,7 +48,7 @@ pub trait Output {
         ensures flushed { flushed self.new ≡ false }
         ensures written { OnOk result (Appends (contents self.old) (contents self.new) octets.now) };
 
-    /// Hands on all that was printed and is held back still.
+    /// Hands on all that was printed and is still held back.
     ///
     /// Errors: `WriteFailed`.
     fn flush(&mut self) -> Result<(), WriteFailed>

@@ -1,4 +1,4 @@
--- Tables that hear one another in rounds.
+-- Tables that exchange vectors in rounds.
 use Rattle.std.specs.Prelude.{◌≡◌, ℕ, zero, suc, ◌-◌, ◌<◌, ◌≤◌, ◌==◌, map, if◌then◌else◌, List, [], length, All, slice_index_or, Option, Some, None}
 use Rattle.std.specs.List.{filter_map}
 use Rattle.routing.specs.Vector.{imps, infinite}

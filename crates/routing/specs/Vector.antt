@@ -15,6 +15,6 @@ pub record IsVector (distances : List ℕ) : Type 0 where
   pub one_each : length distances ≡ imps
   pub in_range : All (λ d. d ≤ infinite) distances
 
--- the same as a test
+-- whether these are the distances of a vector (`IsVector`), as a test
 abbrev pub is_vector : List ℕ → Bool
 is_vector distances = (length distances == imps) && list_all (λ d. nat_le d infinite) distances

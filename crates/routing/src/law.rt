@@ -19,7 +19,7 @@ pub fn tables()
     ensures next { (t : Table) (imp : ℕ) → imp ≢ t.own → distance_to t imp < infinite → (port : ℕ) × (next_of t imp ≡ Some port) × IsNext t imp port }
 {}
 
-/// Tables that hear one another in rounds, while the lines stay as they are. After as many rounds as the
+/// Tables that exchange vectors in rounds, while the lines stay as they are. After as many rounds as the
 /// infinite distance, from whatever the tables had heard before, each table is right: its distances are
 /// those of shortest walks over the live lines, and its next lines lead nearer.
 pub fn settling()

@@ -1,4 +1,4 @@
-//! Tables of neighbouring IMPs that hear one another.
+//! Tables of neighbouring IMPs that exchange vectors.
 
 ghost use Rattle.std.specs.Prelude.{◌≡◌, ◌<◌, ◌≤◌, ℕ, map, length, OnOk, OnErr, IfOk, All, Some, slice_index_or, []};
 ghost use Rattle.routing.specs.Vector.{infinite};

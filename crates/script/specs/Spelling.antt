@@ -122,7 +122,7 @@ IsEvent (event.Calm rounds) = IsIndex rounds
 abbrev pub IsHex : List ℕ → Type 0
 IsHex word = (octets : List ℕ) × (decode_of word ≡ Ok octets)
 
--- a message's words are all good but for the last, of which it is known only that it is hexadecimal
+-- a message's words are all valid, except that of the last it is known only that it is hexadecimal
 pub record IsTextRead (words : List ℕ) : Type 0 where
   pub flow : Flow
   pub count : ℕ

@@ -76,8 +76,8 @@ happens (Sends m) x = record {
 
 -- ---- what may happen
 
--- what is heard is the oldest that was said; what is taken waits; a message goes out where none is outstanding; an end that has opened is closed
--- where none is outstanding either
+-- only the oldest of what was said is heard, and only what waits is taken. A message goes out, and an end that has opened is closed, only while
+-- none is outstanding
 abbrev pub MayReceive : receivers.Move → Stream → Type 0
 MayReceive (receivers.Hear w) x = (rest : List Word) × (x.to_receiver ≡ w ∷ rest)
 MayReceive (receivers.Take size bits) x = (c : ℕ) × (x.box ≡ Waiting c size bits)
@@ -94,7 +94,7 @@ abbrev pub MayHappen : Event → Stream → Type 0
 MayHappen (Receives m) x = receivers.May m x.receiver × MayReceive m x
 MayHappen (Sends m) x = senders.May m x.sender × MaySend m x
 
--- the two after a list of events, newest first
+-- the two hosts after a list of events, newest first
 abbrev pub stream : List Event → Stream
 stream [] = opening_stream
 stream (e ∷ events) = happens e (stream events)

@@ -22,7 +22,7 @@ use std::marker::Model;
 
 /// The hosts, the IMPs and lines, and the log.
 ///
-/// Any IMPs are allowed here, also those that were short of memory. Calls of an IMP ask that none was.
+/// IMPs that ran out of memory are allowed here. Calls of an IMP require that none has.
 #[derive(Drop)]
 pub(crate) struct Parts {
     pub(crate) hosts: Hosts,

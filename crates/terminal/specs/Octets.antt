@@ -9,6 +9,6 @@ in_octets count = 8 * (count / 8)
 abbrev pub whole : List Bool → List Bool
 whole bits = take (in_octets (length bits)) bits
 
--- the bits behind the last whole octet: 0 to 7 of them
+-- the bits after the last whole octet: 0 to 7 of them
 abbrev pub part : List Bool → List Bool
 part bits = drop (in_octets (length bits)) bits

@@ -114,8 +114,8 @@ impl LineTerminal {
         hear(self.alloc, &mut self.rest, octets.as_octets())
     }
 
-    /// Takes bits in that came for it. Returns the lines that have ended, in order, each without its end.
-    /// Bits that are not a whole octet are kept for the next that come, and so are octets that are not a whole line.
+    /// Takes bits that came for it. Returns the lines that have ended, in order, each without its end. Bits that
+    /// aren't a whole octet are kept until more come, and so are octets that aren't a whole line.
     ///
     /// Errors: `AllocError` when memory runs out, only where there are bits, and then it is spent.
     pub fn arrived(&mut self, bits: &Bits) -> Result<Vec<Line>, AllocError>

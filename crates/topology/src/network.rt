@@ -74,7 +74,7 @@ impl Model for Topology {
 /// Why there is no topology.
 #[derive(Clone, Copy, Debug, Drop, PartialEq, Eq, Error)]
 pub enum TopologyFault {
-    /// The document describes no topology, or is no TOML document.
+    /// The text is not a TOML document, or the document doesn't describe a topology.
     #[error("bad topology")]
     BadTopology,
     /// No memory was left.
@@ -260,8 +260,8 @@ fn carrier_of(document: &Value) -> Option<CarrierKind>
     }
 }
 
-/// Whether a document asks for no host programs; false where it doesn't say. `None` where it says no truth
-/// value.
+/// The value of `raw`: whether the network has no host programs. It is false without the key, and `None` for a
+/// value that is not a boolean.
 fn raw_of(document: &Value) -> Option<bool>
     ensures { result ≡ raw_of (get (codes "raw") (view document.now)) }
 {

@@ -35,7 +35,7 @@ pub record AddsUp (x : Life) (left : Allocation) : Type 0 where
   pub messages : x.granted.messages ≡ x.messages + x.returned.messages + left.messages
   pub bits : x.granted.bits ≡ length x.bits + x.returned.bits + left.bits
 
--- what was granted in a life was taken or returned, but for as much as a counter can hold: 65535 messages and 4294967295 bits
+-- what was granted in a life was taken or returned, except for at most what a counter can hold: 65535 messages and 4294967295 bits
 pub record IsBounded (x : Life) : Type 0 where
   pub messages : x.granted.messages ≤ x.messages + x.returned.messages + 65535
   pub bits : x.granted.bits ≤ length x.bits + x.returned.bits + 4294967295

@@ -33,7 +33,7 @@ abbrev pub words_by : Who → ℕ → List Order → List Word
 words_by who place [] = []
 words_by who place (o ∷ orders) = word_by who place o ++ words_by who place orders
 
--- what texts say that begin with their places, the first first
+-- what texts say, each of which begins with its place, in their order
 abbrev pub words_of : Who → List (List Bool) → List Word
 words_of who [] = []
 words_of who (text ∷ texts) = words_by who (untagged text).0 (orders_of (untagged text).1) ++ words_of who texts

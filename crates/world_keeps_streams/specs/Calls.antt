@@ -29,7 +29,7 @@ called k q listening = record { call = k; pair = q; listening = listening }
 -- ---- all lists of calls are read newest first
 
 -- the commands of a message are heard, one after another, where the pair is ready. The connection in which an ALL, a GVB or a RET was said doesn't
--- matter to whoever hears it, and is told as 0
+-- matter to the host that hears it, and is given as 0
 abbrev pub orders_heard : Host → ℕ → List Order → TurnState → List calls.Moment → List calls.Moment
 orders_heard peer stamp [] t older = older
 orders_heard peer stamp (Legal c ∷ orders) t older =

@@ -26,7 +26,7 @@ use world_script::WorldEvent;
 ///
 /// Errors:
 /// - `OutOfMemory`: memory ran out at one event. The lines of the events before it were written, and no line of its
-///   own, save that of a calm what happened before memory ran out was written.
+///   own. If it was a calm, what happened before memory ran out was written too.
 /// - `CannotWrite`: a write failed. The event whose line it was had already happened. Nothing more was asked of the
 ///   writer, which alone knows how much of its last lines it wrote.
 pub fn replay_events<C: Carrier, W: Output>(

@@ -17,7 +17,7 @@ use net_sim::{Book, Life, Report, Reported, Told, WorldFault};
 use replay::{Detail, Output, ReplayFault, WriteFailed, carrier_refusal, print_crossing};
 use sockets::NcpFault;
 
-/// Prints what stands in a book behind so many crossings, notices and reports of before.
+/// Prints what stands in a book after so many crossings, notices and reports.
 ///
 /// Errors: `WriteFailed`.
 pub(crate) fn print_news<W: Output>(
@@ -78,8 +78,8 @@ impl Crossings<'_> {
     }
 }
 
-/// Prints notices and reports, each report behind its notice, and the crossings that were before them. Before all of
-/// them there were so many notices.
+/// Prints notices and reports, each report after its notice, and the crossings that were before them. So many
+/// notices were before all of them.
 fn print_told<W: Output>(
     crossings: &mut Crossings<'_>,
     before: usize,
@@ -105,7 +105,7 @@ fn print_told<W: Output>(
     print_notices(crossings, waiting, detail, writer)
 }
 
-/// Prints notices, each behind the crossings that were before it.
+/// Prints notices, each after the crossings that were before it.
 fn print_notices<W: Output>(
     crossings: &mut Crossings<'_>,
     notices: &[Told],
@@ -153,7 +153,7 @@ fn print_report<W: Output>(reported: &Reported, writer: &mut W) -> Result<(), Wr
     }
 }
 
-/// Prints a line that came to a terminal, behind the terminal's host. An octet that is no printing character of ASCII
+/// Prints a line that came to a terminal, after the terminal's host. An octet that is not a printable ASCII character
 /// is printed as a question mark.
 fn print_line<W: Output>(host: &HostAddr, octets: &[u8], writer: &mut W) -> Result<(), WriteFailed>
     requires { W.failed writer.old ≡ false }

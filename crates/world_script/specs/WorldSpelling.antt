@@ -79,7 +79,7 @@ IsWorldEvent (world.Calm rounds) = IsIndex rounds
 
 -- ---- memory
 
--- a line `send` whose words are all good but for the last, of which it is known only that it is hexadecimal
+-- a line `send` whose words are all valid, except that of the last it is known only that it is hexadecimal
 pub record IsSendRead (line : List ℕ) : Type 0 where
   pub host : Host
   pub socket : ℕ

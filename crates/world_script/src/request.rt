@@ -1,4 +1,4 @@
-//! What a user asks for, from the words behind its host.
+//! What a user asks for, from the words after its host.
 
 ghost use Rattle.std.specs.Prelude.{◌≡◌, ◌≢◌, ◌≤◌, ◌++◌, ◌∷◌, List, ℕ, ◌<◌, ◌^◌, IfOk, IfErr, MatchOption};
 ghost use Rattle.std.specs.Fmt.{decimal};
