@@ -35,7 +35,7 @@ fn main(rt: HostRuntime) -> ExitCode {
 }
 
 /// Tells a fault on standard error, and answers its exit status.
-fn told<R: Print>(rt: &R, fault: ScriptFault) -> ExitCode {
+fn told<R: Eprint>(rt: &R, fault: ScriptFault) -> ExitCode {
     let _ = eprintln!(rt; "{fault}");
     ExitCode::from(fault.status())
 }
