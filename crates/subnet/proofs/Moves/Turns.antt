@@ -189,8 +189,8 @@ followed_turn n i s turn entries g moves made t is =
     let imps : List (Option State) = slice_set n.imps i (Some turn.state) in
     let all : All IsPacket (packets n ++ made) = All-append IsPacket (packets n) made is.formats t.formats in
     let still : (f : Flow) → same_flow f g ≡ false → view m f ≡ view n f = λ f other.
-        ap (λ (b : Box). view_of (imp_is_up (imp_at imps f.source.imp)) (sender_at (imp_at imps f.source.imp) f) (imp_is_up (imp_at imps f.destination.imp)) (receiver_at (imp_at imps f.destination.imp) f) b) (t.crossings.boxes f other)
-        ∙ turn_view n i s turn f t.at (t.others f other) in
+    ap (λ (b : Box). view_of (imp_is_up (imp_at imps f.source.imp)) (sender_at (imp_at imps f.source.imp) f) (imp_is_up (imp_at imps f.destination.imp)) (receiver_at (imp_at imps f.destination.imp) f) b) (t.crossings.boxes f other)
+    ∙ turn_view n i s turn f t.at (t.others f other) in
     let here : Askable m g = elim t.begun [
       | inl none ↦ moved_askable n m g moves t.here.view none is
       | inr asked ↦ asked
