@@ -2,6 +2,7 @@
 -- and `round_shown` (what each call shows), Rounds `quiet_round_sound` (what a quiet round keeps), RoundMemory (when it may need memory), Silence
 -- `not_alive` (a question that finds nothing alive), Opens (a subnet opens).
 pub mod Attempting
+pub mod Awaiting
 pub mod Carries
 pub mod Carrying
 pub mod Delivering

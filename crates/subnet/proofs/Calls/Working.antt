@@ -1,6 +1,6 @@
 -- A subnet as a carrier: what each call keeps, and what it shows.
 use Rattle.std.proofs.Common.{◌≡◌, ℕ, ◌≤◌, length, Bool, true, false, not, List, [], ◌∷◌, ◌++◌, Option, Some, None, Result, Ok, Err, is_some, is_none, refl, ap, sym, subst, ◌∙◌, if◌then◌else◌, ◌&&◌, ◌==◌}
-use Rattle.std.specs.Prelude.{nat_lt, OnErr}
+use Rattle.std.specs.Prelude.{nat_lt, OnErr, ◌||◌}
 use Rattle.leader1822.specs.Calls.{Seen, InOrder, halted, is_memory, is_halt, step_crossings, crossing_of, ShowsRefusal, ShowsCrossings, ShowsOffer, ShowsTake, ShowsStep, ShowsRound}
 use Rattle.leader1822.specs.Host.{Host, is_host}
 use Rattle.leader1822.specs.Mailboxes.{IsRun}

@@ -1,16 +1,16 @@
-use Rattle.std.proofs.Common.{◌≡◌, ℕ, Bool, true, false, [], ◌∷◌, Option, Some, None, IsSome, is_some, refl, ap, sym, ◌∙◌, ◌==◌, inl, inr, if◌then◌else◌}
-use Rattle.std.proofs.lemmas.Bool.{cases_Bool}
+use Rattle.std.proofs.Common.{◌≡◌, ℕ, Bool, true, false, [], ◌∷◌, Option, Some, None, refl, ap, sym, ◌∙◌, if◌then◌else◌}
 use Rattle.std.specs.FinMap.{get, insert, empty, get-empty}
 use Rattle.leader1822.specs.Flow.{flow_cmp, same_flow}
 use Rattle.leader1822.specs.declared.address.Flow.{Flow}
-use Rattle.link_table.specs.Flows.{Sources, begun, number_in, outstanding_in, has_outstanding_to}
+use Rattle.link_table.specs.Flows.{begun, number_in, outstanding_in, has_outstanding_to}
 use Rattle.link_table.specs.Keys.{has_from, drop_from}
 use Rattle.link_table.specs.declared.destination.Fate.TheVariants as fate
 use Rattle.link_table.specs.declared.destination.Noted.{Noted}
 use Rattle.link_table.specs.declared.source.Standing.{Standing}
 use Rattle.link_table.specs.declared.source.Standing.TheVariants as standing
-use Rattle.link_table.proofs.lemmas.{asked, get_begun, get_dropped, get_put, outstanding_to_none, outstanding_to_one}
+use Rattle.link_table.proofs.lemmas.{asked, get_begun, get_dropped, get_put}
 use Rattle.subnet.specs.Examples.{ours}
+use Rattle.subnet.proofs.Calls.Awaiting.{some_outstanding, none_outstanding, nothing_begun, none_kept}
 use Rattle.imp_channel.specs.Line.{submitted}
 use Rattle.link_table.specs.Numbers.{is_new, oldest, modulus, next, window}
 use Rattle.routing.specs.RouteTable.{next_of, distance_to, vector_of}
@@ -24,9 +24,6 @@ is_begun : get (begun empty ours) ours ≡ Some (standing.Outstanding 0)
 is_begun = get_begun empty ours ours ∙ ap (λ (s : Option Standing). Some (standing.Outstanding (number_in s))) (get-empty flow_cmp ours)
 
 -- what IMPs keep of flows from others
-none_kept : (imp : ℕ) → has_from {V = Noted} imp empty ≡ false
-none_kept imp = sym (asked {V = Noted} imp [])
-
 abbrev first_taken : Noted
 first_taken = record { number = 0; fate = fate.Taken }
 
@@ -40,29 +37,12 @@ is_forgotten : get (drop_from 1 (insert empty ours first_taken)) ours ≡ None
 is_forgotten = get_dropped (insert empty ours first_taken) 1 ours
 
 -- what is outstanding
-some_outstanding : (m : Sources) (imp : ℕ) (g : Flow) (n : ℕ) → (g.destination.imp == imp) ≡ true → outstanding_in (get m g) ≡ Some n → has_outstanding_to imp m ≡ true
-some_outstanding m imp g n to is = elim (cases_Bool (has_outstanding_to imp m)) [
-  | inl yes ↦ yes
-  | inr no ↦ (let none : outstanding_in (get m g) ≡ None = outstanding_to_none m imp no g to in absurd (cc))
-]
-
-none_outstanding : (m : Sources) (imp : ℕ) → ((g : Flow) → outstanding_in (get m g) ≡ None) → has_outstanding_to imp m ≡ false
-none_outstanding m imp none = elim (cases_Bool (has_outstanding_to imp m)) [
-  | inl yes ↦ (let one : (g : Flow) × ((g.destination.imp == imp) ≡ true) × IsSome (outstanding_in (get m g)) = outstanding_to_one m imp yes in
-      let some : is_some (outstanding_in (get m one.0)) ≡ true = one.1.1 in
-      let missing : is_some (outstanding_in (get m one.0)) ≡ false = ap is_some (none one.0) in
-      absurd (cc))
-  | inr no ↦ no
-]
-
-nothing_begun : (imp : ℕ) → has_outstanding_to imp empty ≡ false
-nothing_begun imp = none_outstanding empty imp (λ g. ap outstanding_in (get-empty flow_cmp g))
+answered_by : (last : ℕ) (g : Flow) (b : Bool) → outstanding_in (if b then Some (standing.Idle last) else get {R = flow_cmp} empty g) ≡ None
+answered_by last g true = refl
+answered_by last g false = ap outstanding_in (get-empty flow_cmp g)
 
 all_answered : (last imp : ℕ) → has_outstanding_to imp (insert empty ours (standing.Idle last)) ≡ false
-all_answered last imp = none_outstanding (insert empty ours (standing.Idle last)) imp (λ g. ap outstanding_in (get_put empty ours g (standing.Idle last)) ∙ by g (same_flow g ours)) where
-  by : (g : Flow) (b : Bool) → outstanding_in (if b then Some (standing.Idle last) else get empty g) ≡ None
-  by g true = refl
-  by g false = ap outstanding_in (get-empty flow_cmp g)
+all_answered last imp = none_outstanding (insert empty ours (standing.Idle last)) imp (λ g. ap outstanding_in (get_put empty ours g (standing.Idle last)) ∙ answered_by last g (same_flow g ours))
 
 ours_outstanding : has_outstanding_to 2 (begun empty ours) ≡ true
 ours_outstanding = some_outstanding (begun empty ours) 2 ours 0 refl (ap outstanding_in is_begun)
