@@ -1,8 +1,8 @@
 -- The source's IMP asks what became of the outstanding message, and the destination's IMP tells it.
-use Rattle.std.proofs.Common.{◌≡◌, ◌≢◌, ℕ, Bool, true, false, List, [], Option, Some, None, inl, inr, refl, ap, sym, ◌∙◌, subst}
+use Rattle.std.proofs.Common.{◌≡◌, ◌≢◌, ℕ, Bool, true, false, List, Option, Some, inl, inr, refl, ap, sym, ◌∙◌, subst}
 use Rattle.leader1822.specs.declared.crossing.Answer.TheVariants as answer
 use Rattle.leader1822.specs.Mailboxes.{Box, Fits}
-use Rattle.link_table.specs.Numbers.{is_new, Near}
+use Rattle.link_table.specs.Numbers.{Near}
 use Rattle.link_table.specs.declared.destination.Fate.{Fate}
 use Rattle.link_table.specs.declared.destination.Fate.TheVariants as fate
 use Rattle.link_table.proofs.lemmas.{near_same}
@@ -10,7 +10,7 @@ use Rattle.flow_law.specs.View.{View, Packet, Queued, Kind, is_request, is_refus
 use Rattle.flow_law.specs.Moves.{Move, New, CanReply, Tells, IsTold, Either, view_moved}
 use Rattle.flow_law.specs.Invariant.{Invariant, Begun, Carried, Gone, Lost, Unnoted, FateSays, Fated}
 use Rattle.flow_law.proofs.Clauses.{near_not_new, begun_itself}
-use Rattle.flow_law.proofs.Arrivals.{refusal_asks_not, rfnm_asks_not}
+use Rattle.flow_law.proofs.Arrivals.{refusal_asks_not}
 
 -- ---- a question
 

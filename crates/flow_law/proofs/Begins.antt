@@ -3,9 +3,9 @@ use Rattle.std.proofs.Common.{◌≡◌, ℕ, ◌<◌, Bool, true, false, List, 
 use Rattle.leader1822.specs.declared.crossing.Answer.TheVariants as answer
 use Rattle.link_table.specs.Numbers.{modulus, Near}
 use Rattle.link_table.proofs.lemmas.{near_same}
-use Rattle.flow_law.specs.View.{View, Packet, Queued, Kind, is_request, is_refusal}
+use Rattle.flow_law.specs.View.{View, Packet, Queued, Kind, is_refusal}
 use Rattle.flow_law.specs.Moves.{Move, New, CanOffer, CanBegin, IsPieceOf, Either, queued_text, next_number, view_moved}
-use Rattle.flow_law.specs.Invariant.{Invariant, Fated, Unnoted, Lost}
+use Rattle.flow_law.specs.Invariant.{Invariant}
 use Rattle.flow_law.proofs.Clauses.{idle_new, idle_queue, near_not_new, next_number_in, fresh, still_near}
 
 no_refusal : (x : Packet) → x.kind ≡ Kind.Data → is_refusal x.kind ≡ true → ⊥

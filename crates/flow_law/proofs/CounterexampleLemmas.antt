@@ -1,5 +1,5 @@
 -- Each machine that lacks a need breaks its mailbox.
-use Rattle.std.proofs.Common.{◌≡◌, ◌≢◌, ℕ, Bool, true, false, [], ◌∷◌, Some, None, inl, refl, sym, ◌∙◌, subst, arith}
+use Rattle.std.proofs.Common.{◌≡◌, ◌≢◌, ℕ, true, false, [], ◌∷◌, Some, None, inl, refl, sym, ◌∙◌, subst, arith}
 use Rattle.std.specs.List.{Contains}
 use Rattle.leader1822.specs.Mailboxes.{Box}
 use Rattle.link_table.specs.Numbers.{modulus, window, next, oldest, is_new, Near}

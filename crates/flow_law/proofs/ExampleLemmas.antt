@@ -1,7 +1,7 @@
 -- The worked history is one.
 use Rattle.std.proofs.Common.{◌≡◌, true, [], ◌∷◌, None, inl, refl}
 use Rattle.link_table.specs.Numbers.{is_new}
-use Rattle.flow_law.specs.View.{Packet, Kind, is_request}
+use Rattle.flow_law.specs.View.{Packet, is_request}
 use Rattle.flow_law.specs.Moves.{New}
 use Rattle.flow_law.specs.Runs.{IsHistory}
 use Rattle.flow_law.specs.Example.{at_first, worked, data_packet, rfnm, InOnePacket}

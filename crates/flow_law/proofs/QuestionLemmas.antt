@@ -1,5 +1,5 @@
 -- Machines that ask, tell or forget what is asked for where they shouldn't.
-use Rattle.std.proofs.Common.{◌≡◌, true, [], ◌∷◌, Some, None, inl, refl}
+use Rattle.std.proofs.Common.{[], inl, refl}
 use Rattle.flow_law.specs.View.{Kind}
 use Rattle.flow_law.specs.Counterexamples.{Breaks, dead_of, rfnm_of, ask_of, second, ReturnsAwaited, returns_awaited, ForgetsAwaited, forgets_awaited, AsksAnything, asks_anything, RepliesToNothing, replies_to_nothing, RepliesToAny, replies_to_any, RepliesFalsely, replies_falsely}
 use Rattle.flow_law.proofs.Clauses.{none_there}

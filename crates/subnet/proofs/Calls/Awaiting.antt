@@ -1,5 +1,5 @@
 -- Whether a message to a host at an IMP is outstanding, in tables of known flows.
-use Rattle.std.proofs.Common.{◌≡◌, ℕ, true, false, [], Option, Some, None, IsSome, is_some, ap, sym, ◌==◌, inl, inr}
+use Rattle.std.proofs.Common.{◌≡◌, ℕ, true, false, [], Some, None, IsSome, is_some, ap, sym, ◌==◌, inl, inr}
 use Rattle.std.proofs.lemmas.Bool.{cases_Bool}
 use Rattle.std.specs.FinMap.{get, empty, get-empty}
 use Rattle.leader1822.specs.Flow.{flow_cmp}

@@ -8,7 +8,7 @@ use Rattle.link_table.specs.declared.destination.Fate.TheVariants as fate
 use Rattle.link_table.specs.declared.destination.Noted.{Noted}
 use Rattle.packetiser.specs.declared.packet.PacketKind.{PacketKind}
 use Rattle.packetiser.specs.declared.packet.PacketKind.TheVariants as kind
-use Rattle.flow_law.specs.View.{View, is_request}
+use Rattle.flow_law.specs.View.{is_request}
 use Rattle.flow_law.specs.Moves.{with_fate, with_fates}
 use Rattle.imp_node.specs.declared.waiting.Message.{Message}
 use Rattle.imp_node.specs.Moves.{without_first}
