@@ -41,3 +41,10 @@ older = record user_receives { partner_stamp = 0 }
 
 abbrev pub unjoined_book : Book
 unjoined_book = record joined_kept.book { lives = server_receives ∷ server_sends ∷ older ∷ user_sends ∷ [] }
+
+-- or though the server's receiving end opened with one that came in before the user's went out
+abbrev pub older_at_server : Life
+older_at_server = record server_receives { partner_stamp = 2 }
+
+abbrev pub unserved_book : Book
+unserved_book = record joined_kept.book { lives = older_at_server ∷ server_sends ∷ user_receives ∷ user_sends ∷ [] }

@@ -49,6 +49,9 @@ pub fn worked_connections()
     ensures older { Match worked.joined_kept.book.crossings worked.older worked.server_sends → ⊥ }
     ensures unjoined { JoinedBook worked.unjoined_book → ⊥ }
 
+    // nor does one at the server that took its request before the user's went out
+    ensures unserved { JoinedBook worked.unserved_book → ⊥ }
+
     // a life that has ended is none, nor is one of another socket, or one that opened with another
     ensures over { (book : Book) (a b : Host) (own other : ℕ) (x : Life) → x.ended ≡ true → IsEnd book a own b other x → ⊥ }
     ensures socket { (book : Book) (a b : Host) (other : ℕ) (x : Life) → x.socket ≡ 101 → IsEnd book a 100 b other x → ⊥ }

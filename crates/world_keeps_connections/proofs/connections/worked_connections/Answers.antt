@@ -8,7 +8,7 @@ use Rattle.net_sim.specs.declared.book.Told.{Told}
 use Rattle.net_sim.specs.Reports.{IsBacked}
 use Rattle.net_sim.specs.Safe.{own_request}
 use Rattle.sockets.specs.Worked.{first, second}
-use Rattle.world_keeps_connections.specs.WorkedConnections.{joined_kept, older, server_receives, server_sends, user_sends}
+use Rattle.world_keeps_connections.specs.WorkedConnections.{joined_kept, older, older_at_server, server_receives, server_sends, user_receives, user_sends}
 use Rattle.world_keeps_connections.proofs.connections.worked_connections.Goals as goal
 
 pub returns-clause-over : goal.returns-clause-over
@@ -81,3 +81,13 @@ returns-clause-unjoined c = λ j. let both : None ≡ Some (own_request server_s
   user_hears = record { there = (2, omega arith, refl); host = refl; socket = refl; peer = refl; foreign = refl; live = refl };
   user_speaks = record { there = (3, omega arith, refl); host = refl; socket = refl; peer = refl; foreign = refl; live = refl };
 })).0.asked in absurd (cc)
+
+pub returns-clause-unserved : goal.returns-clause-unserved
+returns-clause-unserved c = λ j. let both : None ≡ Some (own_request user_sends) = (j first second 100 16 older_at_server server_sends user_receives user_sends (record {
+  served = record { entry = record { host = first; notices = 5; report = report.Server (outcome.Done 100 101) }; there = (0, omega arith, refl); by = refl; report = refl };
+  asked = record { entry = record { host = second; notices = 7; report = report.User (outcome.Done 18 19) }; there = (1, omega arith, refl); by = refl; report = refl };
+  server_hears = record { there = (0, omega arith, refl); host = refl; socket = refl; peer = refl; foreign = refl; live = refl };
+  server_speaks = record { there = (1, omega arith, refl); host = refl; socket = refl; peer = refl; foreign = refl; live = refl };
+  user_hears = record { there = (2, omega arith, refl); host = refl; socket = refl; peer = refl; foreign = refl; live = refl };
+  user_speaks = record { there = (3, omega arith, refl); host = refl; socket = refl; peer = refl; foreign = refl; live = refl };
+})).1.asked in absurd (cc)
