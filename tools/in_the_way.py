@@ -82,7 +82,7 @@ class InTheWay:
         return [*start, self.cleared(kind, parts, message)]
 
     def next_clearing(self, kind, parts, message):
-        """One event after which less stands in the way."""
+        """One event after which less stands in the way, and which is not refused itself; None where nothing stands in the way."""
         alive, kept, awaited = self.obstacles(kind, parts, message)
         frames = [it for it in alive if it.place[0] == "frame"]
         held = [it for it in alive if it.place[0] != "frame"]
@@ -90,8 +90,10 @@ class InTheWay:
             return clearing(self.subnet, held[0].place)
         if frames:
             return clearing(self.subnet, frames[-1].place)
-        for at, number in kept:
-            return f"forget {at} {number}"
+        if kept:
+            return self.next_clearing("forget", kept[0], None) or f"forget {kept[0][0]} {kept[0][1]}"
+        if not awaited:
+            return None
         left = self.alive(awaited[0], self.subnet.imps[awaited[0][0][1]].outstanding[awaited[0]])
         return clearing(self.subnet, left[0].place) if left else f"giveup {spell_flow(awaited[0])}"
 
