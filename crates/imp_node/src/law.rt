@@ -133,7 +133,7 @@ pub fn sound()
     ensures host_up { (imp : ℕ) (s : State) (h : ℕ) → IsImp imp s → IsImp imp (host_up s h).state }
 {}
 
-/// What the answers to questions say.
+/// What the answers to queries say.
 pub fn asking()
     // what an IMP holds of a message is in one of its packets or messages, and what it doesn't hold in none
     ensures held { (s : State) (f : Flow) (n : ℕ) → holds s f n ≡ true → Any (λ p. packet_has f n p ≡ true) (packets s) ⊎ Any (λ m. message_has f n m ≡ true) (messages s) }
