@@ -26,7 +26,7 @@ use Rattle.imp_node.specs.Offering.{begins, from_host, from_host_refusal}
 use Rattle.imp_node.specs.Arrival.{from_line}
 use Rattle.imp_node.specs.Taking.{next_for, to_host, to_host_refusal}
 use Rattle.imp_node.specs.Lines.{resend, route, end_down, end_up, end_down_refusal, end_up_refusal}
-use Rattle.imp_node.specs.Stopping.{give_up, give_up_refusal, forget, abandon, abandon_refusal, host_down, host_down_refusal, host_up, host_up_refusal}
+use Rattle.imp_node.specs.Stopping.{give_up, give_up_refusal, forget, abandon, abandon_refusal, ask, ask_refusal, host_down, host_down_refusal, host_up, host_up_refusal}
 use Rattle.imp_node.specs.Queries.{last, outstanding, kept}
 use Rattle.subnet.specs.Net.{Net, imp_at, wire_at, ends_at, port_of, with_turn, frames_on, far_end, dropping}
 use Rattle.subnet.specs.Alive.{says, is_alive, has_data, has_flow, is_remembered, is_awaited, is_awaited_at}
@@ -157,7 +157,7 @@ all_turns (l ∷ lines) n = all_turns lines (turn_of l way.Back (turn_of l way.F
 abbrev pub quiet_round : Net → Net
 quiet_round n = all_turns (range_with_len 0 (length n.lines)) (all_refreshed (range_with_len 0 (length n.imps)) n)
 
--- ---- giving up, forgetting, abandoning
+-- ---- giving up, forgetting, asking, abandoning
 
 -- the outstanding message is alive somewhere: a packet of it, an answer to it that travels, or the message in a queue
 abbrev pub give_up_alive : Net → Flow → Option ℕ → Bool
@@ -189,6 +189,10 @@ forgetting_refusal n at from =
     (first_of (at == from) fault.NoSuch
     (first_of (has_data n from at || is_awaited_at (imp_at n.imps from) at) fault.StillAlive
     (at_up (imp_at n.imps at) accepted)))
+
+-- the source's IMP asks what became of the outstanding message; the source itself may be down
+abbrev pub asking_refusal : Net → Flow → Option CarrierFault
+asking_refusal n f = first_of (not (is_host n.hosts f.source)) fault.NoSuch (at_up (imp_at n.imps f.source.imp) (λ s. ask_refusal s f))
 
 -- an IMP that is down has no slot
 abbrev pub abandoning_refusal : Option State → Flow → Option CarrierFault
@@ -273,6 +277,7 @@ step_refusal n (event.HostUp h) = at_host_refusal n h host_up_refusal
 step_refusal n (event.GiveUp f) = giving_up_refusal n f
 step_refusal n (event.Forget at from) = forgetting_refusal n at from
 step_refusal n (event.Abandon f) = abandoning_refusal (imp_at n.imps f.destination.imp) f
+step_refusal n (event.Ask f) = asking_refusal n f
 
 abbrev pub stepped : Net → NetEvent → Net
 stepped n (event.Deliver l d k) = deliver n l d k
@@ -288,3 +293,4 @@ stepped n (event.HostUp h) = host_started n h
 stepped n (event.GiveUp f) = at_imp (imp_at n.imps f.source.imp) f.source.imp (λ s. give_up s f) n
 stepped n (event.Forget at from) = at_imp (imp_at n.imps at) at (λ s. forget s from) n
 stepped n (event.Abandon f) = at_imp (imp_at n.imps f.destination.imp) f.destination.imp (λ s. abandon s f) n
+stepped n (event.Ask f) = at_imp (imp_at n.imps f.source.imp) f.source.imp (λ s. ask s f) n

@@ -10,7 +10,7 @@ use Rattle.imp_channel.specs.Holding.{carried_by}
 use Rattle.imp_channel.specs.declared.frame.Frame.{Frame}
 use Rattle.imp_node.specs.State.{State}
 use Rattle.imp_node.specs.Arrival.{arrival}
-use Rattle.imp_node.specs.Making.{dead_for, from_host_makes, to_host_makes, host_down_makes}
+use Rattle.imp_node.specs.Making.{dead_for, ask_makes, from_host_makes, to_host_makes, host_down_makes}
 use Rattle.subnet.specs.Net.{Net, imp_at, wire_at, frames_on, far_end}
 use Rattle.subnet.specs.Alive.{packets}
 
@@ -34,6 +34,10 @@ offer_makes n m = made_at (imp_at n.imps m.flow.source.imp) (λ s. from_host_mak
 -- a message that is taken gives an RFNM
 abbrev pub take_makes : Net → Host → List PacketFields
 take_makes n h = made_at (imp_at n.imps h.imp) (λ s. to_host_makes s h.host)
+
+-- a question about an outstanding message is a packet, where the destination is at another IMP
+abbrev pub asking_makes : Net → Flow → List PacketFields
+asking_makes n f = made_at (imp_at n.imps f.source.imp) (λ s. ask_makes s f)
 
 -- each message that waits for a host that goes down gives Dead
 abbrev pub stop_makes : Net → Host → List PacketFields

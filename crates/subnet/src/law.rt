@@ -27,7 +27,7 @@ ghost use Rattle.subnet.specs.Alive.{packets, messages, is_alive};
 ghost use Rattle.subnet.specs.Events.{offer_refusal, offer_out, take_refusal, taken_by_host, crossings_of, take_in, deliver, drop_frame, giving_up_refusal, forgetting_refusal, starting_refusal, imp_stopped, imp_started, refreshed, quiet_round, step_refusal, stepped};
 ghost use Rattle.subnet.specs.Examples.{ours, our_message, our_queued, data_frame, rfnm_frame, passing_frame, imp_1, imp_2, wire, pair, opened_pair, begun_up_to, expecting, one_host_down, hosts_down, cut_off, serving_ours, keeping_ours, keeping_own, sending_ours, past_one, full_of, triangle};
 ghost use Rattle.subnet.specs.Flows.{host_is_up};
-ghost use Rattle.subnet.specs.Making.{NothingNew, OnlyNew, offer_makes, take_makes, deliver_makes, stop_makes};
+ghost use Rattle.subnet.specs.Making.{NothingNew, OnlyNew, offer_makes, take_makes, deliver_makes, asking_makes, stop_makes};
 ghost use Rattle.subnet.specs.Net.{Net, imp_at, wire_at, port_of, line_from, put_one, frames_on};
 ghost use Rattle.subnet.specs.Offers.{CanGoFrom};
 ghost use Rattle.subnet.specs.Opening.{Ends, AreHosts};
@@ -102,8 +102,11 @@ pub fn holding()
     ensures offer_out { (n : Net) (m : HostMessage) → OnlyNew n (offer_makes n m) (offer_out n m) }
     ensures take_in { (n : Net) (h : Host) → OnlyNew n (take_makes n h) (take_in n h) }
 
-    // a frame brings a packet that was alive, and a piece that can't be delivered gives Dead
+    // a frame brings a packet that was alive. A piece that can't be delivered gives Dead, and a question gives its answer, if it has one
     ensures deliver { (n : Net) (l : ℕ) (d : Direction) (k : ℕ) → OnlyNew n (deliver_makes n l d k) (stepped n (event.Deliver l d k)) }
+
+    // a question about an outstanding message, where it goes over lines
+    ensures ask { (n : Net) (f : Flow) → OnlyNew n (asking_makes n f) (stepped n (event.Ask f)) }
 
     // each message that waits for a host that goes down gives Dead
     ensures host_down { (n : Net) (h : Host) → OnlyNew n (stop_makes n h) (stepped n (event.HostDown h)) }
@@ -160,7 +163,7 @@ pub fn routed()
 {}
 
 /// A sound subnet stays sound where frames are lost or sent again, ends of lines go down and come up, slots are
-/// thrown away, and messages are given up. The log of a sound subnet is a run of the mailboxes.
+/// thrown away, and messages are given up or asked about. The log of a sound subnet is a run of the mailboxes.
 pub fn sound_events()
     ensures drop { (n : Net) (l : ℕ) (d : Direction) (k : ℕ) → IsSound n → IsSound (stepped n (event.Drop l d k)) }
     ensures resend { (n : Net) (i : ℕ) → IsSound n → IsSound (stepped n (event.Resend i)) }
@@ -171,6 +174,9 @@ pub fn sound_events()
 
     // an outstanding message is given up, where that is not refused
     ensures give_up { (n : Net) (f : Flow) → step_refusal n (event.GiveUp f) ≡ None → IsSound n → IsSound (stepped n (event.GiveUp f)) }
+
+    // an IMP asks what became of an outstanding message, where that is not refused
+    ensures ask { (n : Net) (f : Flow) → step_refusal n (event.Ask f) ≡ None → IsSound n → IsSound (stepped n (event.Ask f)) }
     ensures run { (n : Net) → IsSound n → IsRun n.hosts n.log }
 {}
 

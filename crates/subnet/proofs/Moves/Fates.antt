@@ -17,11 +17,13 @@ use Rattle.imp_node.specs.Sides.{Sender, Receiver, messages_of, fated_with}
 use Rattle.leader1822.specs.declared.address.Flow.{Flow}
 use Rattle.subnet.specs.Flows.{kind_of, queued_of, view_of}
 
--- data is what travels to the destination
+-- data and questions are what travels to the destination
 pub request_is : (k : PacketKind) → is_request (kind_of k) ≡ is_data k
 request_is kind.Data = refl
 request_is kind.Rfnm = refl
 request_is kind.Dead = refl
+request_is kind.Ask = refl
+request_is kind.Never = refl
 
 -- ---- one message met another fate
 

@@ -45,7 +45,7 @@ use Rattle.imp_node.specs.Arrival.{Arrival, Passing, Old, Undeliverable, Piece, 
 use Rattle.imp_node.specs.Offering.{Way, Nowhere, Here, Away, way_of, offered, from_host}
 use Rattle.imp_node.specs.Pump.{Pumped, target, sent_on, packet_sent, pumped, pump}
 use Rattle.imp_node.specs.Lines.{on_port, resent_by, resent_from, resend, told_by, told_from, route, end_down, end_up}
-use Rattle.imp_node.specs.Stopping.{give_up, forget, abandon, message_returned, all_returned, stopped, host_down, host_up}
+use Rattle.imp_node.specs.Stopping.{give_up, forget, abandon, ask, message_returned, all_returned, stopped, host_down, host_up}
 use Rattle.imp_node.specs.Taking.{is_from_here, reply_has_room, replied, taken_by, to_host}
 use Rattle.subnet.specs.Net.{Net, Wire, imp_at, wire_at, ends_at, port_of, line_places, line_from, followed_by, with_frame, put_on, put_one, put_all, with_turn, frames_on, far_end, without_at, dropping}
 use Rattle.subnet.specs.Events as events
@@ -145,6 +145,12 @@ host_down_tells h s here =
 
 end_down_tells : (k : ℕ) (s : State) → All HeardVector s.routes.heard → TurnTells (end_down s k)
 end_down_tells k s here = quiet_tells _ (All-set HeardVector s.routes.heard k None tt here)
+
+ask_tells : (f : Flow) (s : State) → All HeardVector s.routes.heard → TurnTells (ask s f)
+ask_tells f s here = by (outstanding s f) where
+  by : (o : Option ℕ) → TurnTells (asked_by o f s)
+  by None = quiet_tells s here
+  by (Some number) = quiet_tells _ here
 
 resent_tells : (e : End) (c : ℕ) (chs : List Channel) → All FrameTells (frames_from e c chs)
 resent_tells e c [] = All-nil FrameTells
@@ -334,6 +340,7 @@ step_routed n (event.HostUp h) is = logged_routed (crossing.Up h ∷ []) (at_imp
 step_routed n (event.GiveUp f) is = call_routed n f.source.imp (λ s. give_up s f) (λ s here. quiet_tells _ here) is
 step_routed n (event.Forget at from) is = call_routed n at (λ s. forget s from) (λ s here. quiet_tells _ here) is
 step_routed n (event.Abandon f) is = call_routed n f.destination.imp (λ s. abandon s f) (λ s here. quiet_tells _ here) is
+step_routed n (event.Ask f) is = call_routed n f.source.imp (λ s. ask s f) (λ s here. ask_tells f s here) is
 
 -- ---- a quiet round
 
