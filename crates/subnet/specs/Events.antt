@@ -25,8 +25,9 @@ use Rattle.imp_node.specs.State as imp
 use Rattle.imp_node.specs.Offering.{begins, from_host, from_host_refusal}
 use Rattle.imp_node.specs.Arrival.{from_line}
 use Rattle.imp_node.specs.Taking.{next_for, to_host, to_host_refusal}
+use Rattle.imp_node.specs.Asking.{ask, ask_refusal}
 use Rattle.imp_node.specs.Lines.{resend, route, end_down, end_up, end_down_refusal, end_up_refusal}
-use Rattle.imp_node.specs.Stopping.{give_up, give_up_refusal, forget, abandon, abandon_refusal, ask, ask_refusal, host_down, host_down_refusal, host_up, host_up_refusal}
+use Rattle.imp_node.specs.Stopping.{give_up, give_up_refusal, forget, abandon, abandon_refusal, host_down, host_down_refusal, host_up, host_up_refusal}
 use Rattle.imp_node.specs.Queries.{last, outstanding, kept}
 use Rattle.subnet.specs.Net.{Net, imp_at, wire_at, ends_at, port_of, with_turn, frames_on, far_end, dropping}
 use Rattle.subnet.specs.Alive.{says, is_alive, has_data, has_flow, is_remembered, is_awaited, is_awaited_at}
@@ -182,7 +183,8 @@ site_at n i = slice_index_or n.sites i None
 abbrev pub is_imp : Net → ℕ → Bool
 is_imp n i = is_some (site_at n i)
 
--- an IMP forgets another's flows only where no data and no message from there to here is alive, and no message outstanding there
+-- an IMP forgets another's flows only where no data, no question and no message from there to here is alive, and no message
+-- outstanding there
 abbrev pub forgetting_refusal : Net → ℕ → ℕ → Option CarrierFault
 forgetting_refusal n at from =
     first_of (not (is_imp n at && is_imp n from)) fault.NoSuch

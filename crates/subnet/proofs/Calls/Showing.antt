@@ -27,7 +27,8 @@ use Rattle.imp_node.specs.State.{State, HostState, ImpTurn, no_host, host_at}
 use Rattle.imp_node.specs.Arrival.{from_line}
 use Rattle.imp_node.specs.Lines.{resend, route, end_down, end_up}
 use Rattle.imp_node.specs.Offering.{from_host}
-use Rattle.imp_node.specs.Stopping.{give_up, forget, abandon, ask, host_down, host_up}
+use Rattle.imp_node.specs.Asking.{ask}
+use Rattle.imp_node.specs.Stopping.{give_up, forget, abandon, host_down, host_up}
 use Rattle.imp_node.specs.Taking.{to_host, first_of}
 use Rattle.subnet.specs.Net.{Net, imp_at, wire_at, port_of, frames_on, far_end}
 use Rattle.subnet.specs.Events.{at_imp, at_up, logging, accepted, is_imp, site_at, imp_refusal, offer_out, given_at, taken_by_host, crossings_of, take_in, delivered, deliver, downs_from, downs_at, quiet_round, step_refusal, stepped}

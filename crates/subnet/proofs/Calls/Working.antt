@@ -22,7 +22,9 @@ use Rattle.imp_node.specs.State.{State, host_at, is_there, is_up, port_at}
 use Rattle.imp_node.specs.Flows.{is_idle}
 use Rattle.imp_node.specs.Offering.{is_own, way_of, way_has_room, from_host_refusal}
 use Rattle.imp_node.specs.Taking.{host_refusal, taking_has_room, to_host_refusal}
+use Rattle.imp_node.specs.Asking.{ask_refusal}
 use Rattle.imp_node.specs.Queries.{outstanding}
+use Rattle.imp_node.specs.Room.{has_room_to}
 use Rattle.imp_node.specs.Lines.{end_down_refusal, end_up_refusal}
 use Rattle.imp_node.specs.Stopping.{own_host, give_up_refusal, host_down_refusal, host_up_refusal}
 use Rattle.subnet.specs.Net.{Net, imp_at, wire_at, port_of, frames_on}

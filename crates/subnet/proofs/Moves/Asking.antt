@@ -13,13 +13,13 @@ use Rattle.flow_law.specs.View.{Packet, Kind}
 use Rattle.flow_law.specs.Moves.{Move, Asks, IsTold}
 use Rattle.flow_law.proofs.lemmas.{makes_one}
 use Rattle.imp_node.specs.State.{State, ImpTurn}
+use Rattle.imp_node.specs.Asking.{ask, ask_refusal}
 use Rattle.imp_node.specs.Contents as contents
 use Rattle.imp_node.specs.Flows.{answer_packet}
 use Rattle.imp_node.specs.Making.{ask_makes}
 use Rattle.imp_node.specs.Offering.{is_own}
 use Rattle.imp_node.specs.Queries.{outstanding}
 use Rattle.imp_node.specs.Room.{has_room_to}
-use Rattle.imp_node.specs.Stopping.{ask, ask_refusal}
 use Rattle.imp_node.proofs.lemmas.{ask_imp, ask_unmoved}
 use Rattle.subnet.specs.Net.{Net, imp_at, with_turn}
 use Rattle.subnet.specs.Events.{at_imp, at_up, asking_refusal}

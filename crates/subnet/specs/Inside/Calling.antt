@@ -10,9 +10,10 @@ use Rattle.imp_channel.specs.declared.frame.Frame.{Frame}
 use Rattle.imp_node.specs.declared.outgoing.Outgoing.{Outgoing}
 use Rattle.imp_node.specs.State.{State, HostState, ImpTurn, number}
 use Rattle.imp_node.specs.Arrival.{from_line, from_line_refusal, ignored}
+use Rattle.imp_node.specs.Asking.{ask, ask_refusal}
 use Rattle.imp_node.specs.Offering.{from_host, from_host_refusal, from_host_grows}
 use Rattle.imp_node.specs.Lines.{resend, route, end_down, end_down_refusal, end_up, end_up_refusal}
-use Rattle.imp_node.specs.Stopping.{give_up, give_up_refusal, forget, forget_refusal, abandon, abandon_refusal, ask, ask_refusal, host_down, host_down_refusal, host_up, host_up_refusal}
+use Rattle.imp_node.specs.Stopping.{give_up, give_up_refusal, forget, forget_refusal, abandon, abandon_refusal, host_down, host_down_refusal, host_up, host_up_refusal}
 use Rattle.imp_node.specs.Turns.{from_line_grows, resend_grows, route_grows, end_down_grows, end_up_grows, give_up_grows, forget_grows, abandon_grows, ask_grows, host_down_grows, host_up_grows}
 use Rattle.subnet.specs.declared.imp_call.ImpCall.{ImpCall}
 use Rattle.subnet.specs.declared.imp_call.ImpCall.TheVariants as call
