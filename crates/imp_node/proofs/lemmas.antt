@@ -1,5 +1,5 @@
 -- The lemmas of this crate that others may use: the proofs of subnet do. All others in proofs/ are its own.
-pub use Rattle.imp_node.proofs.Asking.{not_found}
+pub use Rattle.imp_node.proofs.Queried.{not_found}
 pub use Rattle.imp_node.proofs.Held.{Has, OutgoingHas, TurnHas, has_packets, packets_has, pump_has, quiet_has}
 pub use Rattle.imp_node.proofs.HeldByCalls.{abandon_has, ask_has, end_down_has, end_up_has, forget_has, from_host_has, from_line_has, give_up_has, host_down_has, host_up_has, resend_has, returned_number, route_has, start_has, taken_has, to_host_has}
 pub use Rattle.imp_node.proofs.Reading.{freed_with}
