@@ -50,14 +50,14 @@ IsCrossing (crossing.Answer kind f) = IsFlow f
 IsCrossing (crossing.Down h) = IsHost h
 IsCrossing (crossing.Up h) = IsHost h
 
--- a list of fewer than 2^32 bits
+-- a list of fewer than 2^64 bits
 abbrev pub IsHanded : List Bool → Type 0
-IsHanded bits = length bits < 2 ^ 32
+IsHanded bits = length bits < 2 ^ 64
 
 abbrev pub IsAmount : Amount → Type 0
 IsAmount a = (a.messages < 2 ^ 128) × (a.bits < 2 ^ 128)
 
--- sockets have 32 bits, places 64, and counts 128; which socket sends and which receives, its line tells by the socket
+-- sockets have 32 bits, places and lengths 64, and counts 128; which socket sends and which receives, its line tells by the socket
 pub record IsLife (x : Life) : Type 0 where
   pub host : IsHost x.host
   pub socket : x.socket < 2 ^ 32
@@ -66,7 +66,7 @@ pub record IsLife (x : Life) : Type 0 where
   pub own : x.own_stamp < 2 ^ 64
   pub partner : x.partner_stamp < 2 ^ 64
   pub messages : x.messages < 2 ^ 128
-  pub bits : length x.bits < 2 ^ 32
+  pub bits : length x.bits < 2 ^ 64
   pub granted : IsAmount x.granted
   pub returned : IsAmount x.returned
 

@@ -125,7 +125,7 @@ counts_words k = decimal k.messages ∷ decimal k.bits ∷ amount_words k.grante
 
 pub record AreCounts (k : Counts) : Type 0 where
   pub messages : k.messages < 2 ^ 128
-  pub bits : k.bits < 2 ^ 32
+  pub bits : k.bits < 2 ^ 64
   pub granted : IsAmount k.granted
   pub returned : IsAmount k.returned
 

@@ -158,10 +158,10 @@ fn read_message(alloc: Global, mut words: Words<'_>) -> Result<Option<HostMessag
 fn read_counted(alloc: Global, words: &mut Words<'_>) -> Result<Option<Bits>, AllocError>
     ensures { IfOk result (λ read. TakesWords handed_words IsHanded (words_left words.old) read (words_left words.new)) }
 {
-    let Some(count) = words.number() else {
+    let Some(count) = words.place() else {
         return Ok(None);
     };
-    words.bits(alloc, count as usize)
+    words.bits(alloc, count)
 }
 
 /// Both ends of a life, and its requests.
@@ -179,7 +179,7 @@ pub(crate) struct Ends {
 #[derive(Drop)]
 pub(crate) struct Counts {
     pub messages: u128,
-    pub bits: u32,
+    pub bits: usize,
     pub granted: Amount,
     pub returned: Amount,
     pub ended: bool,
@@ -197,7 +197,7 @@ fn read_life(alloc: Global, mut words: Words<'_>) -> Result<Option<Life>, AllocE
     let Some(counts) = read_counts(&mut words) else {
         return Ok(None);
     };
-    let Some(bits) = words.bits(alloc, counts.bits as usize)? else {
+    let Some(bits) = words.bits(alloc, counts.bits)? else {
         return Ok(None);
     };
     if !words.is_over() {
@@ -265,7 +265,7 @@ fn read_counts(words: &mut Words<'_>) -> Option<Counts>
     ensures { TakesWords counts_words AreCounts (words_left words.old) result (words_left words.new) }
 {
     let messages = words.count()?;
-    let bits = words.number()?;
+    let bits = words.place()?;
     let granted = read_amount(words)?;
     let returned = read_amount(words)?;
     let state = words.next()?;

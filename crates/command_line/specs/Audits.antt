@@ -1,5 +1,5 @@
 -- What is written of a log as its audit.
-use Rattle.std.specs.Prelude.{ℕ, ◌<◌, ◌≤◌, List, ◌++◌, length, reverse, Option, codes}
+use Rattle.std.specs.Prelude.{◌≡◌, ℕ, ◌<◌, ◌≤◌, List, ◌++◌, length, reverse, Option, Result, Ok, Err, codes}
 use Rattle.std.specs.Fmt.{decimal}
 use Rattle.std.specs.Io.KnownBytes.{Appends}
 use Rattle.book_log.specs.Log.{Book, IsBadLine, IsLog}
@@ -48,6 +48,25 @@ IsAuditFault octets (fault.BadLog number) = (length octets ≤ 33554432) × IsBa
 IsAuditFault octets fault.OutOfMemory = Unit {0}
 IsAuditFault octets fault.CannotWrite = IsSomeLog octets
 IsAuditFault octets fault.CannotRead = ⊥
+
+-- ---- logs that a replay wrote
+
+-- octets are the log of a book that is kept
+pub record IsKeptLog (octets : List ℕ) : Type 0 where
+  pub book : Book
+  pub log : IsLog octets book
+  pub says : SaysOf audit.Kept book
+
+-- how the audit of such a log ends: it says `kept`. Only a log that is too long, memory or a failed write can keep it from saying so
+abbrev pub SaysKept : List ℕ → Result Audit AuditFault → Type 0
+SaysKept octets (Ok said) = said ≡ audit.Kept
+SaysKept octets (Err fault.LongLog) = 33554432 < length octets
+SaysKept octets (Err fault.OutOfMemory) = Unit {0}
+SaysKept octets (Err fault.CannotWrite) = Unit {0}
+SaysKept octets (Err (fault.BadLog number)) = ⊥
+SaysKept octets (Err fault.CannotRead) = ⊥
+
+-- ---- exit statuses
 
 -- the exit status of a fault
 abbrev pub status_at : AuditFault → ℕ

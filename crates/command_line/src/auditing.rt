@@ -1,9 +1,10 @@
 //! The audit of a log.
 
-ghost use Rattle.std.specs.Prelude.{◌≡◌, ◌≢◌, ◌≤◌, ◌<◌, ◌↔◌, Err, IfErr, IfOk, IfSome, MatchResult, OnOk, false, length, true};
+ghost use Rattle.std.specs.Prelude.{◌≡◌, ◌≢◌, ◌≤◌, ◌<◌, ◌↔◌, Err, IfErr, IfOk, IfSome, MatchResult, OnOk, Some, [], false, length, true};
 ghost use Rattle.book_log.specs.Log.{IsLog};
 ghost use Rattle.replay.specs.Failing.{TellsFailure};
-ghost use Rattle.command_line.specs.Audits.{Audited, AuditsLog, IsAuditFault, IsBookFault, IsLogReadFault, IsSomeLog, WritesVerdict, status_at, status_said};
+ghost use Rattle.command_line.specs.Audits.{Audited, AuditsLog, IsAuditFault, IsBookFault, IsLogReadFault, IsSomeLog, SaysKept, WritesVerdict, status_at, status_said};
+ghost use Rattle.command_line.specs.Logs.{Logged};
 
 use crate::source::{ReadFailed, Source};
 use book_log::{LogFault, LoggedBook, MAX_LOG, read_log};
@@ -123,6 +124,9 @@ pub fn run_audit<R: Source, W: Output>(
 
     // what is read is a log, or the first fault is given
     ensures read { R.failed reader.new ≡ false → IfSome (R.remaining reader.old) (λ octets. MatchResult result (λ _. IsSomeLog octets) (IsAuditFault octets)) }
+
+    // what a replay wrote as its log is read, and is kept
+    ensures kept { R.failed reader.new ≡ false → IfSome (R.remaining reader.old) (λ octets. Logged (Some []) (Some octets) → SaysKept octets result) }
 
     // where a read or a write fails it is told, and nowhere else
     ensures cannot_read { (result ≡ Err AuditFault.CannotRead) ↔ (R.failed reader.new ≡ true) }
