@@ -87,6 +87,7 @@ rfnm_one : (k : Answer) → list_any is_rfnm (k ∷ []) ≡ true → length (fil
 rfnm_one answer.Rfnm e = refl
 rfnm_one answer.Incomplete e = absurd (false≢true e)
 rfnm_one answer.Dead e = absurd (false≢true e)
+rfnm_one answer.NotTaken e = absurd (false≢true e)
 
 is_up : (v w : Bool) → (v && not w) ≡ true → w ≡ false
 is_up true true e = absurd (false≢true e)

@@ -45,6 +45,7 @@ single : (k : Answer) → list_any is_rfnm (k ∷ []) ≡ is_rfnm k
 single answer.Rfnm = refl
 single answer.Incomplete = refl
 single answer.Dead = refl
+single answer.NotTaken = refl
 
 -- of a flow whose message doesn't wait, at most one answer does
 quiet_unanswered : (s d : Bool) (ks : List Answer) (box : Box) → FitsBox s d [] ks box → (b : Bool) → s ≡ b → is_unanswered (pending_of [] ks) ≡ list_any is_rfnm ks

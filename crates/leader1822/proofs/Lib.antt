@@ -2,6 +2,7 @@ pub mod FlowByFlow
 pub mod Lists
 pub mod Order
 pub mod MessageLaw
+pub mod NotTaken
 pub mod Waiting
 pub mod ForHost
 pub mod Kept

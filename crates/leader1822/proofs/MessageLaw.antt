@@ -21,21 +21,21 @@ pub record Quiet (box : Box) (texts : List (List Bool)) : Type 0 where
   pub empty : box ≡ Empty
   pub none : texts ≡ []
 
--- the box and what was taken, after one crossing more
-quiet_in : (f : Flow) (m : HostMessage) (log : List Crossing) → WaitsWith (box_of m.flow log) m.text → Quiet (box_of f log) (taken_in f log)
-    → (b : Bool) → same_flow f m.flow ≡ b → Quiet (box_of f (crossing.In m ∷ log)) (taken_in f (crossing.In m ∷ log))
-quiet_in f m log needs q true e =
+-- the box, and what was taken in some part of the log, after one crossing more
+pub quiet_in : (f : Flow) (m : HostMessage) (log part : List Crossing) → WaitsWith (box_of m.flow log) m.text → Quiet (box_of f log) (taken_in f part)
+    → (b : Bool) → same_flow f m.flow ≡ b → Quiet (box_of f (crossing.In m ∷ log)) (taken_in f (crossing.In m ∷ part))
+quiet_in f m log part needs q true e =
     let P : Flow → Type 0 = λ g. WaitsWith (box_of g log) m.text in
     let here : WaitsWith (box_of f log) m.text = subst P (sym (same_flow-true f m.flow e)) needs in
     let Q : Box → Type 0 = λ x. WaitsWith x m.text in
     absurd (subst Q q.empty here)
-quiet_in f m log needs q false e = rw e q
+quiet_in f m log part needs q false e = rw e q
 
-quiet_if : (b : Bool) (box : Box) → box ≡ Empty → (if b then Empty else box) ≡ Empty
+pub quiet_if : (b : Bool) (box : Box) → box ≡ Empty → (if b then Empty else box) ≡ Empty
 quiet_if true box e = refl
 quiet_if false box e = e
 
-quiet_out : (b : Bool) (place : ℕ) (text : List Bool) (box : Box) → b ≡ false → box ≡ Empty → (if b then Waiting place text else box) ≡ Empty
+pub quiet_out : (b : Bool) (place : ℕ) (text : List Bool) (box : Box) → b ≡ false → box ≡ Empty → (if b then Waiting place text else box) ≡ Empty
 quiet_out true place text box n e = absurd (cc)
 quiet_out false place text box n e = e
 
@@ -45,7 +45,7 @@ quiet_run hosts f (crossing.Out m ∷ log) r n =
     let t = or_false (same_flow f m.flow) (went_out f log) n in
     let q = quiet_run hosts f log r.1 t.1 in
     record { empty = quiet_out (same_flow f m.flow) (length log) m.text (box_of f log) t.0 q.empty; none = q.none }
-quiet_run hosts f (crossing.In m ∷ log) r n = quiet_in f m log r.0.1 (quiet_run hosts f log r.1 n) (same_flow f m.flow) refl
+quiet_run hosts f (crossing.In m ∷ log) r n = quiet_in f m log log r.0.1 (quiet_run hosts f log r.1 n) (same_flow f m.flow) refl
 quiet_run hosts f (crossing.Answer k g ∷ log) r n =
     let q = quiet_run hosts f log r.1 n in record { empty = quiet_if (same_flow f g) (box_of f log) q.empty; none = q.none }
 quiet_run hosts f (crossing.Down h ∷ log) r n = quiet_run hosts f log r.1 n
@@ -87,7 +87,7 @@ tells_more_out : (f : Flow) (m : HostMessage) (log since : List Crossing) (text 
     → Tells (box_of f (crossing.Out m ∷ log)) text (taken_in f since)
 tells_more_out f m log since text e h = rw e h
 
-tells_run : (hosts : List Host) (f : Flow) (since : List Crossing) (m : HostMessage) (before : List Crossing) → m.flow ≡ f
+pub tells_run : (hosts : List Host) (f : Flow) (since : List Crossing) (m : HostMessage) (before : List Crossing) → m.flow ≡ f
     → IsRun hosts (since ++ crossing.Out m ∷ before) → went_out f since ≡ false → Tells (box_of f (since ++ crossing.Out m ∷ before)) m.text (taken_in f since)
 tells_run hosts f [] m before e r n =
     let same : same_flow f m.flow ≡ true = ap (λ (g : Flow). same_flow f g) e ∙ same_flow-refl f in rw same (refl, refl)

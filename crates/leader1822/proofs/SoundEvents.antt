@@ -32,6 +32,9 @@ incomplete_fits answer.Dead Empty h = absurd h
 incomplete_fits answer.Dead (Waiting place text) h = tt
 incomplete_fits answer.Dead (Taken place text) h = absurd h
 incomplete_fits answer.Incomplete box h = h
+incomplete_fits answer.NotTaken Empty h = absurd h
+incomplete_fits answer.NotTaken (Waiting place text) h = tt
+incomplete_fits answer.NotTaken (Taken place text) h = absurd h
 
 -- the answers other than RFNM
 abbrev pub others : List Answer → List Answer
@@ -50,6 +53,7 @@ rfnm_only : (k : Answer) → list_any is_rfnm (k ∷ []) ≡ true → others (k 
 rfnm_only answer.Rfnm e = refl
 rfnm_only answer.Incomplete e = absurd (cc)
 rfnm_only answer.Dead e = absurd (cc)
+rfnm_only answer.NotTaken e = absurd (cc)
 
 pub gives_up : (s d : Bool) (ts : List (List Bool)) (ks : List Answer) (box : Box) → FitsBox s d ts ks box → (has_any ts || list_any is_rfnm ks) ≡ true → GivesUp s ks box
 gives_up s d ts ks box h e = elim h.queued [

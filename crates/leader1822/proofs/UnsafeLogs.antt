@@ -1,7 +1,7 @@
 -- Short logs that break the promise about messages.
-use Rattle.std.proofs.Common.{◌≡◌, ◌≢◌, true, List, [], ◌∷◌, ◌++◌, ap, sym, ◌∙◌, refl, inl, inr}
+use Rattle.std.proofs.Common.{◌≡◌, ◌≢◌, true, false, List, [], ◌∷◌, ◌++◌, ap, sym, ◌∙◌, refl, inl, inr}
 use Rattle.leader1822.specs.Flow.{same_flow}
-use Rattle.leader1822.specs.Messages.{SafeMessages, TakenOnce, taken_in}
+use Rattle.leader1822.specs.Messages.{SafeMessages, NeverTaken, TakenOnce, taken_in, went_out, told_not_taken}
 use Rattle.leader1822.specs.declared.crossing.Answer.TheVariants as answer
 use Rattle.leader1822.specs.declared.crossing.Crossing.{Crossing}
 use Rattle.leader1822.specs.declared.crossing.Crossing.TheVariants as crossing
@@ -49,3 +49,19 @@ early m safe =
     let given : taken_in m.flow (crossing.In m ∷ []) ≡ m.text ∷ [] = rw (same_flow-refl m.flow) refl in
     let no : m.text ∷ [] ≡ [] = sym given ∙ safe.none_before [] (crossing.In m ∷ []) m.flow refl refl in
     cc
+
+-- ---- messages of which the source was told NotTaken
+
+-- one text was taken since the message went out, though its source was told NotTaken
+not_never : (m : HostMessage) (newer since : List Crossing) → went_out m.flow since ≡ false → told_not_taken m.flow since ≡ true → taken_in m.flow since ≡ m.text ∷ []
+    → NeverTaken (newer ++ (since ++ crossing.Out m ∷ [])) → ⊥
+not_never m newer since last told taken safe = let no : m.text ∷ [] ≡ [] = sym taken ∙ safe.never newer since [] m refl last told in cc
+
+pub taken_and_told : (m : HostMessage) → NeverTaken (crossing.Answer answer.NotTaken m.flow ∷ crossing.In m ∷ crossing.Out m ∷ []) → ⊥
+taken_and_told m = not_never m [] (crossing.Answer answer.NotTaken m.flow ∷ crossing.In m ∷ []) refl (rw (same_flow-refl m.flow) refl) (rw (same_flow-refl m.flow) refl)
+
+pub told_and_taken : (m : HostMessage) → NeverTaken (crossing.In m ∷ crossing.Answer answer.NotTaken m.flow ∷ crossing.Out m ∷ []) → ⊥
+told_and_taken m = not_never m [] (crossing.In m ∷ crossing.Answer answer.NotTaken m.flow ∷ []) refl (rw (same_flow-refl m.flow) refl) (rw (same_flow-refl m.flow) refl)
+
+pub taken_below : (m : HostMessage) → NeverTaken (crossing.Out m ∷ crossing.Answer answer.NotTaken m.flow ∷ crossing.In m ∷ crossing.Out m ∷ []) → ⊥
+taken_below m = not_never m (crossing.Out m ∷ []) (crossing.Answer answer.NotTaken m.flow ∷ crossing.In m ∷ []) refl (rw (same_flow-refl m.flow) refl) (rw (same_flow-refl m.flow) refl)

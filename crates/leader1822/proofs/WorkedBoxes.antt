@@ -29,10 +29,14 @@ early_rfnm hosts m run = rw (same_flow-refl m.flow) at run.0.1
 pub late_dead : (hosts : List Host) (m : HostMessage) → IsRun hosts (crossing.Answer answer.Dead m.flow ∷ crossing.In m ∷ crossing.Out m ∷ []) → ⊥
 late_dead hosts m run = rw (same_flow-refl m.flow) at run.0.1
 
+pub late_not_taken : (hosts : List Host) (m : HostMessage) → IsRun hosts (crossing.Answer answer.NotTaken m.flow ∷ crossing.In m ∷ crossing.Out m ∷ []) → ⊥
+late_not_taken hosts m run = rw (same_flow-refl m.flow) at run.0.1
+
 pub answered_once : (hosts : List Host) (m : HostMessage) (kind : Answer) → IsRun hosts (crossing.Answer kind m.flow ∷ crossing.Answer answer.Incomplete m.flow ∷ crossing.Out m ∷ []) → ⊥
 answered_once hosts m answer.Rfnm run = rw (same_flow-refl m.flow) at run.0.1
 answered_once hosts m answer.Incomplete run = rw (same_flow-refl m.flow) at run.0.1
 answered_once hosts m answer.Dead run = rw (same_flow-refl m.flow) at run.0.1
+answered_once hosts m answer.NotTaken run = rw (same_flow-refl m.flow) at run.0.1
 
 pub up_twice : (hosts : List Host) (h : Host) → IsRun hosts (crossing.Up h ∷ []) → ⊥
 up_twice hosts h run = let both : true ≡ false = sym run.0.0 ∙ run.0.1 in cc
@@ -62,6 +66,10 @@ dead_run hosts m from = rw (same_flow-refl m.flow) ((from, tt), ((from, refl), t
 
 pub early_run : (hosts : List Host) (m : HostMessage) → is_host hosts m.flow.source ≡ true → IsRun hosts (crossing.Answer answer.Incomplete m.flow ∷ crossing.Out m ∷ [])
 early_run hosts m from = rw (same_flow-refl m.flow) ((from, tt), ((from, refl), tt))
+
+pub not_taken_run : (hosts : List Host) (m : HostMessage) → is_host hosts m.flow.source ≡ true → is_host hosts m.flow.destination ≡ true
+    → IsRun hosts (crossing.In m ∷ crossing.Out m ∷ crossing.Answer answer.NotTaken m.flow ∷ crossing.Out m ∷ [])
+not_taken_run hosts m from to = rw (same_flow-refl m.flow) ((to, refl), ((from, refl), ((from, tt), ((from, refl), tt))))
 
 pub restarted : (hosts : List Host) (h : Host) → is_host hosts h ≡ true → IsRun hosts (crossing.Up h ∷ crossing.Down h ∷ [])
 restarted hosts h there = rw (same_host-refl h) ((there, refl), (there, tt))

@@ -95,6 +95,7 @@ abbrev pub is_rfnm : Answer → Bool
 is_rfnm answer.Rfnm = true
 is_rfnm answer.Incomplete = false
 is_rfnm answer.Dead = false
+is_rfnm answer.NotTaken = false
 
 abbrev pub is_rfnm_about : Flow → WaitingAnswer → Bool
 is_rfnm_about f a = is_about f a && is_rfnm a.0
@@ -233,6 +234,7 @@ step_refusal b (event.ImpDown imp) = no_event_refusal b.stopped
 step_refusal b (event.ImpUp imp) = no_event_refusal b.stopped
 step_refusal b (event.Forget at from) = no_event_refusal b.stopped
 step_refusal b (event.Abandon f) = no_event_refusal b.stopped
+step_refusal b (event.Ask f) = no_event_refusal b.stopped
 
 -- what an event leaves, where it is not refused
 abbrev pub stepped : Boxes → NetEvent → Boxes
@@ -249,6 +251,7 @@ stepped b (event.ImpDown imp) = b
 stepped b (event.ImpUp imp) = b
 stepped b (event.Forget at from) = b
 stepped b (event.Abandon f) = b
+stepped b (event.Ask f) = b
 
 -- ---- memory
 
@@ -275,6 +278,7 @@ step_grows b (event.ImpDown imp) = false
 step_grows b (event.ImpUp imp) = false
 step_grows b (event.Forget at from) = false
 step_grows b (event.Abandon f) = false
+step_grows b (event.Ask f) = false
 
 -- ---- the calls
 

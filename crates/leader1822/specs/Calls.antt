@@ -98,6 +98,7 @@ step_crossings s (event.ImpUp imp) = []
 step_crossings s (event.GiveUp f) = []
 step_crossings s (event.Forget at from) = []
 step_crossings s (event.Abandon f) = []
+step_crossings s (event.Ask f) = []
 
 abbrev pub ShowsStep : Seen → NetEvent → Result (Unit {0}) CarrierFault → Seen → Type 0
 ShowsStep old e (Ok done) new = ShowsCrossings old (step_crossings old e) new

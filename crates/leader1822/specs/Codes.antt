@@ -24,16 +24,19 @@ abbrev pub number_of : Answer → ℕ
 number_of answer.Rfnm = 0
 number_of answer.Incomplete = 1
 number_of answer.Dead = 2
+number_of answer.NotTaken = 3
 
 abbrev pub answer_by : ℕ → Answer
 answer_by zero = answer.Rfnm
 answer_by (suc zero) = answer.Incomplete
-answer_by (suc (suc kind)) = answer.Dead
+answer_by (suc (suc zero)) = answer.Dead
+answer_by (suc (suc (suc kind))) = answer.NotTaken
 
 abbrev pub answer_again : (kind : Answer) → answer_by (number_of kind) ≡ kind
 answer_again answer.Rfnm = refl
 answer_again answer.Incomplete = refl
 answer_again answer.Dead = refl
+answer_again answer.NotTaken = refl
 
 abbrev pub coded_answer : Coded Answer
 coded_answer = code_by ℕ coded_ℕ number_of answer_by answer_again

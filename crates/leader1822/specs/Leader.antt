@@ -8,11 +8,12 @@ use Rattle.leader1822.specs.declared.leader.Leader.TheVariants as leader
 use Rattle.leader1822.specs.declared.leader.LeaderFault.{LeaderFault}
 use Rattle.leader1822.specs.declared.leader.LeaderFault.TheVariants as fault
 
--- the type of message that carries an answer
+-- the type of message that carries an answer; NotTaken has no type of its own
 abbrev pub answer_type : Answer → ℕ
 answer_type answer.Rfnm = 5
 answer_type answer.Dead = 7
 answer_type answer.Incomplete = 9
+answer_type answer.NotTaken = 9
 
 -- a leader about the host that the address octet names; an octet with IMP 0 names none
 abbrev pub about : Option Host → (Host → Leader) → Result Leader LeaderFault
@@ -58,6 +59,19 @@ abbrev pub spelling : Leader → List ℕ
 spelling leader.Nop = 4 ∷ 0 ∷ 0 ∷ 0 ∷ []
 spelling (leader.Regular address link) = 0 ∷ address_octet address ∷ link.0 ∷ 0 ∷ []
 spelling (leader.Answer kind address link) = answer_type kind ∷ address_octet address ∷ link.0 ∷ 0 ∷ []
+
+-- the answer that a host reads where this one was written
+abbrev pub as_told : Answer → Answer
+as_told answer.Rfnm = answer.Rfnm
+as_told answer.Dead = answer.Dead
+as_told answer.Incomplete = answer.Incomplete
+as_told answer.NotTaken = answer.Incomplete
+
+-- the leader that is read where this one was written
+abbrev pub as_read : Leader → Leader
+as_read leader.Nop = leader.Nop
+as_read (leader.Regular address link) = leader.Regular address link
+as_read (leader.Answer kind address link) = leader.Answer (as_told kind) address link
 
 -- a leader that can be written: its host has an address, and its link is an octet
 abbrev pub IsWritten : Leader → Type 0

@@ -32,7 +32,7 @@ fetched Empty = Empty
 fetched (Waiting place text) = Taken place text
 fetched (Taken place text) = Taken place text
 
--- an answer fits a box: RFNM a box whose message was taken, Dead one whose message waits, Incomplete either of them
+-- an answer fits a box: RFNM a box whose message was taken, Dead and NotTaken one whose message waits, Incomplete either of them
 abbrev pub Fits : Answer → Box → Type 0
 Fits answer.Rfnm Empty = ⊥
 Fits answer.Rfnm (Waiting place text) = ⊥
@@ -43,6 +43,9 @@ Fits answer.Dead (Taken place text) = ⊥
 Fits answer.Incomplete Empty = ⊥
 Fits answer.Incomplete (Waiting place text) = Unit {0}
 Fits answer.Incomplete (Taken place text) = Unit {0}
+Fits answer.NotTaken Empty = ⊥
+Fits answer.NotTaken (Waiting place text) = Unit {0}
+Fits answer.NotTaken (Taken place text) = ⊥
 
 -- ---- the boxes and the hosts after a log
 

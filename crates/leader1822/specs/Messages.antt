@@ -1,8 +1,9 @@
--- What every host may rely on, whatever carries its messages: an RFNM speaks of one message that was taken once, and no
--- message is taken twice.
-use Rattle.std.specs.Prelude.{◌≡◌, Bool, false, List, [], ◌∷◌, ◌++◌, ◌||◌, if◌then◌else◌, ◌⊎◌}
+-- What every host may rely on, whatever carries its messages: an RFNM speaks of one message that was taken once, no
+-- message is taken twice, and one of which its source was told NotTaken is never taken.
+use Rattle.std.specs.Prelude.{◌≡◌, Bool, true, false, List, [], ◌∷◌, ◌++◌, ◌||◌, ◌&&◌, if◌then◌else◌, ◌⊎◌}
 use Rattle.leader1822.specs.Mailboxes.{same_flow}
 use Rattle.leader1822.specs.declared.address.Flow.{Flow}
+use Rattle.leader1822.specs.declared.crossing.Answer.{Answer}
 use Rattle.leader1822.specs.declared.crossing.Answer.TheVariants as answer
 use Rattle.leader1822.specs.declared.crossing.Crossing.{Crossing}
 use Rattle.leader1822.specs.declared.crossing.Crossing.TheVariants as crossing
@@ -49,3 +50,26 @@ pub record SafeMessages (log : List Crossing) : Type 0 where
       → (taken_in m.flow since ≡ []) ⊎ (taken_in m.flow since ≡ m.text ∷ [])
   -- before a flow's first message out none is taken
   pub none_before : (newer older : List Crossing) (f : Flow) → log ≡ newer ++ older → went_out f older ≡ false → taken_in f older ≡ []
+
+-- ---- what NotTaken promises
+
+abbrev pub is_not_taken : Answer → Bool
+is_not_taken answer.Rfnm = false
+is_not_taken answer.Incomplete = false
+is_not_taken answer.Dead = false
+is_not_taken answer.NotTaken = true
+
+-- whether the flow's source was told NotTaken in this part of a log
+abbrev pub told_not_taken : Flow → List Crossing → Bool
+told_not_taken f [] = false
+told_not_taken f (crossing.Out m ∷ log) = told_not_taken f log
+told_not_taken f (crossing.In m ∷ log) = told_not_taken f log
+told_not_taken f (crossing.Answer kind g ∷ log) = (same_flow f g && is_not_taken kind) || told_not_taken f log
+told_not_taken f (crossing.Down h ∷ log) = told_not_taken f log
+told_not_taken f (crossing.Up h ∷ log) = told_not_taken f log
+
+-- between one message out and the flow's next: once its source is told NotTaken, the message is taken neither before nor after.
+-- `newer` is any later part of the log
+pub record NeverTaken (log : List Crossing) : Type 0 where
+  pub never : (newer since before : List Crossing) (m : HostMessage) → log ≡ newer ++ (since ++ crossing.Out m ∷ before) → went_out m.flow since ≡ false
+      → told_not_taken m.flow since ≡ true → taken_in m.flow since ≡ []

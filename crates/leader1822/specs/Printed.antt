@@ -20,6 +20,7 @@ abbrev pub answer_text : Answer → List ℕ
 answer_text answer.Rfnm = codes "rfnm"
 answer_text answer.Incomplete = codes "incomplete"
 answer_text answer.Dead = codes "dead"
+answer_text answer.NotTaken = codes "incomplete"
 
 -- a crossing is a word for what crossed, and what it was about; of a text only the number of bits is printed
 abbrev pub crossing_text : Crossing → List ℕ

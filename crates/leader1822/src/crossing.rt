@@ -14,6 +14,8 @@ pub enum Answer {
     Incomplete,
     /// The destination is down or not there, and did not get the message.
     Dead,
+    /// The destination did not take the message, and never will. Hosts are told `Incomplete` for it.
+    NotTaken,
 }
 
 /// One event at the interface of a host. A log is a list of these.
@@ -40,7 +42,7 @@ pub enum Inbound {
     Answer(Answer, Flow),
 }
 
-/// Prints `rfnm`, `incomplete` or `dead`.
+/// Prints `rfnm`, `incomplete` or `dead`; `NotTaken` is printed as `incomplete`.
 impl fmt::Display for Answer {
     ghost use Rattle.leader1822.specs.Printed.{answer_text};
 
@@ -49,7 +51,7 @@ impl fmt::Display for Answer {
     fn fmt<W: fmt::Write>(&self, f: &mut fmt::Formatter<W>) -> fmt::Result {
         match self {
             Answer::Rfnm => write!(f, "rfnm"),
-            Answer::Incomplete => write!(f, "incomplete"),
+            Answer::Incomplete | Answer::NotTaken => write!(f, "incomplete"),
             Answer::Dead => write!(f, "dead"),
         }
     }

@@ -69,4 +69,6 @@ pub enum NetEvent {
     },
     /// The destination's IMP throws away the pieces that it holds of a flow's message.
     Abandon(Flow),
+    /// The source's IMP asks the destination's what became of the outstanding message of a flow.
+    Ask(Flow),
 }

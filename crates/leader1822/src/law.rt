@@ -3,9 +3,9 @@
 
 ghost use Rattle.std.specs.Prelude.{◌≡◌, ◌≢◌, ℕ, ◌+◌, ◌*◌, ◌<◌, ◌≤◌, Bool, true, false, List, [], ◌∷◌, ◌++◌, Ok, Some, slice_get};
 ghost use Rattle.leader1822.specs.Host.{Host, is_host, IsAddress, InOrder};
-ghost use Rattle.leader1822.specs.Leader.{read_from_host, read_from_imp, spelling, IsWritten, IsFromHost};
+ghost use Rattle.leader1822.specs.Leader.{read_from_host, read_from_imp, spelling, as_read, IsWritten, IsFromHost};
 ghost use Rattle.leader1822.specs.Mailboxes.{IsRun, EachIsRun, Box, Empty, Waiting, Taken, WaitsWith, Mail, opening_mail, mail_of, passed, is_up, box_of};
-ghost use Rattle.leader1822.specs.Messages.{SafeMessages};
+ghost use Rattle.leader1822.specs.Messages.{SafeMessages, NeverTaken};
 ghost use Rattle.leader1822.specs.declared.address.Flow.{Flow};
 ghost use Rattle.leader1822.specs.declared.crossing.Answer.{Answer};
 ghost use Rattle.leader1822.specs.declared.crossing.Answer.TheVariants as answer;
@@ -18,8 +18,8 @@ ghost use Rattle.leader1822.specs.declared.message.HostMessage.{HostMessage};
 /// What a leader says is read again, and only its type, address and link are looked at (BBN Report 1822,
 /// message leaders).
 pub fn leaders()
-    // what was written is read again, whatever follows it
-    ensures from_imp { (l : Leader) (rest : List ℕ) → IsWritten l → read_from_imp (spelling l ++ rest) ≡ Ok l }
+    // what was written is read again, whatever follows it; a written NotTaken is read as Incomplete
+    ensures from_imp { (l : Leader) (rest : List ℕ) → IsWritten l → read_from_imp (spelling l ++ rest) ≡ Ok (as_read l) }
     ensures from_host { (l : Leader) (rest : List ℕ) → IsWritten l → IsFromHost l → read_from_host (spelling l ++ rest) ≡ Ok l }
 
     // the flags, the last octet and what follows it change nothing
@@ -67,9 +67,10 @@ pub fn worked_boxes()
     ensures one_outstanding { (hosts : List Host) (m : HostMessage) → IsRun hosts (crossing.Out m ∷ crossing.Out m ∷ []) → ⊥ }
     ensures taken_once { (hosts : List Host) (m : HostMessage) → IsRun hosts (crossing.In m ∷ crossing.In m ∷ crossing.Out m ∷ []) → ⊥ }
 
-    // RFNM needs a message that was taken, Dead one that waits, and Incomplete one of either
+    // RFNM needs a message that was taken, Dead and NotTaken one that waits, and Incomplete one of either
     ensures early_rfnm { (hosts : List Host) (m : HostMessage) → IsRun hosts (crossing.Answer answer.Rfnm m.flow ∷ crossing.Out m ∷ []) → ⊥ }
     ensures late_dead { (hosts : List Host) (m : HostMessage) → IsRun hosts (crossing.Answer answer.Dead m.flow ∷ crossing.In m ∷ crossing.Out m ∷ []) → ⊥ }
+    ensures late_not_taken { (hosts : List Host) (m : HostMessage) → IsRun hosts (crossing.Answer answer.NotTaken m.flow ∷ crossing.In m ∷ crossing.Out m ∷ []) → ⊥ }
     ensures answered_once { (hosts : List Host) (m : HostMessage) (kind : Answer) → IsRun hosts (crossing.Answer kind m.flow ∷ crossing.Answer answer.Incomplete m.flow ∷ crossing.Out m ∷ []) → ⊥ }
 
     // a host that is up does not come up, and one that is down does not go down
@@ -88,6 +89,9 @@ pub fn worked_runs()
     // while it waits, it is answered by Dead or Incomplete
     ensures waiting { (hosts : List Host) (m : HostMessage) → is_host hosts m.flow.source ≡ true → IsRun hosts (crossing.Answer answer.Dead m.flow ∷ crossing.Out m ∷ []) × IsRun hosts (crossing.Answer answer.Incomplete m.flow ∷ crossing.Out m ∷ []) }
 
+    // or by NotTaken, and then the flow's next message goes out and is taken
+    ensures not_taken { (hosts : List Host) (m : HostMessage) → is_host hosts m.flow.source ≡ true → is_host hosts m.flow.destination ≡ true → IsRun hosts (crossing.In m ∷ crossing.Out m ∷ crossing.Answer answer.NotTaken m.flow ∷ crossing.Out m ∷ []) }
+
     // a host of the network goes down, and comes up again
     ensures restarted { (hosts : List Host) (h : Host) → is_host hosts h ≡ true → IsRun hosts (crossing.Up h ∷ crossing.Down h ∷ []) }
 {}
@@ -105,9 +109,22 @@ pub fn unsafe_logs()
 
     // a message taken before any went out
     ensures early { (m : HostMessage) → SafeMessages (crossing.In m ∷ []) → ⊥ }
+
+    // a message taken before its source is told NotTaken, and one taken after that
+    ensures taken_and_told { (m : HostMessage) → NeverTaken (crossing.Answer answer.NotTaken m.flow ∷ crossing.In m ∷ crossing.Out m ∷ []) → ⊥ }
+    ensures told_and_taken { (m : HostMessage) → NeverTaken (crossing.In m ∷ crossing.Answer answer.NotTaken m.flow ∷ crossing.Out m ∷ []) → ⊥ }
+
+    // the same with a later message of the flow on top
+    ensures taken_below { (m : HostMessage) → NeverTaken (crossing.Out m ∷ crossing.Answer answer.NotTaken m.flow ∷ crossing.In m ∷ crossing.Out m ∷ []) → ⊥ }
 {}
 
 /// What every host may rely on, from the mailboxes alone.
 pub fn messages()
     ensures { (hosts : List Host) (log : List Crossing) → IsRun hosts log → SafeMessages log }
+{}
+
+/// What a source that is told NotTaken may rely on, from the mailboxes alone: its message was not taken,
+/// and never will be.
+pub fn messages_not_taken()
+    ensures { (hosts : List Host) (log : List Crossing) → IsRun hosts log → NeverTaken log }
 {}

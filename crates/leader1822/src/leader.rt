@@ -1,7 +1,7 @@
 //! The leader: the first 32 bits of what crosses the interface (BBN Report 1822, message leaders).
 
 ghost use Rattle.std.specs.Prelude.{◌≡◌, ℕ, List, ◌∷◌, [], ◌++◌, ◌<◌, ◌*◌, ◌+◌, Ok, Err};
-ghost use Rattle.leader1822.specs.Leader.{read_from_host, read_from_imp, spelling, answer_type, regular_leader, answer_leader};
+ghost use Rattle.leader1822.specs.Leader.{read_from_host, read_from_imp, spelling, as_read, answer_type, regular_leader, answer_leader};
 
 use crate::{Answer, HostAddr, Link};
 use thiserror::Error;
@@ -85,10 +85,11 @@ impl Leader {
         }
     }
 
-    /// Its four octets, flags and last octet zero. A NOP has all octets but the first zero.
+    /// Its four octets, flags and last octet zero. A NOP has all octets but the first zero. `NotTaken`
+    /// has the type of `Incomplete`, and is read again as that.
     pub fn write(&self) -> [u8; 4]
         ensures spelled { result ≡ spelling self.now }
-        ensures again { (rest : List ℕ) → read_from_imp (result ++ rest) ≡ Ok self.now }
+        ensures again { (rest : List ℕ) → read_from_imp (result ++ rest) ≡ Ok (as_read self.now) }
     {
         match *self {
             Leader::Nop => [4, 0, 0, 0],
@@ -109,7 +110,7 @@ fn type_of(kind: Answer) -> u8
     match kind {
         Answer::Rfnm => 5,
         Answer::Dead => 7,
-        Answer::Incomplete => 9,
+        Answer::Incomplete | Answer::NotTaken => 9,
     }
 }
 

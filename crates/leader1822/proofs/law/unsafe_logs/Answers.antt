@@ -1,4 +1,4 @@
-use Rattle.leader1822.proofs.UnsafeLogs.{untaken, twice, other_text, early}
+use Rattle.leader1822.proofs.UnsafeLogs.{untaken, twice, other_text, early, taken_and_told, told_and_taken, taken_below}
 use Rattle.leader1822.proofs.law.unsafe_logs.Goals as goal
 
 pub returns-clause-untaken : goal.returns-clause-untaken
@@ -12,3 +12,12 @@ returns-clause-other_text c = other_text
 
 pub returns-clause-early : goal.returns-clause-early
 returns-clause-early c = early
+
+pub returns-clause-taken_and_told : goal.returns-clause-taken_and_told
+returns-clause-taken_and_told c = taken_and_told
+
+pub returns-clause-told_and_taken : goal.returns-clause-told_and_taken
+returns-clause-told_and_taken c = told_and_taken
+
+pub returns-clause-taken_below : goal.returns-clause-taken_below
+returns-clause-taken_below c = taken_below

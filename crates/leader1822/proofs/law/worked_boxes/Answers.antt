@@ -1,4 +1,4 @@
-use Rattle.leader1822.proofs.WorkedBoxes.{waits, taken, place, left, stranger, emptied, one_outstanding, taken_once, early_rfnm, late_dead, answered_once, up_twice, down_twice}
+use Rattle.leader1822.proofs.WorkedBoxes.{waits, taken, place, left, stranger, emptied, one_outstanding, taken_once, early_rfnm, late_dead, late_not_taken, answered_once, up_twice, down_twice}
 use Rattle.leader1822.proofs.law.worked_boxes.Goals as goal
 
 pub returns-clause-waits : goal.returns-clause-waits
@@ -21,6 +21,9 @@ returns-clause-early_rfnm c = early_rfnm
 
 pub returns-clause-late_dead : goal.returns-clause-late_dead
 returns-clause-late_dead c = late_dead
+
+pub returns-clause-late_not_taken : goal.returns-clause-late_not_taken
+returns-clause-late_not_taken c = late_not_taken
 
 pub returns-clause-answered_once : goal.returns-clause-answered_once
 returns-clause-answered_once c = answered_once
