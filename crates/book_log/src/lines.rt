@@ -1,10 +1,9 @@
 //! The lines of a log.
 
 ghost use Rattle.std.specs.Prelude.{◌≡◌, ◌↔◌, IfOk, IsTrue};
-ghost use Rattle.leader1822.specs.Printed.{answer_text};
 ghost use Rattle.script.specs.Spelling.{IsHost, IsMessage, ReadsAs};
 ghost use Rattle.world_replay.specs.Printed.{kind_text, state_text};
-ghost use Rattle.book_log.specs.Log.{IsAmount, IsHanded, IsLife};
+ghost use Rattle.book_log.specs.Log.{IsAmount, IsHanded, IsLife, answer_name};
 ghost use Rattle.book_log.specs.Steps.{AreCounts, AreEnds, IsAnswer, IsKind, IsLine, IsState, ReadsShort, ReadsWords, TakesWords, amount_words, answer_words, counts_words, ends_words, handed_words, host_words, life_of, life_words, line_text, message_words, words_left};
 
 use crate::words::Words;
@@ -106,7 +105,7 @@ fn read_answer(mut words: Words<'_>) -> Option<(Answer, Flow)>
 
 /// The answer that a word names.
 fn read_kind(word: &[u8]) -> Option<Answer>
-    ensures { ReadsAs answer_text IsKind word.now result }
+    ensures { ReadsAs answer_name IsKind word.now result }
 {
     if word == b"rfnm".as_slice() {
         Some(Answer::Rfnm)
@@ -114,6 +113,8 @@ fn read_kind(word: &[u8]) -> Option<Answer>
         Some(Answer::Dead)
     } else if word == b"incomplete".as_slice() {
         Some(Answer::Incomplete)
+    } else if word == b"nottaken".as_slice() {
+        Some(Answer::NotTaken)
     } else {
         None
     }
