@@ -225,6 +225,7 @@ pub answer_told : (peer : Host) (a : Answer) (link : ℕ) (t : TurnState) → To
 answer_told peer answer.Rfnm link t h = about_both peer t.notices [] h tt
 answer_told peer answer.Incomplete link t h = failed_told peer t h
 answer_told peer answer.Dead link t h = failed_told peer t h
+answer_told peer answer.NotTaken link t h = failed_told peer t h
 
 -- ---- a host
 

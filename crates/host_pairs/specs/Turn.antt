@@ -120,6 +120,7 @@ abbrev pub answer_taken : Host → Answer → ℕ → TurnState → TurnState
 answer_taken peer answer.Rfnm link t = rfnm_taken link t
 answer_taken peer answer.Incomplete link t = failed peer t
 answer_taken peer answer.Dead link t = failed peer t
+answer_taken peer answer.NotTaken link t = failed peer t
 
 -- ---- the host
 

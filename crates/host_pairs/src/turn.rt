@@ -255,7 +255,7 @@ impl Turn {
     {
         match kind {
             Answer::Rfnm => self.take_rfnm(alloc, link),
-            Answer::Incomplete | Answer::Dead => self.fail(alloc, peer),
+            Answer::Incomplete | Answer::Dead | Answer::NotTaken => self.fail(alloc, peer),
         }
     }
 
@@ -267,7 +267,8 @@ impl Turn {
     }
 
     /// An answer about a message that this host has out is taken: the link is free, and what follows by its
-    /// kind (BBN Report 1822, RFNM, Incomplete Transmission, Destination Dead).
+    /// kind (BBN Report 1822, RFNM, Incomplete Transmission, Destination Dead). `NotTaken` is treated as
+    /// `Incomplete`, since it crosses the interface as that.
     pub fn take_answer(
         &mut self,
         alloc: Global,

@@ -122,6 +122,7 @@ told_gone : (t : Bool) (l here : ℕ) (k : Answer) (p : Pair) (bs : ℕ → Box)
 told_gone false l here k p bs f h = h
 told_gone true l here answer.Dead p bs f h = failed_gone p.phase p.owed (bs 0) (at_link bs l Empty 0) h
 told_gone true l here answer.Incomplete p bs f h = failed_gone p.phase p.owed (bs 0) (at_link bs l Empty 0) h
+told_gone true l here answer.NotTaken p bs f h = failed_gone p.phase p.owed (bs 0) (at_link bs l Empty 0) h
 told_gone true l here answer.Rfnm p bs f h = by (l == 0) refl where
   by : (v : Bool) → (l == 0) ≡ v → HasGone p.phase (bs 0)
   by true e =

@@ -139,6 +139,9 @@ fits_same answer.Dead (Taken p m) f = absurd f
 fits_same answer.Incomplete Empty f = absurd f
 fits_same answer.Incomplete (Waiting p m) f = tt
 fits_same answer.Incomplete (Taken p m) f = tt
+fits_same answer.NotTaken Empty f = absurd f
+fits_same answer.NotTaken (Waiting p m) f = tt
+fits_same answer.NotTaken (Taken p m) f = absurd f
 
 may_same : (p : Pair) (l q : ℕ) (m : Message) → MaySend p l m → MaySend p l (with_place q m)
 may_same p l q Reset may = may

@@ -19,6 +19,7 @@ fits_some k (Taken place m) fits = refl
 fits_some answer.Rfnm Empty fits = absurd fits
 fits_some answer.Dead Empty fits = absurd fits
 fits_some answer.Incomplete Empty fits = absurd fits
+fits_some answer.NotTaken Empty fits = absurd fits
 
 cleared : (l : ℕ) (p : Pair) (m n : Monitor) (boxes : ℕ → Box) (ph : Phase) (begun : Bool) → n.owed ≡ m.owed → (p.begun ≡ false → begun ≡ false) → Outstanding p m boxes
     → Outstanding (record { phase = ph; owed = p.owed; begun = begun; out = at_link p.out l None }) n (at_link boxes l Empty)
@@ -263,3 +264,4 @@ sound_told l k p m boxes fits s =
         }
     by answer.Dead there = sound_failed l p m boxes there s
     by answer.Incomplete there = sound_failed l p m boxes there s
+    by answer.NotTaken there = sound_failed l p m boxes there s

@@ -42,6 +42,7 @@ past_step (Take (Other text)) here m h = past_more here m.clean h
 past_step (Hear l answer.Rfnm) here m h = past_more here m.clean h
 past_step (Hear l answer.Dead) here m h = past_more here m.clean h
 past_step (Hear l answer.Incomplete) here m h = past_more here m.clean h
+past_step (Hear l answer.NotTaken) here m h = past_more here m.clean h
 past_step Begin here m h = tt
 
 past_if : (t : Bool) (part : Part) (here : ℕ) (m : Monitor) → IsPast here m.clean → IsPast (1 + here) (monitored here (when t part) m).clean
@@ -98,6 +99,7 @@ plain_ready (Take (Other text)) here p m plain e = (e, refl)
 plain_ready (Hear l answer.Rfnm) here p m plain e = (ready_after_rfnm (l == 0) p.phase e, refl)
 plain_ready (Hear l answer.Dead) here p m plain e = (ready_after_failure p.phase p.owed e, refl)
 plain_ready (Hear l answer.Incomplete) here p m plain e = (ready_after_failure p.phase p.owed e, refl)
+plain_ready (Hear l answer.NotTaken) here p m plain e = (ready_after_failure p.phase p.owed e, refl)
 plain_ready Begin here p m plain e = absurd (cc)
 
 pub still_ready : (t : Bool) (part : Part) (here : ℕ) (p : Pair) (m : Monitor) → IsPlain part → (pair_moved (when t part) p).phase ≡ Ready → (p.phase ≡ Ready) × ((monitored here (when t part) m).clean ≡ m.clean)

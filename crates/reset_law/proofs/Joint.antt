@@ -131,6 +131,7 @@ pub owed_told : (t : Bool) (l : ℕ) (k : Answer) (p : Pair) → (pair_moved (wh
 owed_told true l answer.Rfnm p e = e
 owed_told true l answer.Dead p e = e
 owed_told true l answer.Incomplete p e = e
+owed_told true l answer.NotTaken p e = e
 owed_told false l k p e = e
 
 pub owed_call : (t : Bool) (p : Pair) → (pair_moved (when t Call) p).owed ≡ true → p.owed ≡ true

@@ -216,6 +216,7 @@ told_owed : (t : Bool) (k : ℕ) (kind : Answer) (p : Pair) → t ≡ true → (
 told_owed true k answer.Rfnm p same e = inl refl
 told_owed true k answer.Dead p same e = inr (failed_owed p.phase p.owed e)
 told_owed true k answer.Incomplete p same e = inr (failed_owed p.phase p.owed e)
+told_owed true k answer.NotTaken p same e = inr (failed_owed p.phase p.owed e)
 told_owed false k kind p same e = absurd (cc)
 
 -- what is said or heard on this link

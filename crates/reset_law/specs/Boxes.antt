@@ -34,6 +34,9 @@ Fits answer.Dead (Taken place m) = ⊥
 Fits answer.Incomplete Empty = ⊥
 Fits answer.Incomplete (Waiting place m) = Unit {0}
 Fits answer.Incomplete (Taken place m) = Unit {0}
+Fits answer.NotTaken Empty = ⊥
+Fits answer.NotTaken (Waiting place m) = Unit {0}
+Fits answer.NotTaken (Taken place m) = ⊥
 
 -- what an event is for the boxes from one host to another
 pub data Post : Type 0 where

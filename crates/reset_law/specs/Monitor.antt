@@ -80,6 +80,7 @@ abbrev pub monitor_told : ℕ → Answer → Monitor → Monitor
 monitor_told l answer.Rfnm m = record m { stage = if is_on_its_way m.stage && l == 0 then Received else m.stage; after = at_link m.after l false }
 monitor_told l answer.Dead m = monitor_failed l m
 monitor_told l answer.Incomplete m = monitor_failed l m
+monitor_told l answer.NotTaken m = monitor_failed l m
 
 abbrev pub monitored : ℕ → Option Part → Monitor → Monitor
 monitored here None m = m

@@ -46,6 +46,7 @@ abbrev pub pair_answered : ℕ → Answer → Pair → Pair
 pair_answered l answer.Rfnm p = record p { phase = rfnm_phase l p.phase; out = at_link p.out l None }
 pair_answered l answer.Dead p = failed l p
 pair_answered l answer.Incomplete p = failed l p
+pair_answered l answer.NotTaken p = failed l p
 
 abbrev pub pair_moved : Option Part → Pair → Pair
 pair_moved None p = p
