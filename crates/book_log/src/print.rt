@@ -20,6 +20,7 @@ use std::fmt;
 use world_replay::LifeLine;
 
 /// An answer, by the word that logs have for it.
+#[derive(Drop)]
 struct AnswerName(Answer);
 
 impl fmt::Display for AnswerName {

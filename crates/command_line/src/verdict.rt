@@ -5,7 +5,7 @@ ghost use Rattle.replay.specs.Failing.{TellsFailure};
 ghost use Rattle.command_line.specs.Audits.{SaysOf, WritesVerdict, lines_of};
 
 use book_log::LoggedBook;
-use net_sim::{Audit, Finding, finding};
+use net_sim::{Audit, Finding, locate};
 use replay::{Output, WriteFailed};
 use std::fmt;
 
@@ -81,7 +81,7 @@ fn write_verdict<W: Output>(
     ensures written { OnOk result (WritesVerdict book.now said (W.contents writer.old) (W.contents writer.new)) }
     ensures failed { TellsFailure result (W.failed writer.new) }
 {
-    let Some(found) = finding(said, book.crossings(), book.lives(), book.handed()) else {
+    let Some(found) = locate(said, book.crossings(), book.lives(), book.handed()) else {
         return writer.write_all(b"kept\n");
     };
     let lines = lines_of(book, found);

@@ -52,6 +52,10 @@ pub and_false : (a b : Bool) → b ≡ false → (a && b) ≡ false
 and_false true b e = e
 and_false false b e = refl
 
+pub and_gone : (a b : Bool) → a ≡ false → (a && b) ≡ false
+and_gone true b e = absurd (cc)
+and_gone false b e = refl
+
 -- none of three
 pub none_of : (a b c : Bool) → not (a || b || c) ≡ true → (a ≡ true → ⊥) × (b ≡ true → ⊥) × (c ≡ true → ⊥)
 none_of false false false h = (false_not false refl, false_not false refl, false_not false refl)

@@ -1,9 +1,11 @@
 -- The test of partners is true exactly where they are safe, in a book whose stamps name messages.
-use Rattle.std.proofs.Common.{◌≡◌, ℕ, ◌+◌, ◌<◌, ◌≤◌, ◌==◌, Bool, true, false, not, ◌&&◌, ◌||◌, List, [], ◌∷◌, ◌++◌, length, take, drop, get_or, refl, ap, sym, subst, ◌∙◌, inl, inr, ◌⊎◌, Option, Some, None, zero, suc, eq-eqb}
+use Rattle.std.proofs.Common.{◌≡◌, ℕ, ◌+◌, ◌<◌, ◌≤◌, ◌==◌, Bool, true, false, not, ◌&&◌, ◌||◌, List, [], ◌∷◌, ◌++◌, length, take, drop, get_or, refl, ap, sym, subst, ◌∙◌, inl, inr, ◌⊎◌, Option, Some, None, arith, eq-eqb}
+use Rattle.std.specs.Prelude.{is_none}
 use Rattle.std.specs.List.{list_all, slice_get, Contains}
+use Rattle.std.proofs.lemmas.Option.{slice_get_read}
 use Rattle.std.proofs.lemmas.Bool.{eqb-true}
 use Rattle.std.proofs.lemmas.List.{append_assoc, take-append-drop, take_more}
-use Rattle.std.proofs.lemmas.List.Elements.{Contains-append_right}
+use Rattle.std.proofs.lemmas.List.Elements.{Contains-append_left, Contains-append_right}
 use Rattle.std.proofs.lemmas.List.Folds.{list_all-append}
 use Rattle.leader1822.specs.Host.{same_host}
 use Rattle.leader1822.specs.declared.address.Flow.{Flow}
@@ -14,9 +16,9 @@ use Rattle.leader1822.proofs.lemmas.{and_true, same_host-true}
 use Rattle.net_sim.specs.Audit.{IsStamped}
 use Rattle.net_sim.specs.Book.{Life}
 use Rattle.net_sim.specs.Findings.{AreAtPeace, AreStamped}
-use Rattle.net_sim.specs.Inside.Audit.{asked_at, is_there, is_place, same_own, same_asked, are_mates, differ, is_one_way, are_at_odds, may_both, partners_hold}
+use Rattle.net_sim.specs.Inside.Audit.{asked_at, is_there, is_place, same_own, same_asked, are_mates, differ, is_one_way, are_at_odds, may_both, partners_hold, Found, FoundTwo}
 use Rattle.net_sim.specs.Safe.{AreTwo, SafePartners, control_flow, own_request, partner_request}
-use Rattle.net_sim.proofs.Audits.Elements.{all_at, all_from, and_false, and_is, contains_cases, contains_head, contains_none, contains_split, contains_tail, contains_take, is_false, none_of, not_is, or_cases}
+use Rattle.net_sim.proofs.Audits.Elements.{all_at, all_fewer, all_from, false_not, and_is, contains_cases, contains_head, contains_none, contains_split, contains_tail, contains_take, is_false, none_of, not_is, or_cases}
 use Rattle.net_sim.proofs.Audits.Requests.{WentAt, asked_is, asked_true, asked_went, crossed_one, named_is, named_some, own_is, own_true, place_is, place_true, same_host-is, some_named}
 
 -- ---- two lives
@@ -29,9 +31,8 @@ two_later z lives x y (front, between, rest, e) = (z ∷ front, between, rest, a
 
 two_there : (lives : List Life) (x y : Life) → AreTwo lives x y → Contains lives x × Contains lives y
 two_there lives x y (front, between, rest, e) =
-    let P : Life → List Life → Type 0 = λ z zs. Contains zs z in
-    (subst (P x) (sym e) (Contains-append_right front (x ∷ between ++ y ∷ rest) x (contains_head x (between ++ y ∷ rest))),
-    subst (P y) (sym e) (Contains-append_right front (x ∷ between ++ y ∷ rest) y (contains_tail x (between ++ y ∷ rest) y (Contains-append_right between (y ∷ rest) y (contains_head y rest)))))
+    (subst (λ (zs : List Life). Contains zs x) (sym e) (Contains-append_left (front ++ x ∷ between) (y ∷ rest) x (Contains-append_right front (x ∷ between) x (contains_head x between))),
+    subst (λ (zs : List Life). Contains zs y) (sym e) (Contains-append_right (front ++ x ∷ between) (y ∷ rest) y (contains_head y rest)))
 
 -- two that are there are one, or stand at two places in one order or the other
 two_of : (lives : List Life) (x y : Life) → Contains lives x → Contains lives y → (x ≡ y) ⊎ (AreTwo lives x y ⊎ AreTwo lives y x)
@@ -224,8 +225,7 @@ peace_at log lives y stamped here n = peace_decides log (take n lives) y (take_s
 two_taken : (n : ℕ) (lives : List Life) (x y : Life) → AreTwo (take n lives) x y → AreTwo lives x y
 two_taken n lives x y (front, between, rest, e) =
     (front, between, rest ++ drop n lives,
-    sym (take-append-drop n lives) ∙ ap (λ (zs : List Life). zs ++ drop n lives) e ∙ append_assoc front (x ∷ between ++ y ∷ rest) (drop n lives)
-    ∙ ap (λ (zs : List Life). front ++ x ∷ zs) (append_assoc between (y ∷ rest) (drop n lives)))
+    sym (take-append-drop n lives) ∙ ap (λ (zs : List Life). zs ++ drop n lives) e ∙ append_assoc (front ++ x ∷ between) (y ∷ rest) (drop n lives))
 
 pub partners_take : (log : List Crossing) (n : ℕ) (lives : List Life) → partners_hold log lives ≡ true → partners_hold log (take n lives) ≡ true
 partners_take log n lives h =
@@ -260,3 +260,16 @@ partners_end log lives i y lt at k =
     let more : take (i + 1) lives ≡ take i lives ++ y ∷ [] = take_more lives i y lt ∙ ap (λ (z : Life). take i lives ++ z ∷ []) (sym at) in
     is_false (partners_hold log (take (i + 1) lives))
     (λ t. (let back : list_all (λ x. may_both log x y) (take i lives) ≡ true = last_back log (take i lives) y (subst (λ (zs : List Life). partners_hold log zs ≡ true) more t) in cc))
+
+pub two_found : (log : List Crossing) (lives : List Life) (second first : ℕ) (y : Life) → second < length lives → y ≡ get_or lives second y → partners_hold log (take second lives) ≡ true
+    → Found (λ n. list_all (λ x. may_both log x y) (take n lives)) second (Some first) → FoundTwo log lives (Some (first, second))
+two_found log lives second first y lt at h f =
+    let odds : list_all (λ x. may_both log x y) (take second lives) ≡ false =
+    is_false (list_all (λ x. may_both log x y) (take second lives))
+    (λ t. false_not (list_all (λ x. may_both log x y) (take (first + 1) lives)) f.2 (all_fewer (λ x. may_both log x y) (first + 1) second lives (omega (arith, f.0)) t)) in
+    ((lt, h, partners_end log lives second y lt at odds), (y, slice_get_read lives (length lives) second y refl lt at, f))
+
+-- nothing is found exactly where the test is true
+pub none_two : (log : List Crossing) (lives : List Life) (r : Option (ℕ × ℕ)) → FoundTwo log lives r → is_none r ≡ partners_hold log lives
+none_two log lives None h = sym h
+none_two log lives (Some at) h = sym (is_false (partners_hold log lives) (λ t. false_not (partners_hold log (take (at.1 + 1) lives)) h.0.2 (partners_take log (at.1 + 1) lives t)))

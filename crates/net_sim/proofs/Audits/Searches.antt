@@ -1,6 +1,6 @@
 -- What searches find: how many of the first entries are well.
-use Rattle.std.proofs.Common.{◌≡◌, ℕ, ◌+◌, ◌<◌, ◌≤◌, Bool, true, false, ◌&&◌, not, List, [], ◌∷◌, length, take, get_or, refl, sym, subst, ◌∙◌, Option, Some, None}
-use Rattle.std.specs.Prelude.{is_none}
+use Rattle.std.proofs.Common.{◌≡◌, ℕ, ◌+◌, ◌<◌, ◌≤◌, Bool, true, false, ◌&&◌, not, List, [], ◌∷◌, length, take, get_or, refl, sym, subst, ◌∙◌, arith, Option, Some, None}
+use Rattle.std.specs.Prelude.{is_none, is_some}
 use Rattle.std.specs.List.{list_all}
 use Rattle.std.proofs.lemmas.List.{take_all}
 use Rattle.std.proofs.lemmas.List.Folds.{list_all_more}
@@ -21,6 +21,12 @@ found_none {X} test xs i past h =
     subst (λ (zs : List X). list_all test zs ≡ true) same h
 
 -- ---- whether there is nothing to find
+
+pub told_none : {X : Type 0} (o : Option X) (r : Bool) → is_some o ≡ not r → r ≡ is_none o
+told_none None true e = refl
+told_none None false e = absurd (cc)
+told_none (Some x) true e = absurd (cc)
+told_none (Some x) false e = refl
 
 pub none_found : (hold : ℕ → Bool) (count : ℕ) (r : Option ℕ) (all : Bool) → Found hold count r → hold count ≡ all → ((n : ℕ) → all ≡ true → hold n ≡ true) → is_none r ≡ all
 none_found hold count None all h e keeps = sym h ∙ e

@@ -87,29 +87,9 @@ excess_some log lives place found h w = record {
 
 -- ---- what is said, and where it shows
 
-pub shown_malformed : (log : List Crossing) (lives : List Life) (handed : List (List Bool)) (r : Option Finding) → Says audit.Malformed log lives handed
-    → MatchOption r (IsWellFormed log lives handed) (λ found. ShowsMalformed found log lives handed) → MatchOption r (audit.Malformed ≡ audit.Kept) (λ found. Shows audit.Malformed found log lives handed)
-shown_malformed log lives handed None w h = absurd (w h)
-shown_malformed log lives handed (Some found) w h = h
-
-pub shown_messages : (log : List Crossing) (lives : List Life) (handed : List (List Bool)) (r : Option Finding) → Says (audit.Broken part.Messages) log lives handed
-    → MatchOption r (SafeMessages log) (λ found. ShowsCrossing found log) → MatchOption r (audit.Broken part.Messages ≡ audit.Kept) (λ found. Shows (audit.Broken part.Messages) found log lives handed)
-shown_messages log lives handed None w h = absurd (w.2 h)
-shown_messages log lives handed (Some found) w h = h
-
-pub shown_partners : (log : List Crossing) (lives : List Life) (handed : List (List Bool)) (r : Option Finding) → Says (audit.Broken part.Partners) log lives handed
-    → MatchOption r (SafePartners log lives) (λ found. ShowsTwo found log lives) → MatchOption r (audit.Broken part.Partners ≡ audit.Kept) (λ found. Shows (audit.Broken part.Partners) found log lives handed)
-shown_partners log lives handed None w h = absurd (w.2 h)
-shown_partners log lives handed (Some found) w h = h
-
+-- a receiving life has one sender, since the partners are safe
 pub shown_streams : (log : List Crossing) (lives : List Life) (handed : List (List Bool)) (r : Option Finding) → Says (audit.Broken part.Streams) log lives handed
     → MatchOption r (AreFed log lives lives handed) (λ found. ShowsLife (first_fed log lives handed) found log lives)
     → MatchOption r (audit.Broken part.Streams ≡ audit.Kept) (λ found. Shows (audit.Broken part.Streams) found log lives handed)
 shown_streams log lives handed None w h = absurd (w.2 (safe_streams log lives handed w.1.1 h))
 shown_streams log lives handed (Some found) w h = h
-
-pub shown_grants : (log : List Crossing) (lives : List Life) (handed : List (List Bool)) (r : Option Finding) → Says (audit.Broken part.Grants) log lives handed
-    → MatchOption r (HaveGranted log lives lives) (λ found. ShowsLife (first_granted log lives) found log lives)
-    → MatchOption r (audit.Broken part.Grants ≡ audit.Kept) (λ found. Shows (audit.Broken part.Grants) found log lives handed)
-shown_grants log lives handed None w h = absurd (w.2 (safe_grants log lives h))
-shown_grants log lives handed (Some found) w h = h

@@ -248,9 +248,9 @@ none_unfed log lives handed r e h =
     (let u = and_true (list_all (is_fed log lives) lives) (are_handed lives handed) t in
     and_is (list_all (is_fed log lives) (take n lives)) (are_handed (take n lives) (take n handed)) (all_take (is_fed log lives) n lives u.0) (handed_take n lives handed u.1)))
 
-pub none_apart : (log : List Crossing) (lives : List Life) (handed : List (List Bool)) → (length lives ≡ length handed → ⊥) → false ≡ streams_hold log lives handed
+pub none_apart : (log : List Crossing) (lives : List Life) (handed : List (List Bool)) → (length lives ≡ length handed → ⊥) → (length lives == length handed) ≡ streams_hold log lives handed
 none_apart log lives handed apart =
-    sym (and_false (list_all (is_fed log lives) lives) (are_handed lives handed) (sym (handed_apart lives handed (length lives) (length handed) refl refl apart)))
+    is_false (length lives == length handed) (λ t. apart (eqb-true (length lives) (length handed) t)) ∙ sym (and_false (list_all (is_fed log lives) lives) (are_handed lives handed) (sym (handed_apart lives handed (length lives) (length handed) refl refl apart)))
 
 -- ---- the life that one matches
 

@@ -45,7 +45,7 @@ pub enum Finding {
 ///   where there is one.
 ///
 /// It takes no memory, and searches as [`crate::audit`] does.
-pub fn finding(
+pub fn locate(
     said: Audit,
     log: &[Crossing],
     lives: &[Life],
