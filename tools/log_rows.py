@@ -47,32 +47,32 @@ VERDICTS = [
     (SENDER + "\n", "", "malformed line 12"),
     (RECEIVER + "\n" + SENDER + "\n", "", "malformed line 10"),
     # partners
-    (f"{SENDER}\n{LIST}", f"{SENDER}\n{RECEIVER}\n{LIST}{LIST}", "broken partners line 12"),
-    (f"{SENDER}\n{LISTS}", f"{SENDER}\n{SENDER}\n{LISTS}handed 24 484950\n", "broken partners line 12"),
+    (f"{SENDER}\n{LIST}", f"{SENDER}\n{RECEIVER}\n{LIST}{LIST}", "broken partners lines 10 12"),
+    (f"{SENDER}\n{LISTS}", f"{SENDER}\n{SENDER}\n{LISTS}handed 24 484950\n", "broken partners lines 11 12"),
     ("33 0/1 16 3 1", "33 0/1 18 3 1", "broken streams line 10"),
     # streams
-    ("open 4849\nlife", "open 4848\nlife", "broken streams line 10"),
-    ("receive 1 16 1 100 0 0 open 4849", "receive 1 17 1 100 0 0 open 484900", "broken streams line 10"),
+    ("open 4849\nlife", "open 4848\nlife", "broken streams lines 10 11"),
+    ("receive 1 16 1 100 0 0 open 4849", "receive 1 17 1 100 0 0 open 484900", "broken streams lines 10 11"),
     ("handed 24 484950", "handed 15 4848", "broken streams line 11"),
     ("handed 24 484950", "handed 0 -", "broken streams line 11"),
     ("send 1 16 0 0 0 0 open 4849", "send 1 17 0 0 0 0 open 484980", "broken streams line 11"),
     (f"{SENDER}\n{LISTS}", LIST, "broken streams line 10"),
     # grants
-    ("receive 1 16 1 100", "receive 1 16 1 15", "broken grants line 10"),
-    ("receive 1 16 1 100", "receive 1 16 0 100", "broken grants line 10"),
-    ("1 100 0 0", "1 100 0 85", "broken grants line 10"),
-    ("1 100 0 0", "1 100 1 0", "broken grants line 10"),
+    ("receive 1 16 1 100", "receive 1 16 1 15", "broken grants lines 10 11"),
+    ("receive 1 16 1 100", "receive 1 16 0 100", "broken grants lines 10 11"),
+    ("1 100 0 0", "1 100 0 85", "broken grants lines 10 11"),
+    ("1 100 0 0", "1 100 1 0", "broken grants lines 10 11"),
     ("1 100 0 0", "2 100 1 84", "kept"),
-    ("receive 1 16 1 100", "receive 2 16 1 100", "broken grants line 10"),
-    ("send 1 16", "send 2 16", "broken grants line 10"),
+    ("receive 1 16 1 100", "receive 2 16 1 100", "broken grants lines 10 11"),
+    ("send 1 16", "send 2 16", "broken grants lines 10 11"),
     # the life that fails is the receiving one, wherever it stands
-    (BOTH, f"{SENDER}\n{RECEIVER[:-1]}8\n{LISTS_TURNED}", "broken streams line 11"),
-    (BOTH, f"{SENDER}\n{RECEIVER.replace('1 100', '1 15')}\n{LISTS_TURNED}", "broken grants line 11"),
-    (BOTH, f"{SENDER.replace('send 1', 'send 2')}\n{RECEIVER}\n{LISTS_TURNED}", "broken grants line 11"),
+    (BOTH, f"{SENDER}\n{RECEIVER[:-1]}8\n{LISTS_TURNED}", "broken streams lines 11 10"),
+    (BOTH, f"{SENDER}\n{RECEIVER.replace('1 100', '1 15')}\n{LISTS_TURNED}", "broken grants lines 11 10"),
+    (BOTH, f"{SENDER.replace('send 1', 'send 2')}\n{RECEIVER}\n{LISTS_TURNED}", "broken grants lines 11 10"),
     (BOTH, f"{SENDER}\n{RECEIVER}\n{LISTS_TURNED}", "kept"),
     (BOTH, f"{SENDER}\n{RECEIVER}\n{LISTS}", "broken streams line 10"),
     # the first part that fails is told
-    ("receive 1 16 1 100 0 0 open 4849", "receive 1 16 0 0 0 0 open 4848", "broken streams line 10"),
+    ("receive 1 16 1 100 0 0 open 4849", "receive 1 16 0 0 0 0 open 4848", "broken streams lines 10 11"),
 ]
 
 # ---- logs of one line and `end`, and the verdict; those that are bad
@@ -82,7 +82,7 @@ GREATEST = f"life 3/63 4294967294 3/63 4294967295 {2**64 - 1} {2**64 - 1} receiv
 LINES = {
     "kept": [
         *("out 0/1 0/2 5 0 -", "out 3/63 0/1 255 1 80", "out 0/1 0/1 0 8 FF", f"out 0/1 0/2 5 8063 {'FF' * 1007}FE"),
-        *("answer dead 0/1 0/2 0", "answer incomplete 3/63 0/1 255", "down 0/1", "up 3/63"),
+        *("answer dead 0/1 0/2 0", "answer incomplete 3/63 0/1 255", "answer nottaken 0/1 0/2 0", "down 0/1", "up 3/63"),
     ],
     "broken messages line 1": ["in 0/1 0/2 5 0 -", "answer rfnm 0/1 0/2 5"],
     "malformed line 1": [LIFE, GREATEST, LIFE.replace("16 1 100", "13 1 100").replace("4849", "4848"), "handed 0 -", "handed 9 FF80"],
@@ -95,7 +95,7 @@ BAD_LINES = [
     *("out 0/1 0/2 5 08 FF", "out 0/1 0/2 5 +8 FF", "out 0/1 0/2 5 -0 -", "out 0/1 0/2 5 0x8 FF", f"out 0/1 0/2 5 8064 {'FF' * 1008}"),
     *("out 0/1 0/2 256 0 -", "out 0/1 0/2 05 0 -", "out 0/1 0/2 -1 0 -", "out 4/1 0/2 5 0 -", "out 0/64 0/2 5 0 -", "out 0/0 0/2 5 0 -", "out 00/1 0/2 5 0 -"),
     *("out 0/1 0/02 5 0 -", "out 1 0/2 5 0 -", "in 0/1 0/2 5 0", "in 0/1 5 0 -", "answer rfn 0/1 0/2 5", "answer RFNM 0/1 0/2 5", "answer rfnm 0/1 0/2"),
-    *("answer rfnm 0/1 0/2 256", "answer rfnm 0/1 0/2 5 0", "answer 0/1 0/2 5", "handed", "handed 0", "handed 0 00", "handed 8 -", "handed 1 C0", "handed 08 FF"),
+    *("answer rfnm 0/1 0/2 256", "answer rfnm 0/1 0/2 5 0", "answer 0/1 0/2 5", "answer notTaken 0/1 0/2 5", "answer never 0/1 0/2 5", "handed", "handed 0", "handed 0 00", "handed 8 -", "handed 1 C0", "handed 08 FF"),
     *(LIFE.replace("0/1 16", f"0/1 {2**32 + 16}"), LIFE.replace("0/2 33", f"0/2 {2**32 + 33}"), LIFE.replace("0/2 33", f"0/2 0{33}")),
     *(LIFE.replace(" 0 4 ", f" {2**64} 4 "), LIFE.replace(" 0 4 ", f" 0 {2**64} "), LIFE.replace(" 0 4 ", " 00 4 "), LIFE.replace(" 0 4 ", " 0 -4 ")),
     *(LIFE.replace("receive 1 ", f"receive {2**128} "), LIFE.replace(" 1 100", f" {2**128} 100"), LIFE.replace(" 1 100", f" 1 {2**128}")),

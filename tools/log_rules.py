@@ -2,8 +2,7 @@
 
 They were written from docs/program.md and docs/audit.md, in another language and another form than the definitions. A log is read
 into a book: its crossings, its lives, and a list of bits for each life that was handed over to be sent. What a book keeps or
-breaks says `audit_rules`; here it is said too at which line, which the program tells of malformed logs alone. `check audit` and
-`check stops` compare the program with this.
+breaks says `audit_rules`; here it is said too at which lines it shows. `check audit` and `check stops` compare the program with this.
 """
 
 import re
@@ -12,6 +11,7 @@ from typing import NamedTuple
 
 from audit_rules import audit, is_granted, is_well_formed, match, messages_are_kept, partners_are_kept
 from crossings import spell_crossing
+from imp_rules import spell_flow
 from script_rules import FLOW, HOST, MOST_TEXT, BadLine, opened, read_bits, read_flow, read_line, read_number, spelled_text
 from world_rules import Life
 
@@ -19,7 +19,7 @@ MOST_OCTETS = 33_554_432
 NUMBER = r"(0|[1-9][0-9]{0,38})"  # none of 128 bits has more digits
 OCTETS = r"(-|(?:[0-9A-F][0-9A-F])+)"
 MESSAGE = re.compile(f"(out|in) {FLOW} {NUMBER} {OCTETS}")
-ANSWER = re.compile(f"answer (rfnm|dead|incomplete) {FLOW}")
+ANSWER = re.compile(f"answer (rfnm|dead|incomplete|nottaken) {FLOW}")
 OF_HOST = re.compile(f"(down|up) {HOST}")
 LIFE = re.compile(f"life {HOST} {NUMBER} {HOST} {NUMBER} {NUMBER} {NUMBER} (send|receive)" + f" {NUMBER}" * 6 + f" (open|ended) {OCTETS}")
 HANDED = re.compile(f"handed {NUMBER} {OCTETS}")
@@ -104,14 +104,20 @@ def spelled_log(book):
 
 
 def lines_of(book):
-    for crossing in book.log:
-        text = f" {spelled_text(crossing[2])}" if crossing[0] in ("out", "in") else ""
-        yield spell_crossing(*crossing) + text
+    yield from map(spell_entry, book.log)
     for life in book.lives:
         yield f"{life.spell()} {spelled_text(life.bits)}"
     for bits in book.handed:
         yield f"handed {len(bits)} {spelled_text(bits)}"
     yield "end"
+
+
+def spell_entry(crossing):
+    """The line of a crossing: with its text, and an answer by its own word, though a replay prints `incomplete` for not taken, too."""
+    kind, *parts = crossing
+    if kind == "answer":
+        return f"answer {parts[0]} {spell_flow(parts[1])}"
+    return spell_crossing(*crossing) + (f" {spelled_text(parts[1])}" if kind in ("out", "in") else "")
 
 
 def book_of(network, place):
@@ -143,15 +149,14 @@ def ends_audit(octets):
 
 
 def ended(said):
-    """How the program ends where this is said of a log. Of a broken part it tells no line."""
+    """How the program ends where this is said of a log."""
     if said.startswith(("bad log", "log too long")):
         return 2, "", f"arpasim: {said}\n"
-    shown = said.split(" line")[0] if said.startswith("broken") else said
-    return 0 if said == "kept" else 4, f"{shown}\n", ""
+    return 0 if said == "kept" else 4, f"{said}\n", ""
 
 
 def says(octets):
-    """What is to be said of a log, with the line at which it is bad, malformed or broken."""
+    """What is to be said of a log, with the lines at which it is bad, malformed or broken."""
     if len(octets) > MOST_OCTETS:
         return "log too long"
     try:
@@ -161,21 +166,34 @@ def says(octets):
 
 
 def verdict(book):
-    """What is to be said of a book, with the line that shows it."""
+    """What is to be said of a book, with the lines that show it."""
     log, lives, handed = book
     if place := unmatched(lives, handed):
         return f"malformed line {len(log) + place}"
     lives = [replace(life, handed=bits) for life, bits in zip(lives, handed)]
     part = audit(log, lives)
+    if part is None:
+        return "kept"
     if part == "malformed":
         return f"malformed line {len(log) + first(lives, lambda life: not is_well_formed(log, [life]))}"
     if part == "messages":
         return f"broken messages line {first_break(log, messages_are_kept)}"
+    return f"broken {part} {lines(len(log) + place for place in shown(part, log, lives))}"
+
+
+def lines(numbers):
+    numbers = [*numbers]
+    return f"line{'s' if len(numbers) > 1 else ''} {' '.join(map(str, numbers))}"
+
+
+def shown(part, log, lives):
+    """The places, counted from 1, of the one or two lives that break a part."""
     if part == "partners":
-        return f"broken partners line {len(log) + first_break(lives, lambda lives: partners_are_kept(log, lives))}"
-    if part:
-        return f"broken {part} line {len(log) + first(lives, lambda life: FAILS[part](log, lives, life))}"
-    return "kept"
+        second = first_break(lives, lambda lives: partners_are_kept(log, lives))
+        return first(lives, lambda life: not partners_are_kept(log, [life, lives[second - 1]])), second
+    place = first(lives, lambda life: FAILS[part](log, lives, life))
+    matching = [other for other, life in enumerate(lives, 1) if match(log, lives[place - 1], life)]
+    return place, *matching[:1]
 
 
 def unmatched(lives, handed):

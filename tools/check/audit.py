@@ -3,8 +3,7 @@
 Tries what the program says of logs and prints as logs, against an independent reader and judge in Python (tools/log_rules.py).
 
 - Logs that were written by hand (tools/log_rows.py), each with its verdict or the number of its bad line, and those of docs/audit.md.
-  Readings of these rules that are wrong in one place have to be told from the right one by these. In Python the verdict has the line
-  at which a part is broken; the program doesn't tell it.
+  Readings of these rules that are wrong in one place have to be told from the right one by these.
 - Each prefix of a short log, and the same log with each octet changed to 00, 7F and FF; logs of as many octets as may be read, and of
   one more.
 - What `--log` prints of each example and each stored input is the log that the model makes of it, and `--audit` says `kept`.
@@ -52,11 +51,14 @@ WRONG_READINGS = [
     ("lists may be fewer", "if len(lives) > len(handed):", "if False:"),
     ("lists may be more", " if len(handed) > len(lives) else None", " if False else None"),
     ("a life too many is told of its list", "        return len(handed) + 1", "        return len(lives) + len(handed)"),
-    ("the line of a life is that of its number", 'return f"broken {part} line {len(log) + first', 'return f"broken {part} line {first'),
+    ("the line of a life is that of its number", "lines(len(log) + place for place", "lines(place for place"),
     ("a break is told of the crossing before it", "for count in range(1, len(entries) + 1) if not are_kept(entries[:count])", "for count in range(len(entries)) if not are_kept(entries[: count + 1])"),
     ("the last life is told that is malformed", "enumerate(lives, 1)", "[*enumerate(lives, 1)][::-1]"),
-    ("the first of two lives is told", "first_break(lives, lambda lives: partners_are_kept(log, lives))", "first(lives, lambda life: not partners_are_kept(log, [it for it in lives if it == life]))"),
-    ("a life is told that breaks partners with a later one", "first_break(lives, lambda lives: partners_are_kept(log, lives))", "first_break(lives[::-1], lambda lives: partners_are_kept(log, lives))"),
+    ("of two lives the first that is at odds with a later one is told", "second = first_break(lives, lambda lives: partners_are_kept(log, lives))", "second = len(lives) + 1 - first_break(lives[::-1], lambda lives: partners_are_kept(log, lives))"),
+    ("two lives are told the wrong way round", "return first(lives, lambda life: not partners_are_kept(log, [life, lives[second - 1]])), second", "return second, first(lives, lambda life: not partners_are_kept(log, [life, lives[second - 1]]))"),
+    ("the first of two lives is the first of all", "return first(lives, lambda life: not partners_are_kept(log, [life, lives[second - 1]])), second", "return 1, second"),
+    ("the match is not told", "return place, *matching[:1]", "return (place,)"),
+    ("the match is told first", "return place, *matching[:1]", "return *matching[:1], place"),
     ("what is wrong with a stream is told of its sender too", "return not life.handed.startswith(life.bits)", "return True"),
     ("what is not granted is told of the sender too", "if life.receives() else []\n    return not all", "if life.receives() else []\n    return not life.receives() or not all"),
 ]

@@ -4,7 +4,7 @@ use Rattle.std.specs.Fmt.{decimal}
 use Rattle.std.specs.List.{join_with_byte}
 use Rattle.std.specs.Str.{bytes_eq}
 use Rattle.leader1822.specs.Host.{Host}
-use Rattle.leader1822.specs.Printed.{answer_text, crossing_text, flow_text, host_text}
+use Rattle.leader1822.specs.Printed.{crossing_text, flow_text, host_text}
 use Rattle.leader1822.specs.declared.address.Flow.{Flow}
 use Rattle.leader1822.specs.declared.crossing.Answer.{Answer}
 use Rattle.leader1822.specs.declared.crossing.Answer.TheVariants as answer
@@ -166,7 +166,7 @@ life_front x =
 pub spelled : (l : Line) → line_text l ≡ join_with_byte 32 (line_words l)
 spelled (line.Crossed (crossing.Out m)) = ap (λ xs. codes "out " ++ xs) (message_joined m)
 spelled (line.Crossed (crossing.In m)) = ap (λ xs. codes "in " ++ xs) (message_joined m)
-spelled (line.Crossed (crossing.Answer kind f)) = append-nil (crossing_text (crossing.Answer kind f))
+spelled (line.Crossed (crossing.Answer kind f)) = refl
 spelled (line.Crossed (crossing.Down h)) = append-nil (crossing_text (crossing.Down h))
 spelled (line.Crossed (crossing.Up h)) = append-nil (crossing_text (crossing.Up h))
 spelled (line.Lived x) =
@@ -189,10 +189,11 @@ keyword_word (line.Lived x) = key_word (codes "life") (unmarked_where 32 (codes 
 keyword_word (line.Handed bits) = key_word (codes "handed") (unmarked_where 32 (codes "handed") refl) (unmarked_where 10 (codes "handed") refl)
 keyword_word line.End = key_word (codes "end") (unmarked_where 32 (codes "end") refl) (unmarked_where 10 (codes "end") refl)
 
-answer_word : (kind : Answer) → IsWord (answer_text kind)
+answer_word : (kind : Answer) → IsWord (answer_name kind)
 answer_word answer.Rfnm = key_word (codes "rfnm") (unmarked_where 32 (codes "rfnm") refl) (unmarked_where 10 (codes "rfnm") refl)
 answer_word answer.Dead = key_word (codes "dead") (unmarked_where 32 (codes "dead") refl) (unmarked_where 10 (codes "dead") refl)
 answer_word answer.Incomplete = key_word (codes "incomplete") (unmarked_where 32 (codes "incomplete") refl) (unmarked_where 10 (codes "incomplete") refl)
+answer_word answer.NotTaken = key_word (codes "nottaken") (unmarked_where 32 (codes "nottaken") refl) (unmarked_where 10 (codes "nottaken") refl)
 
 kind_word : (socket : ℕ) → IsWord (kind_text socket)
 kind_word socket = by (socket % 2 == 0)
@@ -222,7 +223,7 @@ life_words_are x is =
     let foreign : x.foreign < 2 ^ 32 = is.foreign in
     let own : x.own_stamp < 2 ^ 64 = is.own in
     let partner : x.partner_stamp < 2 ^ 64 = is.partner in
-    let bits : length x.bits < 2 ^ 32 = is.bits in
+    let bits : length x.bits < 2 ^ 64 = is.bits in
     (host_word x.host is.host, (number_word x.socket (omega arith), (host_word x.peer is.peer, (number_word x.foreign (omega arith), (number_word x.own_stamp (omega arith), (number_word x.partner_stamp (omega arith), (kind_word x.socket, (number_word x.messages is.messages, (number_word (length x.bits) (omega arith), (number_word x.granted.messages is.granted.0, (number_word x.granted.bits is.granted.1, (number_word x.returned.messages is.returned.0, (number_word x.returned.bits is.returned.1, (state_word x.ended, (octets_word x.bits, tt)))))))))))))))
 
 behind_are : (l : Line) → IsLine l → AreWords (words_of (made (keyword l)) (operand l))
@@ -233,7 +234,7 @@ behind_are (line.Crossed (crossing.Down h)) is = (host_word h is, tt)
 behind_are (line.Crossed (crossing.Up h)) is = (host_word h is, tt)
 behind_are (line.Lived x) is = life_words_are x is
 behind_are (line.Handed bits) is =
-    let few : length bits < 2 ^ 32 = is in
+    let few : length bits < 2 ^ 64 = is in
     (number_word (length bits) (omega arith), (octets_word bits, tt))
 behind_are line.End is = tt
 

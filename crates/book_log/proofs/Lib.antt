@@ -6,3 +6,5 @@ mod Numbers
 mod Once
 mod Printed
 mod Reading
+mod Ranges
+pub mod lemmas

@@ -5,7 +5,6 @@ use Rattle.std.proofs.lemmas.List.Elements.{All-append, All-head, All-tail, All-
 use Rattle.std.specs.Fmt.{decimal}
 use Rattle.std.specs.List.{All}
 use Rattle.std.specs.Str.{bytes_eq}
-use Rattle.leader1822.specs.Printed.{answer_text}
 use Rattle.leader1822.specs.declared.address.Flow.{Flow}
 use Rattle.leader1822.specs.declared.crossing.Answer.{Answer}
 use Rattle.leader1822.specs.declared.crossing.Answer.TheVariants as answer
@@ -76,7 +75,7 @@ flow_once f g p q a b e =
     let link : f.link.0 ≡ g.link.0 = decimal_once f.link.0 g.link.0 (omega arith) (omega arith) (first_same (rest_same (rest_same e))) in
     λ i. record { source = source i; destination = destination i; link = record { 0 = link i } }
 
-bits_once : (a b : List Bool) → length a < 2 ^ 32 → length b < 2 ^ 32 → decimal (length a) ≡ decimal (length b) → octets_text a ≡ octets_text b → a ≡ b
+bits_once : (a b : List Bool) → length a < 2 ^ 64 → length b < 2 ^ 64 → decimal (length a) ≡ decimal (length b) → octets_text a ≡ octets_text b → a ≡ b
 bits_once a b p q count e = text_once a b (decimal_once (length a) (length b) (omega arith) (omega arith) count) e
 
 message_once : (m n : HostMessage) → IsMessage m → IsMessage n → message_words m ≡ message_words n → m ≡ n
@@ -91,16 +90,23 @@ message_once m n p q e =
 unlike : (a b : List ℕ) → bytes_eq a a ≡ true → bytes_eq a b ≡ false → a ≡ b → ⊥
 unlike a b same other e = false≢true (sym other ∙ ap (bytes_eq a) (sym e) ∙ same)
 
-kind_once : (a b : Answer) → answer_text a ≡ answer_text b → a ≡ b
+kind_once : (a b : Answer) → answer_name a ≡ answer_name b → a ≡ b
 kind_once answer.Rfnm answer.Rfnm e = refl
 kind_once answer.Rfnm answer.Incomplete e = absurd (unlike (codes "rfnm") (codes "incomplete") refl refl e)
 kind_once answer.Rfnm answer.Dead e = absurd (unlike (codes "rfnm") (codes "dead") refl refl e)
+kind_once answer.Rfnm answer.NotTaken e = absurd (unlike (codes "rfnm") (codes "nottaken") refl refl e)
 kind_once answer.Incomplete answer.Rfnm e = absurd (unlike (codes "incomplete") (codes "rfnm") refl refl e)
 kind_once answer.Incomplete answer.Incomplete e = refl
 kind_once answer.Incomplete answer.Dead e = absurd (unlike (codes "incomplete") (codes "dead") refl refl e)
+kind_once answer.Incomplete answer.NotTaken e = absurd (unlike (codes "incomplete") (codes "nottaken") refl refl e)
 kind_once answer.Dead answer.Rfnm e = absurd (unlike (codes "dead") (codes "rfnm") refl refl e)
 kind_once answer.Dead answer.Incomplete e = absurd (unlike (codes "dead") (codes "incomplete") refl refl e)
 kind_once answer.Dead answer.Dead e = refl
+kind_once answer.Dead answer.NotTaken e = absurd (unlike (codes "dead") (codes "nottaken") refl refl e)
+kind_once answer.NotTaken answer.Rfnm e = absurd (unlike (codes "nottaken") (codes "rfnm") refl refl e)
+kind_once answer.NotTaken answer.Incomplete e = absurd (unlike (codes "nottaken") (codes "incomplete") refl refl e)
+kind_once answer.NotTaken answer.Dead e = absurd (unlike (codes "nottaken") (codes "dead") refl refl e)
+kind_once answer.NotTaken answer.NotTaken e = refl
 
 state_once : (a b : Bool) → state_text a ≡ state_text b → a ≡ b
 state_once true true e = refl

@@ -6,12 +6,10 @@ use Rattle.std.specs.Io.KnownBytes.{Appends}
 use Rattle.bit_messages.specs.Octets.{octet, octets_of}
 use Rattle.hex.specs.Hex.{encode_upper, encode_with, upper_digits}
 use Rattle.replay.specs.InTurn.{text_of}
-use Rattle.replay.specs.Output.{crossing_line}
-use Rattle.replay.specs.declared.print.Detail.TheVariants.{Texts}
 use Rattle.replay.proofs.lemmas.{appends_more, appends_none}
 use Rattle.script.specs.Input.{ended_line}
 use Rattle.script.specs.Spelling.{octets_text}
-use Rattle.book_log.specs.Log.{Book, handed_line, life_line, log_text, text_of_lines}
+use Rattle.book_log.specs.Log.{Book, handed_line, life_line, log_text, logged_line, text_of_lines}
 use Rattle.book_log.specs.Steps.{octet_at}
 
 -- ---- octets of bits
@@ -99,18 +97,18 @@ lines_text text (x ∷ xs) = ap (λ ys. ended_line (text x) ++ ys) (lines_text t
 append_lines : (xs ys : List (List ℕ)) → text_of_lines (xs ++ ys) ≡ text_of_lines xs ++ text_of_lines ys
 append_lines xs ys = flat_map-append ended_line xs ys
 
-log_is : (b : Book) → log_text b ≡ text_of (crossing_line Texts) b.crossings ++ (text_of life_line b.lives ++ (text_of handed_line b.handed ++ codes "end\n"))
+log_is : (b : Book) → log_text b ≡ text_of logged_line b.crossings ++ (text_of life_line b.lives ++ (text_of handed_line b.handed ++ codes "end\n"))
 log_is b =
-    append_lines (map (crossing_line Texts) b.crossings) (map life_line b.lives ++ (map handed_line b.handed ++ codes "end" ∷ []))
-    ∙ ap₂ (λ (u v : List ℕ). u ++ v) (lines_text (crossing_line Texts) b.crossings)
+    append_lines (map logged_line b.crossings) (map life_line b.lives ++ (map handed_line b.handed ++ codes "end" ∷ []))
+    ∙ ap₂ (λ (u v : List ℕ). u ++ v) (lines_text logged_line b.crossings)
     (append_lines (map life_line b.lives) (map handed_line b.handed ++ codes "end" ∷ [])
     ∙ ap₂ (λ (u v : List ℕ). u ++ v) (lines_text life_line b.lives)
     (append_lines (map handed_line b.handed) (codes "end" ∷ []) ∙ ap (λ u. u ++ codes "end\n") (lines_text handed_line b.handed)))
 
-pub log_written : (b : Book) (first second third fourth last : Option (List ℕ)) → Appends first second (text_of (crossing_line Texts) b.crossings) → Appends second third (text_of life_line b.lives)
+pub log_written : (b : Book) (first second third fourth last : Option (List ℕ)) → Appends first second (text_of logged_line b.crossings) → Appends second third (text_of life_line b.lives)
     → Appends third fourth (text_of handed_line b.handed) → Appends fourth last (codes "end\n") → Appends first last (log_text b)
 log_written b first second third fourth last crossings lives handed end =
     subst (Appends first last) (sym (log_is b))
-    (appends_more first second last (text_of (crossing_line Texts) b.crossings) (text_of life_line b.lives ++ (text_of handed_line b.handed ++ codes "end\n")) crossings
+    (appends_more first second last (text_of logged_line b.crossings) (text_of life_line b.lives ++ (text_of handed_line b.handed ++ codes "end\n")) crossings
     (appends_more second third last (text_of life_line b.lives) (text_of handed_line b.handed ++ codes "end\n") lives
     (appends_more third fourth last (text_of handed_line b.handed) (codes "end\n") handed end)))

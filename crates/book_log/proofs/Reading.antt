@@ -60,17 +60,17 @@ other_kind socket other word t small few same is tells fails =
 
 -- ---- bits, and how many
 
-pub counted : {E : Type 0} (words left last : List (List ℕ)) (count : ℕ) (r : Result (Option (List Bool)) E) → words ≡ decimal count ∷ left → count < 2 ^ 32
+pub counted : {E : Type 0} (words left last : List (List ℕ)) (count : ℕ) (r : Result (Option (List Bool)) E) → words ≡ decimal count ∷ left → count < 2 ^ 64
     → IfOk r (λ read. TakesAs octets_text (λ bits. length bits ≡ count) left read last) → IfOk r (λ read. TakesWords handed_words IsHanded words read last)
 counted words left last count (Err e) is small h = tt
 counted words left last count (Ok (Some bits)) is small h =
-    (is ∙ ap (λ n. decimal n ∷ left) (sym h.1) ∙ ap (λ ws. decimal (length bits) ∷ ws) h.0, subst (λ n. n < 2 ^ 32) (sym h.1) small)
+    (is ∙ ap (λ n. decimal n ∷ left) (sym h.1) ∙ ap (λ ws. decimal (length bits) ∷ ws) h.0, subst (λ n. n < 2 ^ 64) (sym h.1) small)
 counted words left last count (Ok None) is small h = λ x rest meant e.
     let long : count ≡ length x = decimal_once count (length x) (omega arith) (omega (arith, meant)) (front is e) in
     h x rest (sym long) (after is e)
 
 -- a text that is too long
-pub too_long : (words left last : List (List ℕ)) (f : Flow) (bits : List Bool) → words ≡ flow_words f ++ left → left ≡ handed_words bits ++ last → length bits < 2 ^ 32 → (length bits ≤ 8063 → ⊥)
+pub too_long : (words left last : List (List ℕ)) (f : Flow) (bits : List Bool) → words ≡ flow_words f ++ left → left ≡ handed_words bits ++ last → length bits < 2 ^ 64 → (length bits ≤ 8063 → ⊥)
     → (m : HostMessage) → IsMessage m → words ≢ message_words m
 too_long words left last f bits is behind small long m meant e =
     let few : length m.text ≤ 8063 = meant.1 in
@@ -96,9 +96,9 @@ pub no_counts : (words left : List (List ℕ)) (ends : Ends) → words ≡ ends_
 no_counts words left ends is none x meant e =
     none (counts_of x) (octets_text x.bits ∷ []) (record { messages = meant.messages; bits = meant.bits; granted = meant.granted; returned = meant.returned }) (after_seven is e)
 
-pub no_life_bits : (words left behind last : List (List ℕ)) (ends : Ends) (counts : Counts) → words ≡ ends_words ends ++ left → left ≡ counts_words counts ++ behind → counts.bits < 2 ^ 32
+pub no_life_bits : (words left behind last : List (List ℕ)) (ends : Ends) (counts : Counts) → words ≡ ends_words ends ++ left → left ≡ counts_words counts ++ behind → counts.bits < 2 ^ 64
     → TakesAs octets_text (λ bits. length bits ≡ counts.bits) behind None last → (x : Life) → IsLife x → words ≢ life_words x
 no_life_bits words left behind last ends counts is then_is small none x meant e =
-    let few : length x.bits < 2 ^ 32 = meant.bits in
+    let few : length x.bits < 2 ^ 64 = meant.bits in
     let same : counts.bits ≡ length x.bits = decimal_once counts.bits (length x.bits) (omega arith) (omega arith) (first_same (after then_is (after_seven is e))) in
     none x.bits [] (sym same) (after_seven then_is (after_seven is e))

@@ -2,6 +2,9 @@
 use Rattle.std.specs.Prelude.{◌≡◌, ℕ, ◌^◌, ◌<◌, Bool, List, [], ◌∷◌, ◌++◌, length, map, codes, suc}
 use Rattle.std.specs.Fmt.{decimal}
 use Rattle.std.specs.List.{All, flat_map}
+use Rattle.leader1822.specs.Printed.{flow_text}
+use Rattle.leader1822.specs.declared.crossing.Answer.{Answer}
+use Rattle.leader1822.specs.declared.crossing.Answer.TheVariants as answer
 use Rattle.leader1822.specs.declared.crossing.Crossing.{Crossing}
 use Rattle.leader1822.specs.declared.crossing.Crossing.TheVariants as crossing
 use Rattle.net_sim.specs.declared.life.Amount.{Amount}
@@ -22,6 +25,21 @@ pub record Book : Type 0 where
 
 -- ---- lines
 
+-- the word of an answer. It tells NotTaken from Incomplete, though a replay prints, as hosts read, one word for both
+abbrev pub answer_name : Answer → List ℕ
+answer_name answer.Rfnm = codes "rfnm"
+answer_name answer.Incomplete = codes "incomplete"
+answer_name answer.Dead = codes "dead"
+answer_name answer.NotTaken = codes "nottaken"
+
+-- a crossing with its text, as `--texts` prints it, but for that word
+abbrev pub logged_line : Crossing → List ℕ
+logged_line (crossing.Out m) = crossing_line Texts (crossing.Out m)
+logged_line (crossing.In m) = crossing_line Texts (crossing.In m)
+logged_line (crossing.Answer kind f) = codes "answer " ++ (answer_name kind ++ (codes " " ++ flow_text f))
+logged_line (crossing.Down h) = crossing_line Texts (crossing.Down h)
+logged_line (crossing.Up h) = crossing_line Texts (crossing.Up h)
+
 -- a life as `--book` prints it, and the octets of what it sent or took
 abbrev pub life_line : Life → List ℕ
 life_line x = life_text x ++ (codes " " ++ octets_text x.bits)
@@ -32,7 +50,7 @@ handed_line bits = codes "handed " ++ (decimal (length bits) ++ (codes " " ++ oc
 
 -- the lines of a log: all crossings with their texts, then all lives, then what was handed over, and `end`
 abbrev pub log_lines : Book → List (List ℕ)
-log_lines b = map (crossing_line Texts) b.crossings ++ (map life_line b.lives ++ (map handed_line b.handed ++ codes "end" ∷ []))
+log_lines b = map logged_line b.crossings ++ (map life_line b.lives ++ (map handed_line b.handed ++ codes "end" ∷ []))
 
 -- each line has its end
 abbrev pub text_of_lines : List (List ℕ) → List ℕ
@@ -50,14 +68,14 @@ IsCrossing (crossing.Answer kind f) = IsFlow f
 IsCrossing (crossing.Down h) = IsHost h
 IsCrossing (crossing.Up h) = IsHost h
 
--- a list of fewer than 2^32 bits
+-- a list of fewer than 2^64 bits
 abbrev pub IsHanded : List Bool → Type 0
-IsHanded bits = length bits < 2 ^ 32
+IsHanded bits = length bits < 2 ^ 64
 
 abbrev pub IsAmount : Amount → Type 0
 IsAmount a = (a.messages < 2 ^ 128) × (a.bits < 2 ^ 128)
 
--- sockets have 32 bits, places 64, and counts 128; which socket sends and which receives, its line tells by the socket
+-- sockets have 32 bits, places and lengths 64, and counts 128; which socket sends and which receives, its line tells by the socket
 pub record IsLife (x : Life) : Type 0 where
   pub host : IsHost x.host
   pub socket : x.socket < 2 ^ 32
@@ -66,7 +84,7 @@ pub record IsLife (x : Life) : Type 0 where
   pub own : x.own_stamp < 2 ^ 64
   pub partner : x.partner_stamp < 2 ^ 64
   pub messages : x.messages < 2 ^ 128
-  pub bits : length x.bits < 2 ^ 32
+  pub bits : length x.bits < 2 ^ 64
   pub granted : IsAmount x.granted
   pub returned : IsAmount x.returned
 

@@ -5,7 +5,7 @@ use Rattle.std.specs.Fmt.{decimal}
 use Rattle.std.specs.List.{slice_split}
 use Rattle.bit_messages.specs.Octets.{octet}
 use Rattle.leader1822.specs.Host.{Host}
-use Rattle.leader1822.specs.Printed.{host_text, answer_text}
+use Rattle.leader1822.specs.Printed.{host_text}
 use Rattle.leader1822.specs.declared.address.Flow.{Flow}
 use Rattle.leader1822.specs.declared.crossing.Answer.{Answer}
 use Rattle.leader1822.specs.declared.crossing.Crossing.TheVariants as crossing
@@ -15,9 +15,7 @@ use Rattle.net_sim.specs.declared.life.Life.{Life}
 use Rattle.script.specs.Spelling.{IsFlow, IsHost, octets_text}
 use Rattle.std.specs.declared.alloc.AllocError.{AllocError}
 use Rattle.world_replay.specs.Printed.{kind_text, state_text}
-use Rattle.replay.specs.Output.{crossing_line}
-use Rattle.replay.specs.declared.print.Detail.TheVariants.{Texts}
-use Rattle.book_log.specs.Log.{Book, IsAmount, IsCrossing, IsHanded, IsLife, handed_line, life_line}
+use Rattle.book_log.specs.Log.{Book, IsAmount, IsCrossing, IsHanded, IsLife, answer_name, handed_line, life_line, logged_line}
 use Rattle.book_log.specs.declared.lines.Counts.{Counts}
 use Rattle.book_log.specs.declared.lines.Ends.{Ends}
 use Rattle.book_log.specs.declared.lines.Line.{Line}
@@ -80,7 +78,7 @@ abbrev pub message_words : HostMessage → List (List ℕ)
 message_words m = host_text m.flow.source ∷ host_text m.flow.destination ∷ decimal m.flow.link.0 ∷ decimal (length m.text) ∷ octets_text m.text ∷ []
 
 abbrev pub answer_words : Answer × Flow → List (List ℕ)
-answer_words a = answer_text a.0 ∷ host_text a.1.source ∷ host_text a.1.destination ∷ decimal a.1.link.0 ∷ []
+answer_words a = answer_name a.0 ∷ host_text a.1.source ∷ host_text a.1.destination ∷ decimal a.1.link.0 ∷ []
 
 abbrev pub IsAnswer : Answer × Flow → Type 0
 IsAnswer a = IsFlow a.1
@@ -125,7 +123,7 @@ counts_words k = decimal k.messages ∷ decimal k.bits ∷ amount_words k.grante
 
 pub record AreCounts (k : Counts) : Type 0 where
   pub messages : k.messages < 2 ^ 128
-  pub bits : k.bits < 2 ^ 32
+  pub bits : k.bits < 2 ^ 64
   pub granted : IsAmount k.granted
   pub returned : IsAmount k.returned
 
@@ -197,7 +195,7 @@ Adds l old (Err e) new = Unit {0}
 -- ---- one line
 
 abbrev pub line_text : Line → List ℕ
-line_text (line.Crossed c) = crossing_line Texts c
+line_text (line.Crossed c) = logged_line c
 line_text (line.Lived x) = life_line x
 line_text (line.Handed bits) = handed_line bits
 line_text line.End = codes "end"

@@ -14,6 +14,7 @@ mod fault;
 pub mod law;
 mod lines;
 mod print;
+mod ranges;
 mod read;
 mod words;
 

@@ -1,10 +1,9 @@
 //! The lines of a log.
 
 ghost use Rattle.std.specs.Prelude.{◌≡◌, ◌↔◌, IfOk, IsTrue};
-ghost use Rattle.leader1822.specs.Printed.{answer_text};
 ghost use Rattle.script.specs.Spelling.{IsHost, IsMessage, ReadsAs};
 ghost use Rattle.world_replay.specs.Printed.{kind_text, state_text};
-ghost use Rattle.book_log.specs.Log.{IsAmount, IsHanded, IsLife};
+ghost use Rattle.book_log.specs.Log.{IsAmount, IsHanded, IsLife, answer_name};
 ghost use Rattle.book_log.specs.Steps.{AreCounts, AreEnds, IsAnswer, IsKind, IsLine, IsState, ReadsShort, ReadsWords, TakesWords, amount_words, answer_words, counts_words, ends_words, handed_words, host_words, life_of, life_words, line_text, message_words, words_left};
 
 use crate::words::Words;
@@ -106,7 +105,7 @@ fn read_answer(mut words: Words<'_>) -> Option<(Answer, Flow)>
 
 /// The answer that a word names.
 fn read_kind(word: &[u8]) -> Option<Answer>
-    ensures { ReadsAs answer_text IsKind word.now result }
+    ensures { ReadsAs answer_name IsKind word.now result }
 {
     if word == b"rfnm".as_slice() {
         Some(Answer::Rfnm)
@@ -114,6 +113,8 @@ fn read_kind(word: &[u8]) -> Option<Answer>
         Some(Answer::Dead)
     } else if word == b"incomplete".as_slice() {
         Some(Answer::Incomplete)
+    } else if word == b"nottaken".as_slice() {
+        Some(Answer::NotTaken)
     } else {
         None
     }
@@ -158,10 +159,10 @@ fn read_message(alloc: Global, mut words: Words<'_>) -> Result<Option<HostMessag
 fn read_counted(alloc: Global, words: &mut Words<'_>) -> Result<Option<Bits>, AllocError>
     ensures { IfOk result (λ read. TakesWords handed_words IsHanded (words_left words.old) read (words_left words.new)) }
 {
-    let Some(count) = words.number() else {
+    let Some(count) = words.place() else {
         return Ok(None);
     };
-    words.bits(alloc, count as usize)
+    words.bits(alloc, count)
 }
 
 /// Both ends of a life, and its requests.
@@ -179,7 +180,7 @@ pub(crate) struct Ends {
 #[derive(Drop)]
 pub(crate) struct Counts {
     pub messages: u128,
-    pub bits: u32,
+    pub bits: usize,
     pub granted: Amount,
     pub returned: Amount,
     pub ended: bool,
@@ -197,7 +198,7 @@ fn read_life(alloc: Global, mut words: Words<'_>) -> Result<Option<Life>, AllocE
     let Some(counts) = read_counts(&mut words) else {
         return Ok(None);
     };
-    let Some(bits) = words.bits(alloc, counts.bits as usize)? else {
+    let Some(bits) = words.bits(alloc, counts.bits)? else {
         return Ok(None);
     };
     if !words.is_over() {
@@ -265,7 +266,7 @@ fn read_counts(words: &mut Words<'_>) -> Option<Counts>
     ensures { TakesWords counts_words AreCounts (words_left words.old) result (words_left words.new) }
 {
     let messages = words.count()?;
-    let bits = words.number()?;
+    let bits = words.place()?;
     let granted = read_amount(words)?;
     let returned = read_amount(words)?;
     let state = words.next()?;

@@ -6,19 +6,41 @@ ghost use Rattle.bit_messages.specs.Octets.{bit_value, octets_of};
 ghost use Rattle.hex.specs.Hex.{encode_upper, upper_digits};
 ghost use Rattle.replay.specs.Failing.{TellsFailure};
 ghost use Rattle.replay.specs.InTurn.{text_of};
-ghost use Rattle.replay.specs.Output.{crossing_line};
-ghost use Rattle.replay.specs.declared.print.Detail.TheVariants.{Texts};
 ghost use Rattle.script.specs.Input.{ended_line};
 ghost use Rattle.script.specs.Spelling.{octets_text};
-ghost use Rattle.book_log.specs.Log.{handed_line, life_line, log_text};
+ghost use Rattle.std.specs.List.{All};
+ghost use Rattle.book_log.specs.Log.{IsBook, IsCrossing, IsHanded, IsLife, handed_line, life_line, log_text, logged_line};
 ghost use Rattle.book_log.specs.Steps.{octet_at};
 
-use leader1822::Crossing;
+use crate::ranges::{has_crossing_ranges, has_life_ranges, has_list_range};
+use leader1822::{Answer, Crossing};
 use net_sim::{BitLog, Life};
 use replay::{Detail, Output, WriteFailed, print_crossing};
+use std::fmt;
 use world_replay::LifeLine;
 
-/// Writes the log of a book: these crossings, the oldest first, these lives, and what was handed over in each.
+/// An answer, by the word that logs have for it.
+#[derive(Drop)]
+struct AnswerName(Answer);
+
+impl fmt::Display for AnswerName {
+    ghost use Rattle.std.specs.Prelude.{Some};
+    ghost use Rattle.book_log.specs.Log.{answer_name};
+
+    ghost output = { λ name. Some (answer_name name.0) };
+
+    fn fmt<W: fmt::Write>(&self, f: &mut fmt::Formatter<W>) -> fmt::Result {
+        match self.0 {
+            Answer::Rfnm => write!(f, "rfnm"),
+            Answer::Incomplete => write!(f, "incomplete"),
+            Answer::Dead => write!(f, "dead"),
+            Answer::NotTaken => write!(f, "nottaken"),
+        }
+    }
+}
+
+/// Writes the log of a book: these crossings, the oldest first, these lives, and what was handed over in each. What is written is
+/// read again as this book, since the values of all three are in the ranges that a log tells (`valid`): their types have no others.
 ///
 /// Errors: `WriteFailed`.
 pub fn print_log<W: Output>(
@@ -29,6 +51,7 @@ pub fn print_log<W: Output>(
 ) -> Result<(), WriteFailed>
     requires { W.failed writer.old ≡ false }
     ensures written { OnOk result (Appends (W.contents writer.old) (W.contents writer.new) (log_text (record { crossings = crossings.now; lives = lives.now; handed = handed.now }))) }
+    ensures valid { OnOk result (IsBook (record { crossings = crossings.now; lives = lives.now; handed = handed.now })) }
     ensures failed { TellsFailure result (W.failed writer.new) }
 {
     print_crossings(crossings, writer)?;
@@ -40,22 +63,40 @@ pub fn print_log<W: Output>(
 /// Prints crossings with their texts.
 fn print_crossings<W: Output>(crossings: &[Crossing], writer: &mut W) -> Result<(), WriteFailed>
     requires { W.failed writer.old ≡ false }
-    ensures written { OnOk result (Appends (W.contents writer.old) (W.contents writer.new) (text_of (crossing_line Texts) crossings.now)) }
+    ensures written { OnOk result (Appends (W.contents writer.old) (W.contents writer.new) (text_of logged_line crossings.now)) }
+    ensures valid { OnOk result (All IsCrossing crossings.now) }
     ensures failed { TellsFailure result (W.failed writer.new) }
 {
     for crossing in crossings {
-        print_crossing(crossing, Detail::Texts, writer)?;
+        has_crossing_ranges(crossing);
+        print_logged(crossing, writer)?;
     }
     Ok(())
+}
+
+/// Prints a crossing with its text, and an answer by the word that logs have for it.
+fn print_logged<W: Output>(crossing: &Crossing, writer: &mut W) -> Result<(), WriteFailed>
+    requires { W.failed writer.old ≡ false }
+    ensures written { OnOk result (Appends (W.contents writer.old) (W.contents writer.new) (ended_line (logged_line crossing.now))) }
+    ensures failed { TellsFailure result (W.failed writer.new) }
+{
+    match crossing {
+        Crossing::Answer(kind, flow) => writeln!(writer, "answer {} {flow}", AnswerName(*kind)),
+        Crossing::Out(_) | Crossing::In(_) | Crossing::Down(_) | Crossing::Up(_) => {
+            print_crossing(crossing, Detail::Texts, writer)
+        }
+    }
 }
 
 /// Prints lives with their bits.
 fn print_lives<W: Output>(lives: &[Life], writer: &mut W) -> Result<(), WriteFailed>
     requires { W.failed writer.old ≡ false }
     ensures written { OnOk result (Appends (W.contents writer.old) (W.contents writer.new) (text_of life_line lives.now)) }
+    ensures valid { OnOk result (All IsLife lives.now) }
     ensures failed { TellsFailure result (W.failed writer.new) }
 {
     for life in lives {
+        has_life_ranges(life);
         print_life(life, writer)?;
     }
     Ok(())
@@ -76,9 +117,11 @@ fn print_life<W: Output>(life: &Life, writer: &mut W) -> Result<(), WriteFailed>
 fn print_lists<W: Output>(handed: &[BitLog], writer: &mut W) -> Result<(), WriteFailed>
     requires { W.failed writer.old ≡ false }
     ensures written { OnOk result (Appends (W.contents writer.old) (W.contents writer.new) (text_of handed_line handed.now)) }
+    ensures valid { OnOk result (All IsHanded handed.now) }
     ensures failed { TellsFailure result (W.failed writer.new) }
 {
     for bits in handed {
+        has_list_range(bits);
         print_list(bits, writer)?;
     }
     Ok(())

@@ -1,5 +1,5 @@
 -- What is written of a log is what its audit says.
-use Rattle.std.proofs.Common.{◌≡◌, ◌<◌, ◌≤◌, ◌+◌, ◌*◌, ℕ, Bool, true, false, List, [], ◌∷◌, ◌++◌, length, take, get_or, reverse, slice_get, Option, Some, None, IfSome, Result, Ok, Err, IfOk, IfErr, MatchResult, OnOk, inl, inr, ap, refl, sym, ◌∙◌, subst, arith}
+use Rattle.std.proofs.Common.{◌≡◌, ◌<◌, ◌≤◌, ◌+◌, ◌*◌, ℕ, Bool, true, false, List, [], ◌∷◌, ◌++◌, length, take, get_or, reverse, slice_get, Option, Some, None, IfSome, codes, Result, Ok, Err, IfOk, IfErr, MatchResult, OnOk, inl, inr, ap, refl, sym, ◌∙◌, subst, arith}
 use Rattle.std.specs.Prelude.{◌↔◌}
 use Rattle.std.proofs.lemmas.Bool.{false≢true}
 use Rattle.std.specs.Io.KnownBytes.{Appends}
@@ -13,7 +13,7 @@ use Rattle.command_line.specs.Audits.{Audited, AuditsLog, IsAuditFault, IsBookFa
 use Rattle.command_line.specs.declared.auditing.AuditFault.{AuditFault}
 use Rattle.command_line.specs.declared.auditing.AuditFault.TheVariants as fault
 
-pub audits : (octets : List ℕ) (b : Book) (said : Audit) (before after : Option (List ℕ)) → IsLog octets b → SaysOf said b → WritesVerdict said before after → AuditsLog octets said before after
+pub audits : (octets : List ℕ) (b : Book) (said : Audit) (before after : Option (List ℕ)) → IsLog octets b → SaysOf said b → WritesVerdict b said before after → AuditsLog octets said before after
 audits octets b said before after log says written = record { book = b; log = log; says = says; written = written }
 
 pub audited : (octets : List ℕ) (said : Audit) (before after : Option (List ℕ)) → AuditsLog octets said before after → Audited said before after
@@ -33,6 +33,9 @@ pub says_of : (b : Book) (said : Audit) (crossings : List Crossing) (lives : Lis
 says_of b said crossings lives handed p q r tells =
     subst (λ (cs : List Crossing). Says said (reverse cs) b.lives b.handed) p
     (subst (λ (xs : List Life). Says said (reverse crossings) xs b.handed) q (subst (λ (hs : List (List Bool)). Says said (reverse crossings) lives hs) r ((tells said).0 refl)))
+
+pub kept_written : (b : Book) (said : Audit) (before after : Option (List ℕ)) → said ≡ audit.Kept → Appends before after (codes "kept\n") → WritesVerdict b said before after
+kept_written b said before after kept h = subst (λ (s : Audit). WritesVerdict b s before after) (sym kept) h
 
 -- ---- faults
 

@@ -1,6 +1,7 @@
 mod CommandLine
 mod Faults
 mod Hyphens
+mod Joined
 mod Judged
 mod Logs
 mod Once

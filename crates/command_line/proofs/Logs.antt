@@ -1,7 +1,7 @@
 -- What `--log` writes is the log of the book that a replay leaves.
 use Rattle.std.proofs.Common.{◌≡◌, ℕ, Bool, List, [], ◌++◌, Option, Some, None, IfSome, Result, Ok, Err, OnOk, reverse, refl, sym, ap, ◌∙◌, subst}
 use Rattle.std.specs.Io.KnownBytes.{Appends}
-use Rattle.book_log.specs.Log.{Book, log_text}
+use Rattle.book_log.specs.Log.{Book, IsBook, log_text}
 use Rattle.headline.specs.Promise.{KeepsPromise}
 use Rattle.leader1822.specs.Messages.{SafeMessages}
 use Rattle.leader1822.specs.declared.crossing.Crossing.{Crossing}
@@ -24,24 +24,27 @@ use Rattle.command_line.specs.declared.fault.ScriptFault.{ScriptFault}
 use Rattle.command_line.specs.declared.fault.ScriptFault.TheVariants as fault
 
 pub logs_raw : {C : Type 0} (calls : Calls C) (opening last : C) (events : List RawEvent) (detail : Detail) (log : List Crossing) (x y before after : Option (List ℕ)) → Writes detail (Replays calls opening events last) x y
-    → SafeMessages (calls.seen last).log → log ≡ reverse (calls.seen last).log → Appends before after (log_text (record { crossings = log; lives = []; handed = [] })) → LogsRaw calls opening events before after
-logs_raw calls opening last events detail log x y before after w safe is written = record {
+    → SafeMessages (calls.seen last).log → log ≡ reverse (calls.seen last).log → Appends before after (log_text (record { crossings = log; lives = []; handed = [] })) → IsBook (record { crossings = log; lives = []; handed = [] }) → LogsRaw calls opening events before after
+logs_raw calls opening last events detail log x y before after w safe is written valid = record {
   last = last;
   shown = w.shown;
   replayed = w.is_shown;
   messages = safe;
   written = subst (λ (cs : List Crossing). Appends before after (log_text (record { crossings = cs; lives = []; handed = [] }))) is written;
+  valid = subst (λ (cs : List Crossing). IsBook (record { crossings = cs; lives = []; handed = [] })) is valid;
 }
 
 pub logs_world : {C : Type 0} (calls : Calls C) (opening : C) (first last : WorldState C) (events : List WorldEvent) (detail : Detail) (log : List Crossing) (lives : List Life) (handed : List (List Bool)) (x y before after : Option (List ℕ))
     → first ≡ opening_world (shown (hosting calls)) opening → lines.Writes detail (worlds.Replays (shown (hosting calls)) first events last) x y → KeepsPromise calls.seen last
-    → log ≡ reverse last.kept.book.crossings → lives ≡ last.kept.book.lives → handed ≡ last.kept.handed → Appends before after (log_text (record { crossings = log; lives = lives; handed = handed })) → LogsWorld (hosting calls) opening events before after
-logs_world {C} calls opening first last events detail log lives handed x y before after begins w promise crossings alive given written = record {
+    → log ≡ reverse last.kept.book.crossings → lives ≡ last.kept.book.lives → handed ≡ last.kept.handed → Appends before after (log_text (record { crossings = log; lives = lives; handed = handed })) → IsBook (record { crossings = log; lives = lives; handed = handed })
+    → LogsWorld (hosting calls) opening events before after
+logs_world {C} calls opening first last events detail log lives handed x y before after begins w promise crossings alive given written valid = record {
   last = last;
   shows = w.shown;
   replayed = subst (λ (s : WorldState C). worlds.Replays (shown (hosting calls)) s events last w.shown) begins w.is_shown;
   promise = promise;
   written = subst (λ (b : Book). Appends before after (log_text b)) (λ i. record { crossings = crossings i; lives = alive i; handed = given i }) written;
+  valid = subst IsBook (λ i. record { crossings = crossings i; lives = alive i; handed = given i }) valid;
 }
 
 pub logged : (network : TopologyFields) (events : Asked) (before after : Option (List ℕ)) → LogsOn network events before after → Logged before after

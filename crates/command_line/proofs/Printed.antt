@@ -50,7 +50,7 @@ same_crossings [] = refl
 same_crossings (raw.Crossed c ∷ shown) = ap (λ cs. c ∷ cs) (same_crossings shown)
 same_crossings (raw.Refused f ∷ shown) = same_crossings shown
 
-none_there : (x : Life) → Contains [] x → ⊥
+pub none_there : (x : Life) → Contains [] x → ⊥
 none_there x there = omega (arith, there.1)
 
 none_two : (x y : Life) → AreTwo [] x y → ⊥
@@ -58,7 +58,7 @@ none_two x y ([], between, rest, is) = let e : [] ≡ x ∷ between ++ y ∷ res
 none_two x y (z ∷ front, between, rest, is) = let e : [] ≡ z ∷ front ++ x ∷ between ++ y ∷ rest = is in cc
 
 -- a book without lives is safe where its messages are
-safe_alone : (log : List Crossing) → SafeMessages log → SafeBook log [] []
+pub safe_alone : (log : List Crossing) → SafeMessages log → SafeBook log [] []
 safe_alone log messages = record {
   messages = messages;
   partners = record {

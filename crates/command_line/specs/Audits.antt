@@ -1,12 +1,17 @@
 -- What is written of a log as its audit.
-use Rattle.std.specs.Prelude.{ℕ, ◌<◌, ◌≤◌, List, ◌++◌, length, reverse, Option, codes}
+use Rattle.std.specs.Prelude.{◌≡◌, ℕ, ◌+◌, ◌<◌, ◌≤◌, List, ◌++◌, length, reverse, Option, Result, Ok, Err, codes}
 use Rattle.std.specs.Fmt.{decimal}
 use Rattle.std.specs.Io.KnownBytes.{Appends}
 use Rattle.book_log.specs.Log.{Book, IsBadLine, IsLog}
 use Rattle.net_sim.specs.Audit.{Says, part_text}
+use Rattle.net_sim.specs.Findings.{Shows}
+use Rattle.net_sim.specs.declared.auditing.findings.Finding.{Finding}
+use Rattle.net_sim.specs.declared.auditing.findings.Finding.TheVariants as finding
 use Rattle.net_sim.specs.declared.auditing.said.Audit.{Audit}
 use Rattle.net_sim.specs.declared.auditing.said.Audit.TheVariants as audit
 use Rattle.command_line.specs.declared.auditing.AuditFault.{AuditFault}
+use Rattle.command_line.specs.declared.verdict.Lines.{Lines}
+use Rattle.command_line.specs.declared.verdict.Lines.TheVariants as lines
 use Rattle.command_line.specs.declared.auditing.AuditFault.TheVariants as fault
 
 -- what an audit says of a book
@@ -15,18 +20,34 @@ SaysOf said b = Says said (reverse b.crossings) b.lives b.handed
 
 -- ---- what is written
 
--- one line for each answer of the audit; of a malformed book it names a line
-abbrev pub WritesVerdict : Audit → Option (List ℕ) → Option (List ℕ) → Type 0
-WritesVerdict audit.Kept before after = Appends before after (codes "kept\n")
-WritesVerdict audit.Malformed before after = (line : ℕ) × Appends before after (codes "malformed line " ++ (decimal line ++ codes "\n"))
-WritesVerdict (audit.Broken p) before after = Appends before after (codes "broken " ++ (part_text p ++ codes "\n"))
+-- the lines of a log, counted from 1, for what is found in its book: first come its crossings, then its lives, then its lists
+abbrev pub lines_of : Book → Finding → Lines
+lines_of b (finding.Crossing place) = lines.One (place + 1)
+lines_of b (finding.Life place) = lines.One (length b.crossings + place + 1)
+lines_of b (finding.Lives place other) = lines.Two (length b.crossings + place + 1) (length b.crossings + other + 1)
+lines_of b (finding.List place) = lines.One (length b.crossings + length b.lives + place + 1)
+
+abbrev pub lines_text : Lines → List ℕ
+lines_text (lines.One line) = codes "line " ++ decimal line
+lines_text (lines.Two line other) = codes "lines " ++ (decimal line ++ (codes " " ++ decimal other))
+
+-- it shows there, and this is written
+abbrev pub TellsWhere : Book → Audit → List ℕ → Option (List ℕ) → Option (List ℕ) → Type 0
+TellsWhere b said front before after =
+    (found : Finding) × Shows said found (reverse b.crossings) b.lives b.handed × Appends before after (front ++ (lines_text (lines_of b found) ++ codes "\n"))
+
+-- one line for each answer of the audit: of a book that is not kept it names the lines where it shows
+abbrev pub WritesVerdict : Book → Audit → Option (List ℕ) → Option (List ℕ) → Type 0
+WritesVerdict b audit.Kept before after = Appends before after (codes "kept\n")
+WritesVerdict b audit.Malformed before after = TellsWhere b audit.Malformed (codes "malformed ") before after
+WritesVerdict b (audit.Broken p) before after = TellsWhere b (audit.Broken p) (codes "broken " ++ (part_text p ++ codes " ")) before after
 
 -- octets are a log, and what an audit says of its book is written
 pub record AuditsLog (octets : List ℕ) (said : Audit) (before after : Option (List ℕ)) : Type 0 where
   pub book : Book
   pub log : IsLog octets book
   pub says : SaysOf said book
-  pub written : WritesVerdict said before after
+  pub written : WritesVerdict book said before after
 
 -- the same of some octets, for any reader
 pub record Audited (said : Audit) (before after : Option (List ℕ)) : Type 0 where
@@ -48,6 +69,25 @@ IsAuditFault octets (fault.BadLog number) = (length octets ≤ 33554432) × IsBa
 IsAuditFault octets fault.OutOfMemory = Unit {0}
 IsAuditFault octets fault.CannotWrite = IsSomeLog octets
 IsAuditFault octets fault.CannotRead = ⊥
+
+-- ---- logs that a replay wrote
+
+-- octets are the log of a book that is kept
+pub record IsKeptLog (octets : List ℕ) : Type 0 where
+  pub book : Book
+  pub log : IsLog octets book
+  pub says : SaysOf audit.Kept book
+
+-- how the audit of such a log ends: it says `kept`. Only a log that is too long, memory or a failed write can keep it from saying so
+abbrev pub SaysKept : List ℕ → Result Audit AuditFault → Type 0
+SaysKept octets (Ok said) = said ≡ audit.Kept
+SaysKept octets (Err fault.LongLog) = 33554432 < length octets
+SaysKept octets (Err fault.OutOfMemory) = Unit {0}
+SaysKept octets (Err fault.CannotWrite) = Unit {0}
+SaysKept octets (Err (fault.BadLog number)) = ⊥
+SaysKept octets (Err fault.CannotRead) = ⊥
+
+-- ---- exit statuses
 
 -- the exit status of a fault
 abbrev pub status_at : AuditFault → ℕ

@@ -1,7 +1,7 @@
 -- What is written of a replay as a log.
 use Rattle.std.specs.Prelude.{ℕ, List, [], reverse, Option}
 use Rattle.std.specs.Io.KnownBytes.{Appends}
-use Rattle.book_log.specs.Log.{Book, log_text}
+use Rattle.book_log.specs.Log.{Book, IsBook, log_text}
 use Rattle.headline.specs.Promise.{KeepsPromise}
 use Rattle.leader1822.specs.Messages.{SafeMessages}
 use Rattle.net_sim.specs.Book.{Kept}
@@ -32,21 +32,24 @@ raw_book log = record { crossings = reverse log; lives = []; handed = [] }
 abbrev pub world_book : Kept → Book
 world_book k = record { crossings = reverse k.book.crossings; lives = k.book.lives; handed = k.handed }
 
--- events are replayed over a carrier with such calls, and the log of what crossed is written, and nothing else
+-- events are replayed over a carrier with such calls, and the log of what crossed is written, and nothing else. It tells all values as they are
 pub record LogsRaw {C : Type 0} (calls : Calls C) (opening : C) (events : List RawEvent) (before after : Option (List ℕ)) : Type 0 where
   pub last : C
   pub shown : List Shown
   pub replayed : Replays calls opening events last shown
   pub messages : SafeMessages (calls.seen last).log
   pub written : Appends before after (log_text (raw_book (calls.seen last).log))
+  pub valid : IsBook (raw_book (calls.seen last).log)
 
--- events are replayed in a world over such a carrier, whose book keeps its promise, and the log of this book is written, and nothing else
+-- events are replayed in a world over such a carrier, whose book keeps its promise, and the log of this book is written, and nothing else. It tells all
+-- values as they are
 pub record LogsWorld {C : Type 0} (calls : world.Calls C) (opening : C) (events : List WorldEvent) (before after : Option (List ℕ)) : Type 0 where
   pub last : WorldState C
   pub shows : List lines.Shown
   pub replayed : worlds.Replays (shown calls) (opening_world (shown calls) opening) events last shows
   pub promise : KeepsPromise calls.seen last
   pub written : Appends before after (log_text (world_book last.kept))
+  pub valid : IsBook (world_book last.kept)
 
 abbrev pub LogsFrom : {C : Type 0} → Calls C → C → Asked → Option (List ℕ) → Option (List ℕ) → Type 0
 LogsFrom calls opening (Raw events) before after = LogsRaw calls opening events before after

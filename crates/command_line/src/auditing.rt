@@ -1,11 +1,12 @@
 //! The audit of a log.
 
-ghost use Rattle.std.specs.Prelude.{◌≡◌, ◌≢◌, ◌≤◌, ◌<◌, ◌↔◌, Err, IfErr, IfOk, IfSome, MatchResult, OnOk, false, length, true};
+ghost use Rattle.std.specs.Prelude.{◌≡◌, ◌≢◌, ◌≤◌, ◌<◌, ◌↔◌, Err, IfErr, IfOk, IfSome, MatchResult, OnOk, Some, [], false, length, true};
 ghost use Rattle.book_log.specs.Log.{IsLog};
-ghost use Rattle.replay.specs.Failing.{TellsFailure};
-ghost use Rattle.command_line.specs.Audits.{Audited, AuditsLog, IsAuditFault, IsBookFault, IsLogReadFault, IsSomeLog, WritesVerdict, status_at, status_said};
+ghost use Rattle.command_line.specs.Audits.{Audited, AuditsLog, IsAuditFault, IsBookFault, IsLogReadFault, IsSomeLog, SaysKept, status_at, status_said};
+ghost use Rattle.command_line.specs.Logs.{Logged};
 
 use crate::source::{ReadFailed, Source};
+use crate::verdict::write_said;
 use book_log::{LogFault, LoggedBook, MAX_LOG, read_log};
 use net_sim::{Audit, audit};
 use replay::{Output, WriteFailed};
@@ -97,7 +98,8 @@ pub fn audit_status(said: Audit) -> u8
 }
 
 /// Reads a log, and writes one line: `kept` where its book is safe, `malformed line N` where line `N` shows that it is no
-/// book, or `broken PART` with the first part of a safe book that fails. It answers what the audit says.
+/// book, or `broken PART line N` or `broken PART lines M N` with the first part of a safe book that fails, and the lines of the crossing or
+/// of the one or two lives that show it. It answers what the audit says.
 ///
 /// Errors, in this order:
 /// - `CannotRead`: a read failed. Nothing more is asked of the reader.
@@ -123,6 +125,9 @@ pub fn run_audit<R: Source, W: Output>(
 
     // what is read is a log, or the first fault is given
     ensures read { R.failed reader.new ≡ false → IfSome (R.remaining reader.old) (λ octets. MatchResult result (λ _. IsSomeLog octets) (IsAuditFault octets)) }
+
+    // what a replay wrote as its log is read, and is kept
+    ensures kept { R.failed reader.new ≡ false → IfSome (R.remaining reader.old) (λ octets. Logged (Some []) (Some octets) → SaysKept octets result) }
 
     // where a read or a write fails it is told, and nowhere else
     ensures cannot_read { (result ≡ Err AuditFault.CannotRead) ↔ (R.failed reader.new ≡ true) }
@@ -181,70 +186,4 @@ fn read_book(alloc: Global, octets: &[u8]) -> Result<LoggedBook, AuditFault>
         Err(LogFault::BadLine(number)) => Err(AuditFault::BadLog(number)),
         Err(LogFault::OutOfMemory) => Err(AuditFault::OutOfMemory),
     }
-}
-
-/// Writes what an audit says of a book, and all that the writer still holds back.
-///
-/// Errors: `WriteFailed`.
-fn write_said<W: Output>(book: &LoggedBook, said: Audit, writer: &mut W) -> Result<(), WriteFailed>
-    requires { W.failed writer.old ≡ false }
-    ensures written { OnOk result (WritesVerdict said (W.contents writer.old) (W.contents writer.new)) }
-    ensures failed { TellsFailure result (W.failed writer.new) }
-    ensures flushed { OnOk result (W.flushed writer.new ≡ true) }
-{
-    write_verdict(book, said, writer)?;
-    writer.flush()
-}
-
-/// Writes the line of what an audit says of a book.
-///
-/// Errors: `WriteFailed`.
-fn write_verdict<W: Output>(
-    book: &LoggedBook,
-    said: Audit,
-    writer: &mut W,
-) -> Result<(), WriteFailed>
-    requires { W.failed writer.old ≡ false }
-    ensures written { OnOk result (WritesVerdict said (W.contents writer.old) (W.contents writer.new)) }
-    ensures failed { TellsFailure result (W.failed writer.new) }
-{
-    match said {
-        Audit::Kept => writer.write_all(b"kept\n"),
-        Audit::Malformed => {
-            let line = malformed_line(book);
-            writeln!(writer, "malformed line {line}")
-        }
-        Audit::Broken(part) => writeln!(writer, "broken {part}"),
-    }
-}
-
-/// The line that shows that a book is malformed: that of the first life without a list, of the first list without a life, or of the
-/// first life whose stamps name no requests.
-fn malformed_line(book: &LoggedBook) -> u128 {
-    let crossings = book.crossings().len() as u128;
-    let lives = book.lives().len();
-    let lists = book.handed().len();
-    if lists < lives {
-        return crossings + lists as u128 + 1;
-    }
-    if lives < lists {
-        return crossings + 2 * (lives as u128) + 1;
-    }
-    crossings + first_unstamped(book) as u128 + 1
-}
-
-/// The place of the first life whose stamps name no requests, where there is one list for each life.
-fn first_unstamped(book: &LoggedBook) -> usize {
-    let log = book.crossings();
-    let handed = book.handed();
-    for (i, _life) in book.lives().iter().enumerate() {
-        if i < handed.len() {
-            let life = &book.lives()[i..=i];
-            let list = &handed[i..=i];
-            if audit(log, life, list) == Audit::Malformed {
-                return i;
-            }
-        }
-    }
-    0
 }

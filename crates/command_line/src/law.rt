@@ -7,7 +7,9 @@ ghost use Rattle.net_sim.specs.declared.life.Life.{Life};
 ghost use Rattle.replay.specs.declared.print.Detail.{Detail};
 ghost use Rattle.world_replay.specs.Output.{Shown};
 ghost use Rattle.world_script.specs.declared.event.WorldEvent.{WorldEvent};
+ghost use Rattle.command_line.specs.Audits.{IsKeptLog};
 ghost use Rattle.command_line.specs.Carriers.{hosting, plain_calls};
+ghost use Rattle.command_line.specs.Logs.{Logged};
 ghost use Rattle.command_line.specs.Printed.{PrintsBook, PrintsPart};
 ghost use Rattle.command_line.specs.Replayed.{Ran, RanInPart, ReplaysInput, StopsInput, WorldShowsFrom};
 
@@ -27,6 +29,11 @@ pub fn first_part()
 pub fn printed_books()
     ensures whole { (book : Bool) (detail : Detail) (before after : Option (List ℕ)) → Ran book detail before after → PrintsBook book detail before after }
     ensures part { (detail : Detail) (before after : Option (List ℕ)) → RanInPart detail before after → PrintsPart detail before after }
+{}
+
+/// What `--log` writes is a log, of whatever network and events, and its book is kept. So whoever reads it comes to this book, and to this verdict.
+pub fn logs_are_kept()
+    ensures { (octets : List ℕ) → Logged (Some []) (Some octets) → IsKeptLog octets }
 {}
 
 /// Lives that no replay shows.

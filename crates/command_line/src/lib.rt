@@ -23,6 +23,7 @@ mod logging;
 mod options;
 mod simulator;
 mod source;
+mod verdict;
 
 pub use auditing::{AuditFault, audit_status, run_audit};
 pub use fault::ScriptFault;

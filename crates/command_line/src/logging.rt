@@ -2,7 +2,7 @@
 
 ghost use Rattle.std.specs.Prelude.{◌≡◌, ◌≢◌, ◌↔◌, Err, IfErr, IfSome, MatchResult, OnOk, None, [], false, true};
 ghost use Rattle.std.specs.Io.KnownBytes.{Appends};
-ghost use Rattle.book_log.specs.Log.{log_text};
+ghost use Rattle.book_log.specs.Log.{IsBook, log_text};
 ghost use Rattle.replay.specs.Failing.{TellsFailure};
 ghost use Rattle.command_line.specs.Carriers.{hosting};
 ghost use Rattle.command_line.specs.Events.{asked_of};
@@ -221,6 +221,7 @@ fn write_log<W: Output>(
 ) -> Result<(), WriteFailed>
     requires { W.failed writer.old ≡ false }
     ensures written { OnOk result (Appends (W.contents writer.old) (W.contents writer.new) (log_text (record { crossings = crossings.now; lives = lives.now; handed = handed.now }))) }
+    ensures valid { OnOk result (IsBook (record { crossings = crossings.now; lives = lives.now; handed = handed.now })) }
     ensures failed { TellsFailure result (W.failed writer.new) }
     ensures flushed { OnOk result (W.flushed writer.new ≡ true) }
 {

@@ -2,7 +2,11 @@
 use Rattle.std.proofs.Common.{◌≡◌, ℕ, Bool, List, [], ◌∷◌, length, refl, ap, sym, arith, Option, Some, None}
 use Rattle.std.specs.Prelude.{IsSome}
 use Rattle.leader1822.specs.declared.crossing.Crossing.{Crossing}
-use Rattle.net_sim.specs.Audit.{IsWellFormed}
+use Rattle.headline.specs.Promise.{KeepsPromise}
+use Rattle.leader1822.specs.Calls.{Seen}
+use Rattle.net_sim.specs.Audit.{IsWellFormed, Says}
+use Rattle.net_sim.specs.World.{WorldState}
+use Rattle.net_sim.specs.declared.auditing.said.Audit.TheVariants as said
 use Rattle.net_sim.specs.declared.life.Life.{Life}
 use Rattle.net_sim.specs.Formed.{FormedBook}
 use Rattle.net_sim.specs.Safe.{AreHanded, SafeBook, before, control_flow, last_out, named}
@@ -16,7 +20,7 @@ some_of : (x : Life) (a : Option ℕ) → IsSome (named x a) → IsSome a
 some_of x None h = h
 some_of x (Some p) h = refl
 
-pub well_formed : (log : List Crossing) (lives : List Life) (handed : List (List Bool)) → FormedBook log lives → SafeBook log lives handed → IsWellFormed log lives handed
+well_formed : (log : List Crossing) (lives : List Life) (handed : List (List Bool)) → FormedBook log lives → SafeBook log lives handed → IsWellFormed log lives handed
 well_formed log lives handed f s = record {
   counts = as_long lives handed s.streams.sent;
   stamped = λ x c.
@@ -27,3 +31,6 @@ well_formed log lives handed f s = record {
         asked = some_of x (last_out (control_flow x.peer x.host) (before x.partner_stamp log)) (s.partners.named x c);
       });
 }
+
+pub kept_promise : {C : Type 0} (seen : C → Seen) (w : WorldState C) → KeepsPromise seen w → Says said.Kept w.kept.book.crossings w.kept.book.lives w.kept.handed
+kept_promise seen w p = (well_formed w.kept.book.crossings w.kept.book.lives w.kept.handed p.formed p.safe, p.safe)

@@ -1,2 +1,3 @@
 mod Promise
 mod Audited
+pub mod lemmas

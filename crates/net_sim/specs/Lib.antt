@@ -4,6 +4,7 @@ pub mod Safe
 pub mod Formed
 pub mod Notices
 pub mod Audit
+pub mod Findings
 pub mod Handed
 pub mod World
 pub mod Carriers

@@ -7,6 +7,7 @@ ghost use Rattle.net_sim.specs.Audit.{Says};
 ghost use Rattle.net_sim.specs.Inside.Audit as tests;
 ghost use Rattle.net_sim.specs.declared.auditing.said.Audit.{Audit as Answer};
 
+mod findings;
 mod grants;
 mod messages;
 mod partners;
@@ -18,6 +19,7 @@ mod streams;
 use crate::bit_log::BitLog;
 use crate::life::Life;
 use leader1822::Crossing;
+pub use findings::{Finding, locate};
 pub use said::{Audit, Part};
 
 /// Whether a log, its lives and what was handed over in each of them are a safe book. The log is the oldest first, as

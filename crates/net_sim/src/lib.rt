@@ -32,7 +32,7 @@ pub mod worked_reports;
 pub mod worked_resets;
 mod world;
 
-pub use auditing::{Audit, Part, audit};
+pub use auditing::{Audit, Finding, Part, audit, locate};
 pub use bit_log::BitLog;
 pub use book::{Book, Called, Told};
 pub use event::{Event, WorldFault};

@@ -88,6 +88,7 @@ keyword (event.Net (net.HostDown h)) = codes "hostdown"
 keyword (event.Net (net.HostUp h)) = codes "hostup"
 keyword (event.Net (net.GiveUp f)) = codes "giveup"
 keyword (event.Net (net.Abandon f)) = codes "abandon"
+keyword (event.Net (net.Ask f)) = codes "ask"
 keyword (event.Net (net.Resend i)) = codes "resend"
 keyword (event.Net (net.Route i)) = codes "route"
 keyword (event.Net (net.ImpDown i)) = codes "impdown"
@@ -108,6 +109,7 @@ made word =
     if bytes_eq word (codes "hostup") then (Hosts, λ x. event.Net (net.HostUp x)) else (
     if bytes_eq word (codes "giveup") then (Flows, λ x. event.Net (net.GiveUp x)) else (
     if bytes_eq word (codes "abandon") then (Flows, λ x. event.Net (net.Abandon x)) else (
+    if bytes_eq word (codes "ask") then (Flows, λ x. event.Net (net.Ask x)) else (
     if bytes_eq word (codes "resend") then (Imps, λ x. event.Net (net.Resend x)) else (
     if bytes_eq word (codes "route") then (Imps, λ x. event.Net (net.Route x)) else (
     if bytes_eq word (codes "impdown") then (Imps, λ x. event.Net (net.ImpDown x)) else (
@@ -116,7 +118,7 @@ made word =
     if bytes_eq word (codes "deliver") then (Frames, λ x. event.Net (net.Deliver x.0 x.1 x.2)) else (
     if bytes_eq word (codes "drop") then (Frames, λ x. event.Net (net.Drop x.0 x.1 x.2)) else (
     if bytes_eq word (codes "enddown") then (Ends, λ x. event.Net (net.EndDown x.0 x.1)) else (
-    (Ends, λ x. event.Net (net.EndUp x.0 x.1)))))))))))))))))
+    (Ends, λ x. event.Net (net.EndUp x.0 x.1))))))))))))))))))
 
 abbrev pub operand : (e : RawEvent) → OperandOf (made (keyword e)).0
 operand (event.Out m) = m
@@ -126,6 +128,7 @@ operand (event.Net (net.HostDown h)) = h
 operand (event.Net (net.HostUp h)) = h
 operand (event.Net (net.GiveUp f)) = f
 operand (event.Net (net.Abandon f)) = f
+operand (event.Net (net.Ask f)) = f
 operand (event.Net (net.Resend i)) = i
 operand (event.Net (net.Route i)) = i
 operand (event.Net (net.ImpDown i)) = i
@@ -144,6 +147,7 @@ made_again (event.Net (net.HostDown h)) = refl
 made_again (event.Net (net.HostUp h)) = refl
 made_again (event.Net (net.GiveUp f)) = refl
 made_again (event.Net (net.Abandon f)) = refl
+made_again (event.Net (net.Ask f)) = refl
 made_again (event.Net (net.Resend i)) = refl
 made_again (event.Net (net.Route i)) = refl
 made_again (event.Net (net.ImpDown i)) = refl
@@ -162,6 +166,7 @@ spelled (event.Net (net.HostDown h)) = refl
 spelled (event.Net (net.HostUp h)) = refl
 spelled (event.Net (net.GiveUp f)) = refl
 spelled (event.Net (net.Abandon f)) = refl
+spelled (event.Net (net.Ask f)) = refl
 spelled (event.Net (net.Resend i)) = refl
 spelled (event.Net (net.Route i)) = refl
 spelled (event.Net (net.ImpDown i)) = refl
@@ -180,6 +185,7 @@ is_meant (event.Net (net.HostDown h)) is = is
 is_meant (event.Net (net.HostUp h)) is = is
 is_meant (event.Net (net.GiveUp f)) is = is
 is_meant (event.Net (net.Abandon f)) is = is
+is_meant (event.Net (net.Ask f)) is = is
 is_meant (event.Net (net.Resend i)) is = is
 is_meant (event.Net (net.Route i)) is = is
 is_meant (event.Net (net.ImpDown i)) is = is
@@ -198,6 +204,7 @@ plain (event.Net (net.HostDown h)) = refl
 plain (event.Net (net.HostUp h)) = refl
 plain (event.Net (net.GiveUp f)) = refl
 plain (event.Net (net.Abandon f)) = refl
+plain (event.Net (net.Ask f)) = refl
 plain (event.Net (net.Resend i)) = refl
 plain (event.Net (net.Route i)) = refl
 plain (event.Net (net.ImpDown i)) = refl
@@ -230,14 +237,15 @@ no_operand key word rest is h none x meant e =
     there (operand y) (is_meant y meant) cut.back
 
 -- a line with another first word is none of these events
-pub no_host_event : (word rest : List ℕ) → Lacks 32 word → word ≢ codes "giveup" → word ≢ codes "abandon" → word ≢ codes "hostdown" → word ≢ codes "hostup"
+pub no_host_event : (word rest : List ℕ) → Lacks 32 word → word ≢ codes "giveup" → word ≢ codes "abandon" → word ≢ codes "ask" → word ≢ codes "hostdown" → word ≢ codes "hostup"
     → (x : NetEvent) → IsOfHosts x → word ++ 32 ∷ rest ≢ net_spelling x
-no_host_event word rest h giveup abandon hostdown hostup x meant e = by x meant (first_word word rest (event.Net x) h e) where
+no_host_event word rest h giveup abandon ask hostdown hostup x meant e = by x meant (first_word word rest (event.Net x) h e) where
   by : (y : NetEvent) → IsOfHosts y → word ≡ keyword (event.Net y) → ⊥
   by (net.HostDown h) meant same = hostdown same
   by (net.HostUp h) meant same = hostup same
   by (net.GiveUp f) meant same = giveup same
   by (net.Abandon f) meant same = abandon same
+  by (net.Ask f) meant same = ask same
   by (net.Resend i) meant same = absurd meant
   by (net.Route i) meant same = absurd meant
   by (net.ImpDown i) meant same = absurd meant
@@ -257,6 +265,7 @@ no_imp_event word rest h resend route impdown impup forget x meant e = by x mean
   by (net.HostUp h) meant same = absurd meant
   by (net.GiveUp f) meant same = absurd meant
   by (net.Abandon f) meant same = absurd meant
+  by (net.Ask f) meant same = absurd meant
   by (net.Resend i) meant same = resend same
   by (net.Route i) meant same = route same
   by (net.ImpDown i) meant same = impdown same
@@ -276,6 +285,7 @@ no_line_event word rest h deliver drop enddown endup x meant e = by x meant (fir
   by (net.HostUp h) meant same = absurd meant
   by (net.GiveUp f) meant same = absurd meant
   by (net.Abandon f) meant same = absurd meant
+  by (net.Ask f) meant same = absurd meant
   by (net.Resend i) meant same = absurd meant
   by (net.Route i) meant same = absurd meant
   by (net.ImpDown i) meant same = absurd meant
@@ -292,6 +302,7 @@ is_imp_event (net.HostDown h) meant = absurd meant
 is_imp_event (net.HostUp h) meant = absurd meant
 is_imp_event (net.GiveUp f) meant = absurd meant
 is_imp_event (net.Abandon f) meant = absurd meant
+is_imp_event (net.Ask f) meant = absurd meant
 is_imp_event (net.Resend i) meant = meant
 is_imp_event (net.Route i) meant = meant
 is_imp_event (net.ImpDown i) meant = meant
@@ -307,6 +318,7 @@ is_line_event (net.HostDown h) meant = absurd meant
 is_line_event (net.HostUp h) meant = absurd meant
 is_line_event (net.GiveUp f) meant = absurd meant
 is_line_event (net.Abandon f) meant = absurd meant
+is_line_event (net.Ask f) meant = absurd meant
 is_line_event (net.Resend i) meant = absurd meant
 is_line_event (net.Route i) meant = absurd meant
 is_line_event (net.ImpDown i) meant = absurd meant

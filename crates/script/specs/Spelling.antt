@@ -77,6 +77,7 @@ net_spelling (net.HostUp h) = codes "hostup " ++ host_text h
 net_spelling (net.GiveUp f) = codes "giveup " ++ flow_text f
 net_spelling (net.Forget at from) = codes "forget " ++ (decimal at ++ (codes " " ++ decimal from))
 net_spelling (net.Abandon f) = codes "abandon " ++ flow_text f
+net_spelling (net.Ask f) = codes "ask " ++ flow_text f
 
 -- an event's line
 abbrev pub spelling : RawEvent → List ℕ
@@ -108,6 +109,7 @@ IsNetEvent (net.HostUp h) = IsHost h
 IsNetEvent (net.GiveUp f) = IsFlow f
 IsNetEvent (net.Forget at from) = IsImp at × IsImp from
 IsNetEvent (net.Abandon f) = IsFlow f
+IsNetEvent (net.Ask f) = IsFlow f
 
 -- the events that a script may ask for
 abbrev pub IsEvent : RawEvent → Type 0

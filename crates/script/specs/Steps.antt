@@ -31,6 +31,7 @@ IsOfHosts (net.HostDown h) = IsHost h
 IsOfHosts (net.HostUp h) = IsHost h
 IsOfHosts (net.GiveUp f) = IsFlow f
 IsOfHosts (net.Abandon f) = IsFlow f
+IsOfHosts (net.Ask f) = IsFlow f
 IsOfHosts e = ⊥
 
 -- IMPs alone

@@ -32,6 +32,8 @@ fn read_host_event(word: &[u8], rest: &[u8]) -> Option<NetEvent>
         Some(NetEvent::GiveUp(read_three(rest)?))
     } else if word == b"abandon".as_slice() {
         Some(NetEvent::Abandon(read_three(rest)?))
+    } else if word == b"ask".as_slice() {
+        Some(NetEvent::Ask(read_three(rest)?))
     } else if word == b"hostdown".as_slice() {
         Some(NetEvent::HostDown(read_host(rest)?))
     } else if word == b"hostup".as_slice() {

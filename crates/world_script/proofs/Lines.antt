@@ -137,6 +137,7 @@ head_net (net.HostDown h) = refl
 head_net (net.HostUp h) = refl
 head_net (net.GiveUp f) = refl
 head_net (net.Abandon f) = refl
+head_net (net.Ask f) = refl
 head_net (net.Resend i) = refl
 head_net (net.Route i) = refl
 head_net (net.ImpDown i) = refl

@@ -1,9 +1,9 @@
-//! The audit of the book of a connection that has carried data, as it is and with one thing changed.
+//! The audit of the book of a connection that has carried data, as it is and with one thing changed, and where it shows.
 
 use crate::calls::{happened, host};
 use bit_messages::Bits;
 use leader1822::{Crossing, Flow, HostMessage, Link, PlainBoxes, Text};
-use net_sim::{Amount, Audit, BitLog, Life, Part, World, audit};
+use net_sim::{Amount, Audit, BitLog, Finding, Life, Part, World, audit, locate};
 use std::alloc::Global;
 use std::process::Abort;
 
@@ -30,6 +30,8 @@ struct Row {
     lists: usize,
     /// The answer.
     wanted: Audit,
+    /// Where it shows.
+    at: Option<Finding>,
 }
 
 /// As they are after `DATA`.
@@ -40,6 +42,7 @@ const AS_IT_IS: Row = Row {
     times: 1,
     lists: 2,
     wanted: Audit::Kept,
+    at: None,
 };
 
 /// The book of `DATA`, as it is and with one thing changed.
@@ -49,12 +52,14 @@ const ROWS: [Row; 6] = [
     Row {
         last: 13,
         wanted: Audit::Broken(Part::Streams),
+        at: Some(Finding::Lives(1, 0)),
         ..AS_IT_IS
     },
     // 96 bits and the four that were returned are more than was granted
     Row {
         granted: 99,
         wanted: Audit::Broken(Part::Grants),
+        at: Some(Finding::Lives(1, 0)),
         ..AS_IT_IS
     },
     // the receiving life stands there twice
@@ -62,18 +67,21 @@ const ROWS: [Row; 6] = [
         times: 2,
         lists: 3,
         wanted: Audit::Broken(Part::Partners),
+        at: Some(Finding::Lives(1, 2)),
         ..AS_IT_IS
     },
     // at place 7 a message came in
     Row {
         own: 7,
         wanted: Audit::Malformed,
+        at: Some(Finding::Life(1)),
         ..AS_IT_IS
     },
     // a life without a list
     Row {
         lists: 1,
         wanted: Audit::Malformed,
+        at: Some(Finding::Life(1)),
         ..AS_IT_IS
     },
 ];
@@ -151,11 +159,12 @@ fn lists(alloc: Global, count: usize) -> Option<Vec<BitLog>> {
     Some(lists)
 }
 
-/// Whether an audit says of a log, with the lives and lists of a row, what the row wants.
+/// Whether an audit says of a log, with the lives and lists of a row, what the row wants, and finds where it shows.
 fn fits(alloc: Global, log: &[Crossing], row: Row) -> Option<bool> {
     let lives = lives(alloc, row)?;
     let handed = lists(alloc, row.lists)?;
-    Some(audit(log, &lives, &handed) == row.wanted)
+    let said = audit(log, &lives, &handed);
+    Some(said == row.wanted && locate(said, log, &lives, &handed) == row.at)
 }
 
 /// Whether all rows fit.
@@ -188,8 +197,8 @@ fn message(alloc: Global) -> Option<HostMessage> {
     })
 }
 
-/// A message goes out and is taken so many times, and there are no lives.
-fn taken_often(alloc: Global, times: usize) -> Option<Audit> {
+/// What an audit says where a message goes out and is taken so many times, and there are no lives; and where it shows.
+fn taken_often(alloc: Global, times: usize) -> Option<(Audit, Option<Finding>)> {
     let mut log = Vec::new(alloc);
     if times > 0 {
         log.push(Crossing::Out(message(alloc)?)).ok()?;
@@ -197,7 +206,8 @@ fn taken_often(alloc: Global, times: usize) -> Option<Audit> {
     for _ in 0..times {
         log.push(Crossing::In(message(alloc)?)).ok()?;
     }
-    Some(audit(&log, &[], &[]))
+    let said = audit(&log, &[], &[]);
+    Some((said, locate(said, &log, &[], &[])))
 }
 
 #[test]
@@ -210,8 +220,8 @@ fn the_audit_of_a_worlds_own_book_is_kept(rt: HostRuntime) {
     assert_eq!(rt; own_book(rt.alloc()), Some(Audit::Kept));
 }
 
-/// What audits of logs without lives say, where a message is taken twice, once, and where nothing crosses.
-fn without_lives(alloc: Global) -> [Option<Audit>; 3] {
+/// What audits of logs without lives say, where a message is taken twice, once, and where nothing crosses; and where it shows.
+fn without_lives(alloc: Global) -> [Option<(Audit, Option<Finding>)>; 3] {
     [
         taken_often(alloc, 2),
         taken_often(alloc, 1),
@@ -222,9 +232,12 @@ fn without_lives(alloc: Global) -> [Option<Audit>; 3] {
 #[test]
 fn a_message_is_taken_at_most_once(rt: HostRuntime) {
     let wanted = [
-        Some(Audit::Broken(Part::Messages)),
-        Some(Audit::Kept),
-        Some(Audit::Kept),
+        Some((
+            Audit::Broken(Part::Messages),
+            Some(Finding::Crossing(2)),
+        )),
+        Some((Audit::Kept, None)),
+        Some((Audit::Kept, None)),
     ];
     assert_eq!(rt; without_lives(rt.alloc()), wanted);
 }

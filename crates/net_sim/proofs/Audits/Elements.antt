@@ -1,6 +1,6 @@
 -- Tests of each and of some element of a list, and two of its elements.
-use Rattle.std.proofs.Common.{◌≡◌, ℕ, zero, suc, ◌+◌, ◌<◌, ◌≤◌, Bool, true, false, ◌&&◌, ◌||◌, not, List, [], ◌∷◌, ◌++◌, length, take, get_or, refl, ap, sym, subst, ◌∙◌, arith, inl, inr, ◌⊎◌}
-use Rattle.std.specs.List.{list_all, list_any, Contains, slice_index_or}
+use Rattle.std.proofs.Common.{◌≡◌, ℕ, zero, suc, ◌+◌, ◌<◌, ◌≤◌, Bool, true, false, ◌&&◌, ◌||◌, not, List, [], ◌∷◌, ◌++◌, length, take, get_or, refl, ap, sym, subst, ◌∙◌, arith, inl, inr, ◌⊎◌, Some}
+use Rattle.std.specs.List.{list_all, list_any, Contains, slice_get, slice_index_or}
 use Rattle.std.proofs.lemmas.List.{take_all}
 use Rattle.std.proofs.lemmas.List.Folds.{list_all_more, list_any_more}
 use Rattle.leader1822.proofs.lemmas.{and_true}
@@ -47,6 +47,21 @@ false_not false h e = absurd (cc)
 pub is_false : (a : Bool) → (a ≡ true → ⊥) → a ≡ false
 is_false true f = absurd (f refl)
 is_false false f = refl
+
+pub and_false : (a b : Bool) → b ≡ false → (a && b) ≡ false
+and_false true b e = e
+and_false false b e = refl
+
+pub and_gone : (a b : Bool) → a ≡ false → (a && b) ≡ false
+and_gone true b e = absurd (cc)
+and_gone false b e = refl
+
+-- none of three
+pub none_of : (a b c : Bool) → not (a || b || c) ≡ true → (a ≡ true → ⊥) × (b ≡ true → ⊥) × (c ≡ true → ⊥)
+none_of false false false h = (false_not false refl, false_not false refl, false_not false refl)
+none_of true b c h = absurd (cc)
+none_of false true c h = absurd (cc)
+none_of false false true h = absurd (cc)
 
 -- ---- elements
 
@@ -113,3 +128,28 @@ pub any_more : {X : Type 0} (test : X → Bool) (xs : List X) (i : ℕ) (x : X) 
 any_more {X} test xs i x lt at e h =
     let f : test (get_or xs i x) ≡ false = subst (λ (z : X). test z ≡ false) at e in
     list_any_more test xs i x lt ∙ (rw (h, f) refl)
+
+pub all_take : {X : Type 0} (test : X → Bool) (n : ℕ) (xs : List X) → list_all test xs ≡ true → list_all test (take n xs) ≡ true
+all_take test zero xs h = refl
+all_take test (suc n) [] h = refl
+all_take test (suc n) (x ∷ xs) h = let t = and_true (test x) (list_all test xs) h in and_is (test x) (list_all test (take n xs)) t.0 (all_take test n xs t.1)
+
+pub all_fewer : {X : Type 0} (test : X → Bool) (m n : ℕ) (xs : List X) → m ≤ n → list_all test (take n xs) ≡ true → list_all test (take m xs) ≡ true
+all_fewer test zero n xs le h = refl
+all_fewer test (suc m) zero xs le h = absurd (omega arith)
+all_fewer test (suc m) (suc n) [] le h = refl
+all_fewer test (suc m) (suc n) (x ∷ xs) le h =
+    let t = and_true (test x) (list_all test (take n xs)) h in and_is (test x) (list_all test (take m xs)) t.0 (all_fewer test m n xs (omega arith) t.1)
+
+pub contains_take : {X : Type 0} (n : ℕ) (xs : List X) (x : X) → Contains (take n xs) x → Contains xs x
+contains_take zero xs x c = absurd (contains_none x c)
+contains_take (suc n) [] x c = absurd (contains_none x c)
+contains_take {X} (suc n) (y ∷ xs) x c = elim (contains_cases y (take n xs) x c) [
+  | inl e ↦ subst (λ (z : X). Contains (z ∷ xs) x) (sym e) (contains_head x xs)
+  | inr d ↦ contains_tail y xs x (contains_take n xs x d)
+]
+
+pub contains_got : {X : Type 0} (xs : List X) (i : ℕ) (x : X) → slice_get xs i ≡ Some x → Contains xs x
+contains_got [] i x e = absurd (cc)
+contains_got (y ∷ xs) zero x e = (0, omega arith, (let same : y ≡ x = cc in same))
+contains_got (y ∷ xs) (suc i) x e = contains_tail y xs x (contains_got xs i x e)

@@ -7,6 +7,7 @@ use Rattle.leader1822.specs.declared.crossing.Crossing.{Crossing}
 use Rattle.leader1822.proofs.lemmas.{and_true}
 use Rattle.net_sim.specs.Book.{Life}
 use Rattle.net_sim.specs.Inside.Audit.{asked_at, is_match, is_granted, may_send, has_granted, grants_hold}
+use Rattle.net_sim.specs.Findings.{HaveGranted}
 use Rattle.net_sim.specs.Safe.{SafeGrants, IsGranted, receives}
 use Rattle.net_sim.proofs.Audits.Elements.{and_is, when_true, when_is, all_at, all_from}
 use Rattle.net_sim.proofs.Audits.Streams.{match_true, match_is}
@@ -22,24 +23,24 @@ granted_is x count size g =
     (le-leb (count + x.returned.messages) x.granted.messages g.messages) (le-leb (size + x.returned.bits) x.granted.bits g.bits)
 
 -- the two parts of what a receiving life granted
-parts : (log : List Crossing) (lives : List Life) → grants_hold log lives ≡ true → (x : Life) → Contains lives x → receives x ≡ true
+parts : (log : List Crossing) (lives some : List Life) → list_all (has_granted log lives) some ≡ true → (x : Life) → Contains some x → receives x ≡ true
     → (is_granted x x.messages (length x.bits) ≡ true) × (list_all (may_send log (asked_at log x) x) lives ≡ true)
-parts log lives h x c r =
+parts log lives some h x c r =
     and_true (is_granted x x.messages (length x.bits)) (list_all (may_send log (asked_at log x) x) lives)
-    (when_true (receives x) (is_granted x x.messages (length x.bits) && list_all (may_send log (asked_at log x) x) lives) (all_at (has_granted log lives) lives h x c) r)
+    (when_true (receives x) (is_granted x x.messages (length x.bits) && list_all (may_send log (asked_at log x) x) lives) (all_at (has_granted log lives) some h x c) r)
 
-safe : (log : List Crossing) (lives : List Life) → grants_hold log lives ≡ true → SafeGrants log lives
-safe log lives h = record {
-  taken = λ x c r. granted_true x x.messages (length x.bits) (parts log lives h x c r).0;
+granted_from : (log : List Crossing) (lives some : List Life) → list_all (has_granted log lives) some ≡ true → HaveGranted log lives some
+granted_from log lives some h = record {
+  taken = λ x c r. granted_true x x.messages (length x.bits) (parts log lives some h x c r).0;
   sent = λ x y c d m.
       granted_true x y.messages (length y.bits)
       (when_true (is_match log (asked_at log x) x y) (is_granted x y.messages (length y.bits))
-      (all_at (may_send log (asked_at log x) x) lives (parts log lives h x c m.receiving).1 y d) (match_is log x y m));
+      (all_at (may_send log (asked_at log x) x) lives (parts log lives some h x c m.receiving).1 y d) (match_is log x y m));
 }
 
-holds : (log : List Crossing) (lives : List Life) → SafeGrants log lives → grants_hold log lives ≡ true
-holds log lives s =
-    all_from (has_granted log lives) lives
+granted_holds : (log : List Crossing) (lives some : List Life) → HaveGranted log lives some → list_all (has_granted log lives) some ≡ true
+granted_holds log lives some s =
+    all_from (has_granted log lives) some
     (λ x c.
     when_is (receives x) (is_granted x x.messages (length x.bits) && list_all (may_send log (asked_at log x) x) lives)
     (λ r.
@@ -50,6 +51,17 @@ holds log lives s =
     when_is (is_match log (asked_at log x) x y) (is_granted x y.messages (length y.bits))
     (λ m. granted_is x y.messages (length y.bits) (s.sent x y c d (match_true log x y m)))))))
 
+-- the test of some lives is true exactly where what the grants promise of them holds
+pub granted_decides : (log : List Crossing) (lives some : List Life)
+    → (list_all (has_granted log lives) some ≡ true → HaveGranted log lives some) × (HaveGranted log lives some → list_all (has_granted log lives) some ≡ true)
+granted_decides log lives some = (granted_from log lives some, granted_holds log lives some)
+
+pub safe_grants : (log : List Crossing) (lives : List Life) → HaveGranted log lives lives → SafeGrants log lives
+safe_grants log lives h = record { taken = h.taken; sent = h.sent }
+
 -- the test of grants is true exactly where they are safe
 pub grants_decide : (log : List Crossing) (lives : List Life) → (grants_hold log lives ≡ true → SafeGrants log lives) × (SafeGrants log lives → grants_hold log lives ≡ true)
-grants_decide log lives = (safe log lives, holds log lives)
+grants_decide log lives = (
+  λ h. safe_grants log lives (granted_from log lives lives h),
+  λ s. granted_holds log lives lives (record { taken = s.taken; sent = s.sent }),
+)

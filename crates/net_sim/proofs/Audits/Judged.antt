@@ -26,15 +26,15 @@ told : (log : List Crossing) (lives : List Life) (handed : List (List Bool)) (f 
 told log lives handed false m p s g ef em ep es eg = fails (is_well_formed log lives handed) (stamps_decide log lives handed).1 ef
 told log lives handed true false p s g ef em ep es eg = ((stamps_decide log lives handed).0 ef, tt, fails (messages_hold log) (messages_decide log).1 em)
 told log lives handed true true false s g ef em ep es eg =
-    ((stamps_decide log lives handed).0 ef, (messages_decide log).0 em, fails (partners_hold log lives) (partners_decide log lives).1 ep)
+    ((stamps_decide log lives handed).0 ef, (messages_decide log).0 em, fails (partners_hold log lives) (partners_decide log lives ((stamps_decide log lives handed).0 ef).stamped).1 ep)
 told log lives handed true true true false g ef em ep es eg =
-    (let partners = (partners_decide log lives).0 ep in
+    (let partners = (partners_decide log lives ((stamps_decide log lives handed).0 ef).stamped).0 ep in
     ((stamps_decide log lives handed).0 ef, ((messages_decide log).0 em, partners), fails (streams_hold log lives handed) (streams_decide log lives handed partners).1 es))
 told log lives handed true true true true false ef em ep es eg =
-    (let partners = (partners_decide log lives).0 ep in
+    (let partners = (partners_decide log lives ((stamps_decide log lives handed).0 ef).stamped).0 ep in
     ((stamps_decide log lives handed).0 ef, ((messages_decide log).0 em, partners, (streams_decide log lives handed partners).0 es), fails (grants_hold log lives) (grants_decide log lives).1 eg))
 told log lives handed true true true true true ef em ep es eg =
-    (let partners = (partners_decide log lives).0 ep in
+    (let partners = (partners_decide log lives ((stamps_decide log lives handed).0 ef).stamped).0 ep in
     ((stamps_decide log lives handed).0 ef, record { messages = (messages_decide log).0 em; partners = partners; streams = (streams_decide log lives handed partners).0 es; grants = (grants_decide log lives).0 eg }))
 
 -- only one answer says what is so
@@ -48,25 +48,25 @@ only log lives handed (audit.Broken part.Messages) w =
 only log lives handed (audit.Broken part.Partners) w =
     let f : is_well_formed log lives handed ≡ true = (stamps_decide log lives handed).1 w.0 in
     let m : messages_hold log ≡ true = (messages_decide log).1 w.1 in
-    let p : partners_hold log lives ≡ false = is_false (partners_hold log lives) (λ t. w.2 ((partners_decide log lives).0 t)) in
+    let p : partners_hold log lives ≡ false = is_false (partners_hold log lives) (λ t. w.2 ((partners_decide log lives w.0.stamped).0 t)) in
     rw (f, m, p) refl
 only log lives handed (audit.Broken part.Streams) w =
     let f : is_well_formed log lives handed ≡ true = (stamps_decide log lives handed).1 w.0 in
     let m : messages_hold log ≡ true = (messages_decide log).1 w.1.0 in
-    let p : partners_hold log lives ≡ true = (partners_decide log lives).1 w.1.1 in
+    let p : partners_hold log lives ≡ true = (partners_decide log lives w.0.stamped).1 w.1.1 in
     let s : streams_hold log lives handed ≡ false = is_false (streams_hold log lives handed) (λ t. w.2 ((streams_decide log lives handed w.1.1).0 t)) in
     rw (f, m, p, s) refl
 only log lives handed (audit.Broken part.Grants) w =
     let f : is_well_formed log lives handed ≡ true = (stamps_decide log lives handed).1 w.0 in
     let m : messages_hold log ≡ true = (messages_decide log).1 w.1.0 in
-    let p : partners_hold log lives ≡ true = (partners_decide log lives).1 w.1.1 in
+    let p : partners_hold log lives ≡ true = (partners_decide log lives w.0.stamped).1 w.1.1 in
     let s : streams_hold log lives handed ≡ true = (streams_decide log lives handed w.1.1).1 w.1.2 in
     let g : grants_hold log lives ≡ false = is_false (grants_hold log lives) (λ t. w.2 ((grants_decide log lives).0 t)) in
     rw (f, m, p, s, g) refl
 only log lives handed audit.Kept w =
     let f : is_well_formed log lives handed ≡ true = (stamps_decide log lives handed).1 w.0 in
     let m : messages_hold log ≡ true = (messages_decide log).1 w.1.messages in
-    let p : partners_hold log lives ≡ true = (partners_decide log lives).1 w.1.partners in
+    let p : partners_hold log lives ≡ true = (partners_decide log lives w.0.stamped).1 w.1.partners in
     let s : streams_hold log lives handed ≡ true = (streams_decide log lives handed w.1.partners).1 w.1.streams in
     let g : grants_hold log lives ≡ true = (grants_decide log lives).1 w.1.grants in
     rw (f, m, p, s, g) refl

@@ -1,5 +1,5 @@
 -- The test of messages is true exactly where they are safe.
-use Rattle.std.proofs.Common.{◌≡◌, ℕ, ◌+◌, ◌<◌, Bool, true, false, List, [], ◌∷◌, ◌++◌, length, take, drop, get_or, reverse, refl, ap, sym, subst, ◌∙◌, if◌then◌else◌, inl, inr, ◌⊎◌}
+use Rattle.std.proofs.Common.{◌≡◌, ℕ, ◌+◌, ◌<◌, Bool, true, false, List, [], ◌∷◌, ◌++◌, length, take, drop, get_or, reverse, refl, ap, sym, subst, ◌∙◌, if◌then◌else◌, inl, inr, ◌⊎◌, ◌-◌, Option, Some, arith}
 use Rattle.leader1822.specs.Mailboxes.{same_flow}
 use Rattle.leader1822.specs.Messages.{SafeMessages, SinceLastOut, TakenOnce, taken_in, went_out}
 use Rattle.leader1822.specs.declared.address.Flow.{Flow}
@@ -9,9 +9,14 @@ use Rattle.leader1822.specs.declared.crossing.Crossing.{Crossing}
 use Rattle.leader1822.specs.declared.crossing.Crossing.TheVariants as crossing
 use Rattle.leader1822.specs.declared.message.HostMessage.{HostMessage}
 use Rattle.leader1822.proofs.lemmas.{and_true, or_false, same_flow-true, same_flow-refl}
-use Rattle.net_sim.specs.Inside.Audit.{is_fresh, was_taken, answer_holds, crossing_holds, messages_hold}
-use Rattle.std.proofs.lemmas.List.{take-append-drop, reverse-append}
+use Rattle.net_sim.specs.Inside.Audit.{is_fresh, was_taken, answer_holds, crossing_holds, messages_hold, Found}
+use Rattle.net_sim.specs.Safe.{before}
+use Rattle.std.specs.Prelude.{is_none}
+use Rattle.std.proofs.lemmas.Bool.{cases_lt}
+use Rattle.std.proofs.lemmas.List.{take-append-drop, take_all, reverse-append, length-reverse}
 use Rattle.net_sim.proofs.Audits.Elements.{and_is, is_false, false_not}
+use Rattle.net_sim.proofs.Audits.Requests.{before_inside}
+use Rattle.net_sim.proofs.Audits.Searches.{none_found}
 use Rattle.net_sim.proofs.Audits.Steps.{same_bits-true, same_bits-is, reverse_more}
 
 pub same_yes : (f g : Flow) → g ≡ f → same_flow f g ≡ true
@@ -261,6 +266,7 @@ needs_answer : (k : Answer) (f : Flow) (log : List Crossing) → SafeMessages (c
 needs_answer answer.Rfnm f log s = needs_rfnm f log (s.answered [] log f refl)
 needs_answer answer.Incomplete f log s = refl
 needs_answer answer.Dead f log s = refl
+needs_answer answer.NotTaken f log s = refl
 
 needs : (c : Crossing) (log : List Crossing) → SafeMessages (c ∷ log) → crossing_holds c log ≡ true
 needs (crossing.Out m) log s = refl
@@ -277,16 +283,43 @@ holds (c ∷ log) s = and_is (crossing_holds c log) (messages_hold log) (needs c
 pub messages_decide : (log : List Crossing) → (messages_hold log ≡ true → SafeMessages log) × (SafeMessages log → messages_hold log ≡ true)
 messages_decide log = (safe log, holds log)
 
--- ---- the loop over the log
+-- ---- the search through the log
 
 -- a crossing that doesn't find what it has to
-pub crossing_stops : (log : List Crossing) (i : ℕ) (x : Crossing) → i < length log → x ≡ get_or log i x → crossing_holds x (reverse (take i log)) ≡ false → false ≡ messages_hold (reverse log)
-crossing_stops log i x l at h =
-    let more : reverse (take (i + 1) log) ≡ x ∷ reverse (take i log) = reverse_more log i x l ∙ ap (λ (z : Crossing). z ∷ reverse (take i log)) (sym at) in
-    let all : reverse log ≡ reverse (drop (i + 1) log) ++ reverse (take (i + 1) log) = ap (λ (xs : List Crossing). reverse xs) (sym (take-append-drop (i + 1) log)) ∙ reverse-append (take (i + 1) log) (drop (i + 1) log) in
-    let P : List Crossing → Type 0 = λ z. messages_hold z ≡ true in
-    sym (is_false (messages_hold (reverse log))
+pub crossing_stops : (log : List Crossing) (i : ℕ) (x : Crossing) → i < length log → x ≡ get_or log i x → crossing_holds x (reverse (take i log)) ≡ false → messages_hold (reverse (take i log)) ≡ true
+    → Found (λ n. messages_hold (reverse (take n log))) (length log) (Some i)
+crossing_stops log i x lt at e h =
+    let more : reverse (take (i + 1) log) ≡ x ∷ reverse (take i log) = reverse_more log i x lt ∙ ap (λ (z : Crossing). z ∷ reverse (take i log)) (sym at) in
+    (lt, h,
+    is_false (messages_hold (reverse (take (i + 1) log)))
     (λ t.
-    (let low : messages_hold (reverse (take (i + 1) log)) ≡ true = holds_below (reverse (drop (i + 1) log)) (reverse (take (i + 1) log)) (subst P all t) in
-    let here : messages_hold (x ∷ reverse (take i log)) ≡ true = subst P more low in
-    false_not (crossing_holds x (reverse (take i log))) h (and_true (crossing_holds x (reverse (take i log))) (messages_hold (reverse (take i log))) here).0)))
+    (let here : messages_hold (x ∷ reverse (take i log)) ≡ true = subst (λ (z : List Crossing). messages_hold z ≡ true) more t in
+    false_not (crossing_holds x (reverse (take i log))) e (and_true (crossing_holds x (reverse (take i log))) (messages_hold (reverse (take i log))) here).0)))
+
+messages_take : (log : List Crossing) (n : ℕ) → messages_hold (reverse log) ≡ true → messages_hold (reverse (take n log)) ≡ true
+messages_take log n h =
+    let all : reverse log ≡ reverse (drop n log) ++ reverse (take n log) = ap (λ (xs : List Crossing). reverse xs) (sym (take-append-drop n log)) ∙ reverse-append (take n log) (drop n log) in
+    holds_below (reverse (drop n log)) (reverse (take n log)) (subst (λ (z : List Crossing). messages_hold z ≡ true) all h)
+
+-- nothing is found exactly where the test is true
+pub none_broken : (log : List Crossing) (r : Option ℕ) → Found (λ n. messages_hold (reverse (take n log))) (length log) r → is_none r ≡ messages_hold (reverse log)
+none_broken log r h =
+    none_found (λ n. messages_hold (reverse (take n log))) (length log) r (messages_hold (reverse log)) h
+    (ap (λ (xs : List Crossing). messages_hold (reverse xs)) (take_all (length log) log (omega arith)))
+    (λ n t. messages_take log n t)
+
+-- the first crossings, as their log is read
+before_all : (log : List Crossing) (n : ℕ) → before n (reverse log) ≡ reverse (take n log)
+before_all log n = elim (cases_lt n (length log)) [
+  | inl l ↦ before_inside log n (omega (arith, l))
+  | inr l ↦
+      (let none : length (reverse log) - n ≡ 0 = omega (arith, l, length-reverse log) in
+      ap (λ (m : ℕ). drop m (reverse log)) none ∙ ap (λ (xs : List Crossing). reverse xs) (sym (take_all n log l)))
+]
+
+pub messages_at : (log : List Crossing) (n : ℕ)
+    → (messages_hold (reverse (take n log)) ≡ true → SafeMessages (before n (reverse log))) × (SafeMessages (before n (reverse log)) → messages_hold (reverse (take n log)) ≡ true)
+messages_at log n = (
+  λ h. subst SafeMessages (sym (before_all log n)) ((messages_decide (reverse (take n log))).0 h),
+  λ s. (messages_decide (reverse (take n log))).1 (subst SafeMessages (before_all log n) s),
+)

@@ -65,7 +65,7 @@ last_went f p (crossing.Answer k g ∷ log) h = went_more f p (crossing.Answer k
 last_went f p (crossing.Down g ∷ log) h = went_more f p (crossing.Down g) log (last_went f p log h)
 last_went f p (crossing.Up g ∷ log) h = went_more f p (crossing.Up g) log (last_went f p log h)
 
-asked_went : (log : List Crossing) (x : Life) (p : ℕ) → asked_at log x ≡ Some p → WentAt (control_flow x.peer x.host) p log
+pub asked_went : (log : List Crossing) (x : Life) (p : ℕ) → asked_at log x ≡ Some p → WentAt (control_flow x.peer x.host) p log
 asked_went log x p h =
     let w : WentAt (control_flow x.peer x.host) p (before x.partner_stamp log) = last_went (control_flow x.peer x.host) p (before x.partner_stamp log) h in
     (w.0, w.1, crossed_drop (length log - x.partner_stamp) p (crossing.Out w.0) log w.2)
@@ -82,7 +82,7 @@ same_hosts log x y p h k =
 
 -- ---- names of requests
 
-same_host-is : (g h : Host) → g ≡ h → same_host g h ≡ true
+pub same_host-is : (g h : Host) → g ≡ h → same_host g h ≡ true
 same_host-is g h e = let P : Host → Type 0 = λ x. same_host g x ≡ true in subst P e (same_host-refl g)
 
 pub named_some : (x : Life) (a : Option ℕ) (name : Name) → named x a ≡ Some name → (a ≡ Some name.place) × (x.foreign ≡ name.own) × (x.socket ≡ name.foreign)
@@ -97,11 +97,11 @@ named_is x a name h o f =
     let at : ℕ → ℕ → ℕ → Option Name = λ p s t. Some (record { place = p; own = s; foreign = t }) in
     ap (λ (z : Option ℕ). named x z) h ∙ ap (λ (s : ℕ). at name.place s x.socket) o ∙ ap (λ (t : ℕ). at name.place name.own t) f
 
-place_true : (p : ℕ) (a : Option ℕ) → is_place p a ≡ true → a ≡ Some p
+pub place_true : (p : ℕ) (a : Option ℕ) → is_place p a ≡ true → a ≡ Some p
 place_true p None h = absurd (cc)
 place_true p (Some q) h = ap (λ (n : ℕ). Some n) (sym (eqb-true p q h))
 
-place_is : (p : ℕ) (a : Option ℕ) → a ≡ Some p → is_place p a ≡ true
+pub place_is : (p : ℕ) (a : Option ℕ) → a ≡ Some p → is_place p a ≡ true
 place_is p a e = let P : Option ℕ → Type 0 = λ z. is_place p z ≡ true in subst P (sym e) (eq-eqb p p refl)
 
 -- the sockets of the two
@@ -157,7 +157,7 @@ ends_is x y s f h p =
     (and_is (x.socket == y.socket) (x.foreign == y.foreign) (eq-eqb x.socket y.socket s) (eq-eqb x.foreign y.foreign f)) (same_host-is x.host y.host h))
     (same_host-is x.peer y.peer p)
 
-pub asked_is : (log : List Crossing) (x y : Life) (name : Name) → partner_request log x ≡ Some name → partner_request log y ≡ Some name → same_asked log (asked_at log x) x y ≡ true
+pub asked_is : (log : List Crossing) (x y : Life) (name : Name) → partner_request log x ≡ Some name → partner_request log y ≡ Some name → same_asked log (asked_at log y) x y ≡ true
 asked_is log x y name h k =
     let t = named_some x (asked_at log x) name h in
     let u = named_some y (asked_at log y) name k in
@@ -165,7 +165,7 @@ asked_is log x y name h k =
     and_is (same_ends x y) (same_place (asked_at log x) (asked_at log y))
     (ends_is x y (t.2 ∙ sym u.2) (t.1 ∙ sym u.1) hosts.0 hosts.1) (places_is (asked_at log x) (asked_at log y) name.place t.0 u.0)
 
-pub asked_true : (log : List Crossing) (x y : Life) → same_asked log (asked_at log x) x y ≡ true
+pub asked_true : (log : List Crossing) (x y : Life) → same_asked log (asked_at log y) x y ≡ true
     → (name : Name) × (partner_request log x ≡ Some name) × (partner_request log y ≡ Some name)
 asked_true log x y h =
     let t = and_true (same_ends x y) (same_place (asked_at log x) (asked_at log y)) h in
@@ -176,14 +176,10 @@ asked_true log x y h =
     let name : Name = record { place = p.0; own = x.foreign; foreign = x.socket } in
     (name, named_is x (asked_at log x) name p.1 refl refl, named_is y (asked_at log y) name p.2 (sym (eqb-true x.foreign y.foreign w.1)) (sym (eqb-true x.socket y.socket w.0)))
 
--- whether a life has a partner's request
-pub there_is : (x : Life) (a : Option ℕ) → IsSome (named x a) → is_there a ≡ true
-there_is x None h = absurd (cc)
-there_is x (Some p) h = refl
-
-pub there_some : (x : Life) (a : Option ℕ) → is_there a ≡ true → IsSome (named x a)
-there_some x None h = absurd (cc)
-there_some x (Some p) h = refl
+-- a life whose partner's message went out has a partner's request
+pub some_named : (x : Life) (a : Option ℕ) → IsSome a → IsSome (named x a)
+some_named x None h = absurd (cc)
+some_named x (Some p) h = refl
 
 -- whether they are each other's partners
 pub partner_true : (log : List Crossing) (x y : Life) → is_partner log x y ≡ true → (x.peer ≡ y.host) × (y.peer ≡ x.host) × (partner_request log y ≡ Some (own_request x))

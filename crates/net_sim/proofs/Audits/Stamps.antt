@@ -10,6 +10,7 @@ use Rattle.leader1822.specs.declared.crossing.Crossing.TheVariants as crossing
 use Rattle.leader1822.proofs.lemmas.{and_true, same_flow-true}
 use Rattle.net_sim.specs.Audit.{Passes, IsStamped, IsWellFormed}
 use Rattle.net_sim.specs.Book.{Life}
+use Rattle.net_sim.specs.Findings.{AreStamped}
 use Rattle.net_sim.specs.Formed.{CrossedAt, going, coming}
 use Rattle.net_sim.specs.Inside.Audit.{asked_at, is_there, crossed_at, is_out, is_in, is_stamped, is_well_formed}
 use Rattle.net_sim.specs.Safe.{control_flow}
@@ -131,6 +132,13 @@ holds : (log : List Crossing) (lives : List Life) (handed : List (List Bool)) �
 holds log lives handed w =
     and_is (length lives == length handed) (list_all (is_stamped log) lives) (eq-eqb (length lives) (length handed) w.counts)
     (all_from (is_stamped log) lives (λ x c. stamped_is log x (w.stamped x c)))
+
+-- the test of some lives is true exactly where their stamps name messages
+pub stamped_decides : (log : List Crossing) (lives : List Life) → (list_all (is_stamped log) lives ≡ true → AreStamped log lives) × (AreStamped log lives → list_all (is_stamped log) lives ≡ true)
+stamped_decides log lives = (
+  λ h x c. stamped_true log x (all_at (is_stamped log) lives h x c),
+  λ s. all_from (is_stamped log) lives (λ x c. stamped_is log x (s x c)),
+)
 
 -- the test of stamps is true exactly where a book is well-formed
 pub stamps_decide : (log : List Crossing) (lives : List Life) (handed : List (List Bool))

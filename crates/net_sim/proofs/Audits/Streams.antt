@@ -1,13 +1,18 @@
 -- The test of streams is true exactly where they are safe, in a log with safe partners.
-use Rattle.std.proofs.Common.{◌≡◌, ℕ, zero, suc, add-one, ◌+◌, ◌<◌, ◌≤◌, Bool, true, false, ◌&&◌, ◌||◌, ◌==◌, not, List, [], ◌∷◌, ◌++◌, length, drop, refl, ap, sym, subst, ◌∙◌, arith, inl, inr, Option, Some, None, eq-eqb}
+use Rattle.std.proofs.Common.{◌≡◌, ℕ, zero, suc, add-one, ◌+◌, ◌<◌, ◌≤◌, Bool, true, false, ◌&&◌, ◌||◌, ◌==◌, not, List, [], ◌∷◌, ◌++◌, length, take, drop, get_or, refl, ap, ap₂, sym, subst, ◌∙◌, arith, inl, inr, Option, Some, None, eq-eqb}
 use Rattle.std.specs.List.{list_all, list_any, slice_get}
+use Rattle.std.specs.Prelude.{is_none}
+use Rattle.std.proofs.lemmas.List.{take_all}
+use Rattle.std.proofs.lemmas.List.Folds.{list_all_more}
+use Rattle.net_sim.specs.Findings.{AreFed, AreUnmatched}
 use Rattle.std.proofs.lemmas.Bool.{eqb-true, cases_lt}
 use Rattle.leader1822.specs.declared.crossing.Crossing.{Crossing}
 use Rattle.leader1822.proofs.lemmas.{and_true}
 use Rattle.net_sim.specs.Book.{Life}
-use Rattle.net_sim.specs.Inside.Audit.{asked_at, is_asked, is_partner, is_match, same_bit, same_found, is_front, is_source, is_fed, is_handed, are_handed, streams_hold}
+use Rattle.net_sim.specs.Inside.Audit.{asked_at, is_asked, is_partner, is_match, same_bit, same_found, is_front, is_source, is_fed, is_handed, handed_at, are_handed, is_unmatched, some_fed, streams_hold, Found}
 use Rattle.net_sim.specs.Safe.{Name, SafePartners, SafeStreams, Match, Source, IsFront, AreHanded, own_request, partner_request, receives, sends}
-use Rattle.net_sim.proofs.Audits.Elements.{and_is, or_cases, or_right, when_true, when_is, all_at, all_from, any_at, any_from, is_false}
+use Rattle.net_sim.proofs.Audits.Elements.{and_false, and_is, or_cases, or_right, when_true, when_is, not_is, not_true, all_at, all_from, all_take, any_at, any_from, is_false}
+use Rattle.net_sim.proofs.Audits.Searches.{none_found}
 use Rattle.net_sim.proofs.Audits.Requests.{asks, asks_is, asked_sockets, partner_true, partner_is}
 use Rattle.net_sim.proofs.Audits.Steps.{same_bit-true, same_bit-refl}
 
@@ -152,22 +157,109 @@ fed_is log lives x f true p false q =
 one_name : (a : Option Name) (m n : Name) → a ≡ Some m → a ≡ Some n → m ≡ n
 one_name a m n e f = let z : Some m ≡ Some n = sym e ∙ f in cc
 
-safe : (log : List Crossing) (lives : List Life) (handed : List (List Bool)) → SafePartners log lives → streams_hold log lives handed ≡ true → SafeStreams log lives handed
-safe log lives handed p h =
-    let t = and_true (list_all (is_fed log lives) lives) (are_handed lives handed) h in
-    record {
-      one = λ receiver x y c two m n. p.own_once x y two (one_name (partner_request log receiver) (own_request x) (own_request y) m.asked n.asked);
-      source = λ receiver c r n. fed_true log lives receiver (all_at (is_fed log lives) lives t.0 receiver c) r n;
-      sent = handed_true lives handed t.1;
-    }
+fed_from : (log : List Crossing) (lives some : List Life) (handed : List (List Bool)) → (list_all (is_fed log lives) some && are_handed some handed) ≡ true → AreFed log lives some handed
+fed_from log lives some handed h =
+    let t = and_true (list_all (is_fed log lives) some) (are_handed some handed) h in
+    record { source = λ receiver c r n. fed_true log lives receiver (all_at (is_fed log lives) some t.0 receiver c) r n; sent = handed_true some handed t.1 }
 
-holds : (log : List Crossing) (lives : List Life) (handed : List (List Bool)) → SafeStreams log lives handed → streams_hold log lives handed ≡ true
-holds log lives handed s =
-    and_is (list_all (is_fed log lives) lives) (are_handed lives handed)
-    (all_from (is_fed log lives) lives (λ x c. fed_is log lives x (s.source x c) (receives x) refl (length x.bits == 0) refl))
-    (handed_is lives handed s.sent)
+fed_holds : (log : List Crossing) (lives some : List Life) (handed : List (List Bool)) → AreFed log lives some handed → (list_all (is_fed log lives) some && are_handed some handed) ≡ true
+fed_holds log lives some handed s =
+    and_is (list_all (is_fed log lives) some) (are_handed some handed)
+    (all_from (is_fed log lives) some (λ x c. fed_is log lives x (s.source x c) (receives x) refl (length x.bits == 0) refl))
+    (handed_is some handed s.sent)
+
+-- the test of some lives is true exactly where what the streams promise of them holds
+pub fed_decides : (log : List Crossing) (lives some : List Life) (handed : List (List Bool))
+    → ((list_all (is_fed log lives) some && are_handed some handed) ≡ true → AreFed log lives some handed) × (AreFed log lives some handed → (list_all (is_fed log lives) some && are_handed some handed) ≡ true)
+fed_decides log lives some handed = (fed_from log lives some handed, fed_holds log lives some handed)
+
+-- a receiving life has one sender where no two lives have one own request
+pub safe_streams : (log : List Crossing) (lives : List Life) (handed : List (List Bool)) → SafePartners log lives → AreFed log lives lives handed → SafeStreams log lives handed
+safe_streams log lives handed p fed = record {
+  one = λ receiver x y c two m n. p.own_once x y two (one_name (partner_request log receiver) (own_request x) (own_request y) m.asked n.asked);
+  source = fed.source;
+  sent = fed.sent;
+}
 
 -- the test of streams is true exactly where they are safe
 pub streams_decide : (log : List Crossing) (lives : List Life) (handed : List (List Bool)) → SafePartners log lives
     → (streams_hold log lives handed ≡ true → SafeStreams log lives handed) × (SafeStreams log lives handed → streams_hold log lives handed ≡ true)
-streams_decide log lives handed p = (safe log lives handed p, holds log lives handed)
+streams_decide log lives handed p = (
+  λ h. safe_streams log lives handed p (fed_from log lives lives handed h),
+  λ s. fed_holds log lives lives handed (record { source = s.source; sent = s.sent }),
+)
+
+-- ---- the search
+
+handed_take : (n : ℕ) (lives : List Life) (handed : List (List Bool)) → are_handed lives handed ≡ true → are_handed (take n lives) (take n handed) ≡ true
+handed_take zero lives handed h = refl
+handed_take (suc n) [] [] h = refl
+handed_take (suc n) [] (b ∷ handed) h = absurd (cc)
+handed_take (suc n) (x ∷ lives) [] h = absurd (cc)
+handed_take (suc n) (x ∷ lives) (b ∷ handed) h =
+    let t = and_true (is_handed x b) (are_handed lives handed) h in and_is (is_handed x b) (are_handed (take n lives) (take n handed)) t.0 (handed_take n lives handed t.1)
+
+and_right : (a : Bool) → (a && true) ≡ a
+and_right true = refl
+and_right false = refl
+
+and_none : (a : Bool) → (a && false) ≡ false
+and_none true = refl
+and_none false = refl
+
+and_both : (a b c : Bool) → (a && (b && c)) ≡ (a && b && c)
+and_both true b c = refl
+and_both false b c = refl
+
+handed_next : (lives : List Life) (handed : List (List Bool)) (i : ℕ) (x : Life) → i < length lives → x ≡ get_or lives i x
+    → are_handed (take (suc i) lives) (take (suc i) handed) ≡ (are_handed (take i lives) (take i handed) && handed_at x (slice_get handed i))
+handed_next [] handed i x lt e = absurd (omega arith)
+handed_next (y ∷ lives) [] i x lt e = sym (and_none (are_handed (take i (y ∷ lives)) (take i [])))
+handed_next (y ∷ lives) (b ∷ handed) zero x lt e = and_right (is_handed y b) ∙ ap (λ (z : Life). is_handed z b) (sym e)
+handed_next (y ∷ lives) (b ∷ handed) (suc i) x lt e =
+    ap (λ (r : Bool). is_handed y b && r) (handed_next lives handed i x (omega arith) e)
+    ∙ and_both (is_handed y b) (are_handed (take i lives) (take i handed)) (handed_at x (slice_get handed i))
+
+fed_next : (log : List Crossing) (lives : List Life) (handed : List (List Bool)) (i : ℕ) (x : Life) → i < length lives → x ≡ get_or lives i x → some_fed log lives handed i ≡ true
+    → some_fed log lives handed (i + 1) ≡ (is_fed log lives x && handed_at x (slice_get handed i))
+fed_next log lives handed i x lt e h =
+    let t = and_true (list_all (is_fed log lives) (take i lives)) (are_handed (take i lives) (take i handed)) h in
+    let fed : list_all (is_fed log lives) (take (i + 1) lives) ≡ is_fed log lives x =
+    list_all_more (is_fed log lives) lives i x lt ∙ ap (λ (b : Bool). b && is_fed log lives (get_or lives i x)) t.0 ∙ ap (λ (z : Life). is_fed log lives z) (sym e) in
+    let more : are_handed (take (i + 1) lives) (take (i + 1) handed) ≡ handed_at x (slice_get handed i) =
+    rw (add-one) (handed_next lives handed i x lt e ∙ ap (λ (b : Bool). b && handed_at x (slice_get handed i)) t.1) in
+    ap₂ (λ (a b : Bool). a && b) fed more
+
+pub fed_more : (log : List Crossing) (lives : List Life) (handed : List (List Bool)) (i : ℕ) (x : Life) (a b : Bool) → i < length lives → x ≡ get_or lives i x → a ≡ is_fed log lives x
+    → b ≡ handed_at x (slice_get handed i) → a ≡ true → b ≡ true → some_fed log lives handed i ≡ true → some_fed log lives handed (i + 1) ≡ true
+fed_more log lives handed i x a b lt e p q s t h = fed_next log lives handed i x lt e h ∙ and_is (is_fed log lives x) (handed_at x (slice_get handed i)) (sym p ∙ s) (sym q ∙ t)
+
+pub fed_stops : (log : List Crossing) (lives : List Life) (handed : List (List Bool)) (i : ℕ) (x : Life) → i < length lives → x ≡ get_or lives i x
+    → (is_fed log lives x && handed_at x (slice_get handed i)) ≡ false → some_fed log lives handed i ≡ true → Found (some_fed log lives handed) (length lives) (Some i)
+fed_stops log lives handed i x lt e s h = (lt, h, fed_next log lives handed i x lt e h ∙ s)
+
+-- in a book with a list for each life nothing is found exactly where the test is true
+pub none_unfed : (log : List Crossing) (lives : List Life) (handed : List (List Bool)) (r : Option ℕ) → length lives ≡ length handed → Found (some_fed log lives handed) (length lives) r
+    → is_none r ≡ streams_hold log lives handed
+none_unfed log lives handed r e h =
+    none_found (some_fed log lives handed) (length lives) r (streams_hold log lives handed) h
+    (ap₂ (λ (xs : List Life) (hs : List (List Bool)). list_all (is_fed log lives) xs && are_handed xs hs) (take_all (length lives) lives (omega arith)) (take_all (length lives) handed (omega (arith, e))))
+    (λ n t.
+    (let u = and_true (list_all (is_fed log lives) lives) (are_handed lives handed) t in
+    and_is (list_all (is_fed log lives) (take n lives)) (are_handed (take n lives) (take n handed)) (all_take (is_fed log lives) n lives u.0) (handed_take n lives handed u.1)))
+
+pub none_apart : (log : List Crossing) (lives : List Life) (handed : List (List Bool)) → (length lives ≡ length handed → ⊥) → (length lives == length handed) ≡ streams_hold log lives handed
+none_apart log lives handed apart =
+    is_false (length lives == length handed) (λ t. apart (eqb-true (length lives) (length handed) t)) ∙ sym (and_false (list_all (is_fed log lives) lives) (are_handed lives handed) (sym (handed_apart lives handed (length lives) (length handed) refl refl apart)))
+
+-- ---- the life that one matches
+
+match_none : (log : List Crossing) (x y : Life) → is_unmatched log x y ≡ true → Match log x y → ⊥
+match_none log x y h m = not_true (is_match log (asked_at log x) x y) h (match_is log x y m)
+
+pub matched_at : (log : List Crossing) (lives : List Life) (x : Life) (n : ℕ)
+    → (list_all (is_unmatched log x) (take n lives) ≡ true → AreUnmatched log (take n lives) x) × (AreUnmatched log (take n lives) x → list_all (is_unmatched log x) (take n lives) ≡ true)
+matched_at log lives x n = (
+  λ h y c. match_none log x y (all_at (is_unmatched log x) (take n lives) h y c),
+  λ u. all_from (is_unmatched log x) (take n lives) (λ y c. not_is (is_match log (asked_at log x) x y) (λ e. u y c (match_true log x y e))),
+)

@@ -1,6 +1,6 @@
 -- The tests by which an audit decides: each is true exactly where that holds of which it is.
-use Rattle.std.specs.Prelude.{ℕ, ◌+◌, ◌==◌, ◌&&◌, ◌||◌, nat_le, Bool, true, false, not, if◌then◌else◌, List, [], ◌∷◌, Option, Some, None, length}
-use Rattle.std.specs.List.{list_all, list_any}
+use Rattle.std.specs.Prelude.{◌≡◌, ℕ, ◌+◌, ◌<◌, ◌==◌, ◌&&◌, ◌||◌, nat_le, Bool, true, false, not, if◌then◌else◌, List, [], ◌∷◌, Option, Some, None, length, take}
+use Rattle.std.specs.List.{list_all, list_any, slice_get}
 use Rattle.leader1822.specs.Host.{same_host}
 use Rattle.leader1822.specs.Mailboxes.{same_flow}
 use Rattle.leader1822.specs.declared.address.Flow.{Flow}
@@ -14,6 +14,13 @@ use Rattle.net_sim.specs.Safe.{control_flow, last_out, before, receives, sends}
 use Rattle.net_sim.specs.declared.auditing.said.Audit.{Audit}
 use Rattle.net_sim.specs.declared.auditing.said.Audit.TheVariants as audit
 use Rattle.net_sim.specs.declared.auditing.said.Part.TheVariants as part
+
+-- ---- searches
+
+-- what a search finds that looks at so many entries: how many hold together, where one more doesn't; nothing where all hold
+abbrev pub Found : (ℕ → Bool) → ℕ → Option ℕ → Type 0
+Found hold count None = hold count ≡ true
+Found hold count (Some place) = (place < count) × (hold place ≡ true) × (hold (place + 1) ≡ false)
 
 -- ---- messages
 
@@ -49,6 +56,7 @@ abbrev pub answer_holds : Answer → Flow → List Crossing → Bool
 answer_holds answer.Rfnm f log = was_taken f log
 answer_holds answer.Incomplete f log = true
 answer_holds answer.Dead f log = true
+answer_holds answer.NotTaken f log = true
 
 -- whether a crossing finds what it has to, in the log below it
 abbrev pub crossing_holds : Crossing → List Crossing → Bool
@@ -94,37 +102,53 @@ same_own x y = x.own_stamp == y.own_stamp && x.socket == y.socket && x.foreign =
 abbrev pub same_ends : Life → Life → Bool
 same_ends x y = x.socket == y.socket && x.foreign == y.foreign && same_host x.host y.host && same_host x.peer y.peer
 
--- whether two lives have the same partner's request, where that of the first went out at this place
+-- whether two lives have the same partner's request, where that of the second went out at this place
 abbrev pub same_asked : List Crossing → Option ℕ → Life → Life → Bool
-same_asked log asked x y = same_ends x y && same_place asked (asked_at log y)
+same_asked log asked x y = same_ends x y && same_place (asked_at log x) asked
 
--- whether two lives have neither request in common
-abbrev pub is_apart : List Crossing → Option ℕ → Life → Life → Bool
-is_apart log asked x y = not (same_own x y) && not (same_asked log asked x y)
+-- whether each of two lives has the other's host and socket for its peer
+abbrev pub are_mates : Life → Life → Bool
+are_mates x y = x.foreign == y.socket && x.socket == y.foreign && same_host x.peer y.host && same_host y.peer x.host
 
-abbrev pub are_apart : List Crossing → List Life → Bool
-are_apart log [] = true
-are_apart log (x ∷ lives) = list_all (is_apart log (asked_at log x) x) lives && are_apart log lives
+abbrev pub differ : Bool → Bool → Bool
+differ true b = not b
+differ false b = b
+
+-- whether only one of two lives has the other's own request for its partner's
+abbrev pub is_one_way : List Crossing → Option ℕ → Life → Life → Bool
+is_one_way log asked x y = are_mates x y && differ (is_place y.own_stamp (asked_at log x)) (is_place x.own_stamp asked)
+
+-- whether two lives can't both stand in one book, where the request of the second one's partner went out at this place
+abbrev pub are_at_odds : List Crossing → Option ℕ → Life → Life → Bool
+are_at_odds log asked x y = same_own x y || same_asked log asked x y || is_one_way log asked x y
+
+abbrev pub may_both : List Crossing → Life → Life → Bool
+may_both log x y = not (are_at_odds log (asked_at log y) x y)
+
+-- whether no two lives are at odds
+abbrev pub partners_hold : List Crossing → List Life → Bool
+partners_hold log [] = true
+partners_hold log (x ∷ lives) = list_all (may_both log x) lives && partners_hold log lives
+
+-- the first two lives that are at odds
+abbrev pub FoundTwo : List Crossing → List Life → Option (ℕ × ℕ) → Type 0
+FoundTwo log lives None = partners_hold log lives ≡ true
+FoundTwo log lives (Some at) =
+    Found (λ n. partners_hold log (take n lives)) (length lives) (Some at.1)
+    × ((y : Life) × (slice_get lives at.1 ≡ Some y) × Found (λ n. list_all (λ x. may_both log x y) (take n lives)) at.1 (Some at.0))
 
 -- whether two lives are each other's partners, where the request of the first one's partner is the other's own
 abbrev pub is_partner : List Crossing → Life → Life → Bool
 is_partner log x y = same_host x.peer y.host && same_host y.peer x.host && is_asked (asked_at log y) y x
-
-abbrev pub may_stand : List Crossing → Option ℕ → Life → Life → Bool
-may_stand log asked x y = not (is_asked asked x y) || is_partner log x y
-
--- whether a life has a partner's request, and only its partner has that for its own
-abbrev pub is_paired : List Crossing → List Life → Life → Bool
-is_paired log lives x = is_there (asked_at log x) && list_all (may_stand log (asked_at log x) x) lives
-
-abbrev pub partners_hold : List Crossing → List Life → Bool
-partners_hold log lives = are_apart log lives && list_all (is_paired log lives) lives
 
 -- ---- streams
 
 -- whether a receiving life and a sending one match, where the request of the first one's partner went out at this place
 abbrev pub is_match : List Crossing → Option ℕ → Life → Life → Bool
 is_match log asked x y = receives x && sends y && is_asked asked x y && is_partner log x y
+
+abbrev pub is_unmatched : List Crossing → Life → Life → Bool
+is_unmatched log x y = not (is_match log (asked_at log x) x y)
 
 abbrev pub same_found : Option Bool → Option Bool → Bool
 same_found None found = false
@@ -153,6 +177,15 @@ are_handed [] [] = true
 are_handed [] (h ∷ handed) = false
 are_handed (x ∷ lives) [] = false
 are_handed (x ∷ lives) (h ∷ handed) = is_handed x h && are_handed lives handed
+
+-- whether what a life sent was handed over, where anything was
+abbrev pub handed_at : Life → Option (List Bool) → Bool
+handed_at x None = false
+handed_at x (Some h) = is_handed x h
+
+-- whether the first lives took what was sent, and what was handed over in them is what they sent
+abbrev pub some_fed : List Crossing → List Life → List (List Bool) → ℕ → Bool
+some_fed log lives handed n = list_all (is_fed log lives) (take n lives) && are_handed (take n lives) (take n handed)
 
 abbrev pub streams_hold : List Crossing → List Life → List (List Bool) → Bool
 streams_hold log lives handed = list_all (is_fed log lives) lives && are_handed lives handed

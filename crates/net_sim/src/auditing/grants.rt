@@ -1,8 +1,9 @@
 //! Whether what was taken and sent was granted.
 
-ghost use Rattle.std.specs.Prelude.{◌≡◌, ◌+◌, nat_le, reverse};
+ghost use Rattle.std.specs.Prelude.{◌≡◌, ◌+◌, length, nat_le, reverse, take};
 ghost use Rattle.std.specs.List.{list_all};
 ghost use Rattle.net_sim.specs.Inside.Audit as tests;
+ghost use Rattle.net_sim.specs.Inside.Audit.{Found};
 
 use super::requests::{asked_at, is_match, receives};
 use crate::life::Life;
@@ -50,14 +51,21 @@ fn has_granted(log: &[Crossing], lives: &[Life], x: &Life) -> bool
     !receives(x) || (is_granted(x, x.messages, x.bits.len()) && all_may_send(log, lives, x))
 }
 
+/// The place of the first receiving life that granted less than it took, or than was sent to it.
+pub(super) fn excess_at(log: &[Crossing], lives: &[Life]) -> Option<usize>
+    ensures { Found (λ n. list_all (tests.has_granted (reverse log.now) lives.now) (take n lives.now)) (length lives.now) result }
+{
+    for (place, x) in lives.iter().enumerate() {
+        if !has_granted(log, lives, x) {
+            return Some(place);
+        }
+    }
+    None
+}
+
 /// Whether what was taken and sent was granted.
 pub(super) fn grants_hold(log: &[Crossing], lives: &[Life]) -> bool
     ensures { result ≡ tests.grants_hold (reverse log.now) lives.now }
 {
-    for x in lives {
-        if !has_granted(log, lives, x) {
-            return false;
-        }
-    }
-    true
+    excess_at(log, lives).is_none()
 }

@@ -1,8 +1,8 @@
 //! Whether each message was taken once.
 
-ghost use Rattle.std.specs.Prelude.{◌≡◌, reverse};
+ghost use Rattle.std.specs.Prelude.{◌≡◌, length, reverse, take};
 ghost use Rattle.net_sim.specs.Inside.Audit as tests;
-ghost use Rattle.net_sim.specs.Inside.Audit.{same_bits, crossing_holds};
+ghost use Rattle.net_sim.specs.Inside.Audit.{Found, same_bits, crossing_holds};
 
 use bit_messages::Bits;
 use leader1822::{Answer, Crossing, Flow, HostMessage};
@@ -55,21 +55,28 @@ fn crossing_holds(crossing: &Crossing, log: &[Crossing]) -> bool
     match crossing {
         Crossing::In(message) => is_fresh(message, log),
         Crossing::Answer(Answer::Rfnm, flow) => was_taken(*flow, log),
-        Crossing::Answer(Answer::Incomplete | Answer::Dead, _)
+        Crossing::Answer(Answer::Incomplete | Answer::Dead | Answer::NotTaken, _)
         | Crossing::Out(_)
         | Crossing::Down(_)
         | Crossing::Up(_) => true,
     }
 }
 
+/// The place of the first crossing that doesn't find what it has to.
+pub(super) fn break_at(log: &[Crossing]) -> Option<usize>
+    ensures { Found (λ n. tests.messages_hold (reverse (take n log.now))) (length log.now) result }
+{
+    for (at, crossing) in log.iter().enumerate() {
+        if !crossing_holds(crossing, &log[..at]) {
+            return Some(at);
+        }
+    }
+    None
+}
+
 /// Whether each message was taken once.
 pub(super) fn messages_hold(log: &[Crossing]) -> bool
     ensures { result ≡ tests.messages_hold (reverse log.now) }
 {
-    for (at, crossing) in log.iter().enumerate() {
-        if !crossing_holds(crossing, &log[..at]) {
-            return false;
-        }
-    }
-    true
+    break_at(log).is_none()
 }

@@ -1,7 +1,9 @@
 //! The requests of lives, and which two are alike.
 
-ghost use Rattle.std.specs.Prelude.{◌≡◌, reverse};
+ghost use Rattle.std.specs.Prelude.{◌≡◌, length, reverse, take};
+ghost use Rattle.std.specs.List.{list_all};
 ghost use Rattle.net_sim.specs.Inside.Audit as tests;
+ghost use Rattle.net_sim.specs.Inside.Audit.{Found};
 ghost use Rattle.net_sim.specs.Safe as safe;
 
 use crate::life::Life;
@@ -65,7 +67,7 @@ fn same_place(place: Option<usize>, other: Option<usize>) -> bool
 }
 
 /// Whether the request of a life's partner, which went out at this place, is another's own.
-pub(super) fn is_asked(asked: Option<usize>, x: &Life, y: &Life) -> bool
+fn is_asked(asked: Option<usize>, x: &Life, y: &Life) -> bool
     ensures { result ≡ tests.is_asked asked x.now y.now }
 {
     x.foreign == y.socket && x.socket == y.foreign && is_place(y.own_stamp, asked)
@@ -85,22 +87,49 @@ fn same_ends(x: &Life, y: &Life) -> bool
     x.socket == y.socket && x.foreign == y.foreign && x.host == y.host && x.peer == y.peer
 }
 
-/// Whether two lives have the same partner's request, where that of the first went out at this place.
+/// Whether two lives have the same partner's request, where that of the second went out at this place.
 fn same_asked(log: &[Crossing], asked: Option<usize>, x: &Life, y: &Life) -> bool
     ensures { result ≡ tests.same_asked (reverse log.now) asked x.now y.now }
 {
-    same_ends(x, y) && same_place(asked, asked_at(log, y))
+    same_ends(x, y) && same_place(asked_at(log, x), asked)
 }
 
-/// Whether two lives have neither request in common.
-pub(super) fn is_apart(log: &[Crossing], asked: Option<usize>, x: &Life, y: &Life) -> bool
-    ensures { result ≡ tests.is_apart (reverse log.now) asked x.now y.now }
+/// Whether each of two lives has the other's host and socket for its peer.
+fn are_mates(x: &Life, y: &Life) -> bool
+    ensures { result ≡ tests.are_mates x.now y.now }
 {
-    !same_own(x, y) && !same_asked(log, asked, x, y)
+    x.foreign == y.socket && x.socket == y.foreign && x.peer == y.host && y.peer == x.host
+}
+
+/// Whether only one of two is true.
+fn differ(one: bool, other: bool) -> bool
+    ensures { result ≡ tests.differ one other }
+{
+    if one { !other } else { other }
+}
+
+/// Whether only one of two lives has the other's own request for its partner's, where the request of the second one's partner went
+/// out at this place.
+fn is_one_way(log: &[Crossing], asked: Option<usize>, x: &Life, y: &Life) -> bool
+    ensures { result ≡ tests.is_one_way (reverse log.now) asked x.now y.now }
+{
+    are_mates(x, y)
+        && differ(
+            is_place(y.own_stamp, asked_at(log, x)),
+            is_place(x.own_stamp, asked),
+        )
+}
+
+/// Whether two lives can't both stand in one book: they have a request in common, or only one of them has the other for its partner.
+/// The request of the second one's partner went out at this place.
+pub(super) fn are_at_odds(log: &[Crossing], asked: Option<usize>, x: &Life, y: &Life) -> bool
+    ensures { result ≡ tests.are_at_odds (reverse log.now) asked x.now y.now }
+{
+    same_own(x, y) || same_asked(log, asked, x, y) || is_one_way(log, asked, x, y)
 }
 
 /// Whether two lives are each other's partners, where the request of the first one's partner is the other's own.
-pub(super) fn is_partner(log: &[Crossing], x: &Life, y: &Life) -> bool
+fn is_partner(log: &[Crossing], x: &Life, y: &Life) -> bool
     ensures { result ≡ tests.is_partner (reverse log.now) x.now y.now }
 {
     x.peer == y.host && y.peer == x.host && is_asked(asked_at(log, y), y, x)
@@ -111,6 +140,19 @@ pub(super) fn is_match(log: &[Crossing], asked: Option<usize>, x: &Life, y: &Lif
     ensures { result ≡ tests.is_match (reverse log.now) asked x.now y.now }
 {
     receives(x) && sends(y) && is_asked(asked, x, y) && is_partner(log, x, y)
+}
+
+/// The place of the first life that a receiving one matches.
+pub(super) fn match_at(log: &[Crossing], lives: &[Life], x: &Life) -> Option<usize>
+    ensures { Found (λ n. list_all (tests.is_unmatched (reverse log.now) x.now) (take n lives.now)) (length lives.now) result }
+{
+    let asked = asked_at(log, x);
+    for (place, y) in lives.iter().enumerate() {
+        if is_match(log, asked, x, y) {
+            return Some(place);
+        }
+    }
+    None
 }
 
 /// Whether a life receives.

@@ -1,8 +1,9 @@
 //! Whether the stamps of lives name requests.
 
-ghost use Rattle.std.specs.Prelude.{◌≡◌, reverse};
+ghost use Rattle.std.specs.Prelude.{◌≡◌, length, reverse, take};
 ghost use Rattle.std.specs.List.{list_all};
 ghost use Rattle.net_sim.specs.Inside.Audit as tests;
+ghost use Rattle.net_sim.specs.Inside.Audit.{Found};
 
 use super::requests::{asked_at, control_flow};
 use crate::bit_log::BitLog;
@@ -58,16 +59,23 @@ fn is_stamped(log: &[Crossing], x: &Life) -> bool
         && asked_at(log, x).is_some()
 }
 
+/// The place of the first life with a stamp that names no request.
+pub(super) fn unstamped_at(log: &[Crossing], lives: &[Life]) -> Option<usize>
+    ensures { Found (λ n. list_all (tests.is_stamped (reverse log.now)) (take n lives.now)) (length lives.now) result }
+{
+    for (place, x) in lives.iter().enumerate() {
+        if !is_stamped(log, x) {
+            return Some(place);
+        }
+    }
+    None
+}
+
 /// Whether the stamps of each life name requests.
 fn are_stamped(log: &[Crossing], lives: &[Life]) -> bool
     ensures { result ≡ list_all (tests.is_stamped (reverse log.now)) lives.now }
 {
-    for x in lives {
-        if !is_stamped(log, x) {
-            return false;
-        }
-    }
-    true
+    unstamped_at(log, lives).is_none()
 }
 
 /// Whether there is one list of bits for each life, and the stamps of each life name requests.

@@ -1,8 +1,9 @@
 //! Whether what was taken was sent, and what was sent was handed over.
 
-ghost use Rattle.std.specs.Prelude.{◌≡◌, reverse};
-ghost use Rattle.std.specs.List.{list_all, list_any};
+ghost use Rattle.std.specs.Prelude.{◌≡◌, length, reverse, slice_get};
+ghost use Rattle.std.specs.List.{list_any};
 ghost use Rattle.net_sim.specs.Inside.Audit as tests;
+ghost use Rattle.net_sim.specs.Inside.Audit.{Found};
 
 use super::requests::{asked_at, is_match, receives, sends};
 use crate::bit_log::BitLog;
@@ -58,18 +59,6 @@ fn is_fed(log: &[Crossing], lives: &[Life], x: &Life) -> bool
     !receives(x) || x.bits.len() == 0 || has_source(log, lives, x)
 }
 
-/// Whether each life took what was sent.
-fn are_fed(log: &[Crossing], lives: &[Life]) -> bool
-    ensures { result ≡ list_all (tests.is_fed (reverse log.now) lives.now) lives.now }
-{
-    for x in lives {
-        if !is_fed(log, lives, x) {
-            return false;
-        }
-    }
-    true
-}
-
 /// Whether what a life sent was handed over.
 fn is_handed(x: &Life, handed: &BitLog) -> bool
     ensures { result ≡ tests.is_handed x.now handed.now }
@@ -77,24 +66,28 @@ fn is_handed(x: &Life, handed: &BitLog) -> bool
     !sends(x) || is_front(&x.bits, handed)
 }
 
-/// Whether what each life sent was handed over.
-fn are_handed(lives: &[Life], handed: &[BitLog]) -> bool
-    ensures { result ≡ tests.are_handed lives.now handed.now }
+/// Whether what a life sent was handed over at its place, where anything was.
+fn is_handed_at(x: &Life, handed: &[BitLog], place: usize) -> bool
+    ensures { result ≡ tests.handed_at x.now (slice_get handed.now place) }
 {
-    if lives.len() != handed.len() {
-        return false;
-    }
-    for i in 0..lives.len() {
-        if !is_handed(&lives[i], &handed[i]) {
-            return false;
+    place < handed.len() && is_handed(x, &handed[place])
+}
+
+/// The place of the first life that took something else than was sent, or sent something else than was handed over in it.
+pub(super) fn unfed_at(log: &[Crossing], lives: &[Life], handed: &[BitLog]) -> Option<usize>
+    ensures { Found (tests.some_fed (reverse log.now) lives.now handed.now) (length lives.now) result }
+{
+    for (place, x) in lives.iter().enumerate() {
+        if !is_fed(log, lives, x) || !is_handed_at(x, handed, place) {
+            return Some(place);
         }
     }
-    true
+    None
 }
 
 /// Whether what was taken was sent, and what was sent was handed over.
 pub(super) fn streams_hold(log: &[Crossing], lives: &[Life], handed: &[BitLog]) -> bool
     ensures { result ≡ tests.streams_hold (reverse log.now) lives.now handed.now }
 {
-    are_fed(log, lives) && are_handed(lives, handed)
+    lives.len() == handed.len() && unfed_at(log, lives, handed).is_none()
 }

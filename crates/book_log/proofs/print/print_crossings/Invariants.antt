@@ -1,9 +1,9 @@
 use Rattle.std.proofs.Common.{◌≡◌, false, take}
+use Rattle.std.specs.List.{All}
 use Rattle.std.specs.Io.KnownBytes.{Appends}
 use Rattle.replay.specs.InTurn.{text_of}
-use Rattle.replay.specs.Output.{crossing_line}
-use Rattle.replay.specs.declared.print.Detail.TheVariants.{Texts}
+use Rattle.book_log.specs.Log.{IsCrossing, logged_line}
 use Rattle.book_log.proofs.print.print_crossings.Given as goal
 
 abbrev pub invariant-loop-crossing : goal.invariant-loop-crossing
-invariant-loop-crossing g l = Appends (g.W.Output.contents l.fn.writer) (g.W.Output.contents l.writer) (text_of (crossing_line Texts) (take l.crossing-index l.crossings)) × (g.W.Output.failed l.writer ≡ false)
+invariant-loop-crossing g l = Appends (g.W.Output.contents l.fn.writer) (g.W.Output.contents l.writer) (text_of logged_line (take l.crossing-index l.crossings)) × (g.W.Output.failed l.writer ≡ false) × All IsCrossing (take l.crossing-index l.crossings)

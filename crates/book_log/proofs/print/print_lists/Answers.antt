@@ -1,9 +1,10 @@
 use Rattle.std.proofs.Common.{subst}
+use Rattle.std.proofs.lemmas.List.Elements.{All-more}
 use Rattle.std.specs.Io.KnownBytes.{Appends}
 use Rattle.replay.proofs.lemmas.{text_more}
 use Rattle.script.specs.Input.{ended_line}
 use Rattle.std.proofs.Common.{List, Bool}
-use Rattle.book_log.specs.Log.{handed_line}
+use Rattle.book_log.specs.Log.{IsHanded, handed_line}
 use Rattle.book_log.proofs.print.print_lists.Goals as goal
 
 pub loop-bits-preserved : goal.loop-bits-preserved
@@ -12,4 +13,5 @@ loop-bits-preserved g c = (
       c.loop-bits-test.true c.loop-bits.invariant.0
       (subst (λ (x : List Bool). Appends (g.W.Output.contents c.loop-bits.writer) (g.W.Output.contents c.print_list.new.writer) (ended_line (handed_line x))) c.bits-item.is c.in_ok-print_list.ensures.written),
   c.in_ok-print_list.ensures.failed,
+  All-more IsHanded c.args.handed.now c.loop-bits.bits-index c.bits-item.result c.loop-bits-test.true c.loop-bits.invariant.2 (subst IsHanded c.bits-item.is c.has_list_range.ensures),
 )

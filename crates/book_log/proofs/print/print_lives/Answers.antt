@@ -1,9 +1,10 @@
 use Rattle.std.proofs.Common.{subst}
+use Rattle.std.proofs.lemmas.List.Elements.{All-more}
 use Rattle.std.specs.Io.KnownBytes.{Appends}
 use Rattle.replay.proofs.lemmas.{text_more}
 use Rattle.script.specs.Input.{ended_line}
 use Rattle.net_sim.specs.declared.life.Life.{Life}
-use Rattle.book_log.specs.Log.{life_line}
+use Rattle.book_log.specs.Log.{IsLife, life_line}
 use Rattle.book_log.proofs.print.print_lives.Goals as goal
 
 pub loop-life-preserved : goal.loop-life-preserved
@@ -12,4 +13,5 @@ loop-life-preserved g c = (
       c.loop-life-test.true c.loop-life.invariant.0
       (subst (λ (x : Life). Appends (g.W.Output.contents c.loop-life.writer) (g.W.Output.contents c.print_life.new.writer) (ended_line (life_line x))) c.life-item.is c.in_ok-print_life.ensures.written),
   c.in_ok-print_life.ensures.failed,
+  All-more IsLife c.args.lives.now c.loop-life.life-index c.life-item.result c.loop-life-test.true c.loop-life.invariant.2 (subst IsLife c.life-item.is c.has_life_ranges.ensures),
 )

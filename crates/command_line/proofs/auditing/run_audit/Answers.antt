@@ -1,6 +1,7 @@
 use Rattle.std.proofs.Common.{◌≡◌, ℕ, List, Err, ap, rules, subst}
 use Rattle.book_log.specs.Log.{IsLog}
 use Rattle.command_line.specs.Audits.{IsBookFault}
+use Rattle.command_line.proofs.Joined.{ends_faulty, ends_kept}
 use Rattle.command_line.proofs.Judged.{audited, audits, known_audited, says_of, some_log, unlogged, unread, unwritten}
 use Rattle.command_line.specs.declared.auditing.AuditFault.TheVariants as fault
 use Rattle.command_line.proofs.auditing.run_audit.Goals as goal
@@ -28,3 +29,21 @@ pub returns-in_err-write_said-clause-read : goal.returns-in_err-write_said-claus
 returns-in_err-write_said-clause-read g c = λ whole.
     let same : c.from_residual-in_err-write_said.result ≡ Err fault.CannotWrite = search rules in
     unwritten (g.R.Source.remaining c.args.reader.now) c.in_ok-octets.octets.items c.in_ok-book.book c.from_residual-in_err-write_said.result c.in_ok-octets.ensures.whole same c.in_ok-octets.ensures.long (subst (λ (o : List ℕ). IsLog o c.in_ok-book.book) c.deref.ensures.value c.in_ok-book.ensures)
+
+pub returns-clause-kept : goal.returns-clause-kept
+returns-clause-kept g c = λ whole. ends_kept (g.R.Source.remaining c.args.reader.now) c.audit-said.result (g.W.Output.contents c.args.writer.now) (g.W.Output.contents c.write_said.new.writer) (returns-clause-says g c)
+
+pub returns-in_err-octets-clause-kept : goal.returns-in_err-octets-clause-kept
+returns-in_err-octets-clause-kept g c = λ whole.
+    let same : c.from_residual.result ≡ Err c.in_err-octets.field-0.0 = search rules in
+    ends_faulty (g.R.Source.remaining c.args.reader.now) c.from_residual.result c.in_err-octets.field-0.0 same (returns-in_err-octets-clause-read g c whole)
+
+pub returns-in_err-book-clause-kept : goal.returns-in_err-book-clause-kept
+returns-in_err-book-clause-kept g c = λ whole.
+    let same : c.from_residual-in_err-book.result ≡ Err c.in_err-book.field-0.0 = search rules in
+    ends_faulty (g.R.Source.remaining c.args.reader.now) c.from_residual-in_err-book.result c.in_err-book.field-0.0 same (returns-in_err-book-clause-read g c whole)
+
+pub returns-in_err-write_said-clause-kept : goal.returns-in_err-write_said-clause-kept
+returns-in_err-write_said-clause-kept g c = λ whole.
+    let same : c.from_residual-in_err-write_said.result ≡ Err fault.CannotWrite = search rules in
+    ends_faulty (g.R.Source.remaining c.args.reader.now) c.from_residual-in_err-write_said.result fault.CannotWrite same (returns-in_err-write_said-clause-read g c whole)

@@ -1,7 +1,7 @@
-use Rattle.std.proofs.Common.{sym, ◌∙◌}
-use Rattle.net_sim.proofs.Audits.Messages.{crossing_stops}
+use Rattle.std.proofs.Common.{◌∙◌}
+use Rattle.net_sim.proofs.Audits.Messages.{none_broken}
+use Rattle.net_sim.proofs.Audits.Searches.{told_none}
 use Rattle.net_sim.proofs.auditing.messages.messages_hold.Goals as goal
 
-pub returns-then-not-crossing_holds : goal.returns-then-not-crossing_holds
-returns-then-not-crossing_holds c =
-    crossing_stops c.args.log.now c.loop-at.at c.index-log-at.result c.loop-at-test.true c.index-log-at.is (sym c.crossing_holds.ensures ∙ c.if-not-crossing_holds.true)
+pub returns : goal.returns
+returns c = told_none c.break_at.result c.is_none.result c.is_none.ensures ∙ none_broken c.args.log.now c.break_at.result c.break_at.ensures

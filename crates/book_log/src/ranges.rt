@@ -1,0 +1,70 @@
+//! That the values of crossings, lives and lists are in the ranges that a log tells. Their types have no other values, so nothing is
+//! tested here: each function reads what it is given, and its contract is what the types say.
+
+ghost use Rattle.std.specs.Prelude.{◌<◌, ◌^◌};
+ghost use Rattle.script.specs.Spelling.{IsFlow, IsHost, IsMessage};
+ghost use Rattle.book_log.specs.Log.{IsAmount, IsCrossing, IsHanded, IsLife};
+
+use leader1822::{Crossing, Flow, HostAddr, HostMessage};
+use net_sim::{Amount, BitLog, Life};
+
+/// A crossing tells of hosts, links and texts that there are.
+pub(crate) fn has_crossing_ranges(crossing: &Crossing)
+    ensures { IsCrossing crossing.now }
+{
+    match crossing {
+        Crossing::Out(message) | Crossing::In(message) => has_message_ranges(message),
+        Crossing::Answer(_, flow) => has_flow_ranges(*flow),
+        Crossing::Down(host) | Crossing::Up(host) => has_host_range(*host),
+    }
+}
+
+/// The host has number 0 to 3, at an IMP from 1 to 63.
+fn has_host_range(host: HostAddr)
+    ensures { IsHost host }
+{
+    let _ = host.imp();
+    let _ = host.host();
+}
+
+/// Both hosts are in their range, and the link has 8 bits.
+fn has_flow_ranges(flow: Flow)
+    ensures { IsFlow flow }
+{
+    has_host_range(flow.source);
+    has_host_range(flow.destination);
+}
+
+/// The flow is in its ranges, and the text has at most 8063 bits.
+fn has_message_ranges(message: &HostMessage)
+    ensures { IsMessage message.now }
+{
+    has_flow_ranges(message.flow);
+    let _ = message.text.bits();
+}
+
+/// Both counts have 128 bits.
+fn has_amount_ranges(amount: Amount)
+    ensures { IsAmount amount }
+{
+    let _ = amount;
+}
+
+/// The list is counted by 64 bits.
+pub(crate) fn has_list_range(bits: &BitLog)
+    ensures { IsHanded bits.now }
+{
+    let _ = bits.len();
+}
+
+/// A life has hosts that there are, sockets of 32 bits, places and a length of 64, and counts of 128.
+pub(crate) fn has_life_ranges(life: &Life)
+    ensures { IsLife life.now }
+{
+    has_host_range(life.host);
+    has_host_range(life.peer);
+    has_list_range(&life.bits);
+    has_amount_ranges(life.granted);
+    has_amount_ranges(life.returned);
+    let _ = (life.socket, life.foreign, life.own_stamp, life.partner_stamp, life.messages);
+}

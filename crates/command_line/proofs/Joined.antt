@@ -1,0 +1,90 @@
+-- What `--log` writes, `--audit` reads and calls kept.
+use Rattle.std.proofs.Common.{◌≡◌, ◌<◌, ℕ, Bool, false, List, [], ◌∷◌, length, reverse, Option, Some, None, IfSome, Result, Ok, Err, IfOk, MatchResult, refl, sym, subst}
+use Rattle.std.proofs.lemmas.List.{reverse-reverse}
+use Rattle.book_log.specs.Log.{Book, IsLog}
+use Rattle.book_log.proofs.lemmas.{book_once}
+use Rattle.headline.proofs.lemmas.{kept_promise}
+use Rattle.leader1822.specs.Messages.{SafeMessages}
+use Rattle.leader1822.specs.declared.crossing.Crossing.{Crossing}
+use Rattle.net_sim.specs.Audit.{Says}
+use Rattle.net_sim.specs.World as world
+use Rattle.net_sim.specs.declared.auditing.said.Audit.{Audit}
+use Rattle.net_sim.specs.declared.auditing.said.Audit.TheVariants as audit
+use Rattle.net_sim.specs.declared.auditing.said.Part.TheVariants as part
+use Rattle.net_sim.specs.declared.life.Life.{Life}
+use Rattle.replay.specs.Replay.{Calls}
+use Rattle.topology.specs.Topology.{TopologyFields}
+use Rattle.topology.specs.declared.network.CarrierKind.{CarrierKind}
+use Rattle.topology.specs.declared.network.CarrierKind.TheVariants as kind
+use Rattle.command_line.specs.Audits.{AuditsLog, IsAuditFault, IsKeptLog, IsSomeLog, SaysKept, SaysOf}
+use Rattle.command_line.specs.Carriers.{hosting, plain_calls, plain_of, subnet_calls, subnet_of}
+use Rattle.command_line.specs.Events.{Asked, Raw, World}
+use Rattle.command_line.specs.Logs.{Logged, LogsFrom, LogsOver, LogsRaw, LogsWorld, raw_book, world_book}
+use Rattle.command_line.specs.declared.auditing.AuditFault.{AuditFault}
+use Rattle.command_line.specs.declared.auditing.AuditFault.TheVariants as fault
+use Rattle.command_line.proofs.Printed.{none_there, safe_alone}
+
+-- ---- the log is kept
+
+-- a log that is turned round twice
+turned : (said : Audit) (log : List Crossing) (lives : List Life) (handed : List (List Bool)) → Says said log lives handed → Says said (reverse (reverse log)) lives handed
+turned said log lives handed = subst (λ (cs : List Crossing). Says said cs lives handed) (sym (reverse-reverse log))
+
+kept_alone : (log : List Crossing) → SafeMessages log → Says audit.Kept log [] []
+kept_alone log messages = (record { counts = refl; stamped = λ x there. absurd (none_there x there) }, safe_alone log messages)
+
+kept_from : {C : Type 0} (calls : Calls C) (opening : C) (events : Asked) (octets : List ℕ) → LogsFrom calls opening events (Some []) (Some octets) → IsKeptLog octets
+kept_from calls opening (Raw events) octets h = record {
+  book = raw_book (calls.seen h.last).log;
+  log = record { spelled = h.written; valid = h.valid };
+  says = turned audit.Kept (calls.seen h.last).log [] [] (kept_alone (calls.seen h.last).log h.messages);
+}
+kept_from calls opening (World events) octets h = record {
+  book = world_book h.last.kept;
+  log = record { spelled = h.written; valid = h.valid };
+  says = turned audit.Kept h.last.kept.book.crossings h.last.kept.book.lives h.last.kept.handed (kept_promise calls.seen h.last h.promise);
+}
+
+kept_over : (carrier : CarrierKind) (t : TopologyFields) (events : Asked) (octets : List ℕ) → LogsOver carrier t events (Some []) (Some octets) → IsKeptLog octets
+kept_over kind.Plain t events octets h = kept_from plain_calls (plain_of t) events octets h
+kept_over kind.Subnet t events octets h = kept_from subnet_calls (subnet_of t) events octets h
+
+pub logged_kept : (octets : List ℕ) → Logged (Some []) (Some octets) → IsKeptLog octets
+logged_kept octets h = kept_over h.network.carrier h.network h.events octets h.logged
+
+-- ---- and so its audit says
+
+-- where a book is kept, nothing else can be said of it
+only_kept : (said : Audit) (log : List Crossing) (lives : List Life) (handed : List (List Bool)) → Says audit.Kept log lives handed → Says said log lives handed → said ≡ audit.Kept
+only_kept audit.Kept log lives handed k w = refl
+only_kept audit.Malformed log lives handed k w = absurd (w k.0)
+only_kept (audit.Broken part.Messages) log lives handed k w = absurd (w.2 k.1.messages)
+only_kept (audit.Broken part.Partners) log lives handed k w = absurd (w.2 k.1.partners)
+only_kept (audit.Broken part.Streams) log lives handed k w = absurd (w.2 k.1.streams)
+only_kept (audit.Broken part.Grants) log lives handed k w = absurd (w.2 k.1.grants)
+
+said_kept : (octets : List ℕ) (said : Audit) (before after : Option (List ℕ)) → AuditsLog octets said before after → IsKeptLog octets → said ≡ audit.Kept
+said_kept octets said before after a k =
+    let same : a.book ≡ k.book = book_once octets a.book k.book a.log k.log in
+    only_kept said (reverse k.book.crossings) k.book.lives k.book.handed k.says (subst (λ (b : Book). SaysOf said b) same a.says)
+
+-- where octets are a log, its lines are not bad
+never_bad : (octets : List ℕ) (f : AuditFault) → IsAuditFault octets f → IsKeptLog octets → SaysKept octets (Err f)
+never_bad octets fault.LongLog h k = h
+never_bad octets fault.OutOfMemory h k = tt
+never_bad octets fault.CannotWrite h k = tt
+never_bad octets (fault.BadLog number) h k = absurd (h.1.none k.book k.log)
+never_bad octets fault.CannotRead h k = absurd h
+
+-- whatever the reader's octets are, as far as they are known
+pub ends_kept : (known : Option (List ℕ)) (said : Audit) (before after : Option (List ℕ)) → IfSome known (λ octets. AuditsLog octets said before after)
+    → IfSome known (λ octets. Logged (Some []) (Some octets) → SaysKept octets (Ok said))
+ends_kept None said before after audits = tt
+ends_kept (Some octets) said before after audits = λ logged. said_kept octets said before after audits (logged_kept octets logged)
+
+pub ends_faulty : (known : Option (List ℕ)) (r : Result Audit AuditFault) (f : AuditFault) → r ≡ Err f → IfSome known (λ octets. MatchResult r (λ said. IsSomeLog octets) (IsAuditFault octets))
+    → IfSome known (λ octets. Logged (Some []) (Some octets) → SaysKept octets r)
+ends_faulty None r f is read = tt
+ends_faulty (Some octets) r f is read = λ logged.
+    (let fault : IsAuditFault octets f = subst (λ (q : Result Audit AuditFault). MatchResult q (λ said. IsSomeLog octets) (IsAuditFault octets)) is read in
+    subst (λ (q : Result Audit AuditFault). SaysKept octets q) (sym is) (never_bad octets f fault (logged_kept octets logged)))

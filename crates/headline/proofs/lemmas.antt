@@ -1,0 +1,2 @@
+-- The lemma of this crate that others may use: the proofs of command_line do. All others in proofs/ are its own.
+pub use Rattle.headline.proofs.Audited.{kept_promise}

@@ -1,0 +1,45 @@
+-- What searches find: how many of the first entries are well.
+use Rattle.std.proofs.Common.{◌≡◌, ℕ, ◌+◌, ◌<◌, ◌≤◌, Bool, true, false, ◌&&◌, not, List, [], ◌∷◌, length, take, get_or, refl, sym, subst, ◌∙◌, arith, Option, Some, None}
+use Rattle.std.specs.Prelude.{is_none, is_some}
+use Rattle.std.specs.List.{list_all}
+use Rattle.std.proofs.lemmas.List.{take_all}
+use Rattle.std.proofs.lemmas.List.Folds.{list_all_more}
+use Rattle.net_sim.specs.Findings.{EndsAt}
+use Rattle.net_sim.specs.Inside.Audit.{Found}
+use Rattle.net_sim.proofs.Audits.Elements.{all_take, and_false, false_not, is_false}
+
+-- ---- a search through a list
+
+pub found_here : {X : Type 0} (test : X → Bool) (xs : List X) (i : ℕ) (x : X) → i < length xs → x ≡ get_or xs i x → test x ≡ false → list_all test (take i xs) ≡ true
+    → Found (λ n. list_all test (take n xs)) (length xs) (Some i)
+found_here {X} test xs i x lt at e h =
+    (lt, h, list_all_more test xs i x lt ∙ and_false (list_all test (take i xs)) (test (get_or xs i x)) (subst (λ (z : X). test z ≡ false) at e))
+
+pub found_none : {X : Type 0} (test : X → Bool) (xs : List X) (i : ℕ) → length xs ≤ i → list_all test (take i xs) ≡ true → Found (λ n. list_all test (take n xs)) (length xs) None
+found_none {X} test xs i past h =
+    let same : take i xs ≡ take (length xs) xs = take_all i xs past ∙ sym (take_all (length xs) xs (omega arith)) in
+    subst (λ (zs : List X). list_all test zs ≡ true) same h
+
+-- ---- whether there is nothing to find
+
+pub told_none : {X : Type 0} (o : Option X) (r : Bool) → is_some o ≡ not r → r ≡ is_none o
+told_none None true e = refl
+told_none None false e = absurd (cc)
+told_none (Some x) true e = absurd (cc)
+told_none (Some x) false e = refl
+
+pub none_found : (hold : ℕ → Bool) (count : ℕ) (r : Option ℕ) (all : Bool) → Found hold count r → hold count ≡ all → ((n : ℕ) → all ≡ true → hold n ≡ true) → is_none r ≡ all
+none_found hold count None all h e keeps = sym h ∙ e
+none_found hold count (Some place) all h e keeps = sym (is_false all (λ t. false_not (hold (place + 1)) h.2 (keeps (place + 1) t)))
+
+pub none_of_list : {X : Type 0} (test : X → Bool) (xs : List X) (r : Option ℕ) → Found (λ n. list_all test (take n xs)) (length xs) r → is_none r ≡ list_all test xs
+none_of_list {X} test xs r h =
+    let whole : take (length xs) xs ≡ xs = take_all (length xs) xs (omega arith) in
+    none_found (λ n. list_all test (take n xs)) (length xs) r (list_all test xs) h (subst (λ (zs : List X). list_all test (take (length xs) xs) ≡ list_all test zs) whole refl)
+    (λ n t. all_take test n xs t)
+
+-- ---- what is found
+
+pub ends_at : (hold : ℕ → Bool) (AreWell : ℕ → Type 0) (place : ℕ) → ((n : ℕ) → (hold n ≡ true → AreWell n) × (AreWell n → hold n ≡ true)) → hold place ≡ true → hold (place + 1) ≡ false
+    → EndsAt AreWell place
+ends_at hold AreWell place decide h e = ((decide place).0 h, λ w. false_not (hold (place + 1)) e ((decide (place + 1)).1 w))

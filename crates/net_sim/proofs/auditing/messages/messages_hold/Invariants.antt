@@ -1,6 +1,0 @@
-use Rattle.std.proofs.Common.{◌≡◌, true, take, reverse}
-use Rattle.net_sim.specs.Inside.Audit.{messages_hold}
-use Rattle.net_sim.proofs.auditing.messages.messages_hold.Given as goal
-
-abbrev pub invariant-loop-at : goal.invariant-loop-at
-invariant-loop-at l = messages_hold (reverse (take l.at l.log)) ≡ true
