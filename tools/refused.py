@@ -46,6 +46,7 @@ EVENTS = {
     "out": ["S", "D", "N", "BITS", "OCTETS"],
     "take": ["H"],
     "giveup": ["S", "D", "N"],
+    "ask": ["S", "D", "N"],
     "hostdown": ["H"],
     "hostup": ["H"],
     "deliver": ["L", "+|-", "K"],
