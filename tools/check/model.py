@@ -99,7 +99,7 @@ def some_text(chance):
 # what happens inside a network: plain mailboxes have no part for it
 RAW = [
     "deliver {line} + 0", "drop 0 - {line}", "resend {imp}", "route {imp}", "enddown {imp} {line}", "endup {imp} 0", "impdown {imp}",
-    "impup {imp}", "forget {imp} 1", "abandon 0/1 3/{imp} 255",
+    "impup {imp}", "forget {imp} 1", "abandon 0/1 3/{imp} 255", "ask 0/1 3/{imp} 255",
 ]  # fmt: skip
 
 
