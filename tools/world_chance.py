@@ -162,8 +162,9 @@ class Script:
             frames = [(at, way) for at, lives in enumerate(self.world.carrier.live) for way, live in lives.items() if live]
             ways += [("drop", at, way, 0) for at, way in frames] * 2
             ways += [("abandon", *flow) for flow in flows]
+            ways += [("ask", *flow) for flow in flows] * 4
         event = self.chance.choice(ways or [("calm", 1)])
-        if event[0] in ("giveup", "abandon"):
+        if event[0] in ("giveup", "ask", "abandon"):
             event = event[0], event[1:]
         self.do(*event)
         if event[0] == "enddown" and self.chance.random() < 0.7:
@@ -178,7 +179,7 @@ class Script:
             self.do("impup", name[1])
         waiting = [flow for flow in self.outstanding() if flow[0] == name]
         for flow in waiting if self.chance.random() < 0.7 else []:
-            self.do("giveup", flow)
+            self.do("ask" if self.subnet and self.chance.random() < 0.3 else "giveup", flow)
         self.do("hostup", name)
 
     def outstanding(self):
