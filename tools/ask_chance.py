@@ -35,6 +35,7 @@ class Questions:
         self.lines = []
         self.drops = self.chance.choice([0.1, 0.3, 0.6])  # how often a frame is lost
         self.stops = self.chance.choice([0, 0, 0.05, 0.15])
+        self.rows = self.chance.choice([0, 0, 2])  # how often messages in a row are given up
         hosts = self.subnet.hosts()
         self.flows = [(*self.chance.sample(hosts, 2), self.chance.choice([0, 9])) for _ in range(3)]
         self.do("calm", 3)
@@ -64,8 +65,8 @@ class Questions:
             return self.trouble()
         if chance < 0.3 and (flows := self.outstanding()):
             return self.question(self.chance.choice(flows))
-        kind = self.chance.choices(["frame", "take", "out", "lose", "resend", "calm", "recover"], [30, 12, 12, 8, 4, 2, 6])[0]
-        getattr(self, f"some_{kind}")()
+        kinds = {"frame": 30, "take": 12, "out": 12, "lose": 8, "resend": 4, "calm": 2, "recover": 6, "row": self.rows}
+        getattr(self, f"some_{self.chance.choices([*kinds], [*kinds.values()])[0]}")()
 
     def question(self, flow):
         """A message is asked for, as a rule; else it is given up."""
@@ -92,13 +93,7 @@ class Questions:
     def some_lose(self):
         """A line is cut for a moment, and what is on it is lost: both ends begin anew, and what they held looks for another way."""
         line = self.chance.randrange(len(self.network[3]))
-        for end in self.network[3][line]:
-            self.do("enddown", end, line)
-        for way in "+-":
-            for _ in range(len(self.subnet.live[line][way])):
-                self.do("drop", line, way, 0)
-        for end in self.network[3][line]:
-            self.do("endup", end, line)
+        self.cut(line)
         if self.chance.random() < 0.8:
             for end in self.network[3][line]:
                 self.do("route", end)
@@ -106,6 +101,28 @@ class Questions:
                 for _ in range(len(self.subnet.live[line][way])):
                     self.do("deliver", line, way, 0)
                     self.do("drop", line, way, 0)
+
+    def cut(self, line):
+        """Both ends of a line begin anew, and all that was on it is lost."""
+        for end in self.network[3][line]:
+            self.do("enddown", end, line)
+        for way in "+-":
+            for _ in range(len(self.subnet.live[line][way])):
+                self.do("drop", line, way, 0)
+        for end in self.network[3][line]:
+            self.do("endup", end, line)
+
+    def some_row(self):
+        """Messages of a flow in a row are lost and given up, so that its numbers run ahead of the one that was noted last."""
+        flow = self.chance.choice(self.flows)
+        for _ in range(self.chance.randrange(2, 10)):
+            self.do("calm", 2)
+            self.do("out", flow, "")
+            for line in range(len(self.network[3])):
+                self.cut(line)
+            if self.do("giveup", flow):
+                return
+        self.do("calm", 2)
 
     def some_resend(self):
         self.do("resend", self.chance.choice([*self.subnet.sites]))

@@ -71,6 +71,10 @@ class Subnet(Crossed):
         """Whether a message to a host at an IMP is outstanding at another one, if that is up."""
         return self.imps[other] is not None and self.imps[other].awaits(at)
 
+    def is_awaited(self, at):
+        """Whether a message to a host at an IMP is outstanding at any other one that is up."""
+        return any(imp.awaits(at) for number, imp in self.imps.items() if imp is not None and number != at)
+
     # ---- what is there
 
     def up(self, number):
@@ -169,8 +173,7 @@ class Subnet(Crossed):
         self.site(number)
         others = [imp for other, imp in self.imps.items() if imp is not None and other != number]
         kept = any(flow[0][1] == number for imp in others for flow in imp.kept)
-        awaited = any(imp.awaits(number) for imp in others)
-        if kept or awaited or any(number in (flow[0][1], flow[1][1]) for flow, _, _ in self.alive()):
+        if kept or self.is_awaited(number) or any(number in (flow[0][1], flow[1][1]) for flow, _, _ in self.alive()):
             raise Refused("StillAlive")
         if self.imps[number] is not None:
             raise Refused("IsUp")
