@@ -46,7 +46,6 @@ EVENTS = {
     "out": ["S", "D", "N", "BITS", "OCTETS"],
     "take": ["H"],
     "giveup": ["S", "D", "N"],
-    "ask": ["S", "D", "N"],
     "hostdown": ["H"],
     "hostup": ["H"],
     "deliver": ["L", "+|-", "K"],
@@ -59,6 +58,7 @@ EVENTS = {
     "impup": ["I"],
     "forget": ["I", "J"],
     "abandon": ["S", "D", "N"],
+    "ask": ["S", "D", "N"],
     "calm": ["ROUNDS"],
 }
 
