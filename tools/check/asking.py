@@ -18,6 +18,7 @@ from ask_chance import Counting, Questions
 from imp_rules import DEAD, NEVER, RFNM, TELLS, Imp
 from mailbox_rules import first_break, never_taken
 from subnet_rules import Subnet
+from without_rules import AskedUnnoted, BeginsKept, Impatient, of_imps
 
 RUNS = 1000
 MOST_TRIED = 4000  # so many scripts are run to find that a rule is lacking
@@ -72,22 +73,7 @@ TOLD = [
     ([OUT, told("nottaken"), DOWN, UP, TAKEN], False),
 ]
 
-# ---- rules that are left out or broken
-
-
-class WhileItWaits(Imp):
-    """Never is told of a message that waits."""
-
-    def answer_to(self, flow, number):
-        waits = self.kept.get(flow) == number and self.fates[flow] == "waits"
-        return self.with_reply(NEVER, flow, number) if waits else super().answer_to(flow, number)
-
-
-class NotNoted(Imp):
-    """A new number that is asked about isn't noted."""
-
-    def answer_to(self, flow, number):
-        return self.with_reply(NEVER, flow, number) if self.is_new(flow, number) else super().answer_to(flow, number)
+# ---- rules that are left out or broken, beside those of tools/without_rules.py
 
 
 class TakenIsNever(Imp):
@@ -137,23 +123,6 @@ class ToldWhenDown(Imp):
             super().tell(kind, flow)
 
 
-def of_imps(kind):
-    """Subnets with IMPs of another kind."""
-
-    class Broken(Subnet):
-        def imp_of(self, number):
-            return kind(number, self.sites[number], sum(number in ends for ends in self.ends))
-
-    return Broken
-
-
-class KeptIsBegun(Subnet):
-    """A number is begun though the destination's IMP keeps it."""
-
-    def is_kept(self, flow, number):
-        return False
-
-
 class AwaitedIsForgotten(Subnet):
     """An IMP forgets the flows of another one though that may ask about a message."""
 
@@ -169,15 +138,15 @@ class StartsAwaited(Subnet):
 
 
 WRONG = {
-    "Never is told of a message that waits": of_imps(WhileItWaits),
-    "a new number that is asked about isn't noted": of_imps(NotNoted),
+    "Never is told of a message that waits": of_imps(Impatient),
+    "a new number that is asked about isn't noted": of_imps(AskedUnnoted),
     "Never is told of a message that was taken": of_imps(TakenIsNever),
     "Dead is told of a message that was taken": of_imps(TakenIsDead),
     "RFNM is told of a message that never came": of_imps(NeverIsTaken),
     "a number that is noted keeps the fate of the one before it": of_imps(OldFates),
     "a question is answered by the fate of another number": of_imps(AnyNumber),
     "NotTaken waits for a host that is down": of_imps(ToldWhenDown),
-    "a number is begun though the destination's IMP keeps it": KeptIsBegun,
+    "a number is begun though the destination's IMP keeps it": BeginsKept,
     "an IMP forgets flows though a message is outstanding": AwaitedIsForgotten,
     "an IMP starts though a message to it is outstanding": StartsAwaited,
 }
