@@ -115,11 +115,11 @@ def some_script(chance, network):
     flows = [f"{chance.choice(hosts)} {chance.choice(hosts)} {chance.choice([0, 5, 255])}" for _ in range(4)]
     lines = []
     for _ in range(chance.choice([0, 3, 10, 40, 150])):
-        match chance.choices(["out", "take", "giveup", "hostdown", "hostup", "calm", "raw", ""], [12, 16, 4, 4, 6, 1, 2, 2])[0]:
+        match chance.choices(["out", "take", "giveup", "ask", "hostdown", "hostup", "calm", "raw", ""], [12, 16, 4, 1, 4, 6, 1, 2, 2])[0]:
             case "out":
                 lines.append(f"out {chance.choice(flows)} {some_text(chance)}")
-            case "giveup":
-                lines.append(f"giveup {chance.choice(flows)}")
+            case "giveup" | "ask" as kind:
+                lines.append(f"{kind} {chance.choice(flows)}")
             case "calm":
                 lines.append(f"calm {chance.choice([0, 1, 1, 2])}")
             case "raw":
