@@ -10,8 +10,8 @@ ANSWERS = {
     "rfnm": "RFNM, {} took the message",
     "dead": "Dead, {} did not take the message",
     "incomplete": "Incomplete, the message to {} was given up",
-    "nottaken": "NotTaken, the message to {} never came",
-    "unknown": "Incomplete, the message to {} was given up or never came",
+    "nottaken": "NotTaken, the message to {} had not come",
+    "unknown": "Incomplete, the message to {} was given up or had not come",
 }
 
 

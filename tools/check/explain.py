@@ -123,7 +123,7 @@ INSIDES = [
     ("arpanet-of-december-1969", 43, "No route leads from IMP 4 to IMP 1"),
     ("a-question-overtakes-its-message", 16, "IMP 1 asks IMP 2 what became of message 0 of flow 0/1 0/2 9. IMP 1 sends the question about message 0"),
     ("a-question-overtakes-its-message", 17, "IMP 2 has not seen message 0 as a whole, and notes it as never come: from now on its packets are old here. IMP 2 sends the Never for message 0"),
-    ("a-question-overtakes-its-message", 20, "was not taken (this answer is printed as `incomplete` too): the destination's IMP had never seen it, and now never will."),
+    ("a-question-overtakes-its-message", 20, "was not taken (this answer is printed as `incomplete` too): the destination's IMP had never seen it whole, and now never will take it."),
     ("an-rfnm-is-lost-and-asked-for", 23, "Nothing of message 0 of flow 0/1 0/2 9 is left in the network, and IMP 1 gives it up."),
     ("an-rfnm-is-lost-and-asked-for", 24, "Host 0/1 is told that its message to host 0/2 was given up, taken or not."),
     ("an-rfnm-is-lost-and-asked-for", 33, "Host 0/1 is told that host 0/2 took its message (RFNM"),
@@ -131,13 +131,13 @@ INSIDES = [
     ("a-question-after-a-restart", 26, "Still alive: the question about message 0 of flow 0/1 0/2 9, in channel 0 of line 0 at IMP 1"),
     ("a-question-after-a-restart", 33, "Message 0 of flow 0/1 0/2 9 is outstanding. The next event to clear it: `giveup 0/1 0/2 9`."),
     ("a-question-after-a-restart", 43, "IMP 2 sends the Never for message 1"),
-    ("a-question-after-a-restart", 44, "had never seen it, and now never will"),
+    ("a-question-after-a-restart", 44, "had never seen it whole, and now never will take it"),
 ]
 
 # charts of an example: an arrow or a note that is drawn in it, and whether with --short
 DRAWN = [
-    ("a-question-overtakes-its-message", False, "network-->>h0_1: NotTaken, the message to 0/2 never came, link 9"),
-    ("a-question-overtakes-its-message", True, "Note over h0_1: NotTaken, the message to 0/2 never came, link 9"),
+    ("a-question-overtakes-its-message", False, "network-->>h0_1: NotTaken, the message to 0/2 had not come, link 9"),
+    ("a-question-overtakes-its-message", True, "Note over h0_1: NotTaken, the message to 0/2 had not come, link 9"),
     ("an-rfnm-is-lost-and-asked-for", False, "network-->>h0_1: Incomplete, the message to 0/2 was given up, link 9"),
     ("an-rfnm-is-lost-and-asked-for", False, "network-->>h0_1: RFNM, 0/2 took the message, link 9"),
 ]

@@ -197,13 +197,13 @@ def check_questions(program):
     data = make.data_of(explain, example(name), program, name, True)
     words = data["words"]
     same([words[mark[3]] for mark in data["marks"] if mark[2] == "d"], ["NotTaken, link 9"], f"{name}: the mark of an answer")
-    same([arrow[0] for arrow in data["arrows"]], ["g", "m", "r"], f"{name}: a message that never came, one that was taken, and its RFNM")
+    same([arrow[0] for arrow in data["arrows"]], ["g", "m", "r"], f"{name}: a message that was not taken, one that was taken, and its RFNM")
     frames = {it for word in words for it in word.split("|") if it[:1] in "QN" and " message 0 " in it}
     same(frames, {f"{sign} message 0 of flow 0/1 0/2 9" for sign in ("Qthe question about", "Nthe Never for")}, f"{name}: frames on lines")
     without = make.data_of(explain, example(name), program, name)
     for page in data, without:
         told = [page["words"][step[1]] for step in page["steps"]]
-        same(len([it for it in told if "had never seen it, and now never will" in it]), 1, f"{name}: the sentence of an answer")
+        same(len([it for it in told if "had never seen it whole, and now never will take it" in it]), 1, f"{name}: the sentence of an answer")
     print("check page: a question, its answer and what the source is told are shown by their names")
 
 

@@ -2,7 +2,7 @@
 
 Each mark is `[row, lane, kind, words, other]`: what a printed line says at a host's lane, and the lane that it looks away
 from. Each arrow is `[kind, row, lane, row, lane]`: a message, or an answer. A message that never comes ends in a ring, and
-one that found its host dead, never came or was given up in a cross.
+one that found its host dead, was given up or not taken in a cross.
 """
 
 import re
