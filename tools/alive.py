@@ -5,31 +5,33 @@
 
 from dataclasses import dataclass
 
-from imp_rules import CHANNELS, DATA, DEAD, RFNM, spell_flow, spell_host
+from imp_rules import ASK, CHANNELS, DATA, DEAD, NEVER, REQUESTS, RFNM, spell_flow, spell_host, target
 
-NAMES = {RFNM: "RFNM", DEAD: "Dead"}
+NAMES = {RFNM: "RFNM", DEAD: "Dead", NEVER: "Never"}
 
 
 @dataclass(frozen=True)
 class Held:
     """A packet, or what is left of its message, and its place: a word for it and numbers."""
 
-    kind: int  # DATA, RFNM or DEAD
+    kind: int  # that of the packet, DATA for a message
     flow: tuple
     number: int
     what: str
     place: tuple
 
-    def is_data(self):
-        return self.kind == DATA
+    def is_request(self):
+        return self.kind in REQUESTS
 
 
 # ---- words
 
 
 def packet_in_words(packet):
-    """A packet by what it carries: a piece of a message, or an answer about one."""
+    """A packet by what it carries: a piece of a message, a question what became of one, or an answer about one."""
     kind, flow, number, place, last, _ = packet
+    if kind == ASK:
+        return f"the question about message {number} of flow {spell_flow(flow)}"
     if kind != DATA:
         return f"the {NAMES[kind]} for message {number} of flow {spell_flow(flow)}"
     if place == 0 and last:
@@ -107,9 +109,7 @@ def clearing(subnet, place):
     """The next event that takes a packet or message from its place, or brings it nearer to that."""
     match place:
         case ["store", imp, packet]:
-            node = subnet.imps[imp]
-            port = node.route((packet[1][1] if packet[0] == DATA else packet[1][0])[1])
-            return channel_clearing(subnet, imp, port, 0)
+            return channel_clearing(subnet, imp, subnet.imps[imp].route(target(packet)), 0)
         case ["channel", imp, port, channel]:
             return channel_clearing(subnet, imp, port, channel)
         case ["slot", _, flow]:

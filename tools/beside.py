@@ -8,10 +8,24 @@ from script_rules import read_line
 
 
 class Said:
-    """What the model adds to an event: for each printed line what its message says, and sentences about the inside."""
+    """What the model adds to an event: for each printed line what its message says and the answer that crossed, and sentences
+    about the inside."""
 
-    def __init__(self, printed, texts=None, sentences=()):
+    def __init__(self, printed, texts=None, answers=None, sentences=()):
         self.texts, self.sentences = texts or [""] * len(printed), " ".join(sentences)
+        self.answers = answers or [None] * len(printed)
+
+    def lines(self, printed):
+        """The words of each printed line, with what its message says."""
+        return [(words_of(line, answer), text) for line, answer, text in zip(printed, self.answers, self.texts)]
+
+
+def words_of(line, answer):
+    """The words of a printed line. `incomplete` is printed for two answers: here it is the one that crossed, `unknown` where that isn't known."""
+    words = line.split(" ")
+    if words[:2] == ["answer", "incomplete"]:
+        words[1] = answer or "unknown"
+    return words
 
 
 def said(network, told):
@@ -20,8 +34,13 @@ def said(network, told):
     for number, words, printed in told:
         found = found_of(model, number, words, printed, network[1]) if model else None
         model = model if found else None
-        every.append(Said(printed, [what_it_says(it, line, network[1]) for it, line in zip(found.texts, printed)], found.sentences) if found else Said(printed))
+        every.append(said_of(found, printed, network[1]) if found else Said(printed))
     return every
+
+
+def said_of(found, printed, raw):
+    texts = [what_it_says(it, line, raw) for it, line in zip(found.texts(), printed)]
+    return Said(printed, texts, found.answers(), found.sentences)
 
 
 def found_of(model, number, words, printed, raw):

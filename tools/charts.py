@@ -6,15 +6,21 @@
 
 from decode import count
 
-ANSWERS = {"rfnm": "RFNM, {} took the message", "dead": "Dead, {} did not take the message", "incomplete": "Incomplete, the message to {} was given up"}
+ANSWERS = {
+    "rfnm": "RFNM, {} took the message",
+    "dead": "Dead, {} did not take the message",
+    "incomplete": "Incomplete, the message to {} was given up",
+    "nottaken": "NotTaken, the message to {} had not come",
+    "unknown": "Incomplete, the message to {} was given up or had not come",
+}
 
 
 def chart(told, said, raw, sites):
     """The replay as a sequence chart: one arrow for each crossing, between a host and the network."""
     lines, hosts = [], set()
     for (number, event, printed), beside in zip(told, said):
-        for output, text in zip(printed, beside.texts):
-            line, host = chart_line(number, event, output.split(" "), "" if raw else text)
+        for words, text in beside.lines(printed):
+            line, host = chart_line(number, event, words, "" if raw else text)
             lines.append(line)
             hosts |= {host} if host else set()
     names = participants(hosts, sites)
@@ -69,7 +75,7 @@ LEFT_OUT = {"ready", "opened", "ended", "sent", "arrived"}
 
 def short_chart(told, said, raw, sites):
     """The replay as a sequence chart with one arrow for each message, from host to host, where it is taken."""
-    crossed = [(number, event, output.split(" "), text) for (number, event, printed), beside in zip(told, said) for output, text in zip(printed, beside.texts)]
+    crossed = [(number, event, words, text) for (number, event, printed), beside in zip(told, said) for words, text in beside.lines(printed)]
     lines, hosts = [], set()
     for at, (number, event, words, text) in enumerate(crossed):
         kind, *rest = words

@@ -5,6 +5,9 @@ Both readings of a carrier, `box_rules` and `subnet_rules`, stand on this.
 
 from imp_rules import Refused, spell_flow, spell_host
 
+ANSWERS = {"rfnm": "RFNM", "dead": "Dead", "incomplete": "Incomplete", "nottaken": "NotTaken"}
+PRINTED = {"nottaken": "incomplete"}  # an answer that is printed as another one
+
 
 def spell_crossing(kind, *parts):
     """The line that is printed for a crossing."""
@@ -14,7 +17,7 @@ def spell_crossing(kind, *parts):
             return f"{kind} {spell_flow(flow)} {len(text)}"
         case "answer":
             answer, flow = parts
-            return f"answer {answer} {spell_flow(flow)}"
+            return f"answer {PRINTED.get(answer, answer)} {spell_flow(flow)}"
     return f"{kind} {spell_host(parts[0])}"
 
 

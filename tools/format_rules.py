@@ -9,11 +9,11 @@ Octets are `bytes`, and bits a text of the digits 0 and 1.
 
 from host_rules import ALL, CLS, ECO, ERP, ERR, GVB, HEADER, INR, INS, LENGTHS, LINKS, QUOTED, RET, RTS, STR
 from host_rules import header, read_numbers, split
-from imp_rules import DATA, DEAD, INFINITE, PIECE, RFNM, body, octets, spell_host
+from imp_rules import ASK, DATA, DEAD, INFINITE, NEVER, PIECE, RFNM, body, octets, spell_host
 from script_rules import MOST_TEXT
 
 NOP, ANSWERS = 4, {5: "rfnm", 7: "dead", 9: "incomplete"}
-KINDS = {DATA: "data", RFNM: "rfnm", DEAD: "dead"}
+KINDS = {DATA: "data", RFNM: "rfnm", DEAD: "dead", ASK: "ask", NEVER: "never"}
 PACKET_HEAD, UNIT = 8, 16
 IMPS = range(1, 17)
 COMMANDS = "NOP RTS STR CLS ALL GVB RET INR INS ECO ERP ERR RST RRP".split()
@@ -85,20 +85,20 @@ def packet_in_words(octets_in):
     refuse_if(len(octets_in) < end, "Short")
     place, last, between = place_octet & 7, place_octet >> 7 == 1, place_octet >> 3 & 15
     hosts = host_of(source), host_of(destination)
-    is_answer = kind in (RFNM, DEAD)
+    has_bits = kind == DATA
     refuse_if(
         kind not in KINDS
         or any(imp not in IMPS for _, imp in hosts)
         or between != 0
         or place == 7 and not last
-        or is_answer and place_octet != 128
+        or not has_bits and place_octet != 128
         or len(octets_in) > end,
         "NotCanonical",
     )
-    if is_answer:
-        refuse_if(count > 0, "BadLength")
-    else:
+    if has_bits:
         refuse_if(not 0 < count <= PIECE or count % UNIT != 0 or not last and count != PIECE, "BadLength")
+    else:
+        refuse_if(count > 0, "BadLength")
     bits = f"{count} {in_digits(octets_in[PACKET_HEAD:]) or '-'}"
     flow = " ".join(map(spell_host, hosts))
     return f"{KINDS[kind]} {flow} {link} {number} {place} {'last' if last else 'more'} {bits}"

@@ -6,7 +6,17 @@ from the formats. `check imp` compares the code with it, and `subnet_rules` join
 
 CHANNELS, SLOTS, STORE, QUEUE = 8, 8, 32, 16
 PIECE, INFINITE = 1008, 16
-DATA, RFNM, DEAD = 0, 1, 2
+NUMBERS, WINDOW = 256, 127
+DATA, RFNM, DEAD, ASK, NEVER = range(5)
+REQUESTS = DATA, ASK  # these travel to a message's destination, all others to its source
+TELLS = {"taken": RFNM, "dead": DEAD, "never": NEVER}  # the answer to a question about a message of this fate
+BRINGS = {RFNM: "rfnm", DEAD: "dead", NEVER: "nottaken"}  # what a packet tells the source
+
+
+def target(packet):
+    """The IMP to which a packet travels."""
+    kind, (source, destination, _) = packet[:2]
+    return destination[1] if kind in REQUESTS else source[1]
 
 
 # ---- octets
@@ -165,7 +175,7 @@ class Imp:
             self.tell(kind, flow)
 
     def begin(self, flow):
-        number = (self.last[flow] + 1) % 256 if flow in self.last else 0
+        number = self.next_number(flow)
         self.outstanding[flow] = self.last[flow] = number
         return number
 
@@ -176,8 +186,7 @@ class Imp:
     def pump(self):
         waiting, self.store = self.store, []
         for packet in waiting:
-            kind, flow = packet[:2]
-            port = self.route(flow[1][1] if kind == DATA else flow[0][1])
+            port = self.route(target(packet))
             if port is None:
                 continue
             content = self.ports[port].line.submit(packet)
@@ -194,6 +203,9 @@ class Imp:
     def end(self, flow, number, fate):
         if self.kept.get(flow) == number:
             self.fates[flow] = fate
+
+    def is_new(self, flow, number):
+        return flow not in self.kept or 1 <= (number - self.kept[flow]) % NUMBERS <= WINDOW
 
     # calls
 
@@ -250,28 +262,44 @@ class Imp:
     def meaning_of(self, packet):
         """What is to be done about a fresh packet, "lost" where there is no room for it."""
         kind, flow, number = packet[:3]
-        source, destination, _ = flow
-        target = destination[1] if kind == DATA else source[1]
-        if target != self.number:
-            if self.route(target) is None:
+        if target(packet) != self.number:
+            if self.route(target(packet)) is None:
                 return lambda: None
             return (lambda: self.store.append(packet)) if self.room(1) else "lost"
+        if kind == ASK:
+            return self.answer_to(flow, number)
         if kind != DATA:
-            return lambda: self.free("rfnm" if kind == RFNM else "dead", flow, number)
-        if flow in self.kept and (number - self.kept[flow] - 1) % 256 >= 127:
+            return lambda: self.free(BRINGS[kind], flow, number)
+        if not self.is_new(flow, number):
             return lambda: None
-        if not self.runs(destination):
-            leads = self.route(source[1]) is not None
-            if leads and not self.room(1):
-                return "lost"
-            return lambda: self.turn_down(flow, number, leads)
+        if not self.runs(flow[1]):
+            return self.with_reply(DEAD, flow, number, lambda: self.turn_down(flow, number, "dead"))
         return self.reassembly_of(packet)
 
-    def turn_down(self, flow, number, leads):
-        self.note(flow, number, "dead")
+    def answer_to(self, flow, number):
+        """What is to be done about a question: a number that is new is noted as never come, and the one noted last tells its fate."""
+        if self.is_new(flow, number):
+            return self.with_reply(NEVER, flow, number, lambda: self.turn_down(flow, number, "never"))
+        if self.kept[flow] != number or self.fates[flow] == "waits":
+            return lambda: None
+        return self.with_reply(TELLS[self.fates[flow]], flow, number)
+
+    def with_reply(self, kind, flow, number, deed=lambda: None):
+        """A deed, and a packet to the flow's source where a route leads there. "lost" where that has no room."""
+        if self.route(flow[0][1]) is None:
+            return deed
+        if not self.room(1):
+            return "lost"
+
+        def both():
+            deed()
+            self.store.append((kind, flow, number, 0, True, ""))
+
+        return both
+
+    def turn_down(self, flow, number, fate):
+        self.note(flow, number, fate)
         self.slots.pop(flow, None)
-        if leads:
-            self.store.append((DEAD, flow, number, 0, True, ""))
 
     def reassembly_of(self, packet):
         _, flow, number, place, last, bits = packet
@@ -355,6 +383,16 @@ class Imp:
             raise Refused("NotOutstanding")
         self.free("incomplete", flow, self.outstanding[flow])
 
+    def ask(self, flow):
+        self.own(flow[0])
+        if flow not in self.outstanding:
+            raise Refused("NotOutstanding")
+        if self.route(flow[1][1]) is None:
+            return
+        if not self.room(1):
+            raise Refused("NoRoom")
+        self.store.append((ASK, flow, self.outstanding[flow], 0, True, ""))
+
     def forget(self, imp):
         if imp == self.number:
             raise Refused("NoSuch")
@@ -391,13 +429,17 @@ class Imp:
     # queries
 
     def everything(self):
-        """Flow, number and whether it is data, of all that it holds."""
+        """Flow, number and whether it is a request, of all that it holds."""
         pieces = [(flow, number, True) for flow, (number, _) in self.slots.items()]
         queued = [(flow, number, True) for host in self.hosts for flow, number, _ in host.messages]
-        return pieces + queued + [(packet[1], packet[2], packet[0] == DATA) for packet in self.packets()]
+        return pieces + queued + [(packet[1], packet[2], packet[0] in REQUESTS) for packet in self.packets()]
 
     def next_number(self, flow):
-        return (self.last[flow] + 1) % 256 if flow in self.last else 0
+        return (self.last[flow] + 1) % NUMBERS if flow in self.last else 0
+
+    def oldest(self, flow):
+        """The number that may not be alive where the flow's next one is begun."""
+        return (self.last[flow] - WINDOW) % NUMBERS
 
     def awaits(self, imp):
         """Whether a message from one of its hosts to a host at this IMP is outstanding."""

@@ -4,6 +4,7 @@ It reads the state of the independent model, which a refused event left as it wa
 """
 
 from alive import clearing, everything, listed, room_clearing, where
+from crossings import ANSWERS
 from imp_rules import QUEUE, STORE, body, spell_flow, spell_host
 
 TOLD = 3  # so many packets that stand in the way are told of
@@ -54,13 +55,13 @@ class InTheWay:
             return [it for it in everything(subnet) if number in (it.flow[0][1], it.flow[1][1])], kept, awaited
         if kind == "forget":
             at, other = parts
-            return [it for it in everything(subnet) if it.is_data() and (it.flow[0][1], it.flow[1][1]) == (other, at)], [], self.awaited(other, at)
+            return [it for it in everything(subnet) if it.is_request() and (it.flow[0][1], it.flow[1][1]) == (other, at)], [], self.awaited(other, at)
         flow = message[0] if message else parts[0]
         imp = subnet.imps[flow[0][1]]
         if kind == "giveup":
             return self.alive(flow, imp.outstanding[flow]), [], []
         kept = [(flow[1][1], flow[0][1])] if subnet.is_kept(flow, imp.next_number(flow)) else []
-        return self.alive(flow, (imp.last[flow] - 127) % 256) if flow in imp.last else [], kept, []
+        return self.alive(flow, imp.oldest(flow)) if flow in imp.last else [], kept, []
 
     def alive(self, flow, number):
         return [it for it in everything(self.subnet) if (it.flow, it.number) == (flow, number)]
@@ -115,7 +116,8 @@ class InTheWay:
         imp = self.subnet.imps[flow[0][1]]
         alive = self.alive(flow, imp.outstanding[flow])
         if not alive:
-            return f"Nothing of it is alive: `giveup {spell_flow(flow)}` ends it."
+            asked = f"`ask {spell_flow(flow)}` finds out what became of it, and " if imp.route(flow[1][1]) is not None else ""
+            return f"Nothing of it is alive: {asked}`giveup {spell_flow(flow)}` ends it."
         at = listed([f"{it.what}, {where(self.subnet, it.place)}" for it in alive[:TOLD]])
         return f"It is still alive: {at}. The next event to move it on: `{clearing(self.subnet, alive[0].place)}`."
 
@@ -124,7 +126,7 @@ class InTheWay:
         imp = self.subnet.imps[flow[0][1]]
         kinds = [it for it, waits in imp.hosts[flow[0][0]].answers if waits == flow]
         if kinds:
-            return [f"The answer {kinds[0]} about this flow waits for host {spell_host(flow[0])}: `take {spell_host(flow[0])}`."]
+            return [f"{ANSWERS[kinds[0]]} waits for host {spell_host(flow[0])} as the answer about this flow: `take {spell_host(flow[0])}`."]
         if flow not in imp.last:
             return [f"IMP {flow[0][1]} has begun no message of flow {spell_flow(flow)}."]
         return [f"Message {imp.last[flow]}, the last of flow {spell_flow(flow)}, has been answered or given up, or its host stopped meanwhile."]
@@ -135,16 +137,16 @@ class InTheWay:
         rule = f"Link {flow[2]} from {spell_host(flow[0])} to {spell_host(flow[1])} carries one message at a time."
         waits = [it for it, waiting in imp.hosts[flow[0][0]].answers if waiting == flow]
         if waits:
-            return [rule, f"The answer {waits[0]} about the last one waits for host {spell_host(flow[0])}: `take {spell_host(flow[0])}`."]
+            return [rule, f"{ANSWERS[waits[0]]} waits for host {spell_host(flow[0])} as the answer about the last one: `take {spell_host(flow[0])}`."]
         return [rule, f"Message {imp.outstanding[flow]} is outstanding.", self.settling(flow)]
 
     def why_NoRoom(self, kind, parts, message):  # noqa: N802
-        flow, number = (message[0], message[0][0][1]) if message else (None, parts[0][1])
+        flow, number = (message[0], message[0][0][1]) if message else (None, host_of(parts)[1])
         imp = self.subnet.imps[number]
         if flow and flow[1][1] == number:
             return [f"{QUEUE} messages wait for host {spell_host(flow[1])}, and there is room for no more: `take {spell_host(flow[1])}`."]
         wanted = -(-len(body(message[1])) // 1008) if message else 1
-        what = f"the message has {wanted}" if message else "the RFNM of what is to be taken is one"
+        what = f"the message has {wanted}" if message else "the question is one" if kind == "ask" else "the RFNM of what is to be taken is one"
         held = f"IMP {number} holds {len(imp.packets())} packets in its store and channels, {STORE} at most, and {what}."
         return [held, f"Acknowledgements make room. The next event towards one: `{room_clearing(self.subnet, number)}`."]
 

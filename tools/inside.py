@@ -7,7 +7,8 @@ uses this compares what the model prints with what the program printed: `Inside.
 from dataclasses import dataclass
 
 from alive import everything, frame_in_words, listed, of_imp, packet_in_words
-from imp_rules import DATA, body, octets, spell_flow, spell_host
+from crossings import ANSWERS
+from imp_rules import ASK, BRINGS, DATA, NUMBERS, WINDOW, body, octets, spell_flow, spell_host, target
 from in_the_way import InTheWay, hops
 from script_rules import opened
 from subnet_rules import Subnet
@@ -21,12 +22,20 @@ class TooLong(Exception):
 
 @dataclass
 class Told:
-    """What the model says of an event: the lines that it prints, for each the text of its message as octets and the number of
-    its bits (None where it has none), and sentences about the inside of the network."""
+    """What the model says of an event: the lines that it prints, for each what crossed (None where nothing did), and sentences
+    about the inside of the network."""
 
     printed: list
-    texts: list
+    crossings: list
     sentences: list
+
+    def texts(self):
+        """For each line the text of its message as octets and the number of its bits, None where it has none."""
+        return [(octets(it[2]), len(it[2])) if it and it[0] in ("out", "in") else None for it in self.crossings]
+
+    def answers(self):
+        """For each line the answer that crossed, None where there is none. Two answers are printed alike."""
+        return [it[1] if it and it[0] == "answer" else None for it in self.crossings]
 
 
 class Inside:
@@ -55,7 +64,7 @@ class Inside:
             sentences = InTheWay(self.subnet).refusal(printed[-1].split(" ")[1], kind, parts, flow)
         else:
             sentences = tell() if tell else []
-        return Told(printed, texts_of(printed, self.carrier.log[crossed:]), [it for it in sentences if it])
+        return Told(printed, beside_lines(printed, self.carrier.log[crossed:]), [it for it in sentences if it])
 
     def flow_of(self, kind, parts):
         """The flow and the text of the message that an event would send; None where it sends none."""
@@ -173,9 +182,9 @@ class Inside:
     def is_coming(self, it, host):
         """Whether something that is alive may still come to a host: a message that it has not taken, or an answer that it waits for."""
         imp = self.subnet.imps[host[1]]
-        if it.kind != DATA:
-            return it.flow[0] == host and imp.outstanding.get(it.flow) == it.number
-        return it.flow[1] == host and (it.flow not in imp.kept or 1 <= (it.number - imp.kept[it.flow]) % 256 <= 127)
+        if it.kind == DATA:
+            return it.flow[1] == host and imp.is_new(it.flow, it.number)
+        return it.kind != ASK and it.flow[0] == host and imp.outstanding.get(it.flow) == it.number
 
     # ---- lines
 
@@ -207,13 +216,15 @@ class Inside:
         if imp.lost > was.lost:
             return "IMP {} has no room for it and does not acknowledge it, so it will be sent again.".format(number)
         packet = content[3]
-        kind, flow, message, *_ = packet
-        if (flow[1] if kind == DATA else flow[0])[1] != number:
+        if target(packet) != number:
             return self.passed_on(number, packet, was.ways)
+        kind, flow, message, *_ = packet
+        if kind == ASK:
+            return self.asked(was, imp, flow, message)
         return self.taken_in(was, imp, kind, flow, message)
 
     def passed_on(self, number, packet, ways):
-        to = (packet[1][1] if packet[0] == DATA else packet[1][0])[1]
+        to = target(packet)
         if not ways.get(to):
             return f"IMP {number} knows no route to IMP {to}, so the packet is dropped."
         return self.sendings(number, "sends on") or f"IMP {number} stores it: all channels of the line towards IMP {to} are busy."
@@ -223,7 +234,7 @@ class Inside:
         source, destination = spell_host(flow[0]), spell_host(flow[1])
         if kind != DATA:
             if was.outstanding.get(flow) == message:
-                waits = f"The answer now waits for host {source}." if imp.runs(flow[0]) else f"Host {source} is down, so no answer waits."
+                waits = f"{ANSWERS[BRINGS[kind]]} now waits for host {source}." if imp.runs(flow[0]) else f"Host {source} is down, so no answer waits."
                 return f"Message {message} is no longer outstanding. {waits}"
             return f"Message {message} of this flow is not outstanding, so the answer is ignored."
         if len(imp.hosts[flow[1][0]].messages if flow[1][0] < len(imp.hosts) else []) > was.queued(flow):
@@ -232,9 +243,27 @@ class Inside:
             return f"Host {destination} is down. {self.sendings(imp.number) or 'No answer goes back.'}"
         if imp.slots.get(flow) != was.slots.get(flow) and flow in imp.slots:
             return f"The message is not whole yet: a slot holds {len(imp.slots[flow][1])} of its pieces."
-        if flow in was.kept and (message - was.kept[flow] - 1) % 256 >= 127:
+        if not was.is_new(flow, message):
             return f"Message {message} came to its end here before (the last one noted is {was.kept[flow]}), so this copy is dropped."
         return "It is dropped: what is there of its message contradicts it, or has it."
+
+    def asked(self, was, imp, flow, message):
+        """What an IMP answers to a question about a message to one of its hosts, and why."""
+        if was.is_new(flow, message):
+            pieces = len(was.slots[flow][1]) if flow in was.slots else 0
+            thrown = f" It throws away {pieces} piece{'s' if pieces > 1 else ''} of the flow." if pieces else ""
+            why = f"IMP {imp.number} has not seen message {message} as a whole, and notes it as never come: from now on its packets are old here.{thrown}"
+            return f"{why} {self.replied(imp, flow)}"
+        if was.kept[flow] != message:
+            return f"The last number that it noted is {was.kept[flow]}, so it knows nothing of message {message}, and answers nothing."
+        told = TELLS[was.fates[flow]].format(host=spell_host(flow[1]), message=message)
+        return f"{told} {'No answer goes back.' if was.fates[flow] == 'waits' else self.replied(imp, flow)}"
+
+    def replied(self, imp, flow):
+        """How the answer to a question leaves."""
+        if not self.leads(imp.number, flow[0][1]):
+            return f"IMP {imp.number} knows no route to IMP {flow[0][1]}, so no answer goes back."
+        return self.sendings(imp.number) or f"The answer waits in the store of IMP {imp.number}."
 
     def freed(self, was, line):
         """Which packets the frame's acknowledgement bits freed at its receiver."""
@@ -329,6 +358,21 @@ class Inside:
 
         return told
 
+    def see_ask(self, flow):
+        imp = self.subnet.imps.get(flow[0][1])
+        number = imp.outstanding.get(flow) if imp is not None else None
+        far = flow[1][1]
+
+        def told():
+            if far == imp.number:
+                return [f"Both hosts are at IMP {far}, so there is nobody to ask."]
+            if imp.route(far) is None:
+                return [f"IMP {imp.number} knows no route to IMP {far}, so nothing is asked."]
+            start = f"IMP {imp.number} asks IMP {far} what became of message {number} of flow {spell_flow(flow)}."
+            return [start, self.sendings(imp.number) or f"The question waits in the store of IMP {imp.number}."]
+
+        return told
+
     def see_forget(self, number, other):
         if not self.is_up(number):
             return None
@@ -367,13 +411,19 @@ class Inside:
         return f"{listed(told)}."
 
 
-def texts_of(printed, crossings):
-    """The texts of the messages that crossed, each beside its line; None beside all other lines."""
-    crossings, texts = iter(crossings), []
-    for line in printed:
-        kind, *parts = next(crossings) if line.split(" ")[0] in ("out", "in", "answer", "down", "up") else ("",)
-        texts.append((octets(parts[1]), len(parts[1])) if kind in ("out", "in") else None)
-    return texts
+# what an IMP knows of the message that it noted last, by its fate
+TELLS = {
+    "waits": "Message {message} waits there for host {host}.",
+    "taken": "Host {host} took message {message}.",
+    "dead": "Host {host} was down, and did not take message {message}.",
+    "never": "Message {message} was noted as never come.",
+}
+
+
+def beside_lines(printed, crossings):
+    """What crossed, each beside its line; None beside all other lines."""
+    crossings = iter(crossings)
+    return [next(crossings) if line.split(" ")[0] in ("out", "in", "answer", "down", "up") else None for line in printed]
 
 
 class Before:
@@ -385,9 +435,13 @@ class Before:
         self.busy, self.bits = list(line.busy), list(line.next_bit)
         self.is_repeat = content is not None and content[0] == "packet" and content[2] != line.expected[content[1]]
         self.lost = imp.lost
-        self.outstanding, self.kept = dict(imp.outstanding), dict(imp.kept)
+        self.outstanding, self.kept, self.fates = dict(imp.outstanding), dict(imp.kept), dict(imp.fates)
         self.slots = {flow: (number, dict(pieces)) for flow, (number, pieces) in imp.slots.items()}
         self.messages = [len(host.messages) for host in imp.hosts]
+
+    def is_new(self, flow, number):
+        """Whether the IMP would have taken a number as new."""
+        return flow not in self.kept or 1 <= (number - self.kept[flow]) % NUMBERS <= WINDOW
 
     def queued(self, flow):
         """How many messages waited for the flow's destination."""

@@ -58,6 +58,7 @@ EVENTS = {
     "impup": ["I"],
     "forget": ["I", "J"],
     "abandon": ["S", "D", "N"],
+    "ask": ["S", "D", "N"],
     "calm": ["ROUNDS"],
 }
 

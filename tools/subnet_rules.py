@@ -5,7 +5,7 @@ definitions. `check model` compares the program with it. Each event prints what 
 """
 
 from crossings import Crossed
-from imp_rules import DATA, Imp, Refused
+from imp_rules import REQUESTS, Imp, Refused
 
 PLACES = 256  # frames that are live on a line, each way
 TAKES = 16  # takings of a host in a round of `calm`
@@ -53,11 +53,11 @@ class Subnet(Crossed):
     # ---- what is alive
 
     def alive(self):
-        """Flow, number and whether it is data, of all that IMPs hold and live frames carry."""
+        """Flow, number and whether it is a request, of all that IMPs hold and live frames carry."""
         held = [entry for imp in self.imps.values() if imp is not None for entry in imp.everything()]
         frames = [content for ways in self.live for way in ways.values() for _, content in way]
         packets = [content[3] for content in frames if content is not None and content[0] == "packet"]
-        return held + [(packet[1], packet[2], packet[0] == DATA) for packet in packets]
+        return held + [(packet[1], packet[2], packet[0] in REQUESTS) for packet in packets]
 
     def is_alive(self, flow, number):
         return any(entry[:2] == (flow, number) for entry in self.alive())
@@ -70,6 +70,10 @@ class Subnet(Crossed):
     def is_awaiting(self, other, at):
         """Whether a message to a host at an IMP is outstanding at another one, if that is up."""
         return self.imps[other] is not None and self.imps[other].awaits(at)
+
+    def is_awaited(self, at):
+        """Whether a message to a host at an IMP is outstanding at any other one that is up."""
+        return any(imp.awaits(at) for number, imp in self.imps.items() if imp is not None and number != at)
 
     # ---- what is there
 
@@ -104,7 +108,7 @@ class Subnet(Crossed):
         self.host(source)
         imp = self.imps[source[1]]
         if imp is not None and imp.begins(flow):
-            if flow in imp.last and self.is_alive(flow, (imp.last[flow] - 127) % 256):
+            if flow in imp.last and self.is_alive(flow, imp.oldest(flow)):
                 raise Refused("StillAlive")
             if self.is_kept(flow, imp.next_number(flow)):
                 raise Refused("StillAlive")
@@ -169,8 +173,7 @@ class Subnet(Crossed):
         self.site(number)
         others = [imp for other, imp in self.imps.items() if imp is not None and other != number]
         kept = any(flow[0][1] == number for imp in others for flow in imp.kept)
-        awaited = any(imp.awaits(number) for imp in others)
-        if kept or awaited or any(number in (flow[0][1], flow[1][1]) for flow, _, _ in self.alive()):
+        if kept or self.is_awaited(number) or any(number in (flow[0][1], flow[1][1]) for flow, _, _ in self.alive()):
             raise Refused("StillAlive")
         if self.imps[number] is not None:
             raise Refused("IsUp")
@@ -199,12 +202,17 @@ class Subnet(Crossed):
         self.up(source[1])
         self.call(source[1], lambda imp: imp.give_up(flow))
 
+    def ask(self, flow):
+        self.host(flow[0])
+        self.up(flow[0][1])
+        self.call(flow[0][1], lambda imp: imp.ask(flow))
+
     def forget(self, at, other):
         self.site(at)
         self.site(other)
         if at == other:
             raise Refused("NoSuch")
-        if self.is_awaiting(other, at) or any(is_data and (flow[0][1], flow[1][1]) == (other, at) for flow, _, is_data in self.alive()):
+        if self.is_awaiting(other, at) or any(is_request and (flow[0][1], flow[1][1]) == (other, at) for flow, _, is_request in self.alive()):
             raise Refused("StillAlive")
         self.up(at)
         self.call(at, lambda imp: imp.forget(other))

@@ -10,7 +10,7 @@ import re
 import script_rules
 from box_rules import Boxes
 from host_rules import ALL, GONE, GVB, HEARD, READY, RET, RRP, WANT, End, Host, Pair
-from imp_rules import Imp, Refused
+from imp_rules import NEVER, Imp, Refused
 from subnet_rules import Subnet
 from world_rules import World
 
@@ -71,9 +71,36 @@ class Unnoted(Imp):
         return unnoted
 
 
-class Forgetful(Subnet):
-    def imp_of(self, number):
-        return Unnoted(number, self.sites[number], sum(number in ends for ends in self.ends))
+class AskedUnnoted(Imp):
+    """An IMP that doesn't note a new number that it is asked about."""
+
+    def answer_to(self, flow, number):
+        return self.with_reply(NEVER, flow, number) if self.is_new(flow, number) else super().answer_to(flow, number)
+
+
+class Impatient(Imp):
+    """An IMP that says Never of a message that waits."""
+
+    def answer_to(self, flow, number):
+        waits = self.kept.get(flow) == number and self.fates[flow] == "waits"
+        return self.with_reply(NEVER, flow, number) if waits else super().answer_to(flow, number)
+
+
+def of_imps(kind):
+    """Subnets with IMPs of another kind."""
+
+    class Broken(Subnet):
+        def imp_of(self, number):
+            return kind(number, self.sites[number], sum(number in ends for ends in self.ends))
+
+    return Broken
+
+
+class BeginsKept(Subnet):
+    """A subnet in which a number is begun though the destination's IMP keeps it."""
+
+    def is_kept(self, flow, number):
+        return False
 
 
 class Careless(Subnet):
@@ -336,10 +363,13 @@ def with_subnet(make, *words):
 
 
 LACKING = {
-    "the number of a whole message is noted": with_subnet(Forgetful),
+    "the number of a whole message is noted": with_subnet(of_imps(Unnoted)),
     "no number is begun while the one a window behind is alive": with_subnet(Careless, "out"),
     "an IMP comes up only when nothing of it is alive": with_subnet(Careless, "impup"),
     "a message is given up only when nothing of it is alive": with_subnet(Careless, "giveup"),
+    "a number that is new is noted when it is asked about": with_subnet(of_imps(AskedUnnoted)),
+    "a question about a message that waits isn't answered": with_subnet(of_imps(Impatient)),
+    "no number is begun that the destination's IMP keeps": with_subnet(BeginsKept),
     "an RRP counts only after the RFNM of the own RST": with_hosts(RepliesAtOnce),
     "an RRP before that RFNM is remembered": with_hosts(RepliesForgotten),
     "RST and RRP wait until nothing is outstanding": with_hosts(ResetsAmidData),

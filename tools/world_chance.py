@@ -63,6 +63,7 @@ class Script:
         self.names = self.world.carrier.hosts()
         self.lines, self.events = [], []
         self.losses = chance.choice([0, 0, 0.01, 0.04])  # how often something is lost or stops
+        self.asks = chance.choice([0, 0, 0.02, 0.08]) if self.subnet else 0
         self.contacts = chance.choice([0.003, 0.01, 0.1])
         self.wrong = chance.choice([0.02, 0.15])
         self.users = chance.choice([0.1, 0.3, 0.5])
@@ -128,6 +129,8 @@ class Script:
         chance = self.chance.random()
         if chance < self.losses:
             return self.trouble()
+        if self.chance.random() < self.asks and (flows := self.outstanding()):
+            return self.question(self.chance.choice(flows))
         down = [name for name, program in self.world.hosts.items() if program is None]
         if down and chance < 0.15:
             return self.recover(self.chance.choice(down))
@@ -162,12 +165,23 @@ class Script:
             frames = [(at, way) for at, lives in enumerate(self.world.carrier.live) for way, live in lives.items() if live]
             ways += [("drop", at, way, 0) for at, way in frames] * 2
             ways += [("abandon", *flow) for flow in flows]
+            ways += [("ask", *flow) for flow in flows]
         event = self.chance.choice(ways or [("calm", 1)])
-        if event[0] in ("giveup", "abandon"):
+        if event[0] in ("giveup", "ask", "abandon"):
             event = event[0], event[1:]
         self.do(*event)
         if event[0] == "enddown" and self.chance.random() < 0.7:
             self.do("endup", *event[1:])
+
+    def question(self, flow):
+        """An IMP asks what became of a message; half of the time all of it that is on the lines is lost before."""
+        for line, ways in enumerate(self.world.carrier.live if self.chance.random() < 0.5 else []):
+            for way, frames in ways.items():
+                for place in reversed(range(len(frames))):
+                    content = frames[place][1]
+                    if content and content[0] == "packet" and content[3][1] == flow:
+                        self.do("drop", line, way, place)
+        self.do("ask", flow)
 
     def recover(self, name):
         """What is on the way for a host that should come up again."""
@@ -178,7 +192,7 @@ class Script:
             self.do("impup", name[1])
         waiting = [flow for flow in self.outstanding() if flow[0] == name]
         for flow in waiting if self.chance.random() < 0.7 else []:
-            self.do("giveup", flow)
+            self.do("ask" if self.subnet and self.chance.random() < 0.3 else "giveup", flow)
         self.do("hostup", name)
 
     def outstanding(self):

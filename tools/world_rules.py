@@ -15,7 +15,7 @@ from service_rules import Server, Terminal, User, program_after, read_bits, read
 TAKES, OFFERS = 16, 32  # so often a host takes and offers in a round of `calm` at most
 PRINTED = {"opened": 3, "sent": 2, "arrived": 2, "error": 2}  # so many words of a notice are printed, of others all
 NETWORK = [
-    "deliver", "drop", "resend", "route", "enddown", "endup", "impdown", "impup", "hostdown", "hostup", "giveup", "forget", "abandon",
+    "deliver", "drop", "resend", "route", "enddown", "endup", "impdown", "impup", "hostdown", "hostup", "giveup", "ask", "forget", "abandon",
 ]  # fmt: skip
 
 

@@ -119,6 +119,7 @@ fn inbound(alloc: Global, mut words: Words<'_>) -> Option<Inbound> {
         "rfnm" => Inbound::Answer(Answer::Rfnm, flow),
         "incomplete" => Inbound::Answer(Answer::Incomplete, flow),
         "dead" => Inbound::Answer(Answer::Dead, flow),
+        "nottaken" => Inbound::Answer(Answer::NotTaken, flow),
         _ => return None,
     })
 }

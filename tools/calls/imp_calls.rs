@@ -2,13 +2,13 @@
 //!
 //! The first line is `new IMP HOSTS PORTS`. Calls are written with their arguments, as `from_line PORT OCTETS`; a flow is
 //! `SOURCE DESTINATION LINK`, a host `HOST/IMP`, and octets are in upper case hexadecimal, `-` for none. Printed are `ok`, what
-//! a host took or `refused NAME`, and then each frame with its port. `ask FLOW NUMBER` prints what the queries tell.
+//! a host took or `refused NAME`, and then each frame with its port. `query FLOW NUMBER` prints what the queries tell.
 //! `check imp` compares all this with an independent model of the rules.
 
 use crate::words::{Words, spell_bits, spell_octets};
 use imp_channel::Frame;
 use imp_node::{Imp, Outgoing};
-use leader1822::{CarrierFault, Flow, HostMessage, ImpNumber, Inbound, Text};
+use leader1822::{Answer, CarrierFault, Flow, HostMessage, ImpNumber, Inbound, Text};
 use std::alloc::Global;
 
 /// What is printed for an IMP and the calls on it.
@@ -35,7 +35,7 @@ fn opened(alloc: Global, line: &str) -> Option<Imp> {
 fn answered(alloc: Global, imp: &mut Imp, line: &str) -> Option<String> {
     let mut words = Words { rest: line };
     let name = words.word()?;
-    if name == "ask" {
+    if name == "query" {
         return told(alloc, imp, words);
     }
     if name == "to_host" {
@@ -68,6 +68,7 @@ fn called(alloc: Global, imp: &mut Imp, name: &str, mut words: Words<'_>) -> Opt
         "end_down" => imp.end_down(words.octet()?),
         "end_up" => imp.end_up(words.octet()?),
         "give_up" => imp.give_up(words.flow()?),
+        "ask" => imp.ask(words.flow()?),
         "forget" => imp.forget(ImpNumber::new(words.octet()?)?),
         "abandon" => imp.abandon(words.flow()?),
         "host_down" => imp.host_down(words.octet()?),
@@ -88,13 +89,23 @@ fn printed(alloc: Global, given: Option<Inbound>, frames: &[Outgoing]) -> Option
     let mut answer = String::new(alloc);
     match given {
         None => answer.push_str("nothing").ok()?,
-        Some(Inbound::Answer(kind, flow)) => write!(answer, "{kind} {flow}").ok()?,
+        Some(Inbound::Answer(kind, flow)) => write!(answer, "{} {flow}", answer_name(kind)).ok()?,
         Some(Inbound::Message(message)) => {
             write!(answer, "message {} ", message.flow).ok()?;
             spell_bits(alloc, &mut answer, message.text.bits())?;
         }
     }
     with_frames(alloc, answer, frames)
+}
+
+/// The name of an answer. Two answers are printed alike, and are told apart here.
+fn answer_name(kind: Answer) -> &'static str {
+    match kind {
+        Answer::Rfnm => "rfnm",
+        Answer::Dead => "dead",
+        Answer::Incomplete => "incomplete",
+        Answer::NotTaken => "nottaken",
+    }
 }
 
 /// An answer with its frames behind it.
@@ -122,11 +133,13 @@ fn told(alloc: Global, imp: &Imp, mut words: Words<'_>) -> Option<String> {
     write!(answer, "{} ", u8::from(imp.begins(&flow))).ok()?;
     number_or_dash(&mut answer, imp.outstanding(&flow))?;
     number_or_dash(&mut answer, imp.last(&flow))?;
+    number_or_dash(&mut answer, imp.kept(&flow))?;
     let keeps = u8::from(imp.keeps(ImpNumber::new(source)?));
     let holds = u8::from(imp.holds(&flow, number));
     let holds_data = u8::from(imp.holds_data(ImpNumber::new(source)?, ImpNumber::new(destination)?));
     let touches = u8::from(imp.touches(ImpNumber::new(source)?));
-    write!(answer, "{keeps} {holds} {holds_data} {touches}").ok()?;
+    let awaits = u8::from(imp.awaits(ImpNumber::new(destination)?));
+    write!(answer, "{keeps} {holds} {holds_data} {touches} {awaits}").ok()?;
     Some(answer)
 }
 

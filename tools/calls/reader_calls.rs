@@ -91,6 +91,7 @@ fn tell_leader(alloc: Global, said: &mut String, read: Result<Leader, LeaderFaul
                 Answer::Rfnm => "rfnm",
                 Answer::Incomplete => "incomplete",
                 Answer::Dead => "dead",
+                Answer::NotTaken => "nottaken",
             };
             write!(said, "{name} {address} {}", link.0).ok()?
         }
@@ -104,6 +105,8 @@ fn tell_packet(alloc: Global, said: &mut String, packet: &Packet) -> Option<()> 
         PacketKind::Data => "data",
         PacketKind::Rfnm => "rfnm",
         PacketKind::Dead => "dead",
+        PacketKind::Ask => "ask",
+        PacketKind::Never => "never",
     };
     let Flow { source, destination, link } = packet.flow();
     let last = if packet.is_last() { "last" } else { "more" };

@@ -119,6 +119,7 @@ fn event(name: &str, mut words: Words<'_>) -> Option<NetEvent> {
         "hostdown" => NetEvent::HostDown(words.host()?),
         "hostup" => NetEvent::HostUp(words.host()?),
         "giveup" => NetEvent::GiveUp(words.flow()?),
+        "ask" => NetEvent::Ask(words.flow()?),
         "forget" => NetEvent::Forget { at: words.imp()?, from: words.imp()? },
         "abandon" => NetEvent::Abandon(words.flow()?),
         _ => return None,

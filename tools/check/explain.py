@@ -9,7 +9,7 @@ Checks what ./explain tells.
   here by hand it names the cause that is meant.
 - In networks with host programs it names a cause for each bad line, and has a sentence for each line that is printed there.
 - In subnets the independent model, from which the sentences about the inside are, prints what the program prints, event by
-  event; each event that prints nothing has a sentence. What it says of lines written here by hand is what is written beside
+  event; where it knows that an answer was NotTaken, for which `incomplete` is printed too, that is told and drawn; each event that prints nothing has a sentence. What it says of lines written here by hand is what is written beside
   them. Where it names the next event that clears what stands in the way of a refused one, these events, one after the other, do.
 - What messages say is what is written here by hand, octets and words.
 - Without a kept program it tells the same.
@@ -54,6 +54,9 @@ BAD_LINES = [
     (b"take 00/1", "without a sign and without leading zeros"),
     (b"giveup 0/1 0/2 256", "out of range: the link is 0 to 255"),
     (b"giveup 0/1 0/2 +1", "without a sign and without leading zeros"),
+    (b"ask 0/1 0/2", "needs 3 words after it: ask S D N. This line has 2"),
+    (b"ask 0/1 2", "needs 3 words after it: ask S D N. This line has 2"),
+    (b"ask 0/1 0/64 5", "out of range: the IMP's number is 1 to 63"),
     (b"giveup 0/1 0/2 4294967301", "out of range: the link is 0 to 255"),
     (b"out 0/1 0/2 5 8064 " + b"FF" * 1008, "out of range: the number of bits is 0 to 8063"),
     (b"out 0/1 0/2 5 0 00", "A text of no bits is written `0 -`"),
@@ -118,6 +121,25 @@ INSIDES = [
     ("abandon-frees-a-slot", 15, "The message is not whole yet: a slot holds 1 of its pieces."),
     ("an-imp-comes-up-when-its-past-is-gone", 22, "IMP 2 still keeps the last numbers of flows from IMP 1. The next event to clear it: `forget 2 1`."),
     ("arpanet-of-december-1969", 43, "No route leads from IMP 4 to IMP 1"),
+    ("a-question-overtakes-its-message", 16, "IMP 1 asks IMP 2 what became of message 0 of flow 0/1 0/2 9. IMP 1 sends the question about message 0"),
+    ("a-question-overtakes-its-message", 17, "IMP 2 has not seen message 0 as a whole, and notes it as never come: from now on its packets are old here. IMP 2 sends the Never for message 0"),
+    ("a-question-overtakes-its-message", 20, "was not taken (this answer is printed as `incomplete` too): the destination's IMP had never seen it whole, and now never will take it."),
+    ("an-rfnm-is-lost-and-asked-for", 23, "Nothing of message 0 of flow 0/1 0/2 9 is left in the network, and IMP 1 gives it up."),
+    ("an-rfnm-is-lost-and-asked-for", 24, "Host 0/1 is told that its message to host 0/2 was given up, taken or not."),
+    ("an-rfnm-is-lost-and-asked-for", 33, "Host 0/1 is told that host 0/2 took its message (RFNM"),
+    ("a-question-about-a-message-that-waits", 18, "Message 0 waits there for host 0/2. No answer goes back."),
+    ("a-question-after-a-restart", 26, "Still alive: the question about message 0 of flow 0/1 0/2 9, in channel 0 of line 0 at IMP 1"),
+    ("a-question-after-a-restart", 33, "Message 0 of flow 0/1 0/2 9 is outstanding. The next event to clear it: `giveup 0/1 0/2 9`."),
+    ("a-question-after-a-restart", 43, "IMP 2 sends the Never for message 1"),
+    ("a-question-after-a-restart", 44, "had never seen it whole, and now never will take it"),
+]
+
+# charts of an example: an arrow or a note that is drawn in it, and whether with --short
+DRAWN = [
+    ("a-question-overtakes-its-message", False, "network-->>h0_1: NotTaken, the message to 0/2 had not come, link 9"),
+    ("a-question-overtakes-its-message", True, "Note over h0_1: NotTaken, the message to 0/2 had not come, link 9"),
+    ("an-rfnm-is-lost-and-asked-for", False, "network-->>h0_1: Incomplete, the message to 0/2 was given up, link 9"),
+    ("an-rfnm-is-lost-and-asked-for", False, "network-->>h0_1: RFNM, 0/2 took the message, link 9"),
 ]
 
 # the link and the octets of a text, and what it says
@@ -255,6 +277,9 @@ def check_inside(program, seeds):
         (at,) = [at for at, line in enumerate(lines) if re.match(f" *{number}  ", line)]
         told = [line for line in lines[at + 1 :] if line.startswith("    ")][: next((k for k, line in enumerate(lines[at + 1 :]) if not line.startswith("    ")), None)]
         same(words in " ".join(told), True, f"{name}, line {number}: {told}")
+    for name, is_short, drawn in DRAWN:
+        chart = explain.short_chart if is_short else explain.chart
+        same(f"    {drawn}" in chart(example(name), explain.replay(example(name), program)[2]).splitlines(), True, f"the chart of {name} has {drawn}")
     for link, octets, words in TEXTS:
         same(text_in_words(link, bytes.fromhex(octets), 4 * len(octets)), words, f"the text {octets}")
     found, cleared = Counter(), 0
@@ -320,6 +345,11 @@ def check_full_store(program):
     told = [goes.happen(read_line(it)) for it in script]
     same(told[-1].printed, ["refused NoRoom"], "a fifth message of eight packets")
     same("IMP 1 holds 32 packets in its store and channels, 32 at most, and the message has 8." in told[-1].sentences, True, told[-1].sentences)
+    clears(goes, read_line(script[-1]), told[-1])
+    script.append("ask 0/1 0/2 2")
+    told.append(goes.happen(read_line(script[-1])))
+    same(told[-1].printed, ["refused NoRoom"], "a question where there is no room for it")
+    same("IMP 1 holds 32 packets in its store and channels, 32 at most, and the question is one." in told[-1].sentences, True, told[-1].sentences)
     clears(goes, read_line(script[-1]), told[-1])
     given = explain.Input("\n".join([model.spelled(network), "%", *script]).encode())
     same([printed for _, _, printed in explain.replay(given, program)[2]], [it.printed for it in told], "a full store")

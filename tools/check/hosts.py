@@ -209,7 +209,7 @@ class Chance(Calls):
             self.stamped(self.names.index(flow[1]), "accept", ("message", flow, text))
         elif not lost and not self.single:
             lost = True
-        self.answers.append((self.one("incomplete", "dead") if lost else "rfnm", flow))
+        self.answers.append((self.one("incomplete", "dead", "nottaken") if lost else "rfnm", flow))
 
     def answer(self):
         kind, flow = self.answers.pop(self.random.randrange(len(self.answers)))
@@ -221,7 +221,7 @@ class Chance(Calls):
         if self.random.random() < 0.3:
             self.stamped(place, "accept", ("message", flow, control_message([bytes([12])])))
         else:
-            self.stamped(place, "accept", (self.one("rfnm", "incomplete", "dead"), flow))
+            self.stamped(place, "accept", (self.one("rfnm", "incomplete", "dead", "nottaken"), flow))
 
     # what a stranger sends
 

@@ -17,7 +17,7 @@ from collections import Counter
 
 
 from drivers import run_cases, write_case
-from imp_rules import CHANNELS, DATA, DEAD, PIECE, RFNM, Imp, Refused, body, octets, spell_flow, spell_frame
+from imp_rules import ASK, CHANNELS, DATA, DEAD, NEVER, PIECE, REQUESTS, RFNM, Imp, Refused, body, octets, spell_flow, spell_frame
 
 RUNS = 1000
 CALLS = 100
@@ -46,10 +46,12 @@ def told_of(imp, flow):
             int(imp.begins(flow)),
             imp.outstanding.get(flow, "-"),
             "-" if last is None else last,
+            imp.kept.get(flow, "-"),
             int(any(source == kept[0][1] for kept in imp.kept)),
             int(any(entry[:2] == (flow, last or 0) for entry in held)),
             int(any(entry[2] and (entry[0][0][1], entry[0][1][1]) == (source, destination) for entry in held)),
             int(any(source in (entry[0][0][1], entry[0][1][1]) for entry in held)),
+            int(imp.awaits(destination)),
         )
     )
 
@@ -97,10 +99,13 @@ class Chance:
         return 0 if number is None else (number + self.random.choice((0, 1, 1, 1, 2, 126, 127, 128, 255))) % 256
 
     def packet(self):
-        kind = self.random.choice((DATA, DATA, DATA, RFNM, DEAD))
-        flow = self.flow(self.random.choice((0, 0, 0.4)) if kind == DATA else self.random.choice((1, 1, 0.4)))
+        kind = self.random.choice((DATA, DATA, DATA, DATA, RFNM, DEAD, ASK, ASK, NEVER))
+        flow = self.flow(self.random.choice((0, 0, 0.4)) if kind in REQUESTS else self.random.choice((1, 1, 0.4)))
         if kind != DATA:
-            number = self.imp.outstanding.get(flow, self.imp.last.get(flow))
+            known = self.imp.kept if kind == ASK else {**self.imp.last, **self.imp.outstanding}
+            if known and self.random.random() < 0.5:
+                flow = self.random.choice([*known])
+            number = known.get(flow)
             chosen = number if number is not None and self.random.random() < 0.7 else self.near(number)
             return kind, flow, chosen, 0, True, ""
         held = self.imp.slots.get(flow)
@@ -151,7 +156,7 @@ class Chance:
         if choice < 0.7 + self.takes:
             number = self.number_below(len(imp.hosts), 3)
             return f"to_host {number}", lambda: spell_given(imp.to_host(number))
-        names = "end_up host_up resend route give_up forget abandon".split()
+        names = "end_up host_up resend route give_up ask forget abandon".split()
         name = self.random.choice(names + 2 * ["end_down", "host_down", "end_up", "host_up"] * self.stops)
         if name in ("resend", "route"):
             return name, imp.resend if name == "resend" else imp.tell_routes
@@ -164,7 +169,7 @@ class Chance:
         if name == "forget":
             other = self.random.randint(1, 5)
             return f"{name} {other}", lambda: imp.forget(other)
-        pool = list(imp.outstanding if name == "give_up" else imp.slots)
+        pool = list(imp.slots if name == "abandon" else imp.outstanding)
         flow = self.random.choice(pool) if pool and self.random.random() < 0.7 else self.flow()
         return f"{name} {spell_flow(flow)}", lambda: getattr(imp, name)(flow)
 
@@ -182,7 +187,7 @@ class Chance:
             except Refused as refused:
                 owed.append(f"refused {refused}")
             flow = self.flow(self.random.choice((0, 1, 0.5)))
-            self.lines += [line, f"ask {spell_flow(flow)} {self.imp.last.get(flow) or 0}"]
+            self.lines += [line, f"query {spell_flow(flow)} {self.imp.last.get(flow) or 0}"]
             owed.append(told_of(self.imp, flow))
         return self.lines, owed
 
@@ -195,7 +200,7 @@ def with_cases(folder, runs):
         lines, owed = chance.run()
         seen["from_line: lost for want of room"] += chance.imp.lost
         for line, wanted in zip(lines, owed):
-            if not line.startswith("ask"):
+            if not line.startswith("query"):
                 word = wanted.split(";")[0]
                 seen[f"{line.split()[0]}: {word if word.startswith('refused') else word.split()[0]}"] += 1
         write_case(folder, f"{run:04}", lines, owed)

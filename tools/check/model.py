@@ -9,7 +9,9 @@ error have to be the same. The same inputs are made each time. TOML itself is no
 plainest spelling.
 
 Networks with host programs are tried as far as the program runs them, which it is asked first: their scripts are made event by
-event, by looking at what the model has come to (tools/world_chance.py), and it is counted what they came to.
+event, by looking at what the model has come to (tools/world_chance.py), and it is counted what they came to. So are scripts of raw
+networks in which IMPs ask what became of their messages (tools/ask_chance.py). Of these the log is compared too, since two answers
+are printed alike. `./check model asking RUNS` tries so many of these alone.
 
 It takes the proved program, or where ./build has not made that the one that was built without proofs. With `--try`, and perhaps the folder of another clone of the repository, it
 takes the program that `rt try` builds without proofs, and fewer inputs, since that one is slow.
@@ -23,7 +25,9 @@ import tempfile
 from collections import Counter
 
 
+from ask_chance import Counting, Questions
 from imp_rules import spell_flow  # noqa: F401 (for tools/check/explain.py)
+from log_rules import ends_log
 from parts import ROOT, any_program
 from script_rules import BadLine, expected, network_is_good, opened, read_line  # noqa: F401
 from world_chance import reached
@@ -31,6 +35,7 @@ from world_chance import some_script as some_script_of_world
 
 INPUTS = 3000
 WORLDS = 1500
+ASKING = 500
 
 # ---- inputs made by chance
 
@@ -99,7 +104,7 @@ def some_text(chance):
 # what happens inside a network: plain mailboxes have no part for it
 RAW = [
     "deliver {line} + 0", "drop 0 - {line}", "resend {imp}", "route {imp}", "enddown {imp} {line}", "endup {imp} 0", "impdown {imp}",
-    "impup {imp}", "forget {imp} 1", "abandon 0/1 3/{imp} 255",
+    "impup {imp}", "forget {imp} 1", "abandon 0/1 3/{imp} 255", "ask 0/1 3/{imp} 255",
 ]  # fmt: skip
 
 
@@ -110,11 +115,11 @@ def some_script(chance, network):
     flows = [f"{chance.choice(hosts)} {chance.choice(hosts)} {chance.choice([0, 5, 255])}" for _ in range(4)]
     lines = []
     for _ in range(chance.choice([0, 3, 10, 40, 150])):
-        match chance.choices(["out", "take", "giveup", "hostdown", "hostup", "calm", "raw", ""], [12, 16, 4, 4, 6, 1, 2, 2])[0]:
+        match chance.choices(["out", "take", "giveup", "ask", "hostdown", "hostup", "calm", "raw", ""], [12, 16, 4, 1, 4, 6, 1, 2, 2])[0]:
             case "out":
                 lines.append(f"out {chance.choice(flows)} {some_text(chance)}")
-            case "giveup":
-                lines.append(f"giveup {chance.choice(flows)}")
+            case "giveup" | "ask" as kind:
+                lines.append(f"{kind} {chance.choice(flows)}")
             case "calm":
                 lines.append(f"calm {chance.choice([0, 1, 1, 2])}")
             case "raw":
@@ -177,6 +182,13 @@ def some_world_input(seed, runs):
     return chance.choice([[], ["--book"], ["--texts", "--book"]]), network, lines
 
 
+def some_questions(seed, seen):
+    """A network and the lines of a script in which IMPs ask. What its questions come to is counted."""
+    questions = Questions(seed, place=Counting)
+    seen += questions.subnet.came_to()
+    return questions.network, questions.lines
+
+
 # ---- the program
 
 
@@ -234,7 +246,7 @@ def compare(program, inputs, runs):
     ends, lines_printed, came_to = Counter(), 0, Counter()
     given = [(options, spelled_input(network, lines)) for options, network, lines in inputs]
     for place, (found, (options, network, lines)) in enumerate(zip(program.ends(given), inputs)):
-        wanted = expected(options, network, [*lines, ""], runs)
+        wanted = ends_log(network, [*lines, ""]) if options == ["--log"] else expected(options, network, [*lines, ""], runs)
         if found != wanted:
             print(f"check model: input {place} differs, with the options {options}:\n{given[place][1]!r}\nfound  {found}\nwanted {wanted}")
             return None
@@ -256,6 +268,8 @@ def main():
             print("check model: there is no program of these sources")
             return 1
     runs = what_it_runs(program)
+    if sys.argv[1:2] == ["asking"]:
+        return compare_asking(program, int(sys.argv[2]) if sys.argv[2:] else 10_000, runs)
     inputs, worlds = (INPUTS, WORLDS) if isinstance(program, Kept) else (INPUTS // 20, WORLDS // 10)
     if compare(program, [some_input(random.Random(seed)) for seed in range(inputs)], runs) is None:
         return 1
@@ -266,4 +280,15 @@ def main():
     if came_to is None:
         return 1
     print("check model: worlds came to", ", ".join(f"{count} {name}" for name, count in sorted(came_to.items())))
+    return compare_asking(program, ASKING if isinstance(program, Kept) else ASKING // 10, runs)
+
+
+def compare_asking(program, count, runs):
+    """Compares the program with the model on scripts with questions, each by what is printed and by its log."""
+    seen = Counter()
+    for first in range(0, count, 500):
+        scripts = [some_questions(seed, seen) for seed in range(first, min(first + 500, count))]
+        if compare(program, [(options, *script) for script in scripts for options in ([], ["--log"])], runs) is None:
+            return 1
+    print(f"check model: {count} scripts with questions, each by what is printed and by its log; they came to", ", ".join(f"{number} {name}" for name, number in sorted(seen.items())))
     return 0

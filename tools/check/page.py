@@ -32,7 +32,7 @@ MOST_OCTETS = 300_000
 STATES = {"rfnm": fold.TAKEN, "dead": fold.DEAD, "incomplete": fold.GIVEN_UP}
 IN_BROWSER = [  # examples, and whether what is inside is shown
     ("first-message", False), ("two-users-at-one-server", False), ("from-a-terminal-to-a-server", True),
-    ("rerouted-over-a-triangle", True), ("a-restart-in-mid-stream", False), ("the-window-comes-round", False),
+    ("rerouted-over-a-triangle", True), ("a-restart-in-mid-stream", False), ("the-window-comes-round", False), ("a-question-overtakes-its-message", True),
 ]  # fmt: skip
 # what is planted in a page's script, and words of what has to be found
 FAULTS = [
@@ -189,6 +189,22 @@ def check_examples(program):
 def example(name):
     with open(f"{ROOT}/examples/{name}", "rb") as file:
         return explain.Input(file.read())
+
+
+def check_questions(program):
+    """A question and a Never have signs of their own, and an answer that is printed as `incomplete` stands by its own name."""
+    name = "a-question-overtakes-its-message"
+    data = make.data_of(explain, example(name), program, name, True)
+    words = data["words"]
+    same([words[mark[3]] for mark in data["marks"] if mark[2] == "d"], ["NotTaken, link 9"], f"{name}: the mark of an answer")
+    same([arrow[0] for arrow in data["arrows"]], ["g", "m", "r"], f"{name}: a message that was not taken, one that was taken, and its RFNM")
+    frames = {it for word in words for it in word.split("|") if it[:1] in "QN" and " message 0 " in it}
+    same(frames, {f"{sign} message 0 of flow 0/1 0/2 9" for sign in ("Qthe question about", "Nthe Never for")}, f"{name}: frames on lines")
+    without = make.data_of(explain, example(name), program, name)
+    for page in data, without:
+        told = [page["words"][step[1]] for step in page["steps"]]
+        same(len([it for it in told if "had never seen it whole, and now never will take it" in it]), 1, f"{name}: the sentence of an answer")
+    print("check page: a question, its answer and what the source is told are shown by their names")
 
 
 # ---- made networks
@@ -359,6 +375,7 @@ def main():
             check_examples(program)
             check_stops(program)
             check_pairs(program)
+            check_questions(program)
     except (Wrong, steps.Differs) as what:
         print(f"check page: {what}")
         return 1

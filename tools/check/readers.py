@@ -58,6 +58,7 @@ RTS, STR, CLS = "01000000100000002105", "02000000210000001008", "030000001000000
 ALL, RET = "0405000200000064", "0605000100000064"
 ERR = "0B030007000100FE00000000"
 EMPTY, RFNM, DEAD = "00010205008000108000", "0101020500800000", "0241C3FF7F800000"
+ASK, NEVER = "0301020900800000", "0401020900800000"
 REQUEST = "0001030000800080" + "0008000A00" + RTS + "80"
 FIRST, LAST = "0001820503" + "0003F0" + STRIPES * 2, "0001820503" + "87" + "0020" + "A5C38000"
 DISTANCES = "010001" + "10" * 13
@@ -80,6 +81,11 @@ WORKED = [
     ("packet", EMPTY, "data 0/1 0/2 5 0 0 last 16 8000 = " + EMPTY),
     ("packet", RFNM, "rfnm 0/1 0/2 5 0 0 last 0 - = " + RFNM),
     ("packet", DEAD, "dead 1/1 3/3 255 127 0 last 0 - = " + DEAD),
+    ("packet", ASK, "ask 0/1 0/2 9 0 0 last 0 - = " + ASK),
+    ("packet", NEVER, "never 0/1 0/2 9 0 0 last 0 - = " + NEVER),
+    ("packet", "0501020900800000", "NotCanonical"),
+    ("packet", "03010209008000108000", "BadLength"),
+    ("packet", "0401020900000000", "NotCanonical"),
     ("packet", REQUEST, f"data 0/1 0/3 0 0 0 last 128 0008000A00{RTS}80 = {REQUEST}"),
     ("packet", FIRST, f"data 0/1 2/2 5 3 0 more 1008 {STRIPES * 2} = {FIRST}"),
     ("packet", LAST, f"data 0/1 2/2 5 3 7 last 32 A5C38000 = {LAST}"),
@@ -89,6 +95,8 @@ WORKED = [
     ("frame", "000007" + EMPTY, "packet  on 7 under 0 data 0/1 0/2 5 0 0 last 16 8000 = 000007" + EMPTY),
     ("frame", "00A508" + RFNM, "packet 0257 on 0 under 1 rfnm 0/1 0/2 5 0 0 last 0 - = 00A508" + RFNM),
     ("frame", "00800F" + DEAD, "packet 7 on 7 under 1 dead 1/1 3/3 255 127 0 last 0 - = 00800F" + DEAD),
+    ("frame", "000001" + ASK, "packet  on 1 under 0 ask 0/1 0/2 9 0 0 last 0 - = 000001" + ASK),
+    ("frame", "000200" + NEVER, "packet 1 on 0 under 0 never 0/1 0/2 9 0 0 last 0 - = 000200" + NEVER),
     ("frame", "000000" + FIRST, f"packet  on 0 under 0 data 0/1 2/2 5 3 0 more 1008 {STRIPES * 2} = 000000{FIRST}"),
     ("frame", "0200" + DISTANCES, "routes  1 0 1" + " 16" * 13 + " = 0200" + DISTANCES),
     ("frame", "020F" + "000102030405060708090A0B0C0D0E0F", f"routes 0123 {' '.join(map(str, range(16)))} = 020F000102030405060708090A0B0C0D0E0F"),
@@ -213,6 +221,7 @@ hostdown 0/16
 # \xe2\x98\x85
 out 1/1 0/1 255 0 -
 take 0/1
+ask 0/1 0/16 5
 giveup 0/1 0/16 5
 abandon 0/1 0/16 5
 hostup 0/16

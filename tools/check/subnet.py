@@ -32,7 +32,7 @@ LARGEST_EVENTS = 400
 # ---- networks and events made by chance
 
 WEIGHTS = {
-    "out": 14, "take": 6, "calm": 2, "deliver": 20, "drop": 8, "resend": 3, "route": 2, "giveup": 4, "abandon": 1, "forget": 1,
+    "out": 14, "take": 6, "calm": 2, "deliver": 20, "drop": 8, "resend": 3, "route": 2, "giveup": 4, "ask": 5, "abandon": 1, "forget": 1,
     "enddown": 2, "endup": 3, "impdown": 0.5, "impup": 2, "hostdown": 1, "hostup": 4, "alive": 3,
 }  # fmt: skip
 
@@ -99,9 +99,9 @@ class Chance:
                 return (self.random.choice(imps),)
             case "forget":
                 return self.random.choice(imps), self.random.choice(imps)
-            case "giveup" | "abandon":
+            case "giveup" | "ask" | "abandon":
                 up = [imp for imp in self.subnet.imps.values() if imp] if sure else []
-                held = [flow for imp in up for flow in (imp.outstanding if kind == "giveup" else imp.slots)]
+                held = [flow for imp in up for flow in (imp.slots if kind == "abandon" else imp.outstanding)]
                 return (self.random.choice(held or self.flows),)
             case "alive":
                 alive = self.subnet.alive() if sure else []

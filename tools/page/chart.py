@@ -2,7 +2,7 @@
 
 Each mark is `[row, lane, kind, words, other]`: what a printed line says at a host's lane, and the lane that it looks away
 from. Each arrow is `[kind, row, lane, row, lane]`: a message, or an answer. A message that never comes ends in a ring, and
-one that found its host dead or was given up in a cross.
+one that found its host dead, was given up or not taken in a cross.
 """
 
 import re
@@ -14,6 +14,9 @@ SAYS = {
     "opened": "{0} opened with {2}", "ended": "{0} ended", "sent": "{0} sent {1} bits", "arrived": "{0} got {1} bits",
     "returned": "{0} has {2} bits back", "interrupt": "{0} interrupted", "echoed": "{1} echoed by {0}", "error": "error {1} from {0}",
 }  # fmt: skip
+
+# the kind of an answer's mark, and its name
+NAMES = {"rfnm": ("r", "RFNM"), "dead": ("d", "Dead"), "nottaken": ("d", "NotTaken"), "incomplete": ("i", "Incomplete"), "unknown": ("i", "Incomplete")}
 
 
 def lanes_of(network, steps):
@@ -62,7 +65,7 @@ class Chart:
         host = host_of(step)
         if host not in self.place:
             return
-        kind, *words = step.printed.split(" ")
+        kind, *words = step.words_printed()
         row, lane = step.row, self.place[host]
         match kind, words:
             case "out", [source, destination, link, bits]:
@@ -96,13 +99,13 @@ class Chart:
     def answer(self, step, answer, source, destination, link):
         """An answer's arrow begins where its message was taken; without a taking it comes from the network."""
         row, lane = step.row, self.place[source]
-        names = {"rfnm": "RFNM", "dead": "Dead", "incomplete": "Incomplete"}
-        self.mark(row, lane, answer[0], f"{names[answer]}, link {link}", self.place.get(destination))
+        kind, name = NAMES[answer]
+        self.mark(row, lane, kind, f"{name}, link {link}", self.place.get(destination))
         arrow, taken = self.sent.pop((source, destination, link), (None, None))
-        if taken and answer != "dead":
-            self.arrows.append([answer[0], *taken, row, lane])
+        if taken and kind in "ri":
+            self.arrows.append([kind, *taken, row, lane])
         elif arrow:
-            arrow[0] = "g" if answer == "incomplete" else "d"
+            arrow[0] = "d" if answer == "dead" else "g"
 
     def turn(self, kind, row, host, lane):
         """A host stops or starts: its lane is dashed between."""

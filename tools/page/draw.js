@@ -213,7 +213,7 @@ function drawArrow(svg, data, sheet, [kind, row0, lane0, row1, lane1], middle) {
   head(group, kind, bx, y1, Math.atan2(y1 - y0, bx - ax));
 }
 
-/** A message that never came: a short arrow with a ring, or a cross where it was given up or found its host dead. */
+/** A message that never came: a short arrow with a ring, or a cross where it was given up, found its host dead or was not taken. */
 function drawStub(group, sheet, kind, x0, y0, lane0, lane1) {
   const side = lane1 < lane0 ? -1 : 1;
   const far = lane1 === lane0 ? 40 : Math.min(90, Math.abs(sheet.xs[lane1] - x0) * 0.45);

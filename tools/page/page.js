@@ -71,7 +71,8 @@ function legend(data) {
   entry("answer", "taken or given up, not answered yet");
   entry("down", "down");
   if (data.inside) {
-    for (const [cls, text] of [["data", "packet of a message"], ["rfnm", "RFNM"], ["dead", "Dead"], ["routes", "distances, acknowledgement"]]) {
+    const asks = data.words.some((it) => /(^|\|)Qthe question /.test(it)) ? [["ask", "question"], ["never", "Never"]] : [];
+    for (const [cls, text] of [["data", "packet of a message"], ["rfnm", "RFNM"], ["dead", "Dead"], ...asks, ["routes", "distances, acknowledgement"]]) {
       const part = el("span", "", text), sign = draw(part, "svg", { width: 13, height: 10, viewBox: "-6.5 -5 13 10" });
       draw(sign, "path", { class: `frame ${cls}`, d: FRAME_SHAPE });
       part.prepend(sign);

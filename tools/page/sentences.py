@@ -42,7 +42,7 @@ class Teller:
     def sentence(self, step):
         if step.printed is None:
             return self.silent(step)
-        kind, *words = step.printed.split(" ")
+        kind, *words = step.words_printed()
         if kind == "refused":
             return f"Refused: {' '.join(step.told) if step.told else self.past.refusal(words[0], step.words)}"
         return self.explain.crossing([kind, *words])
@@ -107,6 +107,8 @@ def inner(words, network):
             return f"IMP {imp} stops, and forgets all that it held."
         case ["forget", at, other]:
             return f"IMP {at} drops the last message numbers of flows from IMP {other}."
+        case ["ask", source, destination, link]:
+            return f"The IMP of host {source} asks that of host {destination} what became of the message on link {link}."
         case ["abandon", source, destination, link]:
             return f"The pieces of the message from {source} to {destination} on link {link} are thrown away, and their slot is free."
     return ""

@@ -172,7 +172,7 @@ function arcLabel(labels, a, b, c, text, how, taken, size) {
 // ---- what is inside
 
 const FRAME_SHAPE = "M-5 -4h6l4 4l-4 4h-6z";
-const FRAME = { d: "data", R: "rfnm", X: "dead", r: "routes", a: "ack" };
+const FRAME = { d: "data", R: "rfnm", X: "dead", Q: "ask", N: "never", r: "routes", a: "ack" };
 
 /** The frames on each line: small signs beside it, in the direction in which they go. */
 function showInside(group, state, map, imps) {

@@ -11,6 +11,8 @@ import re
 from dataclasses import dataclass
 from textwrap import wrap
 
+from beside import words_of
+
 MOST_ROUNDS = 400  # so many rounds of an input are cut
 MOST_STEPS = 5000  # so many steps are shown
 COMMENT = 84  # so many characters of a comment stand in a row
@@ -36,9 +38,14 @@ class Step:
     deed: list = None  # within a round: the event that it is, where that is known
     told: list = None  # sentences of what happens inside
     inside: dict = None  # what is inside then
+    answer: str = None  # the answer that crosses, where the model knows it: two are printed alike
 
     def is_refused(self):
         return self.printed is not None and self.printed.startswith("refused ")
+
+    def words_printed(self):
+        """The words of the printed line, with the answer that crossed in the place of the one that is printed."""
+        return words_of(self.printed, self.answer)
 
 
 @dataclass
@@ -141,7 +148,7 @@ def steps_within(events, within):
                 continue
             part = deed.words if place and deed.words[0] != "calm" else None
             words = ["calm", "1"] if place else words
-            steps.append(Step(number, words, (place, place), deed.printed, number != seen, 0, part, deed.told, deed.state))
+            steps.append(Step(number, words, (place, place), deed.printed, number != seen, 0, part, deed.told, deed.state, deed.answer))
             seen = number
     return steps
 
@@ -158,8 +165,9 @@ def steps_of(events, along=None):
             # the last sentence is of the frames that are live then, and one before it of routes that have become known
             last.told = told if len(told) > 1 else last.told[:-1] + told
             continue
-        for line in printed or [None]:
-            steps.append(Step(number, words, (place, place), line, number != seen, told=told))
+        answers = it.answers() if it else [None] * len(printed)
+        for line, answer in zip(printed or [None], answers or [None]):
+            steps.append(Step(number, words, (place, place), line, number != seen, told=told, answer=answer))
             seen, told = number, []
     return steps
 

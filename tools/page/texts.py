@@ -28,7 +28,7 @@ def texts_of(explain, given, program, printed, told):
     if found := by_program(explain, given, program, printed):
         return found, FROM_PROGRAM
     if told:
-        return [text[0] if text else None for it in told for text in it.texts], FROM_MODEL
+        return [text[0] if text else None for it in told for text in it.texts()], FROM_MODEL
     return [None] * len(printed), UNKNOWN
 
 

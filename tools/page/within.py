@@ -11,7 +11,7 @@ from dataclasses import dataclass
 import script_rules
 from alive import frame_in_words, of_imp
 from imp_rules import Refused
-from inside import Inside
+from inside import Inside, Told, beside_lines
 
 from page.steps import Differs
 
@@ -29,6 +29,7 @@ class Deed:
     printed: str
     told: list
     state: dict
+    answer: str = None
 
 
 class Within:
@@ -49,7 +50,8 @@ class Within:
         else:
             told = self.model.happen(asked)
             state = self.state()
-            deeds = [Deed(words, line, told.sentences if at == 0 else [], state) for at, line in enumerate(told.printed or [None])]
+            answers = told.answers() or [None]
+            deeds = [Deed(words, line, told.sentences if at == 0 else [], state, answers[at]) for at, line in enumerate(told.printed or [None])]
         if self.place.printed[before:] != printed:
             raise Differs(f"at line {number} the independent model prints {self.place.printed[before:]}, and the program {printed}")
         return deeds
@@ -94,7 +96,7 @@ class Within:
         self.subnet.drop(line, way, 0)
         if not has_packet:
             return []
-        what = ("packet", "RFNM", "Dead")[content[3][0]]
+        what = ("packet", "RFNM", "Dead", "question", "Never")[content[3][0]]
         return [Deed(["deliver", str(line), way, "0", f"line {line}, {a}→{b} {what}"], None, told, self.state())]
 
     def hosts(self):
@@ -108,7 +110,7 @@ class Within:
         """What a host takes or offers until there is nothing, or it is refused."""
         deeds = []
         for _ in range(times):
-            before = len(self.place.printed)
+            before, crossed = len(self.place.printed), len(self.model.carrier.log)
             try:
                 self.place.step(kind, host)
             except Refused:
@@ -116,8 +118,8 @@ class Within:
             lines = self.place.printed[before:]
             if not lines:
                 break
-            state = self.state()
-            deeds += [Deed([kind, f"{host[0]}/{host[1]}"], line, [], state) for line in lines]
+            state, told = self.state(), Told(lines, beside_lines(lines, self.model.carrier.log[crossed:]), [])
+            deeds += [Deed([kind, f"{host[0]}/{host[1]}"], line, [], state, answer) for line, answer in zip(lines, told.answers())]
         return deeds
 
     # ---- what is inside
@@ -151,4 +153,4 @@ def frame(content):
         return "a"
     if content[0] == "routes":
         return "r"
-    return f"{'dRX'[content[3][0]]}{frame_in_words(content)}"
+    return f"{'dRXQN'[content[3][0]]}{frame_in_words(content)}"
