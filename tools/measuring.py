@@ -17,6 +17,12 @@ def processor_time(words, source="/dev/null"):
     return used.ru_utime + used.ru_stime
 
 
+def best_of_both(programs, source, rounds):
+    """The best processor time of each of two programs, run in turn."""
+    runs = [[processor_time([program], source) for program in programs] for _ in range(rounds)]
+    return [min(times) for times in zip(*runs)]
+
+
 def most_memory(program, source, *options):
     """The most memory that a process held, in KiB by GNU time, and what it printed."""
     with open(source, "rb") as octets:

@@ -1,7 +1,7 @@
-"""How fast plain mailboxes are with many messages waiting, beside an earlier state: ./measure boxes OTHER [ROUNDS]
+"""How fast plain mailboxes are with many messages waiting, beside an earlier state: ./measure boxes [--program FILE] OTHER [ROUNDS]
 
-OTHER is a clone at another commit, the earlier one. ./build has to be run in both before. The two are measured in turn,
-so that a busy machine slows both.
+OTHER is a clone at another commit, the earlier one, or its program. ./build has to be run in both before, or FILE is the
+program of this state. The two are measured in turn, so that a busy machine slows both.
 
 The scripts fit into an input. They begin with as many messages as have room, which wait for 35 hosts, and then
 
@@ -19,6 +19,7 @@ takes for ten times the lines; at most twelve times is wanted, and at most 150 m
 The earlier state is run only once on a script that takes it more than a second. It is not part of the gate.
 """
 
+import argparse
 import os
 import statistics
 import subprocess
@@ -84,11 +85,19 @@ def filled(name, count):
     return TOPOLOGY + "\n".join(lines) + "\n"
 
 
+def words_of():
+    words = argparse.ArgumentParser(prog="measure boxes")
+    words.add_argument("--program")
+    words.add_argument("other")
+    words.add_argument("rounds", nargs="?", type=int, default=11)
+    return words.parse_args()
+
+
 def main():
-    if not 2 <= len(sys.argv) <= 3:
-        sys.exit("measure boxes: the path of a clone at another commit is wanted, and how many rounds")
-    programs = [proved_program(os.path.realpath(sys.argv[1])), proved_program(ROOT)]
-    rounds = int(sys.argv[2]) if len(sys.argv) == 3 else 11
+    words = words_of()
+    other = os.path.realpath(words.other)
+    programs = [other if os.path.isfile(other) else proved_program(other), words.program or proved_program(ROOT)]
+    rounds = words.rounds
     with tempfile.TemporaryDirectory() as folder:
         print("| Measured | Lines | Before | After | Times | Ten times the lines |\n|---|---|---|---|---|---|")
         for name in SCRIPTS:

@@ -25,7 +25,7 @@ import subprocess
 import sys
 import tempfile
 
-from measuring import most_memory, processor_time, written
+from measuring import best_of_both, most_memory, processor_time, written
 from parts import proved_program
 from subnet_rules import Subnet
 
@@ -116,12 +116,6 @@ def alone(program, source, rounds):
     return statistics.median(runs), min(runs)
 
 
-def beside(programs, source, rounds):
-    """The best processor time of each of two programs, run in turn."""
-    runs = [[processor_time([program], source) for program in programs] for _ in range(rounds)]
-    return [min(times) for times in zip(*runs)]
-
-
 def words_of():
     words = argparse.ArgumentParser(prog="measure subnet")
     words.add_argument("--program")
@@ -146,7 +140,7 @@ def main():
                 if words.beside:
                     if printed(words.beside, source) != printed(program, source):
                         sys.exit(f"measure subnet: {name}: the two programs print something else")
-                    before, best = beside([words.beside, program], source, words.rounds)
+                    before, best = best_of_both([words.beside, program], source, words.rounds)
                     told = f"{1000 * before:.1f} ms | {1000 * best:.1f} ms | {before / best:.2f}"
                 else:
                     median, best = alone(program, source, words.rounds)

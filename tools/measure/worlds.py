@@ -1,7 +1,8 @@
-"""How fast host programs run over both carriers: ./measure worlds [--program FILE] [--only WORDS] [ROUNDS]
+"""How fast host programs run over both carriers: ./measure worlds [--program FILE] [--beside FILE] [--only WORDS] [ROUNDS]
 
-./build has to be run before, or FILE is the program. With --only, the kinds whose names have these words are measured. Two
-hosts talk over plain mailboxes, and over a chain of four IMPs:
+./build has to be run before, or FILE is the program. With --beside, the program of an earlier state is run in turn with it, so
+that a busy machine slows both; both have to print the same. With --only, the kinds whose names have these words are measured.
+Two hosts talk over plain mailboxes, and over a chain of four IMPs:
 
 - a stream: messages of 8,000 bits, each let go by a grant of its own. 1,000,000 bits are 125 messages. In a script eight bits
   take two digits, and an input has at most 1,048,576 octets, so ten times as many don't fit: beside 1,000,000 bits, 400,000
@@ -20,20 +21,22 @@ Over plain mailboxes alone:
 - connections that are all open at once at one host of 64, at most 30 with each other host, and then close;
 - connections that are open at once over pairs of 64 hosts, ten with each, and initial connections over such pairs, all at once;
 - bits that are handed over to be sent and wait, since nobody grants anything, and bits for sockets that have no connection;
+- connections that one host asks another for, all at once, before a request goes out;
 - quiet rounds of 64 hosts that have nothing to say.
 
 Each is run at one size and at ten times that size. For each the median and the best processor time of the rounds are told,
-from the start of the process to its end, and the greatest memory; growth compares the best. At most eleven times as long
-is wanted for ten times the work. What a run prints is counted: every message has to arrive, and every connection to open and
+from the start of the process to its end, and the greatest memory; growth compares the best. At most twelve times as long
+is wanted for ten times the work. With --beside the best of both programs are told, and the greatest memory of both. What a run prints is counted: every message has to arrive, and every connection to open and
 to end. It wants GNU time at /usr/bin/time, and is not part of the gate.
 """
 
+import argparse
 import random
 import statistics
 import sys
 import tempfile
 
-from measuring import most_memory, processor_time, written
+from measuring import best_of_both, most_memory, processor_time, written
 from parts import proved_program
 
 CONNECTIONS = 40
@@ -107,7 +110,7 @@ def closings(other, rounds, count):
     return lines, {"opened": 2 * count, "ended": 2 * count}
 
 
-def beside(other, rounds, count):
+def beside_one(other, rounds, count):
     lines, printed = closings(other, rounds, count)
     first = len(ready(other, rounds))
     return lines[:first] + opened(other, "0/1", rounds, 1) + lines[first:], {**printed, "opened": 2 * count + 2}
@@ -195,6 +198,11 @@ def to_nobody(_, __, count):
     return ["send 0/1 133 8 2A"] * count, {"refused": count}
 
 
+def unanswered(other, rounds, count):
+    opens = [f"opensend 0/1 {other} {100_001 + 2 * at} 200000 8" for at in range(count)]
+    return ready(other, rounds) + opens, {"opened": 0}
+
+
 def quiet(_, __, count):
     return [f"calm {count}"], {"opened": 0}
 
@@ -204,7 +212,7 @@ MEASURED = [
     ("a stream of so many bits", stream, BETWEEN_TWO, [(1_000_000,), (400_000, 4_000_000)]),
     ("messages on 40 connections", at_once, BETWEEN_TWO, [(1_200, 12_000)]),
     ("openings and closings", closings, BETWEEN_TWO, [(1_000, 10_000)]),
-    ("the same beside an open connection", beside, BETWEEN_TWO, [(1_000, 10_000)]),
+    ("the same beside an open connection", beside_one, BETWEEN_TWO, [(1_000, 10_000)]),
     ("lines typed", typed, BETWEEN_TWO, [(2_000, 20_000)]),
     ("initial connections", initial, BETWEEN_TWO, [(100, 1_000)]),
     ("ECOs that wait", queued, BETWEEN_TWO[:1], [(6_000, 60_000)]),
@@ -212,6 +220,7 @@ MEASURED = [
     ("servers that wait", waiting, BETWEEN_TWO[:1], [(3_000, 30_000)]),
     ("bits that wait to be sent", waiting_bits, BETWEEN_TWO[:1], [(2_400, 24_000)]),
     ("bits for sockets without a connection", to_nobody, BETWEEN_TWO[:1], [(2_400, 24_000)]),
+    ("connections that are asked for", unanswered, BETWEEN_TWO[:1], [(2_400, 24_000)]),
     ("connections open at one host", at_one_host, ["plain mailboxes of 64 hosts"], [(180, 1_800)]),
     ("connections open over pairs of hosts", over_pairs, OF_64, [(200, 2_000)]),
     ("initial connections over pairs of hosts", initial_over_pairs, OF_64, [(60, 600)]),
@@ -220,44 +229,69 @@ MEASURED = [
 
 
 def memory_of(program, source, wanted):
-    """The most memory that a run held, in KiB. What it prints has to have so many lines of each of these kinds."""
+    """The most memory that a run held, in KiB, and what it printed, which has to have so many lines of each of these kinds."""
     memory, output = most_memory(program, source)
     kinds = [line.partition(b" ")[0].decode() for line in output.splitlines()]
     wanted = {"refused": 0, "error": 0, **wanted}
     found = {kind: kinds.count(kind) for kind in wanted}
     if found != wanted:
         sys.exit(f"measure worlds: {source}: printed were {found}, not {wanted}")
-    return memory
+    return memory, output
 
 
-def measure(program, folder, rounds, name, make, carrier, sizes):
+def alone(program, source, rounds, wanted):
+    """What is told of one program, and its best time in seconds."""
+    memory, _ = memory_of(program, source, wanted)
+    runs = [processor_time([program], source) for _ in range(rounds)]
+    return f"{1000 * statistics.median(runs):.1f} ms | {1000 * min(runs):.1f} ms | {memory:,} KiB", min(runs)
+
+
+def beside(programs, source, rounds, wanted):
+    """What is told of an earlier program and of the later one, and the best time of the later one in seconds."""
+    (former, lines), (latter, others) = [memory_of(program, source, wanted) for program in programs]
+    if lines != others:
+        sys.exit(f"measure worlds: {source}: the two programs print something else")
+    before, after = best_of_both(programs, source, rounds)
+    return f"{1000 * before:.1f} ms | {1000 * after:.1f} ms | {before / after:.2f} | {former:,} KiB | {latter:,} KiB", after
+
+
+def measure(words, folder, name, make, carrier, sizes):
     """Tells one size and ten times that size."""
     short = 0
     for size in sizes:
         head, sender, passing = CARRIERS[carrier]
         lines, printed = make(sender, passing, size)
         source = written(folder, f"{make.__name__}-{sender[2]}-{size}", head + "\n".join(lines) + "\n")
-        memory = memory_of(program, source, printed)
-        runs = [processor_time([program], source) for _ in range(rounds)]
-        median, best = statistics.median(runs), min(runs)
+        if words.beside:
+            told, best = beside([words.beside, words.program], source, words.rounds, printed)
+        else:
+            told, best = alone(words.program, source, words.rounds, printed)
         growth = f"{best / short:.1f} times" if short else "-"
-        print(f"| {name} | {carrier} | {size:,} | {1000 * median:.1f} ms | {1000 * best:.1f} ms | {memory:,} KiB | {growth} |", flush=True)
+        print(f"| {name} | {carrier} | {size:,} | {told} | {growth} |", flush=True)
         short = best
 
 
+def words_of():
+    words = argparse.ArgumentParser(prog="measure worlds")
+    words.add_argument("--program")
+    words.add_argument("--beside")
+    words.add_argument("--only", default="")
+    words.add_argument("rounds", nargs="?", type=int, default=11)
+    return words.parse_args()
+
+
 def main():
-    words = sys.argv[1:]
-    program = proved_program() if words[:1] != ["--program"] else words[1]
-    words = words[2:] if words[:1] == ["--program"] else words
-    only = words[1] if words[:1] == ["--only"] else ""
-    words = words[2:] if words[:1] == ["--only"] else words
-    rounds = int(words[0]) if words else 11
+    words = words_of()
+    words.program = words.program or proved_program()
     with tempfile.TemporaryDirectory() as folder:
-        print("| Measured | Carrier | Count | Median | Best | Most memory | Ten times the count |\n|---|---|---|---|---|---|---|")
+        if words.beside:
+            print("| Measured | Carrier | Count | Before | After | Times | Memory before | after | Ten times the count |\n|---|---|---|---|---|---|---|---|---|")
+        else:
+            print("| Measured | Carrier | Count | Median | Best | Most memory | Ten times the count |\n|---|---|---|---|---|---|---|")
         for name, make, carriers, pairs in MEASURED:
-            for carrier in carriers if only in name else []:
+            for carrier in carriers if words.only in name else []:
                 for sizes in pairs:
-                    measure(program, folder, rounds, name, make, carrier, sizes)
+                    measure(words, folder, name, make, carrier, sizes)
 
 
 CHANCE = random.Random(1822)

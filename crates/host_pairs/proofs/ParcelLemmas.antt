@@ -1,6 +1,6 @@
 -- What goes out of a pair, and when it may.
 use Rattle.std.proofs.Common.{◌≡◌, ℕ, ◌*◌, ◌/◌, ◌<◌, ◌≤◌, ◌==◌, ◌&&◌, Bool, true, false, not, min, nat_lt, List, [], ◌∷◌, length, find, filter, Option, Some, None, is_some, refl, ap, sym, subst, ◌∙◌, arith, zero, suc}
-use Rattle.std.proofs.Math.Nat.{min-le_left, min-le_right, mul-div-le, mul-le-mul_left}
+use Rattle.std.proofs.Math.Nat.{min-le_left, min-le_right, mul-div-le, mul-le-mul_left, zero-div}
 use Rattle.std.proofs.lemmas.Bool.{ltb-true}
 use Rattle.ncp_control.specs.Allocation as counters
 use Rattle.ncp_control.specs.Packing.{packed_count}
@@ -74,6 +74,21 @@ pub within_bits : (e : Entry) (size : ℕ) → e.size ≡ Some size → size * s
 within_bits e size z =
     let n : sendable e ≡ counters.may_send e.allocation size (length e.bits / size) = ap (λ (s : Option ℕ). sendable_by s e) z in
     rw n (bits_within size _ (length e.bits) (sendable_at e.allocation size (length e.bits / size) (e.allocation.messages == 0) refl).0)
+
+-- an end with no bits that wait sends nothing
+none_sendable : (e : Entry) → length e.bits ≡ 0 → (size : Option ℕ) → sendable_by size e ≡ 0
+none_sendable e z None = refl
+none_sendable e z (Some size) =
+    let bytes : length e.bits / size ≡ 0 = rw z (zero-div size) in
+    omega (arith, bytes, (sendable_at e.allocation size (length e.bits / size) (e.allocation.messages == 0) refl).0)
+
+and_no : (b : Bool) → (b && false) ≡ false
+and_no true = refl
+and_no false = refl
+
+pub nothing_waits : (busy : List ℕ) (e : Entry) → length e.bits ≡ 0 → may_send busy e ≡ false
+nothing_waits busy e z =
+    rw (none_sendable e z e.size) (and_no (not (is_receiving e) && is_open e && is_some e.link && is_answered busy e.link))
 
 -- ---- data
 

@@ -1,7 +1,7 @@
 //! What goes out next to a peer (NIC 8246: RST and RRP go alone, control messages hold 120 octets, data go
 //! within the allocation).
 
-ghost use Rattle.std.specs.Prelude.{◌≡◌, ◌==◌, if◌then◌else◌, length, MatchOption, IfSome, Some, None, List, filter, find, position, slice_index_or};
+ghost use Rattle.std.specs.Prelude.{◌≡◌, ◌==◌, if◌then◌else◌, length, MatchOption, IfSome, Some, None, List, filter, find, is_some, position, slice_index_or};
 ghost use Rattle.host_pairs.specs.Outgoing.{HasRoom, IsThere, parcel_of};
 ghost use Rattle.host_pairs.specs.Parcels as parcels;
 ghost use Rattle.host_pairs.specs.Parcels.{may_send_on};
@@ -45,10 +45,14 @@ impl Entry {
         }
     }
 
-    /// Whether something may go out now.
+    /// Whether something may go out now. Most ends have no bits that wait, so that is looked at first.
+    #[tactic(auto, using(crate::proofs::ParcelLemmas::nothing_waits))]
     fn may_send(&self, busy: &[u8]) -> bool
         ensures { result ≡ parcels.may_send busy.now self.now }
     {
+        if self.bits.is_empty() {
+            return false;
+        }
         !self.is_receiving()
             && self.is_open()
             && self.link.is_some()
@@ -153,6 +157,26 @@ impl Pair {
             return self.next_of_ready();
         }
         None
+    }
+
+    /// Whether something goes out next once the pair is ready. How many commands have room is not counted for that.
+    fn has_next_of_ready(&self) -> bool
+        ensures { result ≡ is_some (parcels.next_of_ready self.now) }
+    {
+        if !self.queue.is_empty() && !is_busy(&self.busy, 0) {
+            return true;
+        }
+        next_bytes(&self.entries, &self.busy).is_some()
+    }
+
+    /// Whether something goes out next, as [`Pair::next`] tells it.
+    pub fn has_next(&self) -> bool
+        ensures { result ≡ is_some (parcels.next_of self.now) }
+    {
+        if self.phase.is_want() || self.owed {
+            return self.busy.is_empty();
+        }
+        self.phase.is_ready() && self.has_next_of_ready()
     }
 
     /// What goes out only when no message to the peer is outstanding.
