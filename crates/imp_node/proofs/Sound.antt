@@ -176,7 +176,7 @@ arrived_imp imp Passing p s t says own format is = record { own = is.own; live =
 arrived_imp imp Old p s t says own format is = is
 arrived_imp imp (Replying told) p s t says own format is = record { own = is.own; live = is.live; answers = is.answers; queues = is.queues; slots = is.slots }
 arrived_imp imp (Undeliverable new told) p s t says own format is = record { own = is.own; live = is.live; answers = is.answers; queues = is.queues; slots = without_table t.slots (flow_of p) is.slots }
-arrived_imp imp Piece p s t says own format is = record { own = is.own; live = is.live; answers = is.answers; queues = is.queues; slots = added_table t.slots p is.slots format says.1.0 }
+arrived_imp imp Piece p s t says own format is = record { own = is.own; live = is.live; answers = is.answers; queues = is.queues; slots = added_table t.slots p is.slots format says.1 }
 arrived_imp imp NoSlot p s t says own format is = is
 arrived_imp imp (Whole text) p s t says own format is =
     queued_imp imp (record { flow = flow_of p; number = p.number; text = text }) (noted (flow_of p) p.number fate.Waits (record t { slots = added t.slots p })) (says.1.new.here ∙ own)
