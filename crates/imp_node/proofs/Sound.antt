@@ -38,7 +38,7 @@ use Rattle.imp_node.specs.Arrival.{Arrival, Passing, Old, Undeliverable, Replyin
 use Rattle.imp_node.specs.Taking.{is_from_here, reply_has_room, replied, taken_by, to_host}
 use Rattle.imp_node.specs.Lines.{resend, route, end_down, end_up}
 use Rattle.imp_node.specs.Queries.{outstanding}
-use Rattle.imp_node.specs.Asking.{asked_by, ask}
+use Rattle.imp_node.specs.Asking.{ask_refusal, asked_by, ask}
 use Rattle.imp_node.specs.Stopping.{give_up, give_up_refusal, forget, abandon, message_returned, all_returned, stopped, host_down, host_up}
 use Rattle.imp_node.specs.Moves.{ArrivalSays}
 use Rattle.imp_node.specs.Sides.{IsImp}
@@ -161,6 +161,9 @@ give_up_imp imp s f accepted is =
     (told_imp imp answer.Incomplete f (record s { sources = given_up s.sources f }) (own_source s f _ accepted ∙ is.own) (record { own = is.own; live = is.live; answers = is.answers; queues = is.queues; slots = is.slots }))
 
 -- ---- ask
+
+pub asking_own : (s : State) (f : Flow) → ask_refusal s f ≡ None → f.source.imp ≡ number s
+asking_own s f accepted = own_source s f _ accepted
 
 asked_imp : (imp : ℕ) (o : Option ℕ) (f : Flow) (s : State) → IsImp imp s → IsImp imp (asked_by o f s)
 asked_imp imp None f s is = is
