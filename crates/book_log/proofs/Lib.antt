@@ -6,5 +6,5 @@ mod Numbers
 mod Once
 mod Printed
 mod Reading
-mod Ranges
+mod Bounds
 pub mod lemmas

@@ -1,5 +1,5 @@
 use Rattle.std.proofs.Common.{◌≤◌, subst}
-use Rattle.book_log.proofs.Ranges.{host_there}
+use Rattle.book_log.proofs.Bounds.{host_there}
 use Rattle.book_log.proofs.ranges.has_host_range.Goals as goal
 
 pub returns : goal.returns
