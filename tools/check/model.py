@@ -17,12 +17,14 @@ It takes the proved program, or where ./build has not made that the one that was
 takes the program that `rt try` builds without proofs, and fewer inputs, since that one is slow.
 """
 
+import os
 import random
 import re
 import subprocess
 import sys
 import tempfile
 from collections import Counter
+from concurrent.futures import ThreadPoolExecutor
 
 
 from ask_chance import Counting, Questions
@@ -204,9 +206,14 @@ class Kept:
 
     def ends(self, inputs):
         """How it ends on inputs with their options: its status, its output and its words."""
-        for options, octets in inputs:
+
+        def run(given):
+            options, octets = given
             ran = subprocess.run([self.path, *options], input=octets, capture_output=True, timeout=60)
-            yield ran.returncode, ran.stdout.decode("latin-1"), ran.stderr.decode("latin-1")
+            return ran.returncode, ran.stdout.decode("latin-1"), ran.stderr.decode("latin-1")
+
+        with ThreadPoolExecutor(os.cpu_count() or 1) as threads:
+            yield from threads.map(run, inputs)
 
 
 class Tried:
