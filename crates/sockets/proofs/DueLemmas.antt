@@ -1,13 +1,11 @@
 -- Which peers something goes to, beside them.
-use Rattle.std.proofs.Common.{◌≡◌, ℕ, ◌+◌, ◌∙◌, Bool, false, cond, not, List, [], ◌∷◌, map, length, take, drop, find, position, Option, Some, None, is_some, MatchOption, slice_index_or, slice_set, refl, ap, sym, suc}
+use Rattle.std.proofs.Common.{◌≡◌, ℕ, ◌+◌, ◌∙◌, Bool, false, cond, not, List, [], ◌∷◌, map, take, drop, find, position, Option, Some, None, slice_index_or, slice_set, refl, ap, sym, suc}
 use Rattle.std.proofs.lemmas.List.{take-map, drop-map, length-map, map-append, map-set}
 use Rattle.std.specs.List.{insert, remove, position_or_len}
 use Rattle.leader1822.specs.Host.{Host}
 use Rattle.host_pairs.proofs.lemmas.{none_found, one_found}
-use Rattle.host_pairs.specs.Outgoing.{parcel_of}
 use Rattle.host_pairs.specs.Pair.{PairState, opening_pair}
 use Rattle.host_pairs.specs.Parcels.{Parcel, next_of}
-use Rattle.host_pairs.specs.declared.outgoing.Outgoing.{Outgoing}
 use Rattle.sockets.specs.Peers.{has_parcel}
 use Rattle.sockets.specs.Sending.{next_in, parcel_for}
 use Rattle.sockets.specs.declared.peer.Peer.{Peer}
@@ -57,10 +55,6 @@ pub nothing_due : (ps : List Peer) (due : List Bool) (at : ℕ) (p : Peer) → d
 nothing_due ps due at p e is stands none = one_due ps due at p e is stands ∙ ap (λ (o : Option Parcel). parcel_for p o None) none
 
 -- ---- changes
-
-pub due_by : (q : PairState) (o : Option Outgoing) → MatchOption o (next_of q ≡ None) (λ out. next_of q ≡ Some (parcel_of q.entries out)) → is_some o ≡ is_some (next_of q)
-due_by q None e = rw e refl
-due_by q (Some out) e = rw e refl
 
 due_removed : (ps : List Peer) (at : ℕ) → remove (map has_parcel ps) at ≡ map has_parcel (remove ps at)
 due_removed ps at = rw (take-map has_parcel at ps, drop-map has_parcel (suc at) ps, map-append has_parcel (take at ps) (drop (suc at) ps)) refl

@@ -1,5 +1,5 @@
 -- The refusals of a request, one after another.
-use Rattle.std.proofs.Common.{◌≡◌, Bool, true, false, Option, Some, None, refl}
+use Rattle.std.proofs.Common.{◌≡◌, Bool, true, false, Option, None, refl}
 use Rattle.sockets.specs.Requests.{first_if}
 use Rattle.sockets.specs.declared.fault.NcpFault.{NcpFault}
 

@@ -8,3 +8,4 @@ pub mod Calls
 pub mod Dialogue
 pub mod Worked
 pub mod Others
+pub mod Owned

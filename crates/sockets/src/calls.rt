@@ -42,13 +42,17 @@ impl Ncp {
     }
 
     /// A new end with a peer, and its request.
+    #[tactic(auto, using(crate::proofs::OwnedLemmas::known_but))]
     fn request(&mut self, peer: HostAddr, entry: Entry, command: Command) -> Result<(), AllocError>
         requires joint { is_alone command ≡ false }
         ensures { OnOk result (self.new ≡ with_peer self.old peer (asked.requested entry command)) }
     {
+        let own = entry.own;
+        let owned = self.peers.take_owned();
         let mut pair = self.peers.take(self.alloc, peer);
         pair.request(entry, command)?;
-        self.peers.put(peer, pair)
+        self.peers.put(peer, pair)?;
+        self.peers.learn(self.alloc, owned, own)
     }
 
     /// A command waits to go out to a peer.

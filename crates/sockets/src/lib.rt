@@ -15,6 +15,7 @@ mod fault;
 pub mod law;
 mod ncp;
 mod offering;
+mod owned;
 mod peer;
 mod peers;
 mod refusals;

@@ -8,11 +8,13 @@ ghost use Rattle.leader1822.specs.Host.{address_octet, same_host};
 ghost use Rattle.host_pairs.specs.Outgoing.{HasRoom, IsThere, parcel_of};
 ghost use Rattle.host_pairs.specs.Pair.{PairState, opening_pair};
 ghost use Rattle.host_pairs.specs.Parcels.{next_of};
+ghost use Rattle.sockets.specs.Owned.{AreKnown, AreKnownBut, some_own};
 ghost use Rattle.sockets.specs.Pairs.{owner_of, pair_with, with_pair, placed, without_peer};
 ghost use Rattle.sockets.specs.Peers.{AreInOrder, has_parcel};
 ghost use Rattle.sockets.specs.Sending.{next_in};
 ghost use Rattle.sockets.specs.declared.peer.Peer.{Peer};
 
+use crate::owned::Owned;
 use crate::peer::Peer;
 use host_pairs::{Entry, Outgoing, Pair, own_place};
 use leader1822::HostAddr;
@@ -23,15 +25,18 @@ use std::mem;
 /// The other hosts that this one has to do with, in order of their address octets. A host that isn't here has
 /// a pair as at the opening.
 ///
-/// Beside each stands whether something goes to it, so that the next message is found without a look at the others.
+/// Beside each stands whether something goes to it, so that the next message is found without a look at the others. And so far as it
+/// is known which sockets have an end, one without an end is found without a look at all ends.
 #[derive(Drop)]
 pub(crate) struct Peers {
     peers: Vec<Peer>,
     due: Vec<bool>,
+    owned: Owned,
 }
 
 impl Model for Peers {
     ghost use Rattle.std.specs.Prelude.{◌≡◌, List, map};
+    ghost use Rattle.sockets.specs.Owned.{AreKnown};
     ghost use Rattle.sockets.specs.Peers.{AreInOrder, has_parcel};
     ghost use Rattle.sockets.specs.declared.peer.Peer.{Peer};
 
@@ -39,7 +44,7 @@ impl Model for Peers {
 
     ghost view = { λ p. p.peers.items };
 
-    ghost invariant = { λ p. AreInOrder p.peers.items × (p.due.items ≡ map has_parcel p.peers.items) };
+    ghost invariant = { λ p. AreInOrder p.peers.items × (p.due.items ≡ map has_parcel p.peers.items) × AreKnown p.owned p.peers.items };
 }
 
 impl Peers {
@@ -50,6 +55,7 @@ impl Peers {
         Peers {
             peers: Vec::new(alloc),
             due: Vec::new(alloc),
+            owned: Owned::Unknown,
         }
     }
 
@@ -71,12 +77,41 @@ impl Peers {
         &self.peers
     }
 
+    /// Whether it is known that no end is on this socket.
+    pub fn lacks(&self, socket: u32) -> bool
+        ensures { OnTrue result (some_own socket self.now ≡ false) }
+    {
+        self.owned.lacks(socket)
+    }
+
+    /// What is known of the sockets with an end is taken out, to be kept past the request of one more end.
+    pub fn take_owned(&mut self) -> Owned
+        ensures known { AreKnown result self.old }
+        ensures kept { self.new ≡ self.old }
+    {
+        mem::replace(&mut self.owned, Owned::Unknown)
+    }
+
+    /// One more end was requested, on this socket, since that was known.
+    pub fn learn(&mut self, alloc: Global, owned: Owned, own: u32) -> Result<(), AllocError>
+        requires { AreKnownBut own owned self.old }
+        ensures { self.new ≡ self.old }
+    {
+        self.owned = owned.learnt(alloc, own, &self.peers)?;
+        Ok(())
+    }
+
     /// This host's own end on a socket, and its peer.
+    #[tactic(auto, using(crate::proofs::OwnedLemmas::no_owner))]
     pub fn owner(&self, socket: u32) -> Option<(HostAddr, &Entry)>
         ensures found { MatchOption result (owner_of socket self.now ≡ None) (λ found. owner_of socket self.now ≡ Some (found.0, found.1.now)) }
         ensures order { AreInOrder self.now }
     {
-        for peer in self.as_slice() {
+        let peers = self.as_slice();
+        if self.lacks(socket) {
+            return None;
+        }
+        for peer in peers {
             let entries = &peer.pair.entries;
             if let Some(at) = own_place(entries, socket) {
                 return Some((peer.host, &entries[at]));
@@ -105,6 +140,7 @@ impl Peers {
         ensures known { length self.new ≡ length self.old }
         ensures again { (pair : PairState) → with_pair host pair self.new ≡ with_pair host pair self.old }
     {
+        self.owned = Owned::Unknown;
         swap(&mut self.peers, &mut self.due, host, Pair::new(alloc))
     }
 
@@ -113,6 +149,7 @@ impl Peers {
         ensures state { OnOk result (self.new ≡ with_pair host pair self.old) }
         ensures memory { OnErr result (length self.old < length (with_pair host pair self.old)) }
     {
+        self.owned = Owned::Unknown;
         if pair.is_opening() {
             remove(&mut self.peers, &mut self.due, host);
             return Ok(());
@@ -132,7 +169,7 @@ fn first_due(due: &[bool]) -> Option<usize>
 fn has_something(pair: &Pair) -> bool
     ensures { result ≡ is_some (next_of pair.now) }
 {
-    pair.next().is_some()
+    pair.has_next()
 }
 
 /// Removes a host from the peers.

@@ -92,10 +92,14 @@ impl Ncp {
     }
 
     /// Whether a socket is used, or has an end with this foreign socket.
+    #[tactic(auto, using(crate::proofs::OwnedLemmas::no_end))]
     fn is_taken(&self, peer: HostAddr, own: u32, foreign: u32) -> bool
         ensures { result ≡ requests.is_taken self.now peer own foreign }
     {
-        self.is_used(own) || has_end(self.entries(peer), own, foreign)
+        if self.is_used(own) {
+            return true;
+        }
+        !self.peers.lacks(own) && has_end(self.entries(peer), own, foreign)
     }
 
     /// A socket that may listen, with a size that isn't 0.
