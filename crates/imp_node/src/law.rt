@@ -18,11 +18,12 @@ ghost use Rattle.imp_node.specs.Arrival.{arrival, from_line, from_line_refusal, 
 ghost use Rattle.imp_node.specs.Examples.{host, flow, only_packet, first_packet, unmarked_packet, packets_to, packet_frame, ack_frame, from_1, from_2, from_3, from_3_near_2, imp, busy, messages_between, queueing, serving, slots_of, empty_message, sent_imp, sent_answered};
 ghost use Rattle.imp_node.specs.Flows.{answer_packet, is_idle, next_number};
 ghost use Rattle.imp_node.specs.Lines.{on_port, route, resend, end_down, end_up, end_down_refusal, end_up_refusal};
+ghost use Rattle.imp_node.specs.Asking.{ask, ask_refusal};
 ghost use Rattle.imp_node.specs.Contents.{packets, messages};
-ghost use Rattle.imp_node.specs.Making.{Leaves, from_host_makes, from_line_makes, to_host_makes, host_down_makes};
+ghost use Rattle.imp_node.specs.Making.{Leaves, from_host_makes, from_line_makes, to_host_makes, ask_makes, host_down_makes};
 ghost use Rattle.imp_node.specs.Offering.{begins, way_of, way_has_room, from_host, from_host_refusal};
 ghost use Rattle.imp_node.specs.Pump.{pump};
-ghost use Rattle.imp_node.specs.Queries.{outstanding, last, packet_has, message_has, holds, is_data_between, is_message_between, holds_data, packet_touches, message_touches, touches};
+ghost use Rattle.imp_node.specs.Queries.{outstanding, last, packet_has, message_has, holds, is_request_between, is_message_between, holds_data, packet_touches, message_touches, touches};
 ghost use Rattle.imp_node.specs.Room.{stored_count};
 ghost use Rattle.imp_node.specs.State.{State, host_at, is_up, opening_node};
 ghost use Rattle.imp_node.specs.Stopping.{give_up, give_up_refusal, forget_refusal, abandon_refusal, host_down_refusal, host_up_refusal, forget, abandon, stopped, message_returned, host_down, host_up};
@@ -44,13 +45,16 @@ pub fn holding()
     // a message that goes over lines is cut into its packets
     ensures from_host { (s : State) (m : HostMessage) → Leaves s (from_host_makes s m) (from_host s m) }
 
-    // a frame brings its packet, and a piece that can't be delivered gives Dead
+    // a frame brings its packet; a piece that can't be delivered gives Dead, and a question gives the answer to it
     ensures from_line { (s : State) (k : ℕ) (f : Frame) → Leaves s (from_line_makes s f) (from_line s k f) }
 
     // a message that is taken gives its RFNM, and one that waits for a host that goes down gives Dead, where the source is at
     // another IMP
     ensures to_host { (s : State) (h : ℕ) → Leaves s (to_host_makes s h) (to_host s h) }
     ensures host_down { (s : State) (h : ℕ) → Leaves s (host_down_makes s h) (host_down s h) }
+
+    // a question is made about the outstanding message
+    ensures ask { (s : State) (f : Flow) → Leaves s (ask_makes s f) (ask s f) }
 
     // no other call makes a packet
     ensures resend { (s : State) → Leaves s [] (resend s) }
@@ -102,6 +106,7 @@ pub fn moving()
     ensures end_down { (s : State) (k : ℕ) → AllUnmoved s (end_down s k).state }
     ensures end_up { (s : State) (k : ℕ) → AllUnmoved s (end_up s k).state }
     ensures abandon { (s : State) (f : Flow) → AllUnmoved s (abandon s f).state }
+    ensures ask { (s : State) (f : Flow) → AllUnmoved s (ask s f).state }
 {}
 
 /// What holds of an IMP that was not short of memory, after each call if it held before: it has its number,
@@ -123,6 +128,7 @@ pub fn sound()
     ensures give_up { (imp : ℕ) (s : State) (f : Flow) → give_up_refusal s f ≡ None → IsImp imp s → IsImp imp (give_up s f).state }
     ensures forget { (imp : ℕ) (s : State) (other : ℕ) → IsImp imp s → IsImp imp (forget s other).state }
     ensures abandon { (imp : ℕ) (s : State) (f : Flow) → IsImp imp s → IsImp imp (abandon s f).state }
+    ensures ask { (imp : ℕ) (s : State) (f : Flow) → IsImp imp s → IsImp imp (ask s f).state }
     ensures host_down { (imp : ℕ) (s : State) (h : ℕ) → IsImp imp s → IsImp imp (host_down s h).state }
     ensures host_up { (imp : ℕ) (s : State) (h : ℕ) → IsImp imp s → IsImp imp (host_up s h).state }
 {}
@@ -133,9 +139,9 @@ pub fn asking()
     ensures held { (s : State) (f : Flow) (n : ℕ) → holds s f n ≡ true → Any (λ p. packet_has f n p ≡ true) (packets s) ⊎ Any (λ m. message_has f n m ≡ true) (messages s) }
     ensures not_held { (s : State) (f : Flow) (n : ℕ) → holds s f n ≡ false → All (λ p. packet_has f n p ≡ false) (packets s) × All (λ m. message_has f n m ≡ false) (messages s) }
 
-    // the same of data from one IMP to another, and of anything of a flow from or to an IMP
-    ensures data { (s : State) (from to : ℕ) → holds_data s from to ≡ true → Any (λ p. is_data_between from to p ≡ true) (packets s) ⊎ Any (λ m. is_message_between from to m ≡ true) (messages s) }
-    ensures no_data { (s : State) (from to : ℕ) → holds_data s from to ≡ false → All (λ p. is_data_between from to p ≡ false) (packets s) × All (λ m. is_message_between from to m ≡ false) (messages s) }
+    // the same of data from one IMP to another, questions counted, and of anything of a flow from or to an IMP
+    ensures data { (s : State) (from to : ℕ) → holds_data s from to ≡ true → Any (λ p. is_request_between from to p ≡ true) (packets s) ⊎ Any (λ m. is_message_between from to m ≡ true) (messages s) }
+    ensures no_data { (s : State) (from to : ℕ) → holds_data s from to ≡ false → All (λ p. is_request_between from to p ≡ false) (packets s) × All (λ m. is_message_between from to m ≡ false) (messages s) }
     ensures touched { (s : State) (imp : ℕ) → touches s imp ≡ true → Any (λ p. packet_touches imp p ≡ true) (packets s) ⊎ Any (λ m. message_touches imp m ≡ true) (messages s) }
     ensures untouched { (s : State) (imp : ℕ) → touches s imp ≡ false → All (λ p. packet_touches imp p ≡ false) (packets s) × All (λ m. message_touches imp m ≡ false) (messages s) }
 

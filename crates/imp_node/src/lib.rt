@@ -10,6 +10,7 @@
 #![tactic(auto)]
 
 mod arrival;
+mod asking;
 mod flows;
 mod host;
 mod imp;

@@ -53,7 +53,8 @@ impl Imp {
         self.finds(&Sought::Message(*flow, number))
     }
 
-    /// Whether it holds a message, or a piece of one, from a host at one IMP to a host at another.
+    /// Whether it holds a message, a piece of one or a question about one, from a host at one IMP to a host at
+    /// another.
     pub fn holds_data(&self, from: ImpNumber, to: ImpNumber) -> bool
         ensures { result ≡ queries.holds_data self.now from to }
     {

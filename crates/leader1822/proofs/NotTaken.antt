@@ -1,5 +1,5 @@
 -- From a run of the mailboxes alone: a message of which its source was told NotTaken is taken neither before nor after.
-use Rattle.std.proofs.Common.{◌≡◌, Bool, true, false, ◌&&◌, ◌||◌, List, [], ◌∷◌, ◌++◌, length, refl, sym, subst, ◌∙◌, if◌then◌else◌}
+use Rattle.std.proofs.Common.{◌≡◌, Bool, true, false, ◌&&◌, ◌||◌, List, [], ◌∷◌, ◌++◌, length, refl, sym, subst, if◌then◌else◌}
 use Rattle.leader1822.specs.Host.{Host, same_host}
 use Rattle.leader1822.specs.Mailboxes.{Box, Empty, Waiting, Taken, Fits, box_of, same_flow, IsRun}
 use Rattle.leader1822.specs.Messages.{taken_in, went_out, is_not_taken, told_not_taken, NeverTaken}
