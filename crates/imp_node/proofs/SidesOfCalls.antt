@@ -163,7 +163,6 @@ kind_says s p kind.Rfnm is own =
     (eqb-true p.source.imp (number s) (let same : (p.source.imp == number s) ≡ true = rw is at own in same), subst (λ (k : PacketKind). Tells k answer.Rfnm) (sym is) tt)
 kind_says s p kind.Dead is own =
     (eqb-true p.source.imp (number s) (let same : (p.source.imp == number s) ≡ true = rw is at own in same), subst (λ (k : PacketKind). Tells k answer.Dead) (sym is) tt)
-
 kind_says s p kind.Ask is own =
     ask_says s p (finite.get s.kept (flow_of p)) (is_new (kept_in (finite.get s.kept (flow_of p))) p.number) refl refl is
     (eqb-true p.destination.imp (number s) (let same : (p.destination.imp == number s) ≡ true = rw is at own in same))

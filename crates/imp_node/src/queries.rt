@@ -1,4 +1,4 @@
-//! What can be asked of an IMP. The questions change nothing and take no memory.
+//! What can be asked of an IMP. The queries change nothing and take no memory.
 
 ghost use Rattle.std.specs.Prelude.{◌≡◌};
 ghost use Rattle.imp_node.specs.Queries as queries;
