@@ -124,8 +124,8 @@ give_up_moves s f = pumped_moved s (answer_queued answer.Incomplete f (record s 
 data_says : (s : State) (p : PacketFields) (new up : Bool) (a : Added) → is_new (kept_in (finite.get s.kept (flow_of p))) p.number ≡ new → is_up s p.destination.host ≡ up → answer_of s.slots p ≡ a
     → p.kind ≡ kind.Data → p.destination.imp ≡ number s → ArrivalSays (cond (not new) Old (cond (not up) (Undeliverable fate.Dead kind.Dead) (piece_arrival a))) s p
 data_says s p false up a is_n is_u is_a data_kind here = tt
-data_says s p true false a is_n is_u is_a data_kind here = (record { request = ap is_request data_kind; here = here; new = is_n }, (refl, (data_kind, is_u)))
-data_says s p true true piece.Kept is_n is_u is_a data_kind here = (record { request = ap is_request data_kind; here = here; new = is_n }, (data_kind, is_a))
+data_says s p true false a is_n is_u is_a data_kind here = (record { request = ap is_request data_kind; here = here; new = is_n }, (refl, data_kind, is_u))
+data_says s p true true piece.Kept is_n is_u is_a data_kind here = (record { request = ap is_request data_kind; here = here; new = is_n }, data_kind, is_a)
 data_says s p true true piece.Old is_n is_u is_a data_kind here = tt
 data_says s p true true piece.Full is_n is_u is_a data_kind here = (record { request = ap is_request data_kind; here = here; new = is_n }, is_a)
 data_says s p true true (piece.Whole body) is_n is_u is_a data_kind here = at (has_mark body) refl where

@@ -38,7 +38,7 @@ use Rattle.imp_node.specs.Arrival.{Arrival, Passing, Old, Undeliverable, Replyin
 use Rattle.imp_node.specs.Taking.{is_from_here, reply_has_room, replied, taken_by, to_host}
 use Rattle.imp_node.specs.Lines.{resend, route, end_down, end_up}
 use Rattle.imp_node.specs.Queries.{outstanding}
-use Rattle.imp_node.specs.Asking.{asked_by, ask}
+use Rattle.imp_node.specs.Asking.{ask_refusal, asked_by, ask}
 use Rattle.imp_node.specs.Stopping.{give_up, give_up_refusal, forget, abandon, message_returned, all_returned, stopped, host_down, host_up}
 use Rattle.imp_node.specs.Moves.{ArrivalSays}
 use Rattle.imp_node.specs.Sides.{IsImp}
@@ -162,6 +162,9 @@ give_up_imp imp s f accepted is =
 
 -- ---- ask
 
+pub asking_own : (s : State) (f : Flow) → ask_refusal s f ≡ None → f.source.imp ≡ number s
+asking_own s f accepted = own_source s f _ accepted
+
 asked_imp : (imp : ℕ) (o : Option ℕ) (f : Flow) (s : State) → IsImp imp s → IsImp imp (asked_by o f s)
 asked_imp imp None f s is = is
 asked_imp imp (Some n) f s is = record { own = is.own; live = is.live; answers = is.answers; queues = is.queues; slots = is.slots }
@@ -176,7 +179,7 @@ arrived_imp imp Passing p s t says own format is = record { own = is.own; live =
 arrived_imp imp Old p s t says own format is = is
 arrived_imp imp (Replying told) p s t says own format is = record { own = is.own; live = is.live; answers = is.answers; queues = is.queues; slots = is.slots }
 arrived_imp imp (Undeliverable new told) p s t says own format is = record { own = is.own; live = is.live; answers = is.answers; queues = is.queues; slots = without_table t.slots (flow_of p) is.slots }
-arrived_imp imp Piece p s t says own format is = record { own = is.own; live = is.live; answers = is.answers; queues = is.queues; slots = added_table t.slots p is.slots format says.1.0 }
+arrived_imp imp Piece p s t says own format is = record { own = is.own; live = is.live; answers = is.answers; queues = is.queues; slots = added_table t.slots p is.slots format says.1 }
 arrived_imp imp NoSlot p s t says own format is = is
 arrived_imp imp (Whole text) p s t says own format is =
     queued_imp imp (record { flow = flow_of p; number = p.number; text = text }) (noted (flow_of p) p.number fate.Waits (record t { slots = added t.slots p })) (says.1.new.here ∙ own)

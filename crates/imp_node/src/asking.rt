@@ -1,6 +1,6 @@
 //! Asking what became of a message, in place of giving it up.
 
-ghost use Rattle.std.specs.Prelude.{◌≡◌, ◌≤◌, true, false, Some, IfOk, OnOk, OnErr};
+ghost use Rattle.std.specs.Prelude.{◌≡◌, ◌≤◌, true, false, None, IfOk, OnOk, OnErr};
 ghost use Rattle.leader1822.specs.Host.{most_imps};
 ghost use Rattle.packetiser.specs.declared.packet.PacketKind.TheVariants as kind;
 ghost use Rattle.imp_node.specs.Asking as asking;
@@ -54,9 +54,10 @@ impl Imp {
         }
     }
 
-    /// Asks for the outstanding message of a flow from one of its hosts, and pumps.
+    /// Asks for the outstanding message of a flow, which isn't refused, and pumps.
+    #[tactic(auto, using(crate::proofs::Sound::asking_own))]
     fn asked(&mut self, flow: Flow) -> Result<Vec<Outgoing>, AllocError>
-        requires { flow.source.imp ≤ most_imps }
+        requires { asking.ask_refusal self.old flow ≡ None }
         ensures ok { IfOk result (λ frames. Takes (asking.ask self.old flow) self.new frames.items) }
         ensures memory { OnErr result (ask_grows self.old flow ≡ true) }
     {

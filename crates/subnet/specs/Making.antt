@@ -2,6 +2,7 @@
 use Rattle.std.specs.Prelude.{ℕ, List, [], ◌++◌, Option, Some, None, slice_get}
 use Rattle.std.specs.List.{flat_map}
 use Rattle.leader1822.specs.Host.{Host}
+use Rattle.leader1822.specs.declared.address.Flow.{Flow}
 use Rattle.leader1822.specs.declared.event.Direction.{Direction}
 use Rattle.leader1822.specs.declared.message.HostMessage.{HostMessage}
 use Rattle.packetiser.specs.PacketFields.{PacketFields}

@@ -507,38 +507,40 @@ fn asked_for(alloc: Global) -> Result<Option<usize>, CarrierFault> {
             Act::Hear(0),
             &ask(0, 0),
             Want::Sent(2),
-            &[
-                0, 1, 0x01, 0, 0, 0x01, 0, 4, 0x01, 0x02, 9, 0, 0x80, 0, 0,
-            ],
+            &[0, 1, 0x01, 0, 0, 0x01, 0, 4, 0x01, 0x02, 9, 0, 0x80, 0, 0],
         ),
-        (Act::Hear(0), &eight_bits(1, 0), Want::Sent(1), &[0, 1, 0x03]),
+        (
+            Act::Hear(0),
+            &eight_bits(1, 0),
+            Want::Sent(1),
+            &[0, 1, 0x03],
+        ),
         (Act::Take(0), &[], Want::Nothing, &[]),
-        (Act::Hear(0), &eight_bits(2, 1), Want::Sent(1), &[0, 1, 0x07]),
+        (
+            Act::Hear(0),
+            &eight_bits(2, 1),
+            Want::Sent(1),
+            &[0, 1, 0x07],
+        ),
         (Act::Hear(0), &ask(3, 1), Want::Sent(1), &[0, 1, 0x0F]),
         (
             Act::Take(0),
             &[],
             Want::Given(Way::Forth(9), 8, 1),
-            &[
-                0xA5, 0, 0, 0x0F, 1, 1, 0x01, 0x02, 9, 1, 0x80, 0, 0,
-            ],
+            &[0xA5, 0, 0, 0x0F, 1, 1, 0x01, 0x02, 9, 1, 0x80, 0, 0],
         ),
         (
             Act::Hear(0),
             &ask(4, 1),
             Want::Sent(2),
-            &[
-                0, 1, 0x1F, 0, 0, 0x1F, 2, 1, 0x01, 0x02, 9, 1, 0x80, 0, 0,
-            ],
+            &[0, 1, 0x1F, 0, 0, 0x1F, 2, 1, 0x01, 0x02, 9, 1, 0x80, 0, 0],
         ),
         (Act::Forget(1), &[], Want::Sent(0), &[]),
         (
             Act::Hear(0),
             &ask(5, 1),
             Want::Sent(2),
-            &[
-                0, 1, 0x3F, 0, 0, 0x3F, 3, 4, 0x01, 0x02, 9, 1, 0x80, 0, 0,
-            ],
+            &[0, 1, 0x3F, 0, 0, 0x3F, 3, 4, 0x01, 0x02, 9, 1, 0x80, 0, 0],
         ),
     ];
     other_at(alloc, 2, 1, &rows)

@@ -1,5 +1,5 @@
 -- An IMP asks what became of a message.
-use Rattle.std.proofs.Common.{◌≡◌, ℕ, Bool, true, false, not, List, [], ◌∷◌, Option, Some, None, refl, ap, sym, ◌∙◌, subst, inl, All}
+use Rattle.std.proofs.Common.{◌≡◌, ℕ, Bool, true, false, not, List, [], ◌∷◌, Option, Some, None, refl, ap, sym, ◌∙◌, subst, inl, All, if◌then◌else◌}
 use Rattle.std.specs.Prelude.{is_none}
 use Rattle.std.proofs.lemmas.List.Elements.{All-nil, All-cons}
 use Rattle.leader1822.specs.Host.{is_host}
@@ -49,7 +49,8 @@ asked_turn n f s number at awaited is =
     let question : PacketFields = answer_packet kind.Ask f number in
     let asked : (view n f).outstanding ≡ Some number = ap (λ (o : Option State). (sender_at o f).outstanding) at ∙ awaited in
     let all : OnlyNew n (ask_makes s f) next = subst (λ (o : Option State). OnlyNew n (made_at o (λ t. ask_makes t f)) (at_imp o i (λ t. ask t f) n)) at (ask_only n f) in
-    let only : OnlyNew n (question ∷ []) next = subst (λ (ps : List PacketFields). OnlyNew n ps next) (rw awaited refl) all in
+    let made : ask_makes s f ≡ question ∷ [] = rw awaited refl in
+    let only : OnlyNew n (question ∷ []) next = subst (λ (ps : List PacketFields). OnlyNew n ps next) made all in
     let Ours : PacketFields → Type 0 = λ q. flow_of q ≡ f in
     let Told : PacketFields → Type 0 = λ q. IsTold Kind.Ask number (packet_of q) in
     followed_turn n i s turn [] f (move ∷ []) (question ∷ []) (record {

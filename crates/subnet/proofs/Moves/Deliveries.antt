@@ -35,7 +35,7 @@ use Rattle.imp_channel.specs.declared.line.Received.{Received}
 use Rattle.imp_channel.specs.declared.line.Received.TheVariants as received
 use Rattle.imp_channel.proofs.lemmas.{fresh_carried}
 use Rattle.flow_law.specs.View.{View, Packet, Queued, is_refusal}
-use Rattle.flow_law.specs.Moves as moves
+use Rattle.flow_law.specs.Moves as law
 use Rattle.flow_law.specs.Moves.{Move, NoteGone, Whole, Freed, Reply, Brings, CanNote, Joined, IsLost, IsRefusal, IsTold, view_moved}
 use Rattle.flow_law.proofs.lemmas.{makes_one}
 use Rattle.imp_node.specs.declared.waiting.Message.{Message}
@@ -186,7 +186,7 @@ undeliverable_sound n i s p turn new told refused b here moved only is =
 
 -- what is told of a fate is true
 record RepliedWith (old : Fate) (told : PacketKind) : Type 0 where
-  pub tells : moves.Tells old (kind_of told)
+  pub tells : law.Tells old (kind_of told)
   pub carries : Carries told 0 true 0
 
 replied_with : (old : Fate) (told : PacketKind) → TellsFate old told → RepliedWith old told
@@ -224,7 +224,7 @@ replying_sound n i s p turn told b asked still only is =
             up = ap imp_is_up at;
             there = alive_here n p b.there;
             kept = ap kept_in known ∙ ap Some asked.same;
-            tells = subst (λ (x : Fate). moves.Tells x (kind_of told)) fated r.tells;
+            tells = subst (λ (x : Fate). law.Tells x (kind_of told)) fated r.tells;
           })
           (turn_view n i s turn g b.at (still g))
           (λ x. alive_or_made n next (reply ∷ []) (IsTold (kind_of told) p.number) g x only (All-cons Told reply [] (record { kind = refl; number = refl }) (All-nil Told)));

@@ -45,4 +45,4 @@ returns-clause-asked_again c = rw is_begun refl
 
 pub returns-clause-memory : goal.returns-clause-memory
 unfolding next_of submitted distance_to vector_of
-returns-clause-memory c = (rw is_begun refl, rw is_begun refl)
+returns-clause-memory c = (refl, rw is_begun refl)
