@@ -3,9 +3,9 @@ use Rattle.std.proofs.Common.{◌≡◌, ℕ, zero, suc, ◌+◌, ◌-◌, ◌*�
 use Rattle.std.proofs.lemmas.Bool.{cases_eq, eq-eqb, ne_eqb, le-leb, lt-leb, le-ltb}
 use Rattle.std.proofs.Math.Nat.{pow-suc}
 use Rattle.std.proofs.lemmas.List.{append_assoc, append-nil, drop_more, length-drop, nil_from_length, take_more_set, take_all, take_rest}
+use Rattle.leader1822.specs.Host.{most_imps}
 use Rattle.packetiser.specs.Format as packets
 use Rattle.routing.specs.Vector.{is_vector, IsVector}
-use Rattle.routing.specs.declared.vector.TheConstants.{IMPS}
 use Rattle.imp_channel.specs.Carriage.{Carriage}
 use Rattle.imp_channel.specs.declared.fault.ChannelFault.{ChannelFault}
 use Rattle.imp_channel.specs.declared.fault.ChannelFault.TheVariants as fault
@@ -112,7 +112,7 @@ packet_again carried below again = at carried.bit carried.channel below
 pub routes_again : (distances : List ℕ) → IsVector distances → is_vector distances ≡ true
     → content_of (kind_octet (content.Routes distances)) (rest_of (content.Routes distances)) ≡ Ok (content.Routes distances)
 routes_again distances v tested =
-    let enough : ltb (length distances) IMPS ≡ false = le-ltb (length distances) IMPS (omega (arith, v.one_each)) in
+    let enough : ltb (length distances) most_imps ≡ false = le-ltb (length distances) most_imps (omega (arith, v.one_each)) in
     rw (enough, tested) refl
 
 -- a fault of what a frame brings is the frame's

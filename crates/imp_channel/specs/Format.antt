@@ -4,11 +4,12 @@
 -- has the channel in its lowest three places and the packet's bit in the next, and the packet follows. In a routes frame
 -- the distances follow, an octet each, that to IMP 1 first.
 use Rattle.std.specs.Prelude.{◌≡◌, ℕ, zero, suc, ◌+◌, ◌*◌, ◌/◌, ◌%◌, Bool, true, false, List, [], ◌∷◌, length, Result, Ok, Err, IsOk, nat_lt, nat_le, ◌==◌, if◌then◌else◌}
+use Rattle.leader1822.specs.Host.{most_imps}
 use Rattle.packetiser.specs.PacketFields.{PacketFields}
 use Rattle.packetiser.specs.Format as packets
 use Rattle.packetiser.specs.declared.fault.PacketFault.{PacketFault}
 use Rattle.packetiser.specs.declared.fault.PacketFault.TheVariants as packet_fault
-use Rattle.routing.specs.Vector.{imps, is_vector}
+use Rattle.routing.specs.Vector.{is_vector}
 use Rattle.imp_channel.specs.Carriage.{Carriage}
 use Rattle.imp_channel.specs.declared.fault.ChannelFault.{ChannelFault}
 use Rattle.imp_channel.specs.declared.fault.ChannelFault.TheVariants as fault
@@ -77,7 +78,7 @@ nothing_in (octet ∷ rest) = Err fault.NotCanonical
 -- a routes frame: a vector's distances, and nothing after them
 abbrev pub routes_in : List ℕ → Result Content ChannelFault
 routes_in rest =
-    if nat_lt (length rest) imps
+    if nat_lt (length rest) most_imps
     then Err fault.Short
     else (if is_vector rest then Ok (content.Routes rest) else Err fault.NotCanonical)
 

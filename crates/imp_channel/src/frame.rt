@@ -5,8 +5,9 @@ ghost use Rattle.imp_channel.specs.Holding.{bits_carried};
 ghost use Rattle.imp_channel.specs.Format.{Gives, read_of, packet_bits, packet_bits_in, spelling, content_of, kind_octet, rest_of, packet_in, routes_in, channel_octet, octet_of, bits_of, bit_value};
 
 use crate::ChannelFault;
+use leader1822::MOST_IMPS;
 use packetiser::Packet;
-use routing::{IMPS, Vector};
+use routing::Vector;
 use std::alloc::{AllocError, Global};
 use std::marker::Model;
 
@@ -114,9 +115,9 @@ impl Frame {
     /// The frame that these octets spell.
     ///
     /// Errors: `Short` for fewer than two octets, a packet frame without a channel, a routes frame with
-    /// fewer than sixteen distances; `NotCanonical` for a kind above 2, a bit above the channel and its bit,
-    /// octets after the end, a distance above 16; then those of the packet. `OutOfMemory` is given only for
-    /// a packet with bits.
+    /// fewer than [`MOST_IMPS`] distances; `NotCanonical` for a kind above 2, a bit above the channel and its
+    /// bit, octets after the end, a distance above [`routing::INFINITE`]; then those of the packet.
+    /// `OutOfMemory` is given only for a packet with bits.
     pub fn read(alloc: Global, octets: &[u8]) -> Result<Frame, ChannelFault>
         ensures exact { Gives (read_of octets.now) result }
         ensures found { IfOk result (λ frame. octets.now ≡ spelling frame) }
@@ -225,13 +226,13 @@ fn read_packet(alloc: Global, rest: &[u8]) -> Result<Content, ChannelFault>
     }))
 }
 
-/// Reads the sixteen distances of a routes frame.
+/// Reads the distances of a routes frame, [`MOST_IMPS`] of them.
 fn read_routes(rest: &[u8]) -> Result<Content, ChannelFault>
     ensures exact { result ≡ routes_in rest.now }
     ensures kind { IfOk result (λ content. kind_octet content ≡ 2) }
     ensures rest { IfOk result (λ content. rest.now ≡ rest_of content) }
 {
-    if rest.len() < IMPS {
+    if rest.len() < MOST_IMPS {
         return Err(ChannelFault::Short);
     }
     match Vector::from_slice(rest) {

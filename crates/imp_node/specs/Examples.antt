@@ -1,8 +1,8 @@
 -- Small IMPs, packets and frames, for the worked rows.
-use Rattle.std.specs.Prelude.{ℕ, Bool, true, false, List, [], ◌∷◌, length, map, replicate, Option, Some}
+use Rattle.std.specs.Prelude.{ℕ, ◌-◌, Bool, true, false, List, [], ◌∷◌, length, map, replicate, Option, Some}
 use Rattle.std.specs.List.{range_with_len}
 use Rattle.bit_messages.specs.Body.{body}
-use Rattle.leader1822.specs.Host.{Host}
+use Rattle.leader1822.specs.Host.{Host, most_imps}
 use Rattle.leader1822.specs.declared.address.Flow.{Flow}
 use Rattle.leader1822.specs.declared.message.HostMessage.{HostMessage}
 use Rattle.link_table.specs.declared.destination.Fate.{Fate}
@@ -10,6 +10,7 @@ use Rattle.packetiser.specs.PacketFields.{PacketFields}
 use Rattle.packetiser.specs.Slots.{SlotState}
 use Rattle.packetiser.specs.declared.packet.PacketKind.{PacketKind}
 use Rattle.packetiser.specs.declared.packet.PacketKind.TheVariants as kind
+use Rattle.routing.specs.Vector.{infinite}
 use Rattle.imp_channel.specs.declared.frame.Content.TheVariants as content
 use Rattle.imp_channel.specs.declared.frame.Frame.{Frame}
 use Rattle.imp_node.specs.declared.outgoing.Outgoing.{Outgoing}
@@ -68,17 +69,17 @@ ack_frame = record { acks = true ∷ replicate 7 false; content = content.Nothin
 
 -- the distances of IMP 2, of IMP 3 and of IMP 1, where they have heard nothing
 abbrev pub from_2 : List ℕ
-from_2 = 16 ∷ 0 ∷ replicate 14 16
+from_2 = infinite ∷ 0 ∷ replicate (most_imps - 2) infinite
 
 abbrev pub from_3 : List ℕ
-from_3 = 16 ∷ 16 ∷ 0 ∷ replicate 13 16
+from_3 = infinite ∷ infinite ∷ 0 ∷ replicate (most_imps - 3) infinite
 
 abbrev pub from_1 : List ℕ
-from_1 = 0 ∷ replicate 15 16
+from_1 = 0 ∷ replicate (most_imps - 1) infinite
 
 -- the distances of IMP 3, which has heard IMP 2
 abbrev pub from_3_near_2 : List ℕ
-from_3_near_2 = 16 ∷ 1 ∷ 0 ∷ replicate 13 16
+from_3_near_2 = infinite ∷ 1 ∷ 0 ∷ replicate (most_imps - 3) infinite
 
 -- ---- IMPs
 

@@ -26,8 +26,8 @@ use crate::waiting::Message;
 use crate::{Imp, Outgoing};
 use bit_messages::{BitFault, Bits};
 use imp_channel::{Content, Frame, Received};
-use leader1822::{Answer, CarrierFault, Flow, Text};
-use link_table::{Age, Asked, Fate, Number};
+use leader1822::{Answer, CarrierFault, Flow, Number, Text};
+use link_table::{Age, Asked, Fate};
 use packetiser::{Added, Outcome, Packet, PacketFault, PacketKind};
 use std::alloc::AllocError;
 

@@ -1,7 +1,7 @@
 //! Asking what became of a message, in place of giving it up.
 
 ghost use Rattle.std.specs.Prelude.{◌≡◌, ◌≤◌, true, false, None, IfOk, OnOk, OnErr};
-ghost use Rattle.packetiser.specs.Limits.{greatest_imp};
+ghost use Rattle.leader1822.specs.Host.{most_imps};
 ghost use Rattle.packetiser.specs.declared.packet.PacketKind.TheVariants as kind;
 ghost use Rattle.imp_node.specs.Asking as asking;
 ghost use Rattle.imp_node.specs.Flows as flows;
@@ -11,8 +11,7 @@ ghost use Rattle.imp_node.specs.Turns.{Turned, Takes, ask_grows};
 
 use crate::steps::answer_packet;
 use crate::{Imp, Outgoing};
-use leader1822::{CarrierFault, Flow};
-use link_table::Number;
+use leader1822::{CarrierFault, Flow, Number};
 use packetiser::PacketKind;
 use std::alloc::AllocError;
 
@@ -70,7 +69,7 @@ impl Imp {
 
     /// A question about a message is stored for its route, or dropped where no live route is.
     fn question(&mut self, flow: Flow, number: Number) -> Result<(), AllocError>
-        requires { flow.source.imp ≤ greatest_imp }
+        requires { flow.source.imp ≤ most_imps }
         ensures ok { OnOk result (self.new ≡ stored (flows.answer_packet kind.Ask flow number) self.old) }
         ensures memory { OnErr result (has_route self.old flow.destination.imp ≡ true) }
     {

@@ -2,7 +2,7 @@
 
 ghost use Rattle.std.specs.Prelude.{◌≡◌, [], ◌+◌, ◌*◌, ◌<◌, ◌≤◌, ◌&&◌, Bool, true, false, length, replicate, nat_lt, nat_le, IfOk};
 ghost use Rattle.std.specs.List.{list_any, sum_by};
-ghost use Rattle.packetiser.specs.Limits.{greatest_imp};
+ghost use Rattle.leader1822.specs.Host.{most_imps};
 ghost use Rattle.imp_node.specs.State as states;
 ghost use Rattle.imp_node.specs.State.{up_host, up_port, host_at};
 ghost use Rattle.imp_node.specs.Room as room;
@@ -59,12 +59,12 @@ impl Model for Imp {
 }
 
 impl Imp {
-    /// The IMP with this number, 1 to 16, with so many hosts, at most four, and so many ports. All hosts and
+    /// The IMP with this number, at most [`leader1822::MOST_IMPS`], with so many hosts, at most four, and so many ports. All hosts and
     /// ends of lines are up, and nothing was heard, begun or taken.
     ///
     /// Errors: memory runs out, and nothing else.
     pub fn new(alloc: Global, own: ImpNumber, hosts: u8, ports: u8) -> Result<Imp, AllocError>
-        requires imp { own ≤ greatest_imp }
+        requires imp { own ≤ most_imps }
         requires hosts { hosts ≤ 4 }
         ensures { IfOk result (λ imp. imp ≡ states.opening_node own hosts ports) }
     {
@@ -90,10 +90,10 @@ impl Imp {
         self.spare.keep(frames);
     }
 
-    /// The IMP's own number, 1 to 16.
+    /// The IMP's own number.
     pub(crate) fn number(&self) -> u8
         ensures number { result ≡ states.number self.now }
-        ensures within { (1 ≤ result) × (result ≤ greatest_imp) }
+        ensures within { (1 ≤ result) × (result ≤ most_imps) }
     {
         self.routes.own()
     }
@@ -140,7 +140,7 @@ impl Imp {
     /// Whether a live route leads to another IMP.
     pub(crate) fn has_route(&self, imp: u8) -> bool
         ensures route { result ≡ room.has_route self.now imp }
-        ensures within { result ≡ true → imp ≤ greatest_imp }
+        ensures within { result ≡ true → imp ≤ most_imps }
     {
         self.routes.next(imp).is_some()
     }

@@ -4,7 +4,8 @@
 //! The functions `worked_..` state the rules by examples: each row is one that another reading of its rule
 //! would fail.
 
-ghost use Rattle.std.specs.Prelude.{◌≡◌, ℕ, ◌<◌, ◌==◌, if◌then◌else◌, true, false, List, [], ◌∷◌, ◌++◌, length, map, replicate, All, Any, ◌⊎◌, Some, None};
+ghost use Rattle.std.specs.Prelude.{◌≡◌, ℕ, ◌-◌, ◌<◌, ◌==◌, if◌then◌else◌, true, false, List, [], ◌∷◌, ◌++◌, length, map, replicate, All, Any, ◌⊎◌, Some, None};
+ghost use Rattle.leader1822.specs.Host.{most_imps};
 ghost use Rattle.leader1822.specs.declared.address.Flow.{Flow};
 ghost use Rattle.leader1822.specs.declared.message.HostMessage.{HostMessage};
 ghost use Rattle.imp_channel.specs.Holding.{carried_by};
@@ -14,6 +15,7 @@ ghost use Rattle.leader1822.specs.declared.crossing.Answer.TheVariants as answer
 ghost use Rattle.leader1822.specs.declared.crossing.Inbound.TheVariants as inbound;
 ghost use Rattle.packetiser.specs.declared.packet.PacketKind.TheVariants as kind;
 ghost use Rattle.imp_channel.specs.declared.frame.Content.TheVariants as content;
+ghost use Rattle.routing.specs.Vector.{infinite};
 ghost use Rattle.imp_node.specs.Arrival.{Old, arrival, from_line, from_line_refusal, ignored};
 ghost use Rattle.imp_node.specs.Examples.{host, flow, only_packet, first_packet, unmarked_packet, packets_to, packet_frame, ack_frame, from_1, from_2, from_3, from_3_near_2, imp, busy, messages_between, queueing, serving, slots_of, empty_message, sent_imp, sent_answered, sent_never, noting, after_question, told_back, question_from, sent_within};
 ghost use Rattle.imp_node.specs.Flows.{answer_packet, is_idle, next_number, noted};
@@ -199,7 +201,7 @@ pub fn worked_room()
 /// What an IMP tells of routes, and that packets find another one.
 pub fn worked_routes()
     // the middle one of three IMPs in a row
-    ensures told { (route (imp 2 (Some from_1 ∷ Some from_3 ∷ []) [])).frames ≡ map (λ k. on_port k (record { acks = replicate 8 false; content = content.Routes (1 ∷ 0 ∷ 1 ∷ replicate 13 16) })) (0 ∷ 1 ∷ []) }
+    ensures told { (route (imp 2 (Some from_1 ∷ Some from_3 ∷ []) [])).frames ≡ map (λ k. on_port k (record { acks = replicate 8 false; content = content.Routes (1 ∷ 0 ∷ 1 ∷ replicate (most_imps - 3) infinite) })) (0 ∷ 1 ∷ []) }
 
     // a packet in a channel of a line that goes down takes the line of another neighbour that knows a route
     ensures rerouted { (end_down (pump [] (imp 1 (Some from_2 ∷ Some from_3_near_2 ∷ []) (packets_to 2 1))).state 0).frames ≡ on_port 1 (packet_frame 0 (only_packet (flow (host 0 1) (host 0 2) 0) 0)) ∷ [] }

@@ -6,8 +6,7 @@ ghost use Rattle.imp_node.specs.Inside.Seeking.{found};
 
 use crate::Imp;
 use crate::seeking::Sought;
-use leader1822::{Flow, ImpNumber};
-use link_table::Number;
+use leader1822::{Flow, ImpNumber, Number};
 
 impl Imp {
     /// The number of the outstanding message of a flow; `None` where none is outstanding.

@@ -12,8 +12,7 @@ use crate::host::Host;
 use crate::port::Port;
 use crate::waiting::Message;
 use imp_channel::{Channel, Line};
-use leader1822::{Flow, ImpNumber};
-use link_table::Number;
+use leader1822::{Flow, ImpNumber, Number};
 use packetiser::{Packet, PacketKind, Reassembly};
 
 /// What is looked for.

@@ -15,8 +15,8 @@ use crate::pump::{pump, target};
 use crate::waiting::{Message, Told};
 use crate::{Imp, Outgoing};
 use bit_messages::Bits;
-use leader1822::{Answer, CarrierFault, Flow};
-use link_table::{Fate, Number};
+use leader1822::{Answer, CarrierFault, Flow, Number};
+use link_table::Fate;
 use packetiser::{Packet, PacketKind};
 use std::alloc::{AllocError, Global};
 

@@ -1,6 +1,6 @@
 //! What waits for a host.
 
-use leader1822::{Answer, Flow, Text};
+use leader1822::{Answer, Flow, Number, Text};
 
 /// An answer that waits for the source of its flow.
 #[derive(Debug, Drop)]
@@ -17,7 +17,7 @@ pub struct Message {
     /// The flow that it belongs to.
     pub flow: Flow,
     /// Its message number.
-    pub number: u8,
+    pub number: Number,
     /// The bits that it says.
     pub text: Text,
 }

@@ -22,7 +22,7 @@ mod message;
 mod plain_boxes;
 mod queues;
 
-pub use address::{Flow, HostAddr, ImpNumber, Link, MESSAGE_NUMBERS};
+pub use address::{Flow, HostAddr, ImpNumber, Link, MESSAGE_NUMBERS, MOST_IMPS, Number};
 pub use carrier::{Carrier, CarrierFault};
 pub use crossing::{Answer, Crossing, Inbound};
 pub use event::{Direction, NetEvent};

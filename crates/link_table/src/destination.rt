@@ -6,8 +6,8 @@ ghost use Rattle.link_table.specs.Keys.{drop_from, has_from};
 ghost use Rattle.link_table.specs.Flows.{age_of, kept_in, asked_in, told_by, ended_in, noted, ended};
 
 use crate::flow_map::FlowMap;
-use crate::numbers::{Number, is_new};
-use leader1822::{Flow, ImpNumber};
+use crate::numbers::is_new;
+use leader1822::{Flow, ImpNumber, Number};
 use std::alloc::{AllocError, Global};
 use std::marker::Model;
 

@@ -1,13 +1,9 @@
-//! Message numbers, which wrap around after 255.
+//! Message numbers, which wrap around after the greatest.
 
 ghost use Rattle.std.specs.Prelude.{◌≡◌};
 ghost use Rattle.link_table.specs.Numbers.{next, oldest, is_new};
 
-use leader1822::MESSAGE_NUMBERS;
-
-/// The number of a message among those of its flow, of which there are [`MESSAGE_NUMBERS`]: 0 to 255. A
-/// flow's first message has the number 0, and 0 follows 255.
-pub type Number = u8;
+use leader1822::{MESSAGE_NUMBERS, Number};
 
 /// How far ahead of the last number a number counts as new.
 pub const WINDOW: u32 = 127;

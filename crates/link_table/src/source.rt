@@ -6,8 +6,8 @@ ghost use Rattle.link_table.specs.Flows.{FlowDecided, begin_fault, begun, flow_a
 
 use crate::FlowFault;
 use crate::flow_map::FlowMap;
-use crate::numbers::{Number, next};
-use leader1822::{Flow, HostAddr, ImpNumber};
+use crate::numbers::next;
+use leader1822::{Flow, HostAddr, ImpNumber, Number};
 use std::alloc::Global;
 use std::marker::Model;
 

@@ -1,17 +1,18 @@
 -- Packets and their octets, both ways.
-use Rattle.std.proofs.Common.{◌≡◌, ℕ, ◌+◌, ◌*◌, ◌/◌, ◌%◌, ◌<◌, ◌≤◌, Bool, true, false, not, List, [], ◌∷◌, ◌++◌, length, get_or, take, drop, refl, ap, sym, ◌∙◌, subst, arith, All, suc, replicate, append-nil}
+use Rattle.std.proofs.Common.{◌≡◌, ℕ, ◌+◌, ◌*◌, ◌/◌, ◌%◌, ◌<◌, ◌≤◌, Bool, true, false, not, List, ◌∷◌, ◌++◌, length, get_or, take, drop, refl, ap, sym, ◌∙◌, subst, arith, All, suc, replicate, append-nil}
 use Rattle.std.proofs.Common.{nat_lt, nat_le, ◌==◌, ◌||◌, ◌&&◌, eq-eqb, ne_eqb, eqb-true, le-ltb, inl, inr, zero, Result, Ok, Err, if◌then◌else◌}
 use Rattle.std.proofs.lemmas.Bool.{leb-true, cases_Bool, cases_lt}
 use Rattle.std.proofs.lemmas.List.Elements.{All-from_get_or}
 use Rattle.std.proofs.lemmas.Bool.Decides.{nat_tests}
-use Rattle.std.proofs.lemmas.List.{length-take-le, take_all, get_or_past}
+use Rattle.std.proofs.lemmas.List.{length-take-le, take_all, get_or_past, drop_more, get_or-drop}
 use Rattle.std.proofs.Common.{length-drop}
 use Rattle.bit_messages.specs.Octets.{octets_of, bits_of, spare_bits}
 use Rattle.bit_messages.proofs.lemmas.{bits_again, length-bits_of, octets_again}
 use Rattle.leader1822.specs.Host.{Host, address_octet}
 use Rattle.leader1822.proofs.lemmas.{not_false}
 use Rattle.packetiser.specs.PacketFields.{PacketFields, IsPacket, IsPacketHost, IsPiece, IsAnswer, Carries}
-use Rattle.packetiser.specs.Format.{spelling, read_of, kind_octet, kind_of, host_of, is_address, is_short, is_not_canonical, is_bad_length, bit_count, octet_count, is_data, is_last, place_of, place_octet, fields_of}
+use Rattle.packetiser.specs.Limits.{header_octets}
+use Rattle.packetiser.specs.Format.{spelling, read_of, kind_octet, kind_of, host_of, is_address, is_short, is_not_canonical, is_bad_length, bit_count, octet_count, is_data, is_last, place_of, place_octet, fields_of, kind_at, source_at, destination_at, link_at, number_at, place_at, count_at}
 use Rattle.packetiser.specs.declared.packet.PacketKind.{PacketKind}
 use Rattle.packetiser.specs.declared.packet.PacketKind.TheVariants as kind
 use Rattle.packetiser.specs.declared.fault.PacketFault.{PacketFault}
@@ -20,7 +21,7 @@ use Rattle.packetiser.specs.declared.fault.PacketFault.TheVariants as fault
 -- ---- what the tests tell
 
 pub record IsLong (octets : List ℕ) : Type 0 where
-  pub header : 8 ≤ length octets
+  pub header : header_octets ≤ length octets
   pub body : octet_count (bit_count octets) ≤ length octets
 
 pub long_from : (octets : List ℕ) → is_short octets ≡ false → IsLong octets
@@ -28,12 +29,12 @@ unfolding is_short
 long_from octets e = record { header = grind (arith, nat_tests, e); body = grind (arith, nat_tests, e) }
 
 pub record IsCanonical (octets : List ℕ) : Type 0 where
-  pub kind : get_or octets 0 0 ≤ 4
-  pub source : is_address (get_or octets 1 0) ≡ true
-  pub destination : is_address (get_or octets 2 0) ≡ true
-  pub gap : get_or octets 5 0 / 8 % 16 ≡ 0
+  pub kind : get_or octets kind_at 0 ≤ 4
+  pub source : is_address (get_or octets source_at 0) ≡ true
+  pub destination : is_address (get_or octets destination_at 0) ≡ true
+  pub gap : get_or octets place_at 0 / 8 % 16 ≡ 0
   pub end : place_of octets + 1 ≡ 8 → is_last octets ≡ true
-  pub answer : is_data octets ≡ false → get_or octets 5 0 ≡ 128
+  pub answer : is_data octets ≡ false → get_or octets place_at 0 ≡ 128
   pub whole : length octets ≤ octet_count (bit_count octets)
 
 seven : (a b c d e f g : Bool) → (a || b || c || d || e || f || g) ≡ false
@@ -65,16 +66,16 @@ pub canonical_from : (octets : List ℕ) → is_not_canonical octets ≡ false �
 unfolding is_not_canonical
 canonical_from octets e =
     let f = seven
-    (nat_lt 4 (get_or octets 0 0)) (not (is_address (get_or octets 1 0))) (not (is_address (get_or octets 2 0)))
-    (not (get_or octets 5 0 / 8 % 16 == 0)) (not (is_last octets) && place_of octets + 1 == 8)
-    (not (is_data octets) && not (get_or octets 5 0 == 128)) (nat_lt (octet_count (bit_count octets)) (length octets)) e in
+    (nat_lt 4 (get_or octets kind_at 0)) (not (is_address (get_or octets source_at 0))) (not (is_address (get_or octets destination_at 0)))
+    (not (get_or octets place_at 0 / 8 % 16 == 0)) (not (is_last octets) && place_of octets + 1 == 8)
+    (not (is_data octets) && not (get_or octets place_at 0 == 128)) (nat_lt (octet_count (bit_count octets)) (length octets)) e in
     record {
       kind = grind (arith, nat_tests, f.0);
-      source = not_false (is_address (get_or octets 1 0)) f.1;
-      destination = not_false (is_address (get_or octets 2 0)) f.2;
-      gap = eqb-true (get_or octets 5 0 / 8 % 16) 0 (not_false (get_or octets 5 0 / 8 % 16 == 0) f.3);
+      source = not_false (is_address (get_or octets source_at 0)) f.1;
+      destination = not_false (is_address (get_or octets destination_at 0)) f.2;
+      gap = eqb-true (get_or octets place_at 0 / 8 % 16) 0 (not_false (get_or octets place_at 0 / 8 % 16 == 0) f.3);
       end = λ k. not_both (is_last octets) (place_of octets + 1 == 8) f.4 (eq-eqb (place_of octets + 1) 8 k);
-      answer = λ d. eqb-true (get_or octets 5 0) 128 (not_both_not (is_data octets) (get_or octets 5 0 == 128) f.5 d);
+      answer = λ d. eqb-true (get_or octets place_at 0) 128 (not_both_not (is_data octets) (get_or octets place_at 0 == 128) f.5 d);
       whole = grind (arith, nat_tests, f.6);
     }
 
@@ -136,10 +137,10 @@ carries_by false false false true place last size piece answer = answer refl
 carries_by false false false false place last size piece answer = answer refl
 
 -- the bits that are read are as many as the octets say
-length-read : (octets : List ℕ) → IsLong octets → length (take (bit_count octets) (bits_of (drop 8 octets))) ≡ bit_count octets
+length-read : (octets : List ℕ) → IsLong octets → length (take (bit_count octets) (bits_of (drop header_octets octets))) ≡ bit_count octets
 length-read octets h =
-    let enough : bit_count octets ≤ length (bits_of (drop 8 octets)) = omega (arith, length-bits_of (drop 8 octets), length-drop 8 octets, h.header, h.body) in
-    length-take-le (bit_count octets) (bits_of (drop 8 octets)) enough
+    let enough : bit_count octets ≤ length (bits_of (drop header_octets octets)) = omega (arith, length-bits_of (drop header_octets octets), length-drop header_octets octets, h.header, h.body) in
+    length-take-le (bit_count octets) (bits_of (drop header_octets octets)) enough
 
 -- eight bits are an octet
 units_of_eight : (octets : List ℕ) → SpellsPacket octets → bit_count octets % 8 ≡ 0
@@ -150,17 +151,17 @@ units_of_eight octets h = elim (cases_Bool (is_data octets)) [
 
 pub fields_fit : (octets : List ℕ) → ((k : ℕ) → get_or octets k 0 < 256) → SpellsPacket octets → IsPacket (fields_of octets)
 fields_fit octets small h =
-    let size : length (take (bit_count octets) (bits_of (drop 8 octets))) ≡ bit_count octets = length-read octets h.long in
+    let size : length (take (bit_count octets) (bits_of (drop header_octets octets))) ≡ bit_count octets = length-read octets h.long in
     record {
-      source = address_is (get_or octets 1 0) (small 1) h.canonical.source;
-      destination = address_is (get_or octets 2 0) (small 2) h.canonical.destination;
-      link = small 3;
-      number = small 4;
+      source = address_is (get_or octets source_at 0) (small source_at) h.canonical.source;
+      destination = address_is (get_or octets destination_at 0) (small destination_at) h.canonical.destination;
+      link = small link_at;
+      number = small number_at;
       place = omega arith;
       body =
-          rw size (carries_by (is_data octets) (get_or octets 0 0 == 1) (get_or octets 0 0 == 2) (get_or octets 0 0 == 3) (place_of octets) (is_last octets) (bit_count octets)
+          rw size (carries_by (is_data octets) (get_or octets kind_at 0 == 1) (get_or octets kind_at 0 == 2) (get_or octets kind_at 0 == 3) (place_of octets) (is_last octets) (bit_count octets)
           (λ d. record { some = h.good.some d; most = h.good.most d; units = h.good.units d; full = h.good.full d; end = h.canonical.end })
-          (λ d. let mark : get_or octets 5 0 ≡ 128 = h.canonical.answer d in record { first = omega (arith, mark); only = grind (arith, nat_tests, mark); empty = h.good.empty d }));
+          (λ d. let mark : get_or octets place_at 0 ≡ 128 = h.canonical.answer d in record { first = omega (arith, mark); only = grind (arith, nat_tests, mark); empty = h.good.empty d }));
     }
 
 kind_again : (octet : ℕ) → octet ≤ 4 → kind_octet (kind_of octet) ≡ octet
@@ -177,31 +178,51 @@ place_again octet small gap = elim (cases_Bool (nat_le 128 octet)) [
   | inr more ↦ (let below : octet < 128 = grind (arith, nat_tests, more) in rw more (omega arith))
 ]
 
+-- what two octets say, and the two octets that say it
+spelled_high : (high low n : ℕ) → low < 256 → n ≡ 256 * high + low → high ≡ n / 256
+spelled_high high low n small is = omega arith
+
+spelled_low : (high low n : ℕ) → low < 256 → n ≡ 256 * high + low → low ≡ n % 256
+spelled_low high low n small is = omega arith
+
+two_again : (n : ℕ) → 256 * (n / 256) + n % 256 ≡ n
+two_again n = omega arith
+
+address_spelled : (octet : ℕ) → octet ≡ address_octet (host_of octet)
+address_spelled octet = omega arith
+
+-- a list from one of its cells on
+cell : (octets : List ℕ) (k : ℕ) (rest : List ℕ) → k < length octets → drop (k + 1) octets ≡ rest → drop k octets ≡ get_or octets k 0 ∷ rest
+cell octets k rest there is = drop_more octets k 0 there ∙ ap (λ (others : List ℕ). get_or octets k 0 ∷ others) is
+
+-- octets with a header, as the octets of the header and those that follow
+header_cells : (octets : List ℕ) → header_octets ≤ length octets
+    → octets ≡ get_or octets kind_at 0 ∷ get_or octets source_at 0 ∷ get_or octets destination_at 0 ∷ get_or octets link_at 0 ∷ get_or octets number_at 0 ∷ get_or octets place_at 0
+    ∷ get_or octets count_at 0 ∷ get_or octets (count_at + 1) 0 ∷ drop header_octets octets
+header_cells octets long =
+    cell octets 0 _ (omega arith) (cell octets 1 _ (omega arith) (cell octets 2 _ (omega arith) (cell octets 3 _ (omega arith) (cell octets 4 _ (omega arith)
+    (cell octets 5 _ (omega arith) (cell octets 6 _ (omega arith) (cell octets 7 _ (omega arith) refl)))))))
+
 same_octets : {a b c d e f g h a' b' c' d' e' f' g' h' : ℕ} {rest rest' : List ℕ}
     → a ≡ a' → b ≡ b' → c ≡ c' → d ≡ d' → e ≡ e' → f ≡ f' → g ≡ g' → h ≡ h' → rest ≡ rest'
     → a ∷ b ∷ c ∷ d ∷ e ∷ f ∷ g ∷ h ∷ rest ≡ a' ∷ b' ∷ c' ∷ d' ∷ e' ∷ f' ∷ g' ∷ h' ∷ rest'
 same_octets pa pb pc pd pe pf pg ph pr = cc
 
 pub spelled : (octets : List ℕ) → ((k : ℕ) → get_or octets k 0 < 256) → SpellsPacket octets → octets ≡ spelling (fields_of octets)
-spelled [] small h = absurd (omega (arith, h.long.header))
-spelled (a ∷ []) small h = absurd (omega (arith, h.long.header))
-spelled (a ∷ b ∷ []) small h = absurd (omega (arith, h.long.header))
-spelled (a ∷ b ∷ c ∷ []) small h = absurd (omega (arith, h.long.header))
-spelled (a ∷ b ∷ c ∷ d ∷ []) small h = absurd (omega (arith, h.long.header))
-spelled (a ∷ b ∷ c ∷ d ∷ e ∷ []) small h = absurd (omega (arith, h.long.header))
-spelled (a ∷ b ∷ c ∷ d ∷ e ∷ f ∷ []) small h = absurd (omega (arith, h.long.header))
-spelled (a ∷ b ∷ c ∷ d ∷ e ∷ f ∷ g ∷ []) small h = absurd (omega (arith, h.long.header))
-spelled (k ∷ s ∷ d ∷ l ∷ n ∷ p ∷ high ∷ low ∷ rest) small h =
-    let octets : List ℕ = k ∷ s ∷ d ∷ l ∷ n ∷ p ∷ high ∷ low ∷ rest in
-    let count : ℕ = 256 * high + low in
+spelled octets small h =
+    let rest : List ℕ = drop header_octets octets in
+    let count : ℕ = bit_count octets in
     let size : length (take count (bits_of rest)) ≡ count = length-read octets h.long in
     let eights : count % 8 ≡ 0 = units_of_eight octets h in
-    let all : count ≡ length (bits_of rest) = omega (arith, length-bits_of rest, h.long.body, h.canonical.whole) in
+    let all : count ≡ length (bits_of rest) = omega (arith, length-bits_of rest, length-drop header_octets octets, h.long.header, h.long.body, h.canonical.whole) in
     let bits : take count (bits_of rest) ≡ bits_of rest = ap (λ (m : ℕ). take m (bits_of rest)) all ∙ take_all (length (bits_of rest)) (bits_of rest) (omega arith) in
-    let low_small : low < 256 = small 7 in
-    let all_small : All (λ (m : ℕ). m < 256) rest = All-from_get_or (λ (m : ℕ). m < 256) rest 0 (λ i lt. small (suc (suc (suc (suc (suc (suc (suc (suc i))))))))) in
-    same_octets (sym (kind_again k h.canonical.kind)) (omega arith) (omega arith) refl refl (sym (place_again p (small 5) h.canonical.gap))
-    (omega (arith, size)) (omega (arith, size))
+    let all_small : All (λ (m : ℕ). m < 256) rest =
+    All-from_get_or (λ (m : ℕ). m < 256) rest 0 (λ i lt. subst (λ (m : ℕ). m < 256) (sym (get_or-drop header_octets octets i 0)) (small (header_octets + i))) in
+    header_cells octets h.long.header
+    ∙ same_octets (sym (kind_again (get_or octets kind_at 0) h.canonical.kind)) (address_spelled (get_or octets source_at 0)) (address_spelled (get_or octets destination_at 0)) refl refl
+    (sym (place_again (get_or octets place_at 0) (small place_at) h.canonical.gap))
+    (spelled_high (get_or octets count_at 0) (get_or octets (count_at + 1) 0) _ (small (count_at + 1)) size)
+    (spelled_low (get_or octets count_at 0) (get_or octets (count_at + 1) 0) _ (small (count_at + 1)) size)
     (sym (ap octets_of bits ∙ octets_again rest all_small))
 
 -- ---- what is written is read again
@@ -254,7 +275,7 @@ unfolding is_short
 long_again p h =
     let size : (length p.bits % 8 ≡ 0) × (length p.bits ≤ 1008) = size_by p.kind p.place p.last (length p.bits) h.body in
     let o : AreOctets p.bits = octets_are p.bits size.0 in
-    none_of_two (nat_lt (length (spelling p)) 8) (nat_lt (length (spelling p)) (octet_count (bit_count (spelling p))))
+    none_of_two (nat_lt (length (spelling p)) header_octets) (nat_lt (length (spelling p)) (octet_count (bit_count (spelling p))))
     (grind (arith, nat_tests)) (grind (arith, nat_tests, o.count, size.0))
 
 kind_small : (k : PacketKind) → kind_octet k ≤ 4
@@ -293,9 +314,9 @@ canonical_again p h =
     let held : HoldsPlace p.place p.last = place_held p.place p.last h.place in
     let octets : List ℕ = spelling p in
     none_of_seven
-    (nat_lt 4 (get_or octets 0 0)) (not (is_address (get_or octets 1 0))) (not (is_address (get_or octets 2 0)))
-    (not (get_or octets 5 0 / 8 % 16 == 0)) (not (is_last octets) && place_of octets + 1 == 8)
-    (not (is_data octets) && not (get_or octets 5 0 == 128)) (nat_lt (octet_count (bit_count octets)) (length octets))
+    (nat_lt 4 (get_or octets kind_at 0)) (not (is_address (get_or octets source_at 0))) (not (is_address (get_or octets destination_at 0)))
+    (not (get_or octets place_at 0 / 8 % 16 == 0)) (not (is_last octets) && place_of octets + 1 == 8)
+    (not (is_data octets) && not (get_or octets place_at 0 == 128)) (nat_lt (octet_count (bit_count octets)) (length octets))
     (let small : kind_octet p.kind ≤ 4 = kind_small p.kind in grind (arith, nat_tests))
     (ap not (address_again p.source h.source))
     (ap not (address_again p.destination h.destination))
@@ -316,7 +337,7 @@ good_again : (p : PacketFields) → IsPacket p → is_bad_length (spelling p) �
 unfolding is_bad_length
 good_again p h =
     let held : HoldsPlace p.place p.last = place_held p.place p.last h.place in
-    let count : bit_count (spelling p) ≡ length p.bits = omega arith in
+    let count : bit_count (spelling p) ≡ length p.bits = two_again (length p.bits) in
     rw (count, held.high) (good_as p.kind p.place p.last (length p.bits) h.body)
 
 kind_read : (k : PacketKind) → kind_of (kind_octet k) ≡ k
@@ -361,7 +382,7 @@ fields_again p h =
     let size : (length p.bits % 8 ≡ 0) × (length p.bits ≤ 1008) = size_by p.kind p.place p.last (length p.bits) h.body in
     let o : AreOctets p.bits = octets_are p.bits size.0 in
     let held : HoldsPlace p.place p.last = place_held p.place p.last h.place in
-    let count : bit_count (spelling p) ≡ length p.bits = omega arith in
+    let count : bit_count (spelling p) ≡ length p.bits = two_again (length p.bits) in
     same_fields (fields_of (spelling p)) p (kind_read p.kind) (host_read p.source h.source) (host_read p.destination h.destination) refl refl
     held.low held.high
     (ap (λ (n : ℕ). take n (bits_of (octets_of p.bits))) count ∙ ap (λ (b : List Bool). take (length p.bits) b) o.again ∙ take_all (length p.bits) p.bits (omega arith))
@@ -372,12 +393,12 @@ read_again p h = rw (long_again p h, canonical_again p h, good_again p h) (ap Ok
 -- ---- what the reader makes
 
 -- what is read, given by its parts
-pub fields_made : (octets : List ℕ) (p : PacketFields) (body : List ℕ) (count : ℕ) → p.kind ≡ kind_of (get_or octets 0 0) → p.source ≡ host_of (get_or octets 1 0)
-    → p.destination ≡ host_of (get_or octets 2 0) → p.link ≡ get_or octets 3 0 → p.number ≡ get_or octets 4 0 → p.place ≡ place_of octets
-    → p.last ≡ is_last octets → p.bits ≡ take count (bits_of body) → body ≡ drop 8 octets → count ≡ bit_count octets → fields_of octets ≡ p
+pub fields_made : (octets : List ℕ) (p : PacketFields) (body : List ℕ) (count : ℕ) → p.kind ≡ kind_of (get_or octets kind_at 0) → p.source ≡ host_of (get_or octets source_at 0)
+    → p.destination ≡ host_of (get_or octets destination_at 0) → p.link ≡ get_or octets link_at 0 → p.number ≡ get_or octets number_at 0 → p.place ≡ place_of octets
+    → p.last ≡ is_last octets → p.bits ≡ take count (bits_of body) → body ≡ drop header_octets octets → count ≡ bit_count octets → fields_of octets ≡ p
 fields_made octets p body count kinds sources destinations links numbers places lasts bits at counts =
     same_fields (fields_of octets) p (sym kinds) (sym sources) (sym destinations) (sym links) (sym numbers) (sym places) (sym lasts)
-    (ap (λ (n : ℕ). take n (bits_of (drop 8 octets))) (sym counts) ∙ ap (λ (ns : List ℕ). take count (bits_of ns)) (sym at) ∙ sym bits)
+    (ap (λ (n : ℕ). take n (bits_of (drop header_octets octets))) (sym counts) ∙ ap (λ (ns : List ℕ). take count (bits_of ns)) (sym at) ∙ sym bits)
 
 -- ---- what is read was a packet's spelling
 

@@ -1,16 +1,41 @@
 -- Packets and their octets.
 --
--- Octet 0 is the kind, 1 and 2 the addresses of the message's source and destination, 3 the link, 4 the number, 5 the place
--- (lower three bits) and the last flag (upper bit), 6 and 7 the number of bits; from octet 8 on the bits follow.
+-- In order: the kind, the addresses of the message's source and destination, the link, the number, the place (lower three
+-- bits) with the last flag (upper bit), and two octets with the number of bits; then the bits follow.
 use Rattle.std.specs.Prelude.{ℕ, ◌+◌, ◌*◌, ◌/◌, ◌%◌, Bool, not, List, ◌∷◌, length, take, drop, slice_index, Result, Ok, Err, nat_lt, nat_le, ◌||◌, ◌&&◌, ◌==◌, if◌then◌else◌}
 use Rattle.bit_messages.specs.Octets.{bits_of, octets_of}
-use Rattle.leader1822.specs.Host.{Host, address_octet}
+use Rattle.leader1822.specs.Host.{Host, address_octet, most_imps}
 use Rattle.packetiser.specs.PacketFields.{PacketFields}
-use Rattle.packetiser.specs.Limits.{greatest_imp, header_octets, piece_bits, most_pieces}
+use Rattle.packetiser.specs.Limits.{header_octets, piece_bits, most_pieces}
 use Rattle.packetiser.specs.declared.packet.PacketKind.{PacketKind}
 use Rattle.packetiser.specs.declared.packet.PacketKind.TheVariants as kind
 use Rattle.packetiser.specs.declared.fault.PacketFault.{PacketFault}
 use Rattle.packetiser.specs.declared.fault.PacketFault.TheVariants as fault
+
+-- ---- places
+
+-- where the octets of a packet stand: its kind, the addresses of its message's source and destination, the link, the
+-- number, the place of its piece with the last flag, and the two octets that say how many bits follow the header
+abbrev pub kind_at : ℕ
+kind_at = 0
+
+abbrev pub source_at : ℕ
+source_at = 1
+
+abbrev pub destination_at : ℕ
+destination_at = 2
+
+abbrev pub link_at : ℕ
+link_at = 3
+
+abbrev pub number_at : ℕ
+number_at = 4
+
+abbrev pub place_at : ℕ
+place_at = 5
+
+abbrev pub count_at : ℕ
+count_at = 6
 
 -- ---- writing
 
@@ -47,44 +72,48 @@ kind_of octet =
 abbrev pub host_of : ℕ → Host
 host_of octet = record { imp = octet % 64; host = octet / 64 }
 
--- the number of bits that octets 6 and 7 say
+-- the number that two octets say, of which the first is the higher one
+abbrev pub two_octets : List ℕ → ℕ → ℕ
+two_octets octets first = 256 * slice_index octets first + slice_index octets (first + 1)
+
+-- the number of bits that a packet says that it has
 abbrev pub bit_count : List ℕ → ℕ
-bit_count octets = 256 * slice_index octets 6 + slice_index octets 7
+bit_count octets = two_octets octets count_at
 
 -- how many octets a packet with so many bits has
 abbrev pub octet_count : ℕ → ℕ
 octet_count bits = header_octets + (bits + 7) / 8
 
--- whether octet 0 says that this is a piece
+-- whether the octet of the kind says that this is a piece
 abbrev pub is_data : List ℕ → Bool
-is_data octets = slice_index octets 0 == 0
+is_data octets = slice_index octets kind_at == 0
 
--- the upper bit of octet 5
+-- the upper bit of the octet of the place
 abbrev pub is_last : List ℕ → Bool
-is_last octets = nat_le 128 (slice_index octets 5)
+is_last octets = nat_le 128 (slice_index octets place_at)
 
--- the lower three bits of octet 5
+-- the lower three bits of the octet of the place
 abbrev pub place_of : List ℕ → ℕ
-place_of octets = slice_index octets 5 % 8
+place_of octets = slice_index octets place_at % 8
 
 -- an address octet with the number of an IMP of the subnet
 abbrev pub is_address : ℕ → Bool
-is_address octet = nat_le 1 (octet % 64) && nat_le (octet % 64) greatest_imp
+is_address octet = nat_le 1 (octet % 64) && nat_le (octet % 64) most_imps
 
 -- fewer octets than a header has, or than the number of bits asks for
 unfoldable pub is_short : List ℕ → Bool
 is_short octets = nat_lt (length octets) header_octets || nat_lt (length octets) (octet_count (bit_count octets))
 
--- an unknown kind, an IMP outside 1 to 16, a bit set between place and last flag, place 7 without the last flag, an answer
--- or a question whose octet 5 isn't 128, or octets after the end
+-- an unknown kind, an IMP that no network has, a bit set between place and last flag, place 7 without the last flag, an answer
+-- or a question whose octet of the place isn't 128, or octets after the end
 unfoldable pub is_not_canonical : List ℕ → Bool
 is_not_canonical octets =
-    nat_lt 4 (slice_index octets 0)
-    || not (is_address (slice_index octets 1))
-    || not (is_address (slice_index octets 2))
-    || not (slice_index octets 5 / 8 % 16 == 0)
+    nat_lt 4 (slice_index octets kind_at)
+    || not (is_address (slice_index octets source_at))
+    || not (is_address (slice_index octets destination_at))
+    || not (slice_index octets place_at / 8 % 16 == 0)
     || not (is_last octets) && place_of octets + 1 == most_pieces
-    || not (is_data octets) && not (slice_index octets 5 == 128)
+    || not (is_data octets) && not (slice_index octets place_at == 128)
     || nat_lt (octet_count (bit_count octets)) (length octets)
 
 -- a piece with no bits, with more than 1008, or with part of a unit of sixteen; a piece that isn't the last and hasn't 1008;
@@ -98,11 +127,11 @@ is_bad_length octets =
 -- what the octets of a packet say
 abbrev pub fields_of : List ℕ → PacketFields
 fields_of octets = record {
-  kind = kind_of (slice_index octets 0);
-  source = host_of (slice_index octets 1);
-  destination = host_of (slice_index octets 2);
-  link = slice_index octets 3;
-  number = slice_index octets 4;
+  kind = kind_of (slice_index octets kind_at);
+  source = host_of (slice_index octets source_at);
+  destination = host_of (slice_index octets destination_at);
+  link = slice_index octets link_at;
+  number = slice_index octets number_at;
   place = place_of octets;
   last = is_last octets;
   bits = take (bit_count octets) (bits_of (drop header_octets octets));

@@ -1,10 +1,6 @@
 -- The limits of packets and of reassembly.
 use Rattle.std.specs.Prelude.{ℕ}
 
--- the IMPs of the subnet are numbered from 1 to 16
-abbrev pub greatest_imp : ℕ
-greatest_imp = 16
-
 -- so many octets precede a packet's bits
 abbrev pub header_octets : ℕ
 header_octets = 8

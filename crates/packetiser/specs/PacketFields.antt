@@ -1,9 +1,9 @@
 -- A packet, as a record of its fields.
 use Rattle.std.specs.Prelude.{◌≡◌, ℕ, ◌+◌, ◌%◌, ◌<◌, ◌≤◌, Bool, true, false, List, length}
-use Rattle.leader1822.specs.Host.{Host}
+use Rattle.leader1822.specs.Host.{Host, most_imps}
 use Rattle.leader1822.specs.declared.address.Flow.{Flow}
 use Rattle.leader1822.specs.Flow.{message_numbers}
-use Rattle.packetiser.specs.Limits.{greatest_imp, piece_bits, most_pieces}
+use Rattle.packetiser.specs.Limits.{piece_bits, most_pieces}
 use Rattle.packetiser.specs.declared.packet.PacketKind.{PacketKind}
 use Rattle.packetiser.specs.declared.packet.PacketKind.TheVariants as kind
 
@@ -23,10 +23,10 @@ pub record PacketFields : Type 0 where
 abbrev pub flow_of : PacketFields → Flow
 flow_of p = record { source = p.source; destination = p.destination; link = record { 0 = p.link } }
 
--- a host that packets name: its IMP is one of the subnet's sixteen
+-- a host that packets name: its IMP can be one of a network
 pub record IsPacketHost (h : Host) : Type 0 where
   pub some : 1 ≤ h.imp
-  pub imp : h.imp ≤ greatest_imp
+  pub imp : h.imp ≤ most_imps
   pub host : h.host ≤ 3
 
 -- a piece of a message: 16 to 1008 bits in units of sixteen, and 1008 in each but the last; the piece at place 7 is the last

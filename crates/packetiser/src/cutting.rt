@@ -2,6 +2,7 @@
 
 ghost use Rattle.std.specs.Prelude.{◌≡◌, ◌+◌, ◌*◌, ◌<◌, ◌≤◌, length, IfOk};
 ghost use Rattle.bit_messages.specs.Body.{body};
+ghost use Rattle.leader1822.specs.Host.{most_imps};
 ghost use Rattle.packetiser.specs.Faults.{GivesIfMemory};
 ghost use Rattle.packetiser.specs.Pieces.{piece_count, piece, piece_packet, packets_of, IsBodySize};
 
@@ -9,17 +10,17 @@ use crate::fault::out_of_memory;
 use crate::format::{MAX_PACKETS, PACKET_BITS};
 use crate::{Packet, PacketFault, PacketKind};
 use bit_messages::Bits;
-use leader1822::{Flow, HostMessage};
+use leader1822::{Flow, HostMessage, Number};
 use std::alloc::Global;
 
 /// The packets of a message with this number: the pieces of its body in order, the last one marked
-/// (Heart et al., SJCC 1970). There are one to eight. The flow's IMPs are numbered from 1 to 16.
+/// (Heart et al., SJCC 1970). There are one to eight. The flow's IMPs are numbered from 1 to [`MOST_IMPS`](leader1822::MOST_IMPS).
 ///
 /// Errors: `OutOfMemory` alone.
 #[tactic(auto, using(crate::proofs::Pieces::packets_more))]
-pub fn cut(alloc: Global, message: &HostMessage, number: u8) -> Result<Vec<Packet>, PacketFault>
-    requires source { message.now.flow.source.imp ≤ 16 }
-    requires destination { message.now.flow.destination.imp ≤ 16 }
+pub fn cut(alloc: Global, message: &HostMessage, number: Number) -> Result<Vec<Packet>, PacketFault>
+    requires source { message.now.flow.source.imp ≤ most_imps }
+    requires destination { message.now.flow.destination.imp ≤ most_imps }
     ensures { GivesIfMemory (λ packets. packets.items ≡ packets_of message.now.flow number (body message.now.text)) result }
 {
     let body = body_of(alloc, message)?;
@@ -51,12 +52,12 @@ fn piece_count(body: &Bits) -> usize
 fn piece_packet(
     alloc: Global,
     flow: Flow,
-    number: u8,
+    number: Number,
     body: &Bits,
     place: usize,
 ) -> Result<Packet, PacketFault>
-    requires source { flow.source.imp ≤ 16 }
-    requires destination { flow.destination.imp ≤ 16 }
+    requires source { flow.source.imp ≤ most_imps }
+    requires destination { flow.destination.imp ≤ most_imps }
     requires size { IsBodySize (length body.now) }
     requires there { place < piece_count body.now }
     ensures { GivesIfMemory (λ packet. packet ≡ piece_packet flow number body.now place) result }

@@ -1,7 +1,25 @@
 //! The sizes of the packet format and of reassembly.
 
-/// The greatest number of an IMP that a packet names.
-pub const MAX_IMP: u8 = 16;
+/// Where the octet of a packet's kind stands.
+pub const KIND_AT: usize = 0;
+
+/// Where the address of its message's source stands.
+pub const SOURCE_AT: usize = 1;
+
+/// Where the address of its message's destination stands.
+pub const DESTINATION_AT: usize = 2;
+
+/// Where its message's link stands.
+pub const LINK_AT: usize = 3;
+
+/// Where its message's number stands.
+pub const NUMBER_AT: usize = 4;
+
+/// Where the place of its piece stands, with the last flag.
+pub const PLACE_AT: usize = 5;
+
+/// Where the two octets that say how many bits it has begin.
+pub const COUNT_AT: usize = 6;
 
 /// How many octets precede a packet's bits.
 pub const HEADER_OCTETS: usize = 8;

@@ -1,18 +1,22 @@
 //! Packets and their octets.
 
-ghost use Rattle.std.specs.Prelude.{◌≡◌, ℕ, ◌<◌, ◌≤◌, Bool, List, [], length, Result, Ok, Err, IfOk, true};
+ghost use Rattle.std.specs.Prelude.{◌≡◌, ℕ, ◌+◌, ◌<◌, ◌≤◌, Bool, List, [], length, Result, Ok, Err, IfOk, true};
 ghost use Rattle.std.specs.Bool.{OnFalse};
+ghost use Rattle.leader1822.specs.Host.{most_imps};
 ghost use Rattle.packetiser.specs.PacketFields.{PacketFields, flow_of, IsPacket, Carries};
 ghost use Rattle.packetiser.specs.Faults.{Gives, GivesIfMemory};
 ghost use Rattle.packetiser.specs.Format.{spelling, read_of, kind_octet, kind_of, host_of, is_address};
-ghost use Rattle.packetiser.specs.Format.{is_short, is_not_canonical, is_bad_length, bit_count, octet_count, place_octet};
+ghost use Rattle.packetiser.specs.Format.{is_short, is_not_canonical, is_bad_length, two_octets, bit_count, octet_count, place_octet};
 ghost use Rattle.packetiser.specs.declared.fault.PacketFault.TheVariants as fault;
 
 use crate::PacketFault;
 use crate::fault::out_of_memory;
-use crate::format::{HEADER_OCTETS, MAX_IMP, MAX_PACKETS, PACKET_BITS};
+use crate::format::{
+    COUNT_AT, DESTINATION_AT, HEADER_OCTETS, KIND_AT, LINK_AT, MAX_PACKETS, NUMBER_AT, PACKET_BITS,
+    PLACE_AT, SOURCE_AT,
+};
 use bit_messages::Bits;
-use leader1822::{Flow, HostAddr, Link};
+use leader1822::{Flow, HostAddr, Link, MOST_IMPS, Number};
 use std::alloc::{AllocError, Global};
 use std::marker::Model;
 
@@ -36,7 +40,7 @@ pub enum PacketKind {
 ///
 /// An answer or a question names its message's source and destination as a piece of the message does. An
 /// answer travels to the source, and a question to the destination. A question has the form of an answer,
-/// and what is said of answers here holds of it. IMPs are numbered from 1 to 16 here. A piece has a place from 0 to 7 and 16 to 1008 bits in
+/// and what is said of answers here holds of it. IMPs are numbered from 1 to [`MOST_IMPS`]. A piece has a place from 0 to 7 and 16 to 1008 bits in
 /// units of sixteen; each piece of a message but the last has 1008. No value of this type is outside the
 /// format.
 #[derive(Debug, Drop)]
@@ -45,7 +49,7 @@ pub struct Packet {
     source: HostAddr,
     destination: HostAddr,
     link: Link,
-    number: u8,
+    number: Number,
     place: u8,
     last: bool,
     bits: Bits,
@@ -62,19 +66,19 @@ impl Model for Packet {
 }
 
 impl Packet {
-    /// The packet with these fields. The flow's IMPs are numbered from 1 to 16, and the place is 0 to 7. A
+    /// The packet with these fields. The flow's IMPs are numbered from 1 to [`MOST_IMPS`], and the place is 0 to 7. A
     /// piece has 16 to 1008 bits in units of sixteen, 1008 if it isn't the last, and the one at place 7 is
     /// the last. An answer has place 0, the last flag and no bits.
     pub fn new(
         kind: PacketKind,
         flow: Flow,
-        number: u8,
+        number: Number,
         place: u8,
         last: bool,
         bits: Bits,
     ) -> Packet
-        requires source { flow.source.imp ≤ 16 }
-        requires destination { flow.destination.imp ≤ 16 }
+        requires source { flow.source.imp ≤ most_imps }
+        requires destination { flow.destination.imp ≤ most_imps }
         requires place { place < 8 }
         requires body { Carries kind place last (length bits) }
         ensures { result ≡ record { kind = kind; source = flow.source; destination = flow.destination; link = flow.link.0; number = number; place = place; last = last; bits = bits } }
@@ -115,8 +119,8 @@ impl Packet {
         }
     }
 
-    /// The number of its message, 0 to 255.
-    pub fn number(&self) -> u8
+    /// The number of its message.
+    pub fn number(&self) -> Number
         ensures { result ≡ self.now.number }
     {
         self.number
@@ -154,8 +158,8 @@ impl Packet {
     /// The packet that these octets spell.
     ///
     /// Errors: `Short` for fewer than 8 octets, or fewer than the number of bits asks for; `NotCanonical`
-    /// for an octet 0 above 4, an IMP outside 1 to 16, a bit between place and last flag, place 7 without
-    /// the last flag, an answer whose octet 5 isn't 128, and octets after the end; `BadLength` for an
+    /// for a kind above 4, an IMP outside 1 to [`MOST_IMPS`], a bit between place and last flag, place 7 without
+    /// the last flag, an answer whose place octet isn't 128, and octets after the end; `BadLength` for an
     /// answer with bits, a piece with none, above 1008 or no multiple of 16, and a piece other than the
     /// last that hasn't 1008; `OutOfMemory` only for a packet with bits.
     pub fn read(alloc: Global, octets: &[u8]) -> Result<Packet, PacketFault>
@@ -175,13 +179,13 @@ impl Packet {
         let (_, body) = octets.split_at(HEADER_OCTETS);
         let bits = Bits::from_octets(alloc, body, bit_count(octets)).map_err(out_of_memory)?;
         Ok(Packet {
-            kind: kind_of(octets[0]),
-            source: host_of(octets[1]),
-            destination: host_of(octets[2]),
-            link: Link(octets[3]),
-            number: octets[4],
-            place: octets[5] % 8,
-            last: octets[5] >= 128,
+            kind: kind_of(octets[KIND_AT]),
+            source: host_of(octets[SOURCE_AT]),
+            destination: host_of(octets[DESTINATION_AT]),
+            link: Link(octets[LINK_AT]),
+            number: octets[NUMBER_AT],
+            place: octets[PLACE_AT] % 8,
+            last: octets[PLACE_AT] >= 128,
             bits,
         })
     }
@@ -270,7 +274,7 @@ fn place_octet(place: u8, last: bool) -> u8
 fn is_address(octet: u8) -> bool
     ensures { result ≡ is_address octet }
 {
-    1 <= octet % 64 && octet % 64 <= MAX_IMP
+    1 <= octet % 64 && usize::from(octet % 64) <= MOST_IMPS
 }
 
 /// The host that such an address octet names.
@@ -281,12 +285,20 @@ fn host_of(octet: u8) -> HostAddr
     HostAddr::from_octet(octet).unwrap()
 }
 
+/// The number that two octets say, of which the first is the higher one.
+fn two_octets(octets: &[u8], first: usize) -> u16
+    requires { first + 1 < length octets.now }
+    ensures { result ≡ two_octets octets.now first }
+{
+    256 * octets[first] as u16 + octets[first + 1] as u16
+}
+
 /// How many bits a packet says that it has.
 fn bit_count(octets: &[u8]) -> usize
     requires { HEADER_OCTETS ≤ length octets.now }
     ensures { result ≡ bit_count octets.now }
 {
-    256 * octets[6] as usize + octets[7] as usize
+    usize::from(two_octets(octets, COUNT_AT))
 }
 
 /// Whether there are fewer octets than a header has, or than the number of bits asks for.
@@ -312,13 +324,13 @@ fn is_not_canonical(octets: &[u8]) -> bool
     requires { HEADER_OCTETS ≤ length octets.now }
     ensures { result ≡ is_not_canonical octets.now }
 {
-    let last = octets[5] >= 128;
-    octets[0] > 4
-        || !is_address(octets[1])
-        || !is_address(octets[2])
-        || octets[5] / 8 % 16 != 0
-        || !last && octets[5] % 8 + 1 == MAX_PACKETS
-        || octets[0] != 0 && octets[5] != 128
+    let last = octets[PLACE_AT] >= 128;
+    octets[KIND_AT] > 4
+        || !is_address(octets[SOURCE_AT])
+        || !is_address(octets[DESTINATION_AT])
+        || octets[PLACE_AT] / 8 % 16 != 0
+        || !last && octets[PLACE_AT] % 8 + 1 == MAX_PACKETS
+        || octets[KIND_AT] != 0 && octets[PLACE_AT] != 128
         || octets.len() > octet_count(bit_count(octets))
 }
 
@@ -329,8 +341,8 @@ fn is_bad_length(octets: &[u8]) -> bool
     ensures { result ≡ is_bad_length octets.now }
 {
     let count = bit_count(octets);
-    if octets[0] == 0 {
-        let last = octets[5] >= 128;
+    if octets[KIND_AT] == 0 {
+        let last = octets[PLACE_AT] >= 128;
         count == 0 || count > PACKET_BITS || count % 16 != 0 || !last && count != PACKET_BITS
     } else {
         count != 0

@@ -15,7 +15,7 @@ use crate::fault::out_of_memory;
 use crate::slot_table::{SlotTable, place_among};
 use crate::{Packet, PacketFault, PacketKind};
 use bit_messages::Bits;
-use leader1822::Flow;
+use leader1822::{Flow, Number};
 use std::alloc::{AllocError, Global};
 use std::marker::Model;
 
@@ -51,7 +51,7 @@ pub struct Held {
     /// The message's flow.
     pub flow: Flow,
     /// The message's number.
-    pub number: u8,
+    pub number: Number,
 }
 
 /// The messages in reassembly at an IMP: at most eight, one for each flow.

@@ -11,7 +11,7 @@ ghost use Rattle.packetiser.specs.Slots.{SlotState, slot_of, pieces_at, kept_for
 
 use crate::format::SLOTS;
 use crate::{Packet, PacketFault};
-use leader1822::Flow;
+use leader1822::{Flow, Number};
 use slab::Slab;
 use std::alloc::{AllocError, Global};
 use std::marker::Model;
@@ -20,7 +20,7 @@ use std::marker::Model;
 #[derive(Debug, Drop)]
 pub(crate) struct Slot {
     pub(crate) flow: Flow,
-    pub(crate) number: u8,
+    pub(crate) number: Number,
     pieces: Vec<Packet>,
 }
 
@@ -48,7 +48,7 @@ impl Slot {
     }
 
     /// What it holds of the message with this number.
-    fn pieces(&self, number: u8) -> &[Packet]
+    fn pieces(&self, number: Number) -> &[Packet]
         ensures { result.now ≡ pieces_at (Some self.now) number }
     {
         if self.number == number {

@@ -6,7 +6,8 @@ use Rattle.std.proofs.lemmas.Bool.{cases_lt, eq-eqb, eqb-true, eqb-false}
 use Rattle.std.proofs.lemmas.Bool.Decides.{nat_tests}
 use Rattle.std.proofs.lemmas.List.Sums.{fails_before_first, passes_at_first}
 use Rattle.std.proofs.lemmas.List.FromFn.{length-map-range_with_len, get_or-map-range_with_len}
-use Rattle.routing.specs.Vector.{imps, infinite, IsVector}
+use Rattle.leader1822.specs.Host.{most_imps}
+use Rattle.routing.specs.Vector.{infinite, IsVector}
 use Rattle.routing.specs.RouteTable.{Table, heard_distance, least_heard, distance_in, distance_to, vector_of, next_of, IsNext}
 use Rattle.routing.proofs.Tables.{least_heard-least, least_heard-attained, IsHeardOn}
 
@@ -134,17 +135,17 @@ next-line t imp other finite =
 pub vector-is : (t : Table) → IsVector (vector_of t)
 unfolding vector_of
 vector-is t = record {
-  one_each = length-map-range_with_len (λ (place : ℕ). distance_to t (place + 1)) 0 16;
+  one_each = length-map-range_with_len (λ (place : ℕ). distance_to t (place + 1)) 0 most_imps;
   in_range = λ place d there.
       let is : get_or (vector_of t) place d ≡ distance_to t (place + 1) =
-      get_or-map-range_with_len (λ (place : ℕ). distance_to t (place + 1)) 0 16 place place d (omega (arith, there)) (omega arith) in
+      get_or-map-range_with_len (λ (place : ℕ). distance_to t (place + 1)) 0 most_imps place place d (omega (arith, there)) (omega arith) in
       rw is (distance-le t (place + 1));
 }
 
-pub vector-distance : (t : Table) (imp : ℕ) → 0 < imp → imp ≤ imps → distance_in (vector_of t) imp ≡ distance_to t imp
+pub vector-distance : (t : Table) (imp : ℕ) → 0 < imp → imp ≤ most_imps → distance_in (vector_of t) imp ≡ distance_to t imp
 unfolding vector_of
 vector-distance t imp some most =
     let is_imp : (imp == 0) ≡ false = is_other imp 0 (λ none. omega (arith, none, some)) in
-    let at : get_or (map (λ (place : ℕ). distance_to t (place + 1)) (range_with_len 0 16)) (imp - 1) infinite ≡ distance_to t (imp - 1 + 1) =
-    get_or-map-range_with_len (λ (place : ℕ). distance_to t (place + 1)) 0 16 (imp - 1) (imp - 1) infinite (omega (arith, some, most)) (omega arith) in
+    let at : get_or (map (λ (place : ℕ). distance_to t (place + 1)) (range_with_len 0 most_imps)) (imp - 1) infinite ≡ distance_to t (imp - 1 + 1) =
+    get_or-map-range_with_len (λ (place : ℕ). distance_to t (place + 1)) 0 most_imps (imp - 1) (imp - 1) infinite (omega (arith, some, most)) (omega arith) in
     rw is_imp (at ∙ ap (λ (n : ℕ). distance_to t n) (omega (arith, some)))

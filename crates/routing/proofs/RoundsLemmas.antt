@@ -3,7 +3,8 @@ use Rattle.std.proofs.Common.{◌≡◌, ℕ, zero, suc, ◌+◌, ◌-◌, ◌<�
 use Rattle.std.proofs.lemmas.Bool.{cases_lt}
 use Rattle.std.proofs.lemmas.Bool.Decides.{nat_tests}
 use Rattle.std.proofs.lemmas.List.{get_or-map, length-map}
-use Rattle.routing.specs.Vector.{imps, infinite}
+use Rattle.leader1822.specs.Host.{most_imps}
+use Rattle.routing.specs.Vector.{infinite}
 use Rattle.routing.specs.RouteTable.{Table, heard_distance, distance_in, distance_to, vector_of, next_of, IsNext}
 use Rattle.routing.specs.Walks.{AreJoined, IsWalk, IsDistance}
 use Rattle.routing.specs.Settle.{neighbours, no_table, table_of, after_round, one_round, settled, IsImp, AreTablesOf, IsNearer, IsRight}
@@ -70,7 +71,7 @@ ports_after graph tables imp are there =
 neighbour_is_imp : (graph : List (ℕ × ℕ)) (tables : List Table) (imp port : ℕ) → AreTablesOf graph tables → port < length (neighbours graph imp) → IsImp (length tables) (get_or (neighbours graph imp) port 0)
 neighbour_is_imp graph tables imp port are there = named_ends (length tables) graph imp (get_or (neighbours graph imp) port 0) are.named (port_joined graph imp port there)
 
-heard_after : (graph : List (ℕ × ℕ)) (tables : List Table) (imp port to : ℕ) → AreTablesOf graph tables → IsImp (length tables) imp → IsImp imps to → port < length (neighbours graph imp)
+heard_after : (graph : List (ℕ × ℕ)) (tables : List Table) (imp port to : ℕ) → AreTablesOf graph tables → IsImp (length tables) imp → IsImp most_imps to → port < length (neighbours graph imp)
     → heard_distance (get_or (table_of (one_round graph tables) imp).heard port None) to ≡ distance_to (table_of tables (get_or (neighbours graph imp) port 0)) to
 heard_after graph tables imp port to are there is_imp at =
     let neighbour : ℕ = get_or (neighbours graph imp) port 0 in
@@ -93,7 +94,7 @@ own_after : (graph : List (ℕ × ℕ)) (tables : List Table) (imp : ℕ) → Ar
 own_after graph tables imp are there = ap (λ (t : Table). t.own) (after_table graph tables imp there) ∙ are.numbered imp there
 
 -- an IMP is at most one farther than each IMP that it is joined to was
-step_most : (graph : List (ℕ × ℕ)) (tables : List Table) (from next to : ℕ) → AreTablesOf graph tables → IsImp (length tables) from → IsImp imps to → AreJoined graph from next
+step_most : (graph : List (ℕ × ℕ)) (tables : List Table) (from next to : ℕ) → AreTablesOf graph tables → IsImp (length tables) from → IsImp most_imps to → AreJoined graph from next
     → distance_to (table_of (one_round graph tables) from) to ≤ distance_to (table_of tables next) to + 1
 step_most graph tables from next to are there is_imp joined =
     let p : LeadsTo (neighbours graph from) next = joined_port graph from next joined in
@@ -109,7 +110,7 @@ record IsStep (graph : List (ℕ × ℕ)) (tables : List Table) (from to distanc
   there : port < length (neighbours graph from)
   one_less : distance_to (table_of tables (get_or (neighbours graph from) port 0)) to + 1 ≡ distance
 
-step_least : (graph : List (ℕ × ℕ)) (tables : List Table) (from to : ℕ) → AreTablesOf graph tables → IsImp (length tables) from → IsImp imps to → (to ≡ from → ⊥)
+step_least : (graph : List (ℕ × ℕ)) (tables : List Table) (from to : ℕ) → AreTablesOf graph tables → IsImp (length tables) from → IsImp most_imps to → (to ≡ from → ⊥)
     → 0 < distance_to (table_of (one_round graph tables) from) to → distance_to (table_of (one_round graph tables) from) to < infinite
     → IsStep graph tables from to (distance_to (table_of (one_round graph tables) from) to)
 step_least graph tables from to are there is_imp other some finite =
@@ -122,7 +123,7 @@ step_least graph tables from to are there is_imp other some finite =
 -- ---- many rounds
 
 -- no distance is above the length of a walk that the rounds had time for
-most_walk : (graph : List (ℕ × ℕ)) (tables : List Table) (rounds from to : ℕ) (walk : List ℕ) → AreTablesOf graph tables → IsImp (length tables) from → IsImp imps to → IsWalk graph from walk to → length walk ≤ rounds
+most_walk : (graph : List (ℕ × ℕ)) (tables : List Table) (rounds from to : ℕ) (walk : List ℕ) → AreTablesOf graph tables → IsImp (length tables) from → IsImp most_imps to → IsWalk graph from walk to → length walk ≤ rounds
     → distance_to (table_of (settled graph tables rounds) from) to ≤ length walk
 unfolding settled
 most_walk graph tables rounds from to [] are there is_imp is_walk short =
@@ -149,7 +150,7 @@ walk_on : (graph : List (ℕ × ℕ)) (from next to distance longer : ℕ) → A
 walk_on graph from next to distance longer joined h e = record { walk = next ∷ h.walk; is_walk = (joined, h.is_walk); long = omega (arith, h.long, e) }
 
 -- a finite distance below the number of rounds is the length of a walk
-has_walk : (graph : List (ℕ × ℕ)) (tables : List Table) (rounds from to : ℕ) → AreTablesOf graph tables → IsImp (length tables) from → IsImp imps to
+has_walk : (graph : List (ℕ × ℕ)) (tables : List Table) (rounds from to : ℕ) → AreTablesOf graph tables → IsImp (length tables) from → IsImp most_imps to
     → distance_to (table_of (settled graph tables rounds) from) to < rounds → distance_to (table_of (settled graph tables rounds) from) to < infinite
     → HasWalk graph from to (distance_to (table_of (settled graph tables rounds) from) to)
 unfolding settled
@@ -177,7 +178,7 @@ has_walk graph tables (suc rounds) from to are there is_imp early finite =
 -- ---- after sixteen rounds
 
 -- no distance is above the length of any walk
-below_walks : (graph : List (ℕ × ℕ)) (tables : List Table) (rounds from to : ℕ) → AreTablesOf graph tables → IsImp (length tables) from → IsImp imps to → infinite ≤ rounds
+below_walks : (graph : List (ℕ × ℕ)) (tables : List Table) (rounds from to : ℕ) → AreTablesOf graph tables → IsImp (length tables) from → IsImp most_imps to → infinite ≤ rounds
     → (walk : List ℕ) → IsWalk graph from walk to → distance_to (table_of (settled graph tables rounds) from) to ≤ length walk
 below_walks graph tables rounds from to are there is_imp long walk is_walk = elim (cases_lt rounds (length walk)) [
   | inl more ↦ omega (arith, more, long, distance-le (table_of (settled graph tables rounds) from) to)
@@ -185,7 +186,7 @@ below_walks graph tables rounds from to are there is_imp long walk is_walk = eli
 ]
 
 -- to an IMP at the infinite distance there is no walk, since a walk that meets no IMP twice would be short
-unreachable : (graph : List (ℕ × ℕ)) (tables : List Table) (rounds from to : ℕ) → AreTablesOf graph tables → IsImp (length tables) from → IsImp imps to → infinite ≤ rounds
+unreachable : (graph : List (ℕ × ℕ)) (tables : List Table) (rounds from to : ℕ) → AreTablesOf graph tables → IsImp (length tables) from → IsImp most_imps to → infinite ≤ rounds
     → distance_to (table_of (settled graph tables rounds) from) to ≡ infinite → (walk : List ℕ) → IsWalk graph from walk to → ⊥
 unreachable graph tables rounds from to are there is_imp long far walk is_walk =
     let s : IsSimple graph from to = simple_walk graph from walk to is_walk in
@@ -193,7 +194,7 @@ unreachable graph tables rounds from to are there is_imp long far walk is_walk =
     let at_most : distance_to (table_of (settled graph tables rounds) from) to ≤ length s.walk = below_walks graph tables rounds from to are there is_imp long s.walk s.is_walk in
     omega (arith, short, at_most, far, are.count)
 
-is_distance : (graph : List (ℕ × ℕ)) (tables : List Table) (rounds from to : ℕ) → AreTablesOf graph tables → IsImp (length tables) from → IsImp imps to → infinite ≤ rounds
+is_distance : (graph : List (ℕ × ℕ)) (tables : List Table) (rounds from to : ℕ) → AreTablesOf graph tables → IsImp (length tables) from → IsImp most_imps to → infinite ≤ rounds
     → IsDistance graph from to (distance_to (table_of (settled graph tables rounds) from) to)
 is_distance graph tables rounds from to are there is_imp long = elim (cases_lt (distance_to (table_of (settled graph tables rounds) from) to) infinite) [
   | inl finite ↦
@@ -205,7 +206,7 @@ is_distance graph tables rounds from to are there is_imp long = elim (cases_lt (
 ]
 
 -- the next line leads to an IMP that is one nearer
-nearer : (graph : List (ℕ × ℕ)) (tables : List Table) (rounds from to : ℕ) → AreTablesOf graph tables → IsImp (length tables) from → IsImp imps to → infinite ≤ rounds
+nearer : (graph : List (ℕ × ℕ)) (tables : List Table) (rounds from to : ℕ) → AreTablesOf graph tables → IsImp (length tables) from → IsImp most_imps to → infinite ≤ rounds
     → 0 < distance_to (table_of (settled graph tables rounds) from) to → distance_to (table_of (settled graph tables rounds) from) to < infinite
     → (port : ℕ) × (next_of (table_of (settled graph tables rounds) from) to ≡ Some port) × IsNearer graph from to (distance_to (table_of (settled graph tables rounds) from) to) port
 unfolding settled

@@ -1,7 +1,8 @@
 -- What an IMP knows of routes, and what it concludes (Heart et al., SJCC 1970, routing).
 use Rattle.std.specs.Prelude.{◌≡◌, ℕ, ◌+◌, ◌-◌, ◌<◌, ◌==◌, ◌||◌, min, map, position, if◌then◌else◌, List, [], ◌∷◌, slice_index_or, slice_set, length, Option, Some, None, IsSome, replicate}
 use Rattle.std.specs.List.{range_with_len}
-use Rattle.routing.specs.Vector.{imps, infinite}
+use Rattle.leader1822.specs.Host.{most_imps}
+use Rattle.routing.specs.Vector.{infinite}
 
 -- the IMP's own number, and the distances last heard on each port; None where nothing was heard since the line came up
 pub record Table : Type 0 where
@@ -40,7 +41,7 @@ distance_to t imp = if imp == t.own then 0 else min (least_heard t.heard imp + 1
 
 -- the distances to all IMPs, from IMP 1 on
 unfoldable pub vector_of : Table → List ℕ
-vector_of t = map (λ place. distance_to t (place + 1)) (range_with_len 0 imps)
+vector_of t = map (λ place. distance_to t (place + 1)) (range_with_len 0 most_imps)
 
 -- the lowest port on which the table's distance to another IMP is attained, where that distance is finite
 unfoldable pub next_of : Table → ℕ → Option ℕ

@@ -1,7 +1,8 @@
 -- Tables that exchange vectors in rounds.
 use Rattle.std.specs.Prelude.{◌≡◌, ℕ, zero, suc, ◌-◌, ◌<◌, ◌≤◌, ◌==◌, map, if◌then◌else◌, List, [], length, All, slice_index_or, Option, Some, None}
 use Rattle.std.specs.List.{filter_map}
-use Rattle.routing.specs.Vector.{imps, infinite}
+use Rattle.leader1822.specs.Host.{most_imps}
+use Rattle.routing.specs.Vector.{infinite}
 use Rattle.routing.specs.RouteTable.{Table, vector_of, distance_to, next_of}
 use Rattle.routing.specs.Walks.{IsDistance}
 
@@ -40,7 +41,7 @@ IsImp count imp = (0 < imp) × (imp ≤ count)
 
 -- the tables of IMP 1, 2 and so on, each with as many ports as its IMP has lines in the graph, which names only these IMPs
 pub record AreTablesOf (graph : List (ℕ × ℕ)) (tables : List Table) : Type 0 where
-  pub count : length tables ≤ imps
+  pub count : length tables ≤ most_imps
   pub named : All (λ line. IsImp (length tables) line.0 × IsImp (length tables) line.1) graph
   pub numbered : (imp : ℕ) → IsImp (length tables) imp → (table_of tables imp).own ≡ imp
   pub ports : All (λ t. length t.heard ≡ length (neighbours graph t.own)) tables
@@ -53,8 +54,8 @@ IsNearer graph from to distance port =
 -- what an IMP's table says is right: each distance is the length of a shortest walk, or infinite where there is no walk;
 -- the next line towards an IMP at a distance in between leads nearer; and there is no next line to any other IMP
 pub record IsRight (graph : List (ℕ × ℕ)) (t : Table) : Type 0 where
-  pub distances : (to : ℕ) → IsImp imps to → IsDistance graph t.own to (distance_to t to)
-  pub next : (to : ℕ) → IsImp imps to → 0 < distance_to t to → distance_to t to < infinite
+  pub distances : (to : ℕ) → IsImp most_imps to → IsDistance graph t.own to (distance_to t to)
+  pub next : (to : ℕ) → IsImp most_imps to → 0 < distance_to t to → distance_to t to < infinite
       → (port : ℕ) × (next_of t to ≡ Some port) × IsNearer graph t.own to (distance_to t to) port
   pub itself : (to : ℕ) → distance_to t to ≡ 0 → next_of t to ≡ None
   pub nowhere : (to : ℕ) → distance_to t to ≡ infinite → next_of t to ≡ None

@@ -2,7 +2,8 @@
 //! a law.
 
 ghost use Rattle.std.specs.Prelude.{◌≡◌, ◌≢◌, ℕ, ◌<◌, ◌≤◌, Some, List, [], ◌∷◌, length};
-ghost use Rattle.routing.specs.Vector.{IsVector, imps, infinite};
+ghost use Rattle.leader1822.specs.Host.{most_imps};
+ghost use Rattle.routing.specs.Vector.{IsVector, infinite};
 ghost use Rattle.routing.specs.Settle.{AreTablesOf, IsImp, IsRight, settled, table_of};
 ghost use Rattle.routing.specs.Walks.{IsDistance};
 ghost use Rattle.routing.specs.RouteTable.{Table, distance_in, distance_to, vector_of, next_of, IsNext};
@@ -10,7 +11,7 @@ ghost use Rattle.routing.specs.RouteTable.{Table, distance_in, distance_to, vect
 /// A table's vector tells its distances, and its next line attains the distance to another IMP.
 pub fn tables()
     ensures vector { (t : Table) → IsVector (vector_of t) }
-    ensures told { (t : Table) (imp : ℕ) → 0 < imp → imp ≤ imps → distance_in (vector_of t) imp ≡ distance_to t imp }
+    ensures told { (t : Table) (imp : ℕ) → 0 < imp → imp ≤ most_imps → distance_in (vector_of t) imp ≡ distance_to t imp }
 
     // a distance is 0 to the IMP itself alone
     ensures own { (t : Table) (imp : ℕ) → distance_to t imp ≡ 0 → imp ≡ t.own }

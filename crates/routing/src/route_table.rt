@@ -2,10 +2,12 @@
 
 ghost use Rattle.std.specs.Prelude.{◌≡◌, ◌≢◌, ◌+◌, ◌<◌, ◌≤◌, ◌==◌, IfOk, IfSome, OnErr, length, position, ◌-◌, All, Some, map, [], slice_index_or};
 ghost use Rattle.routing.specs.RouteTable.{opening_table, hears, loses, distance_in, heard_distance, least_heard, distance_to, vector_of, next_of};
-ghost use Rattle.routing.specs.Vector.{imps, infinite, IsVector};
+ghost use Rattle.leader1822.specs.Host.{most_imps};
+ghost use Rattle.routing.specs.Vector.{infinite, IsVector};
 ghost use Rattle.routing.specs.Settle.{IsImp, after_round, neighbours, other_end};
 
-use crate::vector::{IMPS, INFINITE, Vector};
+use crate::vector::{INFINITE, Vector};
+use leader1822::MOST_IMPS;
 use std::alloc::{AllocError, Global};
 use std::marker::Model;
 
@@ -62,8 +64,8 @@ impl RouteTable {
     pub fn vector(&self) -> Vector
         ensures { result ≡ vector_of self.now }
     {
-        let mut distances = [INFINITE; IMPS];
-        for place in 0..IMPS {
+        let mut distances = [INFINITE; MOST_IMPS];
+        for place in 0..MOST_IMPS {
             distances[place] = self.distance_to(place as u8 + 1);
         }
         Vector::new(distances)
@@ -82,7 +84,7 @@ impl RouteTable {
     #[tactic(auto, unfolding(crate::specs::RouteTable::next_of))]
     pub fn next(&self, imp: u8) -> Option<usize>
         ensures next { result ≡ next_of self.now imp }
-        ensures within { IfSome result (λ port. (port < length self.now.heard) × (imp ≤ imps)) }
+        ensures within { IfSome result (λ port. (port < length self.now.heard) × (imp ≤ most_imps)) }
     {
         let distance = self.distance_to(imp);
         if imp == self.own || distance == INFINITE {
@@ -105,7 +107,7 @@ impl RouteTable {
     fn distance_to(&self, imp: u8) -> u8
         ensures value { result ≡ distance_to self.now imp }
         ensures most { result ≤ infinite }
-        ensures no_imp { imps < imp → imp ≢ self.now.own → result ≡ infinite }
+        ensures no_imp { most_imps < imp → imp ≢ self.now.own → result ≡ infinite }
     {
         if imp == self.own {
             return 0;
@@ -146,7 +148,7 @@ fn hear_lines(own: u8, graph: &[(u8, u8)], told: &[Vector], heard: &mut [Option<
 fn least_heard(ports: &[Option<Vector>], imp: u8) -> u8
     ensures value { result ≡ least_heard ports.now imp }
     ensures most { result ≤ infinite }
-    ensures no_imp { imps < imp → result ≡ infinite }
+    ensures no_imp { most_imps < imp → result ≡ infinite }
 {
     let mut least = INFINITE;
     for heard in ports {
@@ -169,7 +171,7 @@ fn first_port(ports: &[Option<Vector>], imp: u8, distance: u8) -> Option<usize>
 fn heard_distance(heard: &Option<Vector>, imp: u8) -> u8
     ensures value { result ≡ heard_distance heard.now imp }
     ensures most { result ≤ infinite }
-    ensures no_imp { imps < imp → result ≡ infinite }
+    ensures no_imp { most_imps < imp → result ≡ infinite }
 {
     match heard {
         Some(vector) => distance_in(vector.distances(), imp),
@@ -182,7 +184,7 @@ fn distance_in(distances: &[u8], imp: u8) -> u8
     requires { IsVector distances.now }
     ensures value { result ≡ distance_in distances.now imp }
     ensures most { result ≤ infinite }
-    ensures no_imp { imps < imp → result ≡ infinite }
+    ensures no_imp { most_imps < imp → result ≡ infinite }
 {
     if imp == 0 {
         return INFINITE;

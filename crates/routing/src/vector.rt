@@ -4,20 +4,18 @@ ghost use Rattle.std.specs.Prelude.{◌≡◌, ◌≤◌, ◌↔◌, All, IsTrue
 ghost use Rattle.std.specs.List.{list_all};
 ghost use Rattle.routing.specs.Vector.{IsVector, is_vector, infinite};
 
+use leader1822::MOST_IMPS;
 use std::alloc::AllocError;
 use std::marker::Model;
-
-/// How many IMPs a network can have. They are numbered from 1.
-pub const IMPS: usize = 16;
 
 /// The distance of an IMP that no path leads to. Every other distance is below it.
 pub const INFINITE: u8 = 16;
 
-/// The distances of an IMP to IMP 1, IMP 2 and so on to the last: [`IMPS`] of them, each at most
+/// The distances of an IMP to IMP 1, IMP 2 and so on to the last: [`MOST_IMPS`] of them, each at most
 /// [`INFINITE`].
 #[derive(Debug, Drop, PartialEq, Eq)]
 pub struct Vector {
-    distances: [u8; IMPS],
+    distances: [u8; MOST_IMPS],
 }
 
 impl Model for Vector {
@@ -48,22 +46,22 @@ impl Clone for Vector {
 
 impl Vector {
     /// The vector with these distances, on the condition that none is above [`INFINITE`].
-    pub fn new(distances: [u8; IMPS]) -> Self
+    pub fn new(distances: [u8; MOST_IMPS]) -> Self
         requires { All (λ d. d ≤ infinite) distances }
         ensures { result ≡ distances }
     {
         Vector { distances }
     }
 
-    /// The vector with these distances; `None` where they aren't [`IMPS`] numbers of at most
+    /// The vector with these distances; `None` where they aren't [`MOST_IMPS`] numbers of at most
     /// [`INFINITE`].
     pub fn from_slice(distances: &[u8]) -> Option<Self>
         ensures { result ≡ (if is_vector distances.now then Some distances.now else None) }
     {
-        if distances.len() != IMPS || !all_in_range(distances) {
+        if distances.len() != MOST_IMPS || !all_in_range(distances) {
             return None;
         }
-        let mut copy = [0; IMPS];
+        let mut copy = [0; MOST_IMPS];
         copy.copy_from_slice(distances);
         Some(Vector { distances: copy })
     }

@@ -72,7 +72,7 @@ is_number (Some kept) number = kept == number
 abbrev pub is_kept : Net → Flow → ℕ → Bool
 is_kept n f number = says (λ s. is_number (kept s f) number) (imp_at n.imps f.destination.imp)
 
--- An offer would begin a number, if there were room, while the number 127 before the flow's last one is alive, or while the
+-- An offer would begin a number, if there were room, while the number `window` before the flow's last one is alive, or while the
 -- destination's IMP keeps the number that would be begun
 abbrev pub offer_alive : Net → Flow → Option State → Bool
 offer_alive n f None = false

@@ -2,9 +2,8 @@
 -- to which one leads.
 use Rattle.std.specs.Prelude.{ℕ, ◌+◌, ◌≤◌, ◌<◌, List, Option, Some, None, length, All}
 use Rattle.bit_messages.specs.Body.{most_text_bits}
-use Rattle.leader1822.specs.Host.{IsAddress}
+use Rattle.leader1822.specs.Host.{IsAddress, most_imps}
 use Rattle.leader1822.specs.declared.message.HostMessage.{HostMessage}
-use Rattle.packetiser.specs.Limits.{greatest_imp}
 use Rattle.imp_channel.specs.declared.frame.Content.{Content}
 use Rattle.imp_channel.specs.declared.frame.Content.TheVariants as content
 use Rattle.imp_channel.specs.declared.frame.Frame.{Frame}
@@ -35,8 +34,8 @@ ImpHeard None = Unit {0}
 ImpHeard (Some s) = All HeardVector s.routes.heard
 
 pub record IsRouted (n : Net) : Type 0 where
-  -- the IMPs have the numbers 1 to 16; no IMP has the number 0
-  pub few : length n.imps ≤ greatest_imp + 1
+  -- the IMPs have numbers from 1 to the greatest; no IMP has the number 0
+  pub few : length n.imps ≤ most_imps + 1
   pub imps : All ImpHeard n.imps
   pub lines : All WireTells n.lines
 

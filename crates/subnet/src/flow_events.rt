@@ -10,8 +10,7 @@ ghost use Rattle.subnet.specs.Inside.Calling.{AreLive, Steps, SameLog};
 use crate::imp_call::ImpCall;
 use crate::parts::Parts;
 use crate::seeking::Sought;
-use leader1822::{CarrierFault, Flow, ImpNumber};
-use link_table::Number;
+use leader1822::{CarrierFault, Flow, ImpNumber, Number};
 
 impl Parts {
     /// The destination's IMP throws away the pieces that it holds of a flow's message.

@@ -4,9 +4,9 @@
 //! The functions `worked_..` state the rules by examples: each row is one that another reading of its rule
 //! would fail.
 
-ghost use Rattle.std.specs.Prelude.{◌≡◌, ◌≤◌, ℕ, true, false, List, [], ◌∷◌, ◌++◌, length, replicate, Option, Some, None, Result};
+ghost use Rattle.std.specs.Prelude.{◌≡◌, ◌≤◌, ◌+◌, ◌-◌, ℕ, true, false, List, [], ◌∷◌, ◌++◌, length, replicate, Option, Some, None, Result};
 ghost use Rattle.leader1822.specs.Calls.{IsFor, step_crossings, ShowsOffer, ShowsTake, ShowsStep, ShowsRound};
-ghost use Rattle.leader1822.specs.Host.{Host, InOrder};
+ghost use Rattle.leader1822.specs.Host.{Host, InOrder, most_imps};
 ghost use Rattle.leader1822.specs.Mailboxes.{IsRun, is_up};
 ghost use Rattle.leader1822.specs.declared.address.Flow.{Flow};
 ghost use Rattle.leader1822.specs.declared.carrier.CarrierFault.{CarrierFault};
@@ -19,6 +19,7 @@ ghost use Rattle.leader1822.specs.declared.event.NetEvent.{NetEvent};
 ghost use Rattle.leader1822.specs.declared.event.NetEvent.TheVariants as event;
 ghost use Rattle.leader1822.specs.declared.message.HostMessage.{HostMessage};
 ghost use Rattle.imp_channel.specs.declared.frame.Content.TheVariants as content;
+ghost use Rattle.routing.specs.Vector.{infinite};
 ghost use Rattle.imp_node.specs.Examples.{host, flow, packets_to, no_acks, ack_frame};
 ghost use Rattle.imp_node.specs.Lines.{on_port};
 ghost use Rattle.imp_node.specs.State.{State, opening_node, no_host, port_at};
@@ -44,14 +45,14 @@ ghost use Rattle.subnet.specs.Working.{IsWorking, SubnetOffer, SubnetTake, Subne
 pub fn whole_runs()
     ensures run { (hosts : List Host) (sites : List (Option ℕ)) (ends : List Ends) (calls : List Call)
         → AreHosts hosts sites
-        → length sites ≤ 17
+        → length sites ≤ most_imps + 1
         → OffersMessages calls
         → IsRun hosts (ran calls (start.opening_subnet hosts sites ends)).log }
 
     // and the subnet is sound
     ensures sound { (hosts : List Host) (sites : List (Option ℕ)) (ends : List Ends) (calls : List Call)
         → AreHosts hosts sites
-        → length sites ≤ 17
+        → length sites ≤ most_imps + 1
         → OffersMessages calls
         → IsSound (ran calls (start.opening_subnet hosts sites ends)) }
 {}
@@ -84,7 +85,7 @@ pub fn carrier()
     ensures round_shown { (old new : Kept) (result : Result Unit CarrierFault) → SubnetRound old result new → ShowsRound (seen_of old) result (seen_of new) }
 
     // at its opening it is so
-    ensures opening { (sites : List (Option ℕ)) (ends : List Ends) → length sites ≤ 17 → IsWorking (running (start.opening_subnet (start.hosts_from 0 sites) sites ends)) }
+    ensures opening { (sites : List (Option ℕ)) (ends : List Ends) → length sites ≤ most_imps + 1 → IsWorking (running (start.opening_subnet (start.hosts_from 0 sites) sites ends)) }
 {}
 
 /// The hosts of the network and its sites are the same after each call.
@@ -149,10 +150,10 @@ pub fn sound_messages()
     ensures deliver { (n : Net) (l : ℕ) (d : Direction) (k : ℕ) → IsSound n → IsSound (stepped n (event.Deliver l d k)) }
 {}
 
-/// Distances are told of the IMPs 1 to 16 alone, from the opening on and whatever happens: so a message with
+/// Distances are told of the IMPs that there can be alone, from the opening on and whatever happens: so a message with
 /// addresses, which every message of a host has, can be carried where it goes.
 pub fn routed()
-    ensures opening { (hosts : List Host) (sites : List (Option ℕ)) (ends : List Ends) → length sites ≤ 17 → IsRouted (start.opening_subnet hosts sites ends) }
+    ensures opening { (hosts : List Host) (sites : List (Option ℕ)) (ends : List Ends) → length sites ≤ most_imps + 1 → IsRouted (start.opening_subnet hosts sites ends) }
     ensures offer_out { (n : Net) (m : HostMessage) → IsRouted n → IsRouted (offer_out n m) }
     ensures take_in { (n : Net) (h : Host) → IsRouted n → IsRouted (take_in n h) }
     ensures step { (n : Net) (e : NetEvent) → IsRouted n → IsRouted (stepped n e) }
@@ -385,7 +386,7 @@ pub fn worked_rounds()
     ensures heard { quiet_round opened_pair ≡ pair (Some imp_1) (Some imp_2) [] [] }
 
     // an IMP tells its distances before it sends again
-    ensures told_first { (refreshed (pair (Some sending_ours) None [] []) 1).lines ≡ wire (record { acks = no_acks; content = content.Routes (0 ∷ 1 ∷ replicate 14 16) } ∷ data_frame 0 ∷ []) [] ∷ [] }
+    ensures told_first { (refreshed (pair (Some sending_ours) None [] []) 1).lines ≡ wire (record { acks = no_acks; content = content.Routes (0 ∷ 1 ∷ replicate (most_imps - 2) infinite) } ∷ data_frame 0 ∷ []) [] ∷ [] }
 
     // a packet that came before is sent again and acknowledged, and its acknowledgement is delivered in the same round
     ensures acknowledged { (packets (quiet_round (pair (Some sending_ours) (Some past_one) [] [])) ≡ []) × ((quiet_round (pair (Some sending_ours) (Some past_one) [] [])).lines ≡ wire [] [] ∷ []) }

@@ -12,8 +12,7 @@ ghost use Rattle.subnet.specs.Inside.Calling.{AreLive, CallEnds, SameLog};
 use crate::imp_call::ImpCall;
 use crate::parts::Parts;
 use imp_node::Imp;
-use leader1822::{CarrierFault, Crossing, Flow, HostMessage};
-use link_table::Number;
+use leader1822::{CarrierFault, Crossing, Flow, HostMessage, Number};
 use link_table::numbers::{next, oldest};
 
 impl Parts {

@@ -1,7 +1,7 @@
 //! How a subnet is opened from its hosts, sites and lines.
 
-ghost use Rattle.std.specs.Prelude.{◌≡◌, ◌≤◌, ◌<◌, None, length, map, count_by, slice_index_or, All, IfOk, IfSome};
-ghost use Rattle.packetiser.specs.Limits.{greatest_imp};
+ghost use Rattle.std.specs.Prelude.{◌≡◌, ◌+◌, ◌≤◌, ◌<◌, None, length, map, count_by, slice_index_or, All, IfOk, IfSome};
+ghost use Rattle.leader1822.specs.Host.{most_imps};
 ghost use Rattle.subnet.specs.Net.{ends_at};
 ghost use Rattle.subnet.specs.Opening as start;
 ghost use Rattle.subnet.specs.Inside.Calling.{AreLive};
@@ -26,7 +26,7 @@ impl Parts {
         ends: &[Ends],
     ) -> Result<Parts, AllocError>
         requires none { slice_index_or sites.items 0 None ≡ None }
-        requires numbers { length sites.items ≤ 17 }
+        requires numbers { length sites.items ≤ most_imps + 1 }
         requires hosts { All (λ site. IfSome site (λ count. count ≤ 4)) sites.items }
         requires few { length ends.now < 256 }
         ensures opened { IfOk result (λ parts. parts ≡ start.opening_subnet hosts.items sites.items ends.now) }
@@ -65,7 +65,7 @@ fn opened_imps(
     lines: &[Wire],
 ) -> Result<Vec<Option<Imp>>, AllocError>
     requires none { slice_index_or sites.now 0 None ≡ None }
-    requires numbers { length sites.now ≤ 17 }
+    requires numbers { length sites.now ≤ most_imps + 1 }
     requires hosts { All (λ site. IfSome site (λ count. count ≤ 4)) sites.now }
     requires few { length lines.now < 256 }
     ensures { IfOk result (λ imps. imps.items ≡ start.opened_from 0 sites.now (λ i. count_by (ends_at i) lines.now)) }
@@ -81,7 +81,7 @@ fn opened_imps(
 
 /// The IMP of a site, if there is one.
 fn opened(alloc: Global, number: u8, site: Option<u8>, ports: u8) -> Result<Option<Imp>, AllocError>
-    requires { IfSome site (λ count. (1 ≤ number) × (number ≤ greatest_imp) × (count ≤ 4)) }
+    requires { IfSome site (λ count. (1 ≤ number) × (number ≤ most_imps) × (count ≤ 4)) }
     ensures { IfOk result (λ imp. imp ≡ start.opened_imp number site ports) }
 {
     let Some(hosts) = site else {

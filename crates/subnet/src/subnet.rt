@@ -1,6 +1,7 @@
 //! A packet subnet: all IMPs and lines, as a carrier.
 
-ghost use Rattle.std.specs.Prelude.{◌≡◌, ◌<◌, ◌≤◌, true, false, reverse, None, All, IfSome, IfOk, length, slice_index_or};
+ghost use Rattle.std.specs.Prelude.{◌≡◌, ◌+◌, ◌<◌, ◌≤◌, true, false, reverse, None, All, IfSome, IfOk, length, slice_index_or};
+ghost use Rattle.leader1822.specs.Host.{most_imps};
 ghost use Rattle.subnet.specs.Inside.Calling.{AreLive, SameLog, runs_out};
 ghost use Rattle.subnet.specs.Routed.{IsHostMessage};
 ghost use Rattle.subnet.specs.Alive.{is_alive};
@@ -11,8 +12,7 @@ ghost use Rattle.subnet.specs.Working.{IsWorking, seen_of, SubnetOffer, SubnetTa
 
 use crate::parts::{Parts, runs_out};
 use crate::wire::Ends;
-use leader1822::{Carrier, CarrierFault, Crossing, Flow, HostAddr, HostMessage, Inbound, NetEvent};
-use link_table::Number;
+use leader1822::{Carrier, CarrierFault, Crossing, Flow, HostAddr, HostMessage, Inbound, NetEvent, Number};
 use std::alloc::{AllocError, Global};
 use std::marker::Model;
 
@@ -45,7 +45,7 @@ impl Model for Subnet {
 impl Subnet {
     /// The subnet of these IMPs and lines at its opening: all IMPs, ends of lines and hosts are up. `sites` says by
     /// number how many hosts an IMP has, 0 to 4, where there is one: there is none of the number 0, and none above
-    /// 16. `hosts` are the hosts of all IMPs, one after another. There are fewer than 256 lines.
+    /// [`leader1822::MOST_IMPS`]. `hosts` are the hosts of all IMPs, one after another. There are fewer than 256 lines.
     ///
     /// Errors: memory runs out, and nothing else.
     pub fn new(
@@ -55,7 +55,7 @@ impl Subnet {
         ends: &[Ends],
     ) -> Result<Subnet, AllocError>
         requires none { slice_index_or sites.items 0 None ≡ None }
-        requires numbers { length sites.items ≤ 17 }
+        requires numbers { length sites.items ≤ most_imps + 1 }
         requires counts { All (λ site. IfSome site (λ count. count ≤ 4)) sites.items }
         requires listed { hosts.items ≡ start.hosts_from 0 sites.items }
         requires few { length ends.now < 256 }
@@ -154,8 +154,8 @@ impl Carrier for Subnet {
     /// The message is cut into packets, which go out to the IMP of its destination; where no route leads
     /// there, Dead waits for the source at once.
     ///
-    /// Errors: `NoSuch` where the source isn't a host of the network, `StillAlive` while the number 127 before
-    /// the flow's last one is alive, `IsDown` where the source or its IMP is down, `Blocked` while a message of
+    /// Errors: `NoSuch` where the source isn't a host of the network, `StillAlive` while the number that lies
+    /// [`link_table::numbers::WINDOW`] before the flow's last one is alive, `IsDown` where the source or its IMP is down, `Blocked` while a message of
     /// the flow is outstanding or an answer about it waits, `NoRoom` where its IMP has no place for it.
     #[tactic(auto, using(crate::proofs::Calls::Working::offer_shown))]
     fn offer_out(&mut self, message: HostMessage) -> Result<(), CarrierFault> {

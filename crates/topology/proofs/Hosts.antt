@@ -6,10 +6,10 @@ use Rattle.std.proofs.lemmas.Bool.{false≢true, and_parts}
 use Rattle.std.proofs.lemmas.Bool.Decides.{nat_tests}
 use Rattle.std.proofs.lemmas.List.Folds.{list_any-append}
 use Rattle.std.specs.List.{list_all}
-use Rattle.leader1822.specs.Host.{Host, is_host, same_host}
+use Rattle.leader1822.specs.Host.{Host, is_host, most_imps, same_host}
 use Rattle.leader1822.proofs.lemmas.{both_ways, same_host-refl, same_host-true}
 use Rattle.topology.specs.declared.network.ImpHosts.{ImpHosts}
-use Rattle.topology.specs.Topology.{TopologyFields, IsTopology, has_host, host_if, hosts_below, hosts_of, is_imp}
+use Rattle.topology.specs.Topology.{TopologyFields, IsTopology, has_host, host_if, hosts_below, hosts_of, is_imp, most_hosts}
 
 one_of : (a b : Bool) → (a || b) ≡ true → (a ≡ true) ⊎ (b ≡ true)
 one_of true b e = inl refl
@@ -78,20 +78,20 @@ stood imps (suc n) h has some few low =
           right_true front back (here (has_host imps (n / 4 + 1) (n % 4)) (place_of n) h (subst (λ (k : Host). has_host imps k.imp k.host ≡ true) is has) is)
     ]
 
--- an IMP of a topology is numbered 1 to 16, and has hosts 0 to 3
+-- an IMP of a topology is numbered from 1 to the greatest, and has hosts 0 to 3
 record InRange (imp host : ℕ) : Type 0 where
   some : 1 ≤ imp
-  most : imp ≤ 16
+  most : imp ≤ most_imps
   few : host < 4
 
 of_imp : (i : ImpHosts) (imp host : ℕ) → is_imp i ≡ true → (i.imp == imp && nat_lt host i.hosts) ≡ true → InRange imp host
 of_imp i imp host good has =
-    let low = and_parts (nat_le 1 i.imp) (nat_le i.imp 16 && nat_le i.hosts 4) good in
-    let high = and_parts (nat_le i.imp 16) (nat_le i.hosts 4) low.1 in
+    let low = and_parts (nat_le 1 i.imp) (nat_le i.imp most_imps && nat_le i.hosts 4) good in
+    let high = and_parts (nat_le i.imp most_imps) (nat_le i.hosts 4) low.1 in
     let both = and_parts (i.imp == imp) (nat_lt host i.hosts) has in
     let same : i.imp ≡ imp = eqb-true i.imp imp both.0 in
     let one : 1 ≤ i.imp = let t = low.0 in grind (arith, nat_tests) in
-    let sixteen : i.imp ≤ 16 = let t = high.0 in grind (arith, nat_tests) in
+    let greatest : i.imp ≤ most_imps = let t = high.0 in grind (arith, nat_tests) in
     let four : i.hosts ≤ 4 = let t = high.1 in grind (arith, nat_tests) in
     let below : host < i.hosts = let t = both.1 in grind (arith, nat_tests) in
     record { some = omega arith; most = omega arith; few = omega arith }
@@ -106,13 +106,13 @@ in_range (i ∷ imps) imp host good has =
     ]
 
 pub hosts_of_imps : (t : TopologyFields) (h : Host) → IsTopology t → is_host (hosts_of t) h ≡ has_host t.imps h.imp h.host
-hosts_of_imps t h keeps = both_ways (is_host (hosts_of t) h) (has_host t.imps h.imp h.host) (stands t.imps 64 h) (λ has.
-    let counted : (nat_le 1 (length t.imps) ≡ true) × ((nat_le (length t.imps) 16 && list_all is_imp t.imps) ≡ true) = and_parts (nat_le 1 (length t.imps)) (nat_le (length t.imps) 16 && list_all is_imp t.imps) keeps.imps in
-    let range : InRange h.imp h.host = in_range t.imps h.imp h.host (and_parts (nat_le (length t.imps) 16) (list_all is_imp t.imps) counted.1).1 has in
+hosts_of_imps t h keeps = both_ways (is_host (hosts_of t) h) (has_host t.imps h.imp h.host) (stands t.imps (most_imps * most_hosts) h) (λ has.
+    let counted : (nat_le 1 (length t.imps) ≡ true) × ((nat_le (length t.imps) most_imps && list_all is_imp t.imps) ≡ true) = and_parts (nat_le 1 (length t.imps)) (nat_le (length t.imps) most_imps && list_all is_imp t.imps) keeps.imps in
+    let range : InRange h.imp h.host = in_range t.imps h.imp h.host (and_parts (nat_le (length t.imps) most_imps) (list_all is_imp t.imps) counted.1).1 has in
     let some : 1 ≤ h.imp = range.some in
-    let most : h.imp ≤ 16 = range.most in
+    let most : h.imp ≤ most_imps = range.most in
     let few : h.host < 4 = range.few in
-    stood t.imps 64 h has some few (omega arith))
+    stood t.imps (most_imps * most_hosts) h has some few (omega arith))
 
 -- ---- memory
 
@@ -133,11 +133,11 @@ more imps n (suc k) some =
     (nonempty_front (hosts_below imps (n + k)) (host_if (has_host imps ((n + k) / 4 + 1) ((n + k) % 4)) (place_of (n + k))) (more imps n k some))
 
 -- where a host is put in its place there is a host
-pub some_host : (imps : List ImpHosts) (n : ℕ) → n < 64 → has_host imps (n / 4 + 1) (n % 4) ≡ true → hosts_below imps 64 ≢ []
+pub some_host : (imps : List ImpHosts) (n : ℕ) → n < most_imps * most_hosts → has_host imps (n / 4 + 1) (n % 4) ≡ true → hosts_below imps (most_imps * most_hosts) ≢ []
 unfolding hosts_below
 some_host imps n low has =
-    subst (λ m. hosts_below imps m ≢ []) (let e : suc n + (63 - n) ≡ 64 = omega arith in e)
-    (more imps (suc n) (63 - n) (nonempty_back (hosts_below imps n) (has_host imps (n / 4 + 1) (n % 4)) (place_of n) has))
+    subst (λ m. hosts_below imps m ≢ []) (let e : suc n + (most_imps * most_hosts - suc n) ≡ most_imps * most_hosts = omega arith in e)
+    (more imps (suc n) (most_imps * most_hosts - suc n) (nonempty_back (hosts_below imps n) (has_host imps (n / 4 + 1) (n % 4)) (place_of n) has))
 
 pub if_err : {T E P : Type 0} (r : Result T E) → P → IfErr r (λ e. P)
 if_err (Ok x) p = tt

@@ -4,9 +4,10 @@ use Rattle.std.specs.List.{list_all}
 use Rattle.std.proofs.lemmas.List.Sums.{sum_by-cons}
 use Rattle.std.proofs.lemmas.Bool.{cases_Bool, and_parts, false≢true}
 use Rattle.std.proofs.lemmas.Bool.Decides.{nat_tests}
+use Rattle.leader1822.specs.Host.{most_imps}
 use Rattle.topology.specs.declared.network.ImpHosts.{ImpHosts}
 use Rattle.topology.specs.declared.network.LineEnds.{LineEnds}
-use Rattle.topology.specs.Topology.{IsTopology, TopologyFields, are_apart, has_ports, is_imp, is_line, is_there, line_count}
+use Rattle.topology.specs.Topology.{IsTopology, TopologyFields, are_apart, has_ports, is_imp, is_line, is_there, line_count, most_lines, most_network_lines}
 
 abbrev one : Bool → ℕ
 one b = cond b 1 0
@@ -90,22 +91,22 @@ two_each imps (line ∷ lines) good =
     omega (arith, ends, a, b, rest, more)
 
 -- no IMP has more than five
-five_each : (imps : List ImpHosts) (lines : List LineEnds) → has_ports imps lines ≡ true → ends_of imps lines ≤ 5 * length imps
+five_each : (imps : List ImpHosts) (lines : List LineEnds) → has_ports imps lines ≡ true → ends_of imps lines ≤ most_lines * length imps
 five_each [] lines few = omega arith
 five_each (i ∷ imps) lines few =
-    let all : (nat_le (line_count lines i.imp) 5 ≡ true) × (has_ports imps lines ≡ true) = and_parts (nat_le (line_count lines i.imp) 5) (has_ports imps lines) few in
-    let first : line_count lines i.imp ≤ 5 = let t = all.0 in grind (arith, nat_tests) in
+    let all : (nat_le (line_count lines i.imp) most_lines ≡ true) × (has_ports imps lines ≡ true) = and_parts (nat_le (line_count lines i.imp) most_lines) (has_ports imps lines) few in
+    let first : line_count lines i.imp ≤ most_lines = let t = all.0 in grind (arith, nat_tests) in
     by (line_count lines i.imp) (ends_of imps lines) (length imps) first (five_each imps lines all.1)
   where
-    by : (a b n : ℕ) → a ≤ 5 → b ≤ 5 * n → a + b ≤ 5 * suc n
+    by : (a b n : ℕ) → a ≤ most_lines → b ≤ most_lines * n → a + b ≤ most_lines * suc n
     by a b n g h = omega (arith, g, h)
 
-pub few_lines : (t : TopologyFields) → IsTopology t → length t.lines ≤ 40
+pub few_lines : (t : TopologyFields) → IsTopology t → length t.lines ≤ most_network_lines
 few_lines t keeps =
     let rules : ((list_all (is_line t.imps) t.lines && are_apart t.lines) ≡ true) × (has_ports t.imps t.lines ≡ true) = and_parts (list_all (is_line t.imps) t.lines && are_apart t.lines) (has_ports t.imps t.lines) keeps.lines in
     let good : (list_all (is_line t.imps) t.lines ≡ true) × (are_apart t.lines ≡ true) = and_parts (list_all (is_line t.imps) t.lines) (are_apart t.lines) rules.0 in
-    let counted : (nat_le 1 (length t.imps) ≡ true) × ((nat_le (length t.imps) 16 && list_all is_imp t.imps) ≡ true) = and_parts (nat_le 1 (length t.imps)) (nat_le (length t.imps) 16 && list_all is_imp t.imps) keeps.imps in
-    let most : length t.imps ≤ 16 = let t = (and_parts (nat_le (length t.imps) 16) (list_all is_imp t.imps) counted.1).0 in grind (arith, nat_tests) in
+    let counted : (nat_le 1 (length t.imps) ≡ true) × ((nat_le (length t.imps) most_imps && list_all is_imp t.imps) ≡ true) = and_parts (nat_le 1 (length t.imps)) (nat_le (length t.imps) most_imps && list_all is_imp t.imps) keeps.imps in
+    let most : length t.imps ≤ most_imps = let t = (and_parts (nat_le (length t.imps) most_imps) (list_all is_imp t.imps) counted.1).0 in grind (arith, nat_tests) in
     let two : 2 * length t.lines ≤ ends_of t.imps t.lines = two_each t.imps t.lines good.0 in
-    let five : ends_of t.imps t.lines ≤ 5 * length t.imps = five_each t.imps t.lines rules.1 in
+    let five : ends_of t.imps t.lines ≤ most_lines * length t.imps = five_each t.imps t.lines rules.1 in
     omega (arith, most, two, five)

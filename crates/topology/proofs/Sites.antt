@@ -7,7 +7,7 @@ use Rattle.std.proofs.lemmas.Bool.Decides.{nat_tests}
 use Rattle.std.proofs.lemmas.List.Elements.{All-nil, All-cons}
 use Rattle.std.proofs.lemmas.List.FromFn.{map-range_with_len_more, length-map-range_with_len}
 use Rattle.std.specs.List.{list_all, range_with_len}
-use Rattle.leader1822.specs.Host.{Host}
+use Rattle.leader1822.specs.Host.{Host, most_imps}
 use Rattle.topology.specs.declared.network.ImpHosts.{ImpHosts}
 use Rattle.topology.specs.Topology.{AreSites, IsRising, IsTopology, TopologyFields, has_host, host_if, hosts_at, hosts_below, hosts_from, hosts_of, is_imp, site_of, sites_of}
 use Rattle.topology.proofs.Hosts.{place_of}
@@ -56,8 +56,8 @@ site_few : (imps : List ImpHosts) (n : ℕ) → list_all is_imp imps ≡ true �
 site_few [] n good = tt
 site_few (i ∷ imps) n good =
     let all : (is_imp i ≡ true) × (list_all is_imp imps ≡ true) = and_parts (is_imp i) (list_all is_imp imps) good in
-    let low : (nat_le 1 i.imp ≡ true) × ((nat_le i.imp 16 && nat_le i.hosts 4) ≡ true) = and_parts (nat_le 1 i.imp) (nat_le i.imp 16 && nat_le i.hosts 4) all.0 in
-    let high : (nat_le i.imp 16 ≡ true) × (nat_le i.hosts 4 ≡ true) = and_parts (nat_le i.imp 16) (nat_le i.hosts 4) low.1 in
+    let low : (nat_le 1 i.imp ≡ true) × ((nat_le i.imp most_imps && nat_le i.hosts 4) ≡ true) = and_parts (nat_le 1 i.imp) (nat_le i.imp most_imps && nat_le i.hosts 4) all.0 in
+    let high : (nat_le i.imp most_imps ≡ true) × (nat_le i.hosts 4 ≡ true) = and_parts (nat_le i.imp most_imps) (nat_le i.hosts 4) low.1 in
     let few : i.hosts ≤ 4 = let t = high.1 in grind (arith, nat_tests) in
     elim (cases_Bool (i.imp == n)) [
       | inl same ↦ rw same few
@@ -68,14 +68,14 @@ none_at_zero : (imps : List ImpHosts) → list_all is_imp imps ≡ true → site
 none_at_zero [] good = refl
 none_at_zero (i ∷ imps) good =
     let all : (is_imp i ≡ true) × (list_all is_imp imps ≡ true) = and_parts (is_imp i) (list_all is_imp imps) good in
-    let low : (nat_le 1 i.imp ≡ true) × ((nat_le i.imp 16 && nat_le i.hosts 4) ≡ true) = and_parts (nat_le 1 i.imp) (nat_le i.imp 16 && nat_le i.hosts 4) all.0 in
+    let low : (nat_le 1 i.imp ≡ true) × ((nat_le i.imp most_imps && nat_le i.hosts 4) ≡ true) = and_parts (nat_le 1 i.imp) (nat_le i.imp most_imps && nat_le i.hosts 4) all.0 in
     let some : 1 ≤ i.imp = let t = low.0 in grind (arith, nat_tests) in
     rw (unlike i.imp 0 (λ e. omega (arith, some, e))) (none_at_zero imps all.1)
 
 are_good : (t : TopologyFields) → IsTopology t → list_all is_imp t.imps ≡ true
 are_good t keeps =
-    let counted : (nat_le 1 (length t.imps) ≡ true) × ((nat_le (length t.imps) 16 && list_all is_imp t.imps) ≡ true) = and_parts (nat_le 1 (length t.imps)) (nat_le (length t.imps) 16 && list_all is_imp t.imps) keeps.imps in
-    (and_parts (nat_le (length t.imps) 16) (list_all is_imp t.imps) counted.1).1
+    let counted : (nat_le 1 (length t.imps) ≡ true) × ((nat_le (length t.imps) most_imps && list_all is_imp t.imps) ≡ true) = and_parts (nat_le 1 (length t.imps)) (nat_le (length t.imps) most_imps && list_all is_imp t.imps) keeps.imps in
+    (and_parts (nat_le (length t.imps) most_imps) (list_all is_imp t.imps) counted.1).1
 
 all_few : (imps : List ImpHosts) (a n : ℕ) → list_all is_imp imps ≡ true → All (λ site. IfSome site (λ count. count ≤ 4)) (map (site_of imps) (range_with_len a n))
 all_few imps a zero good = All-nil (λ site. IfSome site (λ count. count ≤ 4))
@@ -84,8 +84,8 @@ all_few imps a (suc n) good = All-cons (λ site. IfSome site (λ count. count �
 pub sites_kept : (t : TopologyFields) → IsTopology t → AreSites (sites_of t)
 sites_kept t keeps = record {
   none = none_at_zero t.imps (are_good t keeps);
-  numbers = length-map-range_with_len (site_of t.imps) 0 17;
-  counts = all_few t.imps 0 17 (are_good t keeps);
+  numbers = length-map-range_with_len (site_of t.imps) 0 (most_imps + 1);
+  counts = all_few t.imps 0 (most_imps + 1) (are_good t keeps);
 }
 
 -- ---- the hosts that they list
@@ -157,4 +157,4 @@ listed_below imps (suc m) rising good =
     ∙ ap (λ n. hosts_from 0 (map (site_of imps) (range_with_len 0 n))) (let e : m + 1 + 1 ≡ suc m + 1 = omega arith in e)
 
 pub hosts_listed : (t : TopologyFields) → IsTopology t → hosts_of t ≡ hosts_from 0 (sites_of t)
-hosts_listed t keeps = listed_below t.imps 16 keeps.rising (are_good t keeps)
+hosts_listed t keeps = listed_below t.imps most_imps keeps.rising (are_good t keeps)

@@ -4,7 +4,7 @@ use Rattle.std.specs.Cmp.Lexicographic.{pointwise}
 use Rattle.std.specs.List.{list_any, list_all, find, cons_option, range_with_len}
 use Rattle.toml.specs.Data.{Data, Items, no_items, item, Members, no_members, member, table, get, as_integer, as_str, as_bool, as_array, as_table}
 use Rattle.toml.specs.Parse.{parse_document}
-use Rattle.leader1822.specs.Host.{Host}
+use Rattle.leader1822.specs.Host.{Host, most_imps}
 use Rattle.topology.specs.declared.network.CarrierKind.{CarrierKind}
 use Rattle.topology.specs.declared.network.CarrierKind.TheVariants as kind
 use Rattle.topology.specs.declared.network.ImpHosts.{ImpHosts}
@@ -19,9 +19,6 @@ pub record TopologyFields : Type 0 where
 
 -- ---- the limits
 
-abbrev pub most_imps : ℕ
-most_imps = 16
-
 -- hosts of one IMP
 abbrev pub most_hosts : ℕ
 most_hosts = 4
@@ -30,6 +27,10 @@ most_hosts = 4
 abbrev pub most_lines : ℕ
 most_lines = 5
 
+-- lines of a network, each of which has two ends: 40
+abbrev pub most_network_lines : ℕ
+most_network_lines = most_lines * most_imps / 2
+
 -- ---- the rules
 
 -- whether an IMP has this number
@@ -37,11 +38,11 @@ most_lines = 5
 abbrev pub is_there : List ImpHosts → ℕ → Bool
 is_there imps number = list_any (λ i. i.imp == number) imps
 
--- an IMP is numbered 1 to 16 and has at most 4 hosts
+-- an IMP is numbered from 1 to the greatest and has at most 4 hosts
 abbrev pub is_imp : ImpHosts → Bool
 is_imp i = nat_le 1 i.imp && (nat_le i.imp most_imps && nat_le i.hosts most_hosts)
 
--- 1 to 16 IMPs
+-- at least one IMP, and at most as many as there are numbers
 abbrev pub are_imps : List ImpHosts → Bool
 are_imps imps = nat_le 1 (length imps) && (nat_le (length imps) most_imps && list_all is_imp imps)
 
@@ -186,7 +187,7 @@ abbrev pub raw_of : Option Data → Option Bool
 raw_of None = Some false
 raw_of (Some d) = as_bool d
 
--- no number stands twice, and none passes 16: the IMPs by rising number are as many as the document's
+-- no number stands twice, and none passes the greatest: the IMPs by rising number are as many as the document's
 abbrev pub all_placed : List ImpHosts → Bool
 all_placed imps = length (by_number imps) == length imps
 
@@ -237,7 +238,7 @@ unfoldable pub hosts_below : List ImpHosts → ℕ → List Host
 hosts_below imps zero = []
 hosts_below imps (suc place) = hosts_below imps place ++ host_if (has_host imps (place / 4 + 1) (place % 4)) (record { imp = place / 4 + 1; host = place % 4 })
 
--- all hosts of a topology, in order: four places for each of sixteen IMPs
+-- all hosts of a topology, in order: four places for each IMP that there can be
 abbrev pub hosts_of : TopologyFields → List Host
 hosts_of t = hosts_below t.imps (most_imps * most_hosts)
 
@@ -247,7 +248,7 @@ hosts_of t = hosts_below t.imps (most_imps * most_hosts)
 abbrev pub site_of : List ImpHosts → ℕ → Option ℕ
 site_of imps number = option_map (λ (i : ImpHosts). i.hosts) (imp_of_number imps number)
 
--- that of each number from 0 to 16, in order
+-- that of each number from 0 to the greatest, in order
 abbrev pub sites_of : TopologyFields → List (Option ℕ)
 sites_of t = map (site_of t.imps) (range_with_len 0 (most_imps + 1))
 
@@ -261,7 +262,7 @@ abbrev pub hosts_from : ℕ → List (Option ℕ) → List Host
 hosts_from number [] = []
 hosts_from number (site ∷ sites) = hosts_at number site ++ hosts_from (number + 1) sites
 
--- no IMP has the number 0, the others go up to 16, and none has more than four hosts
+-- no IMP has the number 0, the others go up to the greatest, and none has more than four hosts
 pub record AreSites (sites : List (Option ℕ)) : Type 0 where
   pub none : slice_index_or sites 0 None ≡ None
   pub numbers : length sites ≡ most_imps + 1

@@ -4,7 +4,7 @@
 ghost use Rattle.std.specs.Prelude.{◌≡◌, ◌≤◌, length, take, true, Some, None, ◌∷◌, []};
 ghost use Rattle.leader1822.specs.Host.{Host, is_host};
 ghost use Rattle.topology.specs.declared.network.CarrierKind.{CarrierKind};
-ghost use Rattle.topology.specs.Topology.{AreSites, TopologyFields, IsTopology, hosts_from, hosts_of, has_host, sites_of};
+ghost use Rattle.topology.specs.Topology.{AreSites, TopologyFields, most_network_lines, IsTopology, hosts_from, hosts_of, has_host, sites_of};
 
 /// The hosts of a topology are those that its IMPs have.
 pub fn hosts_of_imps()
@@ -16,7 +16,7 @@ pub fn hosts_of_sites()
     ensures { (t : TopologyFields) → IsTopology t → hosts_of t ≡ hosts_from 0 (sites_of t) }
 {}
 
-/// No IMP has the number 0, the others go up to 16, and none has more than four hosts.
+/// No IMP has the number 0, the others go up to the greatest, and none has more than four hosts.
 pub fn sites()
     ensures { (t : TopologyFields) → IsTopology t → AreSites (sites_of t) }
 {}
@@ -27,7 +27,7 @@ pub fn worked_sites()
     ensures hosts { hosts_from 0 (None ∷ Some 1 ∷ None ∷ Some 2 ∷ []) ≡ record { imp = 1; host = 0 } ∷ record { imp = 3; host = 0 } ∷ record { imp = 3; host = 1 } ∷ [] }
 {}
 
-/// There are at most 40 lines: each has two ends, and sixteen IMPs have five ends at most.
+/// There are at most 40 lines: each has two ends, and each of sixteen IMPs has five at most.
 pub fn few_lines()
-    ensures { (t : TopologyFields) → IsTopology t → length t.lines ≤ 40 }
+    ensures { (t : TopologyFields) → IsTopology t → length t.lines ≤ most_network_lines }
 {}

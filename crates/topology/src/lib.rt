@@ -11,5 +11,5 @@ pub mod law;
 mod network;
 
 pub use network::{
-    CarrierKind, ImpHosts, LineEnds, MOST_HOSTS, MOST_IMPS, MOST_LINES, Topology, TopologyFault,
+    CarrierKind, ImpHosts, LineEnds, MOST_HOSTS, MOST_LINES, Topology, TopologyFault,
 };

@@ -6,17 +6,15 @@ ghost use Rattle.toml.specs.View.{view, items_view};
 ghost use Rattle.toml.specs.Data.{get};
 ghost use Rattle.toml.specs.Errors.{IsBlank, IsMemory};
 ghost use Rattle.leader1822.specs.Calls.{InOrder};
-ghost use Rattle.topology.specs.Topology.{TopologyFields, hosts_of, has_host, topology_in, topology_of, size, has, one_if, known_members, carrier_of, raw_of, number_at, host_if, hosts_from, site_of, sites_of, AreSites, is_imp, is_line, each_of, imp_of, line_of, imps_of, lines_of, are_imps, is_there, are_lines, are_apart, joins_same, has_ports, line_count, by_number, imp_of_number};
+ghost use Rattle.leader1822.specs.Host.{most_imps};
+ghost use Rattle.topology.specs.Topology.{TopologyFields, most_hosts, most_network_lines, hosts_of, has_host, topology_in, topology_of, size, has, one_if, known_members, carrier_of, raw_of, number_at, host_if, hosts_from, site_of, sites_of, AreSites, is_imp, is_line, each_of, imp_of, line_of, imps_of, lines_of, are_imps, is_there, are_lines, are_apart, joins_same, has_ports, line_count, by_number, imp_of_number};
 ghost use Rattle.topology.specs.Reading.{Described, DescribedIn};
 
-use leader1822::HostAddr;
+use leader1822::{HostAddr, MOST_IMPS};
 use std::alloc::{AllocError, AllocFailed, Global};
 use std::marker::Model;
 use thiserror::Error;
 use toml::Value;
-
-/// The most IMPs that a network has. They are numbered from 1.
-pub const MOST_IMPS: usize = 16;
 
 /// The most hosts that an IMP has (Heart et al. 1970: an IMP has up to four hosts).
 pub const MOST_HOSTS: u8 = 4;
@@ -36,7 +34,7 @@ pub enum CarrierKind {
 /// An IMP and its hosts.
 #[derive(Clone, Copy, Debug, PartialEq, Eq)]
 pub struct ImpHosts {
-    /// The IMP's number, 1 to 16.
+    /// The IMP's number, 1 to [`MOST_IMPS`].
     pub imp: u8,
     /// How many hosts it has, 0 to 4. They are numbered from 0.
     pub hosts: u8,
@@ -180,7 +178,7 @@ impl Topology {
         Ok(hosts)
     }
 
-    /// By number, from 0 to 16: how many hosts the IMP of that number has, where there is one.
+    /// By number, from 0 to [`MOST_IMPS`]: how many hosts the IMP of that number has, where there is one.
     ///
     /// Errors: `AllocError`.
     pub fn sites(&self, alloc: Global) -> Result<Vec<Option<u8>>, AllocError>
@@ -195,10 +193,10 @@ impl Topology {
         Ok(sites)
     }
 
-    /// The lines, in the order of the document: 40 at most. They are numbered from 0.
+    /// The lines, in the order of the document: at most half as many as [`MOST_IMPS`] have ends for, 40. They are numbered from 0.
     pub fn lines(&self) -> &[LineEnds]
         ensures all { result.now ≡ self.now.lines }
-        ensures few { length result.now ≤ 40 }
+        ensures few { length result.now ≤ most_network_lines }
     {
         &self.lines
     }
@@ -361,21 +359,21 @@ fn each_line(alloc: Global, values: &[Value]) -> Result<Vec<LineEnds>, TopologyF
     Ok(lines)
 }
 
-/// Whether these are 1 to 16 IMPs, numbered 1 to 16 and with at most 4 hosts each.
+/// Whether these are 1 to [`MOST_IMPS`] IMPs, with such numbers and at most 4 hosts each.
 fn are_imps(imps: &[ImpHosts]) -> bool
     ensures { result ≡ are_imps imps.now }
 {
     1 <= imps.len() && imps.len() <= MOST_IMPS && all_imps(imps)
 }
 
-/// Whether each of these IMPs is numbered 1 to 16 and has at most 4 hosts.
+/// Whether each of these IMPs is numbered 1 to [`MOST_IMPS`] and has at most 4 hosts.
 fn all_imps(imps: &[ImpHosts]) -> bool
     ensures { result ≡ list_all is_imp imps.now }
 {
     imps.iter().all(is_imp)
 }
 
-/// Whether an IMP is numbered 1 to 16 and has at most 4 hosts.
+/// Whether an IMP is numbered 1 to [`MOST_IMPS`] and has at most 4 hosts.
 fn is_imp(imp: &ImpHosts) -> bool
     ensures { result ≡ is_imp imp.now }
 {
@@ -492,7 +490,7 @@ fn has_host(imps: &[ImpHosts], number: u8, host: u8) -> bool
 ///
 /// Errors: `AllocError`, only where it is there.
 fn push_host(hosts: &mut Vec<HostAddr>, imps: &[ImpHosts], place: u8) -> Result<(), AllocError>
-    requires { place < 64 }
+    requires { place < most_imps * most_hosts }
     ensures pushed { OnOk result (hosts.new.items ≡ hosts.old.items ++ host_if (has_host imps.now (place / 4 + 1) (place % 4)) (record { imp = place / 4 + 1; host = place % 4 })) }
     ensures memory { IfErr result (λ _. has_host imps.now (place / 4 + 1) (place % 4) ≡ true) }
 {

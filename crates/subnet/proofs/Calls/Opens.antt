@@ -2,6 +2,7 @@
 use Rattle.std.proofs.Common.{◌≡◌, ℕ, ◌+◌, ◌<◌, ◌≤◌, zero, suc, List, [], ◌∷◌, length, map, get_or, count_by, Option, Some, None, refl, ap, sym, subst, ◌∙◌, arith, All}
 use Rattle.std.specs.Prelude.{IfSome}
 use Rattle.std.proofs.lemmas.List.Elements.{All-get_or}
+use Rattle.leader1822.specs.Host.{most_imps}
 use Rattle.imp_node.specs.State.{State}
 use Rattle.subnet.specs.Net.{Wire, ends_at, port_of}
 use Rattle.subnet.specs.Opening.{Ends, empty_wire, opened_imp, opened_from}
@@ -40,7 +41,7 @@ none_here : {count : ℕ} → Some count ≡ None → ⊥
 none_here e = cc
 
 -- a site that is there has a number and a few hosts
-some_fits : (k : ℕ) (site : Option ℕ) → (k ≡ 0 → site ≡ None) → k ≤ 16 → IfSome site (λ count. count ≤ 4) → IfSome site (λ count. (1 ≤ k) × (k ≤ 16) × (count ≤ 4))
+some_fits : (k : ℕ) (site : Option ℕ) → (k ≡ 0 → site ≡ None) → k ≤ most_imps → IfSome site (λ count. count ≤ 4) → IfSome site (λ count. (1 ≤ k) × (k ≤ most_imps) × (count ≤ 4))
 some_fits k None first within few = tt
 some_fits zero (Some count) first within few = absurd (none_here (first refl))
 some_fits (suc k) (Some count) first within few = (omega arith, within, few)
@@ -50,9 +51,9 @@ first_none [] k d none within at = absurd (omega arith)
 first_none (site ∷ sites) zero d none within at = none
 first_none (site ∷ sites) (suc k) d none within at = absurd (omega arith)
 
-pub site_fits : (sites : List (Option ℕ)) (k : ℕ) (site : Option ℕ) → site ≡ get_or sites k site → k < length sites → get_or sites 0 None ≡ None → length sites ≤ 17 → All (λ site. IfSome site (λ count. count ≤ 4)) sites → IfSome site (λ count. (1 ≤ k) × (k ≤ 16) × (count ≤ 4))
+pub site_fits : (sites : List (Option ℕ)) (k : ℕ) (site : Option ℕ) → site ≡ get_or sites k site → k < length sites → get_or sites 0 None ≡ None → length sites ≤ most_imps + 1 → All (λ site. IfSome site (λ count. count ≤ 4)) sites → IfSome site (λ count. (1 ≤ k) × (k ≤ most_imps) × (count ≤ 4))
 site_fits sites k site is within none most few =
-    let inside : k ≤ 16 = omega arith in
+    let inside : k ≤ most_imps = omega arith in
     some_fits k site (λ at. is ∙ first_none sites k site none within at) inside
     (subst (λ (s : Option ℕ). IfSome s (λ count. count ≤ 4)) (sym is) (All-get_or (λ (s : Option ℕ). IfSome s (λ count. count ≤ 4)) sites k site within few))
 
@@ -60,5 +61,5 @@ pub lines_opened : (lines : List Wire) (ends : List Ends) → lines ≡ map empt
 lines_opened lines [] is = ap length is
 lines_opened lines (e ∷ ends) is = ap length is ∙ ap suc (lines_opened (map empty_wire ends) ends refl)
 
-pub site_read : (sites : List (Option ℕ)) (k : ℕ) → k < length sites → get_or sites 0 None ≡ None → length sites ≤ 17 → All (λ site. IfSome site (λ count. count ≤ 4)) sites → IfSome (get_or sites k None) (λ count. (1 ≤ k) × (k ≤ 16) × (count ≤ 4))
+pub site_read : (sites : List (Option ℕ)) (k : ℕ) → k < length sites → get_or sites 0 None ≡ None → length sites ≤ most_imps + 1 → All (λ site. IfSome site (λ count. count ≤ 4)) sites → IfSome (get_or sites k None) (λ count. (1 ≤ k) × (k ≤ most_imps) × (count ≤ 4))
 site_read sites k within none most few = site_fits sites k (get_or sites k None) (read_alike sites k None (get_or sites k None) within) within none most few

@@ -4,6 +4,7 @@ use Rattle.std.proofs.lemmas.Bool.{cases_Bool}
 use Rattle.std.specs.Prelude.{IfSome}
 use Rattle.std.proofs.lemmas.List.Elements.{All-head, All-tail}
 use Rattle.std.proofs.Math.Seq.{take-length}
+use Rattle.leader1822.specs.Host.{most_imps}
 use Rattle.imp_node.specs.State.{State, HostState, number, host_at, no_host, up_host, opening_node}
 use Rattle.imp_node.specs.Queries as queries
 use Rattle.imp_node.specs.Stopping.{host_down}
@@ -61,8 +62,8 @@ below_sites (site ∷ sites) (suc i) (suc m) there few =
     let rest : i + 1 ≤ m = below_sites sites i m there (omega arith) in
     omega arith
 
-pub few_sites : (n : Net) (i : ℕ) → is_imp n i ≡ true → length n.sites ≤ 17 → i + 1 ≤ 17
-few_sites n i there few = below_sites n.sites i 17 there few
+pub few_sites : (n : Net) (i : ℕ) → is_imp n i ≡ true → length n.sites ≤ most_imps + 1 → i + 1 ≤ most_imps + 1
+few_sites n i there few = below_sites n.sites i (most_imps + 1) there few
 
 pub all_ports : (lines : List Wire) (i : ℕ) → port_of lines i (length lines) ≡ count_by (ends_at i) lines
 all_ports lines i = ap (count_by (ends_at i)) (take-length lines)

@@ -1,8 +1,8 @@
 -- A subnet as a carrier: what each call keeps, and what it shows.
-use Rattle.std.proofs.Common.{◌≡◌, ℕ, ◌≤◌, length, Bool, true, false, not, List, [], ◌∷◌, ◌++◌, Option, Some, None, Result, Ok, Err, is_some, is_none, refl, ap, sym, subst, ◌∙◌, if◌then◌else◌, ◌&&◌, ◌==◌}
+use Rattle.std.proofs.Common.{◌≡◌, ℕ, ◌+◌, ◌≤◌, length, Bool, true, false, not, List, [], ◌∷◌, ◌++◌, Option, Some, None, Result, Ok, Err, is_some, is_none, refl, ap, sym, subst, ◌∙◌, if◌then◌else◌, ◌&&◌, ◌==◌}
 use Rattle.std.specs.Prelude.{nat_lt, OnErr, ◌||◌}
 use Rattle.leader1822.specs.Calls.{Seen, InOrder, halted, is_memory, is_halt, step_crossings, crossing_of, ShowsRefusal, ShowsCrossings, ShowsOffer, ShowsTake, ShowsStep, ShowsRound}
-use Rattle.leader1822.specs.Host.{Host, is_host}
+use Rattle.leader1822.specs.Host.{Host, is_host, most_imps}
 use Rattle.leader1822.specs.Mailboxes.{IsRun}
 use Rattle.leader1822.specs.declared.address.Flow.{Flow}
 use Rattle.leader1822.specs.declared.carrier.CarrierFault.{CarrierFault}
@@ -249,14 +249,14 @@ crossed old new n entries goes is same log = record {
 
 -- ---- the opening
 
-pub opening_working : (sites : List (Option ℕ)) (ends : List Ends) → length sites ≤ 17 → IsWorking (running (opening_subnet (hosts_from 0 sites) sites ends))
+pub opening_working : (sites : List (Option ℕ)) (ends : List Ends) → length sites ≤ most_imps + 1 → IsWorking (running (opening_subnet (hosts_from 0 sites) sites ends))
 opening_working sites ends few = record {
   run = tt;
   ordered = hosts_ordered sites;
   whole = λ goes. record { listed = refl; sound = opening_sound (hosts_from 0 sites) sites ends (hosts_fit sites); routed = opening_routed (hosts_from 0 sites) sites ends few };
 }
 
-pub opened_working : (hosts : List Host) (sites : List (Option ℕ)) (ends : List Ends) (n : Net) → n ≡ opening_subnet hosts sites ends → hosts ≡ hosts_from 0 sites → length sites ≤ 17
+pub opened_working : (hosts : List Host) (sites : List (Option ℕ)) (ends : List Ends) (n : Net) → n ≡ opening_subnet hosts sites ends → hosts ≡ hosts_from 0 sites → length sites ≤ most_imps + 1
     → (let new : Kept = record { net = n; stopped = false } in IsWorking new)
 opened_working hosts sites ends n is listed few =
     let at : List Host → Net = λ hs. opening_subnet hs sites ends in

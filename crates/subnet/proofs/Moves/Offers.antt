@@ -5,7 +5,7 @@ use Rattle.std.proofs.lemmas.List.Elements.{All-nil, All-push, All-weaker, All-c
 use Rattle.std.specs.FinMap as finite
 use Rattle.std.specs.List.{list_any}
 use Rattle.bit_messages.specs.Body.{body}
-use Rattle.leader1822.specs.Flow.{same_flow}
+use Rattle.leader1822.specs.Flow.{message_numbers, same_flow}
 use Rattle.leader1822.specs.Host.{is_host}
 use Rattle.leader1822.specs.Mailboxes.{Box, box_of}
 use Rattle.leader1822.specs.declared.address.Flow.{Flow}
@@ -58,15 +58,15 @@ use Rattle.subnet.proofs.Moves.Turns.{Answerable, turn_only, alive_or_made, set_
 -- ---- packets by the format
 
 -- an answer that travels
-pub answer_format : (k : PacketKind) (f : Flow) (n : ℕ) → Carries k 0 true 0 → IsPacketHost f.source → IsPacketHost f.destination → f.link.0 < 256 → n < 256 → IsPacket (answer_packet k f n)
+pub answer_format : (k : PacketKind) (f : Flow) (n : ℕ) → Carries k 0 true 0 → IsPacketHost f.source → IsPacketHost f.destination → f.link.0 < 256 → n < message_numbers → IsPacket (answer_packet k f n)
 answer_format k f n body source destination link small = record { source = source; destination = destination; link = link; number = small; place = omega arith; body = body }
 
-number_small : (s : State) (f : Flow) → next_number s f < 256
+number_small : (s : State) (f : Flow) → next_number s f < message_numbers
 unfolding modulus
 number_small s f = number_begun (finite.get s.sources f)
 
 -- a piece of a message
-piece_format : (m : HostMessage) (n : ℕ) (p : PacketFields) → IsCarriable m → n < 256 → IsPieceFor m.flow n p → CarriesPieceOf (body m.text) p → IsPacket p
+piece_format : (m : HostMessage) (n : ℕ) (p : PacketFields) → IsCarriable m → n < message_numbers → IsPieceFor m.flow n p → CarriesPieceOf (body m.text) p → IsPacket p
 piece_format m n p can small of carries =
     let w : List Bool = body m.text in
     let fits : IsPiece p.place (p.place + 1 == piece_count w) (length (piece w p.place)) = piece_fits w p.place (body_sized m.text can.text) carries.there in
@@ -77,7 +77,7 @@ piece_format m n p can small of carries =
       source = subst (λ (f : Flow). IsPacketHost f.source) (sym of.flow) can.source;
       destination = subst (λ (f : Flow). IsPacketHost f.destination) (sym of.flow) can.destination;
       link = subst (λ (f : Flow). f.link.0 < 256) (sym of.flow) can.link;
-      number = subst (λ (k : ℕ). k < 256) (sym of.same_number) small;
+      number = subst (λ (k : ℕ). k < message_numbers) (sym of.same_number) small;
       place = omega (arith, few, there);
       body = subst (λ (k : PacketKind). Carries k p.place p.last (length p.bits)) (sym of.data_kind) here;
     }
@@ -190,7 +190,7 @@ offered_answers Away m s can all = all
 -- a question about the message that was begun is a packet by the format
 begun_format : (m : HostMessage) (s : State) → IsCarriable m → (number : ℕ) → next_number s m.flow ≡ number → IsPacket (answer_packet kind.Rfnm m.flow number)
 begun_format m s can number same =
-    answer_format kind.Rfnm m.flow number (record { first = refl; only = refl; empty = refl }) can.source can.destination can.link (subst (λ (k : ℕ). k < 256) same (number_small s m.flow))
+    answer_format kind.Rfnm m.flow number (record { first = refl; only = refl; empty = refl }) can.source can.destination can.link (subst (λ (k : ℕ). k < message_numbers) same (number_small s m.flow))
 
 begun_is : (k number : ℕ) → Some k ≡ Some number → k ≡ number
 begun_is k number is = cc

@@ -1,6 +1,6 @@
 -- Whatever happens from the opening on, the subnet is sound, and so its log is a run of the mailboxes.
-use Rattle.std.proofs.Common.{◌≡◌, ℕ, ◌≤◌, List, [], ◌∷◌, length, Option, Some, None, refl, subst, ◌∙◌}
-use Rattle.leader1822.specs.Host.{Host}
+use Rattle.std.proofs.Common.{◌≡◌, ℕ, ◌+◌, ◌≤◌, List, [], ◌∷◌, length, Option, Some, None, refl, subst, ◌∙◌}
+use Rattle.leader1822.specs.Host.{Host, most_imps}
 use Rattle.leader1822.specs.Mailboxes.{IsRun}
 use Rattle.leader1822.specs.declared.carrier.CarrierFault.{CarrierFault}
 use Rattle.leader1822.specs.declared.event.NetEvent.{NetEvent}
@@ -67,14 +67,14 @@ ran_whole hosts n (Round ∷ calls) messages is = rounded hosts (ran calls n) (r
 
 -- ---- from the opening on
 
-opened_whole : (hosts : List Host) (sites : List (Option ℕ)) (ends : List Ends) (calls : List Call) → AreHosts hosts sites → length sites ≤ 17 → OffersMessages calls → IsWhole hosts (ran calls (opening_subnet hosts sites ends))
+opened_whole : (hosts : List Host) (sites : List (Option ℕ)) (ends : List Ends) (calls : List Call) → AreHosts hosts sites → length sites ≤ most_imps + 1 → OffersMessages calls → IsWhole hosts (ran calls (opening_subnet hosts sites ends))
 opened_whole hosts sites ends calls are few messages =
     ran_whole hosts (opening_subnet hosts sites ends) calls messages (record { same = refl; sound = opening_sound hosts sites ends are; routed = opening_routed hosts sites ends few })
 
-pub always_sound : (hosts : List Host) (sites : List (Option ℕ)) (ends : List Ends) (calls : List Call) → AreHosts hosts sites → length sites ≤ 17 → OffersMessages calls → IsSound (ran calls (opening_subnet hosts sites ends))
+pub always_sound : (hosts : List Host) (sites : List (Option ℕ)) (ends : List Ends) (calls : List Call) → AreHosts hosts sites → length sites ≤ most_imps + 1 → OffersMessages calls → IsSound (ran calls (opening_subnet hosts sites ends))
 always_sound hosts sites ends calls are few messages = (opened_whole hosts sites ends calls are few messages).sound
 
-pub always_run : (hosts : List Host) (sites : List (Option ℕ)) (ends : List Ends) (calls : List Call) → AreHosts hosts sites → length sites ≤ 17 → OffersMessages calls → IsRun hosts (ran calls (opening_subnet hosts sites ends)).log
+pub always_run : (hosts : List Host) (sites : List (Option ℕ)) (ends : List Ends) (calls : List Call) → AreHosts hosts sites → length sites ≤ most_imps + 1 → OffersMessages calls → IsRun hosts (ran calls (opening_subnet hosts sites ends)).log
 always_run hosts sites ends calls are few messages =
     let n : Net = ran calls (opening_subnet hosts sites ends) in
     let is : IsWhole hosts n = opened_whole hosts sites ends calls are few messages in

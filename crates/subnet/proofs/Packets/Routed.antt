@@ -4,7 +4,7 @@ use Rattle.std.specs.Prelude.{nat_lt, is_some, slice_get, slice_set, count_by}
 use Rattle.std.proofs.lemmas.Bool.{cases_Bool, cases_lt}
 use Rattle.std.proofs.lemmas.List.{get_or_past, length-set}
 use Rattle.std.proofs.lemmas.List.Elements.{All-nil, All-cons, All-head, All-tail, All-append, All-push, All-set, All-take, All-drop, All-replicate, All-map}
-use Rattle.leader1822.specs.Host.{Host, IsAddress}
+use Rattle.leader1822.specs.Host.{Host, IsAddress, most_imps}
 use Rattle.leader1822.specs.declared.address.Flow.{Flow}
 use Rattle.leader1822.specs.declared.crossing.Answer.{Answer}
 use Rattle.leader1822.specs.declared.crossing.Answer.TheVariants as answer
@@ -255,8 +255,8 @@ imp_heard [] i all = tt
 imp_heard (o ∷ imps) zero all = All-head ImpHeard o imps all
 imp_heard (o ∷ imps) (suc i) all = imp_heard imps i (All-tail ImpHeard o imps all)
 
-still_few : (imps : List (Option State)) (i : ℕ) (o : Option State) → length imps ≤ 17 → length (slice_set imps i o) ≤ 17
-still_few imps i o few = subst (λ (k : ℕ). k ≤ 17) (sym (length-set imps i o)) few
+still_few : (imps : List (Option State)) (i : ℕ) (o : Option State) → length imps ≤ most_imps + 1 → length (slice_set imps i o) ≤ most_imps + 1
+still_few imps i o few = subst (λ (k : ℕ). k ≤ most_imps + 1) (sym (length-set imps i o)) few
 
 turn_routed : (i : ℕ) (turn : ImpTurn) (n : Net) → TurnTells turn → IsRouted n → IsRouted (with_turn i turn n)
 turn_routed i turn n t is = record {
@@ -370,28 +370,28 @@ empty_tells : (ends : List Ends) → All WireTells (map empty_wire ends)
 empty_tells [] = All-nil WireTells
 empty_tells (e ∷ ends) = All-cons WireTells (empty_wire e) (map empty_wire ends) (record { forward = All-nil FrameTells; back = All-nil FrameTells }) (empty_tells ends)
 
-pub opening_routed : (hosts : List Host) (sites : List (Option ℕ)) (ends : List Ends) → length sites ≤ 17 → IsRouted (opening_subnet hosts sites ends)
+pub opening_routed : (hosts : List Host) (sites : List (Option ℕ)) (ends : List Ends) → length sites ≤ most_imps + 1 → IsRouted (opening_subnet hosts sites ends)
 opening_routed hosts sites ends few =
     let ports : ℕ → ℕ = λ i. count_by (ends_at i) (map empty_wire ends) in
-    record { few = subst (λ (k : ℕ). k ≤ 17) (sym (opened_length 0 sites ports)) few; imps = opened_heard 0 sites ports; lines = empty_tells ends }
+    record { few = subst (λ (k : ℕ). k ≤ most_imps + 1) (sym (opened_length 0 sites ports)) few; imps = opened_heard 0 sites ports; lines = empty_tells ends }
 
 -- ---- so packets can name every host to which a route leads
 
-far_heard : (o : Option (List ℕ)) (imp : ℕ) → HeardVector o → 16 < imp → heard_distance o imp ≡ infinite
+far_heard : (o : Option (List ℕ)) (imp : ℕ) → HeardVector o → most_imps < imp → heard_distance o imp ≡ infinite
 far_heard None imp here far = refl
 far_heard (Some distances) imp here far = elim (cases_Bool (imp == 0)) [
   | inl none ↦ (let zero_imp : imp ≡ 0 = eqb-true imp 0 none in absurd (omega (arith, zero_imp, far)))
-  | inr some ↦ rw some (get_or_past distances (imp - 1) infinite (let size : length distances ≡ 16 = here.one_each in omega (arith, size, far)))
+  | inr some ↦ rw some (get_or_past distances (imp - 1) infinite (let size : length distances ≡ most_imps = here.one_each in omega (arith, size, far)))
 ]
 
-far_least : (heard : List (Option (List ℕ))) (imp : ℕ) → All HeardVector heard → 16 < imp → least_heard heard imp ≡ infinite
+far_least : (heard : List (Option (List ℕ))) (imp : ℕ) → All HeardVector heard → most_imps < imp → least_heard heard imp ≡ infinite
 far_least [] imp all far = refl
 far_least (o ∷ others) imp all far =
     let here : heard_distance o imp ≡ infinite = far_heard o imp (All-head HeardVector o others all) far in
     let rest : least_heard others imp ≡ infinite = far_least others imp (All-tail HeardVector o others all) far in
     rw (here, rest) refl
 
-no_route : (s : State) (imp : ℕ) → All HeardVector s.routes.heard → 16 < imp → (imp ≡ number s → ⊥) → has_route s imp ≡ false
+no_route : (s : State) (imp : ℕ) → All HeardVector s.routes.heard → most_imps < imp → (imp ≡ number s → ⊥) → has_route s imp ≡ false
 no_route s imp all far other =
     let least : least_heard s.routes.heard imp ≡ infinite = far_least s.routes.heard imp all far in
     let distance : distance_to s.routes imp ≡ infinite = distance-other s.routes imp other ∙ ap (λ (d : ℕ). min (d + 1) infinite) least in
@@ -403,13 +403,13 @@ imp_below (o ∷ imps) zero s at = omega arith
 imp_below (o ∷ imps) (suc i) s at = let below : i < length imps = imp_below imps i s at in omega (arith, below)
 
 -- a message that goes somewhere goes to an IMP of the subnet
-named : (h : Host) → IsAddress h → h.imp ≤ 16 → IsPacketHost h
+named : (h : Host) → IsAddress h → h.imp ≤ most_imps → IsPacketHost h
 named h is low = record { some = is.imp_from; imp = low; host = is.host_to }
 
-where_to : (s : State) (m : HostMessage) → All HeardVector s.routes.heard → number s ≤ 16 → (go : Way) → way_of s m.flow ≡ go → (go ≡ Nowhere → ⊥) → m.flow.destination.imp ≤ 16
+where_to : (s : State) (m : HostMessage) → All HeardVector s.routes.heard → number s ≤ most_imps → (go : Way) → way_of s m.flow ≡ go → (go ≡ Nowhere → ⊥) → m.flow.destination.imp ≤ most_imps
 where_to s m all low go is goes = elim (cases_Bool (m.flow.destination.imp == number s)) [
   | inl own ↦ (let same : m.flow.destination.imp ≡ number s = eqb-true m.flow.destination.imp (number s) own in omega (arith, same, low))
-  | inr other ↦ elim (cases_lt 16 m.flow.destination.imp) [
+  | inr other ↦ elim (cases_lt most_imps m.flow.destination.imp) [
     | inl far ↦ (let none : has_route s m.flow.destination.imp ≡ false = no_route s m.flow.destination.imp all far (λ e. (let both : true ≡ false = sym (eq-eqb m.flow.destination.imp (number s) e) ∙ other in cc)) in
         let no : Nowhere ≡ go = rw (other, none) at is in absurd (goes (sym no)))
     | inr near ↦ omega (arith, near)
@@ -418,17 +418,17 @@ where_to s m all low go is goes = elim (cases_Bool (m.flow.destination.imp == nu
 
 pub can_go : (n : Net) (m : HostMessage) → IsRouted n → IsSound n → IsHostMessage m → CanGoFrom (imp_at n.imps m.flow.source.imp) m
 can_go n m routed sound is = by (imp_at n.imps m.flow.source.imp) refl (imp_heard n.imps m.flow.source.imp routed.imps) where
-  carriable : (s : State) → imp_at n.imps m.flow.source.imp ≡ Some s → m.flow.destination.imp ≤ 16 → IsCarriable m
+  carriable : (s : State) → imp_at n.imps m.flow.source.imp ≡ Some s → m.flow.destination.imp ≤ most_imps → IsCarriable m
   carriable s at to =
       let below : m.flow.source.imp < length n.imps = imp_below n.imps m.flow.source.imp s at in
-      let few : length n.imps ≤ 17 = routed.few in
+      let few : length n.imps ≤ most_imps + 1 = routed.few in
       record { source = named m.flow.source is.source (omega (arith, below, few)); destination = named m.flow.destination is.destination to; link = is.link; text = is.text }
 
-  to : (s : State) → imp_at n.imps m.flow.source.imp ≡ Some s → All HeardVector s.routes.heard → (go : Way) → way_of s m.flow ≡ go → (go ≡ Nowhere → ⊥) → m.flow.destination.imp ≤ 16
+  to : (s : State) → imp_at n.imps m.flow.source.imp ≡ Some s → All HeardVector s.routes.heard → (go : Way) → way_of s m.flow ≡ go → (go ≡ Nowhere → ⊥) → m.flow.destination.imp ≤ most_imps
   to s at heard go way goes =
       let own : number s ≡ m.flow.source.imp = (subst (IsAt m.flow.source.imp) at (sound.imps m.flow.source.imp)).own in
       let below : m.flow.source.imp < length n.imps = imp_below n.imps m.flow.source.imp s at in
-      let few : length n.imps ≤ 17 = routed.few in
+      let few : length n.imps ≤ most_imps + 1 = routed.few in
       where_to s m heard (omega (arith, own, below, few)) go way goes
 
   goes_by : (s : State) → imp_at n.imps m.flow.source.imp ≡ Some s → All HeardVector s.routes.heard → (go : Way) → way_of s m.flow ≡ go → CanGo go m

@@ -1,7 +1,8 @@
 use Rattle.std.proofs.Common.{rules, take, Bool, length, length-drop, le-ltb, None, ◌-◌, ◌*◌, ◌≤◌, ◌≡◌, sym, ◌∙◌, refl, subst, List, ℕ, get_or, ap, ◌<◌, arith}
 use Rattle.packetiser.specs.PacketFields.{PacketFields, IsPacket}
 use Rattle.bit_messages.specs.Octets.{bits_of, octets_fault}
-use Rattle.packetiser.specs.Format.{spelling, is_last, place_of}
+use Rattle.packetiser.specs.Limits.{header_octets}
+use Rattle.packetiser.specs.Format.{spelling, is_last, link_at, number_at, place_of}
 use Rattle.packetiser.proofs.Calls.{only_memory}
 use Rattle.packetiser.proofs.Packets.{IsLong, long_from, SpellsPacket, packet_from, fields_fit, spelled, canonical_from, fields_made}
 use Rattle.packetiser.proofs.packet.Packet.read.Goals as goal
@@ -10,7 +11,7 @@ pub map_err-requires : goal.map_err-requires
 map_err-requires c =
     let octets : List ℕ = c.args.octets.now in
     let long : IsLong octets = long_from octets (sym c.is_short.ensures.same ∙ c.if-is_short.false) in
-    let body : length c.split_at.result.1.now ≡ length octets - 8 = ap length c.split_at.ensures.back ∙ length-drop 8 octets in
+    let body : length c.split_at.result.1.now ≡ length octets - header_octets = ap length c.split_at.ensures.back ∙ length-drop header_octets octets in
     let enough : c.bit_count.result ≤ 8 * length c.split_at.result.1.now = omega (arith, c.bit_count.ensures, body, long.header, long.body) in
     let fits : octets_fault c.split_at.result.1.now c.bit_count.result ≡ None = rw (le-ltb (8 * length c.split_at.result.1.now) c.bit_count.result enough) refl in
     only_memory (octets_fault c.split_at.result.1.now c.bit_count.result) (λ (bits : List Bool). bits ≡ take c.bit_count.result (bits_of c.split_at.result.1.now)) c.from_octets.result fits c.from_octets.ensures.decided
@@ -33,8 +34,8 @@ invariant_of-result c =
       kind = c.kind_of.result;
       source = c.host_of.result;
       destination = c.host_of-2.result;
-      link = get_or octets 3 0;
-      number = get_or octets 4 0;
+      link = get_or octets link_at 0;
+      number = get_or octets number_at 0;
       place = place_of octets;
       last = is_last octets;
       bits = c.in_ok-bits.bits;
@@ -54,8 +55,8 @@ returns-clause-found c =
       kind = c.kind_of.result;
       source = c.host_of.result;
       destination = c.host_of-2.result;
-      link = get_or octets 3 0;
-      number = get_or octets 4 0;
+      link = get_or octets link_at 0;
+      number = get_or octets number_at 0;
       place = place_of octets;
       last = is_last octets;
       bits = c.in_ok-bits.bits;

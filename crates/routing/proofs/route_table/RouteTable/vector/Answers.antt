@@ -1,11 +1,19 @@
 use Rattle.std.proofs.Common.{◌≡◌, ◌+◌, ◌≤◌, ℕ, arith, sym, ◌∙◌, subst, get_or, slice_set}
 use Rattle.std.proofs.lemmas.List.FromFn.{fill_by_all}
 use Rattle.std.proofs.lemmas.List.Edits.{fill_by_more}
-use Rattle.std.proofs.lemmas.List.Elements.{All-set}
-use Rattle.std.proofs.lemmas.List.{length-set}
+use Rattle.std.proofs.lemmas.List.Elements.{All-set, All-replicate}
+use Rattle.std.proofs.lemmas.List.{length-set, length-replicate}
+use Rattle.leader1822.specs.Host.{most_imps}
 use Rattle.routing.specs.Vector.{infinite}
 use Rattle.routing.specs.RouteTable.{vector_of, distance_to}
 use Rattle.routing.proofs.route_table.RouteTable.vector.Goals as goal
+
+pub loop-place-init : goal.loop-place-init
+loop-place-init c = record {
+  one_each = length-replicate most_imps infinite;
+  far = λ k below. absurd (omega (arith, below));
+  in_range = All-replicate (λ (d : ℕ). d ≤ infinite) most_imps infinite (omega arith);
+}
 
 pub loop-place-preserved : goal.loop-place-preserved
 loop-place-preserved c = record {
@@ -18,5 +26,5 @@ loop-place-preserved c = record {
 pub returns : goal.returns
 unfolding vector_of
 returns c =
-    c.new.ensures ∙ fill_by_all (λ (k : ℕ). distance_to c.args.self.now (k + 1)) c.loop-place.distances 16 0 c.loop-place.invariant.one_each
+    c.new.ensures ∙ fill_by_all (λ (k : ℕ). distance_to c.args.self.now (k + 1)) c.loop-place.distances most_imps 0 c.loop-place.invariant.one_each
     (λ k below. c.loop-place.invariant.far k (omega arith))

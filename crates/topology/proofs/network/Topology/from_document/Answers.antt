@@ -1,4 +1,5 @@
 use Rattle.std.proofs.Common.{sym, subst, rules}
+use Rattle.leader1822.specs.Host.{most_imps}
 use Rattle.topology.specs.Topology.{IsRising}
 use Rattle.topology.proofs.Order.{numbered_rising}
 use Rattle.topology.proofs.network.Topology.from_document.Goals as goal
@@ -6,6 +7,6 @@ use Rattle.topology.proofs.network.Topology.from_document.Goals as goal
 pub invariant_of-result : goal.invariant_of-result
 invariant_of-result c = record {
   imps = search rules;
-  rising = subst IsRising (sym c.in_ok-imps.ensures) (numbered_rising c.deref.result.now 17);
+  rising = subst IsRising (sym c.in_ok-imps.ensures) (numbered_rising c.deref.result.now (most_imps + 1));
   lines = search rules;
 }

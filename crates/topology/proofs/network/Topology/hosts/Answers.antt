@@ -1,7 +1,7 @@
 use Rattle.std.proofs.Common.{◌≡◌, ◌<◌, true, sym, ap, ◌∙◌, subst, ◌++◌, ◌+◌, ◌/◌, ◌%◌}
-use Rattle.leader1822.specs.Host.{Host}
+use Rattle.leader1822.specs.Host.{Host, most_imps}
 use Rattle.leader1822.specs.Calls.{InOrder}
-use Rattle.topology.specs.Topology.{TopologyFields, hosts_below, host_if, has_host}
+use Rattle.topology.specs.Topology.{TopologyFields, most_hosts, hosts_below, host_if, has_host}
 use Rattle.topology.proofs.Order.{hosts_ordered, hosts_next, hosts_none}
 use Rattle.topology.proofs.Hosts.{if_err, some_host}
 use Rattle.topology.proofs.network.Topology.hosts.Goals as goal
@@ -24,7 +24,7 @@ loop-place-preserved c =
 pub returns-in_err-push_host-clause-memory : goal.returns-in_err-push_host-clause-memory
 returns-in_err-push_host-clause-memory c =
     let place = c.loop-place.place in
-    let low : place < 64 = c.loop-place-test.true in
+    let low : place < most_imps * most_hosts = c.loop-place-test.true in
     let there : has_host c.args.self.now.imps (place / 4 + 1) (place % 4) ≡ true =
     subst (λ imps. has_host imps (place / 4 + 1) (place % 4) ≡ true) (c.deref.ensures.value ∙ ap (λ (n : TopologyFields). n.imps) c.self.view_is) c.in_err-push_host.ensures.memory in
     if_err c.from_residual.result (some_host c.args.self.now.imps place low there)

@@ -1,5 +1,6 @@
 use Rattle.std.proofs.Common.{◌≡◌, ◌≤◌, ◌<◌, ◌++◌, ◌∷◌, [], List, Option, ℕ, sym, ap, ◌∙◌, subst, map, arith}
 use Rattle.std.specs.List.{range_with_len}
+use Rattle.leader1822.specs.Host.{most_imps}
 use Rattle.topology.specs.Topology.{AreSites, TopologyFields, hosts_from, hosts_of, site_of, sites_of}
 use Rattle.topology.specs.declared.network.ImpHosts.{ImpHosts}
 use Rattle.topology.proofs.Sites.{hosts_listed, sites_kept, sites_more}
@@ -13,8 +14,8 @@ loop-number-preserved c =
     (c.site_of.ensures ∙ ap (λ of. site_of of c.loop-number.number) (c.deref.ensures.value ∙ ap (λ (t : TopologyFields). t.imps) c.self.view_is))
     ∙ sym (sites_more imps c.loop-number.number)
 
-whole : (t : TopologyFields) (sites : List (Option ℕ)) (n : ℕ) → sites ≡ map (site_of t.imps) (range_with_len 0 n) → 16 < n → n ≤ 17 → sites ≡ sites_of t
-whole t sites n is low high = is ∙ ap (λ k. map (site_of t.imps) (range_with_len 0 k)) (let e : n ≡ 17 = omega (arith, low, high) in e)
+whole : (t : TopologyFields) (sites : List (Option ℕ)) (n : ℕ) → sites ≡ map (site_of t.imps) (range_with_len 0 n) → most_imps < n → n ≤ most_imps + 1 → sites ≡ sites_of t
+whole t sites n is low high = is ∙ ap (λ k. map (site_of t.imps) (range_with_len 0 k)) (let e : n ≡ most_imps + 1 = omega (arith, low, high) in e)
 
 pub returns-clause-kept : goal.returns-clause-kept
 returns-clause-kept c =
