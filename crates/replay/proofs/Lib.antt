@@ -1,6 +1,5 @@
 mod Counting
 pub mod InTurn
-pub mod Lines
 pub mod Passing
 pub mod Replays
 pub mod Settled

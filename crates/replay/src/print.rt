@@ -12,7 +12,6 @@ ghost use Rattle.script.specs.Input.{ended_line};
 ghost use Rattle.script.specs.Spelling.{octets_text};
 
 use crate::events::ReplayFault;
-use crate::line::line_of;
 use crate::output::{Output, WriteFailed};
 use leader1822::{CarrierFault, Crossing, Text};
 
@@ -76,7 +75,7 @@ pub fn print_crossing<W: Output>(
     ensures failed { TellsFailure result (W.failed writer.new) }
 {
     match detail {
-        Detail::Sizes => writer.write_all(line_of(crossing).as_octets()),
+        Detail::Sizes => writeln!(writer, "{crossing}"),
         Detail::Texts => {
             write!(writer, "{crossing}")?;
             print_spelled(crossing, writer)?;
