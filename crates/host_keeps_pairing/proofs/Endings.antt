@@ -124,6 +124,7 @@ module _ (origin : ℕ → ℕ) (own foreign : ℕ) where
       (knows_kept (answered_turn peer answer.Rfnm link t).pair x k (λ e. h.idle (rfnm_idle (link == 0) t.pair.phase e)) knows)
   answered_knows peer answer.Incomplete link t x k none h knows = failing_knows peer (record t { pair = freed link t.pair }) x k none h.idle knows
   answered_knows peer answer.Dead link t x k none h knows = failing_knows peer (record t { pair = freed link t.pair }) x k none h.idle knows
+  answered_knows peer answer.NotTaken link t x k none h knows = failing_knows peer (record t { pair = freed link t.pair }) x k none h.idle knows
 
   -- ---- a host
 

@@ -110,6 +110,7 @@ module _ (origin : ℕ → ℕ) (own foreign : ℕ) where
   answered_other peer answer.Rfnm link t e = λ told. ap (λ (ns : List Notice). with_openings origin own foreign (ns ++ []) told) e
   answered_other peer answer.Incomplete link t e = failing peer (record t { pair = freed link t.pair }) e
   answered_other peer answer.Dead link t e = failing peer (record t { pair = freed link t.pair }) e
+  answered_other peer answer.NotTaken link t e = failing peer (record t { pair = freed link t.pair }) e
 
   -- ---- a host
 

@@ -163,3 +163,4 @@ module _ (origin : ℕ → ℕ) (own foreign : ℕ) where
       (after_settled (record t { pair = record (freed link t.pair) { phase = if link == 0 then taken_phase t.pair.phase else t.pair.phase } }) x (record { ends = h.ends; idle = λ e. h.idle (rfnm_idle (link == 0) t.pair.phase e) }))
   after_answer peer answer.Incomplete link t x h = after_failed peer (record t { pair = freed link t.pair }) x (record { ends = h.ends; idle = h.idle })
   after_answer peer answer.Dead link t x h = after_failed peer (record t { pair = freed link t.pair }) x (record { ends = h.ends; idle = h.idle })
+  after_answer peer answer.NotTaken link t x h = after_failed peer (record t { pair = freed link t.pair }) x (record { ends = h.ends; idle = h.idle })

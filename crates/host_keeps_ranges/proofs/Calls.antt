@@ -104,6 +104,7 @@ answer_range : (peer : Host) (kind : Answer) (link : ℕ) (t : TurnState) → Ra
 answer_range peer answer.Rfnm link t h = settled_range _ (record { pair = record { ends = h.pair.ends; commands = h.pair.commands }; sizes = h.sizes })
 answer_range peer answer.Incomplete link t h = failed_range peer (record t { pair = freed link t.pair }) (freed_range link t h)
 answer_range peer answer.Dead link t h = failed_range peer (record t { pair = freed link t.pair }) (freed_range link t h)
+answer_range peer answer.NotTaken link t h = failed_range peer (record t { pair = freed link t.pair }) (freed_range link t h)
 
 -- ---- a host
 

@@ -1,12 +1,14 @@
 -- What a reset does, and what ends it. Computed.
-use Rattle.std.proofs.Common.{◌≡◌, [], ◌∷◌, ◌++◌, Some, None, refl}
+use Rattle.std.proofs.Common.{◌≡◌, ℕ, [], ◌∷◌, ◌++◌, Some, None, refl}
 use Rattle.bit_messages.specs.Octets.{octets_of}
+use Rattle.leader1822.specs.declared.address.Flow.{Flow}
 use Rattle.leader1822.specs.declared.crossing.Answer.TheVariants as answer
 use Rattle.leader1822.specs.declared.crossing.Inbound.TheVariants as inbound
 use Rattle.ncp_control.specs.Packing.{packed_count}
 use Rattle.ncp_control.specs.Reading.{read_of, command_of}
 use Rattle.sockets.specs.Accepting.{accepted}
 use Rattle.host_pairs.specs.Control.{orders_of}
+use Rattle.sockets.specs.Pairs.{NcpState}
 use Rattle.sockets.specs.Requests.{refusal, served, served_notices}
 use Rattle.sockets.specs.Sending.{next_out, offered}
 use Rattle.sockets.specs.Worked.{first, second, third, neighbour, talk, control, on_link, control_heard, answer_heard, gone, delivered, reset, sending, opened_connection, own_reset, own_opening, first_in, second_in, closed, rst_out, rst_taken, ready, want_again, RTS, STR, CLS, ECO, ERP, RST, RRP}
@@ -41,6 +43,10 @@ resets_failed_while_owing = refl
 pub resets_failed_by_dead : (answer_heard (control_heard rst_out second RST).0 answer.Dead second 0).1 ≡ notice.ContactFailed second ∷ []
 unfolding octets_of orders_of read_of command_of packed_count accepted refusal served served_notices next_out offered
 resets_failed_by_dead = refl
+
+pub resets_failed_by_not_taken : (answer_heard (control_heard rst_out second RST).0 answer.NotTaken second 0).1 ≡ notice.ContactFailed second ∷ []
+unfolding octets_of orders_of read_of command_of packed_count accepted refusal served served_notices next_out offered
+resets_failed_by_not_taken = refl
 
 pub resets_replies_when_failed : next_out (answer_heard (control_heard rst_out second RST).0 answer.Incomplete second 0).0 ≡ Some (control first second RRP)
 unfolding octets_of orders_of read_of command_of packed_count accepted refusal served served_notices next_out offered
@@ -78,6 +84,10 @@ pub resets_lost_drops_connections : refusal (answer_heard (gone (served (first_i
 unfolding octets_of orders_of read_of command_of packed_count accepted refusal served served_notices next_out offered
 resets_lost_drops_connections = refl
 
+pub resets_lost_by_not_taken : answer_heard (served (gone (served ready (request.Echo second 65))) (request.Echo second 66)) answer.NotTaken second 0 ≡ (closed, notice.PairReset second ∷ [])
+unfolding octets_of orders_of read_of command_of packed_count accepted refusal served served_notices next_out offered
+resets_lost_by_not_taken = refl
+
 pub resets_reset_drops_connections : refusal (control_heard (first_in opened_connection) second RST).0 (request.Grant 16 0 0) ≡ Some fault.NoSuchSocket
 unfolding octets_of orders_of read_of command_of packed_count accepted refusal served served_notices next_out offered
 resets_reset_drops_connections = refl
@@ -93,6 +103,14 @@ resets_reply_lost = refl
 pub resets_lost_while_owing : (answer_heard (control_heard (gone (served ready (request.Echo second 65))) second RST).0 answer.Dead second 0).1 ≡ []
 unfolding octets_of orders_of read_of command_of packed_count accepted refusal served served_notices next_out offered
 resets_lost_while_owing = refl
+
+pub resets_not_taken_while_owing : (answer_heard (control_heard (gone (served ready (request.Echo second 65))) second RST).0 answer.NotTaken second 0).1 ≡ []
+unfolding octets_of orders_of read_of command_of packed_count accepted refusal served served_notices next_out offered
+resets_not_taken_while_owing = refl
+
+pub resets_as_incomplete : (s : NcpState) (f : Flow) (stamp : ℕ) → accepted s (inbound.Answer answer.NotTaken f) stamp ≡ accepted s (inbound.Answer answer.Incomplete f) stamp
+unfolding accepted
+resets_as_incomplete s f stamp = refl
 
 pub resets_ready_while_owing : refusal (answer_heard (control_heard (gone (served ready (request.Echo second 65))) second RST).0 answer.Dead second 0).0 (request.Echo second 65) ≡ None
 unfolding octets_of orders_of read_of command_of packed_count accepted refusal served served_notices next_out offered

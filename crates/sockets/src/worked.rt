@@ -1,16 +1,18 @@
 //! What the definitions of the network control program come to, rule by rule: one worked row for each reading of a
 //! rule that would be wrong. The functions do nothing; each clause is a row.
 
-ghost use Rattle.std.specs.Prelude.{◌≡◌, [], ◌∷◌, ◌++◌, Some, None, map, take, replicate, true};
+ghost use Rattle.std.specs.Prelude.{◌≡◌, ℕ, [], ◌∷◌, ◌++◌, Some, None, map, take, replicate, true};
 ghost use Rattle.std.specs.List.{range_with_len};
 ghost use Rattle.bit_messages.specs.Octets.{bits_of};
 ghost use Rattle.sockets.specs.Accepting.{accepted};
 ghost use Rattle.host_pairs.specs.Control.{Legal, Wrong, orders_of, control_text};
 ghost use Rattle.host_pairs.specs.Parcels.{Bytes, next_bytes};
 ghost use Rattle.sockets.specs.Memory.{newly_kept};
+ghost use Rattle.sockets.specs.Pairs.{NcpState};
 ghost use Rattle.sockets.specs.Requests.{refusal, served, served_notices};
 ghost use Rattle.sockets.specs.Sending.{next_out, offered};
 ghost use Rattle.sockets.specs.Worked.{first, second, third, neighbour, open_sender, talk, news, message, control, on_link, control_heard, got, answer_heard, gone, delivered, reset, closing, sending, many_opened, twelve, opened_connection, closed_early, opening_by_sender, closed_unasked, both_asking, one_refused, refused_closed, draining, own_reset, own_opening, first_in, second_in, closed, want, rst_out, rst_taken, ready, want_again, two_senders, every_command, RTS, STR, CLS, ALL, GVB, RET, INR, INS, ECO, ERP, ERR, RST, RRP};
+ghost use Rattle.leader1822.specs.declared.address.Flow.{Flow};
 ghost use Rattle.leader1822.specs.declared.crossing.Answer.TheVariants as answer;
 ghost use Rattle.leader1822.specs.declared.crossing.Inbound.TheVariants as inbound;
 ghost use Rattle.ncp_control.specs.declared.command.Command.TheVariants as command;
@@ -174,6 +176,7 @@ pub fn worked_resets()
     // a contact fails if its RST does, also while an RRP is owed, which then goes out
     ensures failed_while_owing { (answer_heard (control_heard rst_out second RST).0 answer.Incomplete second 0).1 ≡ notice.ContactFailed second ∷ [] }
     ensures failed_by_dead { (answer_heard (control_heard rst_out second RST).0 answer.Dead second 0).1 ≡ notice.ContactFailed second ∷ [] }
+    ensures failed_by_not_taken { (answer_heard (control_heard rst_out second RST).0 answer.NotTaken second 0).1 ≡ notice.ContactFailed second ∷ [] }
     ensures replies_when_failed { next_out (answer_heard (control_heard rst_out second RST).0 answer.Incomplete second 0).0 ≡ Some (control first second RRP) }
     ensures closed_when_failed { (control_heard (answer_heard (control_heard rst_out second RST).0 answer.Incomplete second 0).0 second RST).1 ≡ notice.Ready second ∷ [] }
 
@@ -187,11 +190,16 @@ pub fn worked_resets()
     ensures closed_when_lost { refusal (answer_heard (gone (served ready (request.Echo second 65))) answer.Dead second 0).0 (request.Echo second 65) ≡ Some fault.NotContacted }
     ensures as_at_the_opening { answer_heard (served (gone (served ready (request.Echo second 65))) (request.Echo second 66)) answer.Dead second 0 ≡ (closed, notice.PairReset second ∷ []) }
     ensures lost_drops_connections { refusal (answer_heard (gone (served (first_in opened_connection) (request.Interrupt 16))) answer.Dead second 0).0 (request.Grant 16 0 0) ≡ Some fault.NoSuchSocket }
+    ensures lost_by_not_taken { answer_heard (served (gone (served ready (request.Echo second 65))) (request.Echo second 66)) answer.NotTaken second 0 ≡ (closed, notice.PairReset second ∷ []) }
     ensures reset_drops_connections { refusal (control_heard (first_in opened_connection) second RST).0 (request.Grant 16 0 0) ≡ Some fault.NoSuchSocket }
     ensures reset_of_another_peer { refusal (control_heard (first_in opened_connection) third RST).0 (request.Grant 16 0 0) ≡ None }
     ensures reply_lost { answer_heard (gone (control_heard ready second RST).0) answer.Dead second 0 ≡ (closed, notice.PairReset second ∷ []) }
     ensures lost_while_owing { (answer_heard (control_heard (gone (served ready (request.Echo second 65))) second RST).0 answer.Dead second 0).1 ≡ [] }
+    ensures not_taken_while_owing { (answer_heard (control_heard (gone (served ready (request.Echo second 65))) second RST).0 answer.NotTaken second 0).1 ≡ [] }
     ensures ready_while_owing { refusal (answer_heard (control_heard (gone (served ready (request.Echo second 65))) second RST).0 answer.Dead second 0).0 (request.Echo second 65) ≡ None }
+
+    // NotTaken does what Incomplete does, whatever the host has out
+    ensures as_incomplete { (s : NcpState) (f : Flow) (stamp : ℕ) → accepted s (inbound.Answer answer.NotTaken f) stamp ≡ accepted s (inbound.Answer answer.Incomplete f) stamp }
 
     // a link is free by any answer, also while an RRP is owed, and an end that waited for that closes then
     ensures closes_after_failure { next_out (delivered (control_heard (answer_heard (served (control_heard (served (gone (second_in (opened_connection ++ sending))) (request.Listen 35 8)) first (RST ++ RTS 16 35 2)).0 (request.Close 35)) answer.Incomplete first 2).0 first (ECO 65)).0 first 0) ≡ Some (control second first (STR 35 16 8 ++ CLS 35 16 ++ ERP 65)) }

@@ -1,4 +1,4 @@
-use Rattle.sockets.proofs.RowsResets.{resets_own_peer, resets_reset_amid_commands, resets_reply_alone, resets_heard_after_reset, resets_opened_amid_commands, resets_failed_while_owing, resets_failed_by_dead, resets_replies_when_failed, resets_closed_when_failed, resets_reply_failed, resets_reply_failed_while_owing, resets_still_awaited, resets_lost_when_ready, resets_closed_when_lost, resets_as_at_the_opening, resets_lost_drops_connections, resets_reset_drops_connections, resets_reset_of_another_peer, resets_reply_lost, resets_lost_while_owing, resets_ready_while_owing, resets_closes_after_failure, resets_early_reply, resets_another_rst, resets_early_reply_forgotten, resets_reply_to_the_next, resets_rst_waits, resets_rst_after_failure, resets_no_failure, resets_rst_after_rfnm, resets_rst_is_silent, resets_rst_when_silent, resets_rst_waits_for_each, resets_rrp_is_silent, resets_rrp_when_silent, resets_rst_first, resets_rrp_after_rst, resets_one_reply, resets_contact_tells, resets_contact_drops, resets_contact_drops_commands, resets_peers_in_order, resets_next_peer, resets_not_for_this_host, resets_nothing_outstanding, resets_answer_of_another}
+use Rattle.sockets.proofs.RowsResets.{resets_own_peer, resets_reset_amid_commands, resets_reply_alone, resets_heard_after_reset, resets_opened_amid_commands, resets_failed_while_owing, resets_failed_by_dead, resets_replies_when_failed, resets_closed_when_failed, resets_reply_failed, resets_reply_failed_while_owing, resets_still_awaited, resets_lost_when_ready, resets_closed_when_lost, resets_as_at_the_opening, resets_lost_drops_connections, resets_reset_drops_connections, resets_reset_of_another_peer, resets_reply_lost, resets_lost_while_owing, resets_ready_while_owing, resets_closes_after_failure, resets_early_reply, resets_another_rst, resets_early_reply_forgotten, resets_reply_to_the_next, resets_rst_waits, resets_rst_after_failure, resets_no_failure, resets_rst_after_rfnm, resets_rst_is_silent, resets_rst_when_silent, resets_rst_waits_for_each, resets_rrp_is_silent, resets_rrp_when_silent, resets_rst_first, resets_rrp_after_rst, resets_one_reply, resets_contact_tells, resets_contact_drops, resets_contact_drops_commands, resets_peers_in_order, resets_next_peer, resets_not_for_this_host, resets_nothing_outstanding, resets_answer_of_another, resets_failed_by_not_taken, resets_lost_by_not_taken, resets_not_taken_while_owing, resets_as_incomplete}
 use Rattle.sockets.proofs.worked.worked_resets.Goals as goal
 
 pub returns-clause-own_peer : goal.returns-clause-own_peer
@@ -138,3 +138,15 @@ returns-clause-nothing_outstanding c = resets_nothing_outstanding
 
 pub returns-clause-answer_of_another : goal.returns-clause-answer_of_another
 returns-clause-answer_of_another c = resets_answer_of_another
+
+pub returns-clause-failed_by_not_taken : goal.returns-clause-failed_by_not_taken
+returns-clause-failed_by_not_taken c = resets_failed_by_not_taken
+
+pub returns-clause-lost_by_not_taken : goal.returns-clause-lost_by_not_taken
+returns-clause-lost_by_not_taken c = resets_lost_by_not_taken
+
+pub returns-clause-not_taken_while_owing : goal.returns-clause-not_taken_while_owing
+returns-clause-not_taken_while_owing c = resets_not_taken_while_owing
+
+pub returns-clause-as_incomplete : goal.returns-clause-as_incomplete
+returns-clause-as_incomplete c = resets_as_incomplete
