@@ -192,7 +192,7 @@ def shown(part, log, lives):
         second = first_break(lives, lambda lives: partners_are_kept(log, lives))
         return first(lives, lambda life: not partners_are_kept(log, [life, lives[second - 1]])), second
     place = first(lives, lambda life: FAILS[part](log, lives, life))
-    matching = [other for other, life in enumerate(lives, 1) if match(log, lives[place - 1], life)]
+    matching = [other for other, life in enumerate(lives, start=1) if match(log, lives[place - 1], life)]
     return place, *matching[:1]
 
 

@@ -15,7 +15,7 @@ use Rattle.script.specs.Spelling.{IsFlow, IsHost, IsMessage, ReadsAs, octets_tex
 use Rattle.script.specs.Steps.{Lacks}
 use Rattle.script.proofs.lemmas.{unmarked_where}
 use Rattle.world_replay.specs.Printed.{kind_text, state_text, words}
-use Rattle.book_log.specs.Log.{IsHanded, IsLife}
+use Rattle.book_log.specs.Log.{IsHanded, IsLife, answer_name}
 use Rattle.book_log.specs.Steps.{IsAnswer, IsLine, IsShort, ReadsShort, answer_words, flow_words, handed_words, host_words, life_words, line_text, line_words, message_words, words_in}
 use Rattle.book_log.specs.declared.lines.Line.{Line}
 use Rattle.book_log.specs.declared.lines.Line.TheVariants as line

@@ -17,7 +17,7 @@ use Rattle.script.specs.Spelling.{IsFlow, IsMessage, octets_text}
 use Rattle.script.specs.Steps.{Lacks}
 use Rattle.script.proofs.lemmas.{SameCut, host_once, same_cut, text_once}
 use Rattle.world_replay.specs.Printed.{state_text}
-use Rattle.book_log.specs.Log.{Book, IsAmount, IsBadLine, IsLife, IsLog, log_lines, text_of_lines}
+use Rattle.book_log.specs.Log.{Book, IsAmount, IsBadLine, IsLife, IsLog, answer_name, log_lines, text_of_lines}
 use Rattle.book_log.specs.Steps.{IsLine, flow_words, life_words, line_text, message_words, words_in}
 use Rattle.book_log.specs.declared.lines.Line.{Line}
 use Rattle.book_log.specs.declared.lines.Line.TheVariants as line

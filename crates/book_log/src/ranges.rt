@@ -43,11 +43,30 @@ fn has_message_ranges(message: &HostMessage)
     let _ = message.text.bits();
 }
 
+/// A socket has 32 bits.
+fn has_socket_range(socket: u32)
+    ensures { socket < 2 ^ 32 }
+{
+}
+
+/// A place has 64 bits.
+fn has_place_range(place: usize)
+    ensures { place < 2 ^ 64 }
+{
+}
+
+/// A count has 128 bits.
+fn has_count_range(count: u128)
+    ensures { count < 2 ^ 128 }
+{
+}
+
 /// Both counts have 128 bits.
 fn has_amount_ranges(amount: Amount)
     ensures { IsAmount amount }
 {
-    let _ = amount;
+    has_count_range(amount.messages);
+    has_count_range(amount.bits);
 }
 
 /// The list is counted by 64 bits.
@@ -66,5 +85,9 @@ pub(crate) fn has_life_ranges(life: &Life)
     has_list_range(&life.bits);
     has_amount_ranges(life.granted);
     has_amount_ranges(life.returned);
-    let _ = (life.socket, life.foreign, life.own_stamp, life.partner_stamp, life.messages);
+    has_socket_range(life.socket);
+    has_socket_range(life.foreign);
+    has_place_range(life.own_stamp);
+    has_place_range(life.partner_stamp);
+    has_count_range(life.messages);
 }

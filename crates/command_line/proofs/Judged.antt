@@ -2,14 +2,14 @@
 use Rattle.std.proofs.Common.{◌≡◌, ◌<◌, ◌≤◌, ◌+◌, ◌*◌, ℕ, Bool, true, false, List, [], ◌∷◌, ◌++◌, length, take, get_or, reverse, slice_get, Option, Some, None, IfSome, codes, Result, Ok, Err, IfOk, IfErr, MatchResult, OnOk, inl, inr, ap, refl, sym, ◌∙◌, subst, arith}
 use Rattle.std.specs.Prelude.{◌↔◌}
 use Rattle.std.proofs.lemmas.Bool.{false≢true}
-use Rattle.std.specs.Io.KnownBytes.{Appends}
+use Rattle.std.specs.Io.KnownBytes.{Appends, Keeps}
 use Rattle.book_log.specs.Log.{Book, IsLog}
 use Rattle.leader1822.specs.declared.crossing.Crossing.{Crossing}
-use Rattle.net_sim.specs.Audit.{Says}
+use Rattle.net_sim.specs.Audit.{Says, part_text}
 use Rattle.net_sim.specs.declared.auditing.said.Audit.{Audit}
 use Rattle.net_sim.specs.declared.life.Life.{Life}
 use Rattle.net_sim.specs.declared.auditing.said.Audit.TheVariants as audit
-use Rattle.command_line.specs.Audits.{Audited, AuditsLog, IsAuditFault, IsBookFault, IsLogReadFault, IsSomeLog, SaysOf, WritesVerdict}
+use Rattle.command_line.specs.Audits.{Audited, AuditsLog, IsAuditFault, IsBookFault, IsLogReadFault, IsSomeLog, SaysOf, WritesVerdict, lines_of, lines_text}
 use Rattle.command_line.specs.declared.auditing.AuditFault.{AuditFault}
 use Rattle.command_line.specs.declared.auditing.AuditFault.TheVariants as fault
 
@@ -34,8 +34,22 @@ says_of b said crossings lives handed p q r tells =
     subst (λ (cs : List Crossing). Says said (reverse cs) b.lives b.handed) p
     (subst (λ (xs : List Life). Says said (reverse crossings) xs b.handed) q (subst (λ (hs : List (List Bool)). Says said (reverse crossings) lives hs) r ((tells said).0 refl)))
 
-pub kept_written : (b : Book) (said : Audit) (before after : Option (List ℕ)) → said ≡ audit.Kept → Appends before after (codes "kept\n") → WritesVerdict b said before after
-kept_written b said before after kept h = subst (λ (s : Audit). WritesVerdict b s before after) (sym kept) h
+pub whether_ok : {T E Q : Type 0} (r : Result T E) → Q → OnOk r Q
+whether_ok (Ok x) q = q
+whether_ok (Err e) q = tt
+
+-- what is written stays where it is handed on
+stays : (a b c : Option (List ℕ)) (text : List ℕ) → Appends a b text → Keeps b c → Appends a c text
+stays None b c text h k = tt
+stays (Some x) None c text h k = absurd h
+stays (Some x) (Some y) None text h k = absurd k
+stays (Some x) (Some y) (Some z) text h k = k ∙ h
+
+pub verdict_stays : (b : Book) (said : Audit) (before after last : Option (List ℕ)) → WritesVerdict b said before after → Keeps after last → WritesVerdict b said before last
+verdict_stays b audit.Kept before after last h k = stays before after last (codes "kept\n") h k
+verdict_stays b audit.Malformed before after last h k = (h.0, h.1, stays before after last (codes "malformed " ++ (lines_text (lines_of b h.0) ++ codes "\n")) h.2 k)
+verdict_stays b (audit.Broken p) before after last h k =
+    (h.0, h.1, stays before after last ((codes "broken " ++ (part_text p ++ codes " ")) ++ (lines_text (lines_of b h.0) ++ codes "\n")) h.2 k)
 
 -- ---- faults
 
