@@ -295,10 +295,7 @@ fn is_log(alloc: Global, subnet: &Subnet, log: &str) -> Result<bool, AllocError>
 
 /// IMPs 1 and 2 and the line between them, at their opening.
 fn pair(alloc: Global) -> Result<Subnet, AllocError> {
-    let hosts = vec![in alloc;
-        HostAddr::new(0, 1).unwrap(),
-        HostAddr::new(0, 2).unwrap(),
-    ]?;
+    let hosts = vec![in alloc; HostAddr::new(0, 1).unwrap(), HostAddr::new(0, 2).unwrap()]?;
     let sites = vec![in alloc; None, Some(1), Some(1)]?;
     Subnet::new(alloc, hosts, sites, &[Ends { a: 1, b: 2 }])
 }
@@ -490,7 +487,10 @@ const BY_EVENTS: [Row; 25] = [
         Want::Refused(CarrierFault::IsDown),
     ),
     (Act::Step(Event::EndUp(At::One)), Want::Done),
-    (Act::Step(Event::EndUp(At::One)), Want::Refused(CarrierFault::IsUp)),
+    (
+        Act::Step(Event::EndUp(At::One)),
+        Want::Refused(CarrierFault::IsUp),
+    ),
     (Act::Step(Event::ImpDown(At::Three)), Want::Done),
     (
         Act::Step(Event::ImpDown(At::Three)),
@@ -513,10 +513,7 @@ const NEVER_SENT: [Row; 8] = [
     (Act::Offer(Who::Near, 5, 8, 0xFF), Want::Done),
     (Act::Step(Event::Ask(Who::Near)), Want::Done),
     // the question is the second frame, behind the message's packet
-    (
-        Act::Step(Event::Deliver(Direction::Forward, 1)),
-        Want::Done,
-    ),
+    (Act::Step(Event::Deliver(Direction::Forward, 1)), Want::Done),
     (Act::Rounds(3), Want::Done),
     (
         Act::Take(Who::Here),
@@ -539,10 +536,7 @@ fn what_never_came_is_not_taken_later(rt: HostRuntime) {
 const RFNM_LOST: [Row; 11] = [
     (Act::Rounds(2), Want::Done),
     (Act::Offer(Who::Near, 5, 8, 0xFF), Want::Done),
-    (
-        Act::Step(Event::Deliver(Direction::Forward, 0)),
-        Want::Done,
-    ),
+    (Act::Step(Event::Deliver(Direction::Forward, 0)), Want::Done),
     (Act::Step(Event::EndDown(At::Two)), Want::Done),
     (Act::Take(Who::Near), Want::Given(Who::Near, 5, 8, 0xFF)),
     (Act::Step(Event::EndUp(At::Two)), Want::Done),
@@ -551,7 +545,10 @@ const RFNM_LOST: [Row; 11] = [
     (Act::Take(Who::Here), Want::Nothing),
     (Act::Step(Event::Ask(Who::Near)), Want::Done),
     (Act::Rounds(3), Want::Done),
-    (Act::Take(Who::Here), Want::Answered(Answer::Rfnm, Who::Near)),
+    (
+        Act::Take(Who::Here),
+        Want::Answered(Answer::Rfnm, Who::Near),
+    ),
 ];
 
 #[test]
@@ -564,15 +561,9 @@ fn a_lost_rfnm_comes_by_asking(rt: HostRuntime) {
 const STILL_WAITS: [Row; 12] = [
     (Act::Rounds(2), Want::Done),
     (Act::Offer(Who::Near, 5, 8, 0xFF), Want::Done),
-    (
-        Act::Step(Event::Deliver(Direction::Forward, 0)),
-        Want::Done,
-    ),
+    (Act::Step(Event::Deliver(Direction::Forward, 0)), Want::Done),
     (Act::Step(Event::Ask(Who::Near)), Want::Done),
-    (
-        Act::Step(Event::Deliver(Direction::Forward, 1)),
-        Want::Done,
-    ),
+    (Act::Step(Event::Deliver(Direction::Forward, 1)), Want::Done),
     (
         Act::Step(Event::GiveUp(Who::Near)),
         Want::Refused(CarrierFault::StillAlive),
@@ -581,14 +572,20 @@ const STILL_WAITS: [Row; 12] = [
     (Act::Take(Who::Here), Want::Nothing),
     (Act::Take(Who::Near), Want::Given(Who::Near, 5, 8, 0xFF)),
     (Act::Rounds(3), Want::Done),
-    (Act::Take(Who::Here), Want::Answered(Answer::Rfnm, Who::Near)),
+    (
+        Act::Take(Who::Here),
+        Want::Answered(Answer::Rfnm, Who::Near),
+    ),
     (Act::Take(Who::Here), Want::Nothing),
 ];
 
 #[test]
 fn a_question_about_a_message_that_waits_tells_nothing(rt: HostRuntime) {
     let log = "out 0/1 0/2 5 8\nin 0/1 0/2 5 8\nanswer rfnm 0/1 0/2 5\n";
-    assert_eq!(rt; played_by_two(rt.alloc(), &STILL_WAITS, log), Ok((12, true)));
+    assert_eq!(rt;
+        played_by_two(rt.alloc(), &STILL_WAITS, log),
+        Ok((12, true))
+    );
 }
 
 /// The destination's IMP comes up only once the message is given up, and then there is nothing to ask about.
@@ -618,7 +615,10 @@ const GIVEN_UP_FIRST: [Row; 10] = [
 #[test]
 fn an_imp_comes_up_where_nobody_asks_about_a_message_to_it(rt: HostRuntime) {
     let log = "out 0/1 0/2 5 8\ndown 0/2\nanswer incomplete 0/1 0/2 5\n";
-    assert_eq!(rt; played_by_two(rt.alloc(), &GIVEN_UP_FIRST, log), Ok((10, true)));
+    assert_eq!(rt;
+        played_by_two(rt.alloc(), &GIVEN_UP_FIRST, log),
+        Ok((10, true))
+    );
 }
 
 /// A message may be asked about while its source is down, at an IMP that is up. No answer waits for the source then.
@@ -633,10 +633,7 @@ const WHO_ASKS: [Row; 13] = [
     (Act::Step(Event::HostDown(Who::Here)), Want::Done),
     (Act::Step(Event::Ask(Who::Near)), Want::Done),
     // the question arrives before the packet that is sent again
-    (
-        Act::Step(Event::Deliver(Direction::Forward, 0)),
-        Want::Done,
-    ),
+    (Act::Step(Event::Deliver(Direction::Forward, 0)), Want::Done),
     (Act::Rounds(3), Want::Done),
     (Act::IsAlive(Who::Near, 0), Want::Alive(false)),
     (Act::Step(Event::HostUp(Who::Here)), Want::Done),

@@ -1,5 +1,5 @@
 -- An IMP asks what became of a message.
-use Rattle.std.proofs.Common.{◌≡◌, ℕ, Bool, true, false, not, List, [], ◌∷◌, Option, Some, None, refl, ap, sym, ◌∙◌, subst, inl, All, if◌then◌else◌}
+use Rattle.std.proofs.Common.{◌≡◌, ℕ, false, not, List, [], ◌∷◌, Option, Some, None, refl, ap, sym, ◌∙◌, subst, inl, All, if◌then◌else◌}
 use Rattle.std.specs.Prelude.{is_none}
 use Rattle.std.proofs.lemmas.List.Elements.{All-nil, All-cons}
 use Rattle.leader1822.specs.Host.{is_host}
@@ -9,7 +9,7 @@ use Rattle.leader1822.specs.declared.carrier.CarrierFault.TheVariants as fault
 use Rattle.leader1822.proofs.lemmas.{guard}
 use Rattle.packetiser.specs.PacketFields.{PacketFields, IsPacket, flow_of}
 use Rattle.packetiser.specs.declared.packet.PacketKind.TheVariants as kind
-use Rattle.flow_law.specs.View.{Packet, Kind}
+use Rattle.flow_law.specs.View.{Kind}
 use Rattle.flow_law.specs.Moves.{Move, Asks, IsTold}
 use Rattle.flow_law.proofs.lemmas.{makes_one}
 use Rattle.imp_node.specs.State.{State, ImpTurn}

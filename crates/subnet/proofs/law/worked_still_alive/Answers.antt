@@ -1,4 +1,4 @@
-use Rattle.std.proofs.Common.{◌≡◌, ℕ, Bool, true, false, [], ◌∷◌, Option, Some, None, refl, ap, sym, ◌∙◌, if◌then◌else◌}
+use Rattle.std.proofs.Common.{◌≡◌, ℕ, Bool, true, false, [], ◌∷◌, Some, None, refl, ap, sym, ◌∙◌, if◌then◌else◌}
 use Rattle.std.specs.FinMap.{get, insert, empty, get-empty}
 use Rattle.leader1822.specs.Flow.{flow_cmp, same_flow}
 use Rattle.leader1822.specs.declared.address.Flow.{Flow}
