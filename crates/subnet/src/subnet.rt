@@ -12,7 +12,9 @@ ghost use Rattle.subnet.specs.Working.{IsWorking, seen_of, SubnetOffer, SubnetTa
 
 use crate::parts::{Parts, runs_out};
 use crate::wire::Ends;
-use leader1822::{Carrier, CarrierFault, Crossing, Flow, HostAddr, HostMessage, Inbound, NetEvent, Number};
+use leader1822::{
+    Carrier, CarrierFault, Crossing, Flow, HostAddr, HostMessage, Inbound, NetEvent, Number,
+};
 use std::alloc::{AllocError, Global};
 use std::marker::Model;
 
