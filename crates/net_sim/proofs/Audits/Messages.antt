@@ -261,6 +261,7 @@ needs_answer : (k : Answer) (f : Flow) (log : List Crossing) → SafeMessages (c
 needs_answer answer.Rfnm f log s = needs_rfnm f log (s.answered [] log f refl)
 needs_answer answer.Incomplete f log s = refl
 needs_answer answer.Dead f log s = refl
+needs_answer answer.NotTaken f log s = refl
 
 needs : (c : Crossing) (log : List Crossing) → SafeMessages (c ∷ log) → crossing_holds c log ≡ true
 needs (crossing.Out m) log s = refl

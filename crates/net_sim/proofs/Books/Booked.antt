@@ -96,6 +96,7 @@ step_of_one seen (event.ImpUp imp) = tt
 step_of_one seen (event.GiveUp f) = tt
 step_of_one seen (event.Forget at from) = tt
 step_of_one seen (event.Abandon f) = tt
+step_of_one seen (event.Ask f) = tt
 
 -- ---- one event
 

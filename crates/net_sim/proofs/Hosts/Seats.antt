@@ -148,3 +148,4 @@ step_turns seen (event.ImpUp imp) = tt
 step_turns seen (event.GiveUp f) = tt
 step_turns seen (event.Forget at from) = tt
 step_turns seen (event.Abandon f) = tt
+step_turns seen (event.Ask f) = tt

@@ -146,6 +146,9 @@ seen_fits link answer.Dead (mail.Taken place text) h = h
 seen_fits link answer.Incomplete mail.Empty h = h
 seen_fits link answer.Incomplete (mail.Waiting place text) h = h
 seen_fits link answer.Incomplete (mail.Taken place text) h = h
+seen_fits link answer.NotTaken mail.Empty h = h
+seen_fits link answer.NotTaken (mail.Waiting place text) h = h
+seen_fits link answer.NotTaken (mail.Taken place text) h = h
 
 pub needs_same : (hosts : List Host) (c : Crossing) (moments : List Moment) → mail.Needs hosts c (crossings_of moments) → Needs hosts (event_of c) (events_of moments)
 needs_same hosts (crossing.Out m) moments n =

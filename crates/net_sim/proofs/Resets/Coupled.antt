@@ -90,6 +90,9 @@ fits_kind link answer.Dead (mail.Taken place text) h = absurd h
 fits_kind link answer.Incomplete mail.Empty h = absurd h
 fits_kind link answer.Incomplete (mail.Waiting place text) h = refl
 fits_kind link answer.Incomplete (mail.Taken place text) h = refl
+fits_kind link answer.NotTaken mail.Empty h = absurd h
+fits_kind link answer.NotTaken (mail.Waiting place text) h = refl
+fits_kind link answer.NotTaken (mail.Taken place text) h = absurd h
 
 -- ---- what a program says
 

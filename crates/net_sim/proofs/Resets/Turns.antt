@@ -299,6 +299,7 @@ answer_by : (peer : Host) (kind : Answer) (link : ℕ) (t : TurnState) (p : Pair
 answer_by peer answer.Rfnm link t p a = agrees_rfnm link (record t { pair = freed link t.pair }) (record p { out = at_link p.out link None }) a
 answer_by peer answer.Incomplete link t p a = agrees_failed peer (record t { pair = freed link t.pair }) (record p { out = at_link p.out link None }) a
 answer_by peer answer.Dead link t p a = agrees_failed peer (record t { pair = freed link t.pair }) (record p { out = at_link p.out link None }) a
+answer_by peer answer.NotTaken link t p a = agrees_failed peer (record t { pair = freed link t.pair }) (record p { out = at_link p.out link None }) a
 
 pub agrees_answer : (peer : Host) (kind : Answer) (link : ℕ) (t : TurnState) (p : Pair) → Agrees t.pair p → Agrees (answered_turn peer kind link t).pair (pair_answered link kind p)
 agrees_answer peer kind link t p a = answer_by peer kind link t p (agrees_freed t.pair p link a)

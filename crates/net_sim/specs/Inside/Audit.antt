@@ -49,6 +49,7 @@ abbrev pub answer_holds : Answer → Flow → List Crossing → Bool
 answer_holds answer.Rfnm f log = was_taken f log
 answer_holds answer.Incomplete f log = true
 answer_holds answer.Dead f log = true
+answer_holds answer.NotTaken f log = true
 
 -- whether a crossing finds what it has to, in the log below it
 abbrev pub crossing_holds : Crossing → List Crossing → Bool

@@ -55,7 +55,7 @@ fn crossing_holds(crossing: &Crossing, log: &[Crossing]) -> bool
     match crossing {
         Crossing::In(message) => is_fresh(message, log),
         Crossing::Answer(Answer::Rfnm, flow) => was_taken(*flow, log),
-        Crossing::Answer(Answer::Incomplete | Answer::Dead, _)
+        Crossing::Answer(Answer::Incomplete | Answer::Dead | Answer::NotTaken, _)
         | Crossing::Out(_)
         | Crossing::Down(_)
         | Crossing::Up(_) => true,
