@@ -46,20 +46,17 @@ fn has_message_ranges(message: &HostMessage)
 /// A socket has 32 bits.
 fn has_socket_range(socket: u32)
     ensures { socket < 2 ^ 32 }
-{
-}
+{}
 
 /// A place has 64 bits.
 fn has_place_range(place: usize)
     ensures { place < 2 ^ 64 }
-{
-}
+{}
 
 /// A count has 128 bits.
 fn has_count_range(count: u128)
     ensures { count < 2 ^ 128 }
-{
-}
+{}
 
 /// Both counts have 128 bits.
 fn has_amount_ranges(amount: Amount)

@@ -18,8 +18,8 @@ mod streams;
 
 use crate::bit_log::BitLog;
 use crate::life::Life;
-use leader1822::Crossing;
 pub use findings::{Finding, locate};
+use leader1822::Crossing;
 pub use said::{Audit, Part};
 
 /// Whether a log, its lives and what was handed over in each of them are a safe book. The log is the oldest first, as

@@ -232,10 +232,7 @@ fn without_lives(alloc: Global) -> [Option<(Audit, Option<Finding>)>; 3] {
 #[test]
 fn a_message_is_taken_at_most_once(rt: HostRuntime) {
     let wanted = [
-        Some((
-            Audit::Broken(Part::Messages),
-            Some(Finding::Crossing(2)),
-        )),
+        Some((Audit::Broken(Part::Messages), Some(Finding::Crossing(2)))),
         Some((Audit::Kept, None)),
         Some((Audit::Kept, None)),
     ];

@@ -289,12 +289,14 @@ messages_decide log = (safe log, holds log)
 pub crossing_stops : (log : List Crossing) (i : ℕ) (x : Crossing) → i < length log → x ≡ get_or log i x → crossing_holds x (reverse (take i log)) ≡ false → messages_hold (reverse (take i log)) ≡ true
     → Found (λ n. messages_hold (reverse (take n log))) (length log) (Some i)
 crossing_stops log i x lt at e h =
-    let more : reverse (take (i + 1) log) ≡ x ∷ reverse (take i log) = reverse_more log i x lt ∙ ap (λ (z : Crossing). z ∷ reverse (take i log)) (sym at) in
-    (lt, h,
-    is_false (messages_hold (reverse (take (i + 1) log)))
-    (λ t.
-    (let here : messages_hold (x ∷ reverse (take i log)) ≡ true = subst (λ (z : List Crossing). messages_hold z ≡ true) more t in
-    false_not (crossing_holds x (reverse (take i log))) e (and_true (crossing_holds x (reverse (take i log))) (messages_hold (reverse (take i log))) here).0)))
+    let more : reverse (take (i + 1) log) ≡ x ∷ reverse (take i log) = reverse_more log i x lt ∙ ap (λ (z : Crossing). z ∷ reverse (take i log)) (sym at) in (
+      lt,
+      h,
+      is_false (messages_hold (reverse (take (i + 1) log)))
+          (λ t.
+          (let here : messages_hold (x ∷ reverse (take i log)) ≡ true = subst (λ (z : List Crossing). messages_hold z ≡ true) more t in
+          false_not (crossing_holds x (reverse (take i log))) e (and_true (crossing_holds x (reverse (take i log))) (messages_hold (reverse (take i log))) here).0)),
+    )
 
 messages_take : (log : List Crossing) (n : ℕ) → messages_hold (reverse log) ≡ true → messages_hold (reverse (take n log)) ≡ true
 messages_take log n h =

@@ -30,9 +30,10 @@ two_later : (z : Life) (lives : List Life) (x y : Life) → AreTwo lives x y →
 two_later z lives x y (front, between, rest, e) = (z ∷ front, between, rest, ap (λ (zs : List Life). z ∷ zs) e)
 
 two_there : (lives : List Life) (x y : Life) → AreTwo lives x y → Contains lives x × Contains lives y
-two_there lives x y (front, between, rest, e) =
-    (subst (λ (zs : List Life). Contains zs x) (sym e) (Contains-append_left (front ++ x ∷ between) (y ∷ rest) x (Contains-append_right front (x ∷ between) x (contains_head x between))),
-    subst (λ (zs : List Life). Contains zs y) (sym e) (Contains-append_right (front ++ x ∷ between) (y ∷ rest) y (contains_head y rest)))
+two_there lives x y (front, between, rest, e) = (
+  subst (λ (zs : List Life). Contains zs x) (sym e) (Contains-append_left (front ++ x ∷ between) (y ∷ rest) x (Contains-append_right front (x ∷ between) x (contains_head x between))),
+  subst (λ (zs : List Life). Contains zs y) (sym e) (Contains-append_right (front ++ x ∷ between) (y ∷ rest) y (contains_head y rest)),
+)
 
 -- two that are there are one, or stand at two places in one order or the other
 two_of : (lives : List Life) (x y : Life) → Contains lives x → Contains lives y → (x ≡ y) ⊎ (AreTwo lives x y ⊎ AreTwo lives y x)
@@ -223,9 +224,12 @@ peace_at log lives y stamped here n = peace_decides log (take n lives) y (take_s
 -- ---- the search
 
 two_taken : (n : ℕ) (lives : List Life) (x y : Life) → AreTwo (take n lives) x y → AreTwo lives x y
-two_taken n lives x y (front, between, rest, e) =
-    (front, between, rest ++ drop n lives,
-    sym (take-append-drop n lives) ∙ ap (λ (zs : List Life). zs ++ drop n lives) e ∙ append_assoc (front ++ x ∷ between) (y ∷ rest) (drop n lives))
+two_taken n lives x y (front, between, rest, e) = (
+  front,
+  between,
+  rest ++ drop n lives,
+  sym (take-append-drop n lives) ∙ ap (λ (zs : List Life). zs ++ drop n lives) e ∙ append_assoc (front ++ x ∷ between) (y ∷ rest) (drop n lives),
+)
 
 pub partners_take : (log : List Crossing) (n : ℕ) (lives : List Life) → partners_hold log lives ≡ true → partners_hold log (take n lives) ≡ true
 partners_take log n lives h =

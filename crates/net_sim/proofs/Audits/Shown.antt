@@ -45,10 +45,15 @@ broken_some log place h = ends_at (λ n. messages_hold (reverse (take n log))) (
 pub two_some : (log : List Crossing) (lives : List Life) (at : ℕ × ℕ) → AreStamped log lives → FoundTwo log lives (Some at) → ShowsTwo (finding.Lives at.0 at.1) log lives
 two_some log lives at stamped h =
     let y : Life = h.1.0 in
-    let there : slice_get lives at.1 ≡ Some y = h.1.1 in
-    (ends_at (λ n. partners_hold log (take n lives)) (λ n. SafePartners log (take n lives)) at.1 (λ n. partners_at log lives stamped n) h.0.1 h.0.2,
-    (y, there, h.1.2.0,
-    ends_at (λ n. list_all (λ x. may_both log x y) (take n lives)) (λ n. AreAtPeace log (take n lives) y) at.0 (λ n. peace_at log lives y stamped (stamped y (contains_got lives at.1 y there)) n) h.1.2.1 h.1.2.2))
+    let there : slice_get lives at.1 ≡ Some y = h.1.1 in (
+      ends_at (λ n. partners_hold log (take n lives)) (λ n. SafePartners log (take n lives)) at.1 (λ n. partners_at log lives stamped n) h.0.1 h.0.2,
+      (
+        y,
+        there,
+        h.1.2.0,
+        ends_at (λ n. list_all (λ x. may_both log x y) (take n lives)) (λ n. AreAtPeace log (take n lives) y) at.0 (λ n. peace_at log lives y stamped (stamped y (contains_got lives at.1 y there)) n) h.1.2.1 h.1.2.2,
+      ),
+    )
 
 pub with_none : (log : List Crossing) (lives : List Life) (place : ℕ) (x : Life) → slice_get lives place ≡ Some x → Found (λ n. list_all (is_unmatched log x) (take n lives)) (length lives) None
     → WithMatch (finding.Life place) place log lives

@@ -45,12 +45,7 @@ pub enum Finding {
 ///   where there is one.
 ///
 /// It takes no memory, and searches as [`crate::audit`] does.
-pub fn locate(
-    said: Audit,
-    log: &[Crossing],
-    lives: &[Life],
-    handed: &[BitLog],
-) -> Option<Finding>
+pub fn locate(said: Audit, log: &[Crossing], lives: &[Life], handed: &[BitLog]) -> Option<Finding>
     requires { Says said (reverse log.now) lives.now handed.now }
     ensures { MatchOption result (said ≡ answer.Kept) (λ found. Shows said found (reverse log.now) lives.now handed.now) }
 {
