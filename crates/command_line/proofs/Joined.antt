@@ -1,13 +1,12 @@
 -- What `--log` writes, `--audit` reads and calls kept.
-use Rattle.std.proofs.Common.{◌≡◌, ◌<◌, ℕ, Bool, false, List, [], ◌∷◌, length, reverse, Option, Some, None, IfSome, Result, Ok, Err, IfOk, MatchResult, refl, sym, subst}
+use Rattle.std.proofs.Common.{◌≡◌, ℕ, Bool, List, [], reverse, Option, Some, None, IfSome, Result, Ok, Err, MatchResult, refl, sym, subst}
 use Rattle.std.proofs.lemmas.List.{reverse-reverse}
-use Rattle.book_log.specs.Log.{Book, IsLog}
+use Rattle.book_log.specs.Log.{Book}
 use Rattle.book_log.proofs.lemmas.{book_once}
 use Rattle.headline.proofs.lemmas.{kept_promise}
 use Rattle.leader1822.specs.Messages.{SafeMessages}
 use Rattle.leader1822.specs.declared.crossing.Crossing.{Crossing}
 use Rattle.net_sim.specs.Audit.{Says}
-use Rattle.net_sim.specs.World as world
 use Rattle.net_sim.specs.declared.auditing.said.Audit.{Audit}
 use Rattle.net_sim.specs.declared.auditing.said.Audit.TheVariants as audit
 use Rattle.net_sim.specs.declared.auditing.said.Part.TheVariants as part
@@ -17,9 +16,9 @@ use Rattle.topology.specs.Topology.{TopologyFields}
 use Rattle.topology.specs.declared.network.CarrierKind.{CarrierKind}
 use Rattle.topology.specs.declared.network.CarrierKind.TheVariants as kind
 use Rattle.command_line.specs.Audits.{AuditsLog, IsAuditFault, IsKeptLog, IsSomeLog, SaysKept, SaysOf}
-use Rattle.command_line.specs.Carriers.{hosting, plain_calls, plain_of, subnet_calls, subnet_of}
+use Rattle.command_line.specs.Carriers.{plain_calls, plain_of, subnet_calls, subnet_of}
 use Rattle.command_line.specs.Events.{Asked, Raw, World}
-use Rattle.command_line.specs.Logs.{Logged, LogsFrom, LogsOver, LogsRaw, LogsWorld, raw_book, world_book}
+use Rattle.command_line.specs.Logs.{Logged, LogsFrom, LogsOver, raw_book, world_book}
 use Rattle.command_line.specs.declared.auditing.AuditFault.{AuditFault}
 use Rattle.command_line.specs.declared.auditing.AuditFault.TheVariants as fault
 use Rattle.command_line.proofs.Printed.{none_there, safe_alone}
