@@ -41,7 +41,7 @@ const AN_EARLY_REPLY_MAKES_ANOTHER_RESET_GO_OUT: [Row; 7] = [
     (Act::Control, &[0, 8, 0, 1, 0, 13], "ready 0/2", ""),
 ];
 
-const A_CONTACT_FAILS: [Row; 9] = [
+const A_CONTACT_FAILS: [Row; 12] = [
     (Act::Contact(2), &[], "", "0/2 0 00080001000C"),
     (Act::Offered, &[], "", ""),
     (
@@ -56,6 +56,9 @@ const A_CONTACT_FAILS: [Row; 9] = [
     (Act::Contact(2), &[], "", "0/2 0 00080001000C"),
     (Act::Offered, &[], "", ""),
     (Act::Answered(Answer::Dead, 2, 0), &[], "failed 0/2", ""),
+    (Act::Contact(2), &[], "", "0/2 0 00080001000C"),
+    (Act::Offered, &[], "", ""),
+    (Act::Answered(Answer::NotTaken, 2, 0), &[], "failed 0/2", ""),
     (Act::Offered, &[], "", ""),
 ];
 

@@ -77,6 +77,7 @@ fn leaders_are_written(rt: HostRuntime) {
         (answer(Answer::Rfnm), [0x05, 0x42, 0x05, 0x00]),
         (answer(Answer::Dead), [0x07, 0x42, 0x05, 0x00]),
         (answer(Answer::Incomplete), [0x09, 0x42, 0x05, 0x00]),
+        (answer(Answer::NotTaken), [0x09, 0x42, 0x05, 0x00]),
         (regular(), [0x00, 0x42, 0x05, 0x00]),
         (Leader::Nop, [0x04, 0x00, 0x00, 0x00]),
     ] {
@@ -175,8 +176,10 @@ enum Act {
     Take(Who),
     /// The flow's outstanding message is given up.
     GiveUp(Way),
-    /// The flow's numbers are forgotten, for which plain boxes have no part.
+    /// The flow's pieces are thrown away, for which plain boxes have no part.
     Abandon(Way),
+    /// The flow's outstanding message is asked about, for which plain boxes have no part.
+    Ask(Way),
     /// This host stops.
     Down(Who),
     /// This host starts.
@@ -282,6 +285,7 @@ fn acted(alloc: Global, boxes: &mut PlainBoxes, act: Act) -> Result<Outcome, Bit
         Act::Take(who) => taken(boxes.take_in(host_of(who))),
         Act::GiveUp(way) => done(boxes.step(NetEvent::GiveUp(flow_of(way)))),
         Act::Abandon(way) => done(boxes.step(NetEvent::Abandon(flow_of(way)))),
+        Act::Ask(way) => done(boxes.step(NetEvent::Ask(flow_of(way)))),
         Act::Down(who) => done(boxes.step(NetEvent::HostDown(host_of(who)))),
         Act::Up(who) => done(boxes.step(NetEvent::HostUp(host_of(who)))),
         Act::ImpUp => done(boxes.step(NetEvent::ImpUp(ImpNumber::new(1).unwrap()))),
@@ -488,7 +492,7 @@ fn a_host_that_stops_is_cleared(rt: HostRuntime) {
 }
 
 /// Acts for which there is more than one refusal.
-const REFUSED: [(Act, Want); 10] = [
+const REFUSED: [(Act, Want); 11] = [
     (
         Act::Offer(Way::Stray(1)),
         Want::Refused(CarrierFault::NoSuch),
@@ -510,12 +514,13 @@ const REFUSED: [(Act, Want); 10] = [
         Act::Abandon(Way::Forth(1)),
         Want::Refused(CarrierFault::NoSuch),
     ),
+    (Act::Ask(Way::Forth(1)), Want::Refused(CarrierFault::NoSuch)),
     (Act::Take(Who::Beyond), Want::Message(Way::Forth(1))),
 ];
 
 #[test]
 fn the_first_refusal_is_given(rt: HostRuntime) {
-    assert_eq!(rt; fitting(rt.alloc(), &REFUSED), Ok(10));
+    assert_eq!(rt; fitting(rt.alloc(), &REFUSED), Ok(11));
 }
 
 /// Whether copies are equal to what they were made of; whether hosts and flows are equal, and stand in
