@@ -424,6 +424,7 @@ module _ (P : Entry → Type 0) (N : Notice → Type 0) (peer : Host) (rules : R
   turn_answered answer.Rfnm link t h = turn_settled _ (record { ends = h.ends; told = h.told })
   turn_answered answer.Incomplete link t h = turn_failed (record t { pair = freed link t.pair }) (record { ends = h.ends; told = h.told })
   turn_answered answer.Dead link t h = turn_failed (record t { pair = freed link t.pair }) (record { ends = h.ends; told = h.told })
+  turn_answered answer.NotTaken link t h = turn_failed (record t { pair = freed link t.pair }) (record { ends = h.ends; told = h.told })
 
   -- ---- what a user asks for
 

@@ -184,3 +184,4 @@ module _ (a : Host) (k : ℕ) (m : Place) (p : Host) (k0 : Kept) where
       (record { refusing = h.refusing; idle = λ i. h.idle (rfnm_idle (link == 0) t.pair.phase i); on = h.on })
   good_answer answer.Incomplete link t h = good_failed (record t { pair = freed link t.pair }) (record { refusing = h.refusing; idle = h.idle; on = h.on })
   good_answer answer.Dead link t h = good_failed (record t { pair = freed link t.pair }) (record { refusing = h.refusing; idle = h.idle; on = h.on })
+  good_answer answer.NotTaken link t h = good_failed (record t { pair = freed link t.pair }) (record { refusing = h.refusing; idle = h.idle; on = h.on })

@@ -146,6 +146,7 @@ module _ (said taken : List Claim) where
   answered_links peer answer.Rfnm link t h = linked_settled said taken (freed link t.pair).busy (desk_of (freed link t.pair) t.listening) h
   answered_links peer answer.Incomplete link t h = failed_links peer (record t { pair = freed link t.pair }) h
   answered_links peer answer.Dead link t h = failed_links peer (record t { pair = freed link t.pair }) h
+  answered_links peer answer.NotTaken link t h = failed_links peer (record t { pair = freed link t.pair }) h
 
   answer_by : (s : NcpState) (kind : Answer) (f : Flow) (h : Host) → LinksOf said taken (pair_with h s.peers) → (b c : Bool) → same_host s.own f.source ≡ b → is_busy (pair_with f.destination s.peers).busy f.link.0 ≡ c
       → LinksOf said taken (pair_with h (accepted_answer s kind f).0.peers)

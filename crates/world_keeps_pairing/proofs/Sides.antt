@@ -324,6 +324,7 @@ module _ (h p : Host) (spoken heard : List (List Bool) → List Mark) (mute : sp
   told_mute true l answer.Rfnm q r e = e
   told_mute true l answer.Dead q r e = failed_mute q.phase q.owed q.begun r e
   told_mute true l answer.Incomplete q r e = failed_mute q.phase q.owed q.begun r e
+  told_mute true l answer.NotTaken q r e = failed_mute q.phase q.owed q.begun r e
   told_mute false l k q r e = e
 
   call_mute : (t : Bool) (q : Pair) → is_ready (pair_moved (when t Call) q).phase ≡ true → (pair_moved (when t Call) q).begun ≡ false → q.begun ≡ false

@@ -160,6 +160,7 @@ module _ (peer : Host) (link : ℕ) (t : TurnState) where
   answer_turned answer.Rfnm = settles (rfnm_phase link t.pair.phase) (rfnm_idle (link == 0) t.pair.phase)
   answer_turned answer.Incomplete = lost (is_gone t.pair.phase || not t.pair.owed)
   answer_turned answer.Dead = lost (is_gone t.pair.phase || not t.pair.owed)
+  answer_turned answer.NotTaken = lost (is_gone t.pair.phase || not t.pair.owed)
 
 -- ---- what goes out
 

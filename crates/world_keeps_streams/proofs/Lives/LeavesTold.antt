@@ -174,6 +174,7 @@ module _ (calm : Bool) (p : Host) where
       answer_turn answer.Rfnm = no_more
       answer_turn answer.Incomplete = lost (is_gone t.pair.phase || not t.pair.owed)
       answer_turn answer.Dead = lost (is_gone t.pair.phase || not t.pair.owed)
+      answer_turn answer.NotTaken = lost (is_gone t.pair.phase || not t.pair.owed)
 
     if_fine : (v : Bool) (x y : NcpState × List Notice) → AllFine calm p x.1 → AllFine calm p y.1 → AllFine calm p (if v then x else y).1
     if_fine true x y a b = a

@@ -61,6 +61,7 @@ answered_quiet : (p : Host) (kind : Answer) (l : ℕ) (t : TurnState) → t.noti
 answered_quiet p answer.Rfnm l t none ready = ap (λ (ns : List Notice). ns ++ []) none
 answered_quiet p answer.Dead l t none ready = failed_quiet p (record t { pair = freed l t.pair }) none ready
 answered_quiet p answer.Incomplete l t none ready = failed_quiet p (record t { pair = freed l t.pair }) none ready
+answered_quiet p answer.NotTaken l t none ready = failed_quiet p (record t { pair = freed l t.pair }) none ready
 
 -- what is accepted
 accepted_pair : (s : NcpState) (kind : Answer) (f : Flow) (stamp : ℕ) → same_host s.own f.source ≡ true → is_busy (pair_with f.destination s.peers).busy f.link.0 ≡ true

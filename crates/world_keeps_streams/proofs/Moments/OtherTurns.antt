@@ -271,3 +271,4 @@ module _ (a b p : Host) (off : same_host p b ≡ false) where
     answer_alike answer.Rfnm link t = told_more t.notices [] (alike_same a b (Lives t.notices))
     answer_alike answer.Incomplete link t = fails_alike (record t { pair = freed link t.pair })
     answer_alike answer.Dead link t = fails_alike (record t { pair = freed link t.pair })
+    answer_alike answer.NotTaken link t = fails_alike (record t { pair = freed link t.pair })

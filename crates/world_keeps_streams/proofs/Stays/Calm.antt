@@ -103,6 +103,7 @@ module _ (peer : Host) (link : ℕ) (t : TurnState) where
   answer_turn answer.Rfnm = settles (rfnm_phase link t.pair.phase)
   answer_turn answer.Incomplete = lost (is_gone t.pair.phase || not t.pair.owed)
   answer_turn answer.Dead = lost (is_gone t.pair.phase || not t.pair.owed)
+  answer_turn answer.NotTaken = lost (is_gone t.pair.phase || not t.pair.owed)
 
 module _ (s : NcpState) (stamp : ℕ) where
   pub answer_calm : (kind : Answer) (f : Flow) → same_host s.own f.source ≡ true

@@ -77,6 +77,7 @@ told_owed : (t : Bool) (l : ℕ) (k : Answer) (p : Pair) → t ≡ true → is_r
 told_owed true l answer.Rfnm p is e = inl refl
 told_owed true l answer.Dead p is e = inr (failed_owed p.phase p.owed e)
 told_owed true l answer.Incomplete p is e = inr (failed_owed p.phase p.owed e)
+told_owed true l answer.NotTaken p is e = inr (failed_owed p.phase p.owed e)
 told_owed false l k p is e = absurd (cc)
 
 -- an answer about a text after which its sender is still ready is the RFNM

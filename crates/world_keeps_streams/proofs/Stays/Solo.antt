@@ -68,6 +68,7 @@ told_silent : (t : Bool) (l : ℕ) (k : Answer) (p : law.Pair) → is_ready (pai
 told_silent true l answer.Rfnm p r e = e
 told_silent true l answer.Dead p r e = failed_silent p.phase p.owed p.begun r e
 told_silent true l answer.Incomplete p r e = failed_silent p.phase p.owed p.begun r e
+told_silent true l answer.NotTaken p r e = failed_silent p.phase p.owed p.begun r e
 told_silent false l k p r e = e
 
 call_silent : (t : Bool) (p : law.Pair) → is_ready (pair_moved (when t Call) p).phase ≡ true → (pair_moved (when t Call) p).begun ≡ false → p.begun ≡ false

@@ -69,6 +69,7 @@ not_empty : (kind : Answer) → Fits kind Empty → ⊥
 not_empty answer.Rfnm f = f
 not_empty answer.Dead f = f
 not_empty answer.Incomplete f = f
+not_empty answer.NotTaken f = f
 
 fits_fetched : (kind : Answer) (z : Box) → Fits kind z → (kind_in z ≡ Some Plain → kind ≡ answer.Rfnm) → is_signal (kind_in z) ≡ false → post_in z ≡ Fetched
 fits_fetched kind Empty f plain none = absurd (not_empty kind f)
@@ -93,6 +94,9 @@ answered_settles p answer.Dead k t e r =
     let is : failed p (record t { pair = freed k t.pair }) ≡ settled_turn (record t { pair = freed k t.pair }) = failed_settles p (record t { pair = freed k t.pair }) e t.pair.owed refl r in
     (sym (ap (λ (u : TurnState). u.pair.entries) is), sym (ap (λ (u : TurnState). u.pair.queue) is))
 answered_settles p answer.Incomplete k t e r =
+    let is : failed p (record t { pair = freed k t.pair }) ≡ settled_turn (record t { pair = freed k t.pair }) = failed_settles p (record t { pair = freed k t.pair }) e t.pair.owed refl r in
+    (sym (ap (λ (u : TurnState). u.pair.entries) is), sym (ap (λ (u : TurnState). u.pair.queue) is))
+answered_settles p answer.NotTaken k t e r =
     let is : failed p (record t { pair = freed k t.pair }) ≡ settled_turn (record t { pair = freed k t.pair }) = failed_settles p (record t { pair = freed k t.pair }) e t.pair.owed refl r in
     (sym (ap (λ (u : TurnState). u.pair.entries) is), sym (ap (λ (u : TurnState). u.pair.queue) is))
 
